@@ -1,0 +1,4 @@
+pub mod Fault
+pub mod Flags
+pub mod Note
+pub mod NoteSet

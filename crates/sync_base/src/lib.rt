@@ -1,0 +1,18 @@
+//! What every layer of the library speaks of: the names of processes, Rendez and tags, the notes,
+//! the flags of rfork, the faults, the limits, and a pipe for one thread.
+//! Read `ids`, `note`, `flags`, `limits`, `fault`, and then `plain_pipe`.
+#![tactic(auto)]
+
+pub mod fault;
+pub mod flags;
+pub mod ids;
+pub mod limits;
+pub mod note;
+
+pub use fault::Fault;
+pub use flags::Flags;
+pub use ids::{Pid, RendezId, Tag};
+pub use note::{Note, NoteSet};
+
+#[cfg(test)]
+mod tests;
