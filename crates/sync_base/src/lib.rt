@@ -3,16 +3,23 @@
 //! Read `ids`, `note`, `flags`, `limits`, `fault`, and then `plain_pipe`.
 #![tactic(auto)]
 
+pub mod answers;
 pub mod fault;
 pub mod flags;
 pub mod ids;
+pub mod laws;
 pub mod limits;
 pub mod note;
+pub mod piece;
+pub mod plain_pipe;
 
+pub use answers::{ReadAnswer, WriteAnswer};
 pub use fault::Fault;
 pub use flags::Flags;
 pub use ids::{Pid, RendezId, Tag};
 pub use note::{Note, NoteSet};
+pub use piece::Piece;
+pub use plain_pipe::PlainPipe;
 
 #[cfg(test)]
 mod tests;

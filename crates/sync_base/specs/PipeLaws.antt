@@ -1,0 +1,39 @@
+-- What holds of every direction of a pipe, said of the definitions alone.
+use Rattle.std.specs.Prelude.{◌≡◌, ℕ, ◌<◌, true, false}
+use Rattle.sync_base.specs.declared.answers.WriteAnswer.TheVariants.{Full, Hungup}
+use Rattle.sync_base.specs.declared.answers.ReadAnswer.{ReadAnswer}
+use Rattle.sync_base.specs.Write.{Write}
+use Rattle.sync_base.specs.Pipe.{PipeState, IsPipeState, opening, waiting_of, MayAnswerWrite, MayAnswerRead, write_answer, read_answer, after_write, after_read, after_hangup}
+
+-- what a write is answered may be answered
+abbrev pub WriteAnswersApply : Type 0
+WriteAnswersApply = (s : PipeState) → IsPipeState s → MayAnswerWrite s (write_answer s)
+
+-- and it is the first that may, in the order Hungup, Full, Taken
+abbrev pub HungupComesFirst : Type 0
+HungupComesFirst = (s : PipeState) → MayAnswerWrite s Hungup → write_answer s ≡ Hungup
+
+abbrev pub FullComesBeforeTaken : Type 0
+FullComesBeforeTaken = (s : PipeState) → s.hung ≡ false → MayAnswerWrite s Full → write_answer s ≡ Full
+
+-- what a read is answered may be answered, and it is End where nothing is left of a hung up direction
+abbrev pub ReadAnswersApply : Type 0
+ReadAnswersApply = (most : ℕ) (s : PipeState) → MayAnswerRead most s (read_answer most s)
+
+abbrev pub EndComesBeforeEmpty : Type 0
+EndComesBeforeEmpty =
+    (most : ℕ) (s : PipeState) → MayAnswerRead most s ReadAnswer.End → read_answer most s ≡ ReadAnswer.End
+
+-- each state from the opening on is a state of a pipe
+abbrev pub OpeningIsState : Type 0
+OpeningIsState = (limit : ℕ) → IsPipeState (opening limit)
+
+abbrev pub WritesKeepState : Type 0
+WritesKeepState =
+    (s : PipeState) (write : Write) → IsPipeState s → IsPipeState (after_write s write (write_answer s))
+
+abbrev pub ReadsKeepState : Type 0
+ReadsKeepState = (most : ℕ) (s : PipeState) → 0 < most → IsPipeState s → IsPipeState (after_read most s)
+
+abbrev pub HangupKeepsState : Type 0
+HangupKeepsState = (s : PipeState) → IsPipeState s → IsPipeState (after_hangup s)

@@ -1,0 +1,33 @@
+-- What a pipe for one thread keeps of a direction: the writes that are not read whole.
+use Rattle.std.specs.Prelude.{◌≡◌, ℕ, ◌-◌, ◌<◌, ◌≤◌, nat_lt, if◌then◌else◌, Bool, List, [], ◌∷◌, length, drop, ◌⊎◌}
+use Rattle.sync_base.specs.Write.{Write}
+use Rattle.sync_base.specs.Pipe.{PipeState}
+use Rattle.sync_base.specs.declared.limits.TheConstants.{MAX_PIPE_LIMIT}
+
+-- what is kept
+pub record Kept : Type 0 where
+  pub limit : ℕ
+  pub unread : List Write
+  pub offset : ℕ
+  pub hung : Bool
+
+-- it keeps all of this state but the writes that are read whole
+pub record Shows (kept : Kept) (s : PipeState) : Type 0 where
+  pub limit : kept.limit ≡ s.limit
+  pub unread : kept.unread ≡ drop s.read s.accepted
+  pub offset : kept.offset ≡ s.offset
+  pub hung : kept.hung ≡ s.hung
+  pub position : s.read ≤ length s.accepted
+
+-- the bytes of the first of these writes
+abbrev pub first_bytes : List Write → List ℕ
+first_bytes [] = []
+first_bytes (write ∷ writes) = write.bytes
+
+-- how many of them no read has begun
+abbrev pub kept_waiting : Kept → ℕ
+kept_waiting kept = length kept.unread - (if nat_lt 0 kept.offset then 1 else 0)
+
+-- no direction has this limit
+abbrev pub IsBadLimit : ℕ → Type 0
+IsBadLimit limit = (limit ≡ 0) ⊎ (MAX_PIPE_LIMIT < limit)
