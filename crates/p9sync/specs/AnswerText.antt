@@ -1,0 +1,22 @@
+-- The answers of a pipe script in words.
+use Rattle.std.specs.Prelude.{ℕ, List, [], ◌∷◌, ◌++◌, codes}
+use Rattle.hex.specs.Hex.{encode_lower}
+use Rattle.sync_base.specs.declared.answers.WriteAnswer.{WriteAnswer}
+use Rattle.sync_base.specs.declared.answers.WriteAnswer.TheVariants.{Taken, Full, Hungup}
+use Rattle.sync_base.specs.declared.answers.ReadAnswer.{ReadAnswer}
+use Rattle.sync_base.specs.declared.answers.ReadAnswer.TheVariants.{Got, Empty, End}
+
+-- bytes as hexadecimal digits, and no bytes as a dash
+abbrev pub hex_text : List ℕ → List ℕ
+hex_text [] = codes "-"
+hex_text (b ∷ bs) = encode_lower (b ∷ bs)
+
+abbrev pub write_text : WriteAnswer → List ℕ
+write_text Taken = codes "taken"
+write_text Full = codes "full"
+write_text Hungup = codes "hungup"
+
+abbrev pub read_text : ReadAnswer → List ℕ
+read_text (Got piece) = codes "got " ++ hex_text piece
+read_text Empty = codes "empty"
+read_text End = codes "end"

@@ -1,0 +1,4 @@
+pub mod AnswerText
+pub mod Lines
+pub mod PipeScript
+pub mod Script

@@ -1,0 +1,71 @@
+-- The language of pipe scripts: its lines, and what each of them does to one direction of a pipe.
+use Rattle.std.specs.Prelude.{◌≡◌, ◌==◌, ◌&&◌, ◌-◌, ℕ, nat_lt, nat_le, Bool, if◌then◌else◌, List, [], ◌∷◌, length, codes, Option, None, Some, option_and_then}
+use Rattle.std.specs.Option.{option_map}
+use Rattle.std.specs.Result.{result_ok}
+use Rattle.std.specs.Str.{bytes_eq}
+use Rattle.hex.specs.Hex.{decode_of}
+use Rattle.sync_base.specs.Write.{Write}
+use Rattle.sync_base.specs.Pipe.{PipeState, opening, write_answer, after_write, read_answer, after_read, after_hangup}
+use Rattle.sync_base.specs.declared.limits.TheConstants.{ATOMIC_SIZE, MAX_PIPE_LIMIT, MAX_WRITERS}
+use Rattle.p9sync.specs.Lines.{words_of, number_of}
+use Rattle.p9sync.specs.Script.{Language, Answered, Told, told}
+use Rattle.p9sync.specs.AnswerText.{write_text, read_text}
+
+-- what a line asks for
+pub data PipeOp : Type 0 where
+  Writes : (writer : ℕ) (bytes : List ℕ) → PipeOp
+  Reads : (most : ℕ) → PipeOp
+  Hangs_up : PipeOp
+
+-- a number, where it is in this range
+abbrev pub number_within : ℕ → ℕ → List ℕ → Option ℕ
+number_within least most word =
+    option_and_then (λ n. if nat_le least n && nat_le n most then Some n else None) (number_of word)
+
+-- bytes in hexadecimal, two digits of either case each, or a dash for no bytes
+abbrev pub bytes_of : List ℕ → Option (List ℕ)
+bytes_of [] = None
+bytes_of (digit ∷ digits) =
+    if bytes_eq (digit ∷ digits) (codes "-") then Some [] else result_ok (decode_of (digit ∷ digits))
+
+-- the line `limit N`
+abbrev pub limit_of : List (List ℕ) → Option ℕ
+limit_of (verb ∷ limit ∷ []) =
+    if bytes_eq verb (codes "limit") then number_within 1 MAX_PIPE_LIMIT limit else None
+limit_of words = None
+
+-- the lines `hangup`, `read N` and `write W HEX`
+abbrev pub op_of : List (List ℕ) → Option PipeOp
+op_of (verb ∷ []) = if bytes_eq verb (codes "hangup") then Some Hangs_up else None
+op_of (verb ∷ most ∷ []) = if bytes_eq verb (codes "read") then option_map Reads (number_of most) else None
+op_of (verb ∷ writer ∷ bytes ∷ []) =
+    if bytes_eq verb (codes "write")
+    then option_and_then (λ w. option_map (Writes w) (bytes_of bytes)) (number_within 0 (MAX_WRITERS - 1) writer)
+    else None
+op_of words = None
+
+-- What an operation is answered. A write is tested for its size first, and a read for its count.
+abbrev pub answered : PipeState → PipeOp → Answered PipeState
+answered s (Writes writer bytes) =
+    if nat_lt ATOMIC_SIZE (length bytes) then record { text = codes "too big"; after = s }
+    else record {
+      text = write_text (write_answer s);
+      after = after_write s (record { writer = writer; bytes = bytes }) (write_answer s);
+    }
+answered s (Reads most) =
+    if most == 0 then record { text = codes "bad count"; after = s }
+    else record { text = read_text (read_answer most s); after = after_read most s }
+answered s Hangs_up = record { text = codes "ok"; after = after_hangup s }
+
+-- the language: `limit N` opens an empty pipe, and nothing is written at the end
+abbrev pub pipe_language : Language PipeState
+pipe_language =
+    record {
+      opened_by = λ line. option_map opening (limit_of (words_of line));
+      answer_to = λ s line. option_map (answered s) (op_of (words_of line));
+      farewell = λ _. [];
+    }
+
+-- what a pipe script says, as a function of its bytes
+abbrev pub pipe_told : List ℕ → Told
+pipe_told input = told pipe_language input

@@ -1,0 +1,81 @@
+-- What a script says, whichever its language: its lines are answered in order, up to the first that is not in the grammar.
+use Rattle.std.specs.Prelude.{◌≡◌, ◌||◌, ℕ, ◌+◌, nat_lt, nat_le, Bool, true, false, not, if◌then◌else◌, List, [], ◌∷◌, ◌++◌, length, take, Option, None, Some, option_and_then}
+use Rattle.std.specs.Option.{option_map_or}
+use Rattle.p9sync.specs.declared.lines.TheConstants.{LINE_FEED}
+use Rattle.p9sync.specs.declared.script.TheConstants.{MAX_LINE, MAX_SCRIPT}
+use Rattle.p9sync.specs.Lines.{lines_of, cut_line_of}
+
+-- the answer to a line, without its line end, and the state after it
+pub record Answered (S : Type 0) : Type 0 where
+  pub text : List ℕ
+  pub after : S
+
+-- A language of scripts over a state. `None` is given for a line that is not in its grammar.
+pub record Language (S : Type 0) : Type 0 where
+  pub opened_by : List ℕ → Option S                -- the state that the first line opens
+  pub answer_to : S → List ℕ → Option (Answered S) -- what each other line does
+  pub farewell : S → List ℕ                        -- what is written after the last line
+
+-- what a script writes, and the first line that is not in the grammar, counted from 1
+pub record Told : Type 0 where
+  pub output : List ℕ
+  pub fault : Option ℕ
+
+-- nothing is written, and the line with this number is at fault
+abbrev pub fault_at : ℕ → Told
+fault_at number = record { output = []; fault = Some number }
+
+-- an answer with its line end, before what the other lines say
+abbrev pub answer_then : List ℕ → Told → Told
+answer_then text told = record { output = text ++ LINE_FEED ∷ told.output; fault = told.fault }
+
+-- what a line gives, where it is not too long
+abbrev pub if_fits : {A : Type 0} → (List ℕ → Option A) → List ℕ → Option A
+if_fits read line = if nat_le (length line) MAX_LINE then read line else None
+
+-- what these lines say, from a state; the first of them has this number. Behind them the script ends, or a line that
+-- is cut or stands too far behind.
+abbrev pub told_of : {S : Type 0} → Language S → Bool → S → ℕ → List (List ℕ) → Told
+told_of {S} language is_cut s number [] =
+    if is_cut then fault_at number else record { output = language.farewell s; fault = None }
+told_of {S} language is_cut s number (line ∷ lines) =
+    option_map_or
+      (λ (answered : Answered S). answer_then answered.text (told_of language is_cut answered.after (number + 1) lines))
+      (if_fits (language.answer_to s) line)
+      (fault_at number)
+
+-- what a script of these lines says
+abbrev pub told_lines : {S : Type 0} → Language S → Bool → List (List ℕ) → Told
+told_lines language is_cut [] = fault_at 1
+told_lines language is_cut (line ∷ lines) =
+    option_map_or (λ s. told_of language is_cut s 2 lines) (if_fits language.opened_by line) (fault_at 1)
+
+-- whether bytes follow the last whole line of the text, or follow the text
+abbrev pub is_cut_off : List ℕ → Bool
+is_cut_off input = nat_lt MAX_SCRIPT (length input) || nat_lt 0 (length (cut_line_of (take MAX_SCRIPT input)))
+
+-- what a script says, as a function of its bytes
+abbrev pub told : {S : Type 0} → Language S → List ℕ → Told
+told language input = told_lines language (is_cut_off input) (lines_of (take MAX_SCRIPT input))
+
+-- What a program that follows a language keeps of a state, by its own lights: T stands for S where `stands` says so.
+
+-- the line opened this, by what the language says
+abbrev pub Opens : {T S : Type 0} → (T → S → Type 0) → Option S → Option T → Type 0
+Opens stands None None = Unit {0}
+Opens stands (Some s) (Some t) = stands t s
+Opens stands None (Some t) = ⊥
+Opens stands (Some s) None = ⊥
+
+-- the line was answered behind what was written before, or it is not in the grammar and nothing was written
+abbrev pub Answers : {T S : Type 0} → (T → S → Type 0) → Option (Answered S) → List ℕ → Bool → T → List ℕ → Type 0
+Answers stands (Some answered) old true t new =
+    stands t answered.after × (new ≡ old ++ answered.text ++ LINE_FEED ∷ [])
+Answers stands None old false t new = new ≡ old
+Answers stands (Some answered) old false t new = ⊥
+Answers stands None old true t new = ⊥
+
+-- what is told was written behind what was there, and this is its fault
+pub record Says (told : Told) (old new : List ℕ) (faulty_line : Option ℕ) : Type 0 where
+  pub output : new ≡ old ++ told.output
+  pub fault : faulty_line ≡ told.fault
