@@ -1,3 +1,4 @@
+mod DeviceLemmas
 mod LineLemmas
 mod NumberLemmas
 mod ScriptLemmas

@@ -1,4 +1,5 @@
 pub mod AnswerText
+pub mod Device
 pub mod Lines
 pub mod PipeScript
 pub mod Script
