@@ -1,4 +1,5 @@
 mod DeviceLemmas
+mod HexTextLemmas
 mod LineLemmas
 mod NumberLemmas
 mod ScriptLemmas

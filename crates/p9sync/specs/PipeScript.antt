@@ -12,10 +12,10 @@ use Rattle.p9sync.specs.Script.{Language, Answered, Told, told}
 use Rattle.p9sync.specs.AnswerText.{write_text, read_text}
 
 -- what a line asks for
-pub data PipeOp : Type 0 where
-  Writes : (writer : ℕ) (bytes : List ℕ) → PipeOp
-  Reads : (most : ℕ) → PipeOp
-  Hangs_up : PipeOp
+pub data Op : Type 0 where
+  Writes : (writer : ℕ) (bytes : List ℕ) → Op
+  Reads : (most : ℕ) → Op
+  Hangs_up : Op
 
 -- a number, where it is in this range
 abbrev pub number_within : ℕ → ℕ → List ℕ → Option ℕ
@@ -35,7 +35,7 @@ limit_of (verb ∷ limit ∷ []) =
 limit_of words = None
 
 -- the lines `hangup`, `read N` and `write W HEX`
-abbrev pub op_of : List (List ℕ) → Option PipeOp
+abbrev pub op_of : List (List ℕ) → Option Op
 op_of (verb ∷ []) = if bytes_eq verb (codes "hangup") then Some Hangs_up else None
 op_of (verb ∷ most ∷ []) = if bytes_eq verb (codes "read") then option_map Reads (number_of most) else None
 op_of (verb ∷ writer ∷ bytes ∷ []) =
@@ -45,7 +45,7 @@ op_of (verb ∷ writer ∷ bytes ∷ []) =
 op_of words = None
 
 -- What an operation is answered. A write is tested for its size first, and a read for its count.
-abbrev pub answered : PipeState → PipeOp → Answered PipeState
+abbrev pub answered : PipeState → Op → Answered PipeState
 answered s (Writes writer bytes) =
     if nat_lt ATOMIC_SIZE (length bytes) then record { text = codes "too big"; after = s }
     else record {
