@@ -2,5 +2,6 @@ mod DeviceLemmas
 mod HexTextLemmas
 mod LineLemmas
 mod NumberLemmas
+mod PipeLineLemmas
 mod ScriptLemmas
 mod WorkedScripts

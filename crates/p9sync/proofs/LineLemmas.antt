@@ -28,7 +28,7 @@ parts_of-none p (b ∷ bs) none = step (p b) (position_or_len p bs) (parts_of p 
     step false n parts rest h = ap (onto_first b) (rest (omega arith))
 
 -- there is always a part
-parts_of-some : (p : ℕ → Bool) (bs : List ℕ) → 0 < length (parts_of p bs)
+pub parts_of-some : (p : ℕ → Bool) (bs : List ℕ) → 0 < length (parts_of p bs)
 parts_of-some p [] = omega arith
 parts_of-some p (b ∷ bs) = step (p b) (parts_of p bs) (parts_of-some p bs)
   where

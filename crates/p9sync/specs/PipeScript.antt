@@ -22,27 +22,46 @@ abbrev pub number_within : ℕ → ℕ → List ℕ → Option ℕ
 number_within least most word =
     option_and_then (λ n. if nat_le least n && nat_le n most then Some n else None) (number_of word)
 
+-- whether a word is this one
+abbrev pub is_word : List ℕ → List ℕ → Bool
+is_word word other = bytes_eq word other
+
 -- bytes in hexadecimal, two digits of either case each, or a dash for no bytes
 abbrev pub bytes_of : List ℕ → Option (List ℕ)
 bytes_of [] = None
 bytes_of (digit ∷ digits) =
-    if bytes_eq (digit ∷ digits) (codes "-") then Some [] else result_ok (decode_of (digit ∷ digits))
+    if is_word (digit ∷ digits) (codes "-") then Some [] else result_ok (decode_of (digit ∷ digits))
 
 -- the line `limit N`
 abbrev pub limit_of : List (List ℕ) → Option ℕ
 limit_of (verb ∷ limit ∷ []) =
-    if bytes_eq verb (codes "limit") then number_within 1 MAX_PIPE_LIMIT limit else None
+    if is_word verb (codes "limit") then number_within 1 MAX_PIPE_LIMIT limit else None
 limit_of words = None
 
--- the lines `hangup`, `read N` and `write W HEX`
+-- `hangup`
+abbrev pub hangup_of : List (List ℕ) → Option Op
+hangup_of [] = Some Hangs_up
+hangup_of words = None
+
+-- `read N`
+abbrev pub read_of : List (List ℕ) → Option Op
+read_of (most ∷ []) = option_map Reads (number_of most)
+read_of words = None
+
+-- `write W HEX`
+abbrev pub write_of : List (List ℕ) → Option Op
+write_of (writer ∷ bytes ∷ []) =
+    option_and_then (λ w. option_map (Writes w) (bytes_of bytes)) (number_within 0 (MAX_WRITERS - 1) writer)
+write_of words = None
+
+-- each line but the first, by its verb
 abbrev pub op_of : List (List ℕ) → Option Op
-op_of (verb ∷ []) = if bytes_eq verb (codes "hangup") then Some Hangs_up else None
-op_of (verb ∷ most ∷ []) = if bytes_eq verb (codes "read") then option_map Reads (number_of most) else None
-op_of (verb ∷ writer ∷ bytes ∷ []) =
-    if bytes_eq verb (codes "write")
-    then option_and_then (λ w. option_map (Writes w) (bytes_of bytes)) (number_within 0 (MAX_WRITERS - 1) writer)
+op_of [] = None
+op_of (verb ∷ words) =
+    if is_word verb (codes "hangup") then hangup_of words
+    else if is_word verb (codes "read") then read_of words
+    else if is_word verb (codes "write") then write_of words
     else None
-op_of words = None
 
 -- What an operation is answered. A write is tested for its size first, and a read for its count.
 abbrev pub answered : PipeState → Op → Answered PipeState

@@ -1,0 +1,127 @@
+//! Scripts of pipe operations, over a pipe for one thread. Before this: `pipe_line`, `answer_text`
+//! and `script`.
+ghost use Rattle.std.specs.Prelude.{◌≡◌, ◌+◌, ◌⊎◌, IfErr, IfSome, OnOk};
+ghost use Rattle.std.specs.Io.KnownBytes.{Keeps};
+ghost use Rattle.sync_base.specs.Pipe.{PipeState};
+ghost use Rattle.sync_base.specs.PlainPipe.{Shows};
+ghost use Rattle.p9sync.specs.declared.script.TheConstants.{MAX_SCRIPT};
+ghost use Rattle.p9sync.specs.Device.{TakesAtMost, TakesScript, WritesTold, IsRunFault};
+ghost use Rattle.p9sync.specs.PipeScript.{pipe_language, pipe_told, answered, Writes, Reads};
+ghost use Rattle.p9sync.specs.PipeLine.{IsAnswered, asked_by};
+
+use crate::answer_text::{push_read_answer, push_write_answer};
+use crate::device::run_script;
+use crate::pipe_line::{PipeOp, limit};
+use crate::script::Script;
+use std::alloc::{AllocError, Global};
+use std::io::{Read, Write};
+use sync_base::{Fault, PlainPipe};
+
+/// A pipe script while it runs.
+#[derive(Drop)]
+pub struct PipeScript {
+    pipe: PlainPipe,
+    /// Room for the bytes of a write.
+    room: Vec<u8>,
+}
+
+impl Script for PipeScript {
+    ghost State = { PipeState };
+
+    ghost language = { pipe_language };
+
+    ghost stands_for = { λ script s. Shows script.pipe s };
+
+    fn open(alloc: Global, line: &[u8]) -> Result<Option<Self>, AllocError> {
+        let Some(limit) = limit(line) else {
+            return Ok(None);
+        };
+        let Ok(pipe) = PlainPipe::new(alloc, limit) else {
+            return Err(AllocError);
+        };
+        let room = Vec::new(alloc);
+        Ok(Some(PipeScript { pipe, room }))
+    }
+
+    fn answer(&mut self, line: &[u8], output: &mut Vec<u8>) -> Result<bool, AllocError> {
+        let Some(op) = PipeOp::parse(line, &mut self.room)? else {
+            return Ok(false);
+        };
+        answer_op(&mut self.pipe, op, output)?;
+        Ok(true)
+    }
+
+    fn farewell(&self, _output: &mut Vec<u8>) -> Result<(), AllocError> {
+        Ok(())
+    }
+}
+
+/// Does what a line asks for, and writes the answer.
+fn answer_op(
+    pipe: &mut PlainPipe,
+    op: PipeOp<'_>,
+    output: &mut Vec<u8>,
+) -> Result<(), AllocError>
+    ensures { (s : PipeState) → Shows pipe.old s → OnOk result
+        (IsAnswered (answered s (asked_by op.entry)) pipe.new output.old.items output.new.items) }
+{
+    match op {
+        PipeOp::Write { writer, bytes } => answer_write(pipe, writer, bytes, output),
+        PipeOp::Read { most } => answer_read(pipe, most, output),
+        PipeOp::Hangup => {
+            pipe.hangup();
+            output.extend_from_slice(b"ok\n")
+        }
+    }
+}
+
+fn answer_write(
+    pipe: &mut PlainPipe,
+    writer: u64,
+    bytes: &[u8],
+    output: &mut Vec<u8>,
+) -> Result<(), AllocError>
+    ensures { (s : PipeState) → Shows pipe.old s → OnOk result
+        (IsAnswered (answered s (Writes writer bytes.now)) pipe.new output.old.items output.new.items) }
+{
+    match pipe.write(writer, bytes) {
+        Ok(answer) => push_write_answer(output, answer),
+        Err(Fault::TooBig) => output.extend_from_slice(b"too big\n"),
+        Err(_) => Err(AllocError),
+    }
+}
+
+fn answer_read(pipe: &mut PlainPipe, most: u64, output: &mut Vec<u8>) -> Result<(), AllocError>
+    ensures { (s : PipeState) → Shows pipe.old s → OnOk result
+        (IsAnswered (answered s (Reads most)) pipe.new output.old.items output.new.items) }
+{
+    match pipe.read(most) {
+        Ok(answer) => push_read_answer(output, &answer),
+        Err(Fault::BadCount) => output.extend_from_slice(b"bad count\n"),
+        Err(_) => Err(AllocError),
+    }
+}
+
+/// Runs a pipe script: reads it whole, and then writes the answers to its lines. The page
+/// `docs/SCRIPTS.md` says what a pipe script is and what its lines are answered.
+///
+/// Device: the reader failed, and then nothing was written; or the writer failed, and then a front
+/// of the answers was. Memory: the same. Script: the line that is not in the grammar, and then the
+/// answers of the lines before it were written.
+pub fn run_pipe<R: Read, W: Write>(
+    alloc: Global,
+    reader: &mut R,
+    writer: &mut W,
+) -> Result<(), Fault>
+    // No more is read than what tells that a script is too long, and nothing is written before.
+    ensures at_most { TakesAtMost (MAX_SCRIPT + 1) (R.remaining reader.old) (R.remaining reader.new) }
+    ensures reads_first { Keeps (W.contents writer.old) (W.contents writer.new)
+        ⊎ TakesScript (R.remaining reader.old) (R.remaining reader.new) }
+
+    // What is written is what the script says, and the fault is the one that it names.
+    ensures told { IfSome (R.remaining reader.old) (λ input.
+        WritesTold (pipe_told input) (W.contents writer.old) (W.contents writer.new) result) }
+    ensures faults { IfErr result IsRunFault }
+{
+    run_script::<PipeScript, R, W>(alloc, reader, writer)
+}
