@@ -1,5 +1,5 @@
 -- What several reads took and several writes gave, one behind the other.
-use Rattle.std.proofs.Common.{◌≡◌, ◌⊎◌, inl, inr, IfSome, nat_lt, ℕ, ◌+◌, ◌-◌, ◌≤◌, min, List, [], ◌++◌, length, take, drop, Option, Some, None, refl, sym, ◌∙◌, ap, subst, append_assoc, arith, length-append, length-take, Result, Ok, Err, OnErr}
+use Rattle.std.proofs.Common.{◌≡◌, ◌⊎◌, inl, inr, IfSome, nat_lt, ℕ, ◌+◌, ◌-◌, ◌≤◌, List, [], ◌++◌, length, take, drop, Option, Some, None, refl, sym, ◌∙◌, ap, subst, append_assoc, arith, length-append, length-take, Result, Ok, Err, OnErr}
 use Rattle.std.proofs.lemmas.List.{append-nil}
 use Rattle.std.specs.Io.KnownBytes.{Keeps, Appends, Consumes}
 use Rattle.std.proofs.Math.Seq.{take-append_seam}
@@ -97,6 +97,7 @@ told_unwritten said old r fault is outside = rw is (at_fault fault outside)
   where
     front : AppendsFront old old said.output
     front = (0, appends_nothing old)
+
     at_fault : (f : Fault) → IsOutside f → WritesTold said old old (Err f)
     at_fault f (inl memory) = rw memory front
     at_fault f (inr device) = rw device front
@@ -113,8 +114,8 @@ told_taken language (Some all) (Some rest) input takes = by_end takes.most_or_al
   where
     by_end : ((length input ≡ MAX_SCRIPT + 1) ⊎ (rest ≡ [])) → told language all ≡ told language input
     by_end (inl most) =
-      let within : MAX_SCRIPT ≤ length input = omega arith in
-      told_by_front language all input
+        let within : MAX_SCRIPT ≤ length input = omega arith in
+        told_by_front language all input
         (ap (take MAX_SCRIPT) takes.taken ∙ take-append-le MAX_SCRIPT input rest within)
         (let longer : length all ≡ length input + length rest = ap length takes.taken ∙ length-append input rest in grind (arith, nat_tests))
     by_end (inr ended) = ap (told language) (takes.taken ∙ (ap (λ l. input ++ l) ended ∙ append-nil input))

@@ -1,10 +1,10 @@
 -- The definitions of lines and words read a text from its end, and the code reads it from its front: the first part joins
 -- the two.
-use Rattle.std.proofs.Common.{◌≡◌, ℕ, suc, ◌+◌, ◌-◌, ◌<◌, ◌≤◌, Bool, true, false, cond, not, List, [], ◌∷◌, length, take, drop, position, Option, Some, None, refl, ap, subst, ◌∙◌, arith}
+use Rattle.std.proofs.Common.{◌≡◌, ℕ, suc, ◌+◌, ◌-◌, ◌<◌, ◌≤◌, Bool, true, false, cond, not, List, [], ◌∷◌, length, take, drop, position, Some, None, refl, ap, subst, ◌∙◌, arith}
 use Rattle.std.specs.List.{position_or_len}
 use Rattle.std.proofs.lemmas.Grind.{common_steps}
 use Rattle.std.proofs.lemmas.Bool.Decides.{nat_tests}
-use Rattle.p9sync.specs.Lines.{is_line_feed, is_space, parts_of, onto_first, all_but_last, last_of, lines_of, cut_line_of, words_of}
+use Rattle.p9sync.specs.Lines.{is_line_feed, parts_of, onto_first, all_but_last, last_of, lines_of, cut_line_of}
 
 -- the first part ends where the first parting byte stands
 parts_of-first : (p : ℕ → Bool) (bs : List ℕ) → position_or_len p bs < length bs → parts_of p bs ≡ take (position_or_len p bs) bs ∷ parts_of p (drop (position_or_len p bs + 1) bs)
@@ -14,9 +14,9 @@ parts_of-first p (b ∷ bs) within = step (p b) (position_or_len p bs) (parts_of
     step : (v : Bool) (n : ℕ) (parts : List (List ℕ)) → (n < length bs → parts ≡ take n bs ∷ parts_of p (drop (n + 1) bs)) → cond (not v) (1 + n) 0 < length (b ∷ bs) → cond v ([] ∷ parts_of p bs) (onto_first b parts) ≡ take (cond (not v) (1 + n) 0) (b ∷ bs) ∷ parts_of p (drop (cond (not v) (1 + n) 0 + 1) (b ∷ bs))
     step true n parts rest h = refl
     step false n parts rest h =
-      let one_more : 1 + n ≡ suc n = omega arith in
-      let two_more : 1 + n + 1 ≡ suc (n + 1) = omega arith in
-      rw (two_more, one_more) (ap (onto_first b) (rest (omega arith)))
+        let one_more : 1 + n ≡ suc n = omega arith in
+        let two_more : 1 + n + 1 ≡ suc (n + 1) = omega arith in
+        rw (two_more, one_more) (ap (onto_first b) (rest (omega arith)))
 
 -- where none stands, all is one part
 parts_of-none : (p : ℕ → Bool) (bs : List ℕ) → length bs ≤ position_or_len p bs → parts_of p bs ≡ bs ∷ []

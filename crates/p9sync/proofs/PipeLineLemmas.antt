@@ -1,5 +1,5 @@
 -- Lines with a word too many are not in the grammar.
-use Rattle.std.proofs.Common.{◌≡◌, ℕ, ◌<◌, List, [], ◌∷◌, ◌++◌, length, Bool, true, false, is_some, Bor, Option, None, Some, refl, ap, subst, ◌∙◌, arith}
+use Rattle.std.proofs.Common.{◌≡◌, ℕ, ◌<◌, List, [], ◌∷◌, ◌++◌, length, true, is_some, Bor, Option, None, Some, refl, subst, arith}
 use Rattle.std.specs.Option.{option_map}
 use Rattle.sync_base.specs.Pipe.{PipeState}
 use Rattle.p9sync.specs.declared.lines.TheConstants.{LINE_FEED}

@@ -1,5 +1,5 @@
 -- What a script says, line by line.
-use Rattle.std.proofs.Common.{◌≡◌, ℕ, ◌-◌, ◌||◌, nat_lt, min, Bool, List, [], ◌++◌, length, take, Option, ap, ◌∙◌, arith}
+use Rattle.std.proofs.Common.{◌≡◌, ℕ, ◌||◌, nat_lt, min, Bool, List, [], ◌++◌, length, take, ap, ◌∙◌, arith}
 use Rattle.std.proofs.lemmas.Grind.{common_steps}
 use Rattle.p9sync.specs.declared.script.TheConstants.{MAX_SCRIPT}
 use Rattle.p9sync.specs.Lines.{lines_of, cut_line_of}

@@ -1,7 +1,6 @@
 -- Scripts computed from the definitions alone. docs/SCRIPTS.md shows them as a program runs them.
 use Rattle.std.proofs.Common.{◌≡◌, List, ℕ, [], ◌∷◌, ◌++◌, refl, codes, Some, None}
 use Rattle.hex.specs.Hex.{encode_with, decode_pairs}
-use Rattle.p9sync.specs.Script.{Told}
 use Rattle.p9sync.specs.PipeScript.{pipe_told}
 
 -- these lines, each with its line feed

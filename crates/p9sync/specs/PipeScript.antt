@@ -1,10 +1,9 @@
 -- The language of pipe scripts: its lines, and what each of them does to one direction of a pipe.
-use Rattle.std.specs.Prelude.{◌≡◌, ◌==◌, ◌&&◌, ◌-◌, ℕ, nat_lt, nat_le, Bool, if◌then◌else◌, List, [], ◌∷◌, length, codes, Option, None, Some, option_and_then}
+use Rattle.std.specs.Prelude.{◌==◌, ◌&&◌, ◌-◌, ℕ, nat_lt, nat_le, Bool, if◌then◌else◌, List, [], ◌∷◌, length, codes, Option, None, Some, option_and_then}
 use Rattle.std.specs.Option.{option_map}
 use Rattle.std.specs.Result.{result_ok}
 use Rattle.std.specs.Str.{bytes_eq}
 use Rattle.hex.specs.Hex.{decode_of}
-use Rattle.sync_base.specs.Write.{Write}
 use Rattle.sync_base.specs.Pipe.{PipeState, opening, write_answer, after_write, read_answer, after_read, after_hangup}
 use Rattle.sync_base.specs.declared.limits.TheConstants.{ATOMIC_SIZE, MAX_PIPE_LIMIT, MAX_WRITERS}
 use Rattle.p9sync.specs.Lines.{words_of, number_of}

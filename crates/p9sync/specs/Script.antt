@@ -1,5 +1,5 @@
 -- What a script says, whichever its language: its lines are answered in order, up to the first that is not in the grammar.
-use Rattle.std.specs.Prelude.{◌≡◌, ◌||◌, ℕ, ◌+◌, nat_lt, nat_le, Bool, true, false, not, if◌then◌else◌, List, [], ◌∷◌, ◌++◌, length, take, Option, None, Some, option_and_then}
+use Rattle.std.specs.Prelude.{◌≡◌, ◌||◌, ℕ, ◌+◌, nat_lt, nat_le, Bool, true, false, if◌then◌else◌, List, [], ◌∷◌, ◌++◌, length, take, Option, None, Some}
 use Rattle.std.specs.Option.{option_map_or}
 use Rattle.p9sync.specs.declared.lines.TheConstants.{LINE_FEED}
 use Rattle.p9sync.specs.declared.script.TheConstants.{MAX_LINE, MAX_SCRIPT}
@@ -12,9 +12,9 @@ pub record Answered (S : Type 0) : Type 0 where
 
 -- A language of scripts over a state. `None` is given for a line that is not in its grammar.
 pub record Language (S : Type 0) : Type 0 where
-  pub opened_by : List ℕ → Option S                -- the state that the first line opens
-  pub answer_to : S → List ℕ → Option (Answered S) -- what each other line does
-  pub farewell : S → List ℕ                        -- what is written after the last line
+  pub opened_by : List ℕ → Option S  -- the state that the first line opens
+  pub answer_to : S → List ℕ → Option (Answered S)  -- what each other line does
+  pub farewell : S → List ℕ  -- what is written after the last line
 
 -- what a script writes, and the first line that is not in the grammar, counted from 1
 pub record Told : Type 0 where
@@ -40,9 +40,9 @@ told_of {S} language is_cut s number [] =
     if is_cut then fault_at number else record { output = language.farewell s; fault = None }
 told_of {S} language is_cut s number (line ∷ lines) =
     option_map_or
-      (λ (answered : Answered S). answer_then answered.text (told_of language is_cut answered.after (number + 1) lines))
-      (if_fits (language.answer_to s) line)
-      (fault_at number)
+    (λ (answered : Answered S). answer_then answered.text (told_of language is_cut answered.after (number + 1) lines))
+    (if_fits (language.answer_to s) line)
+    (fault_at number)
 
 -- what a script of these lines says
 abbrev pub told_lines : {S : Type 0} → Language S → Bool → List (List ℕ) → Told

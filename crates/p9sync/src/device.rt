@@ -69,7 +69,11 @@ fn read_script<R: Read>(alloc: Global, reader: &mut R) -> Result<Vec<u8>, Fault>
 }
 
 /// Reads a script by way of this room.
-fn read_by_chunks<R: Read>(alloc: Global, reader: &mut R, chunk: &mut [u8]) -> Result<Vec<u8>, Fault>
+fn read_by_chunks<R: Read>(
+    alloc: Global,
+    reader: &mut R,
+    chunk: &mut [u8],
+) -> Result<Vec<u8>, Fault>
     requires { 0 < length chunk.old }
     ensures read { IfOk result (λ input.
         TakesUpTo (MAX_SCRIPT + 1) (R.remaining reader.old) (R.remaining reader.new) input.items) }

@@ -57,11 +57,7 @@ impl Script for PipeScript {
 }
 
 /// Does what a line asks for, and writes the answer.
-fn answer_op(
-    pipe: &mut PlainPipe,
-    op: PipeOp<'_>,
-    output: &mut Vec<u8>,
-) -> Result<(), AllocError>
+fn answer_op(pipe: &mut PlainPipe, op: PipeOp<'_>, output: &mut Vec<u8>) -> Result<(), AllocError>
     ensures { (s : PipeState) → Shows pipe.old s → OnOk result
         (IsAnswered (answered s (asked_by op.entry)) pipe.new output.old.items output.new.items) }
 {

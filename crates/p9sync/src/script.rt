@@ -69,7 +69,7 @@ fn tell_text<S: Script>(
     requires { length text.now ≤ MAX_SCRIPT }
     ensures { IfOk result (λ fault.
         Says (told_lines S.language (is_too_long || nat_lt 0 (length (cut_line_of text.now))) (lines_of text.now))
-            output.old.items output.new.items fault) }
+        output.old.items output.new.items fault) }
 {
     let Some((first, rest)) = next_line(text) else {
         return Ok(Some(1));
@@ -100,7 +100,7 @@ fn answer_lines<S: Script>(
     requires { length lines.now ≤ MAX_SCRIPT }
     ensures { (s : S.State) → S.stands_for script s → IfOk result (λ fault.
         Says (told_of S.language (is_too_long || nat_lt 0 (length (cut_line_of lines.now))) s 2 (lines_of lines.now))
-            output.old.items output.new.items fault) }
+        output.old.items output.new.items fault) }
 {
     let mut rest = lines;
     let mut number = 2u64;

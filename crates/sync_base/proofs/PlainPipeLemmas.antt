@@ -15,7 +15,7 @@ next_write_kept kept s first shows some is_first =
     let left : length kept.unread ≡ length s.accepted - s.read = rw shows.unread (length-drop s.read s.accepted) in
     let within : s.read < length s.accepted = omega arith in
     slice_get_read s.accepted _ s.read first refl within
-      (is_first ∙ (ap (λ l. get_or l 0 first) shows.unread ∙ (get_or-drop s.read s.accepted 0 first ∙ ap (λ i. get_or s.accepted i first) (omega arith))))
+    (is_first ∙ (ap (λ l. get_or l 0 first) shows.unread ∙ (get_or-drop s.read s.accepted 0 first ∙ ap (λ i. get_or s.accepted i first) (omega arith))))
 
 -- the position behind a write that is used up
 pub after_piece_used_up : (s : PipeState) (most : ℕ) (first : Write) → length first.bytes - s.offset ≤ most → after_piece most s first ≡ record s { read = s.read + 1; offset = 0 }
@@ -28,12 +28,12 @@ shows_used_up kept s most first shows some is_first used_up =
     let left : length kept.unread ≡ length s.accepted - s.read = rw shows.unread (length-drop s.read s.accepted) in
     let enough : length first.bytes - s.offset ≤ most = rw (← shows.offset) used_up in
     let after : after_read most s ≡ record s { read = s.read + 1; offset = 0 } =
-      ap (λ w. unwrap_or (option_map (after_piece most s) w) s) next ∙ after_piece_used_up s most first enough in
+    ap (λ w. unwrap_or (option_map (after_piece most s) w) s) next ∙ after_piece_used_up s most first enough in
     subst (Shows (record kept { unread = drop 1 kept.unread; offset = 0 })) (sym after)
-      (record {
-        limit = shows.limit;
-        unread = ap (drop 1) shows.unread ∙ drop-drop 1 s.read s.accepted;
-        offset = refl;
-        hung = shows.hung;
-        position = omega arith;
-      })
+    (record {
+      limit = shows.limit;
+      unread = ap (drop 1) shows.unread ∙ drop-drop 1 s.read s.accepted;
+      offset = refl;
+      hung = shows.hung;
+      position = omega arith;
+    })

@@ -10,11 +10,11 @@ use Rattle.sync_base.specs.Write.{Write}
 
 -- After pipe(3): a direction is a queue of writes, and a read begins where the last one ended.
 pub record PipeState : Type 0 where
-  pub limit : ℕ              -- how many writes may stand that no read has begun
+  pub limit : ℕ  -- how many writes may stand that no read has begun
   pub accepted : List Write  -- each write that was accepted, the oldest first
-  pub read : ℕ               -- how many of them are read whole
-  pub offset : ℕ             -- how many bytes of the next one are read; above 0 it is begun
-  pub hung : Bool            -- whether the direction is hung up
+  pub read : ℕ  -- how many of them are read whole
+  pub offset : ℕ  -- how many bytes of the next one are read; above 0 it is begun
+  pub hung : Bool  -- whether the direction is hung up
 
 -- a new direction
 abbrev pub opening : ℕ → PipeState

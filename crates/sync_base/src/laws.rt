@@ -9,8 +9,7 @@ pub fn first_answer_that_applies()
     ensures full { FullComesBeforeTaken }
     ensures read { ReadAnswersApply }
     ensures end { EndComesBeforeEmpty }
-{
-}
+{}
 
 /// From the opening on the position is within what was accepted, a begun write has a byte left, and
 /// no more writes wait than the limit allows.
@@ -19,5 +18,4 @@ pub fn state_stays_a_state()
     ensures writes { WritesKeepState }
     ensures reads { ReadsKeepState }
     ensures hangup { HangupKeepsState }
-{
-}
+{}

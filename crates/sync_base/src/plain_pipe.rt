@@ -123,7 +123,11 @@ impl PlainPipe {
             return Err(Fault::BadCount);
         }
         let Some(first) = self.held.front() else {
-            return Ok(if self.hung { ReadAnswer::End } else { ReadAnswer::Empty });
+            return Ok(if self.hung {
+                ReadAnswer::End
+            } else {
+                ReadAnswer::Empty
+            });
         };
         let rest = &first.bytes[self.offset..];
         if rest.len() as u64 > most {

@@ -1,4 +1,4 @@
-use Rattle.std.proofs.Common.{◌≡◌, sym, subst, length, List, ℕ}
+use Rattle.std.proofs.Common.{sym, subst, List, ℕ}
 use Rattle.std.proofs.lemmas.Result.{err_from_is_err_and}
 use Rattle.p9sync.specs.Device.{WritesTold, IsOutside}
 use Rattle.p9sync.specs.Script.{told}
@@ -9,7 +9,7 @@ pub returns-in_err-input-clause-told : goal.returns-in_err-input-clause-told
 returns-in_err-input-clause-told g c =
     let failed = err_from_is_err_and c.from_residual.result c.from_residual.ensures.1 in
     told_of_none g.S.Script.language (g.R.Read.remaining c.args.reader.now) _ c.from_residual.result failed.0 failed.1
-      (subst IsOutside (sym failed.2) c.in_err-input.ensures.faults)
+    (subst IsOutside (sym failed.2) c.in_err-input.ensures.faults)
 
 pub returns-clause-told : goal.returns-clause-told
 returns-clause-told g c =

@@ -1,6 +1,5 @@
-use Rattle.std.proofs.Common.{drop, take, length, ◌-◌, subst, sym}
 use Rattle.std.proofs.lemmas.List.{take_rest}
-use Rattle.p9sync.proofs.DeviceLemmas.{IsWriting, on_err, front_kept, front_written, writes_more, writes_nothing}
+use Rattle.p9sync.proofs.DeviceLemmas.{on_err, front_kept, front_written, writes_more, writes_nothing}
 use Rattle.p9sync.proofs.device.write_whole.Goals as goal
 
 pub loop-init : goal.loop-init

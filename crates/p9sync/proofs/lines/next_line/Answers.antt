@@ -1,4 +1,4 @@
-use Rattle.std.proofs.Common.{sym, ◌∙◌}
+use Rattle.std.proofs.Common.{sym}
 use Rattle.p9sync.proofs.LineLemmas.{lines_of-at, cut_line_of-at, lines_of-missing, cut_line_of-missing}
 use Rattle.p9sync.proofs.lines.next_line.Goals as goal
 

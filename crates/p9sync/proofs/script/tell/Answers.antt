@@ -8,7 +8,7 @@ returns-clause-output g c =
     let input = c.args.input.now in
     let front = front-take MAX_SCRIPT c.min.result input c.min.ensures in
     behind_nothing _ _ _ _ c.in_ok-fault.ensures.output c.new-output.ensures.items
-      (ap (λ t. t.output) (told_front g.S.Script.language input (take c.min.result input) front))
+    (ap (λ t. t.output) (told_front g.S.Script.language input (take c.min.result input) front))
 
 pub returns-clause-fault : goal.returns-clause-fault
 returns-clause-fault g c =

@@ -12,7 +12,7 @@ returns-clause-after c s shows =
     let kept = c.args.self.now in
     let some : 0 < length kept.unread = search rules in
     let is_first : first ≡ get_or kept.unread 0 first =
-      c.in-Some.ensures.lookup ∙ ap (λ k. get_or k.unread 0 first) c.self.view_is in
+    c.in-Some.ensures.lookup ∙ ap (λ k. get_or k.unread 0 first) c.self.view_is in
     let used_up : length first.bytes - kept.offset ≤ c.args.most = grind (arith, common_steps) in
     subst (λ k. Shows k (after_read c.args.most s)) (sym c.in_ok-take_rest.ensures.after)
-      (shows_used_up kept s c.args.most first shows some is_first used_up)
+    (shows_used_up kept s c.args.most first shows some is_first used_up)
