@@ -1,10 +1,9 @@
 -- The state that a plain pipe shows, read off what it keeps.
-use Rattle.std.proofs.Common.{◌≡◌, ℕ, ◌+◌, ◌-◌, ◌<◌, ◌≤◌, Bool, true, length, drop, get_or, refl, ◌∙◌, sym, ap, subst, arith, length-drop, rules, Some, unwrap_or, cond, leb}
+use Rattle.std.proofs.Common.{◌≡◌, ℕ, ◌+◌, ◌-◌, ◌<◌, ◌≤◌, length, drop, get_or, refl, ◌∙◌, sym, ap, subst, arith, length-drop, Some, unwrap_or}
 use Rattle.std.specs.Option.{option_map}
 use Rattle.std.proofs.lemmas.Option.{slice_get_read}
 use Rattle.std.proofs.lemmas.List.{get_or-drop, drop-drop}
 use Rattle.std.proofs.lemmas.Bool.Decides.{nat_tests}
-use Rattle.std.proofs.lemmas.Grind.{common_steps}
 use Rattle.sync_base.specs.Write.{Write}
 use Rattle.sync_base.specs.Pipe.{PipeState, next_write, after_read, after_piece}
 use Rattle.sync_base.specs.PlainPipe.{Kept, Shows}

@@ -1,6 +1,6 @@
 -- One direction of a pipe: what was accepted, how far it is read, and whether it is hung up.
 -- It is the same for a pipe of one thread and for a queue between threads, which numbers its writes.
-use Rattle.std.specs.Prelude.{◌≡◌, ◌≢◌, ◌==◌, ℕ, ◌+◌, ◌-◌, ◌<◌, ◌≤◌, nat_lt, nat_le, Bool, true, false, if◌then◌else◌, List, [], ◌∷◌, ◌++◌, length, take, drop, slice_get, Option, None, Some, unwrap_or}
+use Rattle.std.specs.Prelude.{◌≡◌, ◌==◌, ℕ, ◌+◌, ◌-◌, ◌<◌, ◌≤◌, nat_lt, nat_le, Bool, true, false, if◌then◌else◌, List, [], ◌∷◌, ◌++◌, length, take, drop, slice_get, Option, None, Some, unwrap_or}
 use Rattle.std.specs.Option.{option_map}
 use Rattle.sync_base.specs.declared.answers.WriteAnswer.{WriteAnswer}
 use Rattle.sync_base.specs.declared.answers.WriteAnswer.TheVariants.{Taken, Full, Hungup}

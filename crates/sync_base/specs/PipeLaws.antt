@@ -1,9 +1,9 @@
 -- What holds of every direction of a pipe, said of the definitions alone.
-use Rattle.std.specs.Prelude.{◌≡◌, ℕ, ◌<◌, true, false}
+use Rattle.std.specs.Prelude.{◌≡◌, ℕ, ◌<◌, false}
 use Rattle.sync_base.specs.declared.answers.WriteAnswer.TheVariants.{Full, Hungup}
 use Rattle.sync_base.specs.declared.answers.ReadAnswer.{ReadAnswer}
 use Rattle.sync_base.specs.Write.{Write}
-use Rattle.sync_base.specs.Pipe.{PipeState, IsPipeState, opening, waiting_of, MayAnswerWrite, MayAnswerRead, write_answer, read_answer, after_write, after_read, after_hangup}
+use Rattle.sync_base.specs.Pipe.{PipeState, IsPipeState, opening, MayAnswerWrite, MayAnswerRead, write_answer, read_answer, after_write, after_read, after_hangup}
 
 -- what a write is answered may be answered
 abbrev pub WriteAnswersApply : Type 0

@@ -8,26 +8,24 @@ use std::test::Fail;
 #[test]
 fn faults_have_their_texts_and_numbers(rt: HostRuntime) -> Result<(), Fail> {
     let faults = [
-        (Fault::Memory, "out of memory"),
-        (Fault::Interrupted(NoteSet::empty()), "interrupted"),
-        (Fault::Hungup, "i/o on hungup channel"),
-        (Fault::TooBig, "write too big"),
-        (Fault::DoubleSleep, "double sleep"),
-        (Fault::BadArg, "bad argument"),
-        (Fault::BadLevel, "bad level"),
-        (Fault::BadCount, "bad count"),
-        (Fault::BadSize, "bad size"),
-        (Fault::Worn, "number worn out"),
-        (Fault::NoProc, "no such process"),
-        (Fault::NoRendez, "no such rendez"),
-        (Fault::BadFlags, "bad flags"),
-        (Fault::Script(7), "script fault at line 7"),
-        (Fault::TimedOut, "timed out"),
-        (Fault::Device, "device fault"),
+        (1, Fault::Memory, "out of memory"),
+        (2, Fault::Interrupted(NoteSet::empty()), "interrupted"),
+        (3, Fault::Hungup, "i/o on hungup channel"),
+        (4, Fault::TooBig, "write too big"),
+        (5, Fault::DoubleSleep, "double sleep"),
+        (6, Fault::BadArg, "bad argument"),
+        (7, Fault::BadLevel, "bad level"),
+        (8, Fault::BadCount, "bad count"),
+        (9, Fault::BadSize, "bad size"),
+        (10, Fault::Worn, "number worn out"),
+        (11, Fault::NoProc, "no such process"),
+        (12, Fault::NoRendez, "no such rendez"),
+        (13, Fault::BadFlags, "bad flags"),
+        (14, Fault::Script(7), "script fault at line 7"),
+        (15, Fault::TimedOut, "timed out"),
+        (16, Fault::Device, "device fault"),
     ];
-    let mut number = 0;
-    for (fault, text) in faults {
-        number += 1;
+    for (number, fault, text) in faults {
         assert_eq!(rt; fault.to_string(rt.alloc())?.as_str(), text);
         assert_eq!(rt; fault.number(), number, "{text}");
     }
