@@ -1,0 +1,10 @@
+pub mod State
+pub mod Limits
+pub mod Table
+pub mod Step
+pub mod Runs
+pub mod Oversleep
+pub mod Local
+pub mod History
+pub mod Promises
+pub mod Laws
