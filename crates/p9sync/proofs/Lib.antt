@@ -1,4 +1,5 @@
 mod DeviceLemmas
+mod EventLineLemmas
 mod HexTextLemmas
 mod LineLemmas
 mod NumberLemmas

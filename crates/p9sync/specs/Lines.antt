@@ -1,9 +1,10 @@
 -- The lines, words and numbers of a script, as docs/SCRIPTS.md describes them.
-use Rattle.std.specs.Prelude.{◌==◌, ◌&&◌, ℕ, ◌+◌, ◌-◌, ◌*◌, ◌^◌, nat_lt, Bool, if◌then◌else◌, List, [], ◌∷◌, fold, Option, None, Some}
+use Rattle.std.specs.Prelude.{◌==◌, ◌&&◌, ℕ, ◌+◌, ◌-◌, ◌*◌, ◌^◌, nat_lt, nat_le, Bool, if◌then◌else◌, List, [], ◌∷◌, fold, Option, None, Some, option_and_then}
 use Rattle.std.specs.List.{list_all}
 use Rattle.std.specs.Borrow.{Bor}
+use Rattle.std.specs.Str.{bytes_eq}
 use Rattle.std.specs.Char.{is_ascii_digit}
-use Rattle.p9sync.specs.declared.lines.TheConstants.{LINE_FEED, SPACE, ZERO}
+use Rattle.p9sync.specs.declared.lines.TheConstants.{LINE_FEED, SPACE, COMMA, ZERO}
 
 -- whether a byte ends a line
 abbrev pub is_line_feed : ℕ → Bool
@@ -12,6 +13,10 @@ is_line_feed b = b == LINE_FEED
 -- whether a byte stands between words
 abbrev pub is_space : ℕ → Bool
 is_space b = b == SPACE
+
+-- whether a byte stands between kinds of notes
+abbrev pub is_comma : ℕ → Bool
+is_comma b = b == COMMA
 
 -- a byte in front of these parts belongs to the first of them
 abbrev pub onto_first : ℕ → List (List ℕ) → List (List ℕ)
@@ -48,10 +53,18 @@ cut_line_of text = last_of (parts_of is_line_feed text)
 abbrev pub words_of : List ℕ → List (List ℕ)
 words_of line = parts_of is_space line
 
--- the words of what follows a space, if one stood there
+-- the parts of what follows a parting byte, if one stood there
+abbrev pub parts_behind : (ℕ → Bool) → Option (Bor (List ℕ)) → List (List ℕ)
+parts_behind is_parting None = []
+parts_behind is_parting (Some rest) = parts_of is_parting rest.now
+
+-- the words of what follows a space
 abbrev pub words_behind : Option (Bor (List ℕ)) → List (List ℕ)
-words_behind None = []
-words_behind (Some rest) = words_of rest.now
+words_behind rest = parts_behind is_space rest
+
+-- whether a word is this one
+abbrev pub is_word : List ℕ → List ℕ → Bool
+is_word word other = bytes_eq word other
 
 -- the number that digits spell
 abbrev pub decimal_value : List ℕ → ℕ
@@ -69,3 +82,8 @@ abbrev pub number_of : List ℕ → Option ℕ
 number_of [] = None
 number_of (digit ∷ []) = value_of (digit ∷ [])
 number_of (digit ∷ next ∷ digits) = if digit == ZERO then None else value_of (digit ∷ next ∷ digits)
+
+-- that number, where it is in this range
+abbrev pub number_within : ℕ → ℕ → List ℕ → Option ℕ
+number_within least most word =
+    option_and_then (λ n. if nat_le least n && nat_le n most then Some n else None) (number_of word)

@@ -1,12 +1,11 @@
 -- The language of pipe scripts: its lines, and what each of them does to one direction of a pipe.
-use Rattle.std.specs.Prelude.{◌==◌, ◌&&◌, ◌-◌, ℕ, nat_lt, nat_le, Bool, if◌then◌else◌, List, [], ◌∷◌, length, codes, Option, None, Some, option_and_then}
+use Rattle.std.specs.Prelude.{◌==◌, ◌-◌, ℕ, nat_lt, if◌then◌else◌, List, [], ◌∷◌, length, codes, Option, None, Some, option_and_then}
 use Rattle.std.specs.Option.{option_map}
 use Rattle.std.specs.Result.{result_ok}
-use Rattle.std.specs.Str.{bytes_eq}
 use Rattle.hex.specs.Hex.{decode_of}
 use Rattle.sync_base.specs.Pipe.{PipeState, opening, write_answer, after_write, read_answer, after_read, after_hangup}
 use Rattle.sync_base.specs.declared.limits.TheConstants.{ATOMIC_SIZE, MAX_PIPE_LIMIT, MAX_WRITERS}
-use Rattle.p9sync.specs.Lines.{words_of, number_of}
+use Rattle.p9sync.specs.Lines.{words_of, is_word, number_of, number_within}
 use Rattle.p9sync.specs.Script.{Language, Answered, Told, told}
 use Rattle.p9sync.specs.AnswerText.{write_text, read_text}
 
@@ -15,15 +14,6 @@ pub data Op : Type 0 where
   Writes : (writer : ℕ) (bytes : List ℕ) → Op
   Reads : (most : ℕ) → Op
   Hangs_up : Op
-
--- a number, where it is in this range
-abbrev pub number_within : ℕ → ℕ → List ℕ → Option ℕ
-number_within least most word =
-    option_and_then (λ n. if nat_le least n && nat_le n most then Some n else None) (number_of word)
-
--- whether a word is this one
-abbrev pub is_word : List ℕ → List ℕ → Bool
-is_word word other = bytes_eq word other
 
 -- bytes in hexadecimal, two digits of either case each, or a dash for no bytes
 abbrev pub bytes_of : List ℕ → Option (List ℕ)

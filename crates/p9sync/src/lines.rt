@@ -1,12 +1,15 @@
 //! The lines, words and numbers of a script. After this: `script`, which answers the lines.
 ghost use Rattle.std.specs.Prelude.{◌≡◌, ◌==◌, ◌∷◌, ◌+◌, ◌<◌, [], length, position, MatchOption, IfSome};
-ghost use Rattle.p9sync.specs.Lines.{lines_of, cut_line_of, words_of, words_behind, number_of, value_of};
+ghost use Rattle.p9sync.specs.Lines.{lines_of, cut_line_of, parts_of, parts_behind, words_of, words_behind, number_of, number_within, value_of};
 
 /// The byte that ends a line.
 pub const LINE_FEED: u8 = b'\n';
 
 /// The byte between two words.
 pub const SPACE: u8 = b' ';
+
+/// The byte between two kinds of notes.
+pub const COMMA: u8 = b',';
 
 /// The digit 0.
 pub const ZERO: u8 = b'0';
@@ -36,7 +39,15 @@ pub fn next_line(text: &[u8]) -> Option<(&[u8], &[u8])>
 pub fn next_word(text: &[u8]) -> (&[u8], Option<&[u8]>)
     ensures { words_of text.now ≡ result.0.now ∷ words_behind result.1 }
 {
-    match place_of(SPACE, text) {
+    next_part(SPACE, text)
+}
+
+/// The part before the first such byte, and what follows that; `None` follows the last part.
+pub fn next_part(parting: u8, text: &[u8]) -> (&[u8], Option<&[u8]>)
+    ensures part { parts_of (λ b. b == parting) text.now ≡ result.0.now ∷ parts_behind (λ b. b == parting) result.1 }
+    ensures shorter { IfSome result.1 (λ rest. length rest.now < length text.now) }
+{
+    match place_of(parting, text) {
         None => (text, None),
         Some(end) => (&text[..end], Some(&text[end + 1..])),
     }
@@ -50,6 +61,13 @@ pub fn number(word: &[u8]) -> Option<u64>
         [] | [ZERO, _, ..] => None,
         _ => value(word),
     }
+}
+
+/// That number, where it is in a range.
+pub fn bounded_number(word: &[u8], least: u64, most: u64) -> Option<u64>
+    ensures { result ≡ number_within least most word.now }
+{
+    number(word).filter(|n| least <= *n && *n <= most)
 }
 
 /// The number below 2^64 that digits spell.

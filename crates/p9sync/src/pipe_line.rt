@@ -1,10 +1,10 @@
 //! The lines of a pipe script. Before this: `lines`. After it: `pipe_script`, which answers them.
 ghost use Rattle.std.specs.Prelude.{◌≡◌, IfOk};
 ghost use Rattle.p9sync.specs.Lines.{words_of, words_behind};
-ghost use Rattle.p9sync.specs.PipeScript.{number_within, bytes_of, limit_of, op_of, hangup_of, read_of, write_of};
+ghost use Rattle.p9sync.specs.PipeScript.{bytes_of, limit_of, op_of, hangup_of, read_of, write_of};
 ghost use Rattle.p9sync.specs.PipeLine.{IsBytes, IsOp};
 
-use crate::lines::{next_word, number};
+use crate::lines::{next_word, number, bounded_number};
 use std::alloc::AllocError;
 use sync_base::limits::{MAX_PIPE_LIMIT, MAX_WRITERS};
 
@@ -28,16 +28,9 @@ pub fn limit(line: &[u8]) -> Option<u64>
     }
     let (limit, rest) = next_word(rest?);
     match rest {
-        None => within(limit, 1, MAX_PIPE_LIMIT),
+        None => bounded_number(limit, 1, MAX_PIPE_LIMIT),
         Some(_) => None,
     }
-}
-
-/// A number in a range.
-fn within(word: &[u8], least: u64, most: u64) -> Option<u64>
-    ensures { result ≡ number_within least most word.now }
-{
-    number(word).filter(|n| least <= *n && *n <= most)
 }
 
 /// The bytes of a word in hexadecimal, put into this room; false where the word is none.
@@ -106,7 +99,7 @@ impl<'a> PipeOp<'a> {
         if rest.is_some() {
             return Ok(None);
         }
-        let Some(writer) = within(writer, 0, MAX_WRITERS - 1) else {
+        let Some(writer) = bounded_number(writer, 0, MAX_WRITERS - 1) else {
             return Ok(None);
         };
         if !read_bytes(word, room)? {

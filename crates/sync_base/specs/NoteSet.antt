@@ -11,9 +11,27 @@ holds set Hangup = set.hangup
 holds set Alarm = set.alarm
 holds set ClosedPipe = set.closed_pipe
 
+-- whether two notes are of one kind
+abbrev pub is_same_note : Note → Note → Bool
+is_same_note Interrupt Interrupt = true
+is_same_note Hangup Hangup = true
+is_same_note Alarm Alarm = true
+is_same_note ClosedPipe ClosedPipe = true
+is_same_note note other = false
+
 -- the set of no notes
 abbrev pub no_notes : NoteSet
 no_notes = record { interrupt = false; hangup = false; alarm = false; closed_pipe = false }
+
+-- the set of this note alone
+abbrev pub only : Note → NoteSet
+only note =
+    record {
+      interrupt = is_same_note note Interrupt;
+      hangup = is_same_note note Hangup;
+      alarm = is_same_note note Alarm;
+      closed_pipe = is_same_note note ClosedPipe;
+    }
 
 -- the notes of both sets
 abbrev pub joined : NoteSet → NoteSet → NoteSet
@@ -24,11 +42,3 @@ joined a b =
       alarm = a.alarm || b.alarm;
       closed_pipe = a.closed_pipe || b.closed_pipe;
     }
-
--- whether two notes are of one kind
-abbrev pub is_same_note : Note → Note → Bool
-is_same_note Interrupt Interrupt = true
-is_same_note Hangup Hangup = true
-is_same_note Alarm Alarm = true
-is_same_note ClosedPipe ClosedPipe = true
-is_same_note note other = false

@@ -1,7 +1,7 @@
 //! Notes after notify(2): what a process can be told while it runs or sleeps.
 ghost use Rattle.std.specs.Prelude.{◌≡◌, ◌↔◌, ◌||◌, ◌&&◌, not, false, IsTrue};
 ghost use Rattle.sync_base.specs.Note.{text_of};
-ghost use Rattle.sync_base.specs.NoteSet.{holds, is_same_note, joined, no_notes};
+ghost use Rattle.sync_base.specs.NoteSet.{holds, is_same_note, joined, no_notes, only};
 
 /// A kind of note. notify(2) has texts of any kind; these four are the library's own choice.
 #[derive(Clone, Copy, Debug, PartialEq, Eq)]
@@ -55,7 +55,8 @@ impl NoteSet {
 
     /// The set of this note alone.
     pub fn of(note: Note) -> Self
-        ensures { (other : Note) → holds result other ≡ is_same_note note other }
+        ensures value { result ≡ only note }
+        ensures kinds { (other : Note) → holds result other ≡ is_same_note note other }
     {
         NoteSet {
             interrupt: note == Note::Interrupt,

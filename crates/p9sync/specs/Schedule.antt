@@ -1,0 +1,148 @@
+-- The language of schedules: its lines are events, each an atomic step of one process.
+use Rattle.std.specs.Prelude.{◌==◌, ◌&&◌, ℕ, nat_lt, Bool, true, false, ◌||◌, ◌+◌, if◌then◌else◌, List, [], ◌∷◌, ◌++◌, codes, Option, None, Some, option_and_then}
+use Rattle.std.specs.Option.{option_map}
+use Rattle.sync_base.specs.declared.limits.TheConstants.{MAX_PROCS, MAX_RENDEZ}
+use Rattle.sync_base.specs.declared.note.Note.{Note}
+use Rattle.sync_base.specs.declared.note.Note.TheVariants.{Interrupt, Hangup, Alarm, ClosedPipe}
+use Rattle.sync_base.specs.declared.note.NoteSet.{NoteSet}
+use Rattle.sync_base.specs.declared.ids.Pid.{Pid}
+use Rattle.sync_base.specs.NoteSet.{holds, joined, no_notes, only}
+use Rattle.sleep_core.specs.declared.event.Event.{Event}
+use Rattle.sleep_core.specs.declared.event.Event.TheVariants as event
+use Rattle.sleep_core.specs.declared.phase.Phase.{Phase}
+use Rattle.sleep_core.specs.declared.phase.Phase.TheVariants.{Asleep}
+use Rattle.sleep_core.specs.State.{State, opening, posted_of, returned_of}
+use Rattle.sleep_core.specs.Step.{answer_to, world_after}
+use Rattle.p9sync.specs.declared.event_line.Size.{Size}
+use Rattle.p9sync.specs.declared.event_line.Call.{Call}
+use Rattle.p9sync.specs.declared.event_line.Verb.{Verb}
+use Rattle.p9sync.specs.declared.event_line.Verb.TheVariants as verb
+use Rattle.p9sync.specs.declared.lines.TheConstants.{LINE_FEED}
+use Rattle.p9sync.specs.Lines.{parts_of, is_comma, is_word, words_of, number_of, number_within}
+use Rattle.p9sync.specs.Script.{Language, Answered, Told, told}
+use Rattle.p9sync.specs.EventText.{event_text}
+
+-- the line `world PROCS RENDEZ`
+abbrev pub size_of : List (List ℕ) → Option Size
+size_of (verb ∷ procs ∷ rendez ∷ []) =
+    if is_word verb (codes "world")
+    then option_and_then
+      (λ p. option_map (λ r. record { procs = p; rendez = r }) (number_within 1 MAX_RENDEZ rendez))
+      (number_within 1 MAX_PROCS procs)
+    else None
+size_of words = None
+
+-- a process alone
+abbrev pub lone_pid : List (List ℕ) → Option Pid
+lone_pid (pid ∷ []) = option_map (λ n. record { 0 = n }) (number_of pid)
+lone_pid words = None
+
+-- a process, a Rendez and a level
+abbrev pub call_of : List (List ℕ) → Option Call
+call_of (pid ∷ rendez ∷ level ∷ []) =
+    option_and_then
+      (λ p. option_and_then
+        (λ r. option_map
+          (λ l. record { pid = record { 0 = p }; rendez = record { 0 = r }; level = l })
+          (number_of level))
+        (number_of rendez))
+      (number_of pid)
+call_of words = None
+
+-- a kind of note
+abbrev pub kind_of : List ℕ → Option Note
+kind_of word =
+    if is_word word (codes "interrupt") then Some Interrupt
+    else if is_word word (codes "hangup") then Some Hangup
+    else if is_word word (codes "alarm") then Some Alarm
+    else if is_word word (codes "closed") then Some ClosedPipe
+    else None
+
+-- the set with this kind too, which is not there yet
+abbrev pub kind_added : NoteSet → Note → Option NoteSet
+kind_added set note = if holds set note then None else Some (joined set (only note))
+
+-- the set with these kinds too, each of them once
+abbrev pub with_kinds : NoteSet → List (List ℕ) → Option NoteSet
+with_kinds set [] = Some set
+with_kinds set (word ∷ words) =
+    option_and_then
+      (λ note. option_and_then (λ more. with_kinds more words) (kind_added set note))
+      (kind_of word)
+
+-- different kinds with a comma between each two, in any order, or a dash for none
+abbrev pub kinds_of : List ℕ → Option NoteSet
+kinds_of word = if is_word word (codes "-") then Some no_notes else with_kinds no_notes (parts_of is_comma word)
+
+-- `note P KINDS`
+abbrev pub note_of : List (List ℕ) → Option Event
+note_of (pid ∷ kinds ∷ []) =
+    option_and_then
+      (λ p. option_map (λ notes. event.Note (record { 0 = p }) notes) (kinds_of kinds))
+      (number_of pid)
+note_of words = None
+
+-- the first word of an event
+abbrev pub verb_of : List ℕ → Option Verb
+verb_of word =
+    if is_word word (codes "post") then Some verb.Post
+    else if is_word word (codes "test") then Some verb.Test
+    else if is_word word (codes "look") then Some verb.Look
+    else if is_word word (codes "withdraw") then Some verb.Withdraw
+    else if is_word word (codes "clear") then Some verb.Clear
+    else if is_word word (codes "raise") then Some verb.Raise
+    else if is_word word (codes "take") then Some verb.Take
+    else if is_word word (codes "mark") then Some verb.Mark
+    else if is_word word (codes "note") then Some verb.Note
+    else if is_word word (codes "drain") then Some verb.Drain
+    else if is_word word (codes "check") then Some verb.Check
+    else None
+
+-- what follows the first word
+abbrev pub event_with : Verb → List (List ℕ) → Option Event
+event_with verb.Post words = option_map (λ call. event.Post call.pid call.rendez call.level) (call_of words)
+event_with verb.Test words = option_map event.Test (lone_pid words)
+event_with verb.Look words = option_map event.Look (lone_pid words)
+event_with verb.Withdraw words = option_map event.Withdraw (lone_pid words)
+event_with verb.Clear words = option_map event.Clear (lone_pid words)
+event_with verb.Raise words = option_map (λ call. event.Raise call.pid call.rendez call.level) (call_of words)
+event_with verb.Take words = option_map event.Take (lone_pid words)
+event_with verb.Mark words = option_map event.Mark (lone_pid words)
+event_with verb.Note words = note_of words
+event_with verb.Drain words = option_map event.Drain (lone_pid words)
+event_with verb.Check words = option_map event.Check (lone_pid words)
+
+-- a line but the first
+abbrev pub event_of : List (List ℕ) → Option Event
+event_of [] = None
+event_of (word ∷ words) = option_and_then (λ v. event_with v words) (verb_of word)
+
+-- whether a process is asleep in a Rendez, is still posted in it, and a wakeup above its level has returned
+abbrev pub is_left_asleep : State → ℕ → Phase → Bool
+is_left_asleep state pid (Asleep rendez level) =
+    posted_of state rendez.0 == pid + 1 && nat_lt level (returned_of state rendez.0)
+is_left_asleep state pid other = false
+
+-- whether one of these processes is, the first of which has this number
+abbrev pub some_left_asleep : State → ℕ → List Phase → Bool
+some_left_asleep state pid [] = false
+some_left_asleep state pid (phase ∷ phases) = is_left_asleep state pid phase || some_left_asleep state (pid + 1) phases
+
+-- the last line
+abbrev pub lost_text : State → List ℕ
+lost_text state = if some_left_asleep state 0 state.phases then codes "lost yes" else codes "lost no"
+
+-- the language: `world PROCS RENDEZ` opens a world, and at the end it is said whether a wakeup was lost
+abbrev pub schedule_language : Language State
+schedule_language =
+    record {
+      opened_by = λ line. option_map (λ size. opening size.procs size.rendez) (size_of (words_of line));
+      answer_to = λ state line.
+        option_map (λ e. record { text = event_text (answer_to state e); after = world_after state e })
+          (event_of (words_of line));
+      farewell = λ state. lost_text state ++ LINE_FEED ∷ [];
+    }
+
+-- what a schedule says, as a function of its bytes
+abbrev pub schedule_told : List ℕ → Told
+schedule_told input = told schedule_language input
