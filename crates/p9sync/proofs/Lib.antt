@@ -1,7 +1,9 @@
 mod DeviceLemmas
 mod EventLineLemmas
+mod EventTextLemmas
 mod HexTextLemmas
 mod LineLemmas
+mod LostLemmas
 mod NumberLemmas
 mod PipeLineLemmas
 mod ScriptLemmas

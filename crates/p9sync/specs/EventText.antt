@@ -1,7 +1,6 @@
 -- The answers of a schedule in words.
 use Rattle.std.specs.Prelude.{ℕ, List, [], ◌∷◌, ◌++◌, codes, if◌then◌else◌}
 use Rattle.std.specs.Fmt.{decimal}
-use Rattle.std.specs.List.{join_with_byte}
 use Rattle.sync_base.specs.declared.note.Note.{Note}
 use Rattle.sync_base.specs.declared.note.Note.TheVariants.{Interrupt, Hangup, Alarm, ClosedPipe}
 use Rattle.sync_base.specs.declared.note.NoteSet.{NoteSet}
@@ -17,21 +16,26 @@ kind_text Hangup = codes "hangup"
 kind_text Alarm = codes "alarm"
 kind_text ClosedPipe = codes "closed"
 
--- the kind, where it is in the set
-abbrev pub kind_held : NoteSet → Note → List (List ℕ)
-kind_held set note = if holds set note then kind_text note ∷ [] else []
+-- a kind behind those before it, with a comma between
+abbrev pub behind_comma : List ℕ → List ℕ → List ℕ
+behind_comma [] kind = kind
+behind_comma (b ∷ bs) kind = (b ∷ bs) ++ COMMA ∷ kind
+
+-- the same, where the kind is in the set
+abbrev pub listed : NoteSet → List ℕ → Note → List ℕ
+listed set text note = if holds set note then behind_comma text (kind_text note) else text
 
 -- the kinds in the set, in the order in which they are printed
-abbrev pub kinds_held : NoteSet → List (List ℕ)
-kinds_held set = kind_held set Interrupt ++ kind_held set Hangup ++ kind_held set Alarm ++ kind_held set ClosedPipe
+abbrev pub kinds_listed : NoteSet → List ℕ
+kinds_listed set = listed set (listed set (listed set (listed set [] Interrupt) Hangup) Alarm) ClosedPipe
 
--- these with a comma between each two, or a dash for none
-abbrev pub joined_kinds : List (List ℕ) → List ℕ
-joined_kinds [] = codes "-"
-joined_kinds (kind ∷ kinds) = join_with_byte COMMA (kind ∷ kinds)
+-- or a dash for none
+abbrev pub or_dash : List ℕ → List ℕ
+or_dash [] = codes "-"
+or_dash (b ∷ bs) = b ∷ bs
 
 abbrev pub kinds_text : NoteSet → List ℕ
-kinds_text set = joined_kinds (kinds_held set)
+kinds_text set = or_dash (kinds_listed set)
 
 abbrev pub event_text : Answer → List ℕ
 event_text answer.Posted = codes "posted"

@@ -1,8 +1,9 @@
 //! The program on its words: what the command line asks for, and how it ends. Before this:
-//! `pipe_script`.
+//! `pipe_script` and `replay`.
 ghost use Rattle.std.specs.Prelude.{◌≤◌};
 
 use crate::pipe_script::run_pipe;
+use crate::replay::run_replay;
 use clap::error::ErrorKind;
 use clap::{Command, Error};
 use std::alloc::{AllocError, Global};
@@ -26,6 +27,7 @@ const USAGE: &str = "usage: p9sync pipe | replay | threads --writers W --writes 
 #[derive(Clone, Copy)]
 enum Task {
     Pipe,
+    Replay,
 }
 
 /// Why a command line is no task.
@@ -48,6 +50,7 @@ pub fn run_args<S: AsStr, R: Read, O: Write, E: Write>(
 {
     match task_of(alloc, words) {
         Ok(Task::Pipe) => end(run_pipe(alloc, reader, out), err),
+        Ok(Task::Replay) => end(run_replay(alloc, reader, out), err),
         Err(NoTask::OutOfMemory) => end(Err(Fault::Memory), err),
         Err(NoTask::Refused) => refuse(err),
     }
@@ -80,6 +83,7 @@ fn task_of<S: AsStr>(alloc: Global, words: &[S]) -> Result<Task, NoTask> {
     let matches = command.try_get_matches_from(words)?;
     match matches.subcommand() {
         Some(("pipe", _)) => Ok(Task::Pipe),
+        Some(("replay", _)) => Ok(Task::Replay),
         _ => Err(NoTask::Refused),
     }
 }
@@ -91,7 +95,8 @@ fn command<'a>(alloc: Global) -> Result<Command<'a>, AllocError> {
         .disable_help_subcommand(true)
         .disable_version_flag(true)
         .subcommand_required(true)
-        .subcommand(Command::new(alloc, "pipe").disable_help_flag(true))
+        .subcommand(Command::new(alloc, "pipe").disable_help_flag(true))?
+        .subcommand(Command::new(alloc, "replay").disable_help_flag(true))
 }
 
 impl From<AllocError> for NoTask {
