@@ -7,4 +7,5 @@ mod LostLemmas
 mod NumberLemmas
 mod PipeLineLemmas
 mod ScriptLemmas
+mod WorkedSchedules
 mod WorkedScripts

@@ -77,5 +77,5 @@ lost_text-no s none = step (some_left_asleep s 0 s.phases) refl
     step : (v : Bool) → some_left_asleep s 0 s.phases ≡ v → cond v (codes "lost yes") (codes "lost no") ≡ codes "lost no"
     step false is = refl
     step true is =
-      let found = some_by_test s 0 s.phases is in
-      absurd (none (found.0, found.1, subst (λ k. IsLeftAsleep s k (get_or s.phases found.0 phase.Idle)) (zero-add found.0) found.2))
+        let found = some_by_test s 0 s.phases is in
+        absurd (none (found.0, found.1, subst (λ k. IsLeftAsleep s k (get_or s.phases found.0 phase.Idle)) (zero-add found.0) found.2))

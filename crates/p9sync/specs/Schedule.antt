@@ -1,5 +1,5 @@
 -- The language of schedules: its lines are events, each an atomic step of one process.
-use Rattle.std.specs.Prelude.{◌==◌, ◌&&◌, ℕ, nat_lt, Bool, true, false, ◌||◌, ◌+◌, if◌then◌else◌, List, [], ◌∷◌, ◌++◌, codes, Option, None, Some, option_and_then}
+use Rattle.std.specs.Prelude.{◌==◌, ◌&&◌, ℕ, nat_lt, Bool, false, ◌||◌, ◌+◌, if◌then◌else◌, List, [], ◌∷◌, ◌++◌, codes, Option, None, Some, option_and_then}
 use Rattle.std.specs.Option.{option_map}
 use Rattle.sync_base.specs.declared.limits.TheConstants.{MAX_PROCS, MAX_RENDEZ}
 use Rattle.sync_base.specs.declared.note.Note.{Note}
@@ -19,7 +19,7 @@ use Rattle.p9sync.specs.declared.event_line.Verb.{Verb}
 use Rattle.p9sync.specs.declared.event_line.Verb.TheVariants as verb
 use Rattle.p9sync.specs.declared.lines.TheConstants.{LINE_FEED}
 use Rattle.p9sync.specs.Lines.{parts_of, is_comma, is_word, words_of, number_of, number_within}
-use Rattle.p9sync.specs.Script.{Language, Answered, Told, told}
+use Rattle.p9sync.specs.Script.{Language, Told, told}
 use Rattle.p9sync.specs.EventText.{event_text}
 
 -- the line `world PROCS RENDEZ`
@@ -27,8 +27,8 @@ abbrev pub size_of : List (List ℕ) → Option Size
 size_of (verb ∷ procs ∷ rendez ∷ []) =
     if is_word verb (codes "world")
     then option_and_then
-      (λ p. option_map (λ r. record { procs = p; rendez = r }) (number_within 1 MAX_RENDEZ rendez))
-      (number_within 1 MAX_PROCS procs)
+    (λ p. option_map (λ r. record { procs = p; rendez = r }) (number_within 1 MAX_RENDEZ rendez))
+    (number_within 1 MAX_PROCS procs)
     else None
 size_of words = None
 
@@ -41,12 +41,12 @@ lone_pid words = None
 abbrev pub call_of : List (List ℕ) → Option Call
 call_of (pid ∷ rendez ∷ level ∷ []) =
     option_and_then
-      (λ p. option_and_then
-        (λ r. option_map
-          (λ l. record { pid = record { 0 = p }; rendez = record { 0 = r }; level = l })
-          (number_of level))
-        (number_of rendez))
-      (number_of pid)
+    (λ p. option_and_then
+    (λ r. option_map
+    (λ l. record { pid = record { 0 = p }; rendez = record { 0 = r }; level = l })
+    (number_of level))
+    (number_of rendez))
+    (number_of pid)
 call_of words = None
 
 -- a kind of note
@@ -67,8 +67,8 @@ abbrev pub with_kinds : NoteSet → List (List ℕ) → Option NoteSet
 with_kinds set [] = Some set
 with_kinds set (word ∷ words) =
     option_and_then
-      (λ note. option_and_then (λ more. with_kinds more words) (kind_added set note))
-      (kind_of word)
+    (λ note. option_and_then (λ more. with_kinds more words) (kind_added set note))
+    (kind_of word)
 
 -- different kinds with a comma between each two, in any order, or a dash for none
 abbrev pub kinds_of : List ℕ → Option NoteSet
@@ -78,8 +78,8 @@ kinds_of word = if is_word word (codes "-") then Some no_notes else with_kinds n
 abbrev pub note_of : List (List ℕ) → Option Event
 note_of (pid ∷ kinds ∷ []) =
     option_and_then
-      (λ p. option_map (λ notes. event.Note (record { 0 = p }) notes) (kinds_of kinds))
-      (number_of pid)
+    (λ p. option_map (λ notes. event.Note (record { 0 = p }) notes) (kinds_of kinds))
+    (number_of pid)
 note_of words = None
 
 -- the first word of an event
@@ -138,7 +138,7 @@ schedule_language =
     record {
       opened_by = λ line. option_map (λ size. opening size.procs size.rendez) (size_of (words_of line));
       answer_to = λ state line.
-        option_map (λ e. record { text = event_text (answer_to state e); after = world_after state e })
+          option_map (λ e. record { text = event_text (answer_to state e); after = world_after state e })
           (event_of (words_of line));
       farewell = λ state. lost_text state ++ LINE_FEED ∷ [];
     }

@@ -4,7 +4,7 @@ ghost use Rattle.p9sync.specs.Lines.{words_of, words_behind};
 ghost use Rattle.p9sync.specs.PipeScript.{bytes_of, limit_of, op_of, hangup_of, read_of, write_of};
 ghost use Rattle.p9sync.specs.PipeLine.{IsBytes, IsOp};
 
-use crate::lines::{next_word, number, bounded_number};
+use crate::lines::{bounded_number, next_word, number};
 use std::alloc::AllocError;
 use sync_base::limits::{MAX_PIPE_LIMIT, MAX_WRITERS};
 

@@ -2,6 +2,7 @@
 mod damaged_input;
 mod devices;
 mod pipe_runs;
+mod schedule_runs;
 
 use crate::args::run_args;
 use std::alloc::{AllocError, Global};

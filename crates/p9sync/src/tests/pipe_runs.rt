@@ -53,7 +53,7 @@ fn other_command_lines_are_refused(rt: HostRuntime) {
     let alloc = rt.alloc();
     let refused: [&[&str]; 12] = [
         &["p9sync"],
-        &["p9sync", "replay"],
+        &["p9sync", "replay", "pipe"],
         &[
             "p9sync",
             "threads",

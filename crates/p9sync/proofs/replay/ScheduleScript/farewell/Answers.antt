@@ -1,4 +1,4 @@
-use Rattle.std.proofs.Common.{◌≡◌, codes, subst, rules, ap}
+use Rattle.std.proofs.Common.{◌≡◌, codes, subst, rules}
 use Rattle.sleep_core.specs.Oversleep.{HasLostWakeup}
 use Rattle.p9sync.specs.Schedule.{lost_text}
 use Rattle.p9sync.proofs.LostLemmas.{lost_text-yes, lost_text-no}
