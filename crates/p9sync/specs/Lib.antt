@@ -1,4 +1,5 @@
 pub mod AnswerText
+pub mod Args
 pub mod Device
 pub mod EventText
 pub mod Lines

@@ -1,6 +1,11 @@
 //! The program on its words: what the command line asks for, and how it ends. Before this:
 //! `pipe_script` and `replay`.
-ghost use Rattle.std.specs.Prelude.{◌≤◌};
+ghost use Rattle.std.specs.Prelude.{◌≡◌, ◌≤◌, ◌↔◌};
+ghost use Rattle.std.specs.Io.KnownBytes.{Keeps};
+ghost use Rattle.clap.specs.Words.{kind_of};
+ghost use Rattle.clap.specs.declared.error.kind.ErrorKind.TheVariants as kind;
+ghost use Rattle.p9sync.specs.Args.{status_of};
+ghost use Rattle.p9sync.specs.declared.args.NoTask.TheVariants as why;
 
 use crate::pipe_script::run_pipe;
 use crate::replay::run_replay;
@@ -46,7 +51,11 @@ pub fn run_args<S: AsStr, R: Read, O: Write, E: Write>(
     out: &mut O,
     err: &mut E,
 ) -> u8
-    ensures { result ≤ 2 }
+    ensures known { result ≤ REFUSED }
+
+    // A command line that is refused reads no script and writes no answer.
+    ensures unread { result ≡ REFUSED → Keeps (R.remaining reader.old) (R.remaining reader.new) }
+    ensures unwritten { result ≡ REFUSED → Keeps (O.contents out.old) (O.contents out.new) }
 {
     match task_of(alloc, words) {
         Ok(Task::Pipe) => end(run_pipe(alloc, reader, out), err),
@@ -58,7 +67,7 @@ pub fn run_args<S: AsStr, R: Read, O: Write, E: Write>(
 
 /// Ends a command line that is no task.
 pub fn refuse<E: Write>(err: &mut E) -> u8
-    ensures { result ≤ 2 }
+    ensures { result ≡ REFUSED }
 {
     let _ = writeln!(err, "{USAGE}");
     REFUSED
@@ -66,7 +75,7 @@ pub fn refuse<E: Write>(err: &mut E) -> u8
 
 /// Ends a run.
 pub fn end<E: Write>(outcome: Result<(), Fault>, err: &mut E) -> u8
-    ensures { result ≤ 2 }
+    ensures { result ≡ status_of outcome }
 {
     match outcome {
         Ok(()) => GOOD,
@@ -100,12 +109,16 @@ fn command<'a>(alloc: Global) -> Result<Command<'a>, AllocError> {
 }
 
 impl From<AllocError> for NoTask {
+    ghost from_gives = { λ _ no_task. no_task ≡ why.OutOfMemory };
+
     fn from(_refused: AllocError) -> NoTask {
         NoTask::OutOfMemory
     }
 }
 
 impl From<Error> for NoTask {
+    ghost from_gives = { λ error no_task. (no_task ≡ why.OutOfMemory) ↔ (kind_of error ≡ kind.OutOfMemory) };
+
     fn from(error: Error) -> NoTask {
         match error.kind() {
             ErrorKind::OutOfMemory => NoTask::OutOfMemory,

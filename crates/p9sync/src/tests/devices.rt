@@ -40,6 +40,8 @@ struct Writer {
     calls: usize,
     failing: usize,
     kind: ErrorKind,
+    /// Whether nothing was written since the last flush.
+    is_flushed: bool,
 }
 
 impl Write for Writer {
@@ -52,10 +54,12 @@ impl Write for Writer {
         if self.held.extend_from_slice(&buf[..count]).is_err() {
             return Err(io::Error::from(ErrorKind::OutOfMemory));
         }
+        self.is_flushed = false;
         Ok(count)
     }
 
     fn flush(&mut self) -> io::Result<()> {
+        self.is_flushed = true;
         Ok(())
     }
 }
@@ -81,6 +85,7 @@ fn writing(held: Vec<u8>, most: usize, failing: usize, kind: ErrorKind) -> Write
         calls: 0,
         failing,
         kind,
+        is_flushed: true,
     }
 }
 
@@ -143,6 +148,7 @@ fn an_interrupted_write_is_tried_again(rt: HostRuntime) {
         let mut to = writing(Vec::new(alloc), 6, failing, ErrorKind::Interrupted);
         assert_eq!(rt; run_pipe(alloc, &mut from, &mut to), Err(Fault::Script(4)));
         assert_eq!(rt; to.held.as_slice(), ANSWERS);
+        assert!(rt; to.is_flushed);
     }
 }
 
