@@ -1,0 +1,9 @@
+pub mod AcquireKeeps
+pub mod DivideKeeps
+pub mod HistoryLemmas
+pub mod LookKeeps
+pub mod MergeKeeps
+pub mod OpeningKeeps
+pub mod ReleaseKeeps
+pub mod RuleLemmas
+pub mod SettleKeeps

@@ -1,0 +1,54 @@
+//! What each kind of step tells its seat. Before this: `rule`. After it: `steps`, the steps themselves.
+//! These types are for the proofs alone.
+ghost use Rattle.kernel_lock.specs.Steps.{HasAcquired, HasLooked, HasReleased, HasSettled};
+ghost use Rattle.kernel_lock.specs.View.{parent_view, child_view, merged_view, spent_view};
+
+use crate::object::Object;
+use crate::view::{Held, View};
+use atomic_table::{Join, Play, Split};
+use std::marker::PhantomData;
+
+pub struct Acquire<O> {
+    object: PhantomData<O>,
+}
+
+impl<O: Object> Play<Option<Held<O, O::Call, O::Reply>>, View<O, O::Call, O::Reply>>
+    for Acquire<O> {
+    ghost then = { HasAcquired O.state O.definition };
+}
+
+pub struct Look;
+
+impl<O, C, R> Play<Option<Held<O, C, R>>, View<O, C, R>> for Look {
+    ghost then = { HasLooked };
+}
+
+pub struct Release;
+
+impl<O, C, R> Play<Option<Held<O, C, R>>, View<O, C, R>> for Release {
+    ghost then = { HasReleased };
+}
+
+pub struct Divide;
+
+impl<O, C, R> Split<View<O, C, R>> for Divide {
+    ghost left = { parent_view };
+
+    ghost right = { child_view };
+}
+
+pub struct Merge;
+
+impl<O, C, R> Join<View<O, C, R>> for Merge {
+    ghost both = { merged_view };
+
+    ghost spent = { spent_view };
+}
+
+pub struct Settle<O> {
+    object: PhantomData<O>,
+}
+
+impl<O: Object> Play<Option<Held<O, O::Call, O::Reply>>, View<O, O::Call, O::Reply>> for Settle<O> {
+    ghost then = { HasSettled O.state O.definition };
+}
