@@ -12,10 +12,10 @@ use Rattle.kernel_lock.specs.declared.view.Key.{Key}
 use Rattle.kernel_lock.specs.declared.view.View.{View}
 use Rattle.kernel_lock.specs.declared.view.Held.{Held}
 use Rattle.kernel_lock.specs.Definition.{Definition}
-use Rattle.kernel_lock.specs.Rule.{FitsSeat, IsOneHistory}
-use Rattle.kernel_lock.specs.Steps.{Slot, Seated, KnowsHistory, FindsObject, TakesLock, HasAcquired}
-use Rattle.kernel_lock.specs.View.{opening_state, holding_view}
-use Rattle.kernel_lock.proofs.HistoryLemmas.{prefix_refl, by_below_weaker, history_front}
+use Rattle.kernel_lock.specs.Rule.{IsOwned, FitsSeat, IsOneHistory}
+use Rattle.kernel_lock.specs.Steps.{Slot, Seated, FindsObject, TakesLock, HasAcquired}
+use Rattle.kernel_lock.specs.View.{KnowsHistory, opening_state, holding_view}
+use Rattle.kernel_lock.proofs.HistoryLemmas.{all_weaker, prefix_refl, by_below_weaker, history_front}
 use Rattle.kernel_lock.proofs.LookKeeps.{looks, knows_history}
 use Rattle.kernel_lock.proofs.RuleLemmas.{stage_moves, seat_moves, rule_after}
 
@@ -52,6 +52,7 @@ module _ {Object State Call Reply : Type 0} (state : Object → State) (meaning 
             slots_are = refl;
             seen = fits.seen;
             mine = fits.mine;
+            below = all_weaker (IsOwned rule.next rule.owner id) (λ share. share.number < held.next) (λ share owned. let below = owned.given in omega arith) me.0.shares fits.owned;
             given = let given = fits.given in omega arith;
             finds = λ found found_is.
                 let same : found ≡ key = cc in
@@ -66,7 +67,7 @@ module _ {Object State Call Reply : Type 0} (state : Object → State) (meaning 
           },
         )
 
-    pub acquire_keeps : table.Allows (IsOneHistory state meaning key) slots id me 0 (λ n. either (eqb n 0) 1 n) (HasAcquired state meaning (table.step slots 0 0 1 none) me)
+    pub acquire_keeps : table.Allows (IsOneHistory state meaning key) slots id me 0 (λ n. either (eqb n 0) 1 n) (λ found after. HasAcquired state meaning me found after)
     acquire_keeps s rule _ at _ = dite (ℕ_discrete word 0)
         (λ free. let t = takes s rule at free in (
           t.0,

@@ -12,8 +12,8 @@ use Rattle.kernel_lock.specs.declared.view.Key.{Key}
 use Rattle.kernel_lock.specs.declared.view.View.{View}
 use Rattle.kernel_lock.specs.Definition.{Definition}
 use Rattle.kernel_lock.specs.History.{IsPrefix, entries_by, AreByBelow}
-use Rattle.kernel_lock.specs.Rule.{HasItsEntries, IsOwned, IsHolder, FitsStage, FitsSeat, IsOneHistory}
-use Rattle.kernel_lock.specs.View.{parent_view, child_view, unused_share}
+use Rattle.kernel_lock.specs.Rule.{IsOwned, IsHolder, FitsStage, FitsSeat, IsOneHistory}
+use Rattle.kernel_lock.specs.View.{HasItsEntries, parent_view, child_view, unused_share}
 use Rattle.kernel_lock.proofs.HistoryLemmas.{all_front, prefix_refl, entries_by-unused, by_below_weaker}
 use Rattle.kernel_lock.proofs.RuleLemmas.{stage_moves, seat_moves}
 

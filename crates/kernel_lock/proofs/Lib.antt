@@ -1,4 +1,5 @@
 pub mod AcquireKeeps
+pub mod ApplyLemmas
 pub mod DivideKeeps
 pub mod HistoryLemmas
 pub mod LookKeeps
@@ -6,4 +7,5 @@ pub mod MergeKeeps
 pub mod OpeningKeeps
 pub mod ReleaseKeeps
 pub mod RuleLemmas
+pub mod SeatLemmas
 pub mod SettleKeeps

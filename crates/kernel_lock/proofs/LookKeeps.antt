@@ -9,14 +9,14 @@ use Rattle.kernel_lock.specs.declared.view.View.{View}
 use Rattle.kernel_lock.specs.declared.view.Held.{Held}
 use Rattle.kernel_lock.specs.Definition.{Definition}
 use Rattle.kernel_lock.specs.Rule.{FitsSeat, IsOneHistory}
-use Rattle.kernel_lock.specs.Steps.{Slot, Seated, KnowsHistory, HasLooked}
-use Rattle.kernel_lock.specs.View.{opening_state}
+use Rattle.kernel_lock.specs.Steps.{Slot, Seated, HasLooked}
+use Rattle.kernel_lock.specs.View.{KnowsHistory, opening_state}
 use Rattle.kernel_lock.proofs.HistoryLemmas.{by_below_weaker, history_front}
 use Rattle.kernel_lock.proofs.RuleLemmas.{rule_after}
 
 module _ {Object State Call Reply : Type 0} (state : Object → State) (meaning : Definition State Call Reply) where
   -- what a seat knows is a beginning of the one history
-  pub knows_history : (key : Key Object) (s : table.State (Slot Object Call Reply) (View Object Call Reply)) (rule : IsOneHistory state meaning key s) (id : ℕ) (view : View Object Call Reply) → get_elem? s.views id ≡ some view → KnowsHistory state meaning (opening_state state key) key.limit view
+  pub knows_history : (key : Key Object) (s : table.State (Slot Object Call Reply) (View Object Call Reply)) (rule : IsOneHistory state meaning key s) (id : ℕ) (view : View Object Call Reply) → get_elem? s.views id ≡ some view → KnowsHistory meaning (opening_state state key) key.limit view
   knows_history key s rule id view at =
       let fits = rule.each_seat id view at in
       record {
@@ -33,5 +33,5 @@ module _ {Object State Call Reply : Type 0} (state : Object → State) (meaning 
   pub looks : (key : Key Object) (s : table.State (Slot Object Call Reply) (View Object Call Reply)) (rule : IsOneHistory state meaning key s) (id : ℕ) (me : Seated Object Call Reply) → get_elem? s.views id ≡ some me.0 → IsOneHistory state meaning key (table.stepped s 0 (get_or s.words 0 0) id me.1 me.0 table.keeps)
   looks key s rule id me at = sits key s rule id me me.0 (rule.each_seat id me.0 at)
 
-  pub look_keeps : (key : Key Object) (slots id : ℕ) (me : Seated Object Call Reply) → table.Allows (IsOneHistory state meaning key) slots id me 0 (λ n. n) (HasLooked (table.step slots 0 0 0 none) me)
+  pub look_keeps : (key : Key Object) (slots id : ℕ) (me : Seated Object Call Reply) → table.Allows (IsOneHistory state meaning key) slots id me 0 (λ n. n) (λ _ after. HasLooked me after)
   look_keeps key slots id me s rule _ at _ = (me.0, table.keeps, tt, looks key s rule id me at, record { same = refl })

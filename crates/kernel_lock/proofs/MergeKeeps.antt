@@ -15,8 +15,8 @@ use Rattle.kernel_lock.specs.declared.view.Key.{Key}
 use Rattle.kernel_lock.specs.declared.view.View.{View}
 use Rattle.kernel_lock.specs.Definition.{Definition}
 use Rattle.kernel_lock.specs.History.{IsPrefix, entries_by}
-use Rattle.kernel_lock.specs.Rule.{AreDifferent, HasItsEntries, IsOwned, FitsStage, FitsSeat, IsOneHistory}
-use Rattle.kernel_lock.specs.View.{numbers_in, longer_of, shorter_of, merged_view, spent_view}
+use Rattle.kernel_lock.specs.Rule.{IsOwned, FitsStage, FitsSeat, IsOneHistory}
+use Rattle.kernel_lock.specs.View.{AreDifferent, HasItsEntries, numbers_in, longer_of, shorter_of, merged_view, spent_view}
 use Rattle.kernel_lock.proofs.HistoryLemmas.{all_append, all_weaker, all_both, all_map, prefix_refl, prefix_nil, prefix_shorter, append_nothing, entries_by-append, entries_by-between}
 use Rattle.kernel_lock.proofs.RuleLemmas.{stage_moves, seat_moves}
 

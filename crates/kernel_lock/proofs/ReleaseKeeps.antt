@@ -16,14 +16,14 @@ use Rattle.kernel_lock.specs.declared.view.Held.{Held}
 use Rattle.kernel_lock.specs.declared.view.Last.{Last}
 use Rattle.kernel_lock.specs.Definition.{Definition}
 use Rattle.kernel_lock.specs.History.{IsPrefix, entries_by, IsLegal, state_after}
-use Rattle.kernel_lock.specs.Rule.{HasItsEntries, IsOwned, IsHolder, FitsStage, FitsSeat, AreDifferent, IsOneHistory}
+use Rattle.kernel_lock.specs.Rule.{IsOwned, IsHolder, FitsStage, FitsSeat, IsOneHistory}
 use Rattle.kernel_lock.specs.Steps.{Slot, Seated, IsDue, HasReleased}
-use Rattle.kernel_lock.specs.View.{opening_state, numbers_in, has_number, share_after, entry_of, calls_made, released_view}
+use Rattle.kernel_lock.specs.View.{HasItsEntries, AreDifferent, opening_state, numbers_in, has_number, share_after, entry_of, calls_made, released_view}
 use Rattle.kernel_lock.proofs.HistoryLemmas.{all_append, all_weaker, all_map, prefix_refl, prefix_append, entries_by-append, entries_by-other, state_after-append, legal_append}
 use Rattle.kernel_lock.proofs.RuleLemmas.{stage_moves, number_is_owned, seat_moves, rule_after}
 
 module _ {Call Reply : Type 0} where
-  numbers_in-share_after : (entry : Entry Call Reply) (shares : List (Share Call Reply)) → numbers_in (map (share_after entry) shares) ≡ numbers_in shares
+  pub numbers_in-share_after : (entry : Entry Call Reply) (shares : List (Share Call Reply)) → numbers_in (map (share_after entry) shares) ≡ numbers_in shares
   numbers_in-share_after entry [] = refl
   numbers_in-share_after entry (share ∷ shares) = ap (λ (numbers : List ℕ). share.number ∷ numbers) (numbers_in-share_after entry shares)
 
@@ -34,7 +34,7 @@ module _ {Call Reply : Type 0} where
         entries = entries_by-append share.number history (entry ∷ []) ∙ ap (λ (mine : List (Entry Call Reply)). mine ++ entries_by share.number (entry ∷ [])) has.entries;
       }
 
-  all_gain : (history : List (Entry Call Reply)) (entry : Entry Call Reply) (shares : List (Share Call Reply)) → AllByRecursion (HasItsEntries history) shares → AllByRecursion (HasItsEntries (history ++ entry ∷ [])) (map (share_after entry) shares)
+  pub all_gain : (history : List (Entry Call Reply)) (entry : Entry Call Reply) (shares : List (Share Call Reply)) → AllByRecursion (HasItsEntries history) shares → AllByRecursion (HasItsEntries (history ++ entry ∷ [])) (map (share_after entry) shares)
   all_gain history entry shares has =
       all_map (HasItsEntries (history ++ entry ∷ [])) (share_after entry) shares
       (all_weaker (HasItsEntries history) (λ share. HasItsEntries (history ++ entry ∷ []) (share_after entry share)) (gains history entry) shares has)
@@ -49,7 +49,7 @@ module _ {Call Reply : Type 0} where
       ∙ entries_by-another owner id seat number entries own.1 owned other
 
 module _ {Object Call Reply : Type 0} where
-  same_held : (held other : Held Object Call Reply) (xs ys : List (ℕ × Slot Object Call Reply)) → (0, Some held) ∷ xs ≡ (0, Some other) ∷ ys → held ≡ other
+  pub same_held : (held other : Held Object Call Reply) (xs ys : List (ℕ × Slot Object Call Reply)) → (0, Some held) ∷ xs ≡ (0, Some other) ∷ ys → held ≡ other
   same_held held other xs ys same =
       let pair : ◌≡◌ {A = ℕ × Slot Object Call Reply} (0, Some held) (0, Some other) = cc in
       let value : Some held ≡ Some other = ap (λ (p : ℕ × Slot Object Call Reply). p.1) pair in
@@ -57,9 +57,9 @@ module _ {Object Call Reply : Type 0} where
 
   -- the seat that releases the lock fits the longer history
   released_fits : (history : List (Entry Call Reply)) (next : ℕ) (owner : ℕ → ℕ) (holder word word' seat : ℕ) (last : Option (Last Call Reply)) (view : View Object Call Reply) → FitsSeat history next owner holder word seat view
-      → FitsSeat (history ++ calls_made last) next owner holder word' seat (released_view history last view)
+      → FitsSeat (history ++ calls_made last) next owner holder word' seat (released_view history (calls_made last) view)
   released_fits history next owner holder word word' seat None view fits =
-      subst (λ (whole : List (Entry Call Reply)). FitsSeat whole next owner holder word' seat (released_view history None view)) (sym (append-nil history))
+      subst (λ (whole : List (Entry Call Reply)). FitsSeat whole next owner holder word' seat (released_view history [] view)) (sym (append-nil history))
       record {
         seen = fits.seen;
         seen_mine = fits.seen_mine;
@@ -84,17 +84,17 @@ module _ {Object Call Reply : Type 0} where
 
 module _ {Object State Call Reply : Type 0} (state : Object → State) (meaning : Definition State Call Reply) where
   pub release_keeps : (key : Key Object) (slots id : ℕ) (me : Seated Object Call Reply) → 0 < slots → IsDue state meaning key me
-      → table.Allows (IsOneHistory state meaning key) slots id me 0 (λ _. 0) (λ _. HasReleased (table.step slots 0 0 0 none) me 0)
+      → table.Allows (IsOneHistory state meaning key) slots id me 0 (λ _. 0) (λ _ after. HasReleased me after)
   release_keeps key slots id me some_slot due s rule wide at _ = (
-    released_view due.history due.held.last me.0,
+    released_view due.history (calls_made due.held.last) me.0,
     table.gives,
     tt,
-    subst (λ (homes : List _). IsOneHistory state meaning key record { words = set s.words 0 0; homes = homes; views = set s.views id (released_view due.history due.held.last me.0) }) (ap (table.put_back s.homes) (sym due.slots_are)) kept,
+    subst (λ (homes : List _). IsOneHistory state meaning key record { words = set s.words 0 0; homes = homes; views = set s.views id (released_view due.history (calls_made due.held.last) me.0) }) (ap (table.put_back s.homes) (sym due.slots_are)) kept,
     record {
       frees = λ history held others stage_is slots_are.
           let same : history ≡ due.history = let e = stage_is in let f = due.stage_is in cc in
           let also : held ≡ due.held = same_held held due.held others due.others (sym slots_are ∙ due.slots_are) in (
-            ap (λ (h : List (Entry Call Reply)). released_view h due.held.last me.0) (sym same) ∙ ap (λ (h : Held Object Call Reply). released_view history h.last me.0) (sym also),
+            ap (λ (h : List (Entry Call Reply)). released_view h (calls_made due.held.last) me.0) (sym same) ∙ ap (λ (h : Held Object Call Reply). released_view history (calls_made h.last) me.0) (sym also),
             ap table.rest slots_are,
           );
     },
@@ -115,15 +115,15 @@ module _ {Object State Call Reply : Type 0} (state : Object → State) (meaning 
       right : IsLegal meaning (state_after meaning (opening_state state key) rule.history) made
       right = subst (λ (h : List (Entry Call Reply)). IsLegal meaning (state_after meaning (opening_state state key) h) made) holds.history_is due.right
 
-      after_fits : FitsSeat (rule.history ++ made) rule.next rule.owner rule.holder 0 id (released_view due.history due.held.last me.0)
-      after_fits = subst (λ (h : List (Entry Call Reply)). FitsSeat (rule.history ++ made) rule.next rule.owner rule.holder 0 id (released_view h due.held.last me.0)) (sym holds.history_is)
+      after_fits : FitsSeat (rule.history ++ made) rule.next rule.owner rule.holder 0 id (released_view due.history (calls_made due.held.last) me.0)
+      after_fits = subst (λ (h : List (Entry Call Reply)). FitsSeat (rule.history ++ made) rule.next rule.owner rule.holder 0 id (released_view h (calls_made due.held.last) me.0)) (sym holds.history_is)
           (released_fits rule.history rule.next rule.owner rule.holder (get_or s.words 0 0) 0 id due.held.last me.0 fits)
 
       grown : IsPrefix rule.history (rule.history ++ made)
       grown = prefix_append rule.history rule.history made (prefix_refl rule.history)
 
-      kept : IsOneHistory state meaning key record { words = set s.words 0 0; homes = set s.homes 0 (some (Some due.held)); views = set s.views id (released_view due.history due.held.last me.0) }
-      kept = rule_after state meaning key s (set s.homes 0 (some (Some due.held))) id 0 (released_view due.history due.held.last me.0) rule.one_word (rule.history ++ made) rule.next rule.owner rule.holder
+      kept : IsOneHistory state meaning key record { words = set s.words 0 0; homes = set s.homes 0 (some (Some due.held)); views = set s.views id (released_view due.history (calls_made due.held.last) me.0) }
+      kept = rule_after state meaning key s (set s.homes 0 (some (Some due.held))) id 0 (released_view due.history (calls_made due.held.last) me.0) rule.one_word (rule.history ++ made) rule.next rule.owner rule.holder
           (legal_append meaning (opening_state state key) rule.history made rule.legal right)
           (all_append (λ (entry : Entry Call Reply). entry.by < rule.next) rule.history made rule.by_given (all_weaker (λ (entry : Entry Call Reply). (entry.by < rule.next) × (rule.owner entry.by ≡ id)) (λ (entry : Entry Call Reply). entry.by < rule.next) (λ entry both. both.0) made own))
           rule.limit

@@ -16,8 +16,8 @@ use Rattle.kernel_lock.specs.declared.view.View.{View}
 use Rattle.kernel_lock.specs.declared.view.Held.{Held}
 use Rattle.kernel_lock.specs.Definition.{Definition}
 use Rattle.kernel_lock.specs.History.{IsPrefix, entries_by, AreByBelow, IsLegal}
-use Rattle.kernel_lock.specs.Rule.{HasItsEntries, IsOwned, IsHolder, FitsStage, FitsSeat, IsAtHome, IsOneHistory}
-use Rattle.kernel_lock.specs.View.{opening_state, has_number}
+use Rattle.kernel_lock.specs.Rule.{IsOwned, IsHolder, FitsStage, FitsSeat, IsAtHome, IsOneHistory}
+use Rattle.kernel_lock.specs.View.{HasItsEntries, opening_state, has_number}
 use Rattle.kernel_lock.proofs.HistoryLemmas.{prefix_trans, all_weaker, all_both}
 
 module _ {Call Reply : Type 0} where
@@ -28,17 +28,20 @@ module _ {Call Reply : Type 0} where
   stage_moves history history' next next' given holder holder' seat word word' (Holding known) fits grows not_holding = absurd (not_holding fits.holder_is fits.word_is)
   stage_moves history history' next next' given holder holder' seat word word' (Merging other) fits grows not_holding = prefix_trans other history history' fits grows
 
-  -- the share with this number is one of the seat's
-  pub number_is_owned : (next : ℕ) (owner : ℕ → ℕ) (seat number : ℕ) (shares : List (Share Call Reply)) → AllByRecursion (IsOwned next owner seat) shares → has_number shares number ≡ true → (number < next) × (owner number ≡ seat)
-  number_is_owned next owner seat number [] owned has = cc
-  number_is_owned next owner seat number (share ∷ shares) owned has =
-      first (eqb share.number number) refl has (number_is_owned next owner seat number shares owned.1)
+  -- what is true of each of the numbers is true of one of them
+  pub number_has : (P : ℕ → Type 0) (number : ℕ) (shares : List (Share Call Reply)) → AllByRecursion (λ share. P share.number) shares → has_number shares number ≡ true → P number
+  number_has P number [] all has = cc
+  number_has P number (share ∷ shares) all has = first (eqb share.number number) refl has (number_has P number shares all.1)
     where
-      first : (b : Bool) → eqb share.number number ≡ b → (b || has_number shares number) ≡ true → (has_number shares number ≡ true → (number < next) × (owner number ≡ seat)) → (number < next) × (owner number ≡ seat)
+      first : (b : Bool) → eqb share.number number ≡ b → (b || has_number shares number) ≡ true → (has_number shares number ≡ true → P number) → P number
       first true is has rest =
           let same : share.number ≡ number = grind (arith, nat_tests) in
-          subst (λ (n : ℕ). (n < next) × (owner n ≡ seat)) same (owned.0.given, owned.0.owner_is)
+          subst P same all.0
       first false is has rest = rest has
+
+  pub number_is_owned : (next : ℕ) (owner : ℕ → ℕ) (seat number : ℕ) (shares : List (Share Call Reply)) → AllByRecursion (IsOwned next owner seat) shares → has_number shares number ≡ true → (number < next) × (owner number ≡ seat)
+  number_is_owned next owner seat number shares owned has =
+      number_has (λ n. (n < next) × (owner n ≡ seat)) number shares (all_weaker (IsOwned next owner seat) (λ share. (share.number < next) × (owner share.number ≡ seat)) (λ share own. (own.given, own.owner_is)) shares owned) has
 
 module _ {Object Call Reply : Type 0} where
   -- a seat that makes no step still fits, where the history has no more of its entries and its numbers are still its own

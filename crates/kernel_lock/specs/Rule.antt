@@ -13,18 +13,9 @@ use Rattle.kernel_lock.specs.declared.view.View.{View}
 use Rattle.kernel_lock.specs.declared.view.Held.{Held}
 use Rattle.kernel_lock.specs.Definition.{Definition}
 use Rattle.kernel_lock.specs.History.{IsPrefix, entries_by, AreByBelow, state_after, IsLegal}
-use Rattle.kernel_lock.specs.View.{numbers_in, opening_state}
-
--- the numbers are all different
-abbrev pub AreDifferent : List ℕ → Type 0
-AreDifferent [] = ⊤
-AreDifferent (number ∷ numbers) = AllByRecursion (λ other. number ≢ other) numbers × AreDifferent numbers
+use Rattle.kernel_lock.specs.View.{AreDifferent, HasItsEntries, numbers_in, opening_state}
 
 module _ {Call Reply : Type 0} where
-  -- the entries by the number are its mine, in order, each once
-  pub record HasItsEntries (history : List (Entry Call Reply)) (share : Share Call Reply) : Type 0 where
-    pub entries : entries_by share.number history ≡ share.mine
-
   -- the number was given, and to this seat
   pub record IsOwned (next : ℕ) (owner : ℕ → ℕ) (seat : ℕ) (share : Share Call Reply) : Type 0 where
     pub given : share.number < next

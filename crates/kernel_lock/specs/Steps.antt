@@ -1,5 +1,5 @@
 -- What each kind of step tells its seat, and what a release asks.
-use Rattle.std.specs.Prelude.{◌≡◌, ◌≢◌, ℕ, ◌≤◌, List, [], ◌∷◌, ◌++◌, length, Option, Some, IsTrue}
+use Rattle.std.specs.Prelude.{◌≡◌, ◌≢◌, ℕ, ◌<◌, ◌≤◌, List, [], ◌∷◌, ◌++◌, length, Option, Some, None, IsTrue}
 use Rattle.std.specs.List.{AllByRecursion}
 use Rattle.atomic_table.specs.Table as table
 use Rattle.kernel_lock.specs.declared.view.Entry.{Entry}
@@ -9,8 +9,7 @@ use Rattle.kernel_lock.specs.declared.view.View.{View}
 use Rattle.kernel_lock.specs.declared.view.Held.{Held}
 use Rattle.kernel_lock.specs.Definition.{Definition}
 use Rattle.kernel_lock.specs.History.{IsPrefix, IsHistory, IsLegal, state_after}
-use Rattle.kernel_lock.specs.Rule.{HasItsEntries, AreDifferent}
-use Rattle.kernel_lock.specs.View.{opening_state, numbers_in, has_number, calls_made, holding_view, released_view, settled_view}
+use Rattle.kernel_lock.specs.View.{HasItsEntries, KnowsHistory, opening_state, numbers_in, has_number, calls_made, holding_view, released_view, merged_view, settled_view}
 
 -- what lies in the slot
 abbrev pub Slot : Type 0 → Type 0 → Type 0 → Type 0
@@ -22,27 +21,36 @@ Seated Object Call Reply = table.Me (Slot Object Call Reply) (View Object Call R
 
 module _ {Object Call Reply : Type 0} where
   -- Look: nothing changed
-  pub record HasLooked (step : table.Step (Slot Object Call Reply)) (before : Seated Object Call Reply) (found : ℕ) (after : Seated Object Call Reply) : Type 0 where
+  pub record HasLooked (before after : Seated Object Call Reply) : Type 0 where
     pub same : after ≡ before
 
   -- Release: the seat is free, and has seen the history and the call that it made
-  pub record HasReleased (step : table.Step (Slot Object Call Reply)) (before : Seated Object Call Reply) (stored : ℕ) (after : Seated Object Call Reply) : Type 0 where
+  pub record HasReleased (before after : Seated Object Call Reply) : Type 0 where
     pub frees : (history : List (Entry Call Reply)) (held : Held Object Call Reply) (others : List (ℕ × Slot Object Call Reply)) → before.0.stage ≡ Holding history → before.1 ≡ (0, Some held) ∷ others
-        → (after.0 ≡ released_view history held.last before.0) × (after.1 ≡ others)
+        → (after.0 ≡ released_view history (calls_made held.last) before.0) × (after.1 ≡ others)
+
+  -- the seat holds the slot alone, and the object lies in it
+  pub record HasOnly (me : Seated Object Call Reply) : Type 0 where
+    pub held : Held Object Call Reply
+    pub slots_are : me.1 ≡ (0, Some held) ∷ []
+
+  -- a split left the object as it was, with the next number beside it and no call
+  pub record HasGiven (before after : Seated Object Call Reply) : Type 0 where
+    pub found : Held Object Call Reply
+    pub left : Held Object Call Reply
+    pub found_is : before.1 ≡ (0, Some found) ∷ []
+    pub left_is : after.1 ≡ (0, Some left) ∷ []
+    pub object : left.object ≡ found.object
+    pub next_is : left.next ≡ after.0.given
+    pub no_call : left.last ≡ None
 
 module _ {Object State Call Reply : Type 0} (state : Object → State) (meaning : Definition State Call Reply) where
-  -- what a seat knows is a legal history, in which its own calls stand once each
-  pub record KnowsHistory (opening : State) (limit : ℕ) (view : View Object Call Reply) : Type 0 where
-    pub history : IsHistory meaning opening limit view.seen
-    pub mine : AllByRecursion (HasItsEntries view.seen) view.shares
-    pub different : AreDifferent (numbers_in view.shares)
-
   -- what a seat finds with the lock: the object, as the history gives it
   pub record FindsObject (key : Key Object) (view : View Object Call Reply) (history : List (Entry Call Reply)) (held : Held Object Call Reply) : Type 0 where
     pub object : state held.object ≡ state_after meaning (opening_state state key) history
     pub legal : IsHistory meaning (opening_state state key) key.limit history
     pub limit : held.next ≤ key.limit
-    pub knows : KnowsHistory (opening_state state key) key.limit view
+    pub knows : KnowsHistory meaning (opening_state state key) key.limit view
 
   -- the seat holds the lock and the slot, and knows the history
   pub record TakesLock (before after : Seated Object Call Reply) : Type 0 where
@@ -52,11 +60,12 @@ module _ {Object State Call Reply : Type 0} (state : Object → State) (meaning 
     pub slots_are : after.1 ≡ (0, Some held) ∷ before.1
     pub seen : IsPrefix before.0.seen history
     pub mine : AllByRecursion (HasItsEntries history) before.0.shares
+    pub below : AllByRecursion (λ share. share.number < held.next) before.0.shares
     pub given : before.0.given ≤ held.next
     pub finds : (key : Key Object) → before.0.key ≡ Some key → FindsObject key before.0 history held
 
   -- Acquire: the seat holds the lock where it was free, and else nothing changed
-  pub record HasAcquired (step : table.Step (Slot Object Call Reply)) (before : Seated Object Call Reply) (found : ℕ) (after : Seated Object Call Reply) : Type 0 where
+  pub record HasAcquired (before : Seated Object Call Reply) (found : ℕ) (after : Seated Object Call Reply) : Type 0 where
     pub free : found ≡ 0 → TakesLock before after
     pub taken : found ≢ 0 → after ≡ before
 
@@ -73,9 +82,27 @@ module _ {Object State Call Reply : Type 0} (state : Object → State) (meaning 
     pub right : IsLegal meaning (state_after meaning (opening_state state key) history) (calls_made held.last)
     pub own : AllByRecursion (λ entry. IsTrue (has_number me.0.shares entry.by)) (calls_made held.last)
 
+  -- a call left the object as its definition says, with the call beside it
+  pub record HasAnswered (entry : Entry Call Reply) (before after : Seated Object Call Reply) : Type 0 where
+    pub found : Held Object Call Reply
+    pub left : Held Object Call Reply
+    pub found_is : before.1 ≡ (0, Some found) ∷ []
+    pub after_is : after ≡ (before.0, (0, Some left) ∷ [])
+    pub next_is : left.next ≡ found.next
+    pub call_is : calls_made left.last ≡ entry ∷ []
+    pub object : state left.object ≡ meaning.after (state found.object) entry.call
+    pub reply : entry.reply ≡ meaning.answer (state found.object) entry.call
+
   -- Merge ends with a load: the seat is free, and of the two histories that it saw one begins the other
-  pub record HasSettled (step : table.Step (Slot Object Call Reply)) (before : Seated Object Call Reply) (found : ℕ) (after : Seated Object Call Reply) : Type 0 where
+  pub record HasSettled (before after : Seated Object Call Reply) : Type 0 where
     pub view_is : after.0 ≡ settled_view before.0
     pub slots_are : after.1 ≡ before.1
     pub other : (other : List (Entry Call Reply)) → before.0.stage ≡ Merging other → length other ≤ length before.0.seen → IsPrefix other before.0.seen
-    pub knows : (key : Key Object) → before.0.key ≡ Some key → KnowsHistory (opening_state state key) key.limit before.0
+    pub knows : (key : Key Object) → before.0.key ≡ Some key → KnowsHistory meaning (opening_state state key) key.limit before.0
+
+  -- Merge: one seat has the numbers of both, and both had seen a beginning of what it has seen
+  pub record HasMerged (key : Key Object) (first second merged : View Object Call Reply) : Type 0 where
+    pub view_is : merged ≡ settled_view (merged_view first second)
+    pub first_begins : IsPrefix first.seen merged.seen
+    pub second_begins : IsPrefix second.seen merged.seen
+    pub knows : KnowsHistory meaning (opening_state state key) key.limit merged

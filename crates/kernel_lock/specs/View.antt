@@ -1,6 +1,6 @@
 -- What a seat knows, and how it comes to know it.
-use Rattle.std.specs.Prelude.{◌≡◌, ℕ, ◌+◌, ◌<◌, Bool, true, false, ◌==◌, List, [], ◌∷◌, ◌++◌, map, max, length, nat_lt, if◌then◌else◌, Option, Some, None, unwrap_or}
-use Rattle.std.specs.List.{list_any}
+use Rattle.std.specs.Prelude.{◌≡◌, ◌≢◌, ℕ, ⊤, ◌+◌, ◌<◌, Bool, true, false, ◌==◌, List, [], ◌∷◌, ◌++◌, map, max, length, nat_lt, if◌then◌else◌, Option, Some, None, unwrap_or}
+use Rattle.std.specs.List.{list_any, AllByRecursion}
 use Rattle.kernel_lock.specs.declared.view.Entry.{Entry}
 use Rattle.kernel_lock.specs.declared.view.Share.{Share}
 use Rattle.kernel_lock.specs.declared.view.Stage.{Stage}
@@ -8,7 +8,13 @@ use Rattle.kernel_lock.specs.declared.view.Stage.TheVariants.{Free, Holding, Mer
 use Rattle.kernel_lock.specs.declared.view.Key.{Key}
 use Rattle.kernel_lock.specs.declared.view.View.{View}
 use Rattle.kernel_lock.specs.declared.view.Last.{Last}
-use Rattle.kernel_lock.specs.History.{entries_by}
+use Rattle.kernel_lock.specs.Definition.{Definition}
+use Rattle.kernel_lock.specs.History.{IsHistory, entries_by}
+
+-- the numbers are all different
+abbrev pub AreDifferent : List ℕ → Type 0
+AreDifferent [] = ⊤
+AreDifferent (number ∷ numbers) = AllByRecursion (λ other. number ≢ other) numbers × AreDifferent numbers
 
 -- what the object meant when its lock was made
 abbrev pub opening_state : {Object State : Type 0} → (Object → State) → Key Object → State
@@ -44,6 +50,10 @@ module _ {Call Reply : Type 0} where
   calls_made None = []
   calls_made (Some last) = entry_of last ∷ []
 
+  -- the entries by the number are its mine, in order, each once
+  pub record HasItsEntries (history : List (Entry Call Reply)) (share : Share Call Reply) : Type 0 where
+    pub entries : entries_by share.number history ≡ share.mine
+
   abbrev pub longer_of : List (Entry Call Reply) → List (Entry Call Reply) → List (Entry Call Reply)
   longer_of first second = if nat_lt (length first) (length second) then second else first
 
@@ -71,13 +81,13 @@ module _ {Object Call Reply : Type 0} where
   abbrev pub holding_view : List (Entry Call Reply) → ℕ → View Object Call Reply → View Object Call Reply
   holding_view history given view = record view { given = given; stage = Holding history }
 
-  -- the seat is free again, and has seen the history if it made a call
-  abbrev pub released_view : List (Entry Call Reply) → Option (Last Call Reply) → View Object Call Reply → View Object Call Reply
-  released_view history None view = record view { stage = Free }
-  released_view history (Some last) view =
+  -- the seat is free again, and if it made a call, has seen the history with that call at its end
+  abbrev pub released_view : List (Entry Call Reply) → List (Entry Call Reply) → View Object Call Reply → View Object Call Reply
+  released_view history [] view = record view { stage = Free }
+  released_view history (entry ∷ entries) view =
       record view {
-        shares = map (share_after (entry_of last)) view.shares;
-        seen = history ++ entry_of last ∷ [];
+        shares = map (share_after entry) view.shares;
+        seen = history ++ entry ∷ [];
         stage = Free;
       }
 
@@ -113,3 +123,10 @@ module _ {Object Call Reply : Type 0} where
   abbrev pub head_view : List (View Object Call Reply) → View Object Call Reply
   head_view [] = spent_view
   head_view (view ∷ views) = view
+
+module _ {State Object Call Reply : Type 0} (meaning : Definition State Call Reply) where
+  -- what a seat knows is a legal history, in which its own calls stand once each
+  pub record KnowsHistory (opening : State) (limit : ℕ) (view : View Object Call Reply) : Type 0 where
+    pub history : IsHistory meaning opening limit view.seen
+    pub mine : AllByRecursion (HasItsEntries view.seen) view.shares
+    pub different : AreDifferent (numbers_in view.shares)

@@ -1,11 +1,18 @@
 //! The kernel lock: any sequential object, called by many threads through one lock.
 //! Each call stands in one legal history, with the reply that the object's definition gives there.
-//! Read `object`, `view`, `rule`, `plays`, `steps`, `waiting`, and then `locked`, `apply` and `lock_seat`.
+//! Read `object`, `view`, `rule`, `plays`, `locked`, `steps`, `waiting`, and then `apply` and `lock_seat`.
 #![tactic(auto)]
 
+pub mod apply;
+pub mod lock_seat;
+pub mod locked;
 pub mod object;
 pub mod plays;
 pub mod rule;
+pub mod steps;
 pub mod view;
+pub mod waiting;
 
+pub use lock_seat::LockSeat;
+pub use locked::Locked;
 pub use object::Object;

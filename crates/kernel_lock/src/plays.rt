@@ -14,19 +14,19 @@ pub struct Acquire<O> {
 
 impl<O: Object> Play<Option<Held<O, O::Call, O::Reply>>, View<O, O::Call, O::Reply>>
     for Acquire<O> {
-    ghost then = { HasAcquired O.state O.definition };
+    ghost then = { λ _ before found after. HasAcquired O.state O.definition before found after };
 }
 
 pub struct Look;
 
 impl<O, C, R> Play<Option<Held<O, C, R>>, View<O, C, R>> for Look {
-    ghost then = { HasLooked };
+    ghost then = { λ _ before _ after. HasLooked before after };
 }
 
 pub struct Release;
 
 impl<O, C, R> Play<Option<Held<O, C, R>>, View<O, C, R>> for Release {
-    ghost then = { HasReleased };
+    ghost then = { λ _ before _ after. HasReleased before after };
 }
 
 pub struct Divide;
@@ -50,5 +50,5 @@ pub struct Settle<O> {
 }
 
 impl<O: Object> Play<Option<Held<O, O::Call, O::Reply>>, View<O, O::Call, O::Reply>> for Settle<O> {
-    ghost then = { HasSettled O.state O.definition };
+    ghost then = { λ _ before _ after. HasSettled O.state O.definition before after };
 }

@@ -16,7 +16,9 @@ pub struct OneHistory<O> {
     object: PhantomData<O>,
 }
 
-pub type Slot<O> = Option<Held<O, <O as Object>::Call, <O as Object>::Reply>>;
+pub type Contents<O> = Held<O, <O as Object>::Call, <O as Object>::Reply>;
+
+pub type Slot<O> = Option<Contents<O>>;
 
 pub type Knowledge<O> = View<O, <O as Object>::Call, <O as Object>::Reply>;
 

@@ -50,36 +50,18 @@ pub struct View<O, C, R> {
 }
 
 /// The call that a holder of the lock has made.
+#[derive(Drop)]
 pub struct Last<C, R> {
     pub by: u64,
     pub call: Snapshot<C>,
     pub reply: Snapshot<R>,
 }
 
-impl<C, R> Drop for Last<C, R> {
-    fn drop(self) {
-        let Self {
-            by: _,
-            call: _,
-            reply: _,
-        } = self;
-    }
-}
-
 /// What the slot holds.
+#[derive(Drop)]
 pub struct Held<O, C, R> {
     pub object: O,
     /// The number of the next seat.
     pub next: u64,
     pub last: Option<Last<C, R>>,
-}
-
-impl<O: Drop, C, R> Drop for Held<O, C, R> {
-    fn drop(self) {
-        let Self {
-            object: _,
-            next: _,
-            last: _,
-        } = self;
-    }
 }
