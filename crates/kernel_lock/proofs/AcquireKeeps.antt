@@ -1,21 +1,18 @@
 -- The step Acquire keeps the rule: a seat that finds the lock free holds it alone.
-use Rattle.std.proofs.Common.{◌≡◌, ◌≢◌, ℕ, ◌+◌, ◌<◌, ◌≤◌, true, eqb, List, [], ◌∷◌, set, get_or, refl, sym, ap, subst, ◌∙◌, arith, eq-eqb, ne_eqb, Option, Some}
+use Rattle.std.proofs.Common.{◌≡◌, ℕ, ◌<◌, eqb, set, get_or, refl, sym, subst, arith, eq-eqb, ne_eqb, Some}
 use mathlib.Core.Logic.{dite}
 use mathlib.Core.Option.{none, some}
 use native.Mathlib.Decide.{ℕ_discrete}
 use lib.ListN.{get_elem?}
 use prog.Atomic.{either}
 use Rattle.atomic_table.specs.Table as table
-use Rattle.kernel_lock.specs.declared.view.Entry.{Entry}
-use Rattle.kernel_lock.specs.declared.view.Stage.TheVariants.{Free, Holding}
 use Rattle.kernel_lock.specs.declared.view.Key.{Key}
 use Rattle.kernel_lock.specs.declared.view.View.{View}
-use Rattle.kernel_lock.specs.declared.view.Held.{Held}
 use Rattle.kernel_lock.specs.Definition.{Definition}
-use Rattle.kernel_lock.specs.Rule.{IsOwned, FitsSeat, IsOneHistory}
+use Rattle.kernel_lock.specs.Rule.{IsOwned, IsOneHistory}
 use Rattle.kernel_lock.specs.Steps.{Slot, Seated, FindsObject, TakesLock, HasAcquired}
-use Rattle.kernel_lock.specs.View.{KnowsHistory, opening_state, holding_view}
-use Rattle.kernel_lock.proofs.HistoryLemmas.{all_weaker, prefix_refl, by_below_weaker, history_front}
+use Rattle.kernel_lock.specs.View.{holding_view}
+use Rattle.kernel_lock.proofs.HistoryLemmas.{all_weaker, prefix_refl, by_below_weaker}
 use Rattle.kernel_lock.proofs.LookKeeps.{looks, knows_history}
 use Rattle.kernel_lock.proofs.RuleLemmas.{stage_moves, seat_moves, rule_after}
 

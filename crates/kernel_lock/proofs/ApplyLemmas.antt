@@ -1,19 +1,19 @@
 -- What the steps of a call tell together.
-use Rattle.std.proofs.Common.{◌≡◌, ◌≢◌, ℕ, ◌+◌, ◌<◌, ◌≤◌, Bool, true, false, ◌||◌, eqb, List, [], ◌∷◌, ◌++◌, map, refl, sym, ap, subst, ◌∙◌, arith, Option, Some, None}
+use Rattle.std.proofs.Common.{◌≡◌, ℕ, ◌<◌, Bool, true, false, ◌||◌, eqb, List, [], ◌∷◌, ◌++◌, map, refl, sym, ap, subst, ◌∙◌, arith, Option, Some, None}
 use Rattle.std.proofs.lemmas.Bool.Decides.{nat_tests}
 use Rattle.std.specs.Prelude.{IsTrue, IfSome, unwrap_or}
 use Rattle.std.specs.List.{AllByRecursion}
 use Rattle.kernel_lock.specs.declared.view.Entry.{Entry}
 use Rattle.kernel_lock.specs.declared.view.Share.{Share}
-use Rattle.kernel_lock.specs.declared.view.Stage.TheVariants.{Free, Holding}
+use Rattle.kernel_lock.specs.declared.view.Stage.TheVariants.{Free}
 use Rattle.kernel_lock.specs.declared.view.Key.{Key}
 use Rattle.kernel_lock.specs.declared.view.View.{View}
 use Rattle.kernel_lock.specs.declared.view.Held.{Held}
 use Rattle.kernel_lock.specs.Calls.{AreByOthers, AddsCall}
 use Rattle.kernel_lock.specs.Definition.{Definition}
-use Rattle.kernel_lock.specs.History.{IsPrefix, IsRight, IsLegal, AreByBelow, entries_by, state_after}
+use Rattle.kernel_lock.specs.History.{IsRight, IsLegal, entries_by, state_after}
 use Rattle.kernel_lock.specs.Steps.{Slot, Seated, FindsObject, TakesLock, HasOnly, HasAnswered, IsDue, HasReleased}
-use Rattle.kernel_lock.specs.View.{HasItsEntries, AreDifferent, KnowsHistory, opening_state, numbers_in, has_number, share_after, calls_made, released_view}
+use Rattle.kernel_lock.specs.View.{HasItsEntries, AreDifferent, KnowsHistory, opening_state, has_number, share_after, released_view}
 use Rattle.kernel_lock.proofs.HistoryLemmas.{all_append, all_both, entries_by-between, legal_append, state_after-append}
 use Rattle.kernel_lock.proofs.ReleaseKeeps.{numbers_in-share_after, all_gain, same_held}
 use Rattle.kernel_lock.proofs.RuleLemmas.{number_has}

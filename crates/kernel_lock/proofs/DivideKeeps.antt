@@ -1,7 +1,6 @@
 -- The step Divide keeps the rule: the holder of the lock gives a seat the next number, which nobody has.
-use Rattle.std.proofs.Common.{◌≡◌, ◌≢◌, ◌⊎◌, inl, inr, ⊎_elim, ℕ, zero, suc, ◌+◌, ◌<◌, ◌≤◌, true, false, cond, eqb, List, [], ◌∷◌, ◌++◌, map, length, set, get_or, refl, sym, ap, subst, ◌∙◌, arith, eq-eqb, ne_eqb, Option, Some}
-use Rattle.std.specs.List.{AllByRecursion}
-use mathlib.Core.Option.{none, some, some-injective, some-ne-none}
+use Rattle.std.proofs.Common.{◌≡◌, ◌≢◌, ◌⊎◌, inl, inr, ⊎_elim, ℕ, zero, suc, ◌+◌, ◌<◌, cond, eqb, List, [], ◌∷◌, ◌++◌, length, set, get_or, refl, sym, ap, subst, ◌∙◌, arith, eq-eqb, ne_eqb}
+use mathlib.Core.Option.{some, some-injective, some-ne-none}
 use lib.ListN.{get_elem?}
 use Rattle.atomic_table.specs.Table as table
 use Rattle.atomic_table.proofs.Lists.{at_set}
@@ -11,9 +10,9 @@ use Rattle.kernel_lock.specs.declared.view.Stage.TheVariants.{Free, Holding}
 use Rattle.kernel_lock.specs.declared.view.Key.{Key}
 use Rattle.kernel_lock.specs.declared.view.View.{View}
 use Rattle.kernel_lock.specs.Definition.{Definition}
-use Rattle.kernel_lock.specs.History.{IsPrefix, entries_by, AreByBelow}
-use Rattle.kernel_lock.specs.Rule.{IsOwned, IsHolder, FitsStage, FitsSeat, IsOneHistory}
-use Rattle.kernel_lock.specs.View.{HasItsEntries, parent_view, child_view, unused_share}
+use Rattle.kernel_lock.specs.History.{AreByBelow}
+use Rattle.kernel_lock.specs.Rule.{IsHolder, FitsStage, FitsSeat, IsOneHistory}
+use Rattle.kernel_lock.specs.View.{parent_view, child_view}
 use Rattle.kernel_lock.proofs.HistoryLemmas.{all_front, prefix_refl, entries_by-unused, by_below_weaker}
 use Rattle.kernel_lock.proofs.RuleLemmas.{stage_moves, seat_moves}
 

@@ -1,6 +1,7 @@
 pub mod AcquireKeeps
 pub mod ApplyLemmas
 pub mod DivideKeeps
+pub mod DivideLemmas
 pub mod HistoryLemmas
 pub mod LookKeeps
 pub mod MergeKeeps

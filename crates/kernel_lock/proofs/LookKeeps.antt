@@ -1,12 +1,10 @@
 -- The step Look keeps the rule: nothing changes. And what the rule says of one seat.
-use Rattle.std.proofs.Common.{◌≡◌, ◌≢◌, ℕ, ◌<◌, ◌≤◌, List, [], ◌∷◌, set, get_or, refl, Option, Some}
-use mathlib.Core.Option.{none, some}
+use Rattle.std.proofs.Common.{◌≡◌, ℕ, get_or, refl}
+use mathlib.Core.Option.{some}
 use lib.ListN.{get_elem?}
 use Rattle.atomic_table.specs.Table as table
-use Rattle.kernel_lock.specs.declared.view.Entry.{Entry}
 use Rattle.kernel_lock.specs.declared.view.Key.{Key}
 use Rattle.kernel_lock.specs.declared.view.View.{View}
-use Rattle.kernel_lock.specs.declared.view.Held.{Held}
 use Rattle.kernel_lock.specs.Definition.{Definition}
 use Rattle.kernel_lock.specs.Rule.{FitsSeat, IsOneHistory}
 use Rattle.kernel_lock.specs.Steps.{Slot, Seated, HasLooked}

@@ -1,24 +1,22 @@
 -- The step Merge keeps the rule: one seat has the numbers of two, and has seen the longer of what they saw.
-use Rattle.std.proofs.Common.{◌≡◌, ◌≢◌, ⊎_elim, ℕ, ◌+◌, ◌<◌, ◌≤◌, Bool, true, false, cond, eqb, List, [], ◌∷◌, ◌++◌, map, max, length, set, get_or, refl, sym, ap, subst, ◌∙◌, arith, append-nil, append_assoc, eq-eqb, ne_eqb, Option, Some, None}
+use Rattle.std.proofs.Common.{◌≡◌, ◌≢◌, ⊎_elim, ℕ, ◌<◌, ◌≤◌, Bool, true, false, cond, eqb, List, [], ◌∷◌, ◌++◌, length, set, get_or, refl, sym, ap, subst, ◌∙◌, arith, append-nil, append_assoc, eq-eqb, ne_eqb}
 use Rattle.std.proofs.lemmas.Bool.Decides.{nat_tests}
 use Rattle.std.specs.Prelude.{nat_lt}
 use Rattle.std.specs.List.{AllByRecursion}
-use mathlib.Core.Option.{none, some}
+use mathlib.Core.Option.{some}
 use lib.ListN.{get_elem?}
 use Rattle.atomic_table.specs.Table as table
 use Rattle.atomic_table.proofs.Lists.{at_set, set_else}
 use Rattle.kernel_lock.specs.declared.view.Entry.{Entry}
 use Rattle.kernel_lock.specs.declared.view.Share.{Share}
-use Rattle.kernel_lock.specs.declared.view.Stage.{Stage}
-use Rattle.kernel_lock.specs.declared.view.Stage.TheVariants.{Free, Holding, Merging}
+use Rattle.kernel_lock.specs.declared.view.Stage.TheVariants.{Free}
 use Rattle.kernel_lock.specs.declared.view.Key.{Key}
 use Rattle.kernel_lock.specs.declared.view.View.{View}
 use Rattle.kernel_lock.specs.Definition.{Definition}
 use Rattle.kernel_lock.specs.History.{IsPrefix, entries_by}
-use Rattle.kernel_lock.specs.Rule.{IsOwned, FitsStage, FitsSeat, IsOneHistory}
+use Rattle.kernel_lock.specs.Rule.{IsOwned, FitsSeat, IsOneHistory}
 use Rattle.kernel_lock.specs.View.{AreDifferent, HasItsEntries, numbers_in, longer_of, shorter_of, merged_view, spent_view}
-use Rattle.kernel_lock.proofs.HistoryLemmas.{all_append, all_weaker, all_both, all_map, prefix_refl, prefix_nil, prefix_shorter, append_nothing, entries_by-append, entries_by-between}
-use Rattle.kernel_lock.proofs.RuleLemmas.{stage_moves, seat_moves}
+use Rattle.kernel_lock.proofs.HistoryLemmas.{all_append, all_weaker, all_both, all_map, prefix_refl, prefix_nil, prefix_shorter, entries_by-append, entries_by-between}
 
 -- numbers of two lists are different where no number of the first is in the second
 different_append : (xs ys : List ℕ) → AreDifferent xs → AreDifferent ys → AllByRecursion (λ x. AllByRecursion (λ y. x ≢ y) ys) xs → AreDifferent (xs ++ ys)

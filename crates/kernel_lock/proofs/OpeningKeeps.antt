@@ -1,5 +1,5 @@
 -- The rule holds when the lock is made: the history is empty, and the object is at home.
-use Rattle.std.proofs.Common.{◌≡◌, ℕ, zero, suc, ◌+◌, ◌<◌, ◌≤◌, List, [], ◌∷◌, refl, sym, ap, subst, arith, Option, Some, None}
+use Rattle.std.proofs.Common.{◌≡◌, ℕ, zero, suc, ◌<◌, List, [], ◌∷◌, refl, sym, ap, subst, arith, Some}
 use mathlib.Core.Option.{some, some-injective, some-ne-none}
 use lib.ListN.{get_elem?}
 use Rattle.atomic_table.specs.Table as table
@@ -9,11 +9,11 @@ use Rattle.kernel_lock.specs.declared.view.Held.{Held}
 use Rattle.kernel_lock.specs.Definition.{Definition}
 use Rattle.kernel_lock.specs.Rule.{FitsSeat, IsOneHistory}
 use Rattle.kernel_lock.specs.Steps.{Slot}
-use Rattle.kernel_lock.specs.View.{opening_state, first_view}
+use Rattle.kernel_lock.specs.View.{first_view}
 use Rattle.kernel_lock.proofs.HistoryLemmas.{prefix_refl}
 
 module _ {Object State Call Reply : Type 0} (state : Object → State) (meaning : Definition State Call Reply) where
-  pub opening_keeps : (key : Key Object) (held : Held Object Call Reply) → held.object ≡ key.opening.value → held.next ≡ 1 → 0 < key.limit
+  opening_keeps : (key : Key Object) (held : Held Object Call Reply) → held.object ≡ key.opening.value → held.next ≡ 1 → 0 < key.limit
       → IsOneHistory state meaning key (table.opening (0 ∷ []) (Some held ∷ []) (first_view key))
   opening_keeps key held object_is next_is some_seat =
       record {
@@ -44,3 +44,8 @@ module _ {Object State Call Reply : Type 0} (state : Object → State) (meaning 
       each_seat : (seat : ℕ) (view : View Object Call Reply) → get_elem? (first_view {Call = Call} {Reply = Reply} key ∷ []) seat ≡ some view → FitsSeat [] 1 (λ number. 0) 0 0 seat view
       each_seat zero view at = subst (λ (v : View Object Call Reply). FitsSeat [] 1 (λ number. 0) 0 0 0 v) (some-injective (first_view key) view at) first
       each_seat (suc seat) view at = absurd (some-ne-none view (sym at))
+
+  pub opened_keeps : (key : Key Object) (held : Held Object Call Reply) (slots : List (Slot Object Call Reply)) → slots ≡ Some held ∷ [] → held.object ≡ key.opening.value → held.next ≡ 1 → 0 < key.limit
+      → IsOneHistory state meaning key (table.opening (0 ∷ []) slots (first_view key))
+  opened_keeps key held slots slots_are object_is next_is some_seat =
+      subst (λ (xs : List (Slot Object Call Reply)). IsOneHistory state meaning key (table.opening (0 ∷ []) xs (first_view key))) (sym slots_are) (opening_keeps key held object_is next_is some_seat)

@@ -1,15 +1,13 @@
 -- The step Release keeps the rule: the object comes home as the history and the call that was made give it.
-use Rattle.std.proofs.Common.{◌≡◌, ◌≢◌, ℕ, ◌+◌, ◌<◌, ◌≤◌, List, [], ◌∷◌, ◌++◌, map, length, set, get_or, refl, sym, ap, subst, ◌∙◌, arith, append-nil, Option, Some, None}
+use Rattle.std.proofs.Common.{◌≡◌, ◌≢◌, ℕ, ◌<◌, List, [], ◌∷◌, ◌++◌, map, set, get_or, refl, sym, ap, subst, ◌∙◌, arith, append-nil, Option, Some, None}
 use Rattle.std.specs.Prelude.{IsTrue}
 use Rattle.std.specs.List.{AllByRecursion}
-use mathlib.Core.Option.{none, some}
-use lib.ListN.{get_elem?}
+use mathlib.Core.Option.{some}
 use Rattle.atomic_table.specs.Table as table
 use Rattle.atomic_table.proofs.Lists.{set_here}
 use Rattle.kernel_lock.specs.declared.view.Entry.{Entry}
 use Rattle.kernel_lock.specs.declared.view.Share.{Share}
 use Rattle.kernel_lock.specs.declared.view.Stage.{Stage}
-use Rattle.kernel_lock.specs.declared.view.Stage.TheVariants.{Free, Holding}
 use Rattle.kernel_lock.specs.declared.view.Key.{Key}
 use Rattle.kernel_lock.specs.declared.view.View.{View}
 use Rattle.kernel_lock.specs.declared.view.Held.{Held}
@@ -19,7 +17,7 @@ use Rattle.kernel_lock.specs.History.{IsPrefix, entries_by, IsLegal, state_after
 use Rattle.kernel_lock.specs.Rule.{IsOwned, IsHolder, FitsStage, FitsSeat, IsOneHistory}
 use Rattle.kernel_lock.specs.Steps.{Slot, Seated, IsDue, HasReleased}
 use Rattle.kernel_lock.specs.View.{HasItsEntries, AreDifferent, opening_state, numbers_in, has_number, share_after, entry_of, calls_made, released_view}
-use Rattle.kernel_lock.proofs.HistoryLemmas.{all_append, all_weaker, all_map, prefix_refl, prefix_append, entries_by-append, entries_by-other, state_after-append, legal_append}
+use Rattle.kernel_lock.proofs.HistoryLemmas.{all_append, all_weaker, all_map, prefix_refl, prefix_append, entries_by-append, entries_by-other, legal_append}
 use Rattle.kernel_lock.proofs.RuleLemmas.{stage_moves, number_is_owned, seat_moves, rule_after}
 
 module _ {Call Reply : Type 0} where

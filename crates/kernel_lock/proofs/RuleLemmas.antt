@@ -1,5 +1,5 @@
 -- Facts on the rule: a seat that makes no step still fits, and how the rule is put together again after a step.
-use Rattle.std.proofs.Common.{◌≡◌, ◌≢◌, ℕ, zero, suc, ◌+◌, ◌<◌, ◌≤◌, Bool, true, false, ◌||◌, eqb, List, [], ◌∷◌, ◌++◌, length, map, set, get_or, refl, sym, ap, subst, ◌∙◌, ⊎_elim, arith, length-set, get_or-set_same, Option, Some}
+use Rattle.std.proofs.Common.{◌≡◌, ◌≢◌, ℕ, ◌<◌, ◌≤◌, Bool, true, false, ◌||◌, eqb, List, [], ◌∷◌, length, set, get_or, refl, sym, subst, ◌∙◌, ⊎_elim, arith, length-set, get_or-set_same, Option, Some}
 use Rattle.std.proofs.lemmas.Bool.Decides.{nat_tests}
 use Rattle.std.specs.List.{AllByRecursion}
 use mathlib.Core.Option.{some}
@@ -16,7 +16,7 @@ use Rattle.kernel_lock.specs.declared.view.View.{View}
 use Rattle.kernel_lock.specs.declared.view.Held.{Held}
 use Rattle.kernel_lock.specs.Definition.{Definition}
 use Rattle.kernel_lock.specs.History.{IsPrefix, entries_by, AreByBelow, IsLegal}
-use Rattle.kernel_lock.specs.Rule.{IsOwned, IsHolder, FitsStage, FitsSeat, IsAtHome, IsOneHistory}
+use Rattle.kernel_lock.specs.Rule.{IsOwned, FitsStage, FitsSeat, IsAtHome, IsOneHistory}
 use Rattle.kernel_lock.specs.View.{HasItsEntries, opening_state, has_number}
 use Rattle.kernel_lock.proofs.HistoryLemmas.{prefix_trans, all_weaker, all_both}
 

@@ -1,12 +1,18 @@
 -- A seat that sits down after its steps.
-use Rattle.std.proofs.Common.{◌≡◌, true, List, [], ◌∷◌, sym, ap, ◌∙◌}
+use Rattle.std.proofs.Common.{◌≡◌, true, [], ◌∷◌, sym, ap, subst, ◌∙◌, Some}
+use Rattle.std.specs.List.{AllByRecursion}
 use Rattle.atomic_table.specs.declared.shared.Seat.{Seat}
 use Rattle.kernel_lock.specs.declared.view.View.{View}
+use Rattle.kernel_lock.specs.declared.view.Held.{Held}
 use Rattle.kernel_lock.specs.declared.locked.Locked.{Locked}
 use Rattle.kernel_lock.specs.declared.lock_seat.LockSeat.{LockSeat}
-use Rattle.kernel_lock.specs.Seats.{IsSeatOf, IsFreePlaceOf, view_of}
-use Rattle.kernel_lock.specs.Steps.{Slot}
-use Rattle.kernel_lock.specs.View.{has_number, head_view}
+use Rattle.kernel_lock.specs.Calls.{EndsHistory}
+use Rattle.kernel_lock.specs.Definition.{Definition}
+use Rattle.kernel_lock.specs.History.{IsPrefix}
+use Rattle.kernel_lock.specs.Seats.{IsSeatOf, IsFreePlaceOf, view_of, limit_of, opening_of}
+use Rattle.kernel_lock.specs.Steps.{Slot, Seated, TakesLock}
+use Rattle.kernel_lock.specs.View.{HasItsEntries, has_number, head_view}
+use Rattle.kernel_lock.proofs.ReleaseKeeps.{same_held}
 
 module _ {Object Call Reply : Type 0} where
   pub sits_down : (lock : Locked Object Call Reply) (seat : LockSeat Object Call Reply) (place : Seat (Slot Object Call Reply) (View Object Call Reply)) → IsFreePlaceOf lock place
@@ -30,3 +36,19 @@ module _ {Object Call Reply : Type 0} where
       sits_down lock new place free table views
       (same ∙ seat.number ∙ ap (λ (v : View Object Call Reply). v.number) (sym before_is) ∙ sym number)
       (ap (has_number place.me.0.shares) same ∙ own (ap (λ (v : View Object Call Reply). has_number v.shares old.number) before_is ∙ seat.own))
+
+module _ {Object State Call Reply : Type 0} (state : Object → State) (meaning : Definition State Call Reply) where
+  -- the object that a seat finds with the lock when it is closed
+  pub ends : (lock : Locked Object Call Reply) (seat : LockSeat Object Call Reply) (before after : Seated Object Call Reply) (found : Held Object Call Reply) → IsSeatOf lock seat → seat.badge.views ≡ before.0 ∷ [] → before.1 ≡ []
+      → TakesLock state meaning before after → after.1 ≡ (0, Some found) ∷ [] → EndsHistory meaning (opening_of state lock) (limit_of lock) (view_of seat) (state found.object)
+  ends lock seat before after found is views none taken found_is =
+      let view : view_of seat ≡ before.0 = ap head_view views in
+      let finds = taken.finds lock.table.shared.key (ap (λ (v : View Object Call Reply). v.key) (sym view) ∙ is.key) in
+      let same = same_held found taken.held [] before.1 (sym found_is ∙ taken.slots_are) in
+      record {
+        history = taken.history;
+        legal = finds.legal;
+        seen = subst (λ (v : View Object Call Reply). IsPrefix v.seen taken.history) (sym view) taken.seen;
+        mine = subst (λ (v : View Object Call Reply). AllByRecursion (HasItsEntries taken.history) v.shares) (sym view) taken.mine;
+        final_is = ap (λ (held : Held Object Call Reply). state held.object) same ∙ finds.object;
+      }

@@ -14,6 +14,13 @@ module _ {Call Reply : Type 0} where
   AreByOthers shares entries = AllByRecursion (λ entry. has_number shares entry.by ≡ false) entries
 
 module _ {Object Call Reply : Type 0} where
+  -- the first seat of a lock: it has the number 0, and nothing was called
+  pub record IsFirst (view : View Object Call Reply) : Type 0 where
+    pub number : view.number ≡ 0
+    pub shares : view.shares ≡ unused_share 0 ∷ []
+    pub seen : view.seen ≡ []
+    pub given : view.given ≡ 1
+
   -- a call: what was seen grows by entries of other seats, and then by the call
   pub record AddsCall (entry : Entry Call Reply) (old new : View Object Call Reply) : Type 0 where
     pub between : List (Entry Call Reply)

@@ -1,5 +1,5 @@
 -- The rule of the lock's table, which holds between any two atomic steps.
-use Rattle.std.specs.Prelude.{◌≡◌, ◌≢◌, ℕ, ◌<◌, ◌≤◌, List, [], ◌∷◌, Option, Some, length, slice_index, ⊤}
+use Rattle.std.specs.Prelude.{◌≡◌, ℕ, ◌<◌, ◌≤◌, List, Option, Some, length, slice_index, ⊤}
 use Rattle.std.specs.List.{AllByRecursion}
 use mathlib.Core.Option.{some}
 use lib.ListN.{get_elem?}
@@ -12,7 +12,7 @@ use Rattle.kernel_lock.specs.declared.view.Key.{Key}
 use Rattle.kernel_lock.specs.declared.view.View.{View}
 use Rattle.kernel_lock.specs.declared.view.Held.{Held}
 use Rattle.kernel_lock.specs.Definition.{Definition}
-use Rattle.kernel_lock.specs.History.{IsPrefix, entries_by, AreByBelow, state_after, IsLegal}
+use Rattle.kernel_lock.specs.History.{IsPrefix, AreByBelow, state_after, IsLegal}
 use Rattle.kernel_lock.specs.View.{AreDifferent, HasItsEntries, numbers_in, opening_state}
 
 module _ {Call Reply : Type 0} where

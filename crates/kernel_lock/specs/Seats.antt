@@ -1,5 +1,5 @@
 -- What clauses see of a lock and of its seats.
-use Rattle.std.specs.Prelude.{◌≡◌, ℕ, List, [], ◌∷◌, Option, Some, IsTrue, IfSome, unwrap_or}
+use Rattle.std.specs.Prelude.{◌≡◌, ◌<◌, ℕ, List, [], ◌∷◌, Some, IsTrue, IfSome, unwrap_or}
 use Rattle.atomic_table.specs.declared.shared.Seat.{Seat}
 use Rattle.kernel_lock.specs.declared.view.Entry.{Entry}
 use Rattle.kernel_lock.specs.declared.view.Share.{Share}
@@ -9,7 +9,7 @@ use Rattle.kernel_lock.specs.declared.locked.Locked.{Locked}
 use Rattle.kernel_lock.specs.declared.lock_seat.LockSeat.{LockSeat}
 use Rattle.kernel_lock.specs.Definition.{Definition}
 use Rattle.kernel_lock.specs.Steps.{Slot}
-use Rattle.kernel_lock.specs.View.{head_view, has_number, opening_state}
+use Rattle.kernel_lock.specs.View.{head_view, has_number, parent_view, child_view, opening_state}
 
 module _ {Object Call Reply : Type 0} where
   -- how many seats the lock may give
@@ -77,3 +77,11 @@ module _ {Object Call Reply : Type 0} where
   pub record IsSamePlace (before after : Seat (Slot Object Call Reply) (View Object Call Reply)) : Type 0 where
     pub table : after.table_id ≡ before.table_id
     pub id : after.id ≡ before.id
+
+  -- the seat that a holder of the lock gave
+  pub record IsChild (lock : Locked Object Call Reply) (old new : View Object Call Reply) (child : LockSeat Object Call Reply) : Type 0 where
+    pub room : old.given < limit_of lock
+    pub parent : new ≡ parent_view old
+    pub table : child.badge.table_id ≡ lock.table.shared.table_id
+    pub views : child.badge.views ≡ child_view old ∷ []
+    pub number : child.number ≡ old.given

@@ -9,7 +9,7 @@ use Rattle.kernel_lock.specs.declared.view.View.{View}
 use Rattle.kernel_lock.specs.declared.view.Held.{Held}
 use Rattle.kernel_lock.specs.Definition.{Definition}
 use Rattle.kernel_lock.specs.History.{IsPrefix, IsHistory, IsLegal, state_after}
-use Rattle.kernel_lock.specs.View.{HasItsEntries, KnowsHistory, opening_state, numbers_in, has_number, calls_made, holding_view, released_view, merged_view, settled_view}
+use Rattle.kernel_lock.specs.View.{HasItsEntries, KnowsHistory, opening_state, has_number, calls_made, holding_view, released_view, merged_view, settled_view}
 
 -- what lies in the slot
 abbrev pub Slot : Type 0 → Type 0 → Type 0 → Type 0
@@ -34,14 +34,22 @@ module _ {Object Call Reply : Type 0} where
     pub held : Held Object Call Reply
     pub slots_are : me.1 ≡ (0, Some held) ∷ []
 
-  -- a split left the object as it was, with the next number beside it and no call
+  -- the seat holds the lock, and the number beside the object is the next one
+  pub record IsHolding (me : Seated Object Call Reply) : Type 0 where
+    pub history : List (Entry Call Reply)
+    pub held : Held Object Call Reply
+    pub stage_is : me.0.stage ≡ Holding history
+    pub slots_are : me.1 ≡ (0, Some held) ∷ []
+    pub next_is : held.next ≡ me.0.given
+
+  -- a split left the object as it was, with the next number beside it, which the seat knows, and no call
   pub record HasGiven (before after : Seated Object Call Reply) : Type 0 where
     pub found : Held Object Call Reply
     pub left : Held Object Call Reply
     pub found_is : before.1 ≡ (0, Some found) ∷ []
     pub left_is : after.1 ≡ (0, Some left) ∷ []
+    pub view_is : after.0 ≡ record before.0 { given = left.next }
     pub object : left.object ≡ found.object
-    pub next_is : left.next ≡ after.0.given
     pub no_call : left.last ≡ None
 
 module _ {Object State Call Reply : Type 0} (state : Object → State) (meaning : Definition State Call Reply) where

@@ -1,5 +1,5 @@
 -- What a seat knows, and how it comes to know it.
-use Rattle.std.specs.Prelude.{◌≡◌, ◌≢◌, ℕ, ⊤, ◌+◌, ◌<◌, Bool, true, false, ◌==◌, List, [], ◌∷◌, ◌++◌, map, max, length, nat_lt, if◌then◌else◌, Option, Some, None, unwrap_or}
+use Rattle.std.specs.Prelude.{◌≡◌, ◌≢◌, ℕ, ⊤, ◌+◌, Bool, true, false, ◌==◌, List, [], ◌∷◌, ◌++◌, map, max, length, nat_lt, if◌then◌else◌, Option, Some, None}
 use Rattle.std.specs.List.{list_any, AllByRecursion}
 use Rattle.kernel_lock.specs.declared.view.Entry.{Entry}
 use Rattle.kernel_lock.specs.declared.view.Share.{Share}

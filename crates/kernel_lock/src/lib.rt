@@ -14,5 +14,5 @@ pub mod view;
 pub mod waiting;
 
 pub use lock_seat::LockSeat;
-pub use locked::Locked;
+pub use locked::{Locked, Opened};
 pub use object::Object;

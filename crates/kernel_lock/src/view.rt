@@ -28,6 +28,7 @@ pub enum Stage<C, R> {
 }
 
 /// What is fixed when a lock is made.
+#[derive(Drop)]
 pub struct Key<O> {
     pub opening: Snapshot<O>,
     /// How many seats the lock may give.

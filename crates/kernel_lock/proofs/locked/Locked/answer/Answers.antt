@@ -1,5 +1,4 @@
 use Rattle.std.proofs.Common.{Some, [], ◌∷◌, refl, ap, ◌∙◌}
-use Rattle.kernel_lock.specs.declared.view.Entry.{Entry}
 use Rattle.kernel_lock.specs.declared.view.Held.{Held}
 use Rattle.kernel_lock.proofs.locked.Locked.answer.Goals as goal
 
