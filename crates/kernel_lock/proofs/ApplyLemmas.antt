@@ -14,7 +14,7 @@ use Rattle.kernel_lock.specs.Definition.{Definition}
 use Rattle.kernel_lock.specs.History.{IsRight, IsLegal, entries_by, state_after}
 use Rattle.kernel_lock.specs.Steps.{Slot, Seated, FindsObject, TakesLock, HasOnly, HasAnswered, IsDue, HasReleased}
 use Rattle.kernel_lock.specs.View.{HasItsEntries, AreDifferent, KnowsHistory, opening_state, has_number, share_after, released_view}
-use Rattle.kernel_lock.proofs.HistoryLemmas.{all_append, all_both, entries_by-between, legal_append, state_after-append}
+use Rattle.kernel_lock.proofs.HistoryLemmas.{all_append, all_both, all_map, entries_by-between, legal_append, state_after-append}
 use Rattle.kernel_lock.proofs.ReleaseKeeps.{numbers_in-share_after, all_gain, same_held}
 use Rattle.kernel_lock.proofs.RuleLemmas.{number_has}
 
@@ -157,4 +157,5 @@ module _ {Object State Call Reply : Type 0} (state : Object → State) (meaning 
           };
           mine = all_gain taken.history entry before.0.shares taken.mine;
           different = subst AreDifferent (sym (numbers_in-share_after entry before.0.shares)) finds.knows.different;
+          numbers = all_map (λ share. share.number < key.limit) (share_after entry) before.0.shares finds.knows.numbers;
         }

@@ -13,7 +13,8 @@ use Rattle.kernel_lock.specs.declared.lock_seat.LockSeat.{LockSeat}
 use Rattle.kernel_lock.specs.Calls.{GivesSeat}
 use Rattle.kernel_lock.specs.Definition.{Definition}
 use Rattle.kernel_lock.specs.History.{IsLegal, state_after}
-use Rattle.kernel_lock.specs.Seats.{IsChild, IsSeatOf, limit_of, view_of}
+use Rattle.kernel_lock.specs.Places.{IsChild}
+use Rattle.kernel_lock.specs.Seats.{IsSeatOf, limit_of, view_of}
 use Rattle.kernel_lock.specs.Steps.{Slot, Seated, FindsObject, TakesLock, IsHolding, HasGiven, IsDue, HasReleased}
 use Rattle.kernel_lock.specs.View.{KnowsHistory, opening_state, has_number, calls_made, holding_view, released_view, parent_view, child_view, head_view}
 use Rattle.kernel_lock.proofs.ReleaseKeeps.{same_held}
@@ -76,7 +77,7 @@ module _ {Object State Call Reply : Type 0} (state : Object → State) (meaning 
         )
 
     pub knows_still : KnowsHistory meaning opening key.limit (record before.0 { given = given.left.next })
-    knows_still = let knows = finds.knows in record { history = knows.history; mine = knows.mine; different = knows.different }
+    knows_still = let knows = finds.knows in record { history = knows.history; mine = knows.mine; different = knows.different; numbers = knows.numbers }
 
 module _ {Object Call Reply : Type 0} where
   -- the number that a holder found is the next one
@@ -156,13 +157,12 @@ module _ {Object State Call Reply : Type 0} (state : Object → State) (meaning 
           parent = final_is ∙ ap (λ n. record before.0 { given = n }) next_is;
         }
 
-    pub gives_none : (o : Option (LockSeat Object Call Reply)) → IfNone o ((limit_of lock ≤ middle.0.given) × (after.0 ≡ middle.0)) → IfNone o (final.0 ≡ record before.0 { given = limit_of lock })
-    gives_none None is =
-        let full = is.0 in
-        let same : after.0.given ≡ middle.0.given = ap (λ (v : View Object Call Reply). v.given) is.1 in
+    pub gives_none : (o : Option (LockSeat Object Call Reply)) → IfNone o (limit_of lock ≤ middle.0.given) → IfNone o (after.0 ≡ middle.0) → IfNone o (final.0 ≡ record before.0 { given = limit_of lock })
+    gives_none None full is =
+        let same : after.0.given ≡ middle.0.given = ap (λ (v : View Object Call Reply). v.given) is in
         let n = middle_given in
         let m = left_next in
         let most = (taken.finds lock.table.shared.key keyed).limit in
         let next_is : given.left.next ≡ limit_of lock = omega arith in
         final_is ∙ ap (λ n. record before.0 { given = n }) next_is
-    gives_none (Some child) is = tt
+    gives_none (Some child) full is = tt

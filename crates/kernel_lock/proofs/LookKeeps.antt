@@ -1,15 +1,15 @@
 -- The step Look keeps the rule: nothing changes. And what the rule says of one seat.
-use Rattle.std.proofs.Common.{◌≡◌, ℕ, get_or, refl}
+use Rattle.std.proofs.Common.{◌≡◌, ℕ, ◌<◌, get_or, refl, arith}
 use mathlib.Core.Option.{some}
 use lib.ListN.{get_elem?}
 use Rattle.atomic_table.specs.Table as table
 use Rattle.kernel_lock.specs.declared.view.Key.{Key}
 use Rattle.kernel_lock.specs.declared.view.View.{View}
 use Rattle.kernel_lock.specs.Definition.{Definition}
-use Rattle.kernel_lock.specs.Rule.{FitsSeat, IsOneHistory}
+use Rattle.kernel_lock.specs.Rule.{IsOwned, FitsSeat, IsOneHistory}
 use Rattle.kernel_lock.specs.Steps.{Slot, Seated, HasLooked}
 use Rattle.kernel_lock.specs.View.{KnowsHistory, opening_state}
-use Rattle.kernel_lock.proofs.HistoryLemmas.{by_below_weaker, history_front}
+use Rattle.kernel_lock.proofs.HistoryLemmas.{all_weaker, by_below_weaker, history_front}
 use Rattle.kernel_lock.proofs.RuleLemmas.{rule_after}
 
 module _ {Object State Call Reply : Type 0} (state : Object → State) (meaning : Definition State Call Reply) where
@@ -21,6 +21,7 @@ module _ {Object State Call Reply : Type 0} (state : Object → State) (meaning 
         history = history_front meaning (opening_state state key) key.limit view.seen rule.history fits.seen record { legal = rule.legal; within = by_below_weaker rule.next key.limit rule.history rule.limit rule.by_given };
         mine = fits.seen_mine;
         different = fits.different;
+        numbers = all_weaker (IsOwned rule.next rule.owner id) (λ share. share.number < key.limit) (λ share owned. let below = owned.given in let limit = rule.limit in omega arith) view.shares fits.owned;
       }
 
   -- a step that leaves the word, and a seat with the view that it had or another that fits

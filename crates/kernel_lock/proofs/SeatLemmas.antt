@@ -9,7 +9,8 @@ use Rattle.kernel_lock.specs.declared.lock_seat.LockSeat.{LockSeat}
 use Rattle.kernel_lock.specs.Calls.{EndsHistory}
 use Rattle.kernel_lock.specs.Definition.{Definition}
 use Rattle.kernel_lock.specs.History.{IsPrefix}
-use Rattle.kernel_lock.specs.Seats.{IsSeatOf, IsFreePlaceOf, view_of, limit_of, opening_of}
+use Rattle.kernel_lock.specs.Places.{IsFreePlaceOf}
+use Rattle.kernel_lock.specs.Seats.{IsSeatOf, view_of, limit_of, opening_of}
 use Rattle.kernel_lock.specs.Steps.{Slot, Seated, TakesLock}
 use Rattle.kernel_lock.specs.View.{HasItsEntries, has_number, head_view}
 use Rattle.kernel_lock.proofs.ReleaseKeeps.{same_held}

@@ -71,5 +71,5 @@ module _ {Object State Call Reply : Type 0} (state : Object → State) (meaning 
         view_is = refl;
         first_begins = both.0;
         second_begins = both.1;
-        knows = record { history = knows.history; mine = knows.mine; different = knows.different };
+        knows = record { history = knows.history; mine = knows.mine; different = knows.different; numbers = knows.numbers };
       }

@@ -1,15 +1,14 @@
 -- What clauses see of a lock and of its seats.
-use Rattle.std.specs.Prelude.{◌≡◌, ◌<◌, ℕ, List, [], ◌∷◌, Some, IsTrue, IfSome, unwrap_or}
-use Rattle.atomic_table.specs.declared.shared.Seat.{Seat}
+use Rattle.std.specs.Prelude.{◌≡◌, ℕ, List, [], ◌∷◌, Some, IsTrue, IfSome, unwrap_or}
 use Rattle.kernel_lock.specs.declared.view.Entry.{Entry}
 use Rattle.kernel_lock.specs.declared.view.Share.{Share}
 use Rattle.kernel_lock.specs.declared.view.Stage.TheVariants.{Free}
 use Rattle.kernel_lock.specs.declared.view.View.{View}
 use Rattle.kernel_lock.specs.declared.locked.Locked.{Locked}
 use Rattle.kernel_lock.specs.declared.lock_seat.LockSeat.{LockSeat}
+use Rattle.kernel_lock.specs.Calls.{IsFirst, AddsCall, GivesSeat, JoinsSeats, EndsHistory}
 use Rattle.kernel_lock.specs.Definition.{Definition}
-use Rattle.kernel_lock.specs.Steps.{Slot}
-use Rattle.kernel_lock.specs.View.{head_view, has_number, parent_view, child_view, opening_state}
+use Rattle.kernel_lock.specs.View.{KnowsHistory, head_view, has_number, opening_state}
 
 module _ {Object Call Reply : Type 0} where
   -- how many seats the lock may give
@@ -44,14 +43,6 @@ module _ {Object Call Reply : Type 0} where
   abbrev pub HasNumber : LockSeat Object Call Reply → ℕ → Type 0
   HasNumber seat number = IsTrue (has_number (shares_of seat) number)
 
-  -- a call that names a seat names a number of this one
-  abbrev pub NamesOwn : {State : Type 0} → Definition State Call Reply → LockSeat Object Call Reply → Call → Type 0
-  NamesOwn meaning seat call = IfSome (meaning.named call) (HasNumber seat)
-
-  -- the entry of a call that the seat makes
-  abbrev pub entry_by : {State : Type 0} → Definition State Call Reply → LockSeat Object Call Reply → Call → Reply → Entry Call Reply
-  entry_by meaning seat call reply = record { by = unwrap_or (meaning.named call) (number_of seat); call = call; reply = reply }
-
   -- the seat is one of the lock's, and stands between two calls
   pub record IsSeatOf (lock : Locked Object Call Reply) (seat : LockSeat Object Call Reply) : Type 0 where
     pub table : seat.badge.table_id ≡ lock.table.shared.table_id
@@ -61,27 +52,53 @@ module _ {Object Call Reply : Type 0} where
     pub number : seat.number ≡ (view_of seat).number
     pub own : HasNumber seat seat.number
 
-  -- the same of a seat that makes its steps
-  pub record IsPlaceOf (lock : Locked Object Call Reply) (place : Seat (Slot Object Call Reply) (View Object Call Reply)) : Type 0 where
-    pub table : place.table_id ≡ lock.table.shared.table_id
-    pub key : place.me.0.key ≡ Some lock.table.shared.key
+  -- the seat of a new lock
+  abbrev pub IsFirstSeat : LockSeat Object Call Reply → Type 0
+  IsFirstSeat seat = IsFirst (view_of seat)
 
-  -- the same of one that stands between two calls, and holds no slot
-  pub record IsFreePlaceOf (lock : Locked Object Call Reply) (place : Seat (Slot Object Call Reply) (View Object Call Reply)) : Type 0 where
-    pub table : place.table_id ≡ lock.table.shared.table_id
-    pub key : place.me.0.key ≡ Some lock.table.shared.key
-    pub stage : place.me.0.stage ≡ Free
-    pub no_slot : place.me.1 ≡ []
+  -- a split gave the child and changed nothing else
+  abbrev pub Splits :
+      Locked Object Call Reply → LockSeat Object Call Reply → LockSeat Object Call Reply →
+      LockSeat Object Call Reply → Type 0
+  Splits lock old new child =
+      GivesSeat (limit_of lock) (view_of old) (view_of new) (view_of child)
 
-  -- a step changes what the seat knows and holds, and nothing else of it
-  pub record IsSamePlace (before after : Seat (Slot Object Call Reply) (View Object Call Reply)) : Type 0 where
-    pub table : after.table_id ≡ before.table_id
-    pub id : after.id ≡ before.id
+  -- a split was refused: all seats were given, which the seat knows now, and nothing else changed
+  abbrev pub KnowsAllGiven :
+      Locked Object Call Reply → LockSeat Object Call Reply → LockSeat Object Call Reply → Type 0
+  KnowsAllGiven lock old new = view_of new ≡ record (view_of old) { given = limit_of lock }
 
-  -- the seat that a holder of the lock gave
-  pub record IsChild (lock : Locked Object Call Reply) (old new : View Object Call Reply) (child : LockSeat Object Call Reply) : Type 0 where
-    pub room : old.given < limit_of lock
-    pub parent : new ≡ parent_view old
-    pub table : child.badge.table_id ≡ lock.table.shared.table_id
-    pub views : child.badge.views ≡ child_view old ∷ []
-    pub number : child.number ≡ old.given
+  -- one seat was made of two
+  abbrev pub Joins :
+      LockSeat Object Call Reply → LockSeat Object Call Reply → LockSeat Object Call Reply → Type 0
+  Joins first second joined = JoinsSeats (view_of first) (view_of second) (view_of joined)
+
+module _ {State Object Call Reply : Type 0} (meaning : Definition State Call Reply) where
+  -- a call that names a seat names a number of this one
+  abbrev pub NamesOwn : LockSeat Object Call Reply → Call → Type 0
+  NamesOwn seat call = IfSome (meaning.named call) (HasNumber seat)
+
+  -- the entry of a call that the seat makes
+  abbrev pub entry_by : LockSeat Object Call Reply → Call → Reply → Entry Call Reply
+  entry_by seat call reply =
+      record {
+        by = unwrap_or (meaning.named call) (number_of seat);
+        call = call;
+        reply = reply;
+      }
+
+  -- a call was made, and answered so
+  abbrev pub Applies :
+      LockSeat Object Call Reply → Call → Reply → LockSeat Object Call Reply → Type 0
+  Applies old call reply new = AddsCall (entry_by old call reply) (view_of old) (view_of new)
+
+module _ {State Object Call Reply : Type 0} (state : Object → State) (meaning : Definition State Call Reply) where
+  -- what the seat has seen is a legal history from the opening on, with its own calls once each
+  abbrev pub SeesHistory : Locked Object Call Reply → LockSeat Object Call Reply → Type 0
+  SeesHistory lock seat =
+      KnowsHistory meaning (opening_of state lock) (limit_of lock) (view_of seat)
+
+  -- the object is what one legal history gives, which begins with all that the seat has seen
+  abbrev pub Closes : Locked Object Call Reply → LockSeat Object Call Reply → Object → Type 0
+  Closes lock seat object =
+      EndsHistory meaning (opening_of state lock) (limit_of lock) (view_of seat) (state object)

@@ -1,5 +1,5 @@
 -- What a seat knows, and how it comes to know it.
-use Rattle.std.specs.Prelude.{◌≡◌, ◌≢◌, ℕ, ⊤, ◌+◌, Bool, true, false, ◌==◌, List, [], ◌∷◌, ◌++◌, map, max, length, nat_lt, if◌then◌else◌, Option, Some, None}
+use Rattle.std.specs.Prelude.{◌<◌, ◌≡◌, ◌≢◌, ℕ, ⊤, ◌+◌, Bool, true, false, ◌==◌, List, [], ◌∷◌, ◌++◌, map, max, length, nat_lt, if◌then◌else◌, Option, Some, None}
 use Rattle.std.specs.List.{list_any, AllByRecursion}
 use Rattle.kernel_lock.specs.declared.view.Entry.{Entry}
 use Rattle.kernel_lock.specs.declared.view.Share.{Share}
@@ -130,3 +130,4 @@ module _ {State Object Call Reply : Type 0} (meaning : Definition State Call Rep
     pub history : IsHistory meaning opening limit view.seen
     pub mine : AllByRecursion (HasItsEntries view.seen) view.shares
     pub different : AreDifferent (numbers_in view.shares)
+    pub numbers : AllByRecursion (λ share. share.number < limit) view.shares

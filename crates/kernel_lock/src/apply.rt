@@ -1,7 +1,8 @@
-//! A call on the object. Before this: `waiting`. After it: `lock_seat`.
+//! A call on the object. Before this: `waiting`. After it: `seats`, how seats are given and joined.
 ghost use Rattle.std.specs.Prelude.{◌≡◌, IsTrue, IfSome};
 ghost use Rattle.kernel_lock.specs.Calls.{AddsCall};
-ghost use Rattle.kernel_lock.specs.Seats.{IsSeatOf, IsPlaceOf, IsFreePlaceOf, IsSamePlace, NamesOwn, entry_by, limit_of, opening_of, view_of};
+ghost use Rattle.kernel_lock.specs.Places.{IsPlaceOf, IsFreePlaceOf, IsSamePlace};
+ghost use Rattle.kernel_lock.specs.Seats.{IsSeatOf, NamesOwn, Applies, SeesHistory, limit_of, opening_of};
 ghost use Rattle.kernel_lock.specs.Steps.{HasOnly, HasAnswered};
 ghost use Rattle.kernel_lock.specs.View.{KnowsHistory, has_number};
 
@@ -20,11 +21,11 @@ impl<O: Object> Locked<O> {
         requires named { NamesOwn O.definition seat.old call }
         ensures seat { IsSeatOf self.now seat.new }
 
-        // The call stands at the end of what the seat has seen, and all else that is new there is by other seats.
-        ensures call { AddsCall (entry_by O.definition seat.old call result) (view_of seat.old) (view_of seat.new) }
+        // The call ends what the seat has seen, and all else that is new there is by other seats.
+        ensures call { Applies O.definition seat.old call result seat.new }
 
         // That is a legal history, so the reply is the definition's at its place.
-        ensures history { KnowsHistory O.definition (opening_of O.state self.now) (limit_of self.now) (view_of seat.new) }
+        ensures history { SeesHistory O.state O.definition self.now seat.new }
     {
         let by = O::caller(&call).unwrap_or(seat.number);
         let mut place = seat.stand();
@@ -40,7 +41,8 @@ impl<O: Object> Locked<O> {
         requires named { IfSome (O.definition.named call) (λ number. number ≡ by) }
         ensures place { IsFreePlaceOf self.now place.new }
         ensures call { AddsCall record { by = by; call = call; reply = result } place.old.me.0 place.new.me.0 }
-        ensures history { KnowsHistory O.definition (opening_of O.state self.now) (limit_of self.now) place.new.me.0 }
+        ensures history { KnowsHistory O.definition (opening_of O.state self.now) (limit_of self.now)
+            place.new.me.0 }
     {
         self.take(rt, place);
         let reply = self.answer(place, by, call);
@@ -53,7 +55,8 @@ impl<O: Object> Locked<O> {
         requires place { IsPlaceOf self.now place.old }
         requires full { HasOnly place.old.me }
         ensures place { IsSamePlace place.old place.new }
-        ensures answered { HasAnswered O.state O.definition record { by = by; call = call; reply = result } place.old.me place.new.me }
+        ensures answered { HasAnswered O.state O.definition record { by = by; call = call; reply = result }
+            place.old.me place.new.me }
     {
         let Held {
             mut object,

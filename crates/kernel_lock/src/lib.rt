@@ -1,6 +1,6 @@
 //! The kernel lock: any sequential object, called by many threads through one lock.
 //! Each call stands in one legal history, with the reply that the object's definition gives there.
-//! Read `object`, `view`, `rule`, `plays`, `locked`, `steps`, `waiting`, and then `apply` and `lock_seat`.
+//! Read `object`, `view`, `rule`, `plays`, `lock_seat`, `locked`, `steps`, `waiting`, and then `apply` and `seats`.
 #![tactic(auto)]
 
 pub mod apply;
@@ -9,6 +9,7 @@ pub mod locked;
 pub mod object;
 pub mod plays;
 pub mod rule;
+pub mod seats;
 pub mod steps;
 pub mod view;
 pub mod waiting;

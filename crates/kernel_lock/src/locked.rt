@@ -1,4 +1,4 @@
-//! An object under its lock: how it is made, and how it is taken back. Before this: `plays`. After it: `steps`.
+//! An object under its lock: how it is made, and how it is taken back. Before this: `lock_seat`. After it: `steps`.
 ghost use Rattle.std.specs.Prelude.{◌≡◌, [], ◌∷◌, Some};
 
 use crate::lock_seat::LockSeat;
@@ -33,7 +33,7 @@ pub struct Opened<O: Object> {
 impl<O: Object> Locked<O> {
     ghost use Rattle.std.specs.Prelude.{◌≡◌, ◌<◌, [], ◌∷◌, IfOk, IfErr};
     ghost use Rattle.kernel_lock.specs.Calls.{IsFirst, EndsHistory};
-    ghost use Rattle.kernel_lock.specs.Seats.{IsSeatOf, limit_of, opening_of, view_of};
+    ghost use Rattle.kernel_lock.specs.Seats.{IsSeatOf, IsFirstSeat, Closes, limit_of, opening_of, view_of};
 
     /// Puts the object under a lock that may give this many seats. Where there is no memory the object comes back.
     pub fn new(alloc: Global, object: O, seats: u64) -> Result<Opened<O>, AllocFailed<O>>
@@ -41,7 +41,7 @@ impl<O: Object> Locked<O> {
         ensures opening { IfOk result (λ opened. opening_of O.state opened.lock ≡ O.state object) }
         ensures limit { IfOk result (λ opened. limit_of opened.lock ≡ seats) }
         ensures seat { IfOk result (λ opened. IsSeatOf opened.lock opened.seat) }
-        ensures first { IfOk result (λ opened. IsFirst (view_of opened.seat)) }
+        ensures first { IfOk result (λ opened. IsFirstSeat opened.seat) }
         ensures refused { IfErr result (λ refused. refused.value ≡ object) }
     {
         let Ok(mut slots) = Vec::with_capacity(alloc, 1) else {
@@ -79,7 +79,7 @@ impl<O: Object> Locked<O> {
         requires { IsSeatOf self seat }
 
         // The object is what a legal history gives that begins with all that the seat has seen.
-        ensures { EndsHistory O.definition (opening_of O.state self) (limit_of self) (view_of seat) (O.state result) }
+        ensures { Closes O.state O.definition self seat result }
     {
         let LockSeat { badge, number: _ } = seat;
         let mut place = badge.into_seat();

@@ -1,9 +1,11 @@
 //! The seven kinds of step on a lock's word and slot, a function each. Before this: `locked`. After it: `waiting`.
 //! Above each step stand the seat before and after it, and why the rule stays. All orderings are the table's.
-ghost use Rattle.std.specs.Prelude.{◌≡◌, ◌+◌, ◌<◌, [], ◌∷◌, None, Some, MatchBool};
+ghost use Rattle.std.specs.Prelude.{◌≡◌, ◌+◌, ◌<◌, [], ◌∷◌, None, Some};
+ghost use Rattle.std.specs.Bool.{OnTrue, OnFalse};
 ghost use Rattle.atomic_table.specs.Table.{rest};
 ghost use Rattle.kernel_lock.specs.declared.view.Stage.TheVariants.{Free, Holding};
-ghost use Rattle.kernel_lock.specs.Seats.{IsPlaceOf, IsSamePlace, limit_of, opening_of};
+ghost use Rattle.kernel_lock.specs.Places.{IsPlaceOf, IsFreePlaceOf, IsSamePlace};
+ghost use Rattle.kernel_lock.specs.Seats.{limit_of, opening_of};
 ghost use Rattle.kernel_lock.specs.Steps.{TakesLock, IsDue, HasReleased, HasMerged, HasOnly};
 ghost use Rattle.kernel_lock.specs.View.{parent_view, child_view};
 
@@ -27,7 +29,8 @@ impl<O: Object> Locked<O> {
     pub(crate) fn acquire(&self, place: &mut Place<O>) -> bool
         requires place { IsPlaceOf self.now place.old }
         ensures place { IsSamePlace place.old place.new }
-        ensures taken { MatchBool result (TakesLock O.state O.definition place.old.me place.new.me) (place.new.me ≡ place.old.me) }
+        ensures free { OnTrue result (TakesLock O.state O.definition place.old.me place.new.me) }
+        ensures taken { OnFalse result (place.new.me ≡ place.old.me) }
     {
         let words = &self.table.shared;
         let found = words.compare_exchange::<Acquire<O>>(place, WORD, FREE, TAKEN);
@@ -96,7 +99,8 @@ impl<O: Object> Locked<O> {
         requires room { place.old.me.0.given < limit_of self.now }
         ensures place { IsSamePlace place.old place.new }
         ensures parent { place.new.me ≡ (parent_view place.old.me.0, place.old.me.1) }
-        ensures child { (result.table_id ≡ place.old.table_id) × (result.me ≡ (child_view place.old.me.0, [])) }
+        ensures child { result.me ≡ (child_view place.old.me.0, []) }
+        ensures table { result.table_id ≡ place.old.table_id }
     {
         self.table.shared.split_seat::<Divide>(place)
     }
@@ -106,12 +110,11 @@ impl<O: Object> Locked<O> {
     // Seat: Free, with the numbers of both and the longer of what they had seen. The other is spent.
     // Keeps the rule: both had seen a beginning of one history, so the shorter begins the longer.
     pub(crate) fn merge(&self, place: &mut Place<O>, other: Place<O>)
-        requires place { IsPlaceOf self.now place.old }
-        requires other { IsPlaceOf self.now other }
-        requires free { (place.old.me.0.stage ≡ Free) × (other.me.0.stage ≡ Free) }
-        requires no_slot { (place.old.me.1 ≡ []) × (other.me.1 ≡ []) }
+        requires place { IsFreePlaceOf self.now place.old }
+        requires other { IsFreePlaceOf self.now other }
         ensures place { IsSamePlace place.old place.new }
-        ensures merged { HasMerged O.state O.definition self.now.table.shared.key place.old.me.0 other.me.0 place.new.me.0 }
+        ensures merged { HasMerged O.state O.definition self.now.table.shared.key place.old.me.0 other.me.0
+            place.new.me.0 }
         ensures no_slot { place.new.me.1 ≡ [] }
     {
         let words = &self.table.shared;

@@ -1,6 +1,6 @@
 //! How a thread waits for the lock, and how the next one is woken. Before this: `steps`. After it: `apply`.
 ghost use Rattle.std.specs.Prelude.{◌≡◌};
-ghost use Rattle.kernel_lock.specs.Seats.{IsPlaceOf, IsSamePlace};
+ghost use Rattle.kernel_lock.specs.Places.{IsPlaceOf, IsSamePlace};
 ghost use Rattle.kernel_lock.specs.Steps.{TakesLock, IsDue, HasReleased};
 
 use crate::locked::Locked;

@@ -30,7 +30,7 @@ returns-clause-given g c =
 
 pub returns-clause-refused : goal.returns-clause-refused
 returns-clause-refused g c =
-    gives_none g.O.Object.state g.O.Object.definition c.args.self.now _ _ _ _ c.requires.key c.requires.stage c.requires.no_slot c.take.ensures.taken c.next_seat-child.ensures.given c.give.ensures.released _ c.next_seat-child.ensures.refused
+    gives_none g.O.Object.state g.O.Object.definition c.args.self.now _ _ _ _ c.requires.key c.requires.stage c.requires.no_slot c.take.ensures.taken c.next_seat-child.ensures.given c.give.ensures.released _ c.next_seat-child.ensures.full c.next_seat-child.ensures.refused
 
 pub returns-clause-history : goal.returns-clause-history
 returns-clause-history g c =

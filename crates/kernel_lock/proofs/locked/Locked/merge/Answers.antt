@@ -6,7 +6,7 @@ use Rattle.kernel_lock.proofs.locked.Locked.merge.Goals as goal
 
 pub join_seat-requires : goal.join_seat-requires
 join_seat-requires g c =
-    (search rules, search rules, search rules, search rules, merge_keeps g.O.Object.state g.O.Object.definition _ _ _ _ _ c.requires.free.0 c.requires.free.1)
+    (search rules, search rules, search rules, search rules, merge_keeps g.O.Object.state g.O.Object.definition _ _ _ _ _ c.requires.place.stage c.requires.other.stage)
 
 pub load-requires : goal.load-requires
 load-requires g c = (

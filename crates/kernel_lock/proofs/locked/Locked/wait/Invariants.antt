@@ -1,5 +1,5 @@
 use Rattle.std.proofs.Common.{◌≡◌}
-use Rattle.kernel_lock.specs.Seats.{IsSamePlace}
+use Rattle.kernel_lock.specs.Places.{IsSamePlace}
 use Rattle.kernel_lock.proofs.locked.Locked.wait.Given as goal
 
 abbrev pub invariant-loop : goal.invariant-loop
