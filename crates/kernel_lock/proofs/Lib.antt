@@ -1,0 +1,12 @@
+pub mod AcquireKeeps
+pub mod ApplyLemmas
+pub mod DivideKeeps
+pub mod DivideLemmas
+pub mod HistoryLemmas
+pub mod LookKeeps
+pub mod MergeKeeps
+pub mod OpeningKeeps
+pub mod ReleaseKeeps
+pub mod RuleLemmas
+pub mod SeatLemmas
+pub mod SettleKeeps

@@ -1,0 +1,8 @@
+use Rattle.std.proofs.Common.{Some, ap, sym, ◌∙◌, ◌∷◌}
+use Rattle.atomic_table.specs.Table.{rest}
+use Rattle.kernel_lock.proofs.locked.Locked.take_out.Goals as goal
+
+pub exchange-requires : goal.exchange-requires
+exchange-requires g c =
+    let full = c.requires.full in
+    (c.requires.place.table, (Some full.held, full.slots_are ∙ ap (λ slots. (0, Some full.held) ∷ rest slots) (sym full.slots_are)))

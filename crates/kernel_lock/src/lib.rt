@@ -1,0 +1,23 @@
+//! The kernel lock: any sequential object, called by many threads through one lock.
+//! Each call stands in one legal history, with the reply that the object's definition gives there.
+//! Read `object`, `view`, `rule`, `plays`, `lock_seat`, `locked`, `waiters`, `steps`, `waiting`,
+//! and then `apply` and `seats`.
+#![tactic(auto)]
+
+pub mod apply;
+pub mod lock_seat;
+pub mod locked;
+pub mod object;
+pub mod plays;
+pub mod rule;
+pub mod seats;
+pub mod steps;
+#[cfg(test)]
+mod tests;
+pub mod view;
+pub mod waiters;
+pub mod waiting;
+
+pub use lock_seat::LockSeat;
+pub use locked::{Locked, Opened};
+pub use object::Object;

@@ -1,0 +1,47 @@
+//! A seat at a lock: what a thread calls the object with.
+//! Before this: `plays`. After it: `locked`, the lock itself.
+ghost use Rattle.std.specs.Prelude.{◌≡◌, [], ◌∷◌};
+
+use crate::object::Object;
+use crate::rule::{Knowledge, Place};
+use atomic_table::Badge;
+use std::mem;
+
+/// A seat at a lock, with one number or, after a join, with several.
+/// A thread calls the object with it.
+/// It has seen a beginning of the history, in which its own calls stand once each.
+#[derive(Drop)]
+pub struct LockSeat<O: Object> {
+    pub(crate) badge: Badge<Knowledge<O>>,
+    pub(crate) number: u64,
+}
+
+impl<O: Object> LockSeat<O> {
+    ghost use Rattle.kernel_lock.specs.Seats.{number_of, view_of};
+
+    /// Its own number, under which it makes the calls that name no seat.
+    pub fn number(&self) -> u64
+        ensures { result ≡ number_of self.now }
+    {
+        self.number
+    }
+
+    /// What the seat makes its steps with. A blank badge stands in for what it knows until `sit`.
+    pub(crate) fn stand(&mut self) -> Place<O>
+        requires { self.old.badge.views ≡ view_of self.old ∷ [] }
+        ensures table { result.table_id ≡ self.old.badge.table_id }
+        ensures place { result.me ≡ (view_of self.old, []) }
+        ensures number { self.new.number ≡ self.old.number }
+    {
+        mem::replace(&mut self.badge, Badge::blank()).into_seat()
+    }
+
+    pub(crate) fn sit(&mut self, place: Place<O>)
+        requires { place.me.1 ≡ [] }
+        ensures table { self.new.badge.table_id ≡ place.table_id }
+        ensures views { self.new.badge.views ≡ place.me.0 ∷ [] }
+        ensures number { self.new.number ≡ self.old.number }
+    {
+        self.badge = place.into_badge();
+    }
+}
