@@ -6,5 +6,8 @@ mod LineLemmas
 mod LostLemmas
 mod NumberLemmas
 mod PipeLineLemmas
+mod ScriptLawLemmas
 mod ScriptLemmas
+mod TextLemmas
+mod ToldLemmas
 mod WorkedScripts
