@@ -103,7 +103,7 @@ told_unwritten said old r fault is outside = rw is (at_fault fault outside)
     at_fault f (inr device) = rw device front
 
 -- the front of a script, and whether it goes on, are all that counts
-told_by_front : {S : Type 0} (language : Language S) (a b : List ℕ) → take MAX_SCRIPT a ≡ take MAX_SCRIPT b → nat_lt MAX_SCRIPT (length a) ≡ nat_lt MAX_SCRIPT (length b) → told language a ≡ told language b
+pub told_by_front : {S : Type 0} (language : Language S) (a b : List ℕ) → take MAX_SCRIPT a ≡ take MAX_SCRIPT b → nat_lt MAX_SCRIPT (length a) ≡ nat_lt MAX_SCRIPT (length b) → told language a ≡ told language b
 told_by_front language a b front goes_on = rw (front, goes_on) refl
 
 -- what was read of a script says what the script says

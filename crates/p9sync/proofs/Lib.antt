@@ -6,6 +6,9 @@ mod LineLemmas
 mod LostLemmas
 mod NumberLemmas
 mod PipeLineLemmas
+mod ScriptLawLemmas
 mod ScriptLemmas
+mod TextLemmas
+mod ToldLemmas
 mod WorkedSchedules
 mod WorkedScripts

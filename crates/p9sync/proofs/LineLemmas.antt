@@ -61,11 +61,11 @@ pub parts_of-missing : (p : ℕ → Bool) (bs : List ℕ) → position p bs ≡ 
 parts_of-missing p bs none = parts_of-none p bs (missing p bs none)
 
 -- a part before others is not the last
-all_but_last-cons : (part : List ℕ) (parts : List (List ℕ)) → 0 < length parts → all_but_last (part ∷ parts) ≡ part ∷ all_but_last parts
+pub all_but_last-cons : (part : List ℕ) (parts : List (List ℕ)) → 0 < length parts → all_but_last (part ∷ parts) ≡ part ∷ all_but_last parts
 all_but_last-cons part [] some = absurd (omega arith)
 all_but_last-cons part (next ∷ parts) some = refl
 
-last_of-cons : (part : List ℕ) (parts : List (List ℕ)) → 0 < length parts → last_of (part ∷ parts) ≡ last_of parts
+pub last_of-cons : (part : List ℕ) (parts : List (List ℕ)) → 0 < length parts → last_of (part ∷ parts) ≡ last_of parts
 last_of-cons part [] some = absurd (omega arith)
 last_of-cons part (next ∷ parts) some = refl
 

@@ -7,3 +7,4 @@ pub mod PipeLine
 pub mod PipeScript
 pub mod Schedule
 pub mod Script
+pub mod ScriptLaws
