@@ -1,0 +1,4 @@
+pub mod ListLemmas
+pub mod Soundness
+pub mod ClearLemmas
+pub mod RunSteps

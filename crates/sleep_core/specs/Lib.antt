@@ -1,0 +1,6 @@
+pub mod State
+pub mod Limits
+pub mod Table
+pub mod Step
+pub mod Runs
+pub mod Oversleep

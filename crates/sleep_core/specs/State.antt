@@ -1,0 +1,69 @@
+-- What the core is at one moment: a phase and a word of flags for each process, and for each Rendez
+-- the word of its sleeper, its level, and the greatest level whose wakeup has returned.
+use Rattle.std.specs.Prelude.{◌≡◌, ◌<◌, ◌≤◌, ⊤, ℕ, Bool, false, List, length, replicate, slice_index, slice_index_or}
+use Rattle.sync_base.specs.NoteSet.{no_notes}
+use Rattle.sleep_core.specs.declared.phase.Phase.{Phase}
+use Rattle.sleep_core.specs.declared.phase.Phase.TheVariants as phase
+use Rattle.sleep_core.specs.declared.phase.ProcFlags.{ProcFlags}
+
+-- Own, in the order of the paper "Process Sleep and Synchronization on a Shared-Memory Multiprocessor"
+-- (1991): a process posts itself in the Rendez, and the condition is a level that only rises.
+pub record State : Type 0 where
+  pub phases : List Phase
+  pub flags : List ProcFlags
+  -- 0, or the number of the process that is posted in the Rendez, plus 1
+  pub posted : List ℕ
+  pub levels : List ℕ
+  pub returned : List ℕ
+
+-- no mark and no notes
+abbrev pub no_flags : ProcFlags
+no_flags = record { wake = false; notes = no_notes }
+
+abbrev pub phase_of : State → ℕ → Phase
+phase_of state pid = slice_index_or state.phases pid phase.Idle
+
+abbrev pub flags_of : State → ℕ → ProcFlags
+flags_of state pid = slice_index_or state.flags pid no_flags
+
+abbrev pub posted_of : State → ℕ → ℕ
+posted_of state rendez = slice_index state.posted rendez
+
+abbrev pub level_of : State → ℕ → ℕ
+level_of state rendez = slice_index state.levels rendez
+
+-- the greatest level with which a wakeup of the Rendez has returned
+abbrev pub returned_of : State → ℕ → ℕ
+returned_of state rendez = slice_index state.returned rendez
+
+-- before the first event nobody sleeps and nothing was raised
+abbrev pub opening : ℕ → ℕ → State
+opening procs rendez =
+    record {
+      phases = replicate procs phase.Idle;
+      flags = replicate procs no_flags;
+      posted = replicate rendez 0;
+      levels = replicate rendez 0;
+      returned = replicate rendez 0;
+    }
+
+-- what a phase names is there
+abbrev pub IsPhaseIn : ℕ → ℕ → Phase → Type 0
+IsPhaseIn procs rendez phase.Idle = ⊤
+IsPhaseIn procs rendez (phase.Posted in_rendez level) = in_rendez.0 < rendez
+IsPhaseIn procs rendez (phase.Asleep in_rendez level) = in_rendez.0 < rendez
+IsPhaseIn procs rendez (phase.Leaving in_rendez) = in_rendez.0 < rendez
+IsPhaseIn procs rendez phase.Awaiting = ⊤
+IsPhaseIn procs rendez phase.Woken = ⊤
+IsPhaseIn procs rendez phase.Out = ⊤
+IsPhaseIn procs rendez (phase.Owing of_rendez level) = of_rendez.0 < rendez
+IsPhaseIn procs rendez (phase.Holding sleeper of_rendez level) =
+    (sleeper.0 < procs) × (of_rendez.0 < rendez)
+
+-- the rows have one length for processes and one for Rendez, and each number in them is below it
+pub record IsSound (state : State) : Type 0 where
+  pub flags : length state.flags ≡ length state.phases
+  pub levels : length state.levels ≡ length state.posted
+  pub returned : length state.returned ≡ length state.posted
+  pub phases : (pid : ℕ) → IsPhaseIn (length state.phases) (length state.posted) (phase_of state pid)
+  pub posted : (rendez : ℕ) → posted_of state rendez ≤ length state.phases

@@ -1,0 +1,157 @@
+-- The table of events, row by row: which word an event touches in a phase, what it answers, what it
+-- leaves in the word, and in which phase the process is then. What no row names is refused.
+use Rattle.std.specs.Prelude.{ℕ, ◌+◌, ◌-◌, Bool, true, false, ◌||◌, ◌==◌, nat_lt, max, if◌then◌else◌, Option, Some, None, length, slice_set}
+use Rattle.sync_base.specs.declared.ids.Pid.{Pid}
+use Rattle.sync_base.specs.declared.ids.RendezId.{RendezId}
+use Rattle.sync_base.specs.declared.note.Note.TheVariants.{Interrupt, Hangup, Alarm, ClosedPipe}
+use Rattle.sync_base.specs.declared.note.NoteSet.{NoteSet}
+use Rattle.sync_base.specs.NoteSet.{holds, joined}
+use Rattle.sleep_core.specs.declared.event.Event.{Event}
+use Rattle.sleep_core.specs.declared.event.Event.TheVariants.{Post, Test, Look, Withdraw, Clear, Raise, Take, Mark, Note, Drain, Check}
+use Rattle.sleep_core.specs.declared.answer.Answer.{Answer}
+use Rattle.sleep_core.specs.declared.answer.Answer.TheVariants as answer
+use Rattle.sleep_core.specs.declared.phase.Phase.{Phase}
+use Rattle.sleep_core.specs.declared.phase.Phase.TheVariants as phase
+use Rattle.sleep_core.specs.declared.phase.ProcFlags.{ProcFlags}
+use Rattle.sleep_core.specs.State.{State, no_flags, phase_of, flags_of, posted_of, level_of, returned_of}
+
+-- the process that the event names
+abbrev pub pid_of : Event → Pid
+pid_of (Post pid rendez level) = pid
+pid_of (Test pid) = pid
+pid_of (Look pid) = pid
+pid_of (Withdraw pid) = pid
+pid_of (Clear pid) = pid
+pid_of (Raise pid rendez level) = pid
+pid_of (Take pid) = pid
+pid_of (Mark pid) = pid
+pid_of (Note pid notes) = pid
+pid_of (Drain pid) = pid
+pid_of (Check pid) = pid
+
+-- a place where a word lies
+pub data Cell : Type 0 where
+  PostedOf : ℕ → Cell
+  LevelOf : ℕ → Cell
+  FlagsOf : ℕ → Cell
+  NoCell : Cell
+
+-- what lies there
+pub data Word : Type 0 where
+  Number : ℕ → Word
+  Flags : ProcFlags → Word
+  NoWord : Word
+
+abbrev pub number_in : Word → ℕ
+number_in (Number n) = n
+number_in word = 0
+
+abbrev pub flags_in : Word → ProcFlags
+flags_in (Flags flags) = flags
+flags_in word = no_flags
+
+-- whether some note is in the set
+abbrev pub has_notes : NoteSet → Bool
+has_notes notes = holds notes Interrupt || holds notes Hangup || holds notes Alarm || holds notes ClosedPipe
+
+-- the level that nothing is above
+abbrev pub top_level : ℕ
+top_level = 18446744073709551615
+
+-- the one word that the event reads and may change
+abbrev pub cell_of : Event → Phase → Cell
+cell_of (Post pid rendez level) phase.Idle = PostedOf rendez.0
+cell_of (Test pid) (phase.Posted rendez level) = LevelOf rendez.0
+cell_of (Look pid) (phase.Asleep rendez level) = FlagsOf pid.0
+cell_of (Look pid) phase.Awaiting = FlagsOf pid.0
+cell_of (Withdraw pid) (phase.Leaving rendez) = PostedOf rendez.0
+cell_of (Clear pid) phase.Out = FlagsOf pid.0
+cell_of (Clear pid) phase.Woken = FlagsOf pid.0
+cell_of (Raise pid rendez level) phase.Idle = LevelOf rendez.0
+cell_of (Take pid) (phase.Owing rendez level) = PostedOf rendez.0
+cell_of (Mark pid) (phase.Holding sleeper rendez level) = FlagsOf sleeper.0
+cell_of (Note pid notes) stage = FlagsOf pid.0
+cell_of (Drain pid) phase.Idle = FlagsOf pid.0
+cell_of (Check pid) (phase.Asleep rendez level) = PostedOf rendez.0
+cell_of event stage = NoCell
+
+-- the end of a sleep: well, or with the notes that stood there
+abbrev pub ending_of : NoteSet → Answer
+ending_of notes = if has_notes notes then answer.Interrupted notes else answer.Cleared
+
+-- the answer, where the word exists
+abbrev pub reply : Event → Phase → Word → Answer
+reply (Post pid rendez level) phase.Idle word =
+    if level == top_level
+    then answer.BadLevel
+    else (if number_in word == 0 then answer.Posted else answer.DoubleSleep)
+reply (Test pid) (phase.Posted rendez level) word =
+    if nat_lt level (number_in word) then answer.Leaving else answer.Asleep
+reply (Look pid) (phase.Asleep rendez level) word =
+    if (flags_in word).wake
+    then answer.Woken
+    else (if has_notes (flags_in word).notes then answer.Leaving else answer.Parked)
+reply (Look pid) phase.Awaiting word = if (flags_in word).wake then answer.Woken else answer.Parked
+reply (Withdraw pid) (phase.Leaving rendez) word =
+    if number_in word == pid.0 + 1 then answer.Out else answer.Awaiting
+reply (Clear pid) phase.Out word = ending_of (flags_in word).notes
+reply (Clear pid) phase.Woken word = ending_of (flags_in word).notes
+reply (Raise pid rendez level) phase.Idle word = answer.Owing
+reply (Take pid) (phase.Owing rendez level) word =
+    if number_in word == 0 then answer.Nobody else answer.Holding (record { 0 = number_in word - 1 })
+reply (Mark pid) (phase.Holding sleeper rendez level) word = answer.Marked sleeper
+reply (Note pid notes) stage word = answer.Noted
+reply (Drain pid) phase.Idle word = answer.Notes (flags_in word).notes
+reply (Check pid) (phase.Asleep rendez level) word =
+    if number_in word == pid.0 + 1 then answer.Posted else answer.Released
+reply event stage word = answer.Refused
+
+-- what is in the word afterwards
+abbrev pub stored : Event → Phase → Word → Word
+stored (Post pid rendez level) phase.Idle word = Number (pid.0 + 1)
+stored (Withdraw pid) (phase.Leaving rendez) word =
+    Number (if number_in word == pid.0 + 1 then 0 else number_in word)
+stored (Clear pid) phase.Out word = Flags no_flags
+stored (Clear pid) phase.Woken word = Flags no_flags
+stored (Raise pid rendez level) phase.Idle word = Number (max (number_in word) level)
+stored (Take pid) (phase.Owing rendez level) word = Number 0
+stored (Mark pid) (phase.Holding sleeper rendez level) word =
+    Flags (record { wake = true; notes = (flags_in word).notes })
+stored (Note pid notes) stage word =
+    Flags (record { wake = (flags_in word).wake; notes = joined (flags_in word).notes notes })
+stored (Drain pid) phase.Idle word = Flags no_flags
+stored event stage word = word
+
+-- where the process is afterwards, by what it was told
+abbrev pub phase_after : Phase → Event → Answer → Phase
+phase_after phase.Idle (Post pid rendez level) answer.Posted = phase.Posted rendez level
+phase_after (phase.Posted rendez level) (Test pid) answer.Leaving = phase.Leaving rendez
+phase_after (phase.Posted rendez level) (Test pid) answer.Asleep = phase.Asleep rendez level
+phase_after (phase.Asleep rendez level) (Look pid) answer.Woken = phase.Woken
+phase_after (phase.Asleep rendez level) (Look pid) answer.Leaving = phase.Leaving rendez
+phase_after phase.Awaiting (Look pid) answer.Woken = phase.Woken
+phase_after (phase.Leaving rendez) (Withdraw pid) answer.Out = phase.Out
+phase_after (phase.Leaving rendez) (Withdraw pid) answer.Awaiting = phase.Awaiting
+phase_after phase.Out (Clear pid) answer.Cleared = phase.Idle
+phase_after phase.Out (Clear pid) (answer.Interrupted notes) = phase.Idle
+phase_after phase.Woken (Clear pid) answer.Cleared = phase.Idle
+phase_after phase.Woken (Clear pid) (answer.Interrupted notes) = phase.Idle
+phase_after phase.Idle (Raise pid rendez level) answer.Owing = phase.Owing rendez level
+phase_after (phase.Owing rendez level) (Take pid) answer.Nobody = phase.Idle
+phase_after (phase.Owing rendez level) (Take pid) (answer.Holding sleeper) =
+    phase.Holding sleeper rendez level
+phase_after (phase.Holding sleeper rendez level) (Mark pid) (answer.Marked marked) = phase.Idle
+phase_after stage event told = stage
+
+-- a wakeup: of which Rendez, and with which level
+pub record Wakeup : Type 0 where
+  pub rendez : ℕ
+  pub level : ℕ
+
+-- the wakeup that has returned with this answer
+abbrev pub returns : Phase → Event → Answer → Option Wakeup
+returns (phase.Owing rendez level) (Take pid) answer.Nobody =
+    Some (record { rendez = rendez.0; level = level })
+returns (phase.Holding sleeper rendez level) (Mark pid) (answer.Marked marked) =
+    Some (record { rendez = rendez.0; level = level })
+returns stage event told = None
