@@ -4,3 +4,4 @@ pub mod Table
 pub mod Step
 pub mod Runs
 pub mod Oversleep
+pub mod Local

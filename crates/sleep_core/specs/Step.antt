@@ -7,7 +7,7 @@ use Rattle.sleep_core.specs.declared.answer.Answer.TheVariants as answer
 use Rattle.sleep_core.specs.declared.phase.Phase.{Phase}
 use Rattle.sleep_core.specs.declared.phase.ProcFlags.{ProcFlags}
 use Rattle.sleep_core.specs.State.{State, phase_of, flags_of, posted_of, level_of, returned_of}
-use Rattle.sleep_core.specs.Table.{Cell, Word, Wakeup, pid_of, cell_of, number_in, flags_in, reply, stored, phase_after, returns}
+use Rattle.sleep_core.specs.Table.{Cell, Word, Wakeup, pid_of, cell_of, number_in, flags_in, reply, stored, phase_after, returned_by}
 use Rattle.sleep_core.specs.Table.Cell.{PostedOf, LevelOf, FlagsOf, NoCell}
 use Rattle.sleep_core.specs.Table.Word.{Number, Flags, NoWord}
 
@@ -76,8 +76,8 @@ answer_to state event =
 abbrev pub changed_by : State → Phase → Event → Answer → State
 changed_by state stage event told =
     with_returned
-    (with_phase (with_word state (cell_of event stage) (stored event stage (word_at state (cell_of event stage)))) (pid_of event).0 (phase_after stage event told))
-    (returns stage event told)
+    (with_phase (with_word state (cell_of event stage) (stored event stage (word_at state (cell_of event stage)))) (pid_of event).0 (phase_after told event stage))
+    (returned_by told event stage)
 
 -- the world after an event that was answered so
 abbrev pub world_told : State → Phase → Event → Answer → State

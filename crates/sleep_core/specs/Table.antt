@@ -122,36 +122,34 @@ stored (Note pid notes) stage word =
 stored (Drain pid) phase.Idle word = Flags no_flags
 stored event stage word = word
 
--- where the process is afterwards, by what it was told
-abbrev pub phase_after : Phase → Event → Answer → Phase
-phase_after phase.Idle (Post pid rendez level) answer.Posted = phase.Posted rendez level
-phase_after (phase.Posted rendez level) (Test pid) answer.Leaving = phase.Leaving rendez
-phase_after (phase.Posted rendez level) (Test pid) answer.Asleep = phase.Asleep rendez level
-phase_after (phase.Asleep rendez level) (Look pid) answer.Woken = phase.Woken
-phase_after (phase.Asleep rendez level) (Look pid) answer.Leaving = phase.Leaving rendez
-phase_after phase.Awaiting (Look pid) answer.Woken = phase.Woken
-phase_after (phase.Leaving rendez) (Withdraw pid) answer.Out = phase.Out
-phase_after (phase.Leaving rendez) (Withdraw pid) answer.Awaiting = phase.Awaiting
-phase_after phase.Out (Clear pid) answer.Cleared = phase.Idle
-phase_after phase.Out (Clear pid) (answer.Interrupted notes) = phase.Idle
-phase_after phase.Woken (Clear pid) answer.Cleared = phase.Idle
-phase_after phase.Woken (Clear pid) (answer.Interrupted notes) = phase.Idle
-phase_after phase.Idle (Raise pid rendez level) answer.Owing = phase.Owing rendez level
-phase_after (phase.Owing rendez level) (Take pid) answer.Nobody = phase.Idle
-phase_after (phase.Owing rendez level) (Take pid) (answer.Holding sleeper) =
+-- where the process is afterwards: what it was told, of which event, in which phase
+abbrev pub phase_after : Answer → Event → Phase → Phase
+phase_after answer.Posted (Post pid rendez level) phase.Idle = phase.Posted rendez level
+phase_after answer.Leaving (Test pid) (phase.Posted rendez level) = phase.Leaving rendez
+phase_after answer.Asleep (Test pid) (phase.Posted rendez level) = phase.Asleep rendez level
+phase_after answer.Woken (Look pid) (phase.Asleep rendez level) = phase.Woken
+phase_after answer.Leaving (Look pid) (phase.Asleep rendez level) = phase.Leaving rendez
+phase_after answer.Woken (Look pid) phase.Awaiting = phase.Woken
+phase_after answer.Out (Withdraw pid) (phase.Leaving rendez) = phase.Out
+phase_after answer.Awaiting (Withdraw pid) (phase.Leaving rendez) = phase.Awaiting
+phase_after answer.Cleared (Clear pid) stage = phase.Idle
+phase_after (answer.Interrupted notes) (Clear pid) stage = phase.Idle
+phase_after answer.Owing (Raise pid rendez level) phase.Idle = phase.Owing rendez level
+phase_after answer.Nobody (Take pid) (phase.Owing rendez level) = phase.Idle
+phase_after (answer.Holding sleeper) (Take pid) (phase.Owing rendez level) =
     phase.Holding sleeper rendez level
-phase_after (phase.Holding sleeper rendez level) (Mark pid) (answer.Marked marked) = phase.Idle
-phase_after stage event told = stage
+phase_after (answer.Marked sleeper) (Mark pid) stage = phase.Idle
+phase_after told event stage = stage
 
 -- a wakeup: of which Rendez, and with which level
 pub record Wakeup : Type 0 where
   pub rendez : ℕ
   pub level : ℕ
 
--- the wakeup that has returned with this answer
-abbrev pub returns : Phase → Event → Answer → Option Wakeup
-returns (phase.Owing rendez level) (Take pid) answer.Nobody =
+-- the wakeup that has returned with this answer: it found nobody, or marked whom it took
+abbrev pub returned_by : Answer → Event → Phase → Option Wakeup
+returned_by answer.Nobody (Take pid) (phase.Owing rendez level) =
     Some (record { rendez = rendez.0; level = level })
-returns (phase.Holding sleeper rendez level) (Mark pid) (answer.Marked marked) =
+returned_by (answer.Marked marked) (Mark pid) (phase.Holding sleeper rendez level) =
     Some (record { rendez = rendez.0; level = level })
-returns stage event told = None
+returned_by told event stage = None

@@ -3,6 +3,7 @@
 
 pub mod answer;
 pub mod event;
+pub mod laws;
 pub mod phase;
 pub mod world;
 
