@@ -4,3 +4,13 @@ pub mod ClearLemmas
 pub mod RunSteps
 pub mod LocalLemmas
 pub mod OwnEvents
+pub mod CoreInvariant
+pub mod Moves
+pub mod Frames
+pub mod SleeperKeeps
+pub mod LeaverKeeps
+pub mod RaiserKeeps
+pub mod NotesKeep
+pub mod TableMoves
+pub mod NoLostWakeup
+pub mod OwnWakeups

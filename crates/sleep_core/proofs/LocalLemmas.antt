@@ -8,29 +8,30 @@ use Rattle.sleep_core.specs.declared.answer.Answer.TheVariants as answer
 use Rattle.sleep_core.specs.declared.phase.Phase.{Phase}
 use Rattle.sleep_core.specs.declared.phase.Phase.TheVariants as phase
 use Rattle.sleep_core.specs.State.{State, phase_of, flags_of, posted_of, level_of, no_flags}
-use Rattle.sleep_core.specs.Table.{Cell, Word, Wakeup, pid_of, cell_of, stored, phase_after, returned_by, number_in, flags_in}
+use Rattle.sleep_core.specs.Table.{Cell, Word, Call, pid_of, cell_of, stored, phase_after, returned_by, number_in, flags_in}
 use Rattle.sleep_core.specs.Table.Cell.{PostedOf, LevelOf, FlagsOf, NoCell}
 use Rattle.sleep_core.specs.Table.Word.{Number, Flags, NoWord}
 use Rattle.sleep_core.specs.Step.{with_phase, with_returned, with_word, word_at, is_refusal, answer_to, changed_by, world_told, world_after}
 
 -- a write changes its own word alone
-word_at-with_word : (s : State) (changed : Cell) (word : Word) (cell : Cell) → cell ≢ changed → word_at (with_word s changed word) cell ≡ word_at s cell
-word_at-with_word s (PostedOf r) word (PostedOf q) differ =
+word_at-with_word : (s : State) (changed : Cell) (word : Option Word) (cell : Cell) → cell ≢ changed → word_at (with_word s changed word) cell ≡ word_at s cell
+word_at-with_word s (PostedOf r) (Some word) (PostedOf q) differ =
     ap Number (get_or-set_other s.posted r q (number_in word) 0 (λ same. differ (ap PostedOf same)))
-word_at-with_word s (PostedOf r) word (LevelOf q) differ = refl
-word_at-with_word s (PostedOf r) word (FlagsOf p) differ = refl
-word_at-with_word s (PostedOf r) word NoCell differ = refl
-word_at-with_word s (LevelOf r) word (LevelOf q) differ =
+word_at-with_word s (PostedOf r) (Some word) (LevelOf q) differ = refl
+word_at-with_word s (PostedOf r) (Some word) (FlagsOf p) differ = refl
+word_at-with_word s (PostedOf r) (Some word) NoCell differ = refl
+word_at-with_word s (LevelOf r) (Some word) (LevelOf q) differ =
     ap Number (get_or-set_other s.levels r q (number_in word) 0 (λ same. differ (ap LevelOf same)))
-word_at-with_word s (LevelOf r) word (PostedOf q) differ = refl
-word_at-with_word s (LevelOf r) word (FlagsOf p) differ = refl
-word_at-with_word s (LevelOf r) word NoCell differ = refl
-word_at-with_word s (FlagsOf p) word (FlagsOf q) differ =
+word_at-with_word s (LevelOf r) (Some word) (PostedOf q) differ = refl
+word_at-with_word s (LevelOf r) (Some word) (FlagsOf p) differ = refl
+word_at-with_word s (LevelOf r) (Some word) NoCell differ = refl
+word_at-with_word s (FlagsOf p) (Some word) (FlagsOf q) differ =
     ap Flags (get_or-set_other s.flags p q (flags_in word) no_flags (λ same. differ (ap FlagsOf same)))
-word_at-with_word s (FlagsOf p) word (PostedOf q) differ = refl
-word_at-with_word s (FlagsOf p) word (LevelOf q) differ = refl
-word_at-with_word s (FlagsOf p) word NoCell differ = refl
-word_at-with_word s NoCell word cell differ = refl
+word_at-with_word s (FlagsOf p) (Some word) (PostedOf q) differ = refl
+word_at-with_word s (FlagsOf p) (Some word) (LevelOf q) differ = refl
+word_at-with_word s (FlagsOf p) (Some word) NoCell differ = refl
+word_at-with_word s NoCell (Some word) cell differ = refl
+word_at-with_word s changed None cell differ = refl
 
 -- a phase and a returned level are no words
 word_at-with_phase : (s : State) (pid : ℕ) (stage : Phase) (cell : Cell) → word_at (with_phase s pid stage) cell ≡ word_at s cell
@@ -39,7 +40,7 @@ word_at-with_phase s pid stage (LevelOf r) = refl
 word_at-with_phase s pid stage (FlagsOf p) = refl
 word_at-with_phase s pid stage NoCell = refl
 
-word_at-with_returned : (s : State) (wakeup : Option Wakeup) (cell : Cell) → word_at (with_returned s wakeup) cell ≡ word_at s cell
+word_at-with_returned : (s : State) (wakeup : Option Call) (cell : Cell) → word_at (with_returned s wakeup) cell ≡ word_at s cell
 word_at-with_returned s None cell = refl
 word_at-with_returned s (Some wakeup) (PostedOf r) = refl
 word_at-with_returned s (Some wakeup) (LevelOf r) = refl
@@ -69,13 +70,14 @@ phase_after-refusal answer.BadLevel event stage refused = refl
 phase_after-refusal answer.DoubleSleep event stage refused = refl
 phase_after-refusal told event stage refused = cc
 
-phases-with_word : (s : State) (cell : Cell) (word : Word) → (with_word s cell word).phases ≡ s.phases
-phases-with_word s (PostedOf r) word = refl
-phases-with_word s (LevelOf r) word = refl
-phases-with_word s (FlagsOf p) word = refl
-phases-with_word s NoCell word = refl
+phases-with_word : (s : State) (cell : Cell) (word : Option Word) → (with_word s cell word).phases ≡ s.phases
+phases-with_word s (PostedOf r) (Some word) = refl
+phases-with_word s (LevelOf r) (Some word) = refl
+phases-with_word s (FlagsOf p) (Some word) = refl
+phases-with_word s NoCell (Some word) = refl
+phases-with_word s cell None = refl
 
-phases-with_returned : (s : State) (wakeup : Option Wakeup) → (with_returned s wakeup).phases ≡ s.phases
+phases-with_returned : (s : State) (wakeup : Option Call) → (with_returned s wakeup).phases ≡ s.phases
 phases-with_returned s None = refl
 phases-with_returned s (Some wakeup) = refl
 
@@ -92,6 +94,7 @@ phase_of-world_told s event told in_range = by_test (is_refusal told) refl
   where
     p : ℕ
     p = (pid_of event).0
+
     by_test : (refused : Bool) → is_refusal told ≡ refused → phase_of (if refused then s else changed_by s (phase_of s (pid_of event).0) event told) (pid_of event).0 ≡ phase_after told event (phase_of s (pid_of event).0)
     by_test true is = sym (phase_after-refusal told event (phase_of s (pid_of event).0) is)
     by_test false is =
@@ -106,6 +109,7 @@ phase_of-world_after s event = by_range (compare_lengths (pid_of event).0 (lengt
   where
     compare_lengths : (a b : ℕ) → (a < b) ⊎ (b ≤ a)
     compare_lengths a b = grind arith
+
     by_range : ((pid_of event).0 < length s.phases) ⊎ (length s.phases ≤ (pid_of event).0) → phase_of (world_after s event) (pid_of event).0 ≡ phase_after (answer_to s event) event (phase_of s (pid_of event).0)
     by_range (inl in_range) = phase_of-world_told s event (answer_to s event) in_range
     by_range (inr past) = rw (answer_to-no_process s event past) refl

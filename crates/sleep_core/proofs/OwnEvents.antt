@@ -55,6 +55,7 @@ phase_by-own procs rendez (entry ∷ past) run pid =
   where
     s : State
     s = world_of procs rendez past
+
     by_maker : phase_by (own pid past) ≡ phase_of (world_of procs rendez past) pid → ((eqb entry.maker pid ≡ true) × (entry.maker ≡ pid)) ⊎ ((eqb entry.maker pid ≡ false) × (entry.maker ≢ pid)) → phase_by (cond (eqb entry.maker pid) (entry ∷ own pid past) (own pid past)) ≡ phase_of (world_after (world_of procs rendez past) entry.event) pid
     by_maker before (inl same) =
         ap (λ b. phase_by (cond b (entry ∷ own pid past) (own pid past))) same.0 ∙ (ap (phase_after entry.answer entry.event) before ∙ (ap (λ told. phase_after told entry.event (phase_of (world_of procs rendez past) pid)) run.1.answered ∙ phase_of-own (world_of procs rendez past) entry.event entry.maker pid run.1.made same.1))

@@ -1,11 +1,12 @@
 -- A world stays sound when one entry of it changes.
-use Rattle.std.proofs.Common.{◌≡◌, ◌⊎◌, ◌<◌, ◌≤◌, ℕ, inl, inr, List, length, get_or, set, slice_set, refl, sym, ◌∙◌, ap, subst, arith}
+use Rattle.std.proofs.Common.{◌≡◌, ◌⊎◌, ◌<◌, ◌≤◌, ℕ, inl, inr, Some, max, List, length, get_or, set, slice_set, refl, sym, ◌∙◌, ap, subst, arith}
 use Rattle.std.proofs.lemmas.List.{length-set}
 use Rattle.sleep_core.specs.declared.phase.Phase.{Phase}
 use Rattle.sleep_core.specs.declared.phase.Phase.TheVariants as phase
 use Rattle.sleep_core.specs.declared.phase.ProcFlags.{ProcFlags}
-use Rattle.sleep_core.specs.State.{State, IsSound, IsPhaseIn, phase_of, posted_of}
-use Rattle.sleep_core.specs.Step.{with_phase, with_flags, with_posted, with_level}
+use Rattle.sleep_core.specs.State.{State, IsSound, IsPhaseIn, phase_of, posted_of, returned_of}
+use Rattle.sleep_core.specs.Table.{Call}
+use Rattle.sleep_core.specs.Step.{with_phase, with_flags, with_posted, with_level, with_returned}
 use Rattle.sleep_core.proofs.ListLemmas.{get_or-set_cases}
 
 pub IsSound-with_phase : (s : State) (pid : ℕ) (stage : Phase) → IsSound s → IsPhaseIn (length s.phases) (length s.posted) stage → IsSound (with_phase s pid stage)
@@ -64,6 +65,16 @@ IsSound-with_level s rendez level sound =
       flags = sound.flags;
       levels = length-set s.levels rendez level ∙ sound.levels;
       returned = sound.returned;
+      phases = sound.phases;
+      posted = sound.posted;
+    }
+
+pub IsSound-with_returned : (s : State) (call : Call) → IsSound s → IsSound (with_returned s (Some call))
+IsSound-with_returned s call sound =
+    record {
+      flags = sound.flags;
+      levels = sound.levels;
+      returned = length-set s.returned call.rendez (max (returned_of s call.rendez) call.level) ∙ sound.returned;
       phases = sound.phases;
       posted = sound.posted;
     }

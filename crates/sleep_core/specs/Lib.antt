@@ -5,3 +5,6 @@ pub mod Step
 pub mod Runs
 pub mod Oversleep
 pub mod Local
+pub mod History
+pub mod Promises
+pub mod Laws

@@ -7,7 +7,7 @@ use Rattle.sleep_core.specs.declared.answer.Answer.TheVariants as answer
 use Rattle.sleep_core.specs.declared.phase.Phase.{Phase}
 use Rattle.sleep_core.specs.declared.phase.ProcFlags.{ProcFlags}
 use Rattle.sleep_core.specs.State.{State, phase_of, flags_of, posted_of, level_of, returned_of}
-use Rattle.sleep_core.specs.Table.{Cell, Word, Wakeup, pid_of, cell_of, number_in, flags_in, reply, stored, phase_after, returned_by}
+use Rattle.sleep_core.specs.Table.{Cell, Word, Call, pid_of, cell_of, number_in, flags_in, reply, stored, phase_after, returned_by}
 use Rattle.sleep_core.specs.Table.Cell.{PostedOf, LevelOf, FlagsOf, NoCell}
 use Rattle.sleep_core.specs.Table.Word.{Number, Flags, NoWord}
 
@@ -24,7 +24,7 @@ abbrev pub with_level : State → ℕ → ℕ → State
 with_level state rendez level = record state { levels = slice_set state.levels rendez level }
 
 -- the wakeup has returned, if there is one
-abbrev pub with_returned : State → Option Wakeup → State
+abbrev pub with_returned : State → Option Call → State
 with_returned state None = state
 with_returned state (Some wakeup) =
     record state {
@@ -44,11 +44,13 @@ word_at state (LevelOf rendez) = Number (level_of state rendez)
 word_at state (FlagsOf pid) = Flags (flags_of state pid)
 word_at state NoCell = NoWord
 
-abbrev pub with_word : State → Cell → Word → State
-with_word state (PostedOf rendez) word = with_posted state rendez (number_in word)
-with_word state (LevelOf rendez) word = with_level state rendez (number_in word)
-with_word state (FlagsOf pid) word = with_flags state pid (flags_in word)
-with_word state NoCell word = state
+-- the word is written, if there is something to write
+abbrev pub with_word : State → Cell → Option Word → State
+with_word state cell None = state
+with_word state (PostedOf rendez) (Some word) = with_posted state rendez (number_in word)
+with_word state (LevelOf rendez) (Some word) = with_level state rendez (number_in word)
+with_word state (FlagsOf pid) (Some word) = with_flags state pid (flags_in word)
+with_word state NoCell (Some word) = state
 
 -- the answers that leave the world as it was
 abbrev pub is_refusal : Answer → Bool

@@ -106,21 +106,21 @@ reply (Check pid) (phase.Asleep rendez level) word =
     if number_in word == pid.0 + 1 then answer.Posted else answer.Released
 reply event stage word = answer.Refused
 
--- what is in the word afterwards
-abbrev pub stored : Event → Phase → Word → Word
-stored (Post pid rendez level) phase.Idle word = Number (pid.0 + 1)
+-- what the event writes to the word, if it writes
+abbrev pub stored : Event → Phase → Word → Option Word
+stored (Post pid rendez level) phase.Idle word = Some (Number (pid.0 + 1))
 stored (Withdraw pid) (phase.Leaving rendez) word =
-    Number (if number_in word == pid.0 + 1 then 0 else number_in word)
-stored (Clear pid) phase.Out word = Flags no_flags
-stored (Clear pid) phase.Woken word = Flags no_flags
-stored (Raise pid rendez level) phase.Idle word = Number (max (number_in word) level)
-stored (Take pid) (phase.Owing rendez level) word = Number 0
+    if number_in word == pid.0 + 1 then Some (Number 0) else None
+stored (Clear pid) phase.Out word = Some (Flags no_flags)
+stored (Clear pid) phase.Woken word = Some (Flags no_flags)
+stored (Raise pid rendez level) phase.Idle word = Some (Number (max (number_in word) level))
+stored (Take pid) (phase.Owing rendez level) word = Some (Number 0)
 stored (Mark pid) (phase.Holding sleeper rendez level) word =
-    Flags (record { wake = true; notes = (flags_in word).notes })
+    Some (Flags (record { wake = true; notes = (flags_in word).notes }))
 stored (Note pid notes) stage word =
-    Flags (record { wake = (flags_in word).wake; notes = joined (flags_in word).notes notes })
-stored (Drain pid) phase.Idle word = Flags no_flags
-stored event stage word = word
+    Some (Flags (record { wake = (flags_in word).wake; notes = joined (flags_in word).notes notes }))
+stored (Drain pid) phase.Idle word = Some (Flags no_flags)
+stored event stage word = None
 
 -- where the process is afterwards: what it was told, of which event, in which phase
 abbrev pub phase_after : Answer → Event → Phase → Phase
@@ -141,13 +141,13 @@ phase_after (answer.Holding sleeper) (Take pid) (phase.Owing rendez level) =
 phase_after (answer.Marked sleeper) (Mark pid) stage = phase.Idle
 phase_after told event stage = stage
 
--- a wakeup: of which Rendez, and with which level
-pub record Wakeup : Type 0 where
+-- the arguments of a call of sleep or of wakeup
+pub record Call : Type 0 where
   pub rendez : ℕ
   pub level : ℕ
 
 -- the wakeup that has returned with this answer: it found nobody, or marked whom it took
-abbrev pub returned_by : Answer → Event → Phase → Option Wakeup
+abbrev pub returned_by : Answer → Event → Phase → Option Call
 returned_by answer.Nobody (Take pid) (phase.Owing rendez level) =
     Some (record { rendez = rendez.0; level = level })
 returned_by (answer.Marked marked) (Mark pid) (phase.Holding sleeper rendez level) =

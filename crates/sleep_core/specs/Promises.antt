@@ -1,0 +1,91 @@
+-- What is promised of every history: no wakeup is lost, no mark is stray, and each sleep ends with
+-- exactly the notes that were pending.
+use Rattle.std.specs.Prelude.{◌≡◌, ◌≢◌, ◌<◌, ◌==◌, ◌⊎◌, ⊤, ℕ, if◌then◌else◌, Option, Some, None, List, [], ◌∷◌}
+use Rattle.sync_base.specs.declared.note.NoteSet.{NoteSet}
+use Rattle.sync_base.specs.NoteSet.{no_notes, joined}
+use Rattle.sleep_core.specs.History.{Deed, HasReturned}
+use Rattle.sleep_core.specs.History.Deed.{Began, Passed, Fell, Roused, Withdrew, Left, Raised, Missed, Took, Marked, Noted, Drained}
+
+-- the process began this sleep, and since then it has neither left it nor been taken out of the Rendez,
+-- by itself or by a wakeup
+abbrev pub IsStillIn : List Deed → ℕ → ℕ → ℕ → Type 0
+IsStillIn [] pid rendez level = ⊥
+IsStillIn (Began by of above ∷ past) pid rendez level =
+    ((by ≡ pid) × (of ≡ rendez) × (above ≡ level)) ⊎ IsStillIn past pid rendez level
+IsStillIn (Withdrew by ∷ past) pid rendez level = (by ≢ pid) × IsStillIn past pid rendez level
+IsStillIn (Took raiser sleeper ∷ past) pid rendez level = (sleeper ≢ pid) × IsStillIn past pid rendez level
+IsStillIn (Left by notes ∷ past) pid rendez level = (by ≢ pid) × IsStillIn past pid rendez level
+IsStillIn (deed ∷ past) pid rendez level = IsStillIn past pid rendez level
+
+-- so, and in this sleep its test found the condition false
+abbrev pub HasFallen : List Deed → ℕ → ℕ → ℕ → Type 0
+HasFallen [] pid rendez level = ⊥
+HasFallen (Fell by ∷ past) pid rendez level =
+    ((by ≡ pid) × IsStillIn past pid rendez level) ⊎ HasFallen past pid rendez level
+HasFallen (Withdrew by ∷ past) pid rendez level = (by ≢ pid) × HasFallen past pid rendez level
+HasFallen (Took raiser sleeper ∷ past) pid rendez level = (sleeper ≢ pid) × HasFallen past pid rendez level
+HasFallen (Left by notes ∷ past) pid rendez level = (by ≢ pid) × HasFallen past pid rendez level
+HasFallen (deed ∷ past) pid rendez level = HasFallen past pid rendez level
+
+-- A wakeup is lost: a process fell asleep and was neither taken out nor has it left, though a wakeup of
+-- its Rendez with a level above its own has returned. This is the race that "Process Sleep and Synchronization on
+-- a Shared-Memory Multiprocessor" (1991) is about.
+pub record IsLost (history : List Deed) : Type 0 where
+  pub pid : ℕ
+  pub rendez : ℕ
+  pub level : ℕ
+  pub above : ℕ
+  pub fell : HasFallen history pid rendez level
+  pub returned : HasReturned history rendez above
+  pub is_above : level < above
+
+-- the raiser took this process out, and since then it has neither left its sleep nor been marked
+abbrev pub IsHeld : List Deed → ℕ → ℕ → Type 0
+IsHeld [] raiser pid = ⊥
+IsHeld (Took by sleeper ∷ past) raiser pid =
+    ((by ≡ raiser) × (sleeper ≡ pid)) ⊎ IsHeld past raiser pid
+IsHeld (Marked by sleeper ∷ past) raiser pid = (sleeper ≢ pid) × IsHeld past raiser pid
+IsHeld (Left by notes ∷ past) raiser pid = (by ≢ pid) × IsHeld past raiser pid
+IsHeld (deed ∷ past) raiser pid = IsHeld past raiser pid
+
+-- Own: no mark reaches a process that has left the sleep in which it was taken, and none comes twice.
+abbrev pub NoMarkIsStray : List Deed → Type 0
+NoMarkIsStray [] = ⊤
+NoMarkIsStray (Marked raiser sleeper ∷ past) = IsHeld past raiser sleeper × NoMarkIsStray past
+NoMarkIsStray (deed ∷ past) = NoMarkIsStray past
+
+-- After notify(2): notes that came to a process are pending until it is told of them. Own: they are a set,
+-- and the end of a sleep takes them all.
+abbrev pub pending : List Deed → ℕ → NoteSet
+pending [] pid = no_notes
+pending (Noted named notes ∷ past) pid =
+    if named == pid then joined (pending past pid) notes else pending past pid
+pending (Drained by notes ∷ past) pid = if by == pid then no_notes else pending past pid
+pending (Left by notes ∷ past) pid = if by == pid then no_notes else pending past pid
+pending (deed ∷ past) pid = pending past pid
+
+-- a sleep ends well where no notes are pending, and else with just these
+abbrev pub IsRightEnding : Option NoteSet → NoteSet → Type 0
+IsRightEnding None waiting = waiting ≡ no_notes
+IsRightEnding (Some notes) waiting = (notes ≡ waiting) × (notes ≢ no_notes)
+
+-- each process was told of exactly the notes that were pending
+abbrev pub AreNotesRight : List Deed → Type 0
+AreNotesRight [] = ⊤
+AreNotesRight (Left pid notes ∷ past) = IsRightEnding notes (pending past pid) × AreNotesRight past
+AreNotesRight (Drained pid notes ∷ past) = (notes ≡ pending past pid) × AreNotesRight past
+AreNotesRight (deed ∷ past) = AreNotesRight past
+
+-- since the process began its sleep its test found the condition true, or its look found the mark
+abbrev pub IsCaused : List Deed → ℕ → Type 0
+IsCaused [] pid = ⊥
+IsCaused (Passed by ∷ past) pid = (by ≡ pid) ⊎ IsCaused past pid
+IsCaused (Roused by ∷ past) pid = (by ≡ pid) ⊎ IsCaused past pid
+IsCaused (Began by rendez level ∷ past) pid = (by ≢ pid) × IsCaused past pid
+IsCaused (deed ∷ past) pid = IsCaused past pid
+
+-- After the return of sleep in the paper of 1991: a sleep that ends without notes has a cause.
+abbrev pub EachSleepIsCaused : List Deed → Type 0
+EachSleepIsCaused [] = ⊤
+EachSleepIsCaused (Left pid None ∷ past) = IsCaused past pid × EachSleepIsCaused past
+EachSleepIsCaused (deed ∷ past) = EachSleepIsCaused past
