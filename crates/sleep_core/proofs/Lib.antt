@@ -12,5 +12,6 @@ pub mod LeaverKeeps
 pub mod RaiserKeeps
 pub mod NotesKeep
 pub mod TableMoves
+pub mod SizeLemmas
 pub mod NoLostWakeup
 pub mod OwnWakeups

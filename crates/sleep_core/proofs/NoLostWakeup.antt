@@ -4,6 +4,7 @@ use Rattle.std.specs.Prelude.{replicate}
 use Rattle.std.specs.List.{cons_option}
 use Rattle.std.proofs.lemmas.List.{length-replicate}
 use Rattle.sync_base.specs.declared.ids.RendezId.{RendezId}
+use Rattle.sync_base.specs.declared.note.NoteSet.{NoteSet}
 use Rattle.sleep_core.specs.declared.event.Event.{Event}
 use Rattle.sleep_core.specs.declared.event.Event.TheVariants.{Note}
 use Rattle.sleep_core.specs.declared.answer.Answer.{Answer}
@@ -15,9 +16,11 @@ use Rattle.sleep_core.specs.Table.{pid_of}
 use Rattle.sleep_core.specs.Step.{answer_to, world_after}
 use Rattle.sleep_core.specs.Runs.{Entry, IsMadeBy, IsRun, world_of, entry_of, run_of, world_after_all}
 use Rattle.sleep_core.specs.History.{Deed, deed_of, history_of, HasReturned}
-use Rattle.sleep_core.specs.Promises.{IsLost, HasFallen}
+use Rattle.sleep_core.specs.Promises.{IsLost, HasFallen, NoMarkIsStray, AreNotesRight, EachSleepIsCaused}
+use Rattle.sleep_core.specs.Broken.{takes_too_early, leaves_before_its_mark, drops_a_note, leaves_for_no_cause}
 use Rattle.sleep_core.specs.Oversleep.{IsLeftAsleep, HasLostWakeup}
-use Rattle.sleep_core.specs.Laws.{IsKept, NoLostWakeup, NoLostWakeupInEvents, IsRunOf, EventsMakeRuns, ReleasesBelow, ReturnedWakeupReleases, SleepsEndForACause}
+use Rattle.sleep_core.specs.Laws.{IsKept, NoLostWakeup, NoLostWakeupInEvents, IsRunOf, EventsMakeRuns, ReleasesBelow, ReturnedWakeupReleases, SleepsEndForACause, RunsAreSound}
+use Rattle.sleep_core.proofs.SizeLemmas.{size_of_run}
 use Rattle.sleep_core.proofs.CoreInvariant.{token, Fits, Core}
 use Rattle.sleep_core.proofs.CoreInvariant.Token.{Nowhere, InRendez}
 use Rattle.sleep_core.proofs.Moves.{Move}
@@ -183,3 +186,35 @@ returned_wakeup_releases procs rendez past run of level returned =
 
 pub sleeps_end_for_a_cause : SleepsEndForACause
 sleeps_end_for_a_cause procs rendez past run = (core_of_run procs rendez past run).caused
+
+pub runs_are_sound : RunsAreSound
+runs_are_sound procs rendez past run =
+    record {
+      sound = (core_of_run procs rendez past run).sound;
+      procs_stay = (size_of_run procs rendez past).phases;
+      rendez_stay = (size_of_run procs rendez past).posted;
+    }
+
+-- the wakeup that a worse machine loses
+pub too_early_loses : IsLost takes_too_early
+too_early_loses =
+    record {
+      pid = 0;
+      rendez = 0;
+      level = 0;
+      above = 1;
+      fell = inl (refl, inl (refl, refl, refl));
+      returned = inl refl;
+      is_above = omega arith;
+    }
+
+pub early_leave_strays : NoMarkIsStray leaves_before_its_mark → ⊥
+early_leave_strays due = due.0.0 refl
+
+pub dropped_note_is_wrong : AreNotesRight drops_a_note → ⊥
+dropped_note_is_wrong right =
+    let dropped : true ≡ false = ap (λ (set : NoteSet). set.interrupt) right.0 in
+    cc
+
+pub no_cause_is_wrong : EachSleepIsCaused leaves_for_no_cause → ⊥
+no_cause_is_wrong caused = caused.0.0 refl

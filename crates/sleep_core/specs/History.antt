@@ -1,18 +1,19 @@
--- The history that a run shows: what each event did that was not refused, by events and answers alone.
--- It has no words and no phases, so that no flaw of the machine can hide in its state.
+-- The history that a run shows: what each event did that was not refused. It is read off the events and
+-- their answers alone. It has no words and no phases, so that no flaw of the machine can hide in them.
 use Rattle.std.specs.Prelude.{◌≡◌, ◌==◌, ◌⊎◌, ℕ, if◌then◌else◌, Option, Some, None, List, [], ◌∷◌}
 use Rattle.std.specs.List.{filter_map}
 use Rattle.sync_base.specs.declared.note.NoteSet.{NoteSet}
 use Rattle.sleep_core.specs.declared.event.Event.{Event}
-use Rattle.sleep_core.specs.declared.event.Event.TheVariants.{Post, Test, Look, Withdraw, Clear, Raise, Take, Mark, Note, Drain}
+use Rattle.sleep_core.specs.declared.event.Event.TheVariants.{Post, Test, Look, Withdraw, Clear}
+use Rattle.sleep_core.specs.declared.event.Event.TheVariants.{Raise, Take, Mark, Note, Drain}
 use Rattle.sleep_core.specs.declared.answer.Answer.{Answer}
 use Rattle.sleep_core.specs.declared.answer.Answer.TheVariants as answer
 use Rattle.sleep_core.specs.Table.{Call}
 use Rattle.sleep_core.specs.Runs.{Entry}
 
--- After sleep and wakeup in "Process Sleep and Synchronization on a Shared-Memory Multiprocessor" (1991):
--- a process announces itself, tests its condition and waits; another makes the condition true, and
--- takes and readies whom it finds. Notes are after notify(2).
+-- After sleep and wakeup in "Process Sleep and Synchronization on a Shared-Memory Multiprocessor"
+-- (1991): a process announces itself, tests its condition and waits; another makes the condition true,
+-- takes whom it finds and readies it. Notes are after notify(2).
 pub data Deed : Type 0 where
   -- the process began a sleep in the Rendez, until its level is above this one
   Began : (pid rendez level : ℕ) → Deed
@@ -73,7 +74,9 @@ begun_wakeup pid (deed ∷ past) = begun_wakeup pid past
 abbrev pub HasReturned : List Deed → ℕ → ℕ → Type 0
 HasReturned [] rendez level = ⊥
 HasReturned (Missed pid ∷ past) rendez level =
-    (begun_wakeup pid past ≡ Some (record { rendez = rendez; level = level })) ⊎ HasReturned past rendez level
+    (begun_wakeup pid past ≡ Some (record { rendez = rendez; level = level }))
+    ⊎ HasReturned past rendez level
 HasReturned (Marked pid sleeper ∷ past) rendez level =
-    (begun_wakeup pid past ≡ Some (record { rendez = rendez; level = level })) ⊎ HasReturned past rendez level
+    (begun_wakeup pid past ≡ Some (record { rendez = rendez; level = level }))
+    ⊎ HasReturned past rendez level
 HasReturned (deed ∷ past) rendez level = HasReturned past rendez level

@@ -1,13 +1,35 @@
 -- The laws over every run, and over every list of events.
-use Rattle.std.specs.Prelude.{◌≡◌, ◌+◌, ◌≤◌, ℕ, List, []}
+use Rattle.std.specs.Prelude.{◌≡◌, ◌+◌, ◌≤◌, ℕ, List, [], length}
 use Rattle.sync_base.specs.declared.ids.RendezId.{RendezId}
 use Rattle.sleep_core.specs.declared.event.Event.{Event}
 use Rattle.sleep_core.specs.declared.phase.Phase.TheVariants as phase
-use Rattle.sleep_core.specs.State.{State, opening, phase_of, posted_of, returned_of}
+use Rattle.sleep_core.specs.State.{State, IsSound, opening, phase_of, posted_of, returned_of}
 use Rattle.sleep_core.specs.Runs.{Entry, IsRun, world_of, own, run_of, world_after_all}
 use Rattle.sleep_core.specs.History.{Deed, history_of, HasReturned}
 use Rattle.sleep_core.specs.Promises.{IsLost, NoMarkIsStray, AreNotesRight, EachSleepIsCaused}
 use Rattle.sleep_core.specs.Oversleep.{HasLostWakeup}
+
+-- every list of events makes a run, which ends in the world after them
+pub record IsRunOf (procs rendez : ℕ) (events : List Event) (past : List Entry) : Type 0 where
+  pub run : IsRun procs rendez past
+  pub world : world_of procs rendez past ≡ world_after_all (opening procs rendez) events
+
+abbrev pub EventsMakeRuns : Type 0
+EventsMakeRuns =
+    (procs rendez : ℕ) (events : List Event)
+    → IsRunOf procs rendez events (run_of (opening procs rendez) [] events)
+
+-- a world keeps its size, and whatever it names is there
+pub record IsSoundIn (procs rendez : ℕ) (state : State) : Type 0 where
+  pub sound : IsSound state
+  pub procs_stay : length state.phases ≡ procs
+  pub rendez_stay : length state.posted ≡ rendez
+
+abbrev pub RunsAreSound : Type 0
+RunsAreSound =
+    (procs rendez : ℕ) (past : List Entry)
+    → IsRun procs rendez past
+    → IsSoundIn procs rendez (world_of procs rendez past)
 
 -- what is promised of a history and of the world in which it ends
 pub record IsKept (history : List Deed) (state : State) : Type 0 where
@@ -19,38 +41,46 @@ pub record IsKept (history : List Deed) (state : State) : Type 0 where
 -- of every run, in a world of any size
 abbrev pub NoLostWakeup : Type 0
 NoLostWakeup =
-    (procs rendez : ℕ) (past : List Entry) → IsRun procs rendez past → IsKept (history_of past) (world_of procs rendez past)
+    (procs rendez : ℕ) (past : List Entry)
+    → IsRun procs rendez past
+    → IsKept (history_of past) (world_of procs rendez past)
 
 -- of every list of events, in a world of any size
 abbrev pub NoLostWakeupInEvents : Type 0
 NoLostWakeupInEvents =
-    (procs rendez : ℕ) (events : List Event) → IsKept (history_of (run_of (opening procs rendez) [] events)) (world_after_all (opening procs rendez) events)
+    (procs rendez : ℕ) (events : List Event)
+    → let past = run_of (opening procs rendez) [] events in
+      IsKept (history_of past) (world_after_all (opening procs rendez) events)
 
--- every list of events makes a run, which ends in the world after it
-pub record IsRunOf (procs rendez : ℕ) (events : List Event) (past : List Entry) : Type 0 where
-  pub run : IsRun procs rendez past
-  pub world : world_of procs rendez past ≡ world_after_all (opening procs rendez) events
-
-abbrev pub EventsMakeRuns : Type 0
-EventsMakeRuns =
-    (procs rendez : ℕ) (events : List Event) → IsRunOf procs rendez events (run_of (opening procs rendez) [] events)
-
--- The receipt of a wakeup: its level is at most the returned level of its Rendez, and no process that is
--- asleep below it is still posted.
+-- The receipt of a wakeup: its level is at most the returned level of its Rendez, and no process that
+-- is asleep below it is still posted.
 pub record ReleasesBelow (state : State) (rendez : RendezId) (level : ℕ) : Type 0 where
   pub counted : level ≤ returned_of state rendez.0
-  pub released : (pid own_level : ℕ) → phase_of state pid ≡ phase.Asleep rendez own_level → posted_of state rendez.0 ≡ pid + 1 → level ≤ own_level
+  pub released : (pid own_level : ℕ)
+    → phase_of state pid ≡ phase.Asleep rendez own_level
+    → posted_of state rendez.0 ≡ pid + 1
+    → level ≤ own_level
 
 abbrev pub ReturnedWakeupReleases : Type 0
 ReturnedWakeupReleases =
-    (procs rendez : ℕ) (past : List Entry) → IsRun procs rendez past → (of : RendezId) (level : ℕ) → HasReturned (history_of past) of.0 level → ReleasesBelow (world_of procs rendez past) of level
+    (procs rendez : ℕ) (past : List Entry)
+    → IsRun procs rendez past
+    → (at : RendezId) (level : ℕ)
+    → HasReturned (history_of past) at.0 level
+    → ReleasesBelow (world_of procs rendez past) at level
 
 -- the receipt stands in the raiser's own events
 abbrev pub ReturnsByOwnEvents : Type 0
 ReturnsByOwnEvents =
-    (procs rendez : ℕ) (past : List Entry) → IsRun procs rendez past → (pid of level : ℕ) → HasReturned (history_of (own pid past)) of level → HasReturned (history_of past) of level
+    (procs rendez : ℕ) (past : List Entry)
+    → IsRun procs rendez past
+    → (pid at level : ℕ)
+    → HasReturned (history_of (own pid past)) at level
+    → HasReturned (history_of past) at level
 
 -- a sleep that ends without notes ended because its test passed or a look found the mark
 abbrev pub SleepsEndForACause : Type 0
 SleepsEndForACause =
-    (procs rendez : ℕ) (past : List Entry) → IsRun procs rendez past → EachSleepIsCaused (history_of past)
+    (procs rendez : ℕ) (past : List Entry)
+    → IsRun procs rendez past
+    → EachSleepIsCaused (history_of past)

@@ -8,3 +8,4 @@ pub mod Local
 pub mod History
 pub mod Promises
 pub mod Laws
+pub mod Broken

@@ -14,7 +14,8 @@ IsRendezCount rendez = (1 ≤ rendez) × (rendez ≤ MAX_RENDEZ)
 abbrev pub IsWorldSize : ℕ → ℕ → Type 0
 IsWorldSize procs rendez = IsProcCount procs × IsRendezCount rendez
 
--- Own: the processes are tested first, then the Rendez; want of memory comes only to a world in range.
+-- Own: the processes are tested first, then the Rendez. Want of memory comes only to a world in
+-- range.
 abbrev pub WhyNoWorld : ℕ → ℕ → Fault → Type 0
 WhyNoWorld procs rendez fault.NoProc = ¬ IsProcCount procs
 WhyNoWorld procs rendez fault.NoRendez = IsProcCount procs × (¬ IsRendezCount rendez)

@@ -25,29 +25,51 @@ cell_at state event = cell_of event (stage_at state event)
 -- ranges aside, the answer depends on one word and on the phase of the process named
 abbrev pub AnswersByOneWord : Type 0
 AnswersByOneWord =
-    (a b : State) (event : Event) → HaveOneSize a b → stage_at a event ≡ stage_at b event → word_at a (cell_at a event) ≡ word_at b (cell_at a event) → answer_to a event ≡ answer_to b event
+    (a b : State) (event : Event)
+    → HaveOneSize a b
+    → stage_at a event ≡ stage_at b event
+    → word_at a (cell_at a event) ≡ word_at b (cell_at a event)
+    → answer_to a event ≡ answer_to b event
 
 -- each other word stays
 abbrev pub KeepsOtherWords : Type 0
 KeepsOtherWords =
-    (state : State) (event : Event) (cell : Cell) → cell ≢ cell_at state event → word_at (world_after state event) cell ≡ word_at state cell
+    (state : State) (event : Event) (cell : Cell)
+    → cell ≢ cell_at state event
+    → word_at (world_after state event) cell ≡ word_at state cell
 
 -- each other phase stays
 abbrev pub KeepsOtherPhases : Type 0
 KeepsOtherPhases =
-    (state : State) (event : Event) (pid : ℕ) → pid ≢ (pid_of event).0 → phase_of (world_after state event) pid ≡ phase_of state pid
+    (state : State) (event : Event) (pid : ℕ)
+    → pid ≢ (pid_of event).0
+    → phase_of (world_after state event) pid ≡ phase_of state pid
+
+-- no wakeup of the Rendez returns with the event
+abbrev pub ReturnsElsewhere : State → Event → ℕ → Type 0
+ReturnsElsewhere state event rendez =
+    let told = answer_to state event in
+    IfSome (returned_by told event (stage_at state event)) (λ call. call.rendez ≢ rendez)
 
 -- a returned level stays, unless a wakeup of that Rendez returns with this very event
 abbrev pub KeepsOtherReturned : Type 0
 KeepsOtherReturned =
-    (state : State) (event : Event) (rendez : ℕ) → IfSome (returned_by (answer_to state event) event (stage_at state event)) (λ wakeup. wakeup.rendez ≢ rendez) → returned_of (world_after state event) rendez ≡ returned_of state rendez
+    (state : State) (event : Event) (rendez : ℕ)
+    → ReturnsElsewhere state event rendez
+    → returned_of (world_after state event) rendez ≡ returned_of state rendez
 
--- after every run the phase of each process is what its own events with their answers give, and what
--- those that are kept give
+-- after every run the phase of each process is what its own events with their answers give
 abbrev pub PhaseByOwnEvents : Type 0
 PhaseByOwnEvents =
-    (procs rendez : ℕ) (past : List Entry) → IsRun procs rendez past → (pid : ℕ) → phase_by (own pid past) ≡ phase_of (world_of procs rendez past) pid
+    (procs rendez : ℕ) (past : List Entry)
+    → IsRun procs rendez past
+    → (pid : ℕ)
+    → phase_by (own pid past) ≡ phase_of (world_of procs rendez past) pid
 
+-- and what those that are kept give
 abbrev pub PhaseByKeptEvents : Type 0
 PhaseByKeptEvents =
-    (procs rendez : ℕ) (past : List Entry) → IsRun procs rendez past → (pid : ℕ) → phase_by (kept (own pid past)) ≡ phase_of (world_of procs rendez past) pid
+    (procs rendez : ℕ) (past : List Entry)
+    → IsRun procs rendez past
+    → (pid : ℕ)
+    → phase_by (kept (own pid past)) ≡ phase_of (world_of procs rendez past) pid

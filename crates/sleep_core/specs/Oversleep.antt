@@ -4,7 +4,8 @@ use Rattle.sleep_core.specs.declared.phase.Phase.{Phase}
 use Rattle.sleep_core.specs.declared.phase.Phase.TheVariants as phase
 use Rattle.sleep_core.specs.State.{State, phase_of, posted_of, returned_of}
 
--- the process is asleep in a Rendez, is still posted in it, and a wakeup with a level above its own has returned
+-- The process is asleep in a Rendez and is still posted in it, though a wakeup with a level above its
+-- own has returned.
 abbrev pub IsLeftAsleep : State → ℕ → Phase → Type 0
 IsLeftAsleep state pid (phase.Asleep rendez level) =
     (posted_of state rendez.0 ≡ pid + 1) × (level < returned_of state rendez.0)

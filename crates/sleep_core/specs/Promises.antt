@@ -1,35 +1,39 @@
 -- What is promised of every history: no wakeup is lost, no mark is stray, and each sleep ends with
--- exactly the notes that were pending.
-use Rattle.std.specs.Prelude.{◌≡◌, ◌≢◌, ◌<◌, ◌==◌, ◌⊎◌, ⊤, ℕ, if◌then◌else◌, Option, Some, None, List, [], ◌∷◌}
+-- exactly the notes that were pending, and for a cause.
+use Rattle.std.specs.Prelude.{◌≡◌, ◌≢◌, ◌<◌, ◌==◌, ◌⊎◌, ⊤, ℕ, if◌then◌else◌}
+use Rattle.std.specs.Prelude.{Option, Some, None, List, [], ◌∷◌}
 use Rattle.sync_base.specs.declared.note.NoteSet.{NoteSet}
 use Rattle.sync_base.specs.NoteSet.{no_notes, joined}
 use Rattle.sleep_core.specs.History.{Deed, HasReturned}
-use Rattle.sleep_core.specs.History.Deed.{Began, Passed, Fell, Roused, Withdrew, Left, Raised, Missed, Took, Marked, Noted, Drained}
+use Rattle.sleep_core.specs.History.Deed.{Began, Passed, Fell, Roused, Withdrew, Left, Took, Marked}
+use Rattle.sleep_core.specs.History.Deed.{Noted, Drained}
 
--- the process began this sleep, and since then it has neither left it nor been taken out of the Rendez,
--- by itself or by a wakeup
+-- The process began this sleep, and since then it has neither left it nor been taken out of the
+-- Rendez, by itself or by a wakeup.
 abbrev pub IsStillIn : List Deed → ℕ → ℕ → ℕ → Type 0
 IsStillIn [] pid rendez level = ⊥
-IsStillIn (Began by of above ∷ past) pid rendez level =
-    ((by ≡ pid) × (of ≡ rendez) × (above ≡ level)) ⊎ IsStillIn past pid rendez level
+IsStillIn (Began by at above ∷ past) pid rendez level =
+    ((by ≡ pid) × (at ≡ rendez) × (above ≡ level)) ⊎ IsStillIn past pid rendez level
 IsStillIn (Withdrew by ∷ past) pid rendez level = (by ≢ pid) × IsStillIn past pid rendez level
-IsStillIn (Took raiser sleeper ∷ past) pid rendez level = (sleeper ≢ pid) × IsStillIn past pid rendez level
+IsStillIn (Took by sleeper ∷ past) pid rendez level =
+    (sleeper ≢ pid) × IsStillIn past pid rendez level
 IsStillIn (Left by notes ∷ past) pid rendez level = (by ≢ pid) × IsStillIn past pid rendez level
 IsStillIn (deed ∷ past) pid rendez level = IsStillIn past pid rendez level
 
--- so, and in this sleep its test found the condition false
+-- So, and in this sleep its test found the condition false.
 abbrev pub HasFallen : List Deed → ℕ → ℕ → ℕ → Type 0
 HasFallen [] pid rendez level = ⊥
 HasFallen (Fell by ∷ past) pid rendez level =
     ((by ≡ pid) × IsStillIn past pid rendez level) ⊎ HasFallen past pid rendez level
 HasFallen (Withdrew by ∷ past) pid rendez level = (by ≢ pid) × HasFallen past pid rendez level
-HasFallen (Took raiser sleeper ∷ past) pid rendez level = (sleeper ≢ pid) × HasFallen past pid rendez level
+HasFallen (Took by sleeper ∷ past) pid rendez level =
+    (sleeper ≢ pid) × HasFallen past pid rendez level
 HasFallen (Left by notes ∷ past) pid rendez level = (by ≢ pid) × HasFallen past pid rendez level
 HasFallen (deed ∷ past) pid rendez level = HasFallen past pid rendez level
 
--- A wakeup is lost: a process fell asleep and was neither taken out nor has it left, though a wakeup of
--- its Rendez with a level above its own has returned. This is the race that "Process Sleep and Synchronization on
--- a Shared-Memory Multiprocessor" (1991) is about.
+-- A wakeup is lost: a process fell asleep and has neither been taken out nor left, though a wakeup of
+-- its Rendez with a level above its own has returned. It is the race of which "Process Sleep and
+-- Synchronization on a Shared-Memory Multiprocessor" (1991) speaks.
 pub record IsLost (history : List Deed) : Type 0 where
   pub pid : ℕ
   pub rendez : ℕ
@@ -54,8 +58,8 @@ NoMarkIsStray [] = ⊤
 NoMarkIsStray (Marked raiser sleeper ∷ past) = IsHeld past raiser sleeper × NoMarkIsStray past
 NoMarkIsStray (deed ∷ past) = NoMarkIsStray past
 
--- After notify(2): notes that came to a process are pending until it is told of them. Own: they are a set,
--- and the end of a sleep takes them all.
+-- After notify(2): notes that came to a process are pending until it is told of them. Own: they are a
+-- set, and the end of a sleep takes them all.
 abbrev pub pending : List Deed → ℕ → NoteSet
 pending [] pid = no_notes
 pending (Noted named notes ∷ past) pid =
@@ -84,7 +88,7 @@ IsCaused (Roused by ∷ past) pid = (by ≡ pid) ⊎ IsCaused past pid
 IsCaused (Began by rendez level ∷ past) pid = (by ≢ pid) × IsCaused past pid
 IsCaused (deed ∷ past) pid = IsCaused past pid
 
--- After the return of sleep in the paper of 1991: a sleep that ends without notes has a cause.
+-- Own: a sleep that ends without notes has such a cause.
 abbrev pub EachSleepIsCaused : List Deed → Type 0
 EachSleepIsCaused [] = ⊤
 EachSleepIsCaused (Left pid None ∷ past) = IsCaused past pid × EachSleepIsCaused past

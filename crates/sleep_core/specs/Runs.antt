@@ -42,26 +42,30 @@ pub record IsNext (state : State) (entry : Entry) : Type 0 where
   pub made : IsMadeBy entry.maker entry.event
   pub answered : entry.answer ≡ answer_to state entry.event
 
--- a run from the opening world: each event was answered by the table in the world that the events before it left
+-- A run from the opening world: each event was answered by the table, in the world that the events
+-- before it left.
 abbrev pub IsRun : ℕ → ℕ → List Entry → Type 0
 IsRun procs rendez [] = ⊤
-IsRun procs rendez (entry ∷ past) = IsRun procs rendez past × IsNext (world_of procs rendez past) entry
+IsRun procs rendez (entry ∷ past) =
+    IsRun procs rendez past × IsNext (world_of procs rendez past) entry
 
 -- an event in a world, made by the process that it names
 abbrev pub entry_of : State → Event → Entry
-entry_of state event = record { maker = (pid_of event).0; event = event; answer = answer_to state event }
+entry_of state event =
+    record { maker = (pid_of event).0; event = event; answer = answer_to state event }
 
 -- the run that a list of events gives, after a past
 abbrev pub run_of : State → List Entry → List Event → List Entry
 run_of state past [] = past
-run_of state past (event ∷ events) = run_of (world_after state event) (entry_of state event ∷ past) events
+run_of state past (event ∷ events) =
+    run_of (world_after state event) (entry_of state event ∷ past) events
 
 -- what a process itself has done
 abbrev pub own : ℕ → List Entry → List Entry
 own pid past = filter (λ entry. entry.maker == pid) past
 
--- whether the step is worth keeping: a check, a look that found nothing and all refusals but one are not.
--- Own: a second sleeper wants to know that it was refused.
+-- Whether the step is worth keeping: a check, a look that found nothing and all refusals but one are
+-- not. Own: a second sleeper wants to know that it was refused.
 abbrev pub is_kept : Answer → Event → Bool
 is_kept answer.Posted (Check pid) = false
 is_kept answer.Released event = false

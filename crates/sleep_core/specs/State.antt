@@ -1,13 +1,15 @@
 -- What the core is at one moment: a phase and a word of flags for each process, and for each Rendez
 -- the word of its sleeper, its level, and the greatest level whose wakeup has returned.
-use Rattle.std.specs.Prelude.{◌≡◌, ◌<◌, ◌≤◌, ⊤, ℕ, Bool, false, List, length, replicate, slice_index, slice_index_or}
+use Rattle.std.specs.Prelude.{◌≡◌, ◌<◌, ◌≤◌, ⊤, ℕ, Bool, false}
+use Rattle.std.specs.Prelude.{List, length, replicate, slice_index, slice_index_or}
 use Rattle.sync_base.specs.NoteSet.{no_notes}
 use Rattle.sleep_core.specs.declared.phase.Phase.{Phase}
 use Rattle.sleep_core.specs.declared.phase.Phase.TheVariants as phase
 use Rattle.sleep_core.specs.declared.phase.ProcFlags.{ProcFlags}
 
--- Own, in the order of the paper "Process Sleep and Synchronization on a Shared-Memory Multiprocessor"
--- (1991): a process posts itself in the Rendez, and the condition is a level that only rises.
+-- After "Process Sleep and Synchronization on a Shared-Memory Multiprocessor" (1991), where a Rendez
+-- holds the process that sleeps on it. Own: the condition is a level that only rises, and each field is
+-- a word that one step changes.
 pub record State : Type 0 where
   pub phases : List Phase
   pub flags : List ProcFlags
@@ -50,20 +52,20 @@ opening procs rendez =
 -- what a phase names is there
 abbrev pub IsPhaseIn : ℕ → ℕ → Phase → Type 0
 IsPhaseIn procs rendez phase.Idle = ⊤
-IsPhaseIn procs rendez (phase.Posted in_rendez level) = in_rendez.0 < rendez
-IsPhaseIn procs rendez (phase.Asleep in_rendez level) = in_rendez.0 < rendez
-IsPhaseIn procs rendez (phase.Leaving in_rendez) = in_rendez.0 < rendez
+IsPhaseIn procs rendez (phase.Posted at level) = at.0 < rendez
+IsPhaseIn procs rendez (phase.Asleep at level) = at.0 < rendez
+IsPhaseIn procs rendez (phase.Leaving at) = at.0 < rendez
 IsPhaseIn procs rendez phase.Awaiting = ⊤
 IsPhaseIn procs rendez phase.Woken = ⊤
 IsPhaseIn procs rendez phase.Out = ⊤
-IsPhaseIn procs rendez (phase.Owing of_rendez level) = of_rendez.0 < rendez
-IsPhaseIn procs rendez (phase.Holding sleeper of_rendez level) =
-    (sleeper.0 < procs) × (of_rendez.0 < rendez)
+IsPhaseIn procs rendez (phase.Owing at level) = at.0 < rendez
+IsPhaseIn procs rendez (phase.Holding sleeper at level) = (sleeper.0 < procs) × (at.0 < rendez)
 
--- the rows have one length for processes and one for Rendez, and each number in them is below it
+-- the rows have one length for processes and one for Rendez, and whatever they name is there
 pub record IsSound (state : State) : Type 0 where
   pub flags : length state.flags ≡ length state.phases
   pub levels : length state.levels ≡ length state.posted
   pub returned : length state.returned ≡ length state.posted
-  pub phases : (pid : ℕ) → IsPhaseIn (length state.phases) (length state.posted) (phase_of state pid)
+  pub phases : (pid : ℕ)
+    → IsPhaseIn (length state.phases) (length state.posted) (phase_of state pid)
   pub posted : (rendez : ℕ) → posted_of state rendez ≤ length state.phases

@@ -1,13 +1,15 @@
--- One event in a world: its answer and the world after it, by the table. A process that does not exist
--- comes first, then a phase that the event can't come in, then the refusals of the row.
-use Rattle.std.specs.Prelude.{ℕ, Bool, true, false, max, nat_lt, if◌then◌else◌, Option, Some, None, length, slice_set}
+-- One event in a world: its answer and the world after it, by the table. A process that does not
+-- exist is tested first, then a phase that the event can't come in, then the refusals of the row.
+use Rattle.std.specs.Prelude.{ℕ, max, Bool, true, false, nat_lt, if◌then◌else◌}
+use Rattle.std.specs.Prelude.{Option, Some, None, length, slice_set}
 use Rattle.sleep_core.specs.declared.event.Event.{Event}
 use Rattle.sleep_core.specs.declared.answer.Answer.{Answer}
 use Rattle.sleep_core.specs.declared.answer.Answer.TheVariants as answer
 use Rattle.sleep_core.specs.declared.phase.Phase.{Phase}
 use Rattle.sleep_core.specs.declared.phase.ProcFlags.{ProcFlags}
 use Rattle.sleep_core.specs.State.{State, phase_of, flags_of, posted_of, level_of, returned_of}
-use Rattle.sleep_core.specs.Table.{Cell, Word, Call, pid_of, cell_of, number_in, flags_in, reply, stored, phase_after, returned_by}
+use Rattle.sleep_core.specs.Table.{Cell, Word, Call, pid_of, number_in, flags_in}
+use Rattle.sleep_core.specs.Table.{cell_of, reply, stored, phase_after, returned_by}
 use Rattle.sleep_core.specs.Table.Cell.{PostedOf, LevelOf, FlagsOf, NoCell}
 use Rattle.sleep_core.specs.Table.Word.{Number, Flags, NoWord}
 
@@ -26,10 +28,9 @@ with_level state rendez level = record state { levels = slice_set state.levels r
 -- the wakeup has returned, if there is one
 abbrev pub with_returned : State → Option Call → State
 with_returned state None = state
-with_returned state (Some wakeup) =
-    record state {
-      returned = slice_set state.returned wakeup.rendez (max (returned_of state wakeup.rendez) wakeup.level);
-    }
+with_returned state (Some call) =
+    let greatest = max (returned_of state call.rendez) call.level in
+    record state { returned = slice_set state.returned call.rendez greatest }
 
 -- whether the word is there
 abbrev pub has_cell : State → Cell → Bool
@@ -77,9 +78,10 @@ answer_to state event =
 -- the world after an event that was answered so, and not refused
 abbrev pub changed_by : State → Phase → Event → Answer → State
 changed_by state stage event told =
-    with_returned
-    (with_phase (with_word state (cell_of event stage) (stored event stage (word_at state (cell_of event stage)))) (pid_of event).0 (phase_after told event stage))
-    (returned_by told event stage)
+    let cell = cell_of event stage in
+    let written = with_word state cell (stored event stage (word_at state cell)) in
+    let moved = with_phase written (pid_of event).0 (phase_after told event stage) in
+    with_returned moved (returned_by told event stage)
 
 -- the world after an event that was answered so
 abbrev pub world_told : State → Phase → Event → Answer → State

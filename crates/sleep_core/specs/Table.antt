@@ -1,19 +1,21 @@
 -- The table of events, row by row: which word an event touches in a phase, what it answers, what it
 -- leaves in the word, and in which phase the process is then. What no row names is refused.
-use Rattle.std.specs.Prelude.{ℕ, ◌+◌, ◌-◌, Bool, true, false, ◌||◌, ◌==◌, nat_lt, max, if◌then◌else◌, Option, Some, None, length, slice_set}
+use Rattle.std.specs.Prelude.{ℕ, ◌+◌, ◌-◌, max, Bool, true, ◌||◌, ◌==◌, nat_lt, if◌then◌else◌}
+use Rattle.std.specs.Prelude.{Option, Some, None}
 use Rattle.sync_base.specs.declared.ids.Pid.{Pid}
 use Rattle.sync_base.specs.declared.ids.RendezId.{RendezId}
 use Rattle.sync_base.specs.declared.note.Note.TheVariants.{Interrupt, Hangup, Alarm, ClosedPipe}
 use Rattle.sync_base.specs.declared.note.NoteSet.{NoteSet}
 use Rattle.sync_base.specs.NoteSet.{holds, joined}
 use Rattle.sleep_core.specs.declared.event.Event.{Event}
-use Rattle.sleep_core.specs.declared.event.Event.TheVariants.{Post, Test, Look, Withdraw, Clear, Raise, Take, Mark, Note, Drain, Check}
+use Rattle.sleep_core.specs.declared.event.Event.TheVariants.{Post, Test, Look, Withdraw, Clear}
+use Rattle.sleep_core.specs.declared.event.Event.TheVariants.{Raise, Take, Mark, Note, Drain, Check}
 use Rattle.sleep_core.specs.declared.answer.Answer.{Answer}
 use Rattle.sleep_core.specs.declared.answer.Answer.TheVariants as answer
 use Rattle.sleep_core.specs.declared.phase.Phase.{Phase}
 use Rattle.sleep_core.specs.declared.phase.Phase.TheVariants as phase
 use Rattle.sleep_core.specs.declared.phase.ProcFlags.{ProcFlags}
-use Rattle.sleep_core.specs.State.{State, no_flags, phase_of, flags_of, posted_of, level_of, returned_of}
+use Rattle.sleep_core.specs.State.{no_flags}
 
 -- the process that the event names
 abbrev pub pid_of : Event → Pid
@@ -52,7 +54,8 @@ flags_in word = no_flags
 
 -- whether some note is in the set
 abbrev pub has_notes : NoteSet → Bool
-has_notes notes = holds notes Interrupt || holds notes Hangup || holds notes Alarm || holds notes ClosedPipe
+has_notes notes =
+    holds notes Interrupt || holds notes Hangup || holds notes Alarm || holds notes ClosedPipe
 
 -- the level that nothing is above
 abbrev pub top_level : ℕ
@@ -98,7 +101,9 @@ reply (Clear pid) phase.Out word = ending_of (flags_in word).notes
 reply (Clear pid) phase.Woken word = ending_of (flags_in word).notes
 reply (Raise pid rendez level) phase.Idle word = answer.Owing
 reply (Take pid) (phase.Owing rendez level) word =
-    if number_in word == 0 then answer.Nobody else answer.Holding (record { 0 = number_in word - 1 })
+    if number_in word == 0
+    then answer.Nobody
+    else answer.Holding (record { 0 = number_in word - 1 })
 reply (Mark pid) (phase.Holding sleeper rendez level) word = answer.Marked sleeper
 reply (Note pid notes) stage word = answer.Noted
 reply (Drain pid) phase.Idle word = answer.Notes (flags_in word).notes
@@ -118,7 +123,8 @@ stored (Take pid) (phase.Owing rendez level) word = Some (Number 0)
 stored (Mark pid) (phase.Holding sleeper rendez level) word =
     Some (Flags (record { wake = true; notes = (flags_in word).notes }))
 stored (Note pid notes) stage word =
-    Some (Flags (record { wake = (flags_in word).wake; notes = joined (flags_in word).notes notes }))
+    let flags = flags_in word in
+    Some (Flags (record { wake = flags.wake; notes = joined flags.notes notes }))
 stored (Drain pid) phase.Idle word = Some (Flags no_flags)
 stored event stage word = None
 

@@ -1,7 +1,15 @@
 //! What holds of every world, every event and every run. Each law is a function with an empty body,
 //! whose contract says it. Before this: `world`, which is the machine that the laws speak of.
-ghost use Rattle.sleep_core.specs.Laws.{NoLostWakeup, NoLostWakeupInEvents, EventsMakeRuns, ReturnedWakeupReleases, ReturnsByOwnEvents, SleepsEndForACause};
-ghost use Rattle.sleep_core.specs.Local.{AnswersByOneWord, KeepsOtherWords, KeepsOtherPhases, KeepsOtherReturned, PhaseByOwnEvents, PhaseByKeptEvents};
+ghost use Rattle.sleep_core.specs.Broken.{takes_too_early, leaves_before_its_mark};
+ghost use Rattle.sleep_core.specs.Broken.{drops_a_note, leaves_for_no_cause};
+ghost use Rattle.sleep_core.specs.Laws.{EventsMakeRuns, RunsAreSound};
+ghost use Rattle.sleep_core.specs.Laws.{NoLostWakeup, NoLostWakeupInEvents};
+ghost use Rattle.sleep_core.specs.Laws.{ReturnedWakeupReleases, ReturnsByOwnEvents};
+ghost use Rattle.sleep_core.specs.Laws.{SleepsEndForACause};
+ghost use Rattle.sleep_core.specs.Local.{AnswersByOneWord, KeepsOtherWords, KeepsOtherPhases};
+ghost use Rattle.sleep_core.specs.Local.{KeepsOtherReturned, PhaseByOwnEvents, PhaseByKeptEvents};
+ghost use Rattle.sleep_core.specs.Promises.{IsLost, NoMarkIsStray, AreNotesRight};
+ghost use Rattle.sleep_core.specs.Promises.{EachSleepIsCaused};
 
 /// One event reads one word and one phase, and changes at most these and one returned level.
 pub fn local_step()
@@ -9,35 +17,57 @@ pub fn local_step()
     ensures words { KeepsOtherWords }
     ensures phases { KeepsOtherPhases }
     ensures returned { KeepsOtherReturned }
-{}
+{
+}
 
 /// After every run the phase of a process is what its own events with their answers give.
 pub fn phase_by_own_events()
     ensures all { PhaseByOwnEvents }
     ensures kept { PhaseByKeptEvents }
-{}
+{
+}
 
 /// Every list of events, each with its answer, is a run.
 pub fn events_make_runs()
     ensures { EventsMakeRuns }
-{}
+{
+}
 
-/// No wakeup is lost: whoever fell asleep before a wakeup above its level has been taken out of the
-/// Rendez once that wakeup has returned, or has left. No mark reaches a process that has left its sleep,
-/// and each sleep ends with exactly the notes that were pending.
+/// A world keeps its size, and every process and Rendez that it names is in it.
+pub fn runs_are_sound()
+    ensures { RunsAreSound }
+{
+}
+
+/// No wakeup is lost: whoever fell asleep has been taken out of the Rendez, or has left, once a wakeup
+/// with a level above its own has returned. No mark reaches a process that has left its sleep, and each
+/// sleep ends with exactly the notes that were pending.
 pub fn no_lost_wakeup()
     ensures runs { NoLostWakeup }
     ensures events { NoLostWakeupInEvents }
-{}
+{
+}
 
-/// The receipt of a wakeup proves each sleeper below its level released. It stands in the raiser's own
-/// events.
+/// The receipt of a wakeup proves that whoever is asleep below its level is no longer posted. The
+/// receipt stands in the raiser's own events.
 pub fn returned_wakeup_releases()
     ensures releases { ReturnedWakeupReleases }
     ensures own { ReturnsByOwnEvents }
-{}
+{
+}
 
-/// A sleep that ends without notes ended because its test found the condition true or a look found the mark.
+/// A sleep that ends without notes ended because its test found the condition true, or a look found
+/// the mark.
 pub fn sleep_ends_for_a_cause()
     ensures { SleepsEndForACause }
-{}
+{
+}
+
+/// What is promised of every history is more than nothing: a worse machine would break each promise.
+pub fn promises_can_be_broken()
+    ensures lost { IsLost takes_too_early }
+    ensures stray { ¬ (NoMarkIsStray leaves_before_its_mark) }
+    ensures notes { ¬ (AreNotesRight drops_a_note) }
+    ensures cause { ¬ (EachSleepIsCaused leaves_for_no_cause) }
+{
+}

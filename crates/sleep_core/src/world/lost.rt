@@ -7,8 +7,8 @@ use crate::Phase;
 use crate::world::World;
 
 impl World {
-    /// Whether some process is asleep in a Rendez and still posted in it, though a wakeup with a level
-    /// above its own has returned.
+    /// Whether some process is asleep in a Rendez and still posted in it, though a wakeup with a
+    /// level above its own has returned.
     pub fn is_lost(&self) -> bool
         ensures { IsTrue result ↔ HasLostWakeup self.now }
     {

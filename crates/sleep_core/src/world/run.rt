@@ -11,8 +11,8 @@ use sync_base::Fault;
 impl World {
     ghost use Rattle.sync_base.specs.declared.fault.Fault.TheVariants.{Memory};
 
-    /// The answers to the events, one for each, in their order. The room for all of them is taken before
-    /// the first event.
+    /// The answers to the events, one for each, in their order. The room for all of them is taken
+    /// before the first event.
     pub fn run(&mut self, alloc: Global, events: &[Event]) -> Result<Vec<Answer>, Fault>
         ensures answers { IfOk result (λ told. told.items ≡ answers_to_all self.old events.now) }
         ensures after { OnOk result (self.new ≡ world_after_all self.old events.now) }
