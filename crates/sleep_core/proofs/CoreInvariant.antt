@@ -1,12 +1,12 @@
--- What every run keeps true of the world and of the history that it shows. Each process that sleeps is
--- owed one thing, its token: it is in the Rendez, with the raiser that took it, or in its flags.
-use Rattle.std.proofs.Common.{◌≡◌, ◌<◌, ◌≤◌, ◌+◌, ◌==◌, ◌⊎◌, ℕ, Bool, true, if◌then◌else◌, Option, Some, List, [], ◌∷◌}
+-- What every run keeps true of the world and of the history that it shows. Each process that sleeps
+-- is owed one thing, its token: it is in the Rendez, with the raiser that took it, or in its flags.
+use Rattle.std.proofs.Common.{◌≡◌, ◌≤◌, ◌+◌, ◌==◌, ◌⊎◌, ℕ, true, if◌then◌else◌, Some, List, [], ◌∷◌}
 use Rattle.sleep_core.specs.declared.phase.Phase.{Phase}
 use Rattle.sleep_core.specs.declared.phase.Phase.TheVariants as phase
 use Rattle.sleep_core.specs.State.{State, IsSound, phase_of, flags_of, posted_of, level_of, returned_of}
-use Rattle.sleep_core.specs.Table.{Call, has_notes}
+use Rattle.sleep_core.specs.Table.{has_notes}
 use Rattle.sleep_core.specs.History.{Deed, begun_wakeup, HasReturned}
-use Rattle.sleep_core.specs.History.Deed.{Began, Passed, Fell, Roused, Withdrew, Left, Raised, Missed, Took, Marked, Noted, Drained}
+use Rattle.sleep_core.specs.History.Deed.{Began, Withdrew, Left, Took, Marked}
 use Rattle.sleep_core.specs.Promises.{IsStillIn, HasFallen, IsHeld, NoMarkIsStray, pending, AreNotesRight, IsCaused, EachSleepIsCaused}
 
 -- where what is owed to a process is
@@ -20,7 +20,8 @@ abbrev pub token : List Deed → ℕ → Token
 token [] pid = Nowhere
 token (Began by rendez level ∷ past) pid = if by == pid then InRendez rendez else token past pid
 token (Withdrew by ∷ past) pid = if by == pid then Nowhere else token past pid
-token (Took raiser sleeper ∷ past) pid = if sleeper == pid then WithRaiser raiser else token past pid
+token (Took raiser sleeper ∷ past) pid =
+    if sleeper == pid then WithRaiser raiser else token past pid
 token (Marked raiser sleeper ∷ past) pid = if sleeper == pid then InFlags else token past pid
 token (Left by notes ∷ past) pid = if by == pid then Nowhere else token past pid
 token (deed ∷ past) pid = token past pid
@@ -72,7 +73,8 @@ Fits s history pid (phase.Posted rendez level) =
     Sleeps history pid rendez.0 (IsStillIn history pid rendez.0 level)
 Fits s history pid (phase.Asleep rendez level) =
     Sleeps history pid rendez.0 (HasFallen history pid rendez.0 level)
-Fits s history pid (phase.Leaving rendez) = Leaves s history pid (IsNear rendez.0 (token history pid))
+Fits s history pid (phase.Leaving rendez) =
+    Leaves s history pid (IsNear rendez.0 (token history pid))
 Fits s history pid phase.Awaiting = Unit {0}
 Fits s history pid phase.Woken = (token history pid ≡ InFlags) × IsCaused history pid
 Fits s history pid phase.Out = Leaves s history pid (token history pid ≡ Nowhere)
@@ -97,9 +99,12 @@ pub record Core (s : State) (history : List Deed) : Type 0 where
   pub posted : (rendez pid : ℕ) → posted_of s rendez ≡ pid + 1 → token history pid ≡ InRendez rendez
   pub marked : (pid : ℕ) → (flags_of s pid).wake ≡ true → token history pid ≡ InFlags
   pub low : (rendez : ℕ) → returned_of s rendez ≤ level_of s rendez
-  pub returned : (rendez level : ℕ) → HasReturned history rendez level → level ≤ returned_of s rendez
-  pub still_in : (pid rendez level : ℕ) → IsStillIn history pid rendez level → IsShown s pid rendez level
-  pub fallen : (pid rendez level : ℕ) → HasFallen history pid rendez level → returned_of s rendez ≤ level
+  pub returned : (rendez level : ℕ) → HasReturned history rendez level
+      → level ≤ returned_of s rendez
+  pub still_in : (pid rendez level : ℕ) → IsStillIn history pid rendez level
+      → IsShown s pid rendez level
+  pub fallen : (pid rendez level : ℕ) → HasFallen history pid rendez level
+      → returned_of s rendez ≤ level
   pub notes : (pid : ℕ) → (flags_of s pid).notes ≡ pending history pid
   pub marks_due : NoMarkIsStray history
   pub notes_right : AreNotesRight history

@@ -15,3 +15,4 @@ pub mod TableMoves
 pub mod SizeLemmas
 pub mod NoLostWakeup
 pub mod OwnWakeups
+pub mod OversleepLemmas

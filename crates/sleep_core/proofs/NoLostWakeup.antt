@@ -1,5 +1,5 @@
 -- The induction over the run, and what follows from what every run keeps.
-use Rattle.std.proofs.Common.{◌≡◌, ◌≢◌, ◌⊎◌, ◌<◌, ◌≤◌, ◌+◌, inl, inr, ℕ, zero, suc, true, false, Option, Some, None, List, [], ◌∷◌, length, get_or, refl, sym, ◌∙◌, ap, subst, arith}
+use Rattle.std.proofs.Common.{◌≡◌, ◌≤◌, ◌+◌, inl, ℕ, zero, suc, true, false, Option, List, [], ◌∷◌, length, get_or, refl, sym, ◌∙◌, ap, subst, arith}
 use Rattle.std.specs.Prelude.{replicate}
 use Rattle.std.specs.List.{cons_option}
 use Rattle.std.proofs.lemmas.List.{length-replicate}
@@ -7,22 +7,20 @@ use Rattle.sync_base.specs.declared.ids.RendezId.{RendezId}
 use Rattle.sync_base.specs.declared.note.NoteSet.{NoteSet}
 use Rattle.sleep_core.specs.declared.event.Event.{Event}
 use Rattle.sleep_core.specs.declared.event.Event.TheVariants.{Note}
-use Rattle.sleep_core.specs.declared.answer.Answer.{Answer}
 use Rattle.sleep_core.specs.declared.phase.Phase.{Phase}
 use Rattle.sleep_core.specs.declared.phase.Phase.TheVariants as phase
 use Rattle.sleep_core.specs.declared.phase.ProcFlags.{ProcFlags}
-use Rattle.sleep_core.specs.State.{State, IsSound, IsPhaseIn, opening, phase_of, flags_of, posted_of, level_of, returned_of, no_flags}
+use Rattle.sleep_core.specs.State.{State, IsPhaseIn, opening, phase_of, flags_of, posted_of, no_flags}
 use Rattle.sleep_core.specs.Table.{pid_of}
-use Rattle.sleep_core.specs.Step.{answer_to, world_after}
+use Rattle.sleep_core.specs.Step.{world_after}
 use Rattle.sleep_core.specs.Runs.{Entry, IsMadeBy, IsRun, world_of, entry_of, run_of, world_after_all}
-use Rattle.sleep_core.specs.History.{Deed, deed_of, history_of, HasReturned}
+use Rattle.sleep_core.specs.History.{Deed, deed_of, history_of}
 use Rattle.sleep_core.specs.Promises.{IsLost, HasFallen, NoMarkIsStray, AreNotesRight, EachSleepIsCaused}
 use Rattle.sleep_core.specs.Broken.{takes_too_early, leaves_before_its_mark, drops_a_note, leaves_for_no_cause}
-use Rattle.sleep_core.specs.Oversleep.{IsLeftAsleep, HasLostWakeup}
-use Rattle.sleep_core.specs.Laws.{IsKept, NoLostWakeup, NoLostWakeupInEvents, IsRunOf, EventsMakeRuns, ReleasesBelow, ReturnedWakeupReleases, SleepsEndForACause, RunsAreSound}
+use Rattle.sleep_core.specs.Oversleep.{IsLeftAsleep}
+use Rattle.sleep_core.specs.Laws.{IsKept, NoLostWakeup, NoLostWakeupInEvents, EventsMakeRuns, ReturnedWakeupReleases, SleepsEndForACause, RunsAreSound}
 use Rattle.sleep_core.proofs.SizeLemmas.{size_of_run}
-use Rattle.sleep_core.proofs.CoreInvariant.{token, Fits, Core}
-use Rattle.sleep_core.proofs.CoreInvariant.Token.{Nowhere, InRendez}
+use Rattle.sleep_core.proofs.CoreInvariant.{Fits, Core}
 use Rattle.sleep_core.proofs.Moves.{Move}
 use Rattle.sleep_core.proofs.Moves.Move.{stays, begins, passes, falls, rouses, gives_up, withdraws, awaits, leaves, raises, misses, takes, marks, notes, drains}
 use Rattle.sleep_core.proofs.TableMoves.{table_moves}
@@ -71,11 +69,13 @@ core_at_opening procs rendez =
 
     not_marked : (pid : ℕ) → (flags_of s pid).wake ≡ true → ⊥
     not_marked pid wake =
-        let unmarked : (flags_of s pid).wake ≡ false = ap (λ (f : ProcFlags). f.wake) (get_or-replicate_same procs pid no_flags) in
+        let unmarked : (flags_of s pid).wake
+        ≡ false = ap (λ (f : ProcFlags). f.wake) (get_or-replicate_same procs pid no_flags) in
         cc
 
 -- every move keeps it
-core_kept : (s : State) (h : List Deed) {deed : Option Deed} {after : State} → Move s deed after → Core s h → Core after (cons_option deed h)
+core_kept : (s : State) (h : List Deed) {deed : Option Deed} {after : State} → Move s deed after
+    → Core s h → Core after (cons_option deed h)
 core_kept s h stays core = core
 core_kept s h (begins {pid = pid} {rendez = rendez} {level = level} in_range idle there free) core =
     begins_keeps s h pid rendez level in_range idle there free core
@@ -97,26 +97,35 @@ core_kept s h (raises {pid = pid} {rendez = rendez} {level = level} in_range idl
     raises_keeps s h pid rendez level in_range idle there core
 core_kept s h (misses {pid = pid} {rendez = rendez} {level = level} in_range at free) core =
     misses_keeps s h pid rendez level in_range at free core
-core_kept s h (takes {pid = pid} {sleeper = sleeper} {rendez = rendez} {level = level} in_range at posted) core =
+core_kept s h (takes {pid = pid} {sleeper = sleeper} {rendez = rendez} {level = level} in_range at
+    posted) core =
     takes_keeps s h pid sleeper rendez level in_range at posted core
-core_kept s h (marks {pid = pid} {sleeper = sleeper} {rendez = rendez} {level = level} in_range at) core =
+core_kept s h (marks {pid = pid} {sleeper = sleeper} {rendez = rendez} {level = level} in_range at)
+    core =
     marks_keeps s h pid sleeper rendez level in_range at core
 core_kept s h (notes {pid = pid} {new = new} in_range) core = notes_keep s h pid new in_range core
 core_kept s h (drains {pid = pid} in_range idle) core = drains_keep s h pid in_range idle core
 
-pub core_of_run : (procs rendez : ℕ) (past : List Entry) → IsRun procs rendez past → Core (world_of procs rendez past) (history_of past)
+pub core_of_run : (procs rendez : ℕ) (past : List Entry) → IsRun procs rendez past
+    → Core (world_of procs rendez past) (history_of past)
 core_of_run procs rendez [] run = core_at_opening procs rendez
 core_of_run procs rendez (entry ∷ past) run =
-    subst (λ told. Core (world_after (world_of procs rendez past) entry.event) (cons_option (deed_of told entry.event) (history_of past))) (sym run.1.answered) (core_kept (world_of procs rendez past) (history_of past) (table_moves (world_of procs rendez past) entry.event) (core_of_run procs rendez past run.0))
+    subst (λ told. Core (world_after (world_of procs rendez past) entry.event)
+    (cons_option (deed_of told entry.event) (history_of past))) (sym run.1.answered)
+    (core_kept (world_of procs rendez past) (history_of past)
+    (table_moves (world_of procs rendez past) entry.event) (core_of_run procs rendez past run.0))
 
 -- nobody is left asleep
-fallen_at : (s : State) (h : List Deed) (pid : ℕ) (rendez : RendezId) (level : ℕ) → Core s h → phase_of s pid ≡ phase.Asleep rendez level → posted_of s rendez.0 ≡ pid + 1 → HasFallen h pid rendez.0 level
+fallen_at : (s : State) (h : List Deed) (pid : ℕ) (rendez : RendezId) (level : ℕ) → Core s h
+    → phase_of s pid ≡ phase.Asleep rendez level → posted_of s rendez.0 ≡ pid + 1
+    → HasFallen h pid rendez.0 level
 fallen_at s h pid rendez level core at posted = fit.stays (core.posted rendez.0 pid posted)
   where
     fit : Fits s h pid (phase.Asleep rendez level)
     fit = subst (Fits s h pid) at (core.fits pid)
 
-none_left_asleep_in : (s : State) (h : List Deed) (pid : ℕ) (stage : Phase) → Core s h → phase_of s pid ≡ stage → IsLeftAsleep s pid stage → ⊥
+none_left_asleep_in : (s : State) (h : List Deed) (pid : ℕ) (stage : Phase) → Core s h
+    → phase_of s pid ≡ stage → IsLeftAsleep s pid stage → ⊥
 none_left_asleep_in s h pid (phase.Asleep rendez level) core at left =
     let low = core.fallen pid rendez.0 level (fallen_at s h pid rendez level core at left.0) in
     omega (arith, left.1)
@@ -128,7 +137,8 @@ kept_by_core s h core =
       none_lost = λ lost. not_lost lost;
       none_stray = core.marks_due;
       notes_right = core.notes_right;
-      none_left_asleep = λ lost. none_left_asleep_in s h lost.0 (phase_of s lost.0) core refl lost.2;
+      none_left_asleep = λ lost. none_left_asleep_in s h lost.0 (phase_of s lost.0) core refl
+          lost.2;
     }
   where
     not_lost : IsLost h → ⊥
@@ -147,12 +157,16 @@ made_by_itself : (event : Event) → IsMadeBy (pid_of event).0 event
 made_by_itself (Note pid new) = tt
 made_by_itself event = refl
 
-run_of-run : (procs rendez : ℕ) (past : List Entry) (events : List Event) → IsRun procs rendez past → IsRun procs rendez (run_of (world_of procs rendez past) past events)
+run_of-run : (procs rendez : ℕ) (past : List Entry) (events : List Event) → IsRun procs rendez past
+    → IsRun procs rendez (run_of (world_of procs rendez past) past events)
 run_of-run procs rendez past [] run = run
 run_of-run procs rendez past (event ∷ events) run =
-    run_of-run procs rendez (entry_of (world_of procs rendez past) event ∷ past) events (run, record { made = made_by_itself event; answered = refl })
+    run_of-run procs rendez (entry_of (world_of procs rendez past) event ∷ past) events
+    (run, record { made = made_by_itself event; answered = refl })
 
-world_of-run_of : (procs rendez : ℕ) (past : List Entry) (events : List Event) → world_of procs rendez (run_of (world_of procs rendez past) past events) ≡ world_after_all (world_of procs rendez past) events
+world_of-run_of : (procs rendez : ℕ) (past : List Entry) (events : List Event)
+    → world_of procs rendez (run_of (world_of procs rendez past) past events)
+    ≡ world_after_all (world_of procs rendez past) events
 world_of-run_of procs rendez past [] = refl
 world_of-run_of procs rendez past (event ∷ events) =
     world_of-run_of procs rendez (entry_of (world_of procs rendez past) event ∷ past) events
@@ -167,7 +181,8 @@ events_make_runs procs rendez events =
 pub no_lost_wakeup_in_events : NoLostWakeupInEvents
 no_lost_wakeup_in_events procs rendez events =
     let past = run_of (opening procs rendez) [] events in
-    subst (IsKept (history_of past)) (events_make_runs procs rendez events).world (no_lost_wakeup_lem procs rendez past (events_make_runs procs rendez events).run)
+    subst (IsKept (history_of past)) (events_make_runs procs rendez events).world
+    (no_lost_wakeup_lem procs rendez past (events_make_runs procs rendez events).run)
 
 pub returned_wakeup_releases : ReturnedWakeupReleases
 returned_wakeup_releases procs rendez past run of level returned =
@@ -179,9 +194,12 @@ returned_wakeup_releases procs rendez past run of level returned =
     core : Core (world_of procs rendez past) (history_of past)
     core = core_of_run procs rendez past run
 
-    below : (pid own_level : ℕ) → phase_of (world_of procs rendez past) pid ≡ phase.Asleep of own_level → posted_of (world_of procs rendez past) of.0 ≡ pid + 1 → level ≤ own_level
+    below : (pid own_level : ℕ)
+        → phase_of (world_of procs rendez past) pid ≡ phase.Asleep of own_level
+        → posted_of (world_of procs rendez past) of.0 ≡ pid + 1 → level ≤ own_level
     below pid own_level at posted =
-        let fell = fallen_at (world_of procs rendez past) (history_of past) pid of own_level core at posted in
+        let fell = fallen_at (world_of procs rendez past) (history_of past) pid of own_level core at
+        posted in
         omega (arith, core.returned of.0 level returned, core.fallen pid of.0 own_level fell)
 
 pub sleeps_end_for_a_cause : SleepsEndForACause

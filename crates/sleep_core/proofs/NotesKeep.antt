@@ -1,10 +1,9 @@
 -- Notes keep what every run keeps.
-use Rattle.std.proofs.Common.{◌≡◌, ◌≢◌, ◌⊎◌, ◌<◌, ◌≤◌, ◌||◌, inl, inr, ℕ, Bool, true, false, List, [], ◌∷◌, length, refl, sym, ◌∙◌, ap, subst, arith}
+use Rattle.std.proofs.Common.{◌≡◌, ◌≢◌, ◌⊎◌, ◌<◌, inl, inr, ℕ, true, false, List, ◌∷◌, length, refl, sym, ◌∙◌, ap, subst, arith}
 use Rattle.std.proofs.lemmas.Bool.Decides.{nat_tests}
 use Rattle.std.proofs.lemmas.List.{get_or-set_same, get_or-set_other}
 use Rattle.sync_base.specs.declared.note.NoteSet.{NoteSet}
 use Rattle.sync_base.specs.NoteSet.{no_notes, joined}
-use Rattle.sleep_core.specs.declared.phase.Phase.{Phase}
 use Rattle.sleep_core.specs.declared.phase.Phase.TheVariants as phase
 use Rattle.sleep_core.specs.declared.phase.ProcFlags.{ProcFlags}
 use Rattle.sleep_core.specs.State.{State, phase_of, flags_of, no_flags}
@@ -14,7 +13,7 @@ use Rattle.sleep_core.specs.History.{Deed}
 use Rattle.sleep_core.specs.History.Deed.{Noted, Drained}
 use Rattle.sleep_core.specs.Promises.{pending}
 use Rattle.sleep_core.proofs.Soundness.{IsSound-with_flags}
-use Rattle.sleep_core.proofs.CoreInvariant.{Token, token, Fits, Core}
+use Rattle.sleep_core.proofs.CoreInvariant.{token, Fits, Core}
 use Rattle.sleep_core.proofs.CoreInvariant.Token.{Nowhere, InFlags}
 use Rattle.sleep_core.proofs.Frames.{if_same, if_other, same_or_not, Frame, fits_kept}
 
@@ -22,7 +21,11 @@ use Rattle.sleep_core.proofs.Frames.{if_same, if_other, same_or_not, Frame, fits
 has_notes-joined : (old new : NoteSet) → has_notes old ≡ true → has_notes (joined old new) ≡ true
 has_notes-joined old new some = grind (arith, nat_tests)
 
-pub notes_keep : (s : State) (h : List Deed) (pid : ℕ) (new : NoteSet) → pid < length s.phases → Core s h → Core (with_flags s pid (record { wake = (flags_of s pid).wake; notes = joined (flags_of s pid).notes new })) (Noted pid new ∷ h)
+pub notes_keep : (s : State) (h : List Deed) (pid : ℕ) (new : NoteSet) → pid < length s.phases
+    → Core s h
+    → Core (with_flags s pid
+    (record { wake = (flags_of s pid).wake; notes = joined (flags_of s pid).notes new }))
+    (Noted pid new ∷ h)
 notes_keep s h pid new in_range core =
     record {
       sound = IsSound-with_flags s pid noted core.sound;
@@ -62,18 +65,28 @@ notes_keep s h pid new in_range core =
 
     same_wake : (p : ℕ) → (p ≡ pid) ⊎ (p ≢ pid) → (flags_of after p).wake ≡ (flags_of s p).wake
     same_wake p (inl same) =
-        ap (λ q. (flags_of after q).wake) same ∙ (ap (λ (f : ProcFlags). f.wake) flags_same ∙ ap (λ q. (flags_of s q).wake) (sym same))
+        ap (λ q. (flags_of after q).wake) same
+        ∙ (ap (λ (f : ProcFlags). f.wake) flags_same ∙ ap (λ q. (flags_of s q).wake) (sym same))
     same_wake p (inr away) = ap (λ (f : ProcFlags). f.wake) (flags_other p away)
 
     by_notes : (p : ℕ) → (p ≡ pid) ⊎ (p ≢ pid) → (flags_of after p).notes ≡ pending later p
     by_notes p (inl same) =
-        ap (λ q. (flags_of after q).notes) same ∙ (ap (λ (f : ProcFlags). f.notes) flags_same ∙ (ap (λ q. joined (flags_of s q).notes new) (sym same) ∙ (ap (λ n. joined n new) (core.notes p) ∙ sym (if_same pid p (joined (pending h p) new) (pending h p) same))))
+        ap (λ q. (flags_of after q).notes) same
+        ∙ (ap (λ (f : ProcFlags). f.notes) flags_same
+        ∙ (ap (λ q. joined (flags_of s q).notes new) (sym same)
+        ∙ (ap (λ n. joined n new) (core.notes p)
+        ∙ sym (if_same pid p (joined (pending h p) new) (pending h p) same))))
     by_notes p (inr away) =
-        ap (λ (f : ProcFlags). f.notes) (flags_other p away) ∙ (core.notes p ∙ sym (if_other pid p (joined (pending h p) new) (pending h p) away))
+        ap (λ (f : ProcFlags). f.notes) (flags_other p away)
+        ∙ (core.notes p ∙ sym (if_other pid p (joined (pending h p) new) (pending h p) away))
 
-    kept : (p : ℕ) → (p ≡ pid) ⊎ (p ≢ pid) → has_notes (flags_of s p).notes ≡ true → has_notes (flags_of after p).notes ≡ true
+    kept : (p : ℕ) → (p ≡ pid) ⊎ (p ≢ pid) → has_notes (flags_of s p).notes ≡ true
+        → has_notes (flags_of after p).notes ≡ true
     kept p (inl same) some =
-        ap (λ q. has_notes (flags_of after q).notes) same ∙ (ap (λ (f : ProcFlags). has_notes f.notes) flags_same ∙ has_notes-joined (flags_of s pid).notes new (ap (λ q. has_notes (flags_of s q).notes) (sym same) ∙ some))
+        ap (λ q. has_notes (flags_of after q).notes) same
+        ∙ (ap (λ (f : ProcFlags). has_notes f.notes) flags_same
+        ∙ has_notes-joined (flags_of s pid).notes new
+        (ap (λ q. has_notes (flags_of s q).notes) (sym same) ∙ some))
     kept p (inr away) some = ap (λ (f : ProcFlags). has_notes f.notes) (flags_other p away) ∙ some
 
     frame : (p : ℕ) → Frame s after h later p
@@ -89,7 +102,9 @@ notes_keep s h pid new in_range core =
       newly = λ r x v fell. inl fell;
     }
 
-pub drains_keep : (s : State) (h : List Deed) (pid : ℕ) → pid < length s.phases → phase_of s pid ≡ phase.Idle → Core s h → Core (with_flags s pid no_flags) (Drained pid (flags_of s pid).notes ∷ h)
+pub drains_keep : (s : State) (h : List Deed) (pid : ℕ) → pid < length s.phases
+    → phase_of s pid ≡ phase.Idle → Core s h
+    → Core (with_flags s pid no_flags) (Drained pid (flags_of s pid).notes ∷ h)
 drains_keep s h pid in_range idle core =
     record {
       sound = IsSound-with_flags s pid no_flags core.sound;
@@ -144,15 +159,21 @@ drains_keep s h pid in_range idle core =
           newly = λ r x v fell. inl fell;
         }
 
-    by_mark : (p : ℕ) → (flags_of after p).wake ≡ true → (p ≡ pid) ⊎ (p ≢ pid) → token later p ≡ InFlags
+    by_mark : (p : ℕ) → (flags_of after p).wake ≡ true → (p ≡ pid) ⊎ (p ≢ pid)
+        → token later p ≡ InFlags
     by_mark p wake (inl same) =
-        let unmarked : (flags_of after p).wake ≡ false = ap (λ q. (flags_of after q).wake) same ∙ ap (λ (f : ProcFlags). f.wake) flags_same in
+        let unmarked : (flags_of after p).wake ≡ false = ap (λ q. (flags_of after q).wake) same
+        ∙ ap (λ (f : ProcFlags). f.wake) flags_same in
         cc
     by_mark p wake (inr away) =
         core.marked p (sym (ap (λ (f : ProcFlags). f.wake) (flags_other p away)) ∙ wake)
 
     by_notes : (p : ℕ) → (p ≡ pid) ⊎ (p ≢ pid) → (flags_of after p).notes ≡ pending later p
     by_notes p (inl same) =
-        ap (λ q. (flags_of after q).notes) same ∙ (ap (λ (f : ProcFlags). f.notes) flags_same ∙ sym (if_same pid p no_notes (pending h p) same))
+        ap (λ q. (flags_of after q).notes) same
+        ∙
+        (ap (λ (f : ProcFlags). f.notes) flags_same
+        ∙ sym (if_same pid p no_notes (pending h p) same))
     by_notes p (inr away) =
-        ap (λ (f : ProcFlags). f.notes) (flags_other p away) ∙ (core.notes p ∙ sym (if_other pid p no_notes (pending h p) away))
+        ap (λ (f : ProcFlags). f.notes) (flags_other p away)
+        ∙ (core.notes p ∙ sym (if_other pid p no_notes (pending h p) away))

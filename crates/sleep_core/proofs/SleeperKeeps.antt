@@ -1,32 +1,42 @@
 -- The steps of a sleep keep what every run keeps.
-use Rattle.std.proofs.Common.{◌≡◌, ◌≢◌, ◌⊎◌, ◌<◌, ◌≤◌, ◌+◌, inl, inr, ℕ, Bool, true, false, if◌then◌else◌, Option, Some, None, List, [], ◌∷◌, length, get_or, set, refl, sym, ◌∙◌, ap, subst, arith}
+use Rattle.std.proofs.Common.{◌≡◌, ◌≢◌, ◌⊎◌, ◌<◌, ◌≤◌, ◌+◌, inl, inr, ℕ, true, List, ◌∷◌, length, refl, sym, ◌∙◌, ap, subst, arith}
 use Rattle.std.proofs.lemmas.List.{length-set, get_or-set_same, get_or-set_other}
 use Rattle.sync_base.specs.declared.ids.RendezId.{RendezId}
 use Rattle.sleep_core.specs.declared.phase.Phase.{Phase}
 use Rattle.sleep_core.specs.declared.phase.Phase.TheVariants as phase
-use Rattle.sleep_core.specs.State.{State, IsSound, IsPhaseIn, phase_of, flags_of, posted_of, level_of, returned_of, no_flags}
+use Rattle.sleep_core.specs.State.{State, IsSound, IsPhaseIn, phase_of, flags_of, posted_of, level_of, returned_of}
 use Rattle.sleep_core.specs.Table.{has_notes}
-use Rattle.sleep_core.specs.Step.{with_phase, with_flags, with_posted}
-use Rattle.sleep_core.specs.History.{Deed, HasReturned}
-use Rattle.sleep_core.specs.History.Deed.{Began, Passed, Fell, Roused, Withdrew, Left}
-use Rattle.sleep_core.specs.Promises.{IsStillIn, HasFallen, IsHeld, IsCaused, pending}
+use Rattle.sleep_core.specs.Step.{with_phase, with_posted}
+use Rattle.sleep_core.specs.History.{Deed}
+use Rattle.sleep_core.specs.History.Deed.{Began, Passed, Fell, Roused}
+use Rattle.sleep_core.specs.Promises.{IsStillIn, HasFallen}
 use Rattle.sleep_core.proofs.ListLemmas.{get_or-set_cases}
-use Rattle.sleep_core.proofs.Soundness.{IsSound-with_phase, IsSound-with_flags, IsSound-with_posted}
-use Rattle.sleep_core.proofs.CoreInvariant.{Token, token, IsAway, IsNear, Sleeps, MayLeave, Leaves, Raises, Holds, Fits, IsAtLevel, IsShown, Core}
+use Rattle.sleep_core.proofs.Soundness.{IsSound-with_phase, IsSound-with_posted}
+use Rattle.sleep_core.proofs.CoreInvariant.{token, IsNear, Fits, IsAtLevel, IsShown, Core}
 use Rattle.sleep_core.proofs.CoreInvariant.Token.{Nowhere, InRendez, WithRaiser, InFlags}
-use Rattle.sleep_core.proofs.Frames.{if_same, if_other, same_or_not, apart, level_kept, fits_at, fits_each, Frame, fits_kept, fits_moved}
+use Rattle.sleep_core.proofs.Frames.{if_same, if_other, apart, level_kept, fits_at, fits_each, Frame, fits_kept}
 
 -- what a phase names is there
-has_rendez_at : (s : State) (pid : ℕ) (stage : Phase) → IsSound s → phase_of s pid ≡ stage → IsPhaseIn (length s.phases) (length s.posted) stage
-has_rendez_at s pid stage sound at = subst (IsPhaseIn (length s.phases) (length s.posted)) at (sound.phases pid)
+has_rendez_at : (s : State) (pid : ℕ) (stage : Phase) → IsSound s → phase_of s pid ≡ stage
+    → IsPhaseIn (length s.phases) (length s.posted) stage
+has_rendez_at s pid stage sound at =
+    subst (IsPhaseIn (length s.phases) (length s.posted)) at (sound.phases pid)
 
-pub begins_keeps : (s : State) (h : List Deed) (pid : ℕ) (rendez : RendezId) (level : ℕ) → pid < length s.phases → phase_of s pid ≡ phase.Idle → rendez.0 < length s.posted → posted_of s rendez.0 ≡ 0 → Core s h → Core (with_phase (with_posted s rendez.0 (pid + 1)) pid (phase.Posted rendez level)) (Began pid rendez.0 level ∷ h)
+pub begins_keeps : (s : State) (h : List Deed) (pid : ℕ) (rendez : RendezId) (level : ℕ)
+    → pid < length s.phases → phase_of s pid ≡ phase.Idle → rendez.0 < length s.posted
+    → posted_of s rendez.0 ≡ 0 → Core s h
+    → Core (with_phase (with_posted s rendez.0 (pid + 1)) pid (phase.Posted rendez level))
+    (Began pid rendez.0 level ∷ h)
 begins_keeps s h pid rendez level in_range idle has_rendez free core =
     record {
-      sound = IsSound-with_phase posting pid (phase.Posted rendez level) (IsSound-with_posted s rendez.0 (pid + 1) core.sound (omega arith)) (rw (length-set s.posted rendez.0 (pid + 1)) has_rendez);
+      sound = IsSound-with_phase posting pid (phase.Posted rendez level)
+          (IsSound-with_posted s rendez.0 (pid + 1) core.sound (omega arith))
+          (rw (length-set s.posted rendez.0 (pid + 1)) has_rendez);
       fits = fits_each posting after later pid (phase.Posted rendez level) in_range own others;
       posted = λ r p at. by_place r p at (get_or-set_cases s.posted rendez.0 (pid + 1) r 0);
-      marked = λ p wake. if_other pid p (InRendez rendez.0) (token h p) (apart h p pid InFlags Nowhere (core.marked p wake) nowhere (λ e. cc)) ∙ core.marked p wake;
+      marked = λ p wake. if_other pid p (InRendez rendez.0) (token h p)
+          (apart h p pid InFlags Nowhere (core.marked p wake) nowhere (λ e. cc))
+          ∙ core.marked p wake;
       low = core.low;
       returned = core.returned;
       still_in = by_sleep;
@@ -51,7 +61,8 @@ begins_keeps s h pid rendez level in_range idle has_rendez free core =
 
     own : Fits after later pid (phase.Posted rendez level)
     own = record {
-      near = subst (IsNear rendez.0) (sym (if_same pid pid (InRendez rendez.0) (token h pid) refl)) refl;
+      near = subst (IsNear rendez.0) (sym (if_same pid pid (InRendez rendez.0) (token h pid) refl))
+          refl;
       stays = λ e. inl (refl, refl, refl);
     }
 
@@ -67,41 +78,60 @@ begins_keeps s h pid rendez level in_range idle has_rendez free core =
           noted = λ e. e;
           begun = refl;
           level = λ r. omega arith;
-          held = λ sleeper with_raiser held. (if_other pid sleeper (InRendez rendez.0) (token h sleeper) (apart h sleeper pid (WithRaiser p) Nowhere with_raiser nowhere (λ e. cc)) ∙ with_raiser, held);
+          held = λ sleeper with_raiser held. (
+            if_other pid sleeper (InRendez rendez.0) (token h sleeper)
+                (apart h sleeper pid (WithRaiser p) Nowhere with_raiser nowhere (λ e. cc))
+                ∙ with_raiser,
+            held,
+          );
           newly = λ r x v fell. inl fell;
         }
 
     -- whoever is posted now was posted before, or is this process
-    by_place : (r p : ℕ) → posted_of after r ≡ p + 1 → ((r ≡ rendez.0) × (posted_of after r ≡ pid + 1)) ⊎ (posted_of after r ≡ posted_of s r) → token later p ≡ InRendez r
+    by_place : (r p : ℕ) → posted_of after r ≡ p + 1
+        → ((r ≡ rendez.0) × (posted_of after r ≡ pid + 1)) ⊎ (posted_of after r ≡ posted_of s r)
+        → token later p ≡ InRendez r
     by_place r p at (inl here) =
-        if_same pid p (InRendez rendez.0) (token h p) (omega (arith, here.1)) ∙ ap InRendez (sym here.0)
+        if_same pid p (InRendez rendez.0) (token h p) (omega (arith, here.1))
+        ∙ ap InRendez (sym here.0)
     by_place r p at (inr there) =
         let old = core.posted r p (sym there ∙ at) in
-        if_other pid p (InRendez rendez.0) (token h p) (apart h p pid (InRendez r) Nowhere old nowhere (λ e. cc)) ∙ old
+        if_other pid p (InRendez rendez.0) (token h p)
+        (apart h p pid (InRendez r) Nowhere old nowhere (λ e. cc)) ∙ old
 
     shown : IsShown after pid rendez.0 level
     shown = record {
       posted = get_or-set_same s.posted rendez.0 (pid + 1) 0 has_rendez;
-      at_level = level_kept s pid (phase.Posted rendez level) pid level (λ same. refl) (subst (IsAtLevel level) (sym idle) tt);
+      at_level = level_kept s pid (phase.Posted rendez level) pid level (λ same. refl)
+          (subst (IsAtLevel level) (sym idle) tt);
     }
 
     -- the sleep is the one that began, or one that went on
-    by_sleep : (p r v : ℕ) → ((pid ≡ p) × (rendez.0 ≡ r) × (level ≡ v)) ⊎ IsStillIn h p r v → IsShown after p r v
+    by_sleep : (p r v : ℕ) → ((pid ≡ p) × (rendez.0 ≡ r) × (level ≡ v)) ⊎ IsStillIn h p r v
+        → IsShown after p r v
     by_sleep p r v (inl new) =
-        subst (λ q. IsShown after q r v) new.0 (subst (λ q. IsShown after pid q v) new.1 (subst (IsShown after pid rendez.0) new.2 shown))
+        subst (λ q. IsShown after q r v) new.0
+        (subst (λ q. IsShown after pid q v) new.1
+        (subst (IsShown after pid rendez.0) new.2 shown))
     by_sleep p r v (inr old) =
         let was = core.still_in p r v old in
-        let differ : p ≢ pid = apart h p pid (InRendez r) Nowhere (core.posted r p was.posted) nowhere (λ e. cc) in
-        let elsewhere : r ≢ rendez.0 = λ same. absurd (omega (arith, ap (posted_of s) same, was.posted)) in
+        let differ : p ≢ pid = apart h p pid (InRendez r) Nowhere (core.posted r p was.posted)
+        nowhere (λ e. cc) in
+        let elsewhere : r ≢ rendez.0 = λ same. absurd
+        (omega (arith, ap (posted_of s) same, was.posted)) in
         record {
           posted = get_or-set_other s.posted rendez.0 r (pid + 1) 0 elsewhere ∙ was.posted;
-          at_level = level_kept s pid (phase.Posted rendez level) p v (λ same. absurd (differ same)) was.at_level;
+          at_level = level_kept s pid (phase.Posted rendez level) p v (λ same. absurd (differ same))
+              was.at_level;
         }
 
-pub passes_keeps : (s : State) (h : List Deed) (pid : ℕ) (rendez : RendezId) (level : ℕ) → pid < length s.phases → phase_of s pid ≡ phase.Posted rendez level → Core s h → Core (with_phase s pid (phase.Leaving rendez)) (Passed pid ∷ h)
+pub passes_keeps : (s : State) (h : List Deed) (pid : ℕ) (rendez : RendezId) (level : ℕ)
+    → pid < length s.phases → phase_of s pid ≡ phase.Posted rendez level → Core s h
+    → Core (with_phase s pid (phase.Leaving rendez)) (Passed pid ∷ h)
 passes_keeps s h pid rendez level in_range at core =
     record {
-      sound = IsSound-with_phase s pid (phase.Leaving rendez) core.sound (has_rendez_at s pid (phase.Posted rendez level) core.sound at);
+      sound = IsSound-with_phase s pid (phase.Leaving rendez) core.sound
+          (has_rendez_at s pid (phase.Posted rendez level) core.sound at);
       fits = fits_each s after later pid (phase.Leaving rendez) in_range own others;
       posted = core.posted;
       marked = core.marked;
@@ -109,7 +139,8 @@ passes_keeps s h pid rendez level in_range at core =
       returned = core.returned;
       still_in = λ p r v still. record {
         posted = (core.still_in p r v still).posted;
-        at_level = level_kept s pid (phase.Leaving rendez) p v (λ same. tt) (core.still_in p r v still).at_level;
+        at_level = level_kept s pid (phase.Leaving rendez) p v (λ same. tt)
+            (core.still_in p r v still).at_level;
       };
       fallen = core.fallen;
       notes = core.notes;
@@ -146,10 +177,14 @@ passes_keeps s h pid rendez level in_range at core =
           newly = λ r x v fell. inl fell;
         }
 
-pub falls_keeps : (s : State) (h : List Deed) (pid : ℕ) (rendez : RendezId) (level : ℕ) → pid < length s.phases → phase_of s pid ≡ phase.Posted rendez level → level_of s rendez.0 ≤ level → Core s h → Core (with_phase s pid (phase.Asleep rendez level)) (Fell pid ∷ h)
+pub falls_keeps : (s : State) (h : List Deed) (pid : ℕ) (rendez : RendezId) (level : ℕ)
+    → pid < length s.phases → phase_of s pid ≡ phase.Posted rendez level
+    → level_of s rendez.0 ≤ level → Core s h
+    → Core (with_phase s pid (phase.Asleep rendez level)) (Fell pid ∷ h)
 falls_keeps s h pid rendez level in_range at low core =
     record {
-      sound = IsSound-with_phase s pid (phase.Asleep rendez level) core.sound (has_rendez_at s pid (phase.Posted rendez level) core.sound at);
+      sound = IsSound-with_phase s pid (phase.Asleep rendez level) core.sound
+          (has_rendez_at s pid (phase.Posted rendez level) core.sound at);
       fits = fits_each s after later pid (phase.Asleep rendez level) in_range own others;
       posted = core.posted;
       marked = core.marked;
@@ -157,7 +192,9 @@ falls_keeps s h pid rendez level in_range at low core =
       returned = core.returned;
       still_in = λ p r v still. record {
         posted = (core.still_in p r v still).posted;
-        at_level = level_kept s pid (phase.Asleep rendez level) p v (λ same. own_level p v same (core.still_in p r v still).at_level) (core.still_in p r v still).at_level;
+        at_level = level_kept s pid (phase.Asleep rendez level) p v
+            (λ same. own_level p v same (core.still_in p r v still).at_level)
+            (core.still_in p r v still).at_level;
       };
       fallen = by_fall;
       notes = core.notes;
@@ -190,11 +227,13 @@ falls_keeps s h pid rendez level in_range at low core =
     own : Fits after later pid (phase.Asleep rendez level)
     own = record { near = fit.near; stays = λ e. inl (refl, fit.stays e) }
 
-    newly_fallen : (r x v : ℕ) → ((pid ≡ x) × IsStillIn h x r v) ⊎ HasFallen h x r v → HasFallen h x r v ⊎ (level_of s r ≤ v)
+    newly_fallen : (r x v : ℕ) → ((pid ≡ x) × IsStillIn h x r v) ⊎ HasFallen h x r v
+        → HasFallen h x r v ⊎ (level_of s r ≤ v)
     newly_fallen r x v (inl new) = inr (just_fell x r v new)
     newly_fallen r x v (inr old) = inl old
 
-    by_fall : (x r v : ℕ) → ((pid ≡ x) × IsStillIn h x r v) ⊎ HasFallen h x r v → returned_of s r ≤ v
+    by_fall : (x r v : ℕ) → ((pid ≡ x) × IsStillIn h x r v) ⊎ HasFallen h x r v
+        → returned_of s r ≤ v
     by_fall x r v (inl new) = omega (arith, core.low r, just_fell x r v new)
     by_fall x r v (inr old) = core.fallen x r v old
 
@@ -214,18 +253,21 @@ falls_keeps s h pid rendez level in_range at low core =
           newly = newly_fallen;
         }
 
-pub rouses_keeps : (s : State) (h : List Deed) (pid : ℕ) → pid < length s.phases → (flags_of s pid).wake ≡ true → Core s h → Core (with_phase s pid phase.Woken) (Roused pid ∷ h)
+pub rouses_keeps : (s : State) (h : List Deed) (pid : ℕ) → pid < length s.phases
+    → (flags_of s pid).wake ≡ true → Core s h → Core (with_phase s pid phase.Woken) (Roused pid ∷ h)
 rouses_keeps s h pid in_range wake core =
     record {
       sound = IsSound-with_phase s pid phase.Woken core.sound tt;
-      fits = fits_each s after later pid phase.Woken in_range (core.marked pid wake, inl refl) others;
+      fits = fits_each s after later pid phase.Woken in_range (core.marked pid wake, inl refl)
+          others;
       posted = core.posted;
       marked = core.marked;
       low = core.low;
       returned = core.returned;
       still_in = λ p r v still. record {
         posted = (core.still_in p r v still).posted;
-        at_level = level_kept s pid phase.Woken p v (λ same. tt) (core.still_in p r v still).at_level;
+        at_level = level_kept s pid phase.Woken p v (λ same. tt)
+            (core.still_in p r v still).at_level;
       };
       fallen = core.fallen;
       notes = core.notes;
@@ -257,18 +299,22 @@ rouses_keeps s h pid in_range wake core =
         }
 
 -- a phase that changes with nothing done
-quietly_keeps : (s : State) (h : List Deed) (pid : ℕ) (stage : Phase) → pid < length s.phases → IsPhaseIn (length s.phases) (length s.posted) stage → Fits s h pid stage → ((level : ℕ) → IsAtLevel level stage) → Core s h → Core (with_phase s pid stage) h
+quietly_keeps : (s : State) (h : List Deed) (pid : ℕ) (stage : Phase) → pid < length s.phases
+    → IsPhaseIn (length s.phases) (length s.posted) stage → Fits s h pid stage
+    → ((level : ℕ) → IsAtLevel level stage) → Core s h → Core (with_phase s pid stage) h
 quietly_keeps s h pid stage in_range there own no_level core =
     record {
       sound = IsSound-with_phase s pid stage core.sound there;
-      fits = fits_each s after h pid stage in_range (same_fit pid stage own) (λ p differ. same_fit p (phase_of s p) (core.fits p));
+      fits = fits_each s after h pid stage in_range (same_fit pid stage own)
+          (λ p differ. same_fit p (phase_of s p) (core.fits p));
       posted = core.posted;
       marked = core.marked;
       low = core.low;
       returned = core.returned;
       still_in = λ p r v still. record {
         posted = (core.still_in p r v still).posted;
-        at_level = level_kept s pid stage p v (λ same. no_level v) (core.still_in p r v still).at_level;
+        at_level = level_kept s pid stage p v (λ same. no_level v)
+            (core.still_in p r v still).at_level;
       };
       fallen = core.fallen;
       notes = core.notes;
@@ -296,12 +342,19 @@ quietly_keeps s h pid stage in_range there own no_level core =
           newly = λ r x v fell. inl fell;
         }
 
-pub gives_up_keeps : (s : State) (h : List Deed) (pid : ℕ) (rendez : RendezId) (level : ℕ) → pid < length s.phases → phase_of s pid ≡ phase.Asleep rendez level → has_notes (flags_of s pid).notes ≡ true → Core s h → Core (with_phase s pid (phase.Leaving rendez)) h
+pub gives_up_keeps : (s : State) (h : List Deed) (pid : ℕ) (rendez : RendezId) (level : ℕ)
+    → pid < length s.phases → phase_of s pid ≡ phase.Asleep rendez level
+    → has_notes (flags_of s pid).notes ≡ true → Core s h
+    → Core (with_phase s pid (phase.Leaving rendez)) h
 gives_up_keeps s h pid rendez level in_range at noted core =
-    quietly_keeps s h pid (phase.Leaving rendez) in_range (has_rendez_at s pid (phase.Asleep rendez level) core.sound at) (record { place = fit.near; may_leave = inr noted }) (λ v. tt) core
+    quietly_keeps s h pid (phase.Leaving rendez) in_range
+    (has_rendez_at s pid (phase.Asleep rendez level) core.sound at)
+    (record { place = fit.near; may_leave = inr noted }) (λ v. tt) core
   where
     fit : Fits s h pid (phase.Asleep rendez level)
     fit = fits_at s h pid (phase.Asleep rendez level) core at
 
-pub awaits_keeps : (s : State) (h : List Deed) (pid : ℕ) → pid < length s.phases → Core s h → Core (with_phase s pid phase.Awaiting) h
-awaits_keeps s h pid in_range core = quietly_keeps s h pid phase.Awaiting in_range tt tt (λ v. tt) core
+pub awaits_keeps : (s : State) (h : List Deed) (pid : ℕ) → pid < length s.phases → Core s h
+    → Core (with_phase s pid phase.Awaiting) h
+awaits_keeps s h pid in_range core =
+    quietly_keeps s h pid phase.Awaiting in_range tt tt (λ v. tt) core

@@ -5,7 +5,8 @@ use Rattle.sleep_core.specs.History.{Deed}
 use Rattle.sleep_core.specs.History.Deed.{Began, Fell, Withdrew, Left, Raised, Missed, Took, Marked}
 use Rattle.sleep_core.specs.History.Deed.{Noted}
 
--- the wakeup looked for a sleeper before it raised the level, and the process fell asleep in between
+-- the wakeup looked for a sleeper before it raised the level, and the process fell asleep in
+-- between
 abbrev pub takes_too_early : List Deed
 takes_too_early = Missed 1 ∷ Raised 1 0 1 ∷ Fell 0 ∷ Began 0 0 0 ∷ []
 

@@ -1,5 +1,6 @@
--- The history that a run shows: what each event did that was not refused. It is read off the events and
--- their answers alone. It has no words and no phases, so that no flaw of the machine can hide in them.
+-- The history that a run shows: what each event did that was not refused. It is read off the events
+-- and their answers alone. It has no words and no phases, so that no flaw of the machine can hide
+-- in them.
 use Rattle.std.specs.Prelude.{◌≡◌, ◌==◌, ◌⊎◌, ℕ, if◌then◌else◌, Option, Some, None, List, [], ◌∷◌}
 use Rattle.std.specs.List.{filter_map}
 use Rattle.sync_base.specs.declared.note.NoteSet.{NoteSet}
@@ -12,8 +13,8 @@ use Rattle.sleep_core.specs.Table.{Call}
 use Rattle.sleep_core.specs.Runs.{Entry}
 
 -- After sleep and wakeup in "Process Sleep and Synchronization on a Shared-Memory Multiprocessor"
--- (1991): a process announces itself, tests its condition and waits; another makes the condition true,
--- takes whom it finds and readies it. Notes are after notify(2).
+-- (1991): a process announces itself, tests its condition and waits; another makes the condition
+-- true, takes whom it finds and readies it. Notes are after notify(2).
 pub data Deed : Type 0 where
   -- the process began a sleep in the Rendez, until its level is above this one
   Began : (pid rendez level : ℕ) → Deed

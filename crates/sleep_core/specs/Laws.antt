@@ -50,16 +50,16 @@ abbrev pub NoLostWakeupInEvents : Type 0
 NoLostWakeupInEvents =
     (procs rendez : ℕ) (events : List Event)
     → let past = run_of (opening procs rendez) [] events in
-      IsKept (history_of past) (world_after_all (opening procs rendez) events)
+    IsKept (history_of past) (world_after_all (opening procs rendez) events)
 
--- The receipt of a wakeup: its level is at most the returned level of its Rendez, and no process that
--- is asleep below it is still posted.
+-- The receipt of a wakeup: its level is at most the returned level of its Rendez, and no process
+-- that is asleep below it is still posted.
 pub record ReleasesBelow (state : State) (rendez : RendezId) (level : ℕ) : Type 0 where
   pub counted : level ≤ returned_of state rendez.0
   pub released : (pid own_level : ℕ)
-    → phase_of state pid ≡ phase.Asleep rendez own_level
-    → posted_of state rendez.0 ≡ pid + 1
-    → level ≤ own_level
+      → phase_of state pid ≡ phase.Asleep rendez own_level
+      → posted_of state rendez.0 ≡ pid + 1
+      → level ≤ own_level
 
 abbrev pub ReturnedWakeupReleases : Type 0
 ReturnedWakeupReleases =

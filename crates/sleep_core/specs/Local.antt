@@ -3,7 +3,7 @@ use Rattle.std.specs.Prelude.{◌≡◌, ◌≢◌, ℕ, List, length, IfSome}
 use Rattle.sleep_core.specs.declared.event.Event.{Event}
 use Rattle.sleep_core.specs.declared.phase.Phase.{Phase}
 use Rattle.sleep_core.specs.State.{State, phase_of, returned_of}
-use Rattle.sleep_core.specs.Table.{Cell, pid_of, cell_of, phase_after, returned_by}
+use Rattle.sleep_core.specs.Table.{Cell, pid_of, cell_of, returned_by}
 use Rattle.sleep_core.specs.Step.{word_at, answer_to, world_after}
 use Rattle.sleep_core.specs.Runs.{Entry, IsRun, world_of, own, kept, phase_by}
 

@@ -31,8 +31,8 @@ HasFallen (Took by sleeper ∷ past) pid rendez level =
 HasFallen (Left by notes ∷ past) pid rendez level = (by ≢ pid) × HasFallen past pid rendez level
 HasFallen (deed ∷ past) pid rendez level = HasFallen past pid rendez level
 
--- A wakeup is lost: a process fell asleep and has neither been taken out nor left, though a wakeup of
--- its Rendez with a level above its own has returned. It is the race of which "Process Sleep and
+-- A wakeup is lost: a process fell asleep and has neither been taken out nor left, though a wakeup
+-- of its Rendez with a level above its own has returned. It is the race of which "Process Sleep and
 -- Synchronization on a Shared-Memory Multiprocessor" (1991) speaks.
 pub record IsLost (history : List Deed) : Type 0 where
   pub pid : ℕ
@@ -52,14 +52,15 @@ IsHeld (Marked by sleeper ∷ past) raiser pid = (sleeper ≢ pid) × IsHeld pas
 IsHeld (Left by notes ∷ past) raiser pid = (by ≢ pid) × IsHeld past raiser pid
 IsHeld (deed ∷ past) raiser pid = IsHeld past raiser pid
 
--- Own: no mark reaches a process that has left the sleep in which it was taken, and none comes twice.
+-- Own: no mark reaches a process that has left the sleep in which it was taken, and none comes
+-- twice.
 abbrev pub NoMarkIsStray : List Deed → Type 0
 NoMarkIsStray [] = ⊤
 NoMarkIsStray (Marked raiser sleeper ∷ past) = IsHeld past raiser sleeper × NoMarkIsStray past
 NoMarkIsStray (deed ∷ past) = NoMarkIsStray past
 
--- After notify(2): notes that came to a process are pending until it is told of them. Own: they are a
--- set, and the end of a sleep takes them all.
+-- After notify(2): notes that came to a process are pending until it is told of them. Own: they are
+-- a set, and the end of a sleep takes them all.
 abbrev pub pending : List Deed → ℕ → NoteSet
 pending [] pid = no_notes
 pending (Noted named notes ∷ past) pid =

@@ -64,8 +64,8 @@ run_of state past (event ∷ events) =
 abbrev pub own : ℕ → List Entry → List Entry
 own pid past = filter (λ entry. entry.maker == pid) past
 
--- Whether the step is worth keeping: a check, a look that found nothing and all refusals but one are
--- not. Own: a second sleeper wants to know that it was refused.
+-- Whether the step is worth keeping: a check, a look that found nothing and all refusals but one
+-- are not. Own: a second sleeper wants to know that it was refused.
 abbrev pub is_kept : Answer → Event → Bool
 is_kept answer.Posted (Check pid) = false
 is_kept answer.Released event = false

@@ -1,15 +1,15 @@
 -- What the core is at one moment: a phase and a word of flags for each process, and for each Rendez
 -- the word of its sleeper, its level, and the greatest level whose wakeup has returned.
-use Rattle.std.specs.Prelude.{◌≡◌, ◌<◌, ◌≤◌, ⊤, ℕ, Bool, false}
+use Rattle.std.specs.Prelude.{◌≡◌, ◌<◌, ◌≤◌, ⊤, ℕ, false}
 use Rattle.std.specs.Prelude.{List, length, replicate, slice_index, slice_index_or}
 use Rattle.sync_base.specs.NoteSet.{no_notes}
 use Rattle.sleep_core.specs.declared.phase.Phase.{Phase}
 use Rattle.sleep_core.specs.declared.phase.Phase.TheVariants as phase
 use Rattle.sleep_core.specs.declared.phase.ProcFlags.{ProcFlags}
 
--- After "Process Sleep and Synchronization on a Shared-Memory Multiprocessor" (1991), where a Rendez
--- holds the process that sleeps on it. Own: the condition is a level that only rises, and each field is
--- a word that one step changes.
+-- After "Process Sleep and Synchronization on a Shared-Memory Multiprocessor" (1991), where a
+-- Rendez holds the process that sleeps on it. Own: the condition is a level that only rises, and
+-- each field is a word that one step changes.
 pub record State : Type 0 where
   pub phases : List Phase
   pub flags : List ProcFlags
@@ -67,5 +67,5 @@ pub record IsSound (state : State) : Type 0 where
   pub levels : length state.levels ≡ length state.posted
   pub returned : length state.returned ≡ length state.posted
   pub phases : (pid : ℕ)
-    → IsPhaseIn (length state.phases) (length state.posted) (phase_of state pid)
+      → IsPhaseIn (length state.phases) (length state.posted) (phase_of state pid)
   pub posted : (rendez : ℕ) → posted_of state rendez ≤ length state.phases

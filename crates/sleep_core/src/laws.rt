@@ -17,57 +17,50 @@ pub fn local_step()
     ensures words { KeepsOtherWords }
     ensures phases { KeepsOtherPhases }
     ensures returned { KeepsOtherReturned }
-{
-}
+{}
 
 /// After every run the phase of a process is what its own events with their answers give.
 pub fn phase_by_own_events()
     ensures all { PhaseByOwnEvents }
     ensures kept { PhaseByKeptEvents }
-{
-}
+{}
 
 /// Every list of events, each with its answer, is a run.
 pub fn events_make_runs()
     ensures { EventsMakeRuns }
-{
-}
+{}
 
 /// A world keeps its size, and every process and Rendez that it names is in it.
 pub fn runs_are_sound()
     ensures { RunsAreSound }
-{
-}
+{}
 
-/// No wakeup is lost: whoever fell asleep has been taken out of the Rendez, or has left, once a wakeup
-/// with a level above its own has returned. No mark reaches a process that has left its sleep, and each
-/// sleep ends with exactly the notes that were pending.
+/// No wakeup is lost: whoever fell asleep has been taken out of the Rendez, or has left, once a
+/// wakeup with a level above its own has returned. No mark reaches a process that has left its
+/// sleep, and each sleep ends with exactly the notes that were pending.
 pub fn no_lost_wakeup()
     ensures runs { NoLostWakeup }
     ensures events { NoLostWakeupInEvents }
-{
-}
+{}
 
 /// The receipt of a wakeup proves that whoever is asleep below its level is no longer posted. The
 /// receipt stands in the raiser's own events.
 pub fn returned_wakeup_releases()
     ensures releases { ReturnedWakeupReleases }
     ensures own { ReturnsByOwnEvents }
-{
-}
+{}
 
 /// A sleep that ends without notes ended because its test found the condition true, or a look found
 /// the mark.
 pub fn sleep_ends_for_a_cause()
     ensures { SleepsEndForACause }
-{
-}
+{}
 
-/// What is promised of every history is more than nothing: a worse machine would break each promise.
+/// What is promised of every history is more than nothing: a worse machine would break each
+/// promise.
 pub fn promises_can_be_broken()
     ensures lost { IsLost takes_too_early }
     ensures stray { ¬ (NoMarkIsStray leaves_before_its_mark) }
     ensures notes { ¬ (AreNotesRight drops_a_note) }
     ensures cause { ¬ (EachSleepIsCaused leaves_for_no_cause) }
-{
-}
+{}

@@ -1,6 +1,6 @@
-//! The core of sleep and wakeup: a world of words and phases that takes one event at a time, and the law
-//! that no wakeup is lost. It has no threads; those who run on threads make each event by one atomic step.
-//! Read `phase`, `event`, `answer`, `world` with its steps, and then `laws`.
+//! The core of sleep and wakeup: a world of words and phases that takes one event at a time, and
+//! the law that no wakeup is lost. It has no threads; those who run on threads make each event by
+//! one atomic step. Read `phase`, `event`, `answer`, `world` with its steps, and then `laws`.
 #![tactic(auto)]
 
 pub mod answer;

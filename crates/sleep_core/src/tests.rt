@@ -1,5 +1,5 @@
-//! What no clause says: that the worked schedules give the answers that were found by hand, and that
-//! each call can succeed.
+//! What no clause says: that the worked schedules give the answers that were found by hand, and
+//! that each call can succeed.
 use crate::{Answer, Event, World};
 use std::process::Abort;
 use std::test::Fail;

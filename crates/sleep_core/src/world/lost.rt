@@ -1,7 +1,8 @@
 //! Whether a wakeup was lost.
 //! The reader comes from `world`. The law `no_lost_wakeup` in `laws` says that none ever is.
-ghost use Rattle.std.specs.Prelude.{◌↔◌, IsTrue};
-ghost use Rattle.sleep_core.specs.Oversleep.{HasLostWakeup};
+ghost use Rattle.std.specs.Prelude.{◌≡◌, ◌<◌, ◌↔◌, IsTrue, length};
+ghost use Rattle.sleep_core.specs.Oversleep.{HasLostWakeup, has_lost_wakeup, is_left};
+ghost use Rattle.sleep_core.specs.State.{phase_of};
 
 use crate::Phase;
 use crate::world::World;
@@ -10,16 +11,27 @@ impl World {
     /// Whether some process is asleep in a Rendez and still posted in it, though a wakeup with a
     /// level above its own has returned.
     pub fn is_lost(&self) -> bool
-        ensures { IsTrue result ↔ HasLostWakeup self.now }
+        ensures fact { IsTrue result ↔ HasLostWakeup self.now }
+        ensures value { result ≡ has_lost_wakeup self.now }
     {
-        for (pid, phase) in self.phases.iter().enumerate() {
-            if let Phase::Asleep { rendez, level } = *phase {
-                let is_posted = self.posted[rendez.0 as usize] == pid as u64 + 1;
-                if is_posted && self.returned[rendez.0 as usize] > level {
-                    return true;
-                }
+        for pid in 0..self.phases.len() {
+            if self.is_left_asleep(pid) {
+                return true;
             }
         }
         false
+    }
+
+    fn is_left_asleep(&self, pid: usize) -> bool
+        requires { pid < length self.now.phases }
+        ensures { result ≡ is_left self.now pid (phase_of self.now pid) }
+    {
+        match self.phases[pid] {
+            Phase::Asleep { rendez, level } => {
+                self.posted[rendez.0 as usize] == pid as u64 + 1
+                    && self.returned[rendez.0 as usize] > level
+            }
+            _ => false,
+        }
     }
 }

@@ -7,4 +7,5 @@ use Rattle.sleep_core.proofs.laws.local_step.Goals as goal
 
 pub returns-clause-words : goal.returns-clause-words
 returns-clause-words c state event cell differ =
-    word_at-world_told state (phase_of state (pid_of event).0) event (answer_to state event) cell differ
+    word_at-world_told state (phase_of state (pid_of event).0) event (answer_to state event) cell
+    differ
