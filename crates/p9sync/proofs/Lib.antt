@@ -3,7 +3,6 @@ mod EventLineLemmas
 mod EventTextLemmas
 mod HexTextLemmas
 mod LineLemmas
-mod LostLemmas
 mod NumberLemmas
 mod PipeLineLemmas
 mod ScriptLawLemmas

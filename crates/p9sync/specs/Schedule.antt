@@ -1,5 +1,5 @@
 -- The language of schedules: its lines are events, each an atomic step of one process.
-use Rattle.std.specs.Prelude.{◌==◌, ◌&&◌, ℕ, nat_lt, Bool, false, ◌||◌, ◌+◌, if◌then◌else◌, List, [], ◌∷◌, ◌++◌, codes, Option, None, Some, option_and_then}
+use Rattle.std.specs.Prelude.{ℕ, if◌then◌else◌, List, [], ◌∷◌, ◌++◌, codes, Option, None, Some, option_and_then}
 use Rattle.std.specs.Option.{option_map}
 use Rattle.sync_base.specs.declared.limits.TheConstants.{MAX_PROCS, MAX_RENDEZ}
 use Rattle.sync_base.specs.declared.note.Note.{Note}
@@ -9,10 +9,9 @@ use Rattle.sync_base.specs.declared.ids.Pid.{Pid}
 use Rattle.sync_base.specs.NoteSet.{holds, joined, no_notes, only}
 use Rattle.sleep_core.specs.declared.event.Event.{Event}
 use Rattle.sleep_core.specs.declared.event.Event.TheVariants as event
-use Rattle.sleep_core.specs.declared.phase.Phase.{Phase}
-use Rattle.sleep_core.specs.declared.phase.Phase.TheVariants.{Asleep}
-use Rattle.sleep_core.specs.State.{State, opening, posted_of, returned_of}
+use Rattle.sleep_core.specs.State.{State, opening}
 use Rattle.sleep_core.specs.Step.{answer_to, world_after}
+use Rattle.sleep_core.specs.Oversleep.{has_lost_wakeup}
 use Rattle.p9sync.specs.declared.event_line.Size.{Size}
 use Rattle.p9sync.specs.declared.event_line.Call.{Call}
 use Rattle.p9sync.specs.declared.event_line.Verb.{Verb}
@@ -117,20 +116,9 @@ abbrev pub event_of : List (List ℕ) → Option Event
 event_of [] = None
 event_of (word ∷ words) = option_and_then (λ v. event_with v words) (verb_of word)
 
--- whether a process is asleep in a Rendez, is still posted in it, and a wakeup above its level has returned
-abbrev pub is_left_asleep : State → ℕ → Phase → Bool
-is_left_asleep state pid (Asleep rendez level) =
-    posted_of state rendez.0 == pid + 1 && nat_lt level (returned_of state rendez.0)
-is_left_asleep state pid other = false
-
--- whether one of these processes is, the first of which has this number
-abbrev pub some_left_asleep : State → ℕ → List Phase → Bool
-some_left_asleep state pid [] = false
-some_left_asleep state pid (phase ∷ phases) = is_left_asleep state pid phase || some_left_asleep state (pid + 1) phases
-
 -- the last line
 abbrev pub lost_text : State → List ℕ
-lost_text state = if some_left_asleep state 0 state.phases then codes "lost yes" else codes "lost no"
+lost_text state = if has_lost_wakeup state then codes "lost yes" else codes "lost no"
 
 -- the language: `world PROCS RENDEZ` opens a world, and at the end it is said whether a wakeup was lost
 abbrev pub schedule_language : Language State
