@@ -11,6 +11,8 @@ pub mod plays;
 pub mod rule;
 pub mod seats;
 pub mod steps;
+#[cfg(test)]
+mod tests;
 pub mod view;
 pub mod waiting;
 
