@@ -18,8 +18,8 @@ use Rattle.kernel_lock.proofs.RuleLemmas.{stage_moves, seat_moves, rule_after}
 
 module _ {Object State Call Reply : Type 0} (state : Object → State) (meaning : Definition State Call Reply) where
   module _ (key : Key Object) (slots id : ℕ) (me : Seated Object Call Reply) (keyed : me.0.key ≡ Some key) where
-    takes : (s : table.State (Slot Object Call Reply) (View Object Call Reply)) (rule : IsOneHistory state meaning key s) → get_elem? s.views id ≡ some me.0 → get_or s.words 0 0 ≡ 0
-        → (after : View Object Call Reply) × (act : table.Act (Slot Object Call Reply)) × table.Valid s.homes me.1 act × IsOneHistory state meaning key (table.stepped s 0 1 id me.1 after act) × TakesLock state meaning me (after, table.carried_after me.1 act)
+    takes : (s : table.State (Slot Object) (View Object Call Reply)) (rule : IsOneHistory state meaning key s) → get_elem? s.views id ≡ some me.0 → get_or s.words 0 0 ≡ 0
+        → (after : View Object Call Reply) × (act : table.Act (Slot Object)) × table.Valid s.homes me.1 act × IsOneHistory state meaning key (table.stepped s 0 1 id me.1 after act) × TakesLock state meaning me (after, table.carried_after me.1 act)
     takes s rule at zero =
         let home = rule.home zero in
         let held = home.0 in

@@ -3,6 +3,7 @@ use Rattle.std.proofs.Common.{◌≡◌, ℕ, ◌<◌, Bool, true, false, ◌||�
 use Rattle.std.proofs.lemmas.Bool.Decides.{nat_tests}
 use Rattle.std.specs.Prelude.{IsTrue, IfSome, unwrap_or}
 use Rattle.std.specs.List.{AllByRecursion}
+use Rattle.atomic_table.specs.Table.{rest}
 use Rattle.kernel_lock.specs.declared.view.Entry.{Entry}
 use Rattle.kernel_lock.specs.declared.view.Share.{Share}
 use Rattle.kernel_lock.specs.declared.view.Stage.TheVariants.{Free}
@@ -83,12 +84,20 @@ module _ {Object Call Reply : Type 0} where
   pub keeps_numbers : (entry : Entry Call Reply) (old new : View Object Call Reply) → AddsCall entry old new → (number : ℕ) → has_number old.shares number ≡ true → has_number new.shares number ≡ true
   keeps_numbers entry old new added number has = ap (λ (shares : List (Share Call Reply)). has_number shares number) added.shares ∙ has_number-share_after entry old.shares number ∙ has
 
+-- what a seat is after a call, once it is free again
+pub record HasCalled {Object State Call Reply : Type 0} (state : Object → State) (meaning : Definition State Call Reply) (key : Key Object) (entry : Entry Call Reply) (before after : Seated Object Call Reply) : Type 0 where
+  pub key_is : after.0.key ≡ Some key
+  pub stage_is : after.0.stage ≡ Free
+  pub no_slot : after.1 ≡ []
+  pub adds : AddsCall entry before.0 after.0
+  pub knows : KnowsHistory meaning (opening_state state key) key.limit after.0
+
 module _ {Object State Call Reply : Type 0} (state : Object → State) (meaning : Definition State Call Reply) where
   pub takes_slot : (before after : Seated Object Call Reply) → before.1 ≡ [] → TakesLock state meaning before after → HasOnly after
-  takes_slot before after none taken = record { held = taken.held; slots_are = taken.slots_are ∙ ap (λ (slots : List (ℕ × Slot Object Call Reply)). (0, Some taken.held) ∷ slots) none }
+  takes_slot before after none taken = record { held = taken.held; slots_are = taken.slots_are ∙ ap (λ (slots : List (ℕ × Slot Object)). (0, Some taken.held) ∷ slots) none }
 
   module _ (key : Key Object) (before middle after : Seated Object Call Reply) (entry : Entry Call Reply) (keyed : before.0.key ≡ Some key) (none : before.1 ≡ []) (taken : TakesLock state meaning before middle)
-      (answered : HasAnswered state meaning entry middle after) (own : has_number before.0.shares entry.by ≡ true) (named : IfSome (meaning.named entry.call) (λ n. n ≡ entry.by)) where
+      (answered : HasAnswered state meaning entry.call entry.reply middle after) (own : has_number before.0.shares entry.by ≡ true) (named : IfSome (meaning.named entry.call) (λ n. n ≡ entry.by)) where
     abbrev opening : State
     opening = opening_state state key
 
@@ -100,42 +109,40 @@ module _ {Object State Call Reply : Type 0} (state : Object → State) (meaning 
 
     -- the object when the call was made
     found_state : state answered.found.object ≡ state_after meaning opening taken.history
-    found_state = ap (λ (held : Held Object Call Reply). state held.object) found_is ∙ finds.object
+    found_state = ap (λ (held : Held Object). state held.object) found_is ∙ finds.object
 
     right : IsRight meaning (state_after meaning opening taken.history) entry
-    right = record { reply = answered.reply ∙ ap (λ (q : State). meaning.answer q entry.call) found_state; named = named }
+    right = record { reply = answered.reply_is ∙ ap (λ (q : State). meaning.answer q entry.call) found_state; named = named }
 
     known : after.0 ≡ middle.0
     known = ap (λ (me : Seated Object Call Reply). me.0) answered.after_is
 
-    pub call_is_due : IsDue state meaning key after
+    pub call_is_due : IsDue state meaning key (entry ∷ []) after
     call_is_due =
         record {
           history = taken.history;
           held = answered.left;
           others = [];
+          one = omega arith;
           key_is = ap (λ (view : View Object Call Reply). view.key) (known ∙ taken.view_is) ∙ keyed;
           stage_is = ap (λ (view : View Object Call Reply). view.stage) (known ∙ taken.view_is);
           slots_are = ap (λ (me : Seated Object Call Reply). me.1) answered.after_is;
-          next_is = answered.next_is ∙ ap (λ (held : Held Object Call Reply). held.next) found_is ∙ sym (ap (λ (view : View Object Call Reply). view.given) (known ∙ taken.view_is));
-          object = answered.object
+          next_is = answered.next_is ∙ ap (λ (held : Held Object). held.next) found_is ∙ sym (ap (λ (view : View Object Call Reply). view.given) (known ∙ taken.view_is));
+          object = answered.object_is
               ∙ ap (λ (q : State). meaning.after q entry.call) found_state
-              ∙ sym (state_after-append meaning opening taken.history (entry ∷ []))
-              ∙ ap (λ (calls : List (Entry Call Reply)). state_after meaning opening (taken.history ++ calls)) (sym answered.call_is);
-          right = subst (IsLegal meaning (state_after meaning opening taken.history)) (sym answered.call_is) (right, tt);
-          own = subst (AllByRecursion (λ e. IsTrue (has_number after.0.shares e.by))) (sym answered.call_is) (ap (λ (view : View Object Call Reply). has_number view.shares entry.by) (known ∙ taken.view_is) ∙ own, tt);
+              ∙ sym (state_after-append meaning opening taken.history (entry ∷ []));
+          right = (right, tt);
+          own = (ap (λ (view : View Object Call Reply). has_number view.shares entry.by) (known ∙ taken.view_is) ∙ own, tt);
         }
 
-    pub applied : (final : Seated Object Call Reply) → HasReleased after final → (final.0 ≡ applied_view taken.history taken.held.next entry before.0) × (final.1 ≡ [])
-    applied final released =
-        let frees = released.frees taken.history answered.left [] (ap (λ (view : View Object Call Reply). view.stage) (known ∙ taken.view_is)) (ap (λ (me : Seated Object Call Reply). me.1) answered.after_is) in (
-          frees.0
-              ∙ ap (λ (calls : List (Entry Call Reply)). released_view taken.history calls after.0) answered.call_is
-              ∙ ap (released_view taken.history (entry ∷ [])) (known ∙ taken.view_is),
-          frees.1,
-        )
+    applied : (final : Seated Object Call Reply) → HasReleased (entry ∷ []) after final → (final.0 ≡ applied_view taken.history taken.held.next entry before.0) × (final.1 ≡ [])
+    applied final released = (
+      released.view_is taken.history (ap (λ (view : View Object Call Reply). view.stage) (known ∙ taken.view_is))
+          ∙ ap (released_view taken.history (entry ∷ [])) (known ∙ taken.view_is),
+      released.slots_are ∙ ap (λ (me : Seated Object Call Reply). rest me.1) answered.after_is,
+    )
 
-    pub adds_call : AddsCall entry before.0 (applied_view taken.history taken.held.next entry before.0)
+    adds_call : AddsCall entry before.0 (applied_view taken.history taken.held.next entry before.0)
     adds_call =
         record {
           between = taken.seen.rest;
@@ -146,7 +153,7 @@ module _ {Object State Call Reply : Type 0} (state : Object → State) (meaning 
           given = taken.given;
         }
 
-    pub knows_call : KnowsHistory meaning opening key.limit (applied_view taken.history taken.held.next entry before.0)
+    knows_call : KnowsHistory meaning opening key.limit (applied_view taken.history taken.held.next entry before.0)
     knows_call =
         let below : entry.by < taken.held.next = number_has (λ n. n < taken.held.next) entry.by before.0.shares taken.below own in
         let limit = finds.limit in
@@ -158,4 +165,15 @@ module _ {Object State Call Reply : Type 0} (state : Object → State) (meaning 
           mine = all_gain taken.history entry before.0.shares taken.mine;
           different = subst AreDifferent (sym (numbers_in-share_after entry before.0.shares)) finds.knows.different;
           numbers = all_map (λ share. share.number < key.limit) (share_after entry) before.0.shares finds.knows.numbers;
+        }
+
+    pub called : (final : Seated Object Call Reply) → HasReleased (entry ∷ []) after final → HasCalled state meaning key entry before final
+    called final released =
+        let is = applied final released in
+        record {
+          key_is = ap (λ (view : View Object Call Reply). view.key) is.0 ∙ keyed;
+          stage_is = ap (λ (view : View Object Call Reply). view.stage) is.0;
+          no_slot = is.1;
+          adds = subst (AddsCall entry before.0) (sym is.0) adds_call;
+          knows = subst (KnowsHistory meaning opening key.limit) (sym is.0) knows_call;
         }

@@ -2,6 +2,7 @@
 use Rattle.std.proofs.Common.{◌≡◌, ℕ, ◌+◌, ◌≤◌, List, [], ◌∷◌, ◌++◌, refl, sym, ap, subst, ◌∙◌, arith, append-nil, eq-eqb, Option, Some, None}
 use Rattle.std.specs.Prelude.{IsTrue, IfSome, IfNone}
 use Rattle.std.specs.List.{AllByRecursion}
+use Rattle.atomic_table.specs.Table.{rest}
 use Rattle.kernel_lock.specs.declared.view.Entry.{Entry}
 use Rattle.kernel_lock.specs.declared.view.Stage.{Stage}
 use Rattle.kernel_lock.specs.declared.view.Stage.TheVariants.{Free}
@@ -16,7 +17,7 @@ use Rattle.kernel_lock.specs.History.{IsLegal, state_after}
 use Rattle.kernel_lock.specs.Places.{IsChild}
 use Rattle.kernel_lock.specs.Seats.{IsSeatOf, limit_of, view_of}
 use Rattle.kernel_lock.specs.Steps.{Slot, Seated, FindsObject, TakesLock, IsHolding, HasGiven, IsDue, HasReleased}
-use Rattle.kernel_lock.specs.View.{KnowsHistory, opening_state, has_number, calls_made, holding_view, released_view, parent_view, child_view, head_view}
+use Rattle.kernel_lock.specs.View.{KnowsHistory, opening_state, has_number, holding_view, released_view, parent_view, child_view, head_view}
 use Rattle.kernel_lock.proofs.ReleaseKeeps.{same_held}
 
 module _ {Object State Call Reply : Type 0} (state : Object → State) (meaning : Definition State Call Reply) where
@@ -26,7 +27,7 @@ module _ {Object State Call Reply : Type 0} (state : Object → State) (meaning 
         history = taken.history;
         held = taken.held;
         stage_is = ap (λ (view : View Object Call Reply). view.stage) taken.view_is;
-        slots_are = taken.slots_are ∙ ap (λ (slots : List (ℕ × Slot Object Call Reply)). (0, Some taken.held) ∷ slots) none;
+        slots_are = taken.slots_are ∙ ap (λ (slots : List (ℕ × Slot Object)). (0, Some taken.held) ∷ slots) none;
         next_is = sym (ap (λ (view : View Object Call Reply). view.given) taken.view_is);
       }
 
@@ -43,50 +44,45 @@ module _ {Object State Call Reply : Type 0} (state : Object → State) (meaning 
     after_is : after.0 ≡ holding_view taken.history given.left.next before.0
     after_is = given.view_is ∙ ap (λ (view : View Object Call Reply). record view { given = given.left.next }) taken.view_is
 
-    no_calls : calls_made given.left.last ≡ []
-    no_calls = ap calls_made given.no_call
-
-    pub split_is_due : IsDue state meaning key after
+    pub split_is_due : IsDue state meaning key [] after
     split_is_due =
         record {
           history = taken.history;
           held = given.left;
           others = [];
+          one = omega arith;
           key_is = ap (λ (view : View Object Call Reply). view.key) after_is ∙ keyed;
           stage_is = ap (λ (view : View Object Call Reply). view.stage) after_is;
           slots_are = given.left_is;
           next_is = sym (ap (λ (view : View Object Call Reply). view.given) after_is);
           object = ap state given.object
-              ∙ ap (λ (held : Held Object Call Reply). state held.object) found_is
+              ∙ ap (λ (held : Held Object). state held.object) found_is
               ∙ finds.object
-              ∙ ap (state_after meaning opening) (sym (append-nil taken.history))
-              ∙ ap (λ (calls : List (Entry Call Reply)). state_after meaning opening (taken.history ++ calls)) (sym no_calls);
-          right = subst (IsLegal meaning (state_after meaning opening taken.history)) (sym no_calls) tt;
-          own = subst (AllByRecursion (λ e. IsTrue (has_number after.0.shares e.by))) (sym no_calls) tt;
+              ∙ ap (state_after meaning opening) (sym (append-nil taken.history));
+          right = tt;
+          own = tt;
         }
 
     -- the seat is as it was, but for the number of seats given
-    pub divided : (final : Seated Object Call Reply) → HasReleased after final → (final.0 ≡ record before.0 { given = given.left.next }) × (final.1 ≡ [])
-    divided final released =
-        let frees = released.frees taken.history given.left [] (ap (λ (view : View Object Call Reply). view.stage) after_is) given.left_is in (
-          frees.0
-              ∙ ap (λ (calls : List (Entry Call Reply)). released_view taken.history calls after.0) no_calls
-              ∙ ap (released_view taken.history []) after_is
-              ∙ ap (λ (stage : Stage Call Reply). record before.0 { given = given.left.next; stage = stage }) (sym free),
-          frees.1,
-        )
+    pub divided : (final : Seated Object Call Reply) → HasReleased [] after final → (final.0 ≡ record before.0 { given = given.left.next }) × (final.1 ≡ [])
+    divided final released = (
+      released.view_is taken.history (ap (λ (view : View Object Call Reply). view.stage) after_is)
+          ∙ ap (released_view taken.history []) after_is
+          ∙ ap (λ (stage : Stage Call Reply). record before.0 { given = given.left.next; stage = stage }) (sym free),
+      released.slots_are ∙ ap rest given.left_is,
+    )
 
     pub knows_still : KnowsHistory meaning opening key.limit (record before.0 { given = given.left.next })
     knows_still = let knows = finds.knows in record { history = knows.history; mine = knows.mine; different = knows.different; numbers = knows.numbers }
 
 module _ {Object Call Reply : Type 0} where
   -- the number that a holder found is the next one
-  found_next : (me : Seated Object Call Reply) (found : Held Object Call Reply) → IsHolding me → me.1 ≡ (0, Some found) ∷ [] → found.next ≡ me.0.given
-  found_next me found holding found_is = ap (λ (held : Held Object Call Reply). held.next) (same_held found holding.held [] [] (sym found_is ∙ holding.slots_are)) ∙ holding.next_is
+  found_next : (me : Seated Object Call Reply) (found : Held Object) → IsHolding me → me.1 ≡ (0, Some found) ∷ [] → found.next ≡ me.0.given
+  found_next me found holding found_is = ap (λ (held : Held Object). held.next) (same_held found holding.held [] [] (sym found_is ∙ holding.slots_are)) ∙ holding.next_is
 
-  pub refuses : (before middle after : Seated Object Call Reply) (found left : Held Object Call Reply) → IsHolding before → before.1 ≡ (0, Some found) ∷ [] → middle.0 ≡ before.0 → after ≡ (middle.0, (0, Some left) ∷ [])
-      → left.object ≡ found.object → left.next ≡ found.next → left.last ≡ None → HasGiven before after
-  refuses before middle after found left holding found_is same after_is object next no_call =
+  pub refuses : (before middle after : Seated Object Call Reply) (found left : Held Object) → IsHolding before → before.1 ≡ (0, Some found) ∷ [] → middle.0 ≡ before.0 → after ≡ (middle.0, (0, Some left) ∷ [])
+      → left.object ≡ found.object → left.next ≡ found.next → HasGiven before after
+  refuses before middle after found left holding found_is same after_is object next =
       record {
         found = found;
         left = left;
@@ -94,12 +90,11 @@ module _ {Object Call Reply : Type 0} where
         left_is = ap (λ (me : Seated Object Call Reply). me.1) after_is;
         view_is = ap (λ (me : Seated Object Call Reply). me.0) after_is ∙ same ∙ ap (λ n. record before.0 { given = n }) (sym (next ∙ found_next before found holding found_is));
         object = object;
-        no_call = no_call;
       }
 
-  pub divides : (before middle after : Seated Object Call Reply) (found left : Held Object Call Reply) → IsHolding before → before.1 ≡ (0, Some found) ∷ [] → middle.0 ≡ parent_view before.0 → after ≡ (middle.0, (0, Some left) ∷ [])
-      → left.object ≡ found.object → left.next ≡ found.next + 1 → left.last ≡ None → HasGiven before after
-  divides before middle after found left holding found_is parent after_is object next no_call =
+  pub divides : (before middle after : Seated Object Call Reply) (found left : Held Object) → IsHolding before → before.1 ≡ (0, Some found) ∷ [] → middle.0 ≡ parent_view before.0 → after ≡ (middle.0, (0, Some left) ∷ [])
+      → left.object ≡ found.object → left.next ≡ found.next + 1 → HasGiven before after
+  divides before middle after found left holding found_is parent after_is object next =
       record {
         found = found;
         left = left;
@@ -107,7 +102,6 @@ module _ {Object Call Reply : Type 0} where
         left_is = ap (λ (me : Seated Object Call Reply). me.1) after_is;
         view_is = ap (λ (me : Seated Object Call Reply). me.0) after_is ∙ parent ∙ ap (λ n. record before.0 { given = n }) (sym (next ∙ ap (λ n. n + 1) (found_next before found holding found_is)));
         object = object;
-        no_call = no_call;
       }
 
   child_view_is : (lock : Locked Object Call Reply) (old new : View Object Call Reply) (child : LockSeat Object Call Reply) → IsChild lock old new child → view_of child ≡ child_view old
@@ -127,7 +121,7 @@ module _ {Object Call Reply : Type 0} where
 
 module _ {Object State Call Reply : Type 0} (state : Object → State) (meaning : Definition State Call Reply) where
   module _ (lock : Locked Object Call Reply) (before middle after final : Seated Object Call Reply) (keyed : before.0.key ≡ Some lock.table.shared.key) (free : before.0.stage ≡ Free) (none : before.1 ≡ []) (taken : TakesLock state meaning before middle)
-      (given : HasGiven middle after) (released : HasReleased after final) where
+      (given : HasGiven middle after) (released : HasReleased [] after final) where
     final_is : final.0 ≡ record before.0 { given = given.left.next }
     final_is = (divided state meaning lock.table.shared.key before middle after keyed free none taken given final released).0
 

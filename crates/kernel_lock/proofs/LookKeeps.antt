@@ -14,7 +14,7 @@ use Rattle.kernel_lock.proofs.RuleLemmas.{rule_after}
 
 module _ {Object State Call Reply : Type 0} (state : Object → State) (meaning : Definition State Call Reply) where
   -- what a seat knows is a beginning of the one history
-  pub knows_history : (key : Key Object) (s : table.State (Slot Object Call Reply) (View Object Call Reply)) (rule : IsOneHistory state meaning key s) (id : ℕ) (view : View Object Call Reply) → get_elem? s.views id ≡ some view → KnowsHistory meaning (opening_state state key) key.limit view
+  pub knows_history : (key : Key Object) (s : table.State (Slot Object) (View Object Call Reply)) (rule : IsOneHistory state meaning key s) (id : ℕ) (view : View Object Call Reply) → get_elem? s.views id ≡ some view → KnowsHistory meaning (opening_state state key) key.limit view
   knows_history key s rule id view at =
       let fits = rule.each_seat id view at in
       record {
@@ -25,11 +25,11 @@ module _ {Object State Call Reply : Type 0} (state : Object → State) (meaning 
       }
 
   -- a step that leaves the word, and a seat with the view that it had or another that fits
-  pub sits : (key : Key Object) (s : table.State (Slot Object Call Reply) (View Object Call Reply)) (rule : IsOneHistory state meaning key s) (id : ℕ) (me : Seated Object Call Reply) (after : View Object Call Reply)
+  pub sits : (key : Key Object) (s : table.State (Slot Object) (View Object Call Reply)) (rule : IsOneHistory state meaning key s) (id : ℕ) (me : Seated Object Call Reply) (after : View Object Call Reply)
       → FitsSeat rule.history rule.next rule.owner rule.holder (get_or s.words 0 0) id after → IsOneHistory state meaning key (table.stepped s 0 (get_or s.words 0 0) id me.1 after table.keeps)
   sits key s rule id me after fits = rule_after state meaning key s s.homes id (get_or s.words 0 0) after rule.one_word rule.history rule.next rule.owner rule.holder rule.legal rule.by_given rule.limit rule.home fits (λ seat view other there. rule.each_seat seat view there)
 
-  pub looks : (key : Key Object) (s : table.State (Slot Object Call Reply) (View Object Call Reply)) (rule : IsOneHistory state meaning key s) (id : ℕ) (me : Seated Object Call Reply) → get_elem? s.views id ≡ some me.0 → IsOneHistory state meaning key (table.stepped s 0 (get_or s.words 0 0) id me.1 me.0 table.keeps)
+  pub looks : (key : Key Object) (s : table.State (Slot Object) (View Object Call Reply)) (rule : IsOneHistory state meaning key s) (id : ℕ) (me : Seated Object Call Reply) → get_elem? s.views id ≡ some me.0 → IsOneHistory state meaning key (table.stepped s 0 (get_or s.words 0 0) id me.1 me.0 table.keeps)
   looks key s rule id me at = sits key s rule id me me.0 (rule.each_seat id me.0 at)
 
   pub look_keeps : (key : Key Object) (slots id : ℕ) (me : Seated Object Call Reply) → table.Allows (IsOneHistory state meaning key) slots id me 0 (λ n. n) (λ _ after. HasLooked me after)

@@ -13,7 +13,7 @@ use Rattle.kernel_lock.specs.View.{first_view}
 use Rattle.kernel_lock.proofs.HistoryLemmas.{prefix_refl}
 
 module _ {Object State Call Reply : Type 0} (state : Object → State) (meaning : Definition State Call Reply) where
-  opening_keeps : (key : Key Object) (held : Held Object Call Reply) → held.object ≡ key.opening.value → held.next ≡ 1 → 0 < key.limit
+  opening_keeps : (key : Key Object) (held : Held Object) → held.object ≡ key.opening.value → held.next ≡ 1 → 0 < key.limit
       → IsOneHistory state meaning key (table.opening (0 ∷ []) (Some held ∷ []) (first_view key))
   opening_keeps key held object_is next_is some_seat =
       record {
@@ -45,7 +45,7 @@ module _ {Object State Call Reply : Type 0} (state : Object → State) (meaning 
       each_seat zero view at = subst (λ (v : View Object Call Reply). FitsSeat [] 1 (λ number. 0) 0 0 0 v) (some-injective (first_view key) view at) first
       each_seat (suc seat) view at = absurd (some-ne-none view (sym at))
 
-  pub opened_keeps : (key : Key Object) (held : Held Object Call Reply) (slots : List (Slot Object Call Reply)) → slots ≡ Some held ∷ [] → held.object ≡ key.opening.value → held.next ≡ 1 → 0 < key.limit
+  pub opened_keeps : (key : Key Object) (held : Held Object) (slots : List (Slot Object)) → slots ≡ Some held ∷ [] → held.object ≡ key.opening.value → held.next ≡ 1 → 0 < key.limit
       → IsOneHistory state meaning key (table.opening (0 ∷ []) slots (first_view key))
   opened_keeps key held slots slots_are object_is next_is some_seat =
-      subst (λ (xs : List (Slot Object Call Reply)). IsOneHistory state meaning key (table.opening (0 ∷ []) xs (first_view key))) (sym slots_are) (opening_keeps key held object_is next_is some_seat)
+      subst (λ (xs : List (Slot Object)). IsOneHistory state meaning key (table.opening (0 ∷ []) xs (first_view key))) (sym slots_are) (opening_keeps key held object_is next_is some_seat)

@@ -61,12 +61,12 @@ module _ {Object Call Reply : Type 0} where
 
 module _ {Object State Call Reply : Type 0} (state : Object → State) (meaning : Definition State Call Reply) where
   abbrev Table : Type 0
-  Table = table.State (Option (Held Object Call Reply)) (View Object Call Reply)
+  Table = table.State (Option (Held Object)) (View Object Call Reply)
 
   -- the rule after a step of one seat that stores a number into the word
-  pub rule_after : (key : Key Object) (s : Table) (homes : List (maybe.Option (Option (Held Object Call Reply)))) (id n : ℕ) (after : View Object Call Reply) → length s.words ≡ 1
+  pub rule_after : (key : Key Object) (s : Table) (homes : List (maybe.Option (Option (Held Object)))) (id n : ℕ) (after : View Object Call Reply) → length s.words ≡ 1
       → (history : List (Entry Call Reply)) (next : ℕ) (owner : ℕ → ℕ) (holder : ℕ) → IsLegal meaning (opening_state state key) history → AreByBelow next history → next ≤ key.limit
-      → (n ≡ 0 → (held : Held Object Call Reply) × (get_elem? homes 0 ≡ some (some (Some held))) × IsAtHome state meaning key history next held) → FitsSeat history next owner holder n id after
+      → (n ≡ 0 → (held : Held Object) × (get_elem? homes 0 ≡ some (some (Some held))) × IsAtHome state meaning key history next held) → FitsSeat history next owner holder n id after
       → ((seat : ℕ) (view : View Object Call Reply) → seat ≢ id → get_elem? s.views seat ≡ some view → FitsSeat history next owner holder n seat view)
       → IsOneHistory state meaning key record { words = set s.words 0 n; homes = homes; views = set s.views id after }
   rule_after key s homes id n after one_word history next owner holder legal by_given limit home own others =

@@ -16,7 +16,7 @@ use Rattle.kernel_lock.specs.View.{HasItsEntries, has_number, head_view}
 use Rattle.kernel_lock.proofs.ReleaseKeeps.{same_held}
 
 module _ {Object Call Reply : Type 0} where
-  pub sits_down : (lock : Locked Object Call Reply) (seat : LockSeat Object Call Reply) (place : Seat (Slot Object Call Reply) (View Object Call Reply)) → IsFreePlaceOf lock place
+  pub sits_down : (lock : Locked Object Call Reply) (seat : LockSeat Object Call Reply) (place : Seat (Slot Object) (View Object Call Reply)) → IsFreePlaceOf lock place
       → seat.badge.table_id ≡ place.table_id → seat.badge.views ≡ place.me.0 ∷ [] → seat.number ≡ place.me.0.number → has_number place.me.0.shares seat.number ≡ true → IsSeatOf lock seat
   sits_down lock seat place free table views number own =
       let view : head_view seat.badge.views ≡ place.me.0 = ap head_view views in
@@ -30,7 +30,7 @@ module _ {Object Call Reply : Type 0} where
       }
 
   -- a seat that stood up, made its steps and sat down again
-  pub sits_again : (lock : Locked Object Call Reply) (old new : LockSeat Object Call Reply) (before : View Object Call Reply) (place : Seat (Slot Object Call Reply) (View Object Call Reply)) → IsSeatOf lock old → before ≡ view_of old
+  pub sits_again : (lock : Locked Object Call Reply) (old new : LockSeat Object Call Reply) (before : View Object Call Reply) (place : Seat (Slot Object) (View Object Call Reply)) → IsSeatOf lock old → before ≡ view_of old
       → IsFreePlaceOf lock place → place.me.0.number ≡ before.number → (has_number before.shares old.number ≡ true → has_number place.me.0.shares old.number ≡ true)
       → new.badge.table_id ≡ place.table_id → new.badge.views ≡ place.me.0 ∷ [] → new.number ≡ old.number → IsSeatOf lock new
   sits_again lock old new before place seat before_is free number own table views same =
@@ -40,7 +40,7 @@ module _ {Object Call Reply : Type 0} where
 
 module _ {Object State Call Reply : Type 0} (state : Object → State) (meaning : Definition State Call Reply) where
   -- the object that a seat finds with the lock when it is closed
-  pub ends : (lock : Locked Object Call Reply) (seat : LockSeat Object Call Reply) (before after : Seated Object Call Reply) (found : Held Object Call Reply) → IsSeatOf lock seat → seat.badge.views ≡ before.0 ∷ [] → before.1 ≡ []
+  pub ends : (lock : Locked Object Call Reply) (seat : LockSeat Object Call Reply) (before after : Seated Object Call Reply) (found : Held Object) → IsSeatOf lock seat → seat.badge.views ≡ before.0 ∷ [] → before.1 ≡ []
       → TakesLock state meaning before after → after.1 ≡ (0, Some found) ∷ [] → EndsHistory meaning (opening_of state lock) (limit_of lock) (view_of seat) (state found.object)
   ends lock seat before after found is views none taken found_is =
       let view : view_of seat ≡ before.0 = ap head_view views in
@@ -51,5 +51,5 @@ module _ {Object State Call Reply : Type 0} (state : Object → State) (meaning 
         legal = finds.legal;
         seen = subst (λ (v : View Object Call Reply). IsPrefix v.seen taken.history) (sym view) taken.seen;
         mine = subst (λ (v : View Object Call Reply). AllByRecursion (HasItsEntries taken.history) v.shares) (sym view) taken.mine;
-        final_is = ap (λ (held : Held Object Call Reply). state held.object) same ∙ finds.object;
+        final_is = ap (λ (held : Held Object). state held.object) same ∙ finds.object;
       }

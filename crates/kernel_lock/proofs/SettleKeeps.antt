@@ -48,7 +48,7 @@ module _ {Object State Call Reply : Type 0} (state : Object → State) (meaning 
 
 module _ {Object State Call Reply : Type 0} (state : Object → State) (meaning : Definition State Call Reply) where
   -- what the two steps of a join tell together
-  begins : (first second : View Object Call Reply) (after : Seated Object Call Reply) (slots : List (ℕ × Slot Object Call Reply)) (b : Bool) → nat_lt (length first.seen) (length second.seen) ≡ b
+  begins : (first second : View Object Call Reply) (after : Seated Object Call Reply) (slots : List (ℕ × Slot Object)) (b : Bool) → nat_lt (length first.seen) (length second.seen) ≡ b
       → HasSettled state meaning (merged_view first second, slots) after → IsPrefix first.seen (longer_of first.seen second.seen) × IsPrefix second.seen (longer_of first.seen second.seen)
   begins first second after slots true is has =
       let less : length first.seen < length second.seen = grind (arith, nat_tests) in
@@ -61,7 +61,7 @@ module _ {Object State Call Reply : Type 0} (state : Object → State) (meaning 
       let long : longer_of first.seen second.seen ≡ first.seen = rw is refl in
       (rw long (prefix_refl first.seen), has.other second.seen (ap Merging short) (rw long least))
 
-  pub merges : (key : Key Object) (first second : View Object Call Reply) (after : Seated Object Call Reply) (slots : List (ℕ × Slot Object Call Reply)) → first.key ≡ Some key
+  pub merges : (key : Key Object) (first second : View Object Call Reply) (after : Seated Object Call Reply) (slots : List (ℕ × Slot Object)) → first.key ≡ Some key
       → HasSettled state meaning (merged_view first second, slots) after → HasMerged state meaning key first second after.0
   merges key first second after slots keyed has =
       let both = begins first second after slots (nat_lt (length first.seen) (length second.seen)) refl has in

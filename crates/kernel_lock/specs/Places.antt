@@ -11,7 +11,7 @@ use Rattle.kernel_lock.specs.View.{parent_view, child_view}
 
 -- a seat that makes its steps
 abbrev pub Place : Type 0 → Type 0 → Type 0 → Type 0
-Place Object Call Reply = Seat (Slot Object Call Reply) (View Object Call Reply)
+Place Object Call Reply = Seat (Slot Object) (View Object Call Reply)
 
 module _ {Object Call Reply : Type 0} where
   -- it is one of the lock's

@@ -48,12 +48,12 @@ module _ {Call Reply : Type 0} where
 
 module _ {Object State Call Reply : Type 0} (state : Object → State) (meaning : Definition State Call Reply) where
   -- the object is what the history gives, and beside it lies the next number
-  pub record IsAtHome (key : Key Object) (history : List (Entry Call Reply)) (next : ℕ) (held : Held Object Call Reply) : Type 0 where
+  pub record IsAtHome (key : Key Object) (history : List (Entry Call Reply)) (next : ℕ) (held : Held Object) : Type 0 where
     pub object : state held.object ≡ state_after meaning (opening_state state key) history
     pub next_is : held.next ≡ next
 
   -- the rule: one legal history, which each seat has seen in part, and in which each seat's calls stand once
-  pub record IsOneHistory (key : Key Object) (s : table.State (Option (Held Object Call Reply)) (View Object Call Reply)) : Type 0 where
+  pub record IsOneHistory (key : Key Object) (s : table.State (Option (Held Object)) (View Object Call Reply)) : Type 0 where
     pub history : List (Entry Call Reply)
     pub next : ℕ
     pub owner : ℕ → ℕ
@@ -63,5 +63,5 @@ module _ {Object State Call Reply : Type 0} (state : Object → State) (meaning 
     pub by_given : AreByBelow next history
     pub limit : next ≤ key.limit
     -- where the word is 0, the object is at home
-    pub home : slice_index s.words 0 ≡ 0 → (held : Held Object Call Reply) × (get_elem? s.homes 0 ≡ some (some (Some held))) × IsAtHome key history next held
+    pub home : slice_index s.words 0 ≡ 0 → (held : Held Object) × (get_elem? s.homes 0 ≡ some (some (Some held))) × IsAtHome key history next held
     pub each_seat : (seat : ℕ) (view : View Object Call Reply) → get_elem? s.views seat ≡ some view → FitsSeat history next owner holder (slice_index s.words 0) seat view

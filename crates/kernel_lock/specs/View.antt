@@ -7,7 +7,6 @@ use Rattle.kernel_lock.specs.declared.view.Stage.{Stage}
 use Rattle.kernel_lock.specs.declared.view.Stage.TheVariants.{Free, Holding, Merging}
 use Rattle.kernel_lock.specs.declared.view.Key.{Key}
 use Rattle.kernel_lock.specs.declared.view.View.{View}
-use Rattle.kernel_lock.specs.declared.view.Last.{Last}
 use Rattle.kernel_lock.specs.Definition.{Definition}
 use Rattle.kernel_lock.specs.History.{IsHistory, entries_by}
 
@@ -40,15 +39,6 @@ module _ {Call Reply : Type 0} where
   abbrev pub share_after : Entry Call Reply → Share Call Reply → Share Call Reply
   share_after entry share =
       record { number = share.number; mine = share.mine ++ entries_by share.number (entry ∷ []) }
-
-  -- the entry of a call that was made
-  abbrev pub entry_of : Last Call Reply → Entry Call Reply
-  entry_of last = record { by = last.by; call = last.call.value; reply = last.reply.value }
-
-  -- the calls that a holder has made: one, or none where it split its seat
-  abbrev pub calls_made : Option (Last Call Reply) → List (Entry Call Reply)
-  calls_made None = []
-  calls_made (Some last) = entry_of last ∷ []
 
   -- the entries by the number are its mine, in order, each once
   pub record HasItsEntries (history : List (Entry Call Reply)) (share : Share Call Reply) : Type 0 where

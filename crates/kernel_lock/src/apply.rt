@@ -3,14 +3,16 @@ ghost use Rattle.std.specs.Prelude.{◌≡◌, IsTrue, IfSome};
 ghost use Rattle.kernel_lock.specs.Calls.{AddsCall};
 ghost use Rattle.kernel_lock.specs.Places.{IsPlaceOf, IsFreePlaceOf, IsSamePlace};
 ghost use Rattle.kernel_lock.specs.Seats.{IsSeatOf, NamesOwn, Applies, SeesHistory, limit_of, opening_of};
-ghost use Rattle.kernel_lock.specs.Steps.{HasOnly, HasAnswered};
+ghost use Rattle.kernel_lock.specs.Steps.{HasOnly, HasAnswered, IsDue, HasReleased};
 ghost use Rattle.kernel_lock.specs.View.{KnowsHistory, has_number};
 
 use crate::lock_seat::LockSeat;
 use crate::locked::Locked;
 use crate::object::Object;
+use crate::plays::Made;
 use crate::rule::Place;
-use crate::view::{Held, Last};
+use crate::view::Held;
+use std::marker::Brand;
 use std::snapshot::Snapshot;
 use std::sync::Wait;
 
@@ -45,39 +47,38 @@ impl<O: Object> Locked<O> {
             place.new.me.0 }
     {
         self.take(rt, place);
-        let reply = self.answer(place, by, call);
-        self.give(place);
+        let asked = Snapshot::of(&call);
+        let reply = self.answer(place, call);
+        self.give_call::<Brand>(place, by, &asked, &reply);
         reply
     }
 
-    // Makes the call, and leaves it beside the object.
-    fn answer(&self, place: &mut Place<O>, by: u64, call: O::Call) -> O::Reply
+    // Makes the call.
+    fn answer(&self, place: &mut Place<O>, call: O::Call) -> O::Reply
         requires place { IsPlaceOf self.now place.old }
         requires full { HasOnly place.old.me }
         ensures place { IsSamePlace place.old place.new }
-        ensures answered { HasAnswered O.state O.definition record { by = by; call = call; reply = result }
-            place.old.me place.new.me }
+        ensures answered { HasAnswered O.state O.definition call result place.old.me place.new.me }
     {
-        let Held {
-            mut object,
-            next,
-            last: _,
-        } = self.take_out(place);
-        let asked = Snapshot::of(&call);
+        let Held { mut object, next } = self.take_out(place);
         let answer = object.run(call);
-        let last = Last {
-            by,
-            call: asked,
-            reply: Snapshot::of(&answer),
-        };
-        self.put_back(
-            place,
-            Held {
-                object,
-                next,
-                last: Some(last),
-            },
-        );
+        self.put_back(place, Held { object, next });
         answer
+    }
+
+    // Gives the lock back. The call and its reply are there for the proof alone, which picks them for the step.
+    fn give_call<M: Made<O::Call, O::Reply>>(
+        &self,
+        place: &mut Place<O>,
+        _by: u64,
+        _call: &Snapshot<O::Call>,
+        _reply: &O::Reply,
+    )
+        requires place { IsPlaceOf self.now place.old }
+        requires due { IsDue O.state O.definition self.now.table.shared.key M.calls place.old.me }
+        ensures place { IsSamePlace place.old place.new }
+        ensures released { HasReleased M.calls place.old.me place.new.me }
+    {
+        self.give::<M>(place);
     }
 }

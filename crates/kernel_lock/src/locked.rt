@@ -51,11 +51,7 @@ impl<O: Object> Locked<O> {
             opening: Snapshot::of(&object),
             limit: seats,
         };
-        slots.push_reserved(Some(Held {
-            object,
-            next: 1,
-            last: None,
-        }));
+        slots.push_reserved(Some(Held { object, next: 1 }));
         match Table::new(alloc, &[0], slots, &key) {
             Ok((table, place)) => Ok(Opened {
                 lock: Locked {
@@ -84,11 +80,7 @@ impl<O: Object> Locked<O> {
         let LockSeat { badge, number: _ } = seat;
         let mut place = badge.into_seat();
         self.take(rt, &mut place);
-        let Held {
-            object,
-            next: _,
-            last: _,
-        } = self.take_out(&mut place);
+        let Held { object, next: _ } = self.take_out(&mut place);
         object
     }
 }
@@ -101,14 +93,7 @@ fn object_in<O: Object>(mut slots: Vec<Slot<O>>) -> O
     let Some(slot) = slots.pop() else {
         unreachable!()
     };
-    let Some(
-        Held {
-            object,
-            next: _,
-            last: _,
-        },
-    ) = slot
-    else {
+    let Some(Held { object, next: _ }) = slot else {
         unreachable!()
     };
     object

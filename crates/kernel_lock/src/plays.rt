@@ -1,32 +1,45 @@
 //! What each kind of step tells its seat. Before this: `rule`. After it: `steps`, the steps themselves.
 //! These types are for the proofs alone.
+ghost use Rattle.std.specs.Prelude.{List, []};
 ghost use Rattle.kernel_lock.specs.Steps.{HasAcquired, HasLooked, HasReleased, HasSettled};
 ghost use Rattle.kernel_lock.specs.View.{parent_view, child_view, merged_view, spent_view};
 
 use crate::object::Object;
 use crate::view::{Held, View};
 use atomic_table::{Join, Play, Split};
-use std::marker::PhantomData;
+use std::marker::{Brand, PhantomData};
 
 pub struct Acquire<O> {
     object: PhantomData<O>,
 }
 
-impl<O: Object> Play<Option<Held<O, O::Call, O::Reply>>, View<O, O::Call, O::Reply>>
-    for Acquire<O> {
+impl<O: Object> Play<Option<Held<O>>, View<O, O::Call, O::Reply>> for Acquire<O> {
     ghost then = { λ _ before found after. HasAcquired O.state O.definition before found after };
 }
 
 pub struct Look;
 
-impl<O, C, R> Play<Option<Held<O, C, R>>, View<O, C, R>> for Look {
+impl<O, C, R> Play<Option<Held<O>>, View<O, C, R>> for Look {
     ghost then = { λ _ before _ after. HasLooked before after };
 }
 
-pub struct Release;
+/// The calls that a holder of the lock has made: one, or none where it divided its seat. Each release picks them.
+pub trait Made<C, R> {
+    ghost use Rattle.kernel_lock.specs.declared.view.Entry.{Entry};
 
-impl<O, C, R> Play<Option<Held<O, C, R>>, View<O, C, R>> for Release {
-    ghost then = { λ _ before _ after. HasReleased before after };
+    ghost calls: { List (Entry C R) };
+}
+
+impl<C, R> Made<C, R> for Brand {
+    ghost calls = { [] };
+}
+
+pub struct Release<M> {
+    made: PhantomData<M>,
+}
+
+impl<O, C, R, M: Made<C, R>> Play<Option<Held<O>>, View<O, C, R>> for Release<M> {
+    ghost then = { λ _ before _ after. HasReleased M.calls before after };
 }
 
 pub struct Divide;
@@ -49,6 +62,6 @@ pub struct Settle<O> {
     object: PhantomData<O>,
 }
 
-impl<O: Object> Play<Option<Held<O, O::Call, O::Reply>>, View<O, O::Call, O::Reply>> for Settle<O> {
+impl<O: Object> Play<Option<Held<O>>, View<O, O::Call, O::Reply>> for Settle<O> {
     ghost then = { λ _ before _ after. HasSettled O.state O.definition before after };
 }

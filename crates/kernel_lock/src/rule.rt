@@ -16,9 +16,7 @@ pub struct OneHistory<O> {
     object: PhantomData<O>,
 }
 
-pub type Contents<O> = Held<O, <O as Object>::Call, <O as Object>::Reply>;
-
-pub type Slot<O> = Option<Contents<O>>;
+pub type Slot<O> = Option<Held<O>>;
 
 pub type Knowledge<O> = View<O, <O as Object>::Call, <O as Object>::Reply>;
 
@@ -26,8 +24,7 @@ pub type LockTable<O> = Table<Slot<O>, Knowledge<O>, Key<O>, OneHistory<O>, Glob
 
 pub type Place<O> = Seat<Slot<O>, Knowledge<O>>;
 
-impl<O: Object> TableRule<Option<Held<O, O::Call, O::Reply>>, View<O, O::Call, O::Reply>, Key<O>>
-    for OneHistory<O> {
+impl<O: Object> TableRule<Option<Held<O>>, View<O, O::Call, O::Reply>, Key<O>> for OneHistory<O> {
     ghost holds = { IsOneHistory O.state O.definition };
 
     ghost first = { first_view };

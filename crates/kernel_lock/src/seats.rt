@@ -21,6 +21,7 @@ use crate::locked::Locked;
 use crate::object::Object;
 use crate::rule::Place;
 use crate::view::Held;
+use std::marker::Brand;
 use std::sync::Wait;
 use sync_base::Fault;
 
@@ -58,7 +59,7 @@ impl<O: Object> Locked<O> {
     {
         self.take(rt, place);
         let child = self.next_seat(place);
-        self.give(place);
+        self.give::<Brand>(place);
         child
     }
 
@@ -72,20 +73,9 @@ impl<O: Object> Locked<O> {
         ensures full { IfNone result (limit_of self.now ≤ place.old.me.0.given) }
         ensures refused { IfNone result (place.new.me.0 ≡ place.old.me.0) }
     {
-        let Held {
-            object,
-            next,
-            last: _,
-        } = self.take_out(place);
+        let Held { object, next } = self.take_out(place);
         if next >= self.limit {
-            self.put_back(
-                place,
-                Held {
-                    object,
-                    next,
-                    last: None,
-                },
-            );
+            self.put_back(place, Held { object, next });
             return None;
         }
         let child = self.divide(place);
@@ -94,7 +84,6 @@ impl<O: Object> Locked<O> {
             Held {
                 object,
                 next: next + 1,
-                last: None,
             },
         );
         Some(LockSeat {

@@ -11,8 +11,9 @@ ghost use Rattle.kernel_lock.specs.View.{parent_view, child_view};
 
 use crate::locked::Locked;
 use crate::object::Object;
-use crate::plays::{Acquire, Divide, Look, Merge, Release, Settle};
-use crate::rule::{Contents, Place};
+use crate::plays::{Acquire, Divide, Look, Made, Merge, Release, Settle};
+use crate::rule::Place;
+use crate::view::Held;
 
 pub(crate) const WORD: usize = 0;
 
@@ -51,7 +52,7 @@ impl<O: Object> Locked<O> {
     /// Takes the object out of the slot.
     // Step TakeOut: exchange of the slot, which is the seat's, as plain memory. Seat: as it was.
     // Keeps the rule: it speaks of the object only where it is at home.
-    pub(crate) fn take_out(&self, place: &mut Place<O>) -> Contents<O>
+    pub(crate) fn take_out(&self, place: &mut Place<O>) -> Held<O>
         requires place { IsPlaceOf self.now place.old }
         requires full { HasOnly place.old.me }
         ensures place { IsSamePlace place.old place.new }
@@ -64,7 +65,7 @@ impl<O: Object> Locked<O> {
     /// Puts the object back into the slot.
     // Step PutBack: exchange of the slot, which is the seat's, as plain memory. Seat: as it was.
     // Keeps the rule: it speaks of the object only where it is at home.
-    pub(crate) fn put_back(&self, place: &mut Place<O>, held: Contents<O>)
+    pub(crate) fn put_back(&self, place: &mut Place<O>, held: Held<O>)
         requires place { IsPlaceOf self.now place.old }
         requires empty { place.old.me.1 ≡ (0, None) ∷ [] }
         ensures place { IsSamePlace place.old place.new }
@@ -78,15 +79,15 @@ impl<O: Object> Locked<O> {
 
     /// Gives the lock back.
     // Step Release: store of 0 to the word. The slot is at home again.
-    // Seat: Holding, then Free; it has seen the history with the call that it made.
+    // Seat: Holding, then Free; where it made a call, it has seen the history with that call.
     // Keeps the rule: the object is what the history and that call give, and no other seat held the lock.
-    pub(crate) fn release(&self, place: &mut Place<O>)
+    pub(crate) fn release<M: Made<O::Call, O::Reply>>(&self, place: &mut Place<O>)
         requires place { IsPlaceOf self.now place.old }
-        requires due { IsDue O.state O.definition self.now.table.shared.key place.old.me }
+        requires due { IsDue O.state O.definition self.now.table.shared.key M.calls place.old.me }
         ensures place { IsSamePlace place.old place.new }
-        ensures released { HasReleased place.old.me place.new.me }
+        ensures released { HasReleased M.calls place.old.me place.new.me }
     {
-        self.table.shared.store::<Release>(place, WORD, FREE);
+        self.table.shared.store::<Release<M>>(place, WORD, FREE);
     }
 
     /// Gives a seat with the next number.

@@ -50,19 +50,10 @@ pub struct View<O, C, R> {
     pub stage: Stage<C, R>,
 }
 
-/// The call that a holder of the lock has made.
-#[derive(Drop)]
-pub struct Last<C, R> {
-    pub by: u64,
-    pub call: Snapshot<C>,
-    pub reply: Snapshot<R>,
-}
-
 /// What the slot holds.
 #[derive(Drop)]
-pub struct Held<O, C, R> {
+pub struct Held<O> {
     pub object: O,
     /// The number of the next seat.
     pub next: u64,
-    pub last: Option<Last<C, R>>,
 }

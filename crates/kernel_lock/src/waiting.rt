@@ -5,6 +5,7 @@ ghost use Rattle.kernel_lock.specs.Steps.{TakesLock, IsDue, HasReleased};
 
 use crate::locked::Locked;
 use crate::object::Object;
+use crate::plays::Made;
 use crate::rule::Place;
 use crate::steps::{TAKEN, WORD};
 use std::hint::spin_loop;
@@ -49,13 +50,13 @@ impl<O: Object> Locked<O> {
     }
 
     /// Gives the lock back, and wakes a thread that waits for it.
-    pub(crate) fn give(&self, place: &mut Place<O>)
+    pub(crate) fn give<M: Made<O::Call, O::Reply>>(&self, place: &mut Place<O>)
         requires place { IsPlaceOf self.now place.old }
-        requires due { IsDue O.state O.definition self.now.table.shared.key place.old.me }
+        requires due { IsDue O.state O.definition self.now.table.shared.key M.calls place.old.me }
         ensures place { IsSamePlace place.old place.new }
-        ensures released { HasReleased place.old.me place.new.me }
+        ensures released { HasReleased M.calls place.old.me place.new.me }
     {
-        self.release(place);
+        self.release::<M>(place);
         if self.parked.load(SeqCst) != 0 {
             self.table.shared.wake_one(WORD);
         }
