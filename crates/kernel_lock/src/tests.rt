@@ -1,5 +1,6 @@
 //! Objects under a lock, called by one thread and by many. `counter` is the smallest example of an object.
 ghost use Rattle.std.specs.Prelude.{◌<◌, IfOk};
+ghost use denote.Param.Send.{IsSync};
 ghost use Rattle.kernel_lock.specs.Seats.{IsSeatOf};
 
 use crate::{LockSeat, Locked, Opened};
@@ -92,8 +93,14 @@ fn four<R: Threads + Wait + Sync>(
     let other = lock.split(rt, &mut seat)?;
     let (first, second) = join(
         rt,
-        || two(rt, alloc, lock, seat),
-        || two(rt, alloc, lock, other),
+        || -> Result<Worked, Fault>
+            requires sync { IsSync R.row }
+            requires seat { IsSeatOf lock.now seat }
+        { two(rt, alloc, lock, seat) },
+        || -> Result<Worked, Fault>
+            requires sync { IsSync R.row }
+            requires seat { IsSeatOf lock.now other }
+        { two(rt, alloc, lock, other) },
     );
     joined(lock, first?, second?)
 }
@@ -110,8 +117,14 @@ fn eight<R: Threads + Wait + Sync>(
     let other = lock.split(rt, &mut seat)?;
     let (first, second) = join(
         rt,
-        || four(rt, alloc, lock, seat),
-        || four(rt, alloc, lock, other),
+        || -> Result<Worked, Fault>
+            requires sync { IsSync R.row }
+            requires seat { IsSeatOf lock.now seat }
+        { four(rt, alloc, lock, seat) },
+        || -> Result<Worked, Fault>
+            requires sync { IsSync R.row }
+            requires seat { IsSeatOf lock.now other }
+        { four(rt, alloc, lock, other) },
     );
     joined(lock, first?, second?)
 }
