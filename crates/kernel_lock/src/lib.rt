@@ -1,6 +1,6 @@
 //! The kernel lock: any sequential object, called by many threads through one lock.
 //! Each call stands in one legal history, with the reply that the object's definition gives there.
-//! Read `object`, `view`, `rule`, `plays`, `lock_seat`, `locked`, `steps`, `waiting`, and then `apply` and `seats`.
+//! Read `object`, `view`, `rule`, `plays`, `lock_seat`, `locked`, `waiters`, `steps`, `waiting`, and then `apply` and `seats`.
 #![tactic(auto)]
 
 pub mod apply;
@@ -14,6 +14,7 @@ pub mod steps;
 #[cfg(test)]
 mod tests;
 pub mod view;
+pub mod waiters;
 pub mod waiting;
 
 pub use lock_seat::LockSeat;

@@ -5,19 +5,18 @@ use crate::lock_seat::LockSeat;
 use crate::object::Object;
 use crate::rule::{LockTable, Slot};
 use crate::view::{Held, Key};
+use crate::waiters::Waiters;
 use atomic_table::{Refused, Table};
 use std::alloc::{AllocFailed, Global};
 use std::snapshot::Snapshot;
 use std::sync::Wait;
-use std::sync::atomic::AtomicU64;
 
 /// An object that many threads call, each with a seat of its own.
 #[derive(Drop)]
 pub struct Locked<O: Object> {
     pub(crate) table: LockTable<O>,
     pub(crate) limit: u64,
-    /// How many threads park, or are about to. It is no word of the table: no clause speaks of it.
-    pub(crate) parked: AtomicU64,
+    pub(crate) waiters: Waiters,
     ghost one_word: { table.shared.table_id.words ≡ 1 },
     ghost one_slot: { table.shared.table_id.slots ≡ 1 },
     ghost limited: { limit ≡ table.shared.key.limit },
@@ -57,7 +56,7 @@ impl<O: Object> Locked<O> {
                 lock: Locked {
                     table,
                     limit: seats,
-                    parked: AtomicU64::new(0),
+                    waiters: Waiters::new(),
                 },
                 seat: LockSeat {
                     badge: place.into_badge(),

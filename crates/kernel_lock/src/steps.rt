@@ -15,13 +15,13 @@ use crate::plays::{Acquire, Divide, Look, Made, Merge, Release, Settle};
 use crate::rule::Place;
 use crate::view::Held;
 
-pub(crate) const WORD: usize = 0;
+const WORD: usize = 0;
 
 const SLOT: usize = 0;
 
 const FREE: u64 = 0;
 
-pub(crate) const TAKEN: u64 = 1;
+const TAKEN: u64 = 1;
 
 impl<O: Object> Locked<O> {
     /// Takes the lock where it is free, and says whether it was.

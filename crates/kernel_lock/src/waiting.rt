@@ -7,10 +7,8 @@ use crate::locked::Locked;
 use crate::object::Object;
 use crate::plays::Made;
 use crate::rule::Place;
-use crate::steps::{TAKEN, WORD};
 use std::hint::spin_loop;
 use std::sync::Wait;
-use std::sync::atomic::Ordering::SeqCst;
 
 /// How often a thread looks at a taken word again before it sleeps.
 const LOOKS: u64 = 100;
@@ -22,31 +20,40 @@ impl<O: Object> Locked<O> {
         ensures place { IsSamePlace place.old place.new }
         ensures taken { TakesLock O.state O.definition place.old.me place.new.me }
     {
-        for _ in rt.forever() {
-            if self.acquire(place) {
-                return;
-            }
-            self.wait(rt, place);
+        if self.acquire(place) {
+            return;
         }
-        unreachable!()
+        let mut slept = false;
+        for _ in rt.forever() {
+            slept = self.wait(rt, place) || slept;
+            if self.acquire(place) {
+                break;
+            }
+        }
+        if slept {
+            // Others may sleep still, and this thread was woken in their place: its release wakes one of them.
+            self.waiters.announce();
+        }
     }
 
-    // Looks at the word for a while, and then sleeps until a release.
-    fn wait<R: Wait>(&self, rt: &R, place: &mut Place<O>)
+    // Looks at the word for a while, and then sleeps until a release. Says whether it slept.
+    fn wait<R: Wait>(&self, rt: &R, place: &mut Place<O>) -> bool
         requires { IsPlaceOf self.now place.old }
         ensures place { IsSamePlace place.old place.new }
         ensures same { place.new.me ≡ place.old.me }
     {
         for _ in 0..LOOKS {
             if self.look(place) {
-                return;
+                return false;
             }
             spin_loop();
         }
-        // A release that misses this count comes before it, so the word that `park` compares is no longer taken.
-        self.parked.fetch_add(1, SeqCst);
-        self.table.shared.park(rt, WORD, TAKEN as u32);
-        self.parked.fetch_sub(1, SeqCst);
+        let mark = self.waiters.announce();
+        if self.look(place) {
+            return false;
+        }
+        self.waiters.sleep(rt, mark);
+        true
     }
 
     /// Gives the lock back, and wakes a thread that waits for it.
@@ -57,8 +64,6 @@ impl<O: Object> Locked<O> {
         ensures released { HasReleased M.calls place.old.me place.new.me }
     {
         self.release::<M>(place);
-        if self.parked.load(SeqCst) != 0 {
-            self.table.shared.wake_one(WORD);
-        }
+        self.waiters.wake();
     }
 }
