@@ -17,7 +17,8 @@ use std::snapshot::Snapshot;
 use std::sync::Wait;
 
 impl<O: Object> Locked<O> {
-    /// Makes the call on the object, in its turn, and answers what the object's definition gives there.
+    /// Makes the call on the object, in its turn.
+    /// The answer is what the object's definition gives there.
     pub fn apply<R: Wait>(&self, rt: &R, seat: &mut LockSeat<O>, call: O::Call) -> O::Reply
         requires seat { IsSeatOf self.now seat.old }
         requires named { NamesOwn O.definition seat.old call }
@@ -66,7 +67,8 @@ impl<O: Object> Locked<O> {
         answer
     }
 
-    // Gives the lock back. The call and its reply are there for the proof alone, which picks them for the step.
+    // Gives the lock back. The call and its reply are there for the proof alone,
+    // which picks them for the step.
     fn give_call<M: Made<O::Call, O::Reply>>(
         &self,
         place: &mut Place<O>,

@@ -1,4 +1,5 @@
-//! A seat at a lock: what a thread calls the object with. Before this: `rule`. After it: `locked`, the lock itself.
+//! A seat at a lock: what a thread calls the object with.
+//! Before this: `plays`. After it: `locked`, the lock itself.
 ghost use Rattle.std.specs.Prelude.{◌≡◌, [], ◌∷◌};
 
 use crate::object::Object;
@@ -6,7 +7,8 @@ use crate::rule::{Knowledge, Place};
 use atomic_table::Badge;
 use std::mem;
 
-/// A seat at a lock, with one number or, after a join, with several. A thread calls the object with it.
+/// A seat at a lock, with one number or, after a join, with several.
+/// A thread calls the object with it.
 /// It has seen a beginning of the history, in which its own calls stand once each.
 #[derive(Drop)]
 pub struct LockSeat<O: Object> {

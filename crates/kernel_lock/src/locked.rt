@@ -1,4 +1,5 @@
-//! An object under its lock: how it is made, and how it is taken back. Before this: `lock_seat`. After it: `steps`.
+//! An object under its lock: how it is made, and how it is taken back.
+//! Before this: `lock_seat`. After it: `waiters`.
 ghost use Rattle.std.specs.Prelude.{◌≡◌, [], ◌∷◌, Some};
 
 use crate::lock_seat::LockSeat;
@@ -34,7 +35,8 @@ impl<O: Object> Locked<O> {
     ghost use Rattle.kernel_lock.specs.Calls.{IsFirst, EndsHistory};
     ghost use Rattle.kernel_lock.specs.Seats.{IsSeatOf, IsFirstSeat, Closes, limit_of, opening_of, view_of};
 
-    /// Puts the object under a lock that may give this many seats. Where there is no memory the object comes back.
+    /// Puts the object under a lock that may give this many seats.
+    /// Where there is no memory the object comes back.
     pub fn new(alloc: Global, object: O, seats: u64) -> Result<Opened<O>, AllocFailed<O>>
         requires { 0 < seats }
         ensures opening { IfOk result (λ opened. opening_of O.state opened.lock ≡ O.state object) }

@@ -1,4 +1,4 @@
-//! What each kind of step tells its seat. Before this: `rule`. After it: `steps`, the steps themselves.
+//! What each kind of step tells its seat. Before this: `rule`. After it: `lock_seat`.
 //! These types are for the proofs alone.
 ghost use Rattle.std.specs.Prelude.{List, []};
 ghost use Rattle.kernel_lock.specs.Steps.{HasAcquired, HasLooked, HasReleased, HasSettled};
@@ -23,7 +23,8 @@ impl<O, C, R> Play<Option<Held<O>>, View<O, C, R>> for Look {
     ghost then = { λ _ before _ after. HasLooked before after };
 }
 
-/// The calls that a holder of the lock has made: one, or none where it divided its seat. Each release picks them.
+/// The calls that a holder of the lock has made: one, or none where it divided its seat.
+/// Each release picks them.
 pub trait Made<C, R> {
     ghost use Rattle.kernel_lock.specs.declared.view.Entry.{Entry};
 

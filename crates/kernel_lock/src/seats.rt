@@ -26,7 +26,8 @@ use std::sync::Wait;
 use sync_base::Fault;
 
 impl<O: Object> Locked<O> {
-    /// Gives a seat with the next number, or answers `NoProc` where the lock has given all its seats.
+    /// Gives a seat with the next number.
+    /// It answers `NoProc` where the lock has given all its seats.
     pub fn split<R: Wait>(&self, rt: &R, seat: &mut LockSeat<O>) -> Result<LockSeat<O>, Fault>
         requires { IsSeatOf self.now seat.old }
         ensures seat { IsSeatOf self.now seat.new }

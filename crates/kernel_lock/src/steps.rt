@@ -1,5 +1,6 @@
-//! The seven kinds of step on a lock's word and slot, a function each. Before this: `locked`. After it: `waiting`.
-//! Above each step stand the seat before and after it, and why the rule stays. All orderings are the table's.
+//! The seven kinds of step on a lock's word and slot, a function each.
+//! Before this: `waiters`. After it: `waiting`. All orderings are the table's.
+//! Above each step stand the seat before and after it, and why the rule stays.
 ghost use Rattle.std.specs.Prelude.{◌≡◌, ◌+◌, ◌<◌, [], ◌∷◌, None, Some};
 ghost use Rattle.std.specs.Bool.{OnTrue, OnFalse};
 ghost use Rattle.atomic_table.specs.Table.{rest};
@@ -25,8 +26,9 @@ const TAKEN: u64 = 1;
 
 impl<O: Object> Locked<O> {
     /// Takes the lock where it is free, and says whether it was.
-    // Step Acquire: compare_exchange of the word from 0 to 1. Where it succeeds, the slot is the seat's.
-    // Seat: Free, then Holding the history. Keeps the rule: where the word is 0 no seat holds the lock.
+    // Step Acquire: compare_exchange of the word from 0 to 1. The slot is then the seat's.
+    // Seat: Free, then Holding the history; as it was where the word was not 0.
+    // Keeps the rule: where the word is 0 no seat holds the lock.
     pub(crate) fn acquire(&self, place: &mut Place<O>) -> bool
         requires place { IsPlaceOf self.now place.old }
         ensures place { IsSamePlace place.old place.new }
@@ -80,7 +82,8 @@ impl<O: Object> Locked<O> {
     /// Gives the lock back.
     // Step Release: store of 0 to the word. The slot is at home again.
     // Seat: Holding, then Free; where it made a call, it has seen the history with that call.
-    // Keeps the rule: the object is what the history and that call give, and no other seat held the lock.
+    // Keeps the rule: the object is what the history and that call give,
+    // and no other seat held the lock.
     pub(crate) fn release<M: Made<O::Call, O::Reply>>(&self, place: &mut Place<O>)
         requires place { IsPlaceOf self.now place.old }
         requires due { IsDue O.state O.definition self.now.table.shared.key M.calls place.old.me }
@@ -93,7 +96,8 @@ impl<O: Object> Locked<O> {
     /// Gives a seat with the next number.
     // Step Divide: split of a seat that holds the lock, a load of the word.
     // Seat: Holding, with one seat more given. The new seat is Free, with that number and no call.
-    // Keeps the rule: the number is the next one, which no seat has, and the history has no entry by it.
+    // Keeps the rule: the number is the next one, which no seat has,
+    // and the history has no entry by it.
     pub(crate) fn divide(&self, place: &mut Place<O>) -> Place<O>
         requires place { IsPlaceOf self.now place.old }
         requires holding { (history : _) × (place.old.me.0.stage ≡ Holding history) }
@@ -108,7 +112,8 @@ impl<O: Object> Locked<O> {
 
     /// Makes one seat of two.
     // Step Merge: join of two seats, and a load of the word.
-    // Seat: Free, with the numbers of both and the longer of what they had seen. The other is spent.
+    // Seat: Free, with the numbers of both and the longer of what they had seen.
+    // The other is spent.
     // Keeps the rule: both had seen a beginning of one history, so the shorter begins the longer.
     pub(crate) fn merge(&self, place: &mut Place<O>, other: Place<O>)
         requires place { IsFreePlaceOf self.now place.old }

@@ -1,5 +1,7 @@
-//! What a seat knows, and what lies in the slot of the lock. Before this: `object`. After it: `rule`, what holds of all seats together.
-//! No value of an entry, a share, a stage or a view is ever made: contracts alone see them, and they take no memory.
+//! What a seat knows, and what lies in the slot of the lock.
+//! Before this: `object`. After it: `rule`, what holds of all seats together.
+//! No value of an entry, a share, a stage or a view is ever made: contracts alone see them,
+//! and they take no memory.
 use std::collections::LinkedList;
 use std::snapshot::Snapshot;
 

@@ -1,11 +1,12 @@
 //! Who waits for a lock. Before this: `locked`. After it: `steps`.
-//! It is no word of the table and no clause speaks of it: it keeps those who wait from burning the processor,
-//! and those who don't from calling the system.
+//! It is no word of the table and no clause speaks of it: it keeps those who wait from
+//! burning the processor, and those who release from calling the system where nobody sleeps.
 use std::sync::Wait;
 use std::sync::atomic::AtomicU64;
 use std::sync::atomic::Ordering::SeqCst;
 
-/// An odd number says that a thread sleeps, or is about to. Each wake makes it even, so it also counts the wakes.
+/// An odd number says that a thread sleeps, or is about to.
+/// Each wake makes it even, so it also counts the wakes.
 #[derive(Drop)]
 pub struct Waiters {
     mark: AtomicU64,
@@ -18,8 +19,10 @@ impl Waiters {
         }
     }
 
-    /// Says that a thread is about to sleep. It has to look at the lock again before it calls `sleep` with the answer.
-    // A release that sees no mark comes before this step, so that look finds the lock free or taken anew.
+    /// Says that a thread is about to sleep.
+    /// It has to look at the lock again before it calls `sleep` with the answer.
+    // A release that finds no mark comes before this step, so that look finds the lock free,
+    // or taken by another thread, whose release finds the mark.
     pub(crate) fn announce(&self) -> u32 {
         let mark = self.mark.fetch_or(1, SeqCst) | 1;
         (mark & 0xffff_ffff) as u32

@@ -1,4 +1,5 @@
-//! How a thread waits for the lock, and how the next one is woken. Before this: `steps`. After it: `apply`.
+//! How a thread waits for the lock, and how the next one is woken.
+//! Before this: `steps`. After it: `apply`.
 ghost use Rattle.std.specs.Prelude.{◌≡◌};
 ghost use Rattle.kernel_lock.specs.Places.{IsPlaceOf, IsSamePlace};
 ghost use Rattle.kernel_lock.specs.Steps.{TakesLock, IsDue, HasReleased};
@@ -31,7 +32,8 @@ impl<O: Object> Locked<O> {
             }
         }
         if slept {
-            // Others may sleep still, and this thread was woken in their place: its release wakes one of them.
+            // Others may sleep still, and this thread was woken in their place:
+            // its release wakes one of them.
             self.waiters.announce();
         }
     }
