@@ -1,7 +1,7 @@
 -- What the steps of a call tell together.
 use Rattle.std.proofs.Common.{◌≡◌, ℕ, ◌<◌, Bool, true, false, ◌||◌, eqb, List, [], ◌∷◌, ◌++◌, map, refl, sym, ap, subst, ◌∙◌, arith, Option, Some, None}
 use Rattle.std.proofs.lemmas.Bool.Decides.{nat_tests}
-use Rattle.std.specs.Prelude.{IsTrue, IfSome, unwrap_or}
+use Rattle.std.specs.Prelude.{IfSome, unwrap_or}
 use Rattle.std.specs.List.{AllByRecursion}
 use Rattle.atomic_table.specs.Table.{rest}
 use Rattle.kernel_lock.specs.declared.view.Entry.{Entry}
@@ -12,7 +12,7 @@ use Rattle.kernel_lock.specs.declared.view.View.{View}
 use Rattle.kernel_lock.specs.declared.view.Held.{Held}
 use Rattle.kernel_lock.specs.Calls.{AreByOthers, AddsCall}
 use Rattle.kernel_lock.specs.Definition.{Definition}
-use Rattle.kernel_lock.specs.History.{IsRight, IsLegal, entries_by, state_after}
+use Rattle.kernel_lock.specs.History.{IsRight, entries_by, state_after}
 use Rattle.kernel_lock.specs.Steps.{Slot, Seated, FindsObject, TakesLock, HasOnly, HasAnswered, IsDue, HasReleased}
 use Rattle.kernel_lock.specs.View.{HasItsEntries, AreDifferent, KnowsHistory, opening_state, has_number, share_after, released_view}
 use Rattle.kernel_lock.proofs.HistoryLemmas.{all_append, all_both, all_map, entries_by-between, legal_append, state_after-append}

@@ -1,9 +1,7 @@
 -- What the steps of a split tell together.
-use Rattle.std.proofs.Common.{◌≡◌, ℕ, ◌+◌, ◌≤◌, List, [], ◌∷◌, ◌++◌, refl, sym, ap, subst, ◌∙◌, arith, append-nil, eq-eqb, Option, Some, None}
-use Rattle.std.specs.Prelude.{IsTrue, IfSome, IfNone}
-use Rattle.std.specs.List.{AllByRecursion}
+use Rattle.std.proofs.Common.{◌≡◌, ℕ, ◌+◌, ◌≤◌, List, [], ◌∷◌, refl, sym, ap, subst, ◌∙◌, arith, append-nil, eq-eqb, Option, Some, None}
+use Rattle.std.specs.Prelude.{IfSome, IfNone}
 use Rattle.atomic_table.specs.Table.{rest}
-use Rattle.kernel_lock.specs.declared.view.Entry.{Entry}
 use Rattle.kernel_lock.specs.declared.view.Stage.{Stage}
 use Rattle.kernel_lock.specs.declared.view.Stage.TheVariants.{Free}
 use Rattle.kernel_lock.specs.declared.view.Key.{Key}
@@ -13,7 +11,7 @@ use Rattle.kernel_lock.specs.declared.locked.Locked.{Locked}
 use Rattle.kernel_lock.specs.declared.lock_seat.LockSeat.{LockSeat}
 use Rattle.kernel_lock.specs.Calls.{GivesSeat}
 use Rattle.kernel_lock.specs.Definition.{Definition}
-use Rattle.kernel_lock.specs.History.{IsLegal, state_after}
+use Rattle.kernel_lock.specs.History.{state_after}
 use Rattle.kernel_lock.specs.Places.{IsChild}
 use Rattle.kernel_lock.specs.Seats.{IsSeatOf, limit_of, view_of}
 use Rattle.kernel_lock.specs.Steps.{Slot, Seated, FindsObject, TakesLock, IsHolding, HasGiven, IsDue, HasReleased}

@@ -50,7 +50,8 @@ module _ {Object Call Reply : Type 0} where
 
 module _ {Object State Call Reply : Type 0} (meaning : Definition State Call Reply) where
   -- the end: the object is what a history gives that begins with all that the seat has seen
-  pub record EndsHistory (opening : State) (limit : ℕ) (view : View Object Call Reply) (final : State) : Type 0 where
+  pub record EndsHistory (opening : State) (limit : ℕ) (view : View Object Call Reply)
+      (final : State) : Type 0 where
     pub history : List (Entry Call Reply)
     pub legal : IsHistory meaning opening limit history
     pub seen : IsPrefix view.seen history

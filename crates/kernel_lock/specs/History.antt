@@ -10,7 +10,8 @@ pub record IsPrefix {A : Type 0} (front whole : List A) : Type 0 where
   pub whole_is : whole ≡ front ++ rest
 
 -- the entries by the seat with this number, in order
-abbrev pub entries_by : {Call Reply : Type 0} → ℕ → List (Entry Call Reply) → List (Entry Call Reply)
+abbrev pub entries_by : {Call Reply : Type 0} → ℕ → List (Entry Call Reply) → List
+    (Entry Call Reply)
 entries_by number entries = filter (λ entry. entry.by == number) entries
 
 -- each entry is by a number below this one
@@ -35,6 +36,7 @@ module _ {State Call Reply : Type 0} (meaning : Definition State Call Reply) whe
       IsRight state entry × IsLegal (meaning.after state entry.call) entries
 
   -- a history that an object may have from this state on, where this many seats may be given
-  pub record IsHistory (opening : State) (limit : ℕ) (entries : List (Entry Call Reply)) : Type 0 where
+  pub record IsHistory (opening : State) (limit : ℕ)
+      (entries : List (Entry Call Reply)) : Type 0 where
     pub legal : IsLegal opening entries
     pub within : AreByBelow limit entries

@@ -15,12 +15,14 @@ Place Object Call Reply = Seat (Slot Object) (View Object Call Reply)
 
 module _ {Object Call Reply : Type 0} where
   -- it is one of the lock's
-  pub record IsPlaceOf (lock : Locked Object Call Reply) (place : Place Object Call Reply) : Type 0 where
+  pub record IsPlaceOf (lock : Locked Object Call Reply)
+      (place : Place Object Call Reply) : Type 0 where
     pub table : place.table_id ≡ lock.table.shared.table_id
     pub key : place.me.0.key ≡ Some lock.table.shared.key
 
   -- it is one of the lock's, stands between two calls and holds no slot
-  pub record IsFreePlaceOf (lock : Locked Object Call Reply) (place : Place Object Call Reply) : Type 0 where
+  pub record IsFreePlaceOf (lock : Locked Object Call Reply)
+      (place : Place Object Call Reply) : Type 0 where
     pub table : place.table_id ≡ lock.table.shared.table_id
     pub key : place.me.0.key ≡ Some lock.table.shared.key
     pub stage : place.me.0.stage ≡ Free
@@ -32,7 +34,8 @@ module _ {Object Call Reply : Type 0} where
     pub id : after.id ≡ before.id
 
   -- a holder of the lock gave this seat
-  pub record IsChild (lock : Locked Object Call Reply) (old new : View Object Call Reply) (child : LockSeat Object Call Reply) : Type 0 where
+  pub record IsChild (lock : Locked Object Call Reply) (old new : View Object Call Reply)
+      (child : LockSeat Object Call Reply) : Type 0 where
     pub room : old.given < limit_of lock
     pub parent : new ≡ parent_view old
     pub table : child.badge.table_id ≡ lock.table.shared.table_id

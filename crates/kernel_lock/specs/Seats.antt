@@ -44,7 +44,8 @@ module _ {Object Call Reply : Type 0} where
   HasNumber seat number = IsTrue (has_number (shares_of seat) number)
 
   -- the seat is one of the lock's, and stands between two calls
-  pub record IsSeatOf (lock : Locked Object Call Reply) (seat : LockSeat Object Call Reply) : Type 0 where
+  pub record IsSeatOf (lock : Locked Object Call Reply)
+      (seat : LockSeat Object Call Reply) : Type 0 where
     pub table : seat.badge.table_id ≡ lock.table.shared.table_id
     pub views : seat.badge.views ≡ view_of seat ∷ []
     pub key : (view_of seat).key ≡ Some lock.table.shared.key
@@ -92,7 +93,8 @@ module _ {State Object Call Reply : Type 0} (meaning : Definition State Call Rep
       LockSeat Object Call Reply → Call → Reply → LockSeat Object Call Reply → Type 0
   Applies old call reply new = AddsCall (entry_by old call reply) (view_of old) (view_of new)
 
-module _ {State Object Call Reply : Type 0} (state : Object → State) (meaning : Definition State Call Reply) where
+module _ {State Object Call Reply : Type 0} (state : Object → State)
+    (meaning : Definition State Call Reply) where
   -- what the seat has seen is a legal history from the opening on, with its own calls once each
   abbrev pub SeesHistory : Locked Object Call Reply → LockSeat Object Call Reply → Type 0
   SeesHistory lock seat =

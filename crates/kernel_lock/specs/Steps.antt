@@ -1,5 +1,6 @@
 -- What each kind of step tells its seat, and what a release asks.
-use Rattle.std.specs.Prelude.{◌≡◌, ◌≢◌, ℕ, ◌<◌, ◌≤◌, List, [], ◌∷◌, ◌++◌, length, Option, Some, IsTrue}
+use Rattle.std.specs.Prelude.{◌≡◌, ◌≢◌, ℕ, ◌<◌, ◌≤◌, List, [], ◌∷◌, ◌++◌, length}
+use Rattle.std.specs.Prelude.{Option, Some, IsTrue}
 use Rattle.std.specs.List.{AllByRecursion}
 use Rattle.atomic_table.specs.Table as table
 use Rattle.kernel_lock.specs.declared.view.Entry.{Entry}
@@ -9,7 +10,8 @@ use Rattle.kernel_lock.specs.declared.view.View.{View}
 use Rattle.kernel_lock.specs.declared.view.Held.{Held}
 use Rattle.kernel_lock.specs.Definition.{Definition}
 use Rattle.kernel_lock.specs.History.{IsPrefix, IsHistory, IsLegal, state_after}
-use Rattle.kernel_lock.specs.View.{HasItsEntries, KnowsHistory, opening_state, has_number, holding_view, released_view, merged_view, settled_view}
+use Rattle.kernel_lock.specs.View.{HasItsEntries, KnowsHistory, opening_state, has_number}
+use Rattle.kernel_lock.specs.View.{holding_view, released_view, merged_view, settled_view}
 
 -- what lies in the slot
 abbrev pub Slot : Type 0 → Type 0
@@ -25,7 +27,8 @@ module _ {Object Call Reply : Type 0} where
     pub same : after ≡ before
 
   -- Release: the seat is free, and has seen the history with the call that it made, if it made one
-  pub record HasReleased (calls : List (Entry Call Reply)) (before after : Seated Object Call Reply) : Type 0 where
+  pub record HasReleased (calls : List (Entry Call Reply))
+      (before after : Seated Object Call Reply) : Type 0 where
     pub view_is : (history : List (Entry Call Reply)) → before.0.stage ≡ Holding history →
         after.0 ≡ released_view history calls before.0
     pub slots_are : after.1 ≡ table.rest before.1
@@ -52,9 +55,11 @@ module _ {Object Call Reply : Type 0} where
     pub view_is : after.0 ≡ record before.0 { given = left.next }
     pub object : left.object ≡ found.object
 
-module _ {Object State Call Reply : Type 0} (state : Object → State) (meaning : Definition State Call Reply) where
+module _ {Object State Call Reply : Type 0} (state : Object → State)
+    (meaning : Definition State Call Reply) where
   -- what a seat finds with the lock: the object, as the history gives it
-  pub record FindsObject (key : Key Object) (view : View Object Call Reply) (history : List (Entry Call Reply)) (held : Held Object) : Type 0 where
+  pub record FindsObject (key : Key Object) (view : View Object Call Reply)
+      (history : List (Entry Call Reply)) (held : Held Object) : Type 0 where
     pub object : state held.object ≡ state_after meaning (opening_state state key) history
     pub legal : IsHistory meaning (opening_state state key) key.limit history
     pub limit : held.next ≤ key.limit
@@ -73,12 +78,15 @@ module _ {Object State Call Reply : Type 0} (state : Object → State) (meaning 
     pub finds : (key : Key Object) → before.0.key ≡ Some key → FindsObject key before.0 history held
 
   -- Acquire: the seat holds the lock where it was free, and else nothing changed
-  pub record HasAcquired (before : Seated Object Call Reply) (found : ℕ) (after : Seated Object Call Reply) : Type 0 where
+  pub record HasAcquired (before : Seated Object Call Reply) (found : ℕ)
+      (after : Seated Object Call Reply) : Type 0 where
     pub free : found ≡ 0 → TakesLock before after
     pub taken : found ≢ 0 → after ≡ before
 
-  -- what a release asks: the object in the slot is what the history and the calls that were made give
-  pub record IsDue (key : Key Object) (calls : List (Entry Call Reply)) (me : Seated Object Call Reply) : Type 0 where
+  -- what a release asks: the object in the slot is what the history
+  -- and the calls that were made give
+  pub record IsDue (key : Key Object) (calls : List (Entry Call Reply))
+      (me : Seated Object Call Reply) : Type 0 where
     pub history : List (Entry Call Reply)
     pub held : Held Object
     pub others : List (ℕ × Slot Object)
@@ -87,12 +95,14 @@ module _ {Object State Call Reply : Type 0} (state : Object → State) (meaning 
     pub stage_is : me.0.stage ≡ Holding history
     pub slots_are : me.1 ≡ (0, Some held) ∷ others
     pub next_is : held.next ≡ me.0.given
-    pub object : state held.object ≡ state_after meaning (opening_state state key) (history ++ calls)
+    pub object : state held.object ≡ state_after meaning (opening_state state key)
+        (history ++ calls)
     pub right : IsLegal meaning (state_after meaning (opening_state state key) history) calls
     pub own : AllByRecursion (λ entry. IsTrue (has_number me.0.shares entry.by)) calls
 
   -- a call left the object as its definition says, and the next number as it was
-  pub record HasAnswered (call : Call) (reply : Reply) (before after : Seated Object Call Reply) : Type 0 where
+  pub record HasAnswered (call : Call) (reply : Reply)
+      (before after : Seated Object Call Reply) : Type 0 where
     pub found : Held Object
     pub left : Held Object
     pub found_is : before.1 ≡ (0, Some found) ∷ []
@@ -101,15 +111,19 @@ module _ {Object State Call Reply : Type 0} (state : Object → State) (meaning 
     pub object_is : state left.object ≡ meaning.after (state found.object) call
     pub reply_is : reply ≡ meaning.answer (state found.object) call
 
-  -- Merge ends with a load: the seat is free, and of the two histories that it saw one begins the other
+  -- Merge ends with a load: the seat is free,
+  -- and of the two histories that it saw one begins the other
   pub record HasSettled (before after : Seated Object Call Reply) : Type 0 where
     pub view_is : after.0 ≡ settled_view before.0
     pub slots_are : after.1 ≡ before.1
-    pub other : (other : List (Entry Call Reply)) → before.0.stage ≡ Merging other → length other ≤ length before.0.seen → IsPrefix other before.0.seen
-    pub knows : (key : Key Object) → before.0.key ≡ Some key → KnowsHistory meaning (opening_state state key) key.limit before.0
+    pub other : (other : List (Entry Call Reply)) → before.0.stage ≡ Merging other →
+        length other ≤ length before.0.seen → IsPrefix other before.0.seen
+    pub knows : (key : Key Object) → before.0.key ≡ Some key → KnowsHistory meaning
+        (opening_state state key) key.limit before.0
 
   -- Merge: one seat has the numbers of both, and both had seen a beginning of what it has seen
-  pub record HasMerged (key : Key Object) (first second merged : View Object Call Reply) : Type 0 where
+  pub record HasMerged (key : Key Object)
+      (first second merged : View Object Call Reply) : Type 0 where
     pub view_is : merged ≡ settled_view (merged_view first second)
     pub first_begins : IsPrefix first.seen merged.seen
     pub second_begins : IsPrefix second.seen merged.seen

@@ -1,9 +1,9 @@
 -- What a seat knows, and how it comes to know it.
-use Rattle.std.specs.Prelude.{◌<◌, ◌≡◌, ◌≢◌, ℕ, ⊤, ◌+◌, Bool, true, false, ◌==◌, List, [], ◌∷◌, ◌++◌, map, max, length, nat_lt, if◌then◌else◌, Option, Some, None}
+use Rattle.std.specs.Prelude.{◌≡◌, ◌≢◌, ℕ, ◌+◌, ◌<◌, ⊤, ◌==◌, max, nat_lt, if◌then◌else◌}
+use Rattle.std.specs.Prelude.{Bool, List, [], ◌∷◌, ◌++◌, map, length, Some, None}
 use Rattle.std.specs.List.{list_any, AllByRecursion}
 use Rattle.kernel_lock.specs.declared.view.Entry.{Entry}
 use Rattle.kernel_lock.specs.declared.view.Share.{Share}
-use Rattle.kernel_lock.specs.declared.view.Stage.{Stage}
 use Rattle.kernel_lock.specs.declared.view.Stage.TheVariants.{Free, Holding, Merging}
 use Rattle.kernel_lock.specs.declared.view.Key.{Key}
 use Rattle.kernel_lock.specs.declared.view.View.{View}
@@ -13,18 +13,14 @@ use Rattle.kernel_lock.specs.History.{IsHistory, entries_by}
 -- the numbers are all different
 abbrev pub AreDifferent : List ℕ → Type 0
 AreDifferent [] = ⊤
-AreDifferent (number ∷ numbers) = AllByRecursion (λ other. number ≢ other) numbers × AreDifferent numbers
+AreDifferent (number ∷ numbers) =
+    AllByRecursion (λ other. number ≢ other) numbers × AreDifferent numbers
 
 -- what the object meant when its lock was made
 abbrev pub opening_state : {Object State : Type 0} → (Object → State) → Key Object → State
 opening_state state key = state key.opening.value
 
 module _ {Call Reply : Type 0} where
-  abbrev pub is_free : Stage Call Reply → Bool
-  is_free Free = true
-  is_free (Holding history) = false
-  is_free (Merging other) = false
-
   -- a number with no call yet
   abbrev pub unused_share : ℕ → Share Call Reply
   unused_share number = record { number = number; mine = [] }
@@ -41,13 +37,15 @@ module _ {Call Reply : Type 0} where
       record { number = share.number; mine = share.mine ++ entries_by share.number (entry ∷ []) }
 
   -- the entries by the number are its mine, in order, each once
-  pub record HasItsEntries (history : List (Entry Call Reply)) (share : Share Call Reply) : Type 0 where
+  pub record HasItsEntries (history : List (Entry Call Reply))
+      (share : Share Call Reply) : Type 0 where
     pub entries : entries_by share.number history ≡ share.mine
 
   abbrev pub longer_of : List (Entry Call Reply) → List (Entry Call Reply) → List (Entry Call Reply)
   longer_of first second = if nat_lt (length first) (length second) then second else first
 
-  abbrev pub shorter_of : List (Entry Call Reply) → List (Entry Call Reply) → List (Entry Call Reply)
+  abbrev pub shorter_of : List (Entry Call Reply) → List (Entry Call Reply) → List
+      (Entry Call Reply)
   shorter_of first second = if nat_lt (length first) (length second) then first else second
 
 module _ {Object Call Reply : Type 0} where
@@ -68,11 +66,13 @@ module _ {Object Call Reply : Type 0} where
       }
 
   -- the seat holds the lock, and knows the history and how many seats were given
-  abbrev pub holding_view : List (Entry Call Reply) → ℕ → View Object Call Reply → View Object Call Reply
+  abbrev pub holding_view : List (Entry Call Reply) → ℕ → View Object Call Reply →
+      View Object Call Reply
   holding_view history given view = record view { given = given; stage = Holding history }
 
   -- the seat is free again, and if it made a call, has seen the history with that call at its end
-  abbrev pub released_view : List (Entry Call Reply) → List (Entry Call Reply) → View Object Call Reply → View Object Call Reply
+  abbrev pub released_view : List (Entry Call Reply) → List (Entry Call Reply) →
+      View Object Call Reply → View Object Call Reply
   released_view history [] view = record view { stage = Free }
   released_view history (entry ∷ entries) view =
       record view {
@@ -95,7 +95,8 @@ module _ {Object Call Reply : Type 0} where
         stage = Free;
       }
 
-  -- two seats become one, which has the numbers of both, the first's as its own, and has seen what either saw
+  -- two seats become one, which has the numbers of both, the first's as its own,
+  -- and has seen what either saw
   abbrev pub merged_view : View Object Call Reply → View Object Call Reply → View Object Call Reply
   merged_view first second =
       record first {
@@ -116,7 +117,8 @@ module _ {Object Call Reply : Type 0} where
 
 module _ {State Object Call Reply : Type 0} (meaning : Definition State Call Reply) where
   -- what a seat knows is a legal history, in which its own calls stand once each
-  pub record KnowsHistory (opening : State) (limit : ℕ) (view : View Object Call Reply) : Type 0 where
+  pub record KnowsHistory (opening : State) (limit : ℕ)
+      (view : View Object Call Reply) : Type 0 where
     pub history : IsHistory meaning opening limit view.seen
     pub mine : AllByRecursion (HasItsEntries view.seen) view.shares
     pub different : AreDifferent (numbers_in view.shares)

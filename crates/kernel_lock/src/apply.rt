@@ -2,7 +2,8 @@
 ghost use Rattle.std.specs.Prelude.{◌≡◌, IsTrue, IfSome};
 ghost use Rattle.kernel_lock.specs.Calls.{AddsCall};
 ghost use Rattle.kernel_lock.specs.Places.{IsPlaceOf, IsFreePlaceOf, IsSamePlace};
-ghost use Rattle.kernel_lock.specs.Seats.{IsSeatOf, NamesOwn, Applies, SeesHistory, limit_of, opening_of};
+ghost use Rattle.kernel_lock.specs.Seats.{IsSeatOf, NamesOwn, Applies, SeesHistory};
+ghost use Rattle.kernel_lock.specs.Seats.{limit_of, opening_of};
 ghost use Rattle.kernel_lock.specs.Steps.{HasOnly, HasAnswered, IsDue, HasReleased};
 ghost use Rattle.kernel_lock.specs.View.{KnowsHistory, has_number};
 
@@ -43,9 +44,10 @@ impl<O: Object> Locked<O> {
         requires own { IsTrue (has_number place.old.me.0.shares by) }
         requires named { IfSome (O.definition.named call) (λ number. number ≡ by) }
         ensures place { IsFreePlaceOf self.now place.new }
-        ensures call { AddsCall record { by = by; call = call; reply = result } place.old.me.0 place.new.me.0 }
-        ensures history { KnowsHistory O.definition (opening_of O.state self.now) (limit_of self.now)
-            place.new.me.0 }
+        ensures call { AddsCall record { by = by; call = call; reply = result }
+            place.old.me.0 place.new.me.0 }
+        ensures history { KnowsHistory O.definition (opening_of O.state self.now)
+            (limit_of self.now) place.new.me.0 }
     {
         self.take(rt, place);
         let asked = Snapshot::of(&call);

@@ -33,7 +33,7 @@ pub struct Opened<O: Object> {
 impl<O: Object> Locked<O> {
     ghost use Rattle.std.specs.Prelude.{◌≡◌, ◌<◌, [], ◌∷◌, IfOk, IfErr};
     ghost use Rattle.kernel_lock.specs.Calls.{IsFirst, EndsHistory};
-    ghost use Rattle.kernel_lock.specs.Seats.{IsSeatOf, IsFirstSeat, Closes, limit_of, opening_of, view_of};
+    ghost use Rattle.kernel_lock.specs.Seats.{IsSeatOf, IsFirstSeat, Closes, limit_of, opening_of};
 
     /// Puts the object under a lock that may give this many seats.
     /// Where there is no memory the object comes back.

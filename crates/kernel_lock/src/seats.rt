@@ -50,8 +50,8 @@ impl<O: Object> Locked<O> {
     fn divide_in_turn<R: Wait>(&self, rt: &R, place: &mut Place<O>) -> Option<LockSeat<O>>
         requires { IsFreePlaceOf self.now place.old }
         ensures place { IsFreePlaceOf self.now place.new }
-        ensures history { KnowsHistory O.definition (opening_of O.state self.now) (limit_of self.now)
-            place.new.me.0 }
+        ensures history { KnowsHistory O.definition (opening_of O.state self.now)
+            (limit_of self.now) place.new.me.0 }
         ensures child { IfSome result (IsSeatOf self.now) }
         ensures given { IfSome result (λ child.
             GivesSeat (limit_of self.now) place.old.me.0 place.new.me.0 (view_of child)) }

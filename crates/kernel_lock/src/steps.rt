@@ -119,8 +119,8 @@ impl<O: Object> Locked<O> {
         requires place { IsFreePlaceOf self.now place.old }
         requires other { IsFreePlaceOf self.now other }
         ensures place { IsSamePlace place.old place.new }
-        ensures merged { HasMerged O.state O.definition self.now.table.shared.key place.old.me.0 other.me.0
-            place.new.me.0 }
+        ensures merged { HasMerged O.state O.definition self.now.table.shared.key
+            place.old.me.0 other.me.0 place.new.me.0 }
         ensures no_slot { place.new.me.1 ≡ [] }
     {
         let words = &self.table.shared;
