@@ -14,7 +14,7 @@ fn apply(counter: &Mutex<Counter>, amount: u64) -> u64 {
 }
 
 fn main() {
-    let total = 4_000_000u64;
+    let total = 20_000_000u64;
     for threads in [1u64, 2, 4, 8] {
         let counter = Mutex::new(Counter { sum: 0 });
         let start = Instant::now();

@@ -12,7 +12,7 @@ use std::hint::spin_loop;
 use std::sync::Wait;
 
 /// How often a thread looks at a taken word again before it sleeps.
-const LOOKS: u64 = 100;
+const LOOKS: u64 = 20;
 
 impl<O: Object> Locked<O> {
     /// Takes the lock, and waits where it is taken.
