@@ -4,19 +4,19 @@
 //! and then `apply` and `seats`.
 #![tactic(auto)]
 
-pub mod apply;
+mod apply;
 pub mod lock_seat;
 pub mod locked;
 pub mod object;
-pub mod plays;
-pub mod rule;
-pub mod seats;
-pub mod steps;
+mod plays;
+mod rule;
+mod seats;
+mod steps;
 #[cfg(test)]
 mod tests;
 pub mod view;
-pub mod waiters;
-pub mod waiting;
+mod waiters;
+mod waiting;
 
 pub use lock_seat::LockSeat;
 pub use locked::{Locked, Opened};
