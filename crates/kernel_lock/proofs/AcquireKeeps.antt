@@ -50,6 +50,7 @@ module _ {Object State Call Reply : Type 0} (state : Object → State) (meaning 
             seen = fits.seen;
             mine = fits.mine;
             below = all_weaker (IsOwned rule.next rule.owner id) (λ share. share.number < held.next) (λ share owned. let below = owned.given in omega arith) me.0.shares fits.owned;
+            by_given = by_below_weaker rule.next held.next rule.history (omega arith) rule.by_given;
             given = let given = fits.given in omega arith;
             finds = λ found found_is.
                 let same : found ≡ key = cc in

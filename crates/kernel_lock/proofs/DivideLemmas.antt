@@ -1,7 +1,14 @@
 -- What the steps of a split tell together.
+<<<<<<< HEAD
 use Rattle.std.proofs.Common.{◌≡◌, ℕ, ◌+◌, ◌≤◌, List, [], ◌∷◌, refl, sym, ap, subst, ◌∙◌, arith, append-nil, eq-eqb, Option, Some, None}
 use Rattle.std.specs.Prelude.{IfSome, IfNone}
 use Rattle.atomic_table.specs.Table.{rest}
+=======
+use Rattle.std.proofs.Common.{◌++◌, ◌<◌, ◌≡◌, ℕ, ◌+◌, ◌≤◌, List, [], ◌∷◌, refl, sym, ap, subst, ◌∙◌, arith, append-nil, eq-eqb, Option, Some, None}
+use Rattle.std.specs.Prelude.{IfSome, IfNone}
+use Rattle.atomic_table.specs.Table.{rest}
+use Rattle.kernel_lock.specs.declared.view.Entry.{Entry}
+>>>>>>> kernel-lock
 use Rattle.kernel_lock.specs.declared.view.Stage.{Stage}
 use Rattle.kernel_lock.specs.declared.view.Stage.TheVariants.{Free}
 use Rattle.kernel_lock.specs.declared.view.Key.{Key}
@@ -11,11 +18,19 @@ use Rattle.kernel_lock.specs.declared.locked.Locked.{Locked}
 use Rattle.kernel_lock.specs.declared.lock_seat.LockSeat.{LockSeat}
 use Rattle.kernel_lock.specs.Calls.{GivesSeat}
 use Rattle.kernel_lock.specs.Definition.{Definition}
+<<<<<<< HEAD
 use Rattle.kernel_lock.specs.History.{state_after}
+=======
+use Rattle.kernel_lock.specs.History.{AreByBelow, state_after}
+>>>>>>> kernel-lock
 use Rattle.kernel_lock.specs.Places.{IsChild}
 use Rattle.kernel_lock.specs.Seats.{IsSeatOf, limit_of, view_of}
 use Rattle.kernel_lock.specs.Steps.{Slot, Seated, FindsObject, TakesLock, IsHolding, HasGiven, IsDue, HasReleased}
 use Rattle.kernel_lock.specs.View.{KnowsHistory, opening_state, has_number, holding_view, released_view, parent_view, child_view, head_view}
+<<<<<<< HEAD
+=======
+use Rattle.kernel_lock.proofs.HistoryLemmas.{all_front, entries_by-unused}
+>>>>>>> kernel-lock
 use Rattle.kernel_lock.proofs.ReleaseKeeps.{same_held}
 
 module _ {Object State Call Reply : Type 0} (state : Object → State) (meaning : Definition State Call Reply) where
@@ -148,6 +163,27 @@ module _ {Object State Call Reply : Type 0} (state : Object → State) (meaning 
           given = refl;
           parent = final_is ∙ ap (λ n. record before.0 { given = n }) next_is;
         }
+
+    -- what the child has seen is a legal history too, with no entry by its number
+    child_knows : (n : ℕ) → n ≡ taken.held.next → n < limit_of lock → KnowsHistory meaning (opening_state state lock.table.shared.key) (limit_of lock) (child_view (holding_view taken.history n before.0))
+    child_knows n n_is room =
+        let knows = (taken.finds lock.table.shared.key keyed).knows in
+        let whole : AreByBelow taken.held.next (before.0.seen ++ taken.seen.rest) = subst (AreByBelow taken.held.next) taken.seen.whole_is taken.by_given in
+        let front : AreByBelow taken.held.next before.0.seen = all_front (λ (entry : Entry Call Reply). entry.by < taken.held.next) before.0.seen taken.seen.rest whole in
+        record {
+          history = knows.history;
+          mine = (record { entries = entries_by-unused taken.held.next n before.0.seen front (omega arith) }, tt);
+          different = (tt, tt);
+          numbers = (room, tt);
+        }
+
+    pub gives_history : (o : Option (LockSeat Object Call Reply)) → IfSome o (IsChild lock middle.0 after.0) → IfSome o (λ child. KnowsHistory meaning (opening_state state lock.table.shared.key) (limit_of lock) (view_of child))
+    gives_history None is = tt
+    gives_history (Some child) is =
+        let view = child_view_is lock middle.0 after.0 child is ∙ ap child_view taken.view_is in
+        let n = middle_given in
+        let room = is.room in
+        subst (KnowsHistory meaning (opening_state state lock.table.shared.key) (limit_of lock)) (sym view) (child_knows taken.held.next refl (omega arith))
 
     pub gives_none : (o : Option (LockSeat Object Call Reply)) → IfNone o (limit_of lock ≤ middle.0.given) → IfNone o (after.0 ≡ middle.0) → IfNone o (final.0 ≡ record before.0 { given = limit_of lock })
     gives_none None full is =

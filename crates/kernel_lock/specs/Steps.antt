@@ -9,7 +9,11 @@ use Rattle.kernel_lock.specs.declared.view.Key.{Key}
 use Rattle.kernel_lock.specs.declared.view.View.{View}
 use Rattle.kernel_lock.specs.declared.view.Held.{Held}
 use Rattle.kernel_lock.specs.Definition.{Definition}
+<<<<<<< HEAD
 use Rattle.kernel_lock.specs.History.{IsPrefix, IsHistory, IsLegal, state_after}
+=======
+use Rattle.kernel_lock.specs.History.{IsPrefix, IsHistory, IsLegal, AreByBelow, state_after}
+>>>>>>> kernel-lock
 use Rattle.kernel_lock.specs.View.{HasItsEntries, KnowsHistory, opening_state, has_number}
 use Rattle.kernel_lock.specs.View.{holding_view, released_view, merged_view, settled_view}
 
@@ -74,6 +78,7 @@ module _ {Object State Call Reply : Type 0} (state : Object → State)
     pub seen : IsPrefix before.0.seen history
     pub mine : AllByRecursion (HasItsEntries history) before.0.shares
     pub below : AllByRecursion (λ share. share.number < held.next) before.0.shares
+    pub by_given : AreByBelow held.next history
     pub given : before.0.given ≤ held.next
     pub finds : (key : Key Object) → before.0.key ≡ Some key → FindsObject key before.0 history held
 

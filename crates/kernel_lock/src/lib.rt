@@ -4,10 +4,11 @@
 //! and then `apply` and `seats`.
 #![tactic(auto)]
 
-pub mod apply;
+mod apply;
 pub mod lock_seat;
 pub mod locked;
 pub mod object;
+<<<<<<< HEAD
 pub mod plays;
 pub mod rule;
 pub mod seats;
@@ -17,6 +18,17 @@ mod tests;
 pub mod view;
 pub mod waiters;
 pub mod waiting;
+=======
+mod plays;
+mod rule;
+mod seats;
+mod steps;
+#[cfg(test)]
+mod tests;
+pub mod view;
+mod waiters;
+mod waiting;
+>>>>>>> kernel-lock
 
 pub use lock_seat::LockSeat;
 pub use locked::{Locked, Opened};

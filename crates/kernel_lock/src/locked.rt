@@ -33,7 +33,12 @@ pub struct Opened<O: Object> {
 impl<O: Object> Locked<O> {
     ghost use Rattle.std.specs.Prelude.{◌≡◌, ◌<◌, [], ◌∷◌, IfOk, IfErr};
     ghost use Rattle.kernel_lock.specs.Calls.{IsFirst, EndsHistory};
+<<<<<<< HEAD
     ghost use Rattle.kernel_lock.specs.Seats.{IsSeatOf, IsFirstSeat, Closes, limit_of, opening_of};
+=======
+    ghost use Rattle.kernel_lock.specs.Seats.{IsSeatOf, IsFirstSeat, SeesHistory, Closes};
+    ghost use Rattle.kernel_lock.specs.Seats.{limit_of, opening_of};
+>>>>>>> kernel-lock
 
     /// Puts the object under a lock that may give this many seats.
     /// Where there is no memory the object comes back.
@@ -43,6 +48,8 @@ impl<O: Object> Locked<O> {
         ensures limit { IfOk result (λ opened. limit_of opened.lock ≡ seats) }
         ensures seat { IfOk result (λ opened. IsSeatOf opened.lock opened.seat) }
         ensures first { IfOk result (λ opened. IsFirstSeat opened.seat) }
+        ensures history { IfOk result (λ opened.
+            SeesHistory O.state O.definition opened.lock opened.seat) }
         ensures refused { IfErr result (λ refused. refused.value ≡ object) }
     {
         let Ok(mut slots) = Vec::with_capacity(alloc, 1) else {

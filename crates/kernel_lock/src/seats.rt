@@ -35,6 +35,7 @@ impl<O: Object> Locked<O> {
 
         // The child has seen what its parent has, and has made no call.
         ensures child { IfOk result (IsSeatOf self.now) }
+        ensures child_history { IfOk result (SeesHistory O.state O.definition self.now) }
         ensures given { IfOk result (Splits self.now seat.old seat.new) }
 
         ensures fault { IfErr result (λ fault. fault ≡ NoProc) }
@@ -53,6 +54,7 @@ impl<O: Object> Locked<O> {
         ensures history { KnowsHistory O.definition (opening_of O.state self.now)
             (limit_of self.now) place.new.me.0 }
         ensures child { IfSome result (IsSeatOf self.now) }
+        ensures child_history { IfSome result (SeesHistory O.state O.definition self.now) }
         ensures given { IfSome result (λ child.
             GivesSeat (limit_of self.now) place.old.me.0 place.new.me.0 (view_of child)) }
         ensures refused { IfNone result

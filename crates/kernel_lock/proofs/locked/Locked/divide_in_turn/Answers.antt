@@ -1,6 +1,6 @@
 use Rattle.std.proofs.Common.{sym, ap, subst, ◌∙◌}
 use Rattle.kernel_lock.specs.View.{KnowsHistory}
-use Rattle.kernel_lock.proofs.DivideLemmas.{takes_hold, split_is_due, divided, knows_still, gives_child, gives_seat, gives_none}
+use Rattle.kernel_lock.proofs.DivideLemmas.{takes_hold, split_is_due, divided, knows_still, gives_child, gives_history, gives_seat, gives_none}
 use Rattle.kernel_lock.proofs.locked.Locked.divide_in_turn.Goals as goal
 
 pub next_seat-child-requires-clause-holding : goal.next_seat-child-requires-clause-holding
@@ -23,6 +23,10 @@ returns-clause-place g c =
 pub returns-clause-child : goal.returns-clause-child
 returns-clause-child g c =
     gives_child g.O.Object.state g.O.Object.definition c.args.self.now _ _ _ _ c.requires.key c.requires.stage c.requires.no_slot c.take.ensures.taken c.next_seat-child.ensures.given c.give.ensures.released _ c.next_seat-child.ensures.child
+
+pub returns-clause-child_history : goal.returns-clause-child_history
+returns-clause-child_history g c =
+    gives_history g.O.Object.state g.O.Object.definition c.args.self.now _ _ _ _ c.requires.key c.requires.stage c.requires.no_slot c.take.ensures.taken c.next_seat-child.ensures.given c.give.ensures.released _ c.next_seat-child.ensures.child
 
 pub returns-clause-given : goal.returns-clause-given
 returns-clause-given g c =
