@@ -1,14 +1,8 @@
 -- What the steps of a split tell together.
-<<<<<<< HEAD
-use Rattle.std.proofs.Common.{◌≡◌, ℕ, ◌+◌, ◌≤◌, List, [], ◌∷◌, refl, sym, ap, subst, ◌∙◌, arith, append-nil, eq-eqb, Option, Some, None}
-use Rattle.std.specs.Prelude.{IfSome, IfNone}
-use Rattle.atomic_table.specs.Table.{rest}
-=======
 use Rattle.std.proofs.Common.{◌++◌, ◌<◌, ◌≡◌, ℕ, ◌+◌, ◌≤◌, List, [], ◌∷◌, refl, sym, ap, subst, ◌∙◌, arith, append-nil, eq-eqb, Option, Some, None}
 use Rattle.std.specs.Prelude.{IfSome, IfNone}
 use Rattle.atomic_table.specs.Table.{rest}
 use Rattle.kernel_lock.specs.declared.view.Entry.{Entry}
->>>>>>> kernel-lock
 use Rattle.kernel_lock.specs.declared.view.Stage.{Stage}
 use Rattle.kernel_lock.specs.declared.view.Stage.TheVariants.{Free}
 use Rattle.kernel_lock.specs.declared.view.Key.{Key}
@@ -18,19 +12,12 @@ use Rattle.kernel_lock.specs.declared.locked.Locked.{Locked}
 use Rattle.kernel_lock.specs.declared.lock_seat.LockSeat.{LockSeat}
 use Rattle.kernel_lock.specs.Calls.{GivesSeat}
 use Rattle.kernel_lock.specs.Definition.{Definition}
-<<<<<<< HEAD
-use Rattle.kernel_lock.specs.History.{state_after}
-=======
 use Rattle.kernel_lock.specs.History.{AreByBelow, state_after}
->>>>>>> kernel-lock
 use Rattle.kernel_lock.specs.Places.{IsChild}
 use Rattle.kernel_lock.specs.Seats.{IsSeatOf, limit_of, view_of}
 use Rattle.kernel_lock.specs.Steps.{Slot, Seated, FindsObject, TakesLock, IsHolding, HasGiven, IsDue, HasReleased}
 use Rattle.kernel_lock.specs.View.{KnowsHistory, opening_state, has_number, holding_view, released_view, parent_view, child_view, head_view}
-<<<<<<< HEAD
-=======
 use Rattle.kernel_lock.proofs.HistoryLemmas.{all_front, entries_by-unused}
->>>>>>> kernel-lock
 use Rattle.kernel_lock.proofs.ReleaseKeeps.{same_held}
 
 module _ {Object State Call Reply : Type 0} (state : Object → State) (meaning : Definition State Call Reply) where

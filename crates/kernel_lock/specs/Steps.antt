@@ -9,11 +9,7 @@ use Rattle.kernel_lock.specs.declared.view.Key.{Key}
 use Rattle.kernel_lock.specs.declared.view.View.{View}
 use Rattle.kernel_lock.specs.declared.view.Held.{Held}
 use Rattle.kernel_lock.specs.Definition.{Definition}
-<<<<<<< HEAD
-use Rattle.kernel_lock.specs.History.{IsPrefix, IsHistory, IsLegal, state_after}
-=======
 use Rattle.kernel_lock.specs.History.{IsPrefix, IsHistory, IsLegal, AreByBelow, state_after}
->>>>>>> kernel-lock
 use Rattle.kernel_lock.specs.View.{HasItsEntries, KnowsHistory, opening_state, has_number}
 use Rattle.kernel_lock.specs.View.{holding_view, released_view, merged_view, settled_view}
 

@@ -8,17 +8,6 @@ mod apply;
 pub mod lock_seat;
 pub mod locked;
 pub mod object;
-<<<<<<< HEAD
-pub mod plays;
-pub mod rule;
-pub mod seats;
-pub mod steps;
-#[cfg(test)]
-mod tests;
-pub mod view;
-pub mod waiters;
-pub mod waiting;
-=======
 mod plays;
 mod rule;
 mod seats;
@@ -28,7 +17,6 @@ mod tests;
 pub mod view;
 mod waiters;
 mod waiting;
->>>>>>> kernel-lock
 
 pub use lock_seat::LockSeat;
 pub use locked::{Locked, Opened};

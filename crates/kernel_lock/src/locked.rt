@@ -33,12 +33,8 @@ pub struct Opened<O: Object> {
 impl<O: Object> Locked<O> {
     ghost use Rattle.std.specs.Prelude.{◌≡◌, ◌<◌, [], ◌∷◌, IfOk, IfErr};
     ghost use Rattle.kernel_lock.specs.Calls.{IsFirst, EndsHistory};
-<<<<<<< HEAD
-    ghost use Rattle.kernel_lock.specs.Seats.{IsSeatOf, IsFirstSeat, Closes, limit_of, opening_of};
-=======
     ghost use Rattle.kernel_lock.specs.Seats.{IsSeatOf, IsFirstSeat, SeesHistory, Closes};
     ghost use Rattle.kernel_lock.specs.Seats.{limit_of, opening_of};
->>>>>>> kernel-lock
 
     /// Puts the object under a lock that may give this many seats.
     /// Where there is no memory the object comes back.
