@@ -1,10 +1,10 @@
 #!/bin/sh
 # Times the kernel lock over a counter beside std's Mutex of Rust: applies per second on 1, 2, 4 and 8 threads.
-# Each side runs a few times and its best counts. What it builds lies in bench/work/lock, outside the repository's crates.
+# Each side runs a few times and its best counts. What it builds lies in bench/out/lock, outside the repository's crates.
 set -eu
 here=$(cd "$(dirname "$0")" && pwd)
 top=$(cd "$here/../.." && pwd)
-work=$top/bench/work/lock
+work=$top/bench/out/lock
 rounds=${1:-3}
 
 mkdir -p "$work/repo/crates/lock_bench/src"

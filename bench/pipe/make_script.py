@@ -1,17 +1,10 @@
 #!/usr/bin/env python3
 """Writes a pipe script of about 16 MB, the same each time: writes of 1 to 64 bytes, partial and whole reads."""
+import pathlib
 import sys
 
-SIZE = 16_700_000
-
-
-def numbers(state=0x9E3779B97F4A7C15):
-    """A xorshift generator of 64 bits, so that the script does not depend on a library's."""
-    while True:
-        state ^= (state << 13) & 0xFFFFFFFFFFFFFFFF
-        state ^= state >> 7
-        state ^= (state << 17) & 0xFFFFFFFFFFFFFFFF
-        yield state
+sys.path.insert(0, str(pathlib.Path(__file__).parent.parent))
+from script import numbers, write_script
 
 
 def lines():
@@ -30,15 +23,4 @@ def lines():
             yield "read 8192\n"
 
 
-def main():
-    size = 0
-    parts = []
-    for line in lines():
-        if size + len(line) > SIZE:
-            break
-        parts.append(line)
-        size += len(line)
-    sys.stdout.write("".join(parts))
-
-
-main()
+write_script(lines())

@@ -3,20 +3,14 @@
 other, with some notes, drains and checks, and a few events that are refused.
 
 usage: make_schedule.py PROCS RENDEZ"""
+import pathlib
 import sys
 
-SIZE = 16_700_000
+sys.path.insert(0, str(pathlib.Path(__file__).parent.parent))
+from script import numbers, write_script
+
 STEP = 10_000_000_000
 KINDS = ["interrupt", "hangup", "alarm", "closed", "alarm,interrupt", "interrupt,hangup,alarm,closed", "-"]
-
-
-def numbers(state=0x9E3779B97F4A7C15):
-    """A xorshift generator of 64 bits, so that the schedule does not depend on a library's."""
-    while True:
-        state ^= (state << 13) & 0xFFFFFFFFFFFFFFFF
-        state ^= state >> 7
-        state ^= (state << 17) & 0xFFFFFFFFFFFFFFFF
-        yield state
 
 
 class Model:
@@ -118,16 +112,5 @@ class Model:
                 yield next(call)
 
 
-def main():
-    procs, rendez = map(int, sys.argv[1:])
-    size = 0
-    parts = []
-    for line in Model(procs, rendez).lines():
-        if size + len(line) > SIZE:
-            break
-        parts.append(line)
-        size += len(line)
-    sys.stdout.write("".join(parts))
-
-
-main()
+procs, rendez = map(int, sys.argv[1:])
+write_script(Model(procs, rendez).lines())

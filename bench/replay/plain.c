@@ -1,16 +1,11 @@
-/* A plain C program that does the work of `p9sync replay`: the schedule is read whole, each line is read whole and then
-   answered, and the answers are written. It stops at the first line that is not in the grammar. Built with -O2. */
-#include <stdint.h>
-#include <stdio.h>
-#include <stdlib.h>
-#include <string.h>
-#include <unistd.h>
+/* A plain C program that does the work of `p9sync replay`: `plain.h` reads the schedule and writes
+   the answers. Built with -O2. */
+#include "../plain.h"
 
-enum { MAX_SCRIPT = 16777216, MAX_LINE = 200000, MAX_PROCS = 1024, MAX_RENDEZ = 8192, MAX_WORDS = 4, WAKE = 16 };
+enum { MAX_PROCS = 1024, MAX_RENDEZ = 8192, MAX_WORDS = 4, WAKE = 16 };
 enum stage { IDLE, POSTED, ASLEEP, LEAVING, AWAITING, WOKEN, OUT, OWING, HOLDING };
 enum verb { POST, TEST, LOOK, WITHDRAW, CLEAR, RAISE, TAKE, MARK, NOTE, DRAIN, CHECK, VERBS };
 
-struct bytes { unsigned char *at; size_t len, room; };
 struct word { const unsigned char *at; size_t len; };
 #define IS(word, text) ((word).len == sizeof text - 1 && memcmp((word).at, text, sizeof text - 1) == 0)
 /* What a process is doing, and its flags: a bit for each kind of note, and WAKE. */
@@ -18,24 +13,9 @@ struct proc { enum stage stage; unsigned flags; uint64_t rendez, level, sleeper;
 /* Posted is 0 or the number of a process plus 1. */
 struct rendez { uint64_t posted, level, returned; };
 
-static struct bytes out;
 static struct proc procs[MAX_PROCS];
 static struct rendez rendezes[MAX_RENDEZ];
 static uint64_t proc_count, rendez_count;
-
-static void room_for(struct bytes *b, size_t more) {
-    if (b->room - b->len >= more) return;
-    b->room = b->room * 2 > b->len + more ? b->room * 2 : b->len + more;
-    b->at = realloc(b->at, b->room);
-    if (b->at == NULL) { fputs("p9sync: out of memory\n", stderr); exit(1); }
-}
-
-static void say(const char *text) {
-    size_t n = strlen(text);
-    room_for(&out, n);
-    memcpy(out.at + out.len, text, n);
-    out.len += n;
-}
 
 static void say_number(const char *text, uint64_t n) {
     char digits[21], *at = digits + sizeof digits;
@@ -57,25 +37,6 @@ static void say_notes(const char *text, unsigned flags) {
         before = ",";
     }
     say(*before ? "\n" : "-\n");
-}
-
-static void fault(uint64_t line) {
-    if (out.len) fwrite(out.at, 1, out.len, stdout);
-    fflush(stdout);
-    fprintf(stderr, "p9sync: script fault at line %llu\n", (unsigned long long)line);
-    exit(1);
-}
-
-static int number(struct word w, uint64_t *value) {
-    uint64_t n = 0;
-    if (w.len == 0 || (w.len > 1 && w.at[0] == '0')) return 0;
-    for (size_t i = 0; i < w.len; i++) {
-        unsigned digit = w.at[i] - '0';
-        if (digit > 9 || n > (UINT64_MAX - digit) / 10) return 0;
-        n = 10 * n + digit;
-    }
-    *value = n;
-    return 1;
 }
 
 /* The part up to this byte, or all where it is not there; what follows the byte is left. The parts are short, so a loop
@@ -203,6 +164,8 @@ static enum verb verb_of(struct word w) {
     return VERBS;
 }
 
+static int number_of(struct word w, uint64_t *value) { return number(w.at, w.len, value); }
+
 static int line(const unsigned char *at, size_t len, int first) {
     struct word words[MAX_WORDS], rest = {at, len};
     size_t n = 0;
@@ -211,43 +174,18 @@ static int line(const unsigned char *at, size_t len, int first) {
         words[n++] = part(&rest, ' ', &more);
     }
     if (first) {
-        return n == 3 && IS(words[0], "world") && number(words[1], &proc_count) && number(words[2], &rendez_count)
+        return n == 3 && IS(words[0], "world") && number_of(words[1], &proc_count) && number_of(words[2], &rendez_count)
             && 1 <= proc_count && proc_count <= MAX_PROCS && 1 <= rendez_count && rendez_count <= MAX_RENDEZ;
     }
     uint64_t pid, rendez = 0, level = 0;
     unsigned flags = 0;
     enum verb verb = verb_of(words[0]);
     size_t expected = verb == POST || verb == RAISE ? 4 : verb == NOTE ? 3 : 2;
-    if (verb == VERBS || n != expected || !number(words[1], &pid)) return 0;
-    if (n == 4 && !(number(words[2], &rendez) && number(words[3], &level))) return 0;
+    if (verb == VERBS || n != expected || !number_of(words[1], &pid)) return 0;
+    if (n == 4 && !(number_of(words[2], &rendez) && number_of(words[3], &level))) return 0;
     if (n == 3 && !notes(words[2], &flags)) return 0;
     step(verb, pid, rendez, level, flags);
     return 1;
 }
 
-int main(void) {
-    struct bytes in = {0};
-    for (;;) {
-        room_for(&in, 65536);
-        ssize_t n = read(0, in.at + in.len, 65536);
-        if (n <= 0) break;
-        in.len += n;
-        if (in.len > MAX_SCRIPT) break;
-    }
-    size_t end = in.len < MAX_SCRIPT ? in.len : MAX_SCRIPT;
-    unsigned char *at = in.at, *stop = in.at + end;
-    uint64_t number = 1;
-    for (; at < stop; number++) {
-        unsigned char *feed = memchr(at, '\n', stop - at);
-        if (feed == NULL || feed - at > MAX_LINE || !line(at, feed - at, number == 1)) fault(number);
-        at = feed + 1;
-    }
-    if (in.len == 0 || in.len > MAX_SCRIPT) fault(number);
-    say(is_lost() ? "lost yes\n" : "lost no\n");
-    for (size_t done = 0; done < out.len;) {
-        ssize_t n = write(1, out.at + done, out.len - done);
-        if (n <= 0) { fputs("p9sync: device fault\n", stderr); return 1; }
-        done += n;
-    }
-    return 0;
-}
+static void farewell(void) { say(is_lost() ? "lost yes\n" : "lost no\n"); }
