@@ -1,6 +1,6 @@
 //! What every layer of the library speaks of: the names of processes, Rendez and tags, the notes,
 //! the flags of rfork, the faults, the limits, and a pipe for one thread.
-//! Read `ids`, `note`, `flags`, `limits`, `fault`, and then `plain_pipe`.
+//! Read `ids`, `note`, `flags`, `limits`, `fault`, and then `plain_pipe`; `probe` is for tests of calls.
 #![tactic(auto)]
 
 pub mod answers;
@@ -12,6 +12,7 @@ pub mod limits;
 pub mod note;
 pub mod piece;
 pub mod plain_pipe;
+pub mod probe;
 
 pub use answers::{ReadAnswer, WriteAnswer};
 pub use fault::Fault;
@@ -20,6 +21,7 @@ pub use ids::{Pid, RendezId, Tag};
 pub use note::{Note, NoteSet};
 pub use piece::Piece;
 pub use plain_pipe::PlainPipe;
+pub use probe::{NoProbe, Probe};
 
 #[cfg(test)]
 mod tests;
