@@ -8,7 +8,7 @@ ghost use Rattle.sleep_core.specs.Laws.{ReturnedWakeupReleases, ReturnsByOwnEven
 ghost use Rattle.sleep_core.specs.Laws.{SleepsEndForACause};
 ghost use Rattle.sleep_core.specs.Local.{AnswersByOneWord, KeepsOtherWords, KeepsOtherPhases};
 ghost use Rattle.sleep_core.specs.Local.{KeepsOtherReturned, PhaseByOwnEvents, PhaseByKeptEvents};
-ghost use Rattle.sleep_core.specs.Promises.{IsLost, NoMarkIsStray, AreNotesRight};
+ghost use Rattle.sleep_core.specs.Promises.{LosesWakeup, NoMarkIsStray, AreNotesRight};
 ghost use Rattle.sleep_core.specs.Promises.{EachSleepIsCaused};
 
 /// One event reads one word and one phase, and changes at most these and one returned level.
@@ -59,7 +59,7 @@ pub fn sleep_ends_for_a_cause()
 /// What is promised of every history is more than nothing: a worse machine would break each
 /// promise.
 pub fn promises_can_be_broken()
-    ensures lost { IsLost takes_too_early }
+    ensures lost { LosesWakeup takes_too_early }
     ensures stray { ¬ (NoMarkIsStray leaves_before_its_mark) }
     ensures notes { ¬ (AreNotesRight drops_a_note) }
     ensures cause { ¬ (EachSleepIsCaused leaves_for_no_cause) }
