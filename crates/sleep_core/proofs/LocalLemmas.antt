@@ -36,14 +36,14 @@ word_at-with_word s NoCell (Some word) cell differ = refl
 word_at-with_word s changed None cell differ = refl
 
 -- a phase and a returned level are no words
-word_at-with_phase : (s : State) (pid : ℕ) (stage : Phase) (cell : Cell)
+pub word_at-with_phase : (s : State) (pid : ℕ) (stage : Phase) (cell : Cell)
     → word_at (with_phase s pid stage) cell ≡ word_at s cell
 word_at-with_phase s pid stage (PostedOf r) = refl
 word_at-with_phase s pid stage (LevelOf r) = refl
 word_at-with_phase s pid stage (FlagsOf p) = refl
 word_at-with_phase s pid stage NoCell = refl
 
-word_at-with_returned : (s : State) (wakeup : Option Wakeup) (cell : Cell)
+pub word_at-with_returned : (s : State) (wakeup : Option Wakeup) (cell : Cell)
     → word_at (with_returned s wakeup) cell ≡ word_at s cell
 word_at-with_returned s None cell = refl
 word_at-with_returned s (Some wakeup) (PostedOf r) = refl

@@ -90,7 +90,7 @@ core_kept s h (gives_up {pid = pid} {rendez = rendez} {level = level} in_range a
 core_kept s h (withdraws {pid = pid} {rendez = rendez} in_range at mine) core =
     withdraws_keeps s h pid rendez in_range at mine core
 core_kept s h (awaits {pid = pid} {rendez = rendez} in_range at other) core =
-    awaits_keeps s h pid in_range core
+    awaits_keeps s h pid rendez in_range at other core
 core_kept s h (leaves {pid = pid} {stage = stage} in_range at over) core =
     leaves_keeps s h pid stage in_range at over core
 core_kept s h (raises {pid = pid} {rendez = rendez} {level = level} in_range idle there) core =
@@ -116,7 +116,7 @@ core_of_run procs rendez (entry ∷ past) run =
     (table_moves (world_of procs rendez past) entry.event) (core_of_run procs rendez past run.0))
 
 -- nobody is left asleep
-fallen_at : (s : State) (h : List Deed) (pid : ℕ) (rendez : RendezId) (level : ℕ) → Core s h
+pub fallen_at : (s : State) (h : List Deed) (pid : ℕ) (rendez : RendezId) (level : ℕ) → Core s h
     → phase_of s pid ≡ phase.Asleep rendez level → posted_of s rendez.0 ≡ pid + 1
     → HasFallen h pid rendez.0 level
 fallen_at s h pid rendez level core at posted = fit.stays (core.posted rendez.0 pid posted)

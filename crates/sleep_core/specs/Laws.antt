@@ -5,7 +5,8 @@ use Rattle.sleep_core.specs.declared.event.Event.{Event}
 use Rattle.sleep_core.specs.declared.phase.Phase.TheVariants as phase
 use Rattle.sleep_core.specs.State.{State, IsSound, opening, posted_as}
 use Rattle.sleep_core.specs.State.{phase_of, posted_of, returned_of}
-use Rattle.sleep_core.specs.Runs.{Entry, IsRun, world_of, own, run_of, world_after_all}
+use Rattle.sleep_core.specs.Runs.{Entry, IsRun, world_of, own, kept, run_of}
+use Rattle.sleep_core.specs.Runs.{world_after_all}
 use Rattle.sleep_core.specs.History.{Deed, history_of, HasReturned}
 use Rattle.sleep_core.specs.Promises.{LosesWakeup, NoMarkIsStray, AreNotesRight, EachSleepIsCaused}
 use Rattle.sleep_core.specs.Oversleep.{HasLostWakeup}
@@ -77,6 +78,19 @@ ReturnsByOwnEvents =
     → IsRun procs rendez past
     → (pid at level : ℕ)
     → HasReturned (history_of (own pid past)) at level
+    → HasReturned (history_of past) at level
+
+-- what is not kept of a run shows nothing in its history
+abbrev pub HistoryByKeptEvents : Type 0
+HistoryByKeptEvents = (past : List Entry) → history_of (kept past) ≡ history_of past
+
+-- so the receipt stands in those of the raiser's own events that are kept
+abbrev pub ReturnsByKeptEvents : Type 0
+ReturnsByKeptEvents =
+    (procs rendez : ℕ) (past : List Entry)
+    → IsRun procs rendez past
+    → (pid at level : ℕ)
+    → HasReturned (history_of (kept (own pid past))) at level
     → HasReturned (history_of past) at level
 
 -- a sleep that ends without notes ended because its test passed or a look found the mark
