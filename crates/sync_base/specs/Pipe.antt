@@ -1,11 +1,14 @@
--- One direction of a pipe: what was accepted, how far it is read, and whether it is hung up.
--- It is the same for a pipe of one thread and for a queue between threads, which numbers its writes.
-use Rattle.std.specs.Prelude.{◌≡◌, ◌==◌, ℕ, ◌+◌, ◌-◌, ◌<◌, ◌≤◌, nat_lt, nat_le, Bool, true, false, if◌then◌else◌, List, [], ◌∷◌, ◌++◌, length, take, drop, slice_get, Option, None, Some, unwrap_or}
+-- One direction of a pipe: what was accepted, how far it is read, and whether it is hung up. It is
+-- the same for a pipe of one thread and for a queue between threads, which numbers its writes.
+use Rattle.std.specs.Prelude.{◌≡◌, ◌==◌, ℕ, ◌+◌, ◌-◌, ◌<◌, ◌≤◌, nat_lt, nat_le, Bool, true, false, if◌then◌else◌, List, [], ◌∷◌, ◌++◌, length, take, drop, slice_get, Option, None, Some, unwrap_or, Result, Ok, Err}
 use Rattle.std.specs.Option.{option_map}
 use Rattle.sync_base.specs.declared.answers.WriteAnswer.{WriteAnswer}
 use Rattle.sync_base.specs.declared.answers.WriteAnswer.TheVariants.{Taken, Full, Hungup}
 use Rattle.sync_base.specs.declared.answers.ReadAnswer.{ReadAnswer}
 use Rattle.sync_base.specs.declared.answers.ReadAnswer.TheVariants.{Got, Empty, End}
+use Rattle.sync_base.specs.declared.fault.Fault.{Fault}
+use Rattle.sync_base.specs.declared.fault.Fault.TheVariants.{TooBig, BadCount}
+use Rattle.sync_base.specs.declared.limits.TheConstants.{ATOMIC_SIZE}
 use Rattle.sync_base.specs.Write.{Write}
 
 -- After pipe(3): a direction is a queue of writes, and a read begins where the last one ended.
@@ -40,23 +43,32 @@ next_number first s = first + length s.accepted + 1
 abbrev pub begun_number : ℕ → PipeState → ℕ
 begun_number first s = first + begun_of s
 
--- Where a write may be answered so. After pipe(2), by which a write to a hung up pipe fails; the limit is the library's own.
+-- Where a write may be answered so. After pipe(2), by which a write to a hung up pipe fails; the
+-- limit is the library's own.
 abbrev pub MayAnswerWrite : PipeState → WriteAnswer → Type 0
 MayAnswerWrite s Hungup = s.hung ≡ true
 MayAnswerWrite s Full = waiting_of s ≡ s.limit
 MayAnswerWrite s Taken = (s.hung ≡ false) × (waiting_of s < s.limit)
 
--- Where a read of at most so many bytes may be answered so. After pipe(3): a read never joins two writes, and an
--- empty write is read as an empty piece.
+-- Where a read of at most so many bytes may be answered so. After pipe(3): a read never joins two
+-- writes, and an empty write is read as an empty piece.
 abbrev pub MayAnswerRead : ℕ → PipeState → ReadAnswer → Type 0
 MayAnswerRead most s (Got piece) =
-    (write : Write) × (next_write s ≡ Some write) × (piece ≡ take most (drop s.offset write.bytes))
+    (write : Write)
+    × (next_write s ≡ Some write)
+    × (piece ≡ take most (drop s.offset write.bytes))
 MayAnswerRead most s End = (s.hung ≡ true) × (next_write s ≡ None)
 MayAnswerRead most s Empty = next_write s ≡ None
 
 -- the first of Hungup, Full and Taken that may be answered
 abbrev pub write_answer : PipeState → WriteAnswer
 write_answer s = if s.hung then Hungup else if waiting_of s == s.limit then Full else Taken
+
+-- What a write of these bytes comes to. Own: one above the atomic size is refused first, and then
+-- the direction is not looked at.
+abbrev pub write_result : PipeState → List ℕ → Result WriteAnswer Fault
+write_result s bytes =
+    if nat_lt ATOMIC_SIZE (length bytes) then Err TooBig else Ok (write_answer s)
 
 -- a write that is answered so: one that is taken stands behind the others, and nothing else changes
 abbrev pub after_write : PipeState → Write → WriteAnswer → PipeState
@@ -76,7 +88,14 @@ piece_of most s write = take most (drop s.offset write.bytes)
 -- the first of Got, End and Empty that may be answered
 abbrev pub read_answer : ℕ → PipeState → ReadAnswer
 read_answer most s =
-    unwrap_or (option_map (λ write. Got (piece_of most s write)) (next_write s)) (nothing_read s.hung)
+    unwrap_or
+    (option_map (λ write. Got (piece_of most s write)) (next_write s))
+    (nothing_read s.hung)
+
+-- What a read of at most so many bytes comes to. Own: a read of none is refused first, and then the
+-- direction is not looked at.
+abbrev pub read_result : ℕ → PipeState → Result ReadAnswer Fault
+read_result most s = if most == 0 then Err BadCount else Ok (read_answer most s)
 
 -- the position behind the next piece of this write: a write that is used up is read whole
 abbrev pub after_piece : ℕ → PipeState → Write → PipeState
@@ -96,7 +115,8 @@ after_hangup s = record s { hung = true }
 -- a state that a direction can be in
 pub record IsPipeState (s : PipeState) : Type 0 where
   pub position : s.read_whole ≤ length s.accepted
-  pub begun : 0 < s.offset → (write : Write) × (next_write s ≡ Some write) × (s.offset < length write.bytes)
+  pub begun : 0 < s.offset
+      → (write : Write) × (next_write s ≡ Some write) × (s.offset < length write.bytes)
   pub room : waiting_of s ≤ s.limit
 
 -- the answer gives bytes

@@ -1,9 +1,11 @@
 -- What holds of every direction of a pipe, said of the definitions alone.
-use Rattle.std.specs.Prelude.{◌≡◌, ℕ, ◌<◌, false}
+use Rattle.std.specs.Prelude.{◌≡◌, ℕ, ◌<◌, ◌≤◌, false, List, length, Ok, Err}
 use Rattle.sync_base.specs.declared.answers.WriteAnswer.TheVariants.{Full, Hungup}
 use Rattle.sync_base.specs.declared.answers.ReadAnswer.{ReadAnswer}
+use Rattle.sync_base.specs.declared.fault.Fault.TheVariants.{TooBig, BadCount}
+use Rattle.sync_base.specs.declared.limits.TheConstants.{ATOMIC_SIZE}
 use Rattle.sync_base.specs.Write.{Write}
-use Rattle.sync_base.specs.Pipe.{PipeState, IsPipeState, opening, MayAnswerWrite, MayAnswerRead, write_answer, read_answer, after_write, after_read, after_hangup}
+use Rattle.sync_base.specs.Pipe.{PipeState, IsPipeState, opening, MayAnswerWrite, MayAnswerRead, write_answer, write_result, read_answer, read_result, after_write, after_read, after_hangup}
 
 -- what a write is answered may be answered
 abbrev pub WriteAnswersApply : Type 0
@@ -14,7 +16,29 @@ abbrev pub HungupComesFirst : Type 0
 HungupComesFirst = (s : PipeState) → MayAnswerWrite s Hungup → write_answer s ≡ Hungup
 
 abbrev pub FullComesBeforeTaken : Type 0
-FullComesBeforeTaken = (s : PipeState) → s.hung ≡ false → MayAnswerWrite s Full → write_answer s ≡ Full
+FullComesBeforeTaken =
+    (s : PipeState) → s.hung ≡ false → MayAnswerWrite s Full → write_answer s ≡ Full
+
+-- a write above the atomic size is refused first, and no other is
+abbrev pub TooBigComesFirst : Type 0
+TooBigComesFirst =
+    (s : PipeState) (bytes : List ℕ)
+    → ATOMIC_SIZE < length bytes
+    → write_result s bytes ≡ Err TooBig
+
+abbrev pub OtherWritesAreAnswered : Type 0
+OtherWritesAreAnswered =
+    (s : PipeState) (bytes : List ℕ)
+    → length bytes ≤ ATOMIC_SIZE
+    → write_result s bytes ≡ Ok (write_answer s)
+
+-- a read of no bytes is refused first, and no other is
+abbrev pub BadCountComesFirst : Type 0
+BadCountComesFirst = (s : PipeState) → read_result 0 s ≡ Err BadCount
+
+abbrev pub OtherReadsAreAnswered : Type 0
+OtherReadsAreAnswered =
+    (most : ℕ) (s : PipeState) → 0 < most → read_result most s ≡ Ok (read_answer most s)
 
 -- what a read is answered may be answered, and it is End where nothing is left of a hung up direction
 abbrev pub ReadAnswersApply : Type 0
@@ -22,7 +46,9 @@ ReadAnswersApply = (most : ℕ) (s : PipeState) → MayAnswerRead most s (read_a
 
 abbrev pub EndComesBeforeEmpty : Type 0
 EndComesBeforeEmpty =
-    (most : ℕ) (s : PipeState) → MayAnswerRead most s ReadAnswer.End → read_answer most s ≡ ReadAnswer.End
+    (most : ℕ) (s : PipeState)
+    → MayAnswerRead most s ReadAnswer.End
+    → read_answer most s ≡ ReadAnswer.End
 
 -- each state from the opening on is a state of a pipe
 abbrev pub OpeningIsState : Type 0
@@ -30,10 +56,13 @@ OpeningIsState = (limit : ℕ) → IsPipeState (opening limit)
 
 abbrev pub WritesKeepState : Type 0
 WritesKeepState =
-    (s : PipeState) (write : Write) → IsPipeState s → IsPipeState (after_write s write (write_answer s))
+    (s : PipeState) (write : Write)
+    → IsPipeState s
+    → IsPipeState (after_write s write (write_answer s))
 
 abbrev pub ReadsKeepState : Type 0
-ReadsKeepState = (most : ℕ) (s : PipeState) → 0 < most → IsPipeState s → IsPipeState (after_read most s)
+ReadsKeepState =
+    (most : ℕ) (s : PipeState) → 0 < most → IsPipeState s → IsPipeState (after_read most s)
 
 abbrev pub HangupKeepsState : Type 0
 HangupKeepsState = (s : PipeState) → IsPipeState s → IsPipeState (after_hangup s)

@@ -7,7 +7,8 @@ use crate::note::NoteSet;
 use std::alloc::{AllocError, AllocFailed};
 use thiserror::Error;
 
-/// Why a call was refused. Each page of a call lists its faults in the order in which they are tested.
+/// Why a call was refused. Each page of a call lists its faults in the order in which they are
+/// tested.
 #[derive(Clone, Copy, Debug, PartialEq, Eq, Error)]
 pub enum Fault {
     /// A growth of memory was refused.

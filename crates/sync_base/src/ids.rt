@@ -4,7 +4,8 @@
 #[derive(Clone, Copy, Debug, PartialEq, Eq)]
 pub struct Pid(pub u64);
 
-/// A Rendez, the place where at most one process sleeps, by its number. Rendez of a kernel count from 0.
+/// A Rendez, the place where at most one process sleeps, by its number. Rendez of a kernel count
+/// from 0.
 #[derive(Clone, Copy, Debug, PartialEq, Eq)]
 pub struct RendezId(pub u64);
 

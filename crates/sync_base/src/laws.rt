@@ -1,6 +1,22 @@
-//! What holds of every direction of a pipe. Each law is a function that does nothing: its contract
-//! is the law, over every state.
+//! What holds of every direction of a pipe, and each limit and flag by its number. Each law is a
+//! function that does nothing: its contract is the law.
+ghost use Rattle.std.specs.Prelude.{◌≡◌};
+ghost use Rattle.sync_base.specs.Flags.{bits_of};
+ghost use Rattle.sync_base.specs.declared.flags.TheConstants.Flags.{NONE, RFPROC, RFREND};
+ghost use Rattle.sync_base.specs.declared.limits.TheConstants.{MAX_PROCS, MAX_RENDEZ};
+ghost use Rattle.sync_base.specs.declared.limits.TheConstants.{MAX_PIPE_LIMIT, MAX_WRITERS};
+ghost use Rattle.sync_base.specs.declared.limits.TheConstants.{ATOMIC_SIZE, TOP_LEVEL, LAST_WRITE};
+ghost use Rattle.sync_base.specs.PipeLaws.{TooBigComesFirst, OtherWritesAreAnswered};
+ghost use Rattle.sync_base.specs.PipeLaws.{BadCountComesFirst, OtherReadsAreAnswered};
 ghost use Rattle.sync_base.specs.PipeLaws.{WriteAnswersApply, HungupComesFirst, FullComesBeforeTaken, ReadAnswersApply, EndComesBeforeEmpty, OpeningIsState, WritesKeepState, ReadsKeepState, HangupKeepsState};
+
+/// A write above the atomic size and a read of no bytes are refused first, and no others are.
+pub fn refusals_come_first()
+    ensures too_big { TooBigComesFirst }
+    ensures other_writes { OtherWritesAreAnswered }
+    ensures bad_count { BadCountComesFirst }
+    ensures other_reads { OtherReadsAreAnswered }
+{}
 
 /// A write and a read are answered the first answer that applies.
 pub fn first_answer_that_applies()
@@ -18,4 +34,22 @@ pub fn state_stays_a_state()
     ensures writes { WritesKeepState }
     ensures reads { ReadsKeepState }
     ensures hangup { HangupKeepsState }
+{}
+
+/// The limits that the code tests and the definitions cite.
+pub fn limits_by_number()
+    ensures procs { MAX_PROCS ≡ 1024 }
+    ensures rendez { MAX_RENDEZ ≡ 8192 }
+    ensures pipe_limit { MAX_PIPE_LIMIT ≡ 1024 }
+    ensures writers { MAX_WRITERS ≡ 64 }
+    ensures atomic_size { ATOMIC_SIZE ≡ 8192 }
+    ensures top_level { TOP_LEVEL ≡ 18446744073709551615 }
+    ensures last_write { LAST_WRITE ≡ 4611686018427387903 }
+{}
+
+/// The bits of the flags of rfork.
+pub fn flags_by_number()
+    ensures none { bits_of NONE ≡ 0 }
+    ensures rfproc { bits_of RFPROC ≡ 1 }
+    ensures rfrend { bits_of RFREND ≡ 2 }
 {}

@@ -1,6 +1,7 @@
 //! What every layer of the library speaks of: the names of processes, Rendez and tags, the notes,
 //! the flags of rfork, the faults, the limits, and a pipe for one thread.
-//! Read `ids`, `note`, `flags`, `limits`, `fault`, and then `plain_pipe`; `probe` is for tests of calls.
+//! Read `ids`, `note`, `flags`, `limits`, `fault`, and then `plain_pipe`; `probe` is for tests of
+//! calls.
 #![tactic(auto)]
 
 pub mod answers;

@@ -45,10 +45,16 @@ impl Model for PlainPipe {
 
     ghost Value = { Kept };
 
-    ghost view = { λ pipe. record { limit = pipe.limit; unread = pipe.held.items; offset = pipe.offset; hung = pipe.hung } };
+    ghost view = { λ pipe. record {
+      limit = pipe.limit;
+      unread = pipe.held.items;
+      offset = pipe.offset;
+      hung = pipe.hung;
+    } };
 
     // A write that is begun has a byte left.
-    ghost invariant = { λ pipe. 0 < pipe.offset → pipe.offset < length (first_bytes pipe.held.items) };
+    ghost invariant = { λ pipe. 0 < pipe.offset →
+        pipe.offset < length (first_bytes pipe.held.items) };
 }
 
 impl PlainPipe {
@@ -58,7 +64,8 @@ impl PlainPipe {
     pub fn new(alloc: Global, limit: u64) -> Result<Self, Fault>
         ensures opening { IfOk result (λ pipe. Shows pipe (opening limit)) }
         ensures bad_size { IsErrOf result Fault.BadSize ↔ IsBadLimit limit }
-        ensures faults { IfErr result (λ fault. (fault ≡ Fault.BadSize) ⊎ (fault ≡ Fault.Memory)) }
+        ensures faults { IfErr result (λ fault.
+            (fault ≡ Fault.BadSize) ⊎ (fault ≡ Fault.Memory)) }
     {
         if limit == 0 || limit > MAX_PIPE_LIMIT {
             return Err(Fault::BadSize);
@@ -84,7 +91,8 @@ impl PlainPipe {
         ensures err { OnErr result (self.new ≡ self.old) }
 
         // Otherwise the first answer that applies.
-        ensures answer { (s : PipeState) → Shows self.old s → IfOk result (λ answer. answer ≡ write_answer s) }
+        ensures answer { (s : PipeState) → Shows self.old s →
+            IfOk result (λ answer. answer ≡ write_answer s) }
         ensures after { (s : PipeState) → Shows self.old s → IfOk result (λ answer.
             Shows self.new (after_write s (record { writer = writer; bytes = bytes.now }) answer)) }
         ensures memory { (s : PipeState) → Shows self.old s → IsErrOf result Fault.Memory →
@@ -111,13 +119,17 @@ impl PlainPipe {
     pub fn read(&mut self, most: u64) -> Result<ReadAnswer, Fault>
         // Refused first, and then nothing changes.
         ensures bad_count { IsErrOf result Fault.BadCount ↔ (most ≡ 0) }
-        ensures faults { IfErr result (λ fault. (fault ≡ Fault.BadCount) ⊎ (fault ≡ Fault.Memory)) }
+        ensures faults { IfErr result (λ fault.
+            (fault ≡ Fault.BadCount) ⊎ (fault ≡ Fault.Memory)) }
         ensures err { OnErr result (self.new ≡ self.old) }
 
         // Otherwise the first answer that applies.
-        ensures answer { (s : PipeState) → Shows self.old s → IfOk result (λ answer. answer ≡ read_answer most s) }
-        ensures after { (s : PipeState) → Shows self.old s → OnOk result (Shows self.new (after_read most s)) }
-        ensures memory { (s : PipeState) → Shows self.old s → IsErrOf result Fault.Memory → IsGot (read_answer most s) }
+        ensures answer { (s : PipeState) → Shows self.old s →
+            IfOk result (λ answer. answer ≡ read_answer most s) }
+        ensures after { (s : PipeState) → Shows self.old s →
+            OnOk result (Shows self.new (after_read most s)) }
+        ensures memory { (s : PipeState) → Shows self.old s → IsErrOf result Fault.Memory →
+            IsGot (read_answer most s) }
     {
         if most == 0 {
             return Err(Fault::BadCount);
@@ -156,8 +168,10 @@ impl PlainPipe {
     /// Takes the first write out, and gives what is unread of it.
     fn take_rest(&mut self) -> Result<Piece, Fault>
         requires { 0 < length self.old.unread }
-        ensures rest { IfOk result (λ piece. piece ≡ drop self.old.offset (first_bytes self.old.unread)) }
-        ensures after { OnOk result (self.new ≡ record self.old { unread = drop 1 self.old.unread; offset = 0 }) }
+        ensures rest { IfOk result (λ piece.
+            piece ≡ drop self.old.offset (first_bytes self.old.unread)) }
+        ensures after { OnOk result
+            (self.new ≡ record self.old { unread = drop 1 self.old.unread; offset = 0 }) }
         ensures err { OnErr result (self.new ≡ self.old) }
         ensures memory { IfErr result (λ fault. fault ≡ Fault.Memory) }
     {
