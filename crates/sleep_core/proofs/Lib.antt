@@ -15,7 +15,10 @@ pub mod RaiserKeeps
 pub mod NotesKeep
 pub mod TableMoves
 pub mod SizeLemmas
+pub mod CoreRuns
+pub mod TakesKept
 pub mod NoLostWakeup
+pub mod BrokenLemmas
 pub mod PlacesKept
 pub mod WhereaboutsLemmas
 pub mod KeptHistory

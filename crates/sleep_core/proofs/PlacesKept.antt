@@ -23,7 +23,7 @@ use Rattle.sleep_core.proofs.Moves.Move.{stays, begins, passes, falls, rouses, g
 use Rattle.sleep_core.proofs.TableMoves.{table_moves}
 use Rattle.sleep_core.proofs.Frames.{same_or_not, fits_at}
 use Rattle.sleep_core.proofs.TokenLemmas.{token_elsewhere}
-use Rattle.sleep_core.proofs.NoLostWakeup.{core_of_run}
+use Rattle.sleep_core.proofs.CoreRuns.{core_of_run}
 
 -- whose token is in its flags has its mark, and whose token a raiser has is held by it
 pub record Placed (s : State) (h : List Deed) : Type 0 where

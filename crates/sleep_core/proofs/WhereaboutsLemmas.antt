@@ -13,7 +13,7 @@ use Rattle.sleep_core.proofs.CoreInvariant.Token.{Nowhere, InRendez, WithRaiser,
 use Rattle.sleep_core.proofs.Frames.{fits_at}
 use Rattle.sleep_core.proofs.TokenLemmas.{posted_by_token}
 use Rattle.sleep_core.proofs.PlacesKept.{Placed, places_of_run}
-use Rattle.sleep_core.proofs.NoLostWakeup.{core_of_run, fallen_at}
+use Rattle.sleep_core.proofs.CoreRuns.{core_of_run, fallen_at}
 
 -- the place where a token is, and the token in a place
 abbrev place_of : Token → Place

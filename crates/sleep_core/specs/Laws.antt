@@ -1,5 +1,5 @@
 -- The laws over every run, and over every list of events.
-use Rattle.std.specs.Prelude.{◌≡◌, ◌≤◌, ℕ, List, [], length}
+use Rattle.std.specs.Prelude.{◌≡◌, ◌≤◌, ◌⊎◌, ℕ, List, [], length}
 use Rattle.sync_base.specs.declared.ids.RendezId.{RendezId}
 use Rattle.sleep_core.specs.declared.event.Event.{Event}
 use Rattle.sleep_core.specs.declared.phase.Phase.TheVariants as phase
@@ -8,7 +8,8 @@ use Rattle.sleep_core.specs.State.{phase_of, posted_of, returned_of}
 use Rattle.sleep_core.specs.Runs.{Entry, IsRun, world_of, own, kept, run_of}
 use Rattle.sleep_core.specs.Runs.{world_after_all}
 use Rattle.sleep_core.specs.History.{Deed, history_of, HasReturned}
-use Rattle.sleep_core.specs.Promises.{LosesWakeup, NoMarkIsStray, AreNotesRight, EachSleepIsCaused}
+use Rattle.sleep_core.specs.Promises.{LosesWakeup, TakesAreRight, NoMarkIsStray}
+use Rattle.sleep_core.specs.Promises.{IsStillIn, HasFallen, AreNotesRight, EachSleepIsCaused}
 use Rattle.sleep_core.specs.Oversleep.{HasLostWakeup}
 
 -- every list of events makes a run, which ends in the world after them
@@ -36,6 +37,7 @@ RunsAreSound =
 -- what is promised of a history and of the world in which it ends
 pub record IsKept (history : List Deed) (state : State) : Type 0 where
   pub none_lost : ¬ (LosesWakeup history)
+  pub takes_right : TakesAreRight history
   pub none_stray : NoMarkIsStray history
   pub notes_right : AreNotesRight history
   pub nobody_oversleeps : ¬ (HasLostWakeup state)
@@ -53,6 +55,46 @@ NoLostWakeupInEvents =
     (procs rendez : ℕ) (events : List Event)
     → let past = run_of (opening procs rendez) [] events in
     IsKept (history_of past) (world_after_all (opening procs rendez) events)
+
+-- In every run the word of a Rendez says that a process is posted there exactly where the history
+-- says that its sleep on it goes on, whatever its phase.
+abbrev pub PostedAreStillIn : Type 0
+PostedAreStillIn =
+    (procs rendez : ℕ) (past : List Entry)
+    → IsRun procs rendez past
+    → (pid at : ℕ)
+    → posted_of (world_of procs rendez past) at ≡ posted_as pid
+    → (threshold : ℕ) × IsStillIn (history_of past) pid at threshold
+
+abbrev pub StillInArePosted : Type 0
+StillInArePosted =
+    (procs rendez : ℕ) (past : List Entry)
+    → IsRun procs rendez past
+    → (pid at threshold : ℕ)
+    → IsStillIn (history_of past) pid at threshold
+    → posted_of (world_of procs rendez past) at ≡ posted_as pid
+
+-- whoever is asleep with a threshold and posted has fallen asleep with it in the history
+abbrev pub AsleepHaveFallen : Type 0
+AsleepHaveFallen =
+    (procs rendez : ℕ) (past : List Entry)
+    → IsRun procs rendez past
+    → (pid : ℕ) (at : RendezId) (threshold : ℕ)
+    → phase_of (world_of procs rendez past) pid ≡ phase.Asleep at threshold
+    → posted_of (world_of procs rendez past) at.0 ≡ posted_as pid
+    → HasFallen (history_of past) pid at.0 threshold
+
+-- the level is the greatest with which a wakeup of the Rendez has returned, or 0 where none has
+pub record IsGreatestReturned (history : List Deed) (rendez level : ℕ) : Type 0 where
+  pub bound : (other : ℕ) → HasReturned history rendez other → other ≤ level
+  pub reached : (level ≡ 0) ⊎ HasReturned history rendez level
+
+abbrev pub ReturnedIsGreatest : Type 0
+ReturnedIsGreatest =
+    (procs rendez : ℕ) (past : List Entry)
+    → IsRun procs rendez past
+    → (at : ℕ)
+    → IsGreatestReturned (history_of past) at (returned_of (world_of procs rendez past) at)
 
 -- The receipt of a wakeup: its level is at most the returned level of its Rendez, and no process
 -- that is asleep with a threshold below it is still posted.

@@ -1,12 +1,13 @@
--- What is promised of every history: no wakeup is lost, no mark is stray, and each sleep ends with
--- exactly the notes that were pending, and for a cause.
+-- What is promised of every history: no wakeup is lost, each takes whom it finds in the Rendez, no
+-- mark is stray, and each sleep ends with exactly the notes that were pending, and for a cause.
 use Rattle.std.specs.Prelude.{◌≡◌, ◌≢◌, ◌<◌, ◌==◌, ◌⊎◌, ⊤, ℕ, if◌then◌else◌}
 use Rattle.std.specs.Prelude.{Option, Some, None, List, [], ◌∷◌}
 use Rattle.sync_base.specs.declared.note.NoteSet.{NoteSet}
 use Rattle.sync_base.specs.NoteSet.{no_notes, joined}
 use Rattle.sleep_core.specs.History.{Deed, HasReturned}
 use Rattle.sleep_core.specs.History.Deed.{Began, Passed, Fell, Roused, Withdrew, Left, Took, Marked}
-use Rattle.sleep_core.specs.History.Deed.{Noted, Drained}
+use Rattle.sleep_core.specs.History.Deed.{Raised, Missed, Noted, Drained}
+use Rattle.sleep_core.specs.Table.{Wakeup}
 
 -- The process began this sleep, and since then it has neither left it nor been taken out of the
 -- Rendez, by itself or by a wakeup.
@@ -14,10 +15,12 @@ abbrev pub IsStillIn : List Deed → ℕ → ℕ → ℕ → Type 0
 IsStillIn [] pid rendez threshold = ⊥
 IsStillIn (Began by at above ∷ past) pid rendez threshold =
     ((by ≡ pid) × (at ≡ rendez) × (above ≡ threshold)) ⊎ IsStillIn past pid rendez threshold
-IsStillIn (Withdrew by ∷ past) pid rendez threshold = (by ≢ pid) × IsStillIn past pid rendez threshold
+IsStillIn (Withdrew by ∷ past) pid rendez threshold =
+    (by ≢ pid) × IsStillIn past pid rendez threshold
 IsStillIn (Took by sleeper ∷ past) pid rendez threshold =
     (sleeper ≢ pid) × IsStillIn past pid rendez threshold
-IsStillIn (Left by notes ∷ past) pid rendez threshold = (by ≢ pid) × IsStillIn past pid rendez threshold
+IsStillIn (Left by notes ∷ past) pid rendez threshold =
+    (by ≢ pid) × IsStillIn past pid rendez threshold
 IsStillIn (deed ∷ past) pid rendez threshold = IsStillIn past pid rendez threshold
 
 -- So, and in this sleep its test found the condition false: the level was not above its threshold.
@@ -25,10 +28,12 @@ abbrev pub HasFallen : List Deed → ℕ → ℕ → ℕ → Type 0
 HasFallen [] pid rendez threshold = ⊥
 HasFallen (Fell by ∷ past) pid rendez threshold =
     ((by ≡ pid) × IsStillIn past pid rendez threshold) ⊎ HasFallen past pid rendez threshold
-HasFallen (Withdrew by ∷ past) pid rendez threshold = (by ≢ pid) × HasFallen past pid rendez threshold
+HasFallen (Withdrew by ∷ past) pid rendez threshold =
+    (by ≢ pid) × HasFallen past pid rendez threshold
 HasFallen (Took by sleeper ∷ past) pid rendez threshold =
     (sleeper ≢ pid) × HasFallen past pid rendez threshold
-HasFallen (Left by notes ∷ past) pid rendez threshold = (by ≢ pid) × HasFallen past pid rendez threshold
+HasFallen (Left by notes ∷ past) pid rendez threshold =
+    (by ≢ pid) × HasFallen past pid rendez threshold
 HasFallen (deed ∷ past) pid rendez threshold = HasFallen past pid rendez threshold
 
 -- A wakeup is lost: a process fell asleep and has neither been taken out nor left, though a wakeup
@@ -42,6 +47,41 @@ pub record LosesWakeup (history : List Deed) : Type 0 where
   pub fell : HasFallen history pid rendez threshold
   pub returned : HasReturned history rendez level
   pub is_above : threshold < level
+
+-- the wakeup that the process has begun and with which it has yet to look for a sleeper
+abbrev pub owed_wakeup : ℕ → List Deed → Option Wakeup
+owed_wakeup pid [] = None
+owed_wakeup pid (Raised raiser rendez level ∷ past) =
+    if raiser == pid
+    then Some (record { rendez = rendez; level = level })
+    else owed_wakeup pid past
+owed_wakeup pid (Missed raiser ∷ past) = if raiser == pid then None else owed_wakeup pid past
+owed_wakeup pid (Took raiser sleeper ∷ past) =
+    if raiser == pid then None else owed_wakeup pid past
+owed_wakeup pid (deed ∷ past) = owed_wakeup pid past
+
+-- the process owes this wakeup, and nobody is in a sleep on its Rendez
+pub record FindsNobody (past : List Deed) (pid : ℕ) : Type 0 where
+  pub wakeup : Wakeup
+  pub owed : owed_wakeup pid past ≡ Some wakeup
+  pub free : (other threshold : ℕ) → ¬ (IsStillIn past other wakeup.rendez threshold)
+
+-- the process owes this wakeup, and the sleeper is in its sleep on that Rendez
+pub record FindsSleeper (past : List Deed) (pid sleeper : ℕ) : Type 0 where
+  pub wakeup : Wakeup
+  pub owed : owed_wakeup pid past ≡ Some wakeup
+  pub threshold : ℕ
+  pub still_in : IsStillIn past sleeper wakeup.rendez threshold
+
+-- After wakeup in "Process Sleep and Synchronization on a Shared-Memory Multiprocessor" (1991): the
+-- condition is true before the sleeper is looked for. A wakeup takes only a process that is in its
+-- sleep on that Rendez, which neither a wakeup nor it itself has taken out, and it finds nobody only
+-- where there is none.
+abbrev pub TakesAreRight : List Deed → Type 0
+TakesAreRight [] = ⊤
+TakesAreRight (Missed pid ∷ past) = FindsNobody past pid × TakesAreRight past
+TakesAreRight (Took pid sleeper ∷ past) = FindsSleeper past pid sleeper × TakesAreRight past
+TakesAreRight (deed ∷ past) = TakesAreRight past
 
 -- the raiser took this process out, and since then it has neither left its sleep nor been marked
 abbrev pub IsHeld : List Deed → ℕ → ℕ → Type 0

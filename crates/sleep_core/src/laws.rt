@@ -3,6 +3,8 @@
 ghost use Rattle.sleep_core.specs.Broken.{takes_too_early, leaves_before_its_mark};
 ghost use Rattle.sleep_core.specs.Broken.{drops_a_note, leaves_for_no_cause};
 ghost use Rattle.sleep_core.specs.Laws.{EventsMakeRuns, RunsAreSound};
+ghost use Rattle.sleep_core.specs.Laws.{PostedAreStillIn, StillInArePosted};
+ghost use Rattle.sleep_core.specs.Laws.{AsleepHaveFallen, ReturnedIsGreatest};
 ghost use Rattle.sleep_core.specs.Laws.{NoLostWakeup, NoLostWakeupInEvents};
 ghost use Rattle.sleep_core.specs.Laws.{ReturnedWakeupReleases, ReturnsByOwnEvents};
 ghost use Rattle.sleep_core.specs.Laws.{HistoryByKeptEvents, ReturnsByKeptEvents};
@@ -48,6 +50,19 @@ pub fn events_make_runs()
 /// A world keeps its size, and every process and Rendez that it names is in it.
 pub fn runs_are_sound()
     ensures { RunsAreSound }
+{}
+
+/// The posted word of a Rendez names a process exactly where the history says that its sleep there
+/// goes on, in whatever phase it is; and whoever is asleep and posted has fallen asleep in it.
+pub fn posted_is_still_in()
+    ensures word { PostedAreStillIn }
+    ensures history { StillInArePosted }
+    ensures asleep { AsleepHaveFallen }
+{}
+
+/// The returned level of a Rendez is the greatest with which a wakeup of it has returned.
+pub fn returned_is_greatest()
+    ensures { ReturnedIsGreatest }
 {}
 
 /// No wakeup is lost: whoever fell asleep has been taken out of the Rendez, or has left, once a

@@ -1,5 +1,5 @@
 -- By computing what each history says.
-use Rattle.sleep_core.proofs.NoLostWakeup.{too_early_loses, early_leave_strays, dropped_note_is_wrong, no_cause_is_wrong}
+use Rattle.sleep_core.proofs.BrokenLemmas.{too_early_loses, early_leave_strays, dropped_note_is_wrong, no_cause_is_wrong}
 use Rattle.sleep_core.proofs.laws.promises_can_be_broken.Goals as goal
 
 pub returns-clause-lost : goal.returns-clause-lost

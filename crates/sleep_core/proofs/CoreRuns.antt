@@ -1,0 +1,126 @@
+-- What every run keeps, by induction over the run.
+use Rattle.std.proofs.Common.{◌≡◌, ◌≤◌, ◌+◌, inl, ℕ, zero, suc, true, false, Option, List, [], ◌∷◌, length, get_or, refl, sym, ◌∙◌, ap, subst, arith}
+use Rattle.std.specs.Prelude.{replicate}
+use Rattle.std.specs.List.{cons_option}
+use Rattle.std.proofs.lemmas.List.{length-replicate}
+use Rattle.sync_base.specs.declared.ids.RendezId.{RendezId}
+use Rattle.sync_base.specs.declared.note.NoteSet.{NoteSet}
+use Rattle.sleep_core.specs.declared.event.Event.{Event}
+use Rattle.sleep_core.specs.declared.event.Event.TheVariants.{Note}
+use Rattle.sleep_core.specs.declared.phase.Phase.{Phase}
+use Rattle.sleep_core.specs.declared.phase.Phase.TheVariants as phase
+use Rattle.sleep_core.specs.declared.phase.ProcFlags.{ProcFlags}
+use Rattle.sleep_core.specs.State.{State, IsPhaseIn, opening, phase_of, flags_of, posted_of, no_flags}
+use Rattle.sleep_core.specs.Table.{pid_of}
+use Rattle.sleep_core.specs.Step.{world_after}
+use Rattle.sleep_core.specs.Runs.{Entry, IsMadeBy, IsRun, world_of, entry_of, run_of, world_after_all}
+use Rattle.sleep_core.specs.History.{Deed, deed_of, history_of}
+use Rattle.sleep_core.specs.Promises.{LosesWakeup, HasFallen, NoMarkIsStray, AreNotesRight, EachSleepIsCaused}
+use Rattle.sleep_core.specs.Broken.{takes_too_early, leaves_before_its_mark, drops_a_note, leaves_for_no_cause}
+use Rattle.sleep_core.specs.Oversleep.{Oversleeps}
+use Rattle.sleep_core.specs.Laws.{IsKept, NoLostWakeup, NoLostWakeupInEvents, EventsMakeRuns, ReturnedWakeupReleases, SleepsEndForACause, RunsAreSound}
+use Rattle.sleep_core.proofs.SizeLemmas.{size_of_run}
+use Rattle.sleep_core.proofs.CoreInvariant.{Fits, Core}
+use Rattle.sleep_core.proofs.Moves.{Move}
+use Rattle.sleep_core.proofs.Moves.Move.{stays, begins, passes, falls, rouses, gives_up, withdraws, awaits, leaves, raises, misses, takes, marks, notes, drains}
+use Rattle.sleep_core.proofs.TableMoves.{table_moves}
+use Rattle.sleep_core.proofs.SleeperKeeps.{begins_keeps, passes_keeps, falls_keeps, rouses_keeps, gives_up_keeps, awaits_keeps}
+use Rattle.sleep_core.proofs.LeaverKeeps.{withdraws_keeps, leaves_keeps}
+use Rattle.sleep_core.proofs.RaiserKeeps.{raises_keeps, misses_keeps, takes_keeps, marks_keeps}
+use Rattle.sleep_core.proofs.NotesKeep.{notes_keep, drains_keep}
+
+-- at the opening every entry is the same
+pub get_or-replicate_same : {X : Type 0} (n i : ℕ) (x : X) → get_or (replicate n x) i x ≡ x
+get_or-replicate_same zero i x = refl
+get_or-replicate_same (suc n) zero x = refl
+get_or-replicate_same (suc n) (suc i) x = get_or-replicate_same n i x
+
+core_at_opening : (procs rendez : ℕ) → Core (opening procs rendez) []
+core_at_opening procs rendez =
+    record {
+      sound = record {
+        flags = length-replicate procs no_flags ∙ sym (length-replicate procs phase.Idle);
+        levels = refl;
+        returned = refl;
+        phases = λ pid. subst (IsPhaseIn (length s.phases) (length s.posted)) (sym (idle pid)) tt;
+        posted = λ r. omega (arith, free r);
+      };
+      fits = λ pid. subst (Fits s [] pid) (sym (idle pid)) refl;
+      posted = λ r pid posted. absurd (omega (arith, free r, posted));
+      marked = λ pid wake. absurd (not_marked pid wake);
+      low = λ r. omega arith;
+      returned = λ r level returned. absurd returned;
+      still_in = λ pid r level still. absurd still;
+      fallen = λ pid r level fell. absurd fell;
+      notes = λ pid. ap (λ (f : ProcFlags). f.notes) (get_or-replicate_same procs pid no_flags);
+      marks_due = tt;
+      notes_right = tt;
+      caused = tt;
+    }
+  where
+    s : State
+    s = opening procs rendez
+
+    idle : (pid : ℕ) → phase_of s pid ≡ phase.Idle
+    idle pid = get_or-replicate_same procs pid phase.Idle
+
+    free : (r : ℕ) → posted_of s r ≡ 0
+    free r = get_or-replicate_same rendez r 0
+
+    not_marked : (pid : ℕ) → (flags_of s pid).wake ≡ true → ⊥
+    not_marked pid wake =
+        let unmarked : (flags_of s pid).wake
+        ≡ false = ap (λ (f : ProcFlags). f.wake) (get_or-replicate_same procs pid no_flags) in
+        cc
+
+-- every move keeps it
+core_kept : (s : State) (h : List Deed) {deed : Option Deed} {after : State} → Move s deed after
+    → Core s h → Core after (cons_option deed h)
+core_kept s h stays core = core
+core_kept s h (begins {pid = pid} {rendez = rendez} {level = level} in_range idle there free) core =
+    begins_keeps s h pid rendez level in_range idle there free core
+core_kept s h (passes {pid = pid} {rendez = rendez} {level = level} in_range at) core =
+    passes_keeps s h pid rendez level in_range at core
+core_kept s h (falls {pid = pid} {rendez = rendez} {level = level} in_range at low) core =
+    falls_keeps s h pid rendez level in_range at low core
+core_kept s h (rouses {pid = pid} {stage = stage} in_range at waiting wake) core =
+    rouses_keeps s h pid in_range wake core
+core_kept s h (gives_up {pid = pid} {rendez = rendez} {level = level} in_range at noted) core =
+    gives_up_keeps s h pid rendez level in_range at noted core
+core_kept s h (withdraws {pid = pid} {rendez = rendez} in_range at mine) core =
+    withdraws_keeps s h pid rendez in_range at mine core
+core_kept s h (awaits {pid = pid} {rendez = rendez} in_range at other) core =
+    awaits_keeps s h pid rendez in_range at other core
+core_kept s h (leaves {pid = pid} {stage = stage} in_range at over) core =
+    leaves_keeps s h pid stage in_range at over core
+core_kept s h (raises {pid = pid} {rendez = rendez} {level = level} in_range idle there) core =
+    raises_keeps s h pid rendez level in_range idle there core
+core_kept s h (misses {pid = pid} {rendez = rendez} {level = level} in_range at free) core =
+    misses_keeps s h pid rendez level in_range at free core
+core_kept s h (takes {pid = pid} {sleeper = sleeper} {rendez = rendez} {level = level} in_range at
+    posted) core =
+    takes_keeps s h pid sleeper rendez level in_range at posted core
+core_kept s h (marks {pid = pid} {sleeper = sleeper} {rendez = rendez} {level = level} in_range at)
+    core =
+    marks_keeps s h pid sleeper rendez level in_range at core
+core_kept s h (notes {pid = pid} {new = new} in_range) core = notes_keep s h pid new in_range core
+core_kept s h (drains {pid = pid} in_range idle) core = drains_keep s h pid in_range idle core
+
+pub core_of_run : (procs rendez : ℕ) (past : List Entry) → IsRun procs rendez past
+    → Core (world_of procs rendez past) (history_of past)
+core_of_run procs rendez [] run = core_at_opening procs rendez
+core_of_run procs rendez (entry ∷ past) run =
+    subst (λ told. Core (world_after (world_of procs rendez past) entry.event)
+    (cons_option (deed_of told entry.event) (history_of past))) (sym run.1.answered)
+    (core_kept (world_of procs rendez past) (history_of past)
+    (table_moves (world_of procs rendez past) entry.event) (core_of_run procs rendez past run.0))
+
+-- whoever is asleep and posted has fallen asleep in this sleep
+pub fallen_at : (s : State) (h : List Deed) (pid : ℕ) (rendez : RendezId) (level : ℕ) → Core s h
+    → phase_of s pid ≡ phase.Asleep rendez level → posted_of s rendez.0 ≡ pid + 1
+    → HasFallen h pid rendez.0 level
+fallen_at s h pid rendez level core at posted = fit.stays (core.posted rendez.0 pid posted)
+  where
+    fit : Fits s h pid (phase.Asleep rendez level)
+    fit = subst (Fits s h pid) at (core.fits pid)
+
