@@ -123,4 +123,3 @@ fallen_at s h pid rendez level core at posted = fit.stays (core.posted rendez.0 
   where
     fit : Fits s h pid (phase.Asleep rendez level)
     fit = subst (Fits s h pid) at (core.fits pid)
-

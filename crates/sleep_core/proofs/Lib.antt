@@ -18,7 +18,6 @@ pub mod SizeLemmas
 pub mod CoreRuns
 pub mod TakesKept
 pub mod NoLostWakeup
-pub mod BrokenLemmas
 pub mod PlacesKept
 pub mod WhereaboutsLemmas
 pub mod KeptHistory

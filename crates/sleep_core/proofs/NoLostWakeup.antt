@@ -28,7 +28,6 @@ use Rattle.sleep_core.proofs.SleeperKeeps.{begins_keeps, passes_keeps, falls_kee
 use Rattle.sleep_core.proofs.LeaverKeeps.{withdraws_keeps, leaves_keeps}
 use Rattle.sleep_core.proofs.RaiserKeeps.{raises_keeps, misses_keeps, takes_keeps, marks_keeps}
 use Rattle.sleep_core.proofs.NotesKeep.{notes_keep, drains_keep}
-
 use Rattle.sleep_core.proofs.CoreRuns.{core_of_run, fallen_at}
 use Rattle.sleep_core.proofs.TakesKept.{takes_are_right}
 
@@ -123,4 +122,3 @@ runs_are_sound procs rendez past run =
       procs_stay = (size_of_run procs rendez past).phases;
       rendez_stay = (size_of_run procs rendez past).posted;
     }
-

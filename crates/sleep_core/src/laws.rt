@@ -1,7 +1,25 @@
 //! What holds of every world, every event and every run. Each law is a function with an empty body,
 //! whose contract says it. Before this: `world`, which is the machine that the laws speak of.
-ghost use Rattle.sleep_core.specs.Broken.{takes_too_early, leaves_before_its_mark};
-ghost use Rattle.sleep_core.specs.Broken.{drops_a_note, leaves_for_no_cause};
+ghost use Rattle.sleep_core.specs.Broken.{overlooks_the_sleeper, test_misses_the_level};
+ghost use Rattle.sleep_core.specs.Broken.{posts_over_a_sleeper, overlooks_among_others};
+ghost use Rattle.sleep_core.specs.Broken.{takes_the_sleeper, misses_who_withdrew, misses_who_left};
+ghost use Rattle.sleep_core.specs.Broken.{misses_before_the_test, misses_with_a_low_level};
+ghost use Rattle.sleep_core.specs.Broken.{misses_elsewhere, has_yet_to_mark};
+ghost use Rattle.sleep_core.specs.Broken.{takes_before_it_raises, takes_twice_for_one_raise};
+ghost use Rattle.sleep_core.specs.Broken.{takes_again_for_one_raise, takes_an_idle_process};
+ghost use Rattle.sleep_core.specs.Broken.{takes_who_withdrew, takes_who_left};
+ghost use Rattle.sleep_core.specs.Broken.{takes_a_sleeper_twice, takes_elsewhere};
+ghost use Rattle.sleep_core.specs.Broken.{leaves_before_its_mark, marks_twice, marks_untaken};
+ghost use Rattle.sleep_core.specs.Broken.{marks_another, marks_anothers_sleeper};
+ghost use Rattle.sleep_core.specs.Broken.{marks_among_others, drops_a_note, tells_another_note};
+ghost use Rattle.sleep_core.specs.Broken.{is_interrupted_by_no_note, tells_a_note_twice};
+ghost use Rattle.sleep_core.specs.Broken.{drains_a_note_twice, drains_no_note, keeps_the_last_note};
+ghost use Rattle.sleep_core.specs.Broken.{drains_anothers_note, drain_takes_anothers_note};
+ghost use Rattle.sleep_core.specs.Broken.{leaving_takes_anothers_note, tells_both_notes};
+ghost use Rattle.sleep_core.specs.Broken.{leaves_for_no_cause, leaves_for_an_older_cause};
+ghost use Rattle.sleep_core.specs.Broken.{leaves_for_anothers_cause, leaves_for_anothers_mark};
+ghost use Rattle.sleep_core.specs.Broken.{leaves_as_its_test_passed, leaves_as_it_was_marked};
+ghost use Rattle.sleep_core.specs.Broken.{leaves_as_it_was_noted};
 ghost use Rattle.sleep_core.specs.Laws.{EventsMakeRuns, RunsAreSound};
 ghost use Rattle.sleep_core.specs.Laws.{PostedAreStillIn, StillInArePosted};
 ghost use Rattle.sleep_core.specs.Laws.{AsleepHaveFallen, ReturnedIsGreatest};
@@ -14,7 +32,8 @@ ghost use Rattle.sleep_core.specs.Laws.{SleepsEndForACause};
 ghost use Rattle.sleep_core.specs.Local.{AnswersByOneWord, KeepsOtherWords, KeepsOtherPhases};
 ghost use Rattle.sleep_core.specs.Local.{KeepsOtherReturned, PhaseByOwnEvents, PhaseByKeptEvents};
 ghost use Rattle.sleep_core.specs.Rows.{EventsFollowRows};
-ghost use Rattle.sleep_core.specs.Promises.{LosesWakeup, NoMarkIsStray, AreNotesRight};
+ghost use Rattle.sleep_core.specs.Promises.{LosesWakeup, TakesAreRight, NoMarkIsStray};
+ghost use Rattle.sleep_core.specs.Promises.{AreNotesRight};
 ghost use Rattle.sleep_core.specs.Promises.{EachSleepIsCaused};
 
 /// One event reads one word and one phase, and changes at most these and one returned level.
@@ -99,11 +118,78 @@ pub fn sleep_ends_for_a_cause()
     ensures { SleepsEndForACause }
 {}
 
-/// What is promised of every history is more than nothing: a worse machine would break each
-/// promise.
+/// What is promised of every history can be broken: each short history here breaks a promise, and
+/// would not if one row of the promise were gone or said less.
 pub fn promises_can_be_broken()
-    ensures lost { LosesWakeup takes_too_early }
-    ensures stray { ¬ (NoMarkIsStray leaves_before_its_mark) }
-    ensures notes { ¬ (AreNotesRight drops_a_note) }
-    ensures cause { ¬ (EachSleepIsCaused leaves_for_no_cause) }
+    // A wakeup is lost.
+    ensures overlooks_the_sleeper { LosesWakeup overlooks_the_sleeper }
+    ensures test_misses_the_level { LosesWakeup test_misses_the_level }
+    ensures posts_over_a_sleeper { LosesWakeup posts_over_a_sleeper }
+    ensures overlooks_among_others { LosesWakeup overlooks_among_others }
+
+    // A wakeup takes what it may not, or finds nobody where somebody is.
+    ensures takes_before_it_raises { ¬ (TakesAreRight takes_before_it_raises) }
+    ensures takes_twice_for_one_raise { ¬ (TakesAreRight takes_twice_for_one_raise) }
+    ensures takes_again_for_one_raise { ¬ (TakesAreRight takes_again_for_one_raise) }
+    ensures misses_a_sleeper { ¬ (TakesAreRight overlooks_the_sleeper) }
+    ensures takes_an_idle_process { ¬ (TakesAreRight takes_an_idle_process) }
+    ensures takes_who_withdrew { ¬ (TakesAreRight takes_who_withdrew) }
+    ensures takes_who_left { ¬ (TakesAreRight takes_who_left) }
+    ensures takes_a_sleeper_twice { ¬ (TakesAreRight takes_a_sleeper_twice) }
+    ensures takes_elsewhere { ¬ (TakesAreRight takes_elsewhere) }
+
+    // A mark is stray.
+    ensures leaves_before_its_mark { ¬ (NoMarkIsStray leaves_before_its_mark) }
+    ensures marks_twice { ¬ (NoMarkIsStray marks_twice) }
+    ensures marks_untaken { ¬ (NoMarkIsStray marks_untaken) }
+    ensures marks_another { ¬ (NoMarkIsStray marks_another) }
+    ensures marks_anothers_sleeper { ¬ (NoMarkIsStray marks_anothers_sleeper) }
+
+    // A process is told of notes that are not those that were pending.
+    ensures drops_a_note { ¬ (AreNotesRight drops_a_note) }
+    ensures tells_another_note { ¬ (AreNotesRight tells_another_note) }
+    ensures is_interrupted_by_no_note { ¬ (AreNotesRight is_interrupted_by_no_note) }
+    ensures tells_a_note_twice { ¬ (AreNotesRight tells_a_note_twice) }
+    ensures drains_a_note_twice { ¬ (AreNotesRight drains_a_note_twice) }
+    ensures drains_no_note { ¬ (AreNotesRight drains_no_note) }
+    ensures keeps_the_last_note { ¬ (AreNotesRight keeps_the_last_note) }
+    ensures drains_anothers_note { ¬ (AreNotesRight drains_anothers_note) }
+    ensures drain_takes_anothers_note { ¬ (AreNotesRight drain_takes_anothers_note) }
+    ensures leaving_takes_anothers_note { ¬ (AreNotesRight leaving_takes_anothers_note) }
+
+    // A sleep ends without notes and for no cause.
+    ensures leaves_for_no_cause { ¬ (EachSleepIsCaused leaves_for_no_cause) }
+    ensures leaves_for_an_older_cause { ¬ (EachSleepIsCaused leaves_for_an_older_cause) }
+    ensures leaves_for_anothers_cause { ¬ (EachSleepIsCaused leaves_for_anothers_cause) }
+    ensures leaves_for_anothers_mark { ¬ (EachSleepIsCaused leaves_for_anothers_mark) }
+{}
+
+/// The promises forbid no more than they say: each short history here breaks none, and would if one
+/// row of the promise were gone.
+pub fn promises_can_be_kept()
+    // No wakeup is lost.
+    ensures takes_the_sleeper { ¬ (LosesWakeup takes_the_sleeper) }
+    ensures misses_who_withdrew { ¬ (LosesWakeup misses_who_withdrew) }
+    ensures misses_who_left { ¬ (LosesWakeup misses_who_left) }
+    ensures misses_before_the_test { ¬ (LosesWakeup misses_before_the_test) }
+    ensures misses_with_a_low_level { ¬ (LosesWakeup misses_with_a_low_level) }
+    ensures misses_elsewhere { ¬ (LosesWakeup misses_elsewhere) }
+    ensures has_yet_to_mark { ¬ (LosesWakeup has_yet_to_mark) }
+
+    // Each wakeup takes what it may.
+    ensures takes { TakesAreRight takes_the_sleeper }
+    ensures misses { TakesAreRight misses_who_withdrew }
+
+    // No mark is stray.
+    ensures marks { NoMarkIsStray takes_the_sleeper }
+    ensures marks_among_others { NoMarkIsStray marks_among_others }
+
+    // Each process is told of the notes that were pending.
+    ensures tells_both_notes { AreNotesRight tells_both_notes }
+    ensures tells_no_notes { AreNotesRight leaves_as_it_was_marked }
+
+    // Each sleep ends for a cause.
+    ensures leaves_as_its_test_passed { EachSleepIsCaused leaves_as_its_test_passed }
+    ensures leaves_as_it_was_marked { EachSleepIsCaused leaves_as_it_was_marked }
+    ensures leaves_as_it_was_noted { EachSleepIsCaused leaves_as_it_was_noted }
 {}

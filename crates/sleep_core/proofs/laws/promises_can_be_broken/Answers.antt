@@ -1,15 +1,16 @@
 -- By computing what each history says.
-use Rattle.sleep_core.proofs.BrokenLemmas.{too_early_loses, early_leave_strays, dropped_note_is_wrong, no_cause_is_wrong}
+use Rattle.std.proofs.Common.{inl, refl, ap}
+use Rattle.std.proofs.lemmas.Option.{same_Some}
+use Rattle.sleep_core.specs.Table.{Wakeup}
 use Rattle.sleep_core.proofs.laws.promises_can_be_broken.Goals as goal
 
-pub returns-clause-lost : goal.returns-clause-lost
-returns-clause-lost c = too_early_loses
-
-pub returns-clause-stray : goal.returns-clause-stray
-returns-clause-stray c = early_leave_strays
-
-pub returns-clause-notes : goal.returns-clause-notes
-returns-clause-notes c = dropped_note_is_wrong
-
-pub returns-clause-cause : goal.returns-clause-cause
-returns-clause-cause c = no_cause_is_wrong
+-- the sleep goes on in the Rendez of the wakeup
+pub returns-clause-misses_a_sleeper : goal.returns-clause-misses_a_sleeper
+returns-clause-misses_a_sleeper c right =
+    let begun : Wakeup = record { rendez = 0; level = 1 } in
+    right.0.free 0 0
+    (inl (
+      refl,
+      ap (λ (w : Wakeup). w.rendez) (same_Some begun right.0.wakeup right.0.owed),
+      refl,
+    ))
