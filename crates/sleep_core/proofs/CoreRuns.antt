@@ -1,25 +1,16 @@
 -- What every run keeps, by induction over the run.
-use Rattle.std.proofs.Common.{◌≡◌, ◌≤◌, ◌+◌, inl, ℕ, zero, suc, true, false, Option, List, [], ◌∷◌, length, get_or, refl, sym, ◌∙◌, ap, subst, arith}
+use Rattle.std.proofs.Common.{◌≡◌, ◌+◌, ℕ, zero, suc, true, false, Option, List, [], ◌∷◌, length, get_or, refl, sym, ◌∙◌, ap, subst, arith}
 use Rattle.std.specs.Prelude.{replicate}
 use Rattle.std.specs.List.{cons_option}
 use Rattle.std.proofs.lemmas.List.{length-replicate}
 use Rattle.sync_base.specs.declared.ids.RendezId.{RendezId}
-use Rattle.sync_base.specs.declared.note.NoteSet.{NoteSet}
-use Rattle.sleep_core.specs.declared.event.Event.{Event}
-use Rattle.sleep_core.specs.declared.event.Event.TheVariants.{Note}
-use Rattle.sleep_core.specs.declared.phase.Phase.{Phase}
 use Rattle.sleep_core.specs.declared.phase.Phase.TheVariants as phase
 use Rattle.sleep_core.specs.declared.phase.ProcFlags.{ProcFlags}
 use Rattle.sleep_core.specs.State.{State, IsPhaseIn, opening, phase_of, flags_of, posted_of, no_flags}
-use Rattle.sleep_core.specs.Table.{pid_of}
 use Rattle.sleep_core.specs.Step.{world_after}
-use Rattle.sleep_core.specs.Runs.{Entry, IsMadeBy, IsRun, world_of, entry_of, run_of, world_after_all}
+use Rattle.sleep_core.specs.Runs.{Entry, IsRun, world_of}
 use Rattle.sleep_core.specs.History.{Deed, deed_of, history_of}
-use Rattle.sleep_core.specs.Promises.{LosesWakeup, HasFallen, NoMarkIsStray, AreNotesRight, EachSleepIsCaused}
-use Rattle.sleep_core.specs.Broken.{takes_too_early, leaves_before_its_mark, drops_a_note, leaves_for_no_cause}
-use Rattle.sleep_core.specs.Oversleep.{Oversleeps}
-use Rattle.sleep_core.specs.Laws.{IsKept, NoLostWakeup, NoLostWakeupInEvents, EventsMakeRuns, ReturnedWakeupReleases, SleepsEndForACause, RunsAreSound}
-use Rattle.sleep_core.proofs.SizeLemmas.{size_of_run}
+use Rattle.sleep_core.specs.Promises.{HasFallen}
 use Rattle.sleep_core.proofs.CoreInvariant.{Fits, Core}
 use Rattle.sleep_core.proofs.Moves.{Move}
 use Rattle.sleep_core.proofs.Moves.Move.{stays, begins, passes, falls, rouses, gives_up, withdraws, awaits, leaves, raises, misses, takes, marks, notes, drains}

@@ -1,11 +1,11 @@
 -- What is not kept of a run shows nothing in its history.
-use Rattle.std.proofs.Common.{◌≡◌, ℕ, Bool, true, false, cond, Option, None, List, [], ◌∷◌, refl, sym, ◌∙◌, ap, subst}
+use Rattle.std.proofs.Common.{◌≡◌, Bool, true, false, cond, Option, None, [], ◌∷◌, refl, sym, ◌∙◌, ap, subst}
 use Rattle.std.specs.List.{cons_option}
 use Rattle.sleep_core.specs.declared.event.Event.{Event}
 use Rattle.sleep_core.specs.declared.event.Event.TheVariants.{Check}
 use Rattle.sleep_core.specs.declared.answer.Answer.{Answer}
 use Rattle.sleep_core.specs.declared.answer.Answer.TheVariants as answer
-use Rattle.sleep_core.specs.Runs.{Entry, kept, is_kept, own}
+use Rattle.sleep_core.specs.Runs.{kept, is_kept, own}
 use Rattle.sleep_core.specs.History.{Deed, deed_of, history_of, HasReturned}
 use Rattle.sleep_core.specs.Laws.{HistoryByKeptEvents, ReturnsByKeptEvents}
 use Rattle.sleep_core.proofs.OwnWakeups.{returns_by_own_events}

@@ -1,33 +1,18 @@
 -- What follows from what every run keeps: the laws.
-use Rattle.std.proofs.Common.{◌≡◌, ◌≤◌, ◌+◌, inl, ℕ, zero, suc, true, false, Option, List, [], ◌∷◌, length, get_or, refl, sym, ◌∙◌, ap, subst, arith}
-use Rattle.std.specs.Prelude.{replicate}
-use Rattle.std.specs.List.{cons_option}
-use Rattle.std.proofs.lemmas.List.{length-replicate}
-use Rattle.sync_base.specs.declared.ids.RendezId.{RendezId}
-use Rattle.sync_base.specs.declared.note.NoteSet.{NoteSet}
+use Rattle.std.proofs.Common.{◌≡◌, ◌≤◌, ◌+◌, ℕ, List, [], ◌∷◌, refl, subst, arith}
 use Rattle.sleep_core.specs.declared.event.Event.{Event}
 use Rattle.sleep_core.specs.declared.event.Event.TheVariants.{Note}
 use Rattle.sleep_core.specs.declared.phase.Phase.{Phase}
 use Rattle.sleep_core.specs.declared.phase.Phase.TheVariants as phase
-use Rattle.sleep_core.specs.declared.phase.ProcFlags.{ProcFlags}
-use Rattle.sleep_core.specs.State.{State, IsPhaseIn, opening, phase_of, flags_of, posted_of, no_flags}
+use Rattle.sleep_core.specs.State.{State, opening, phase_of, posted_of}
 use Rattle.sleep_core.specs.Table.{pid_of}
-use Rattle.sleep_core.specs.Step.{world_after}
 use Rattle.sleep_core.specs.Runs.{Entry, IsMadeBy, IsRun, world_of, entry_of, run_of, world_after_all}
-use Rattle.sleep_core.specs.History.{Deed, deed_of, history_of}
-use Rattle.sleep_core.specs.Promises.{LosesWakeup, TakesAreRight, HasFallen, NoMarkIsStray, AreNotesRight, EachSleepIsCaused}
-use Rattle.sleep_core.specs.Broken.{takes_too_early, leaves_before_its_mark, drops_a_note, leaves_for_no_cause}
+use Rattle.sleep_core.specs.History.{Deed, history_of}
+use Rattle.sleep_core.specs.Promises.{LosesWakeup, TakesAreRight}
 use Rattle.sleep_core.specs.Oversleep.{Oversleeps}
 use Rattle.sleep_core.specs.Laws.{IsKept, NoLostWakeup, NoLostWakeupInEvents, EventsMakeRuns, ReturnedWakeupReleases, SleepsEndForACause, RunsAreSound}
 use Rattle.sleep_core.proofs.SizeLemmas.{size_of_run}
-use Rattle.sleep_core.proofs.CoreInvariant.{Fits, Core}
-use Rattle.sleep_core.proofs.Moves.{Move}
-use Rattle.sleep_core.proofs.Moves.Move.{stays, begins, passes, falls, rouses, gives_up, withdraws, awaits, leaves, raises, misses, takes, marks, notes, drains}
-use Rattle.sleep_core.proofs.TableMoves.{table_moves}
-use Rattle.sleep_core.proofs.SleeperKeeps.{begins_keeps, passes_keeps, falls_keeps, rouses_keeps, gives_up_keeps, awaits_keeps}
-use Rattle.sleep_core.proofs.LeaverKeeps.{withdraws_keeps, leaves_keeps}
-use Rattle.sleep_core.proofs.RaiserKeeps.{raises_keeps, misses_keeps, takes_keeps, marks_keeps}
-use Rattle.sleep_core.proofs.NotesKeep.{notes_keep, drains_keep}
+use Rattle.sleep_core.proofs.CoreInvariant.{Core}
 use Rattle.sleep_core.proofs.CoreRuns.{core_of_run, fallen_at}
 use Rattle.sleep_core.proofs.TakesKept.{takes_are_right}
 

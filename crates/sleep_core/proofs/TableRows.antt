@@ -1,6 +1,6 @@
 -- The rows of the table, one by one: what an event that may come answers, what it leaves in its one
 -- word, and in which phase its process is then.
-use Rattle.std.proofs.Common.{◌≡◌, ◌≢◌, ◌⊎◌, ◌<◌, ◌≤◌, ◌==◌, inl, inr, ℕ, max, Bool, true, false, nat_lt, if◌then◌else◌, Option, Some, None, length, refl, sym, ◌∙◌, ap, subst, arith}
+use Rattle.std.proofs.Common.{◌≡◌, ◌≢◌, ◌⊎◌, ◌<◌, ◌≤◌, ◌==◌, inl, inr, ℕ, max, Bool, true, false, nat_lt, if◌then◌else◌, Option, Some, None, length, refl, ◌∙◌, ap, subst, arith}
 use Rattle.std.proofs.lemmas.Bool.Decides.{Decides-eqb, Decides-ltb, eqb_tells, nat_tests}
 use Rattle.std.proofs.lemmas.List.{get_or-set_same}
 use Rattle.sync_base.specs.declared.ids.Pid.{Pid}

@@ -1,12 +1,11 @@
 -- Each sleeper is in one place, and the words agree with the phases.
-use Rattle.std.proofs.Common.{◌≡◌, ◌≤◌, ◌+◌, ℕ, true, List, refl, sym, ◌∙◌, ap, subst, arith}
-use Rattle.sync_base.specs.declared.ids.RendezId.{RendezId}
+use Rattle.std.proofs.Common.{◌≡◌, ℕ, List, refl, sym, ◌∙◌, ap, subst}
 use Rattle.sleep_core.specs.declared.phase.Phase.{Phase}
 use Rattle.sleep_core.specs.declared.phase.Phase.TheVariants as phase
-use Rattle.sleep_core.specs.State.{State, posted_as, phase_of, flags_of, posted_of, returned_of}
-use Rattle.sleep_core.specs.Runs.{Entry, IsRun, world_of}
+use Rattle.sleep_core.specs.State.{State, phase_of}
+use Rattle.sleep_core.specs.Runs.{world_of}
 use Rattle.sleep_core.specs.History.{Deed, history_of}
-use Rattle.sleep_core.specs.Whereabouts.{Place, IsHolding, IsAt, IsInSleep, IsInOnePlace, SleepersAreInOnePlace, OthersAreInNoPlace, MayBePosted, IsRaised, WordsAgree, WordsAgreeInRuns}
+use Rattle.sleep_core.specs.Whereabouts.{Place, IsHolding, IsAt, IsInSleep, SleepersAreInOnePlace, OthersAreInNoPlace, MayBePosted, IsRaised, WordsAgreeInRuns}
 use Rattle.sleep_core.specs.Whereabouts.Place.{IsPostedIn, IsHeldBy, IsMarked, IsOut}
 use Rattle.sleep_core.proofs.CoreInvariant.{Token, token, IsAway, IsNear, Fits, Core}
 use Rattle.sleep_core.proofs.CoreInvariant.Token.{Nowhere, InRendez, WithRaiser, InFlags}
