@@ -77,7 +77,7 @@ HasReturned [] rendez level = ⊥
 HasReturned (Missed pid ∷ past) rendez level =
     (begun_wakeup pid past ≡ Some (record { rendez = rendez; level = level }))
     ⊎ HasReturned past rendez level
-HasReturned (Marked pid sleeper ∷ past) rendez level =
-    (begun_wakeup pid past ≡ Some (record { rendez = rendez; level = level }))
+HasReturned (Marked raiser sleeper ∷ past) rendez level =
+    (begun_wakeup raiser past ≡ Some (record { rendez = rendez; level = level }))
     ⊎ HasReturned past rendez level
 HasReturned (deed ∷ past) rendez level = HasReturned past rendez level

@@ -19,8 +19,8 @@ IsStillIn (Withdrew by ∷ past) pid rendez threshold =
     (by ≢ pid) × IsStillIn past pid rendez threshold
 IsStillIn (Took by sleeper ∷ past) pid rendez threshold =
     (sleeper ≢ pid) × IsStillIn past pid rendez threshold
-IsStillIn (Left by notes ∷ past) pid rendez threshold =
-    (by ≢ pid) × IsStillIn past pid rendez threshold
+IsStillIn (Left leaver notes ∷ past) pid rendez threshold =
+    (leaver ≢ pid) × IsStillIn past pid rendez threshold
 IsStillIn (deed ∷ past) pid rendez threshold = IsStillIn past pid rendez threshold
 
 -- So, and in this sleep its test found the condition false: the level was not above its threshold.
@@ -32,8 +32,8 @@ HasFallen (Withdrew by ∷ past) pid rendez threshold =
     (by ≢ pid) × HasFallen past pid rendez threshold
 HasFallen (Took by sleeper ∷ past) pid rendez threshold =
     (sleeper ≢ pid) × HasFallen past pid rendez threshold
-HasFallen (Left by notes ∷ past) pid rendez threshold =
-    (by ≢ pid) × HasFallen past pid rendez threshold
+HasFallen (Left leaver notes ∷ past) pid rendez threshold =
+    (leaver ≢ pid) × HasFallen past pid rendez threshold
 HasFallen (deed ∷ past) pid rendez threshold = HasFallen past pid rendez threshold
 
 -- A wakeup is lost: a process fell asleep and has neither been taken out nor left, though a wakeup
