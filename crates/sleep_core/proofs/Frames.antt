@@ -1,12 +1,13 @@
 -- What one step leaves true of the processes that did not make it.
-use Rattle.std.proofs.Common.{◌≡◌, ◌≢◌, ◌⊎◌, ◌<◌, ◌≤◌, ◌==◌, inl, inr, ℕ, true, false, eqb, if◌then◌else◌, List, length, get_or, set, sym, ◌∙◌, ap, subst, arith}
+use Rattle.std.proofs.Common.{◌≡◌, ◌≢◌, ◌⊎◌, ◌<◌, ◌≤◌, ◌==◌, inl, inr, ℕ, true, false, eqb, if◌then◌else◌, Some, List, ◌∷◌, length, get_or, set, refl, sym, ◌∙◌, ap, subst, arith}
 use Rattle.std.proofs.lemmas.Bool.Decides.{eqb_tells}
 use Rattle.std.proofs.lemmas.List.{get_or-set_same, get_or-set_other}
 use Rattle.sleep_core.specs.declared.phase.Phase.{Phase}
 use Rattle.sleep_core.specs.declared.phase.Phase.TheVariants as phase
-use Rattle.sleep_core.specs.State.{State, phase_of, flags_of, level_of}
+use Rattle.sleep_core.specs.State.{State, phase_of, flags_of, level_of, no_flags}
 use Rattle.sleep_core.specs.Table.{has_notes}
 use Rattle.sleep_core.specs.History.{Deed, begun_wakeup}
+use Rattle.sleep_core.specs.History.Deed.{Began, Passed, Fell, Roused, Withdrew, Left, Raised, Took, Marked}
 use Rattle.sleep_core.specs.Promises.{IsStillIn, HasFallen, IsHeld, IsCaused}
 use Rattle.sleep_core.proofs.ListLemmas.{get_or-set_cases}
 use Rattle.sleep_core.proofs.CoreInvariant.{Token, token, IsAway, IsNear, MayLeave, Raises, Fits, IsAtLevel, Core}
@@ -92,6 +93,150 @@ pub record Frame (before after : State) (h later : List Deed) (pid : ℕ) : Type
       → (token later sleeper ≡ WithRaiser pid) × IsHeld later pid sleeper
   pub newly : (rendez other above : ℕ) → HasFallen later other rendez above
       → HasFallen h other rendez above ⊎ (level_of before rendez ≤ above)
+
+-- the deed moves the token of this process
+abbrev pub MovesToken : ℕ → Deed → Type 0
+MovesToken pid (Began by rendez threshold) = by ≡ pid
+MovesToken pid (Withdrew by) = by ≡ pid
+MovesToken pid (Left by notes) = by ≡ pid
+MovesToken pid (Took by sleeper) = sleeper ≡ pid
+MovesToken pid (Marked by sleeper) = sleeper ≡ pid
+MovesToken pid deed = ⊥
+
+-- the deed moves its token, or begins a wakeup of it
+abbrev pub IsAbout : ℕ → Deed → Type 0
+IsAbout pid (Raised by rendez level) = by ≡ pid
+IsAbout pid deed = MovesToken pid deed
+
+-- who falls asleep with the deed has a threshold that the level is not above
+abbrev pub FallsAbove : State → List Deed → Deed → Type 0
+FallsAbove s h (Fell by) = (rendez other threshold : ℕ)
+    → (by ≡ other) × IsStillIn h other rendez threshold
+    → level_of s rendez ≤ threshold
+FallsAbove s h deed = Unit {0}
+
+-- a token that a deed does not move stays
+same_token_past : (h : List Deed) (deed : Deed) (pid : ℕ) → (MovesToken pid deed → ⊥)
+    → token (deed ∷ h) pid ≡ token h pid
+same_token_past h (Began by rendez threshold) pid other =
+    if_other by pid (InRendez rendez) (token h pid) (λ same. other (sym same))
+same_token_past h (Withdrew by) pid other =
+    if_other by pid Nowhere (token h pid) (λ same. other (sym same))
+same_token_past h (Left by notes) pid other =
+    if_other by pid Nowhere (token h pid) (λ same. other (sym same))
+same_token_past h (Took by sleeper) pid other =
+    if_other sleeper pid (WithRaiser by) (token h pid) (λ same. other (sym same))
+same_token_past h (Marked by sleeper) pid other =
+    if_other sleeper pid InFlags (token h pid) (λ same. other (sym same))
+same_token_past h deed pid other = refl
+
+-- so do its sleep, its fall and its cause
+still_in_past : (h : List Deed) (deed : Deed) (pid rendez threshold : ℕ)
+    → (MovesToken pid deed → ⊥) → IsStillIn h pid rendez threshold
+    → IsStillIn (deed ∷ h) pid rendez threshold
+still_in_past h (Began by at above) pid rendez threshold other still = inr still
+still_in_past h (Withdrew by) pid rendez threshold other still = (other, still)
+still_in_past h (Left by notes) pid rendez threshold other still = (other, still)
+still_in_past h (Took by sleeper) pid rendez threshold other still = (other, still)
+still_in_past h deed pid rendez threshold other still = still
+
+fallen_past : (h : List Deed) (deed : Deed) (pid rendez threshold : ℕ)
+    → (MovesToken pid deed → ⊥) → HasFallen h pid rendez threshold
+    → HasFallen (deed ∷ h) pid rendez threshold
+fallen_past h (Fell by) pid rendez threshold other fell = inr fell
+fallen_past h (Withdrew by) pid rendez threshold other fell = (other, fell)
+fallen_past h (Left by notes) pid rendez threshold other fell = (other, fell)
+fallen_past h (Took by sleeper) pid rendez threshold other fell = (other, fell)
+fallen_past h deed pid rendez threshold other fell = fell
+
+caused_past : (h : List Deed) (deed : Deed) (pid : ℕ) → (MovesToken pid deed → ⊥)
+    → IsCaused h pid → IsCaused (deed ∷ h) pid
+caused_past h (Passed by) pid other cause = inr cause
+caused_past h (Roused by) pid other cause = inr cause
+caused_past h (Began by rendez threshold) pid other cause = (other, cause)
+caused_past h deed pid other cause = cause
+
+-- and the wakeup that it has begun
+begun_past : (h : List Deed) (deed : Deed) (pid : ℕ) → (IsAbout pid deed → ⊥)
+    → begun_wakeup pid (deed ∷ h) ≡ begun_wakeup pid h
+begun_past h (Raised by rendez level) pid other =
+    if_other by pid (Some (record { rendez = rendez; level = level })) (begun_wakeup pid h)
+    (λ same. other (sym same))
+begun_past h deed pid other = refl
+
+-- what is about no process moves no token of it
+not_moved : (deed : Deed) (pid : ℕ) → (IsAbout pid deed → ⊥) → MovesToken pid deed → ⊥
+not_moved (Raised by rendez level) pid other moves = moves
+not_moved deed pid other moves = other moves
+
+-- whom it holds it holds still
+held_past : (h : List Deed) (deed : Deed) (pid sleeper : ℕ) → (MovesToken sleeper deed → ⊥)
+    → IsHeld h pid sleeper → IsHeld (deed ∷ h) pid sleeper
+held_past h (Took by taken) pid sleeper other held = inr held
+held_past h (Marked by taken) pid sleeper other held = (other, held)
+held_past h (Left by notes) pid sleeper other held = (other, held)
+held_past h deed pid sleeper other held = held
+
+-- who has fallen asleep had done so before, or falls now
+newly_past : (s : State) (h : List Deed) (deed : Deed) (rendez other threshold : ℕ)
+    → FallsAbove s h deed → HasFallen (deed ∷ h) other rendez threshold
+    → HasFallen h other rendez threshold ⊎ (level_of s rendez ≤ threshold)
+newly_past s h (Fell by) rendez other threshold above fell = by_fall fell
+  where
+    by_fall : ((by ≡ other) × IsStillIn h other rendez threshold)
+        ⊎ HasFallen h other rendez threshold
+        → HasFallen h other rendez threshold ⊎ (level_of s rendez ≤ threshold)
+    by_fall (inl new) = inr (above rendez other threshold new)
+    by_fall (inr old) = inl old
+newly_past s h (Withdrew by) rendez other threshold above fell = inl fell.1
+newly_past s h (Left by notes) rendez other threshold above fell = inl fell.1
+newly_past s h (Took by sleeper) rendez other threshold above fell = inl fell.1
+newly_past s h deed rendez other threshold above fell = inl fell
+
+-- What a deed leaves true of a process that it is not about, and which holds nobody whose token
+-- moves.
+pub frame_past : (before after : State) (h : List Deed) (deed : Deed) (pid : ℕ)
+    → (IsAbout pid deed → ⊥)
+    → ((sleeper : ℕ) → MovesToken sleeper deed → token h sleeper ≡ WithRaiser pid → ⊥)
+    → FallsAbove before h deed
+    → (has_notes (flags_of before pid).notes ≡ true
+    → has_notes (flags_of after pid).notes ≡ true)
+    → ((rendez : ℕ) → level_of before rendez ≤ level_of after rendez)
+    → Frame before after h (deed ∷ h) pid
+frame_past before after h deed pid other not_held above noted level =
+    record {
+      same_token = same_token_past h deed pid unmoved;
+      still_in = λ rendez threshold still. still_in_past h deed pid rendez threshold unmoved still;
+      fallen = λ rendez threshold fell. fallen_past h deed pid rendez threshold unmoved fell;
+      caused = caused_past h deed pid unmoved;
+      noted = noted;
+      begun = begun_past h deed pid other;
+      level = level;
+      held = λ sleeper with_raiser held. (
+        same_token_past h deed sleeper (λ moves. not_held sleeper moves with_raiser) ∙ with_raiser,
+        held_past h deed pid sleeper (λ moves. not_held sleeper moves with_raiser) held,
+      );
+      newly = λ rendez x threshold fell. newly_past before h deed rendez x threshold above fell;
+    }
+  where
+    unmoved : MovesToken pid deed → ⊥
+    unmoved = not_moved deed pid other
+
+-- and what a step without a deed leaves true of each
+pub frame_quiet : (before after : State) (h : List Deed) (pid : ℕ)
+    → after.flags ≡ before.flags → after.levels ≡ before.levels → Frame before after h h pid
+frame_quiet before after h pid same_flags same_levels =
+    record {
+      same_token = refl;
+      still_in = λ rendez threshold still. still;
+      fallen = λ rendez threshold fell. fell;
+      caused = λ cause. cause;
+      noted = λ some. ap (λ flags. has_notes (get_or flags pid no_flags).notes) same_flags ∙ some;
+      begun = refl;
+      level = λ rendez. omega (arith, ap (λ levels. get_or levels rendez 0) same_levels);
+      held = λ sleeper with_raiser held. (with_raiser, held);
+      newly = λ rendez x threshold fell. inl fell;
+    }
 
 may_leave_kept : (before after : State) (h later : List Deed) (pid : ℕ)
     → Frame before after h later pid → MayLeave before h pid → MayLeave after later pid

@@ -18,7 +18,7 @@ use Rattle.sleep_core.proofs.Soundness.{IsSound-with_phase, IsSound-with_flags, 
 use Rattle.sleep_core.proofs.CoreInvariant.{token, MayLeave, Fits, IsShown, Core}
 use Rattle.sleep_core.proofs.CoreInvariant.Token.{Nowhere, InRendez, WithRaiser, InFlags}
 use Rattle.sleep_core.proofs.Moves.{IsOver, ending_notes}
-use Rattle.sleep_core.proofs.Frames.{if_same, if_other, same_or_not, apart, level_kept, fits_at, fits_each, Frame, fits_kept}
+use Rattle.sleep_core.proofs.Frames.{if_same, if_other, same_or_not, apart, level_kept, fits_at, fits_each, Frame, frame_past, fits_kept}
 
 pub withdraws_keeps : (s : State) (h : List Deed) (pid : ℕ) (rendez : RendezId)
     → pid < length s.phases → phase_of s pid ≡ phase.Leaving rendez → posted_of s rendez.0 ≡ pid + 1
@@ -67,22 +67,10 @@ withdraws_keeps s h pid rendez in_range at mine core =
     others p differ = fits_kept s after h later p frame (phase_of s p) (core.fits p)
       where
         frame : Frame s after h later p
-        frame = record {
-          same_token = if_other pid p Nowhere (token h p) differ;
-          still_in = λ r v still. (λ same. differ (sym same), still);
-          fallen = λ r v fell. (λ same. differ (sym same), fell);
-          caused = λ cause. cause;
-          noted = λ e. e;
-          begun = refl;
-          level = λ r. omega arith;
-          held = λ sleeper with_raiser held. (
-            if_other pid sleeper Nowhere (token h sleeper)
-                (apart h sleeper pid (WithRaiser p) (InRendez rendez.0) with_raiser here (λ e. cc))
-                ∙ with_raiser,
-            held,
-          );
-          newly = λ r x v fell. inl fell.1;
-        }
+        frame =
+            frame_past s after h (Withdrew pid) p (λ same. differ (sym same))
+            (λ q moves with_raiser. apart h q pid (WithRaiser p) (InRendez rendez.0) with_raiser
+            here (λ e. cc) (sym moves)) tt (λ e. e) (λ r. omega arith)
 
     -- nobody is posted here any more, and elsewhere nothing has changed
     by_rendez : (r p : ℕ) → posted_of after r ≡ p + 1 → (r ≡ rendez.0) ⊎ (r ≢ rendez.0)
@@ -196,30 +184,12 @@ leaves_keeps s h pid stage in_range at over core =
     others : (p : ℕ) → p ≢ pid → Fits after later p (phase_of s p)
     others p differ = fits_kept s after h later p frame (phase_of s p) (core.fits p)
       where
-        held_still : (raiser sleeper : ℕ) → token h sleeper ≡ WithRaiser raiser
-            → IsHeld h raiser sleeper → sleeper ≢ pid
-            → (token later sleeper ≡ WithRaiser raiser) × IsHeld later raiser sleeper
-        held_still raiser sleeper with_raiser held away = (
-          if_other pid sleeper Nowhere (token h sleeper) away
-              ∙ with_raiser,
-          (λ same. away (sym same), held),
-        )
-
         frame : Frame s after h later p
-        frame = record {
-          same_token = if_other pid p Nowhere (token h p) differ;
-          still_in = λ r v still. (λ same. differ (sym same), still);
-          fallen = λ r v fell. (λ same. differ (sym same), fell);
-          caused = λ cause. cause;
-          noted = λ e. ap (λ (f : ProcFlags). has_notes f.notes)
-              (get_or-set_other s.flags pid p no_flags no_flags differ) ∙ e;
-          begun = refl;
-          level = λ r. omega arith;
-          held = λ sleeper with_raiser held. held_still p sleeper with_raiser held
-              (apart h sleeper pid (WithRaiser p) (token h pid) with_raiser refl
-              (λ e. not_held p (sym e)));
-          newly = λ r x v fell. inl fell.1;
-        }
+        frame =
+            frame_past s after h (Left pid (ending_notes notes)) p (λ same. differ (sym same))
+            (λ q moves with_raiser. not_held p (ap (token h) moves ∙ with_raiser)) tt
+            (λ e. ap (λ (f : ProcFlags). has_notes f.notes)
+            (get_or-set_other s.flags pid p no_flags no_flags differ) ∙ e) (λ r. omega arith)
 
     by_mark : (p : ℕ) → (flags_of after p).wake ≡ true → (p ≡ pid) ⊎ (p ≢ pid)
         → token later p ≡ InFlags

@@ -15,7 +15,7 @@ use Rattle.sleep_core.specs.Promises.{pending}
 use Rattle.sleep_core.proofs.Soundness.{IsSound-with_flags}
 use Rattle.sleep_core.proofs.CoreInvariant.{token, Fits, Core}
 use Rattle.sleep_core.proofs.CoreInvariant.Token.{Nowhere, InFlags}
-use Rattle.sleep_core.proofs.Frames.{if_same, if_other, same_or_not, Frame, fits_kept}
+use Rattle.sleep_core.proofs.Frames.{if_same, if_other, same_or_not, Frame, frame_past, fits_kept}
 
 -- notes that are there stay there
 has_notes-joined : (old new : NoteSet) → has_notes old ≡ true → has_notes (joined old new) ≡ true
@@ -90,17 +90,9 @@ notes_keep s h pid new in_range core =
     kept p (inr away) some = ap (λ (f : ProcFlags). has_notes f.notes) (flags_other p away) ∙ some
 
     frame : (p : ℕ) → Frame s after h later p
-    frame p = record {
-      same_token = refl;
-      still_in = λ r v still. still;
-      fallen = λ r v fell. fell;
-      caused = λ cause. cause;
-      noted = kept p (same_or_not p pid);
-      begun = refl;
-      level = λ r. omega arith;
-      held = λ sleeper with_raiser held. (with_raiser, held);
-      newly = λ r x v fell. inl fell;
-    }
+    frame p =
+        frame_past s after h (Noted pid new) p (λ about. about) (λ q moves with_raiser. moves) tt
+        (kept p (same_or_not p pid)) (λ r. omega arith)
 
 pub drains_keep : (s : State) (h : List Deed) (pid : ℕ) → pid < length s.phases
     → phase_of s pid ≡ phase.Idle → Core s h
@@ -147,17 +139,10 @@ drains_keep s h pid in_range idle core =
     by_phase p (inr away) = fits_kept s after h later p frame (phase_of s p) (core.fits p)
       where
         frame : Frame s after h later p
-        frame = record {
-          same_token = refl;
-          still_in = λ r v still. still;
-          fallen = λ r v fell. fell;
-          caused = λ cause. cause;
-          noted = λ some. ap (λ (f : ProcFlags). has_notes f.notes) (flags_other p away) ∙ some;
-          begun = refl;
-          level = λ r. omega arith;
-          held = λ sleeper with_raiser held. (with_raiser, held);
-          newly = λ r x v fell. inl fell;
-        }
+        frame =
+            frame_past s after h (Drained pid (flags_of s pid).notes) p (λ about. about) (λ q moves with_raiser. moves) tt
+            (λ some. ap (λ (f : ProcFlags). has_notes f.notes) (flags_other p away) ∙ some)
+            (λ r. omega arith)
 
     by_mark : (p : ℕ) → (flags_of after p).wake ≡ true → (p ≡ pid) ⊎ (p ≢ pid)
         → token later p ≡ InFlags

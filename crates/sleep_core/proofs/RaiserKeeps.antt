@@ -16,7 +16,7 @@ use Rattle.sleep_core.proofs.ListLemmas.{get_or-set_cases}
 use Rattle.sleep_core.proofs.Soundness.{IsSound-with_phase, IsSound-with_flags, IsSound-with_posted, IsSound-with_level, IsSound-with_returned}
 use Rattle.sleep_core.proofs.CoreInvariant.{token, IsAway, Raises, Holds, Fits, IsShown, Core}
 use Rattle.sleep_core.proofs.CoreInvariant.Token.{Nowhere, InRendez, WithRaiser, InFlags}
-use Rattle.sleep_core.proofs.Frames.{if_same, if_other, same_or_not, apart, level_kept, fits_at, fits_each, Frame, fits_kept, fits_moved}
+use Rattle.sleep_core.proofs.Frames.{if_same, if_other, same_or_not, apart, level_kept, fits_at, fits_each, Frame, frame_past, fits_kept, fits_moved}
 
 -- who has fallen asleep is still in
 pub still_in_from_fallen : (h : List Deed) (pid rendez level : ℕ) → HasFallen h pid rendez level
@@ -110,18 +110,9 @@ raises_keeps s h pid rendez level in_range idle has_level core =
     others p differ = fits_kept s after h later p frame (phase_of s p) (core.fits p)
       where
         frame : Frame s after h later p
-        frame = record {
-          same_token = refl;
-          still_in = λ r v still. still;
-          fallen = λ r v fell. fell;
-          caused = λ cause. cause;
-          noted = λ e. e;
-          begun = if_other pid p (Some (record { rendez = rendez.0; level = level }))
-              (begun_wakeup p h) differ;
-          level = grows;
-          held = λ sleeper with_raiser held. (with_raiser, held);
-          newly = λ r x v fell. inl fell;
-        }
+        frame =
+            frame_past s after h (Raised pid rendez.0 level) p (λ same. differ (sym same))
+            (λ q moves with_raiser. moves) tt (λ e. e) grows
 
 -- a returned level never falls
 pub returned_grows : (s : State) (call : Wakeup) (r : ℕ)
@@ -222,17 +213,9 @@ misses_keeps s h pid rendez level in_range at free core =
     others p differ = fits_kept s after h later p frame (phase_of s p) (core.fits p)
       where
         frame : Frame s after h later p
-        frame = record {
-          same_token = refl;
-          still_in = λ r v still. still;
-          fallen = λ r v fell. fell;
-          caused = λ cause. cause;
-          noted = λ e. e;
-          begun = refl;
-          level = λ r. omega arith;
-          held = λ sleeper with_raiser held. (with_raiser, held);
-          newly = λ r x v fell. inl fell;
-        }
+        frame =
+            frame_past s after h (Missed pid) p (λ about. about) (λ q moves with_raiser. moves) tt
+            (λ e. e) (λ r. omega arith)
 
     by_return : (r w : ℕ)
         → (begun_wakeup pid h ≡ Some (record { rendez = r; level = w })) ⊎ HasReturned h r w
@@ -331,23 +314,10 @@ takes_keeps s h pid sleeper rendez level in_range at posted core =
         by_sleeper (inr away) = fits_kept s after h later p frame (phase_of s p) (core.fits p)
           where
             frame : Frame s after h later p
-            frame = record {
-              same_token = if_other sleeper.0 p (WithRaiser pid) (token h p) away;
-              still_in = λ r v still. (λ same. away (sym same), still);
-              fallen = λ r v fell. (λ same. away (sym same), fell);
-              caused = λ cause. cause;
-              noted = λ e. e;
-              begun = refl;
-              level = λ r. omega arith;
-              held = λ q with_raiser held. (
-                if_other sleeper.0 q (WithRaiser pid) (token h q)
-                    (apart h q sleeper.0 (WithRaiser p) (InRendez rendez.0) with_raiser here
-                    (λ e. cc))
-                    ∙ with_raiser,
-                inr held,
-              );
-              newly = λ r x v fell. inl fell.1;
-            }
+            frame =
+                frame_past s after h (Took pid sleeper.0) p (λ same. away (sym same))
+                (λ q moves with_raiser. apart h q sleeper.0 (WithRaiser p) (InRendez rendez.0) with_raiser
+                here (λ e. cc) (sym moves)) tt (λ e. e) (λ r. omega arith)
 
     by_rendez : (r p : ℕ) → posted_of after r ≡ p + 1 → (r ≡ rendez.0) ⊎ (r ≢ rendez.0)
         → token later p ≡ InRendez r
@@ -476,21 +446,10 @@ marks_keeps s h pid sleeper rendez level in_range at core =
                 (λ e. differ cc)
 
             frame : Frame s after h later p
-            frame = record {
-              same_token = if_other sleeper.0 p InFlags (token h p) away;
-              still_in = λ r v still. still;
-              fallen = λ r v fell. fell;
-              caused = λ cause. cause;
-              noted = λ e. ap has_notes (same_notes p) ∙ e;
-              begun = refl;
-              level = λ r. omega arith;
-              held = λ q with_raiser held. (
-                if_other sleeper.0 q InFlags (token h q) (another q with_raiser)
-                    ∙ with_raiser,
-                (λ same. another q with_raiser (sym same), held),
-              );
-              newly = λ r x v fell. inl fell;
-            }
+            frame =
+                frame_past s after h (Marked pid sleeper.0) p (λ same. away (sym same))
+                (λ q moves with_raiser. another q with_raiser (sym moves)) tt
+                (λ e. ap has_notes (same_notes p) ∙ e) (λ r. omega arith)
 
     by_mark : (p : ℕ) → (flags_of after p).wake ≡ true → (p ≡ sleeper.0) ⊎ (p ≢ sleeper.0)
         → token later p ≡ InFlags

@@ -15,7 +15,7 @@ use Rattle.sleep_core.proofs.Soundness.{IsSound-with_phase, IsSound-with_posted}
 use Rattle.sleep_core.proofs.CoreInvariant.{Token, token, IsAway, IsNear, Fits, IsAtLevel, IsShown, Core}
 use Rattle.sleep_core.proofs.CoreInvariant.Token.{Nowhere, InRendez, WithRaiser, InFlags}
 use Rattle.sleep_core.proofs.TokenLemmas.{posted_by_token}
-use Rattle.sleep_core.proofs.Frames.{if_same, if_other, apart, level_kept, fits_at, fits_each, Frame, fits_kept}
+use Rattle.sleep_core.proofs.Frames.{if_same, if_other, apart, level_kept, fits_at, fits_each, Frame, frame_past, frame_quiet, fits_kept}
 
 -- what a phase names is there
 has_rendez_at : (s : State) (pid : ℕ) (stage : Phase) → IsSound s → phase_of s pid ≡ stage
@@ -71,22 +71,10 @@ begins_keeps s h pid rendez level in_range idle has_rendez free core =
     others p differ = fits_kept s after h later p frame (phase_of s p) (core.fits p)
       where
         frame : Frame s after h later p
-        frame = record {
-          same_token = if_other pid p (InRendez rendez.0) (token h p) differ;
-          still_in = λ r v still. inr still;
-          fallen = λ r v fell. fell;
-          caused = λ cause. (λ same. differ (sym same), cause);
-          noted = λ e. e;
-          begun = refl;
-          level = λ r. omega arith;
-          held = λ sleeper with_raiser held. (
-            if_other pid sleeper (InRendez rendez.0) (token h sleeper)
-                (apart h sleeper pid (WithRaiser p) Nowhere with_raiser nowhere (λ e. cc))
-                ∙ with_raiser,
-            held,
-          );
-          newly = λ r x v fell. inl fell;
-        }
+        frame =
+            frame_past s after h (Began pid rendez.0 level) p (λ same. differ (sym same))
+            (λ q moves with_raiser. apart h q pid (WithRaiser p) Nowhere with_raiser nowhere (λ e. cc)
+            (sym moves)) tt (λ e. e) (λ r. omega arith)
 
     -- whoever is posted now was posted before, or is this process
     by_place : (r p : ℕ) → posted_of after r ≡ p + 1
@@ -166,17 +154,9 @@ passes_keeps s h pid rendez level in_range at core =
     others p differ = fits_kept s after h later p frame (phase_of s p) (core.fits p)
       where
         frame : Frame s after h later p
-        frame = record {
-          same_token = refl;
-          still_in = λ r v still. still;
-          fallen = λ r v fell. fell;
-          caused = inr;
-          noted = λ e. e;
-          begun = refl;
-          level = λ r. omega arith;
-          held = λ sleeper with_raiser held. (with_raiser, held);
-          newly = λ r x v fell. inl fell;
-        }
+        frame =
+            frame_past s after h (Passed pid) p (λ about. about) (λ q moves with_raiser. moves) tt
+            (λ e. e) (λ r. omega arith)
 
 pub falls_keeps : (s : State) (h : List Deed) (pid : ℕ) (rendez : RendezId) (level : ℕ)
     → pid < length s.phases → phase_of s pid ≡ phase.Posted rendez level
@@ -242,17 +222,9 @@ falls_keeps s h pid rendez level in_range at low core =
     others p differ = fits_kept s after h later p frame (phase_of s p) (core.fits p)
       where
         frame : Frame s after h later p
-        frame = record {
-          same_token = refl;
-          still_in = λ r v still. still;
-          fallen = λ r v fell. inr fell;
-          caused = λ cause. cause;
-          noted = λ e. e;
-          begun = refl;
-          level = λ r. omega arith;
-          held = λ sleeper with_raiser held. (with_raiser, held);
-          newly = newly_fallen;
-        }
+        frame =
+            frame_past s after h (Fell pid) p (λ about. about) (λ q moves with_raiser. moves)
+            (λ r x v fell. just_fell x r v fell) (λ e. e) (λ r. omega arith)
 
 pub rouses_keeps : (s : State) (h : List Deed) (pid : ℕ) → pid < length s.phases
     → (flags_of s pid).wake ≡ true → Core s h → Core (with_phase s pid phase.Woken) (Roused pid ∷ h)
@@ -287,17 +259,9 @@ rouses_keeps s h pid in_range wake core =
     others p differ = fits_kept s after h later p frame (phase_of s p) (core.fits p)
       where
         frame : Frame s after h later p
-        frame = record {
-          same_token = refl;
-          still_in = λ r v still. still;
-          fallen = λ r v fell. fell;
-          caused = inr;
-          noted = λ e. e;
-          begun = refl;
-          level = λ r. omega arith;
-          held = λ sleeper with_raiser held. (with_raiser, held);
-          newly = λ r x v fell. inl fell;
-        }
+        frame =
+            frame_past s after h (Roused pid) p (λ about. about) (λ q moves with_raiser. moves) tt
+            (λ e. e) (λ r. omega arith)
 
 -- a phase that changes with nothing done
 quietly_keeps : (s : State) (h : List Deed) (pid : ℕ) (stage : Phase) → pid < length s.phases
@@ -331,17 +295,8 @@ quietly_keeps s h pid stage in_range there own no_level core =
     same_fit p at fit = fits_kept s after h h p frame at fit
       where
         frame : Frame s after h h p
-        frame = record {
-          same_token = refl;
-          still_in = λ r v still. still;
-          fallen = λ r v fell. fell;
-          caused = λ cause. cause;
-          noted = λ e. e;
-          begun = refl;
-          level = λ r. omega arith;
-          held = λ sleeper with_raiser held. (with_raiser, held);
-          newly = λ r x v fell. inl fell;
-        }
+        frame =
+            frame_quiet s after h p refl refl
 
 pub gives_up_keeps : (s : State) (h : List Deed) (pid : ℕ) (rendez : RendezId) (level : ℕ)
     → pid < length s.phases → phase_of s pid ≡ phase.Asleep rendez level
