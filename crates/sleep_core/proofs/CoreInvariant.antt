@@ -69,10 +69,10 @@ pub record Holds (s : State) (history : List Deed) (pid sleeper rendez level : �
 -- what the phase of a process says
 abbrev pub Fits : State → List Deed → ℕ → Phase → Type 0
 Fits s history pid phase.Idle = token history pid ≡ Nowhere
-Fits s history pid (phase.Posted rendez level) =
-    Sleeps history pid rendez.0 (IsStillIn history pid rendez.0 level)
-Fits s history pid (phase.Asleep rendez level) =
-    Sleeps history pid rendez.0 (HasFallen history pid rendez.0 level)
+Fits s history pid (phase.Posted rendez threshold) =
+    Sleeps history pid rendez.0 (IsStillIn history pid rendez.0 threshold)
+Fits s history pid (phase.Asleep rendez threshold) =
+    Sleeps history pid rendez.0 (HasFallen history pid rendez.0 threshold)
 Fits s history pid (phase.Leaving rendez) =
     Leaves s history pid (IsNear rendez.0 (token history pid))
 Fits s history pid phase.Awaiting = IsAway (token history pid)
@@ -82,16 +82,16 @@ Fits s history pid (phase.Owing rendez level) = Raises s history pid rendez.0 le
 Fits s history pid (phase.Holding sleeper rendez level) =
     Holds s history pid sleeper.0 rendez.0 level
 
--- the level that a phase names, if it names one, is this
-abbrev pub IsAtLevel : ℕ → Phase → Type 0
-IsAtLevel level (phase.Posted rendez own) = own ≡ level
-IsAtLevel level (phase.Asleep rendez own) = own ≡ level
-IsAtLevel level stage = Unit {0}
+-- the threshold that a phase names, if it names one, is this
+abbrev pub IsAtThreshold : ℕ → Phase → Type 0
+IsAtThreshold threshold (phase.Posted rendez own) = own ≡ threshold
+IsAtThreshold threshold (phase.Asleep rendez own) = own ≡ threshold
+IsAtThreshold threshold stage = Unit {0}
 
 -- a sleep that goes on, as the world has it
-pub record IsShown (s : State) (pid rendez level : ℕ) : Type 0 where
+pub record IsShown (s : State) (pid rendez threshold : ℕ) : Type 0 where
   pub posted : posted_of s rendez ≡ pid + 1
-  pub at_level : IsAtLevel level (phase_of s pid)
+  pub at_threshold : IsAtThreshold threshold (phase_of s pid)
 
 pub record Core (s : State) (history : List Deed) : Type 0 where
   pub sound : IsSound s
@@ -101,10 +101,10 @@ pub record Core (s : State) (history : List Deed) : Type 0 where
   pub low : (rendez : ℕ) → returned_of s rendez ≤ level_of s rendez
   pub returned : (rendez level : ℕ) → HasReturned history rendez level
       → level ≤ returned_of s rendez
-  pub still_in : (pid rendez level : ℕ) → IsStillIn history pid rendez level
-      → IsShown s pid rendez level
-  pub fallen : (pid rendez level : ℕ) → HasFallen history pid rendez level
-      → returned_of s rendez ≤ level
+  pub still_in : (pid rendez threshold : ℕ) → IsStillIn history pid rendez threshold
+      → IsShown s pid rendez threshold
+  pub fallen : (pid rendez threshold : ℕ) → HasFallen history pid rendez threshold
+      → returned_of s rendez ≤ threshold
   pub notes : (pid : ℕ) → (flags_of s pid).notes ≡ pending history pid
   pub marks_due : NoMarkIsStray history
   pub notes_right : AreNotesRight history

@@ -13,12 +13,12 @@ use Rattle.sleep_core.specs.History.{Deed, deed_of, history_of}
 use Rattle.sleep_core.specs.Promises.{HasFallen}
 use Rattle.sleep_core.proofs.CoreInvariant.{Fits, Core}
 use Rattle.sleep_core.proofs.Moves.{Move}
-use Rattle.sleep_core.proofs.Moves.Move.{stays, begins, passes, falls, rouses, gives_up, withdraws, awaits, leaves, raises, misses, takes, marks, notes, drains}
+use Rattle.sleep_core.proofs.Moves.Move.{stays, post_posted, test_leaving, test_asleep, look_woken, look_leaving, withdraw_out, withdraw_awaiting, clear_ended, raise_owing, take_nobody, take_holding, mark_marked, note_noted, drain_notes}
 use Rattle.sleep_core.proofs.TableMoves.{table_moves}
-use Rattle.sleep_core.proofs.SleeperKeeps.{begins_keeps, passes_keeps, falls_keeps, rouses_keeps, gives_up_keeps, awaits_keeps}
-use Rattle.sleep_core.proofs.LeaverKeeps.{withdraws_keeps, leaves_keeps}
-use Rattle.sleep_core.proofs.RaiserKeeps.{raises_keeps, misses_keeps, takes_keeps, marks_keeps}
-use Rattle.sleep_core.proofs.NotesKeep.{notes_keep, drains_keep}
+use Rattle.sleep_core.proofs.SleeperKeeps.{post_keeps, test_leaving_keeps, test_asleep_keeps, look_woken_keeps, look_leaving_keeps, withdraw_awaiting_keeps}
+use Rattle.sleep_core.proofs.LeaverKeeps.{withdraw_out_keeps, clear_keeps}
+use Rattle.sleep_core.proofs.RaiserKeeps.{raise_keeps, take_nobody_keeps, take_holding_keeps, mark_keeps}
+use Rattle.sleep_core.proofs.NotesKeep.{note_keeps, drain_keeps}
 
 -- at the opening every entry is the same
 pub get_or-replicate_same : {X : Type 0} (n i : ℕ) (x : X) → get_or (replicate n x) i x ≡ x
@@ -68,34 +68,41 @@ core_at_opening procs rendez =
 core_kept : (s : State) (h : List Deed) {deed : Option Deed} {after : State} → Move s deed after
     → Core s h → Core after (cons_option deed h)
 core_kept s h stays core = core
-core_kept s h (begins {pid = pid} {rendez = rendez} {level = level} in_range idle there free) core =
-    begins_keeps s h pid rendez level in_range idle there free core
-core_kept s h (passes {pid = pid} {rendez = rendez} {level = level} in_range at) core =
-    passes_keeps s h pid rendez level in_range at core
-core_kept s h (falls {pid = pid} {rendez = rendez} {level = level} in_range at low) core =
-    falls_keeps s h pid rendez level in_range at low core
-core_kept s h (rouses {pid = pid} {stage = stage} in_range at waiting wake) core =
-    rouses_keeps s h pid in_range wake core
-core_kept s h (gives_up {pid = pid} {rendez = rendez} {level = level} in_range at noted) core =
-    gives_up_keeps s h pid rendez level in_range at noted core
-core_kept s h (withdraws {pid = pid} {rendez = rendez} in_range at mine) core =
-    withdraws_keeps s h pid rendez in_range at mine core
-core_kept s h (awaits {pid = pid} {rendez = rendez} in_range at other) core =
-    awaits_keeps s h pid rendez in_range at other core
-core_kept s h (leaves {pid = pid} {stage = stage} in_range at over) core =
-    leaves_keeps s h pid stage in_range at over core
-core_kept s h (raises {pid = pid} {rendez = rendez} {level = level} in_range idle there) core =
-    raises_keeps s h pid rendez level in_range idle there core
-core_kept s h (misses {pid = pid} {rendez = rendez} {level = level} in_range at free) core =
-    misses_keeps s h pid rendez level in_range at free core
-core_kept s h (takes {pid = pid} {sleeper = sleeper} {rendez = rendez} {level = level} in_range at
-    posted) core =
-    takes_keeps s h pid sleeper rendez level in_range at posted core
-core_kept s h (marks {pid = pid} {sleeper = sleeper} {rendez = rendez} {level = level} in_range at)
+core_kept s h (post_posted {pid = pid} {rendez = rendez} {threshold = threshold} in_range idle there
+    free) core =
+    post_keeps s h pid rendez threshold in_range idle there free core
+core_kept s h (test_leaving {pid = pid} {rendez = rendez} {threshold = threshold} in_range at) core
+    =
+    test_leaving_keeps s h pid rendez threshold in_range at core
+core_kept s h (test_asleep {pid = pid} {rendez = rendez} {threshold = threshold} in_range at low)
     core =
-    marks_keeps s h pid sleeper rendez level in_range at core
-core_kept s h (notes {pid = pid} {new = new} in_range) core = notes_keep s h pid new in_range core
-core_kept s h (drains {pid = pid} in_range idle) core = drains_keep s h pid in_range idle core
+    test_asleep_keeps s h pid rendez threshold in_range at low core
+core_kept s h (look_woken {pid = pid} {stage = stage} in_range at waiting wake) core =
+    look_woken_keeps s h pid in_range wake core
+core_kept s h (look_leaving {pid = pid} {rendez = rendez} {threshold = threshold} in_range at noted)
+    core =
+    look_leaving_keeps s h pid rendez threshold in_range at noted core
+core_kept s h (withdraw_out {pid = pid} {rendez = rendez} in_range at mine) core =
+    withdraw_out_keeps s h pid rendez in_range at mine core
+core_kept s h (withdraw_awaiting {pid = pid} {rendez = rendez} in_range at other) core =
+    withdraw_awaiting_keeps s h pid rendez in_range at other core
+core_kept s h (clear_ended {pid = pid} {stage = stage} in_range at over) core =
+    clear_keeps s h pid stage in_range at over core
+core_kept s h (raise_owing {pid = pid} {rendez = rendez} {level = level} in_range idle there) core =
+    raise_keeps s h pid rendez level in_range idle there core
+core_kept s h (take_nobody {pid = pid} {rendez = rendez} {level = level} in_range at free) core =
+    take_nobody_keeps s h pid rendez level in_range at free core
+core_kept s h (take_holding {pid = pid} {sleeper = sleeper} {rendez = rendez} {level = level}
+    in_range at
+    posted) core =
+    take_holding_keeps s h pid sleeper rendez level in_range at posted core
+core_kept s h (mark_marked {pid = pid} {sleeper = sleeper} {rendez = rendez} {level = level}
+    in_range at)
+    core =
+    mark_keeps s h pid sleeper rendez level in_range at core
+core_kept s h (note_noted {pid = pid} {new = new} in_range) core = note_keeps s h pid new in_range
+    core
+core_kept s h (drain_notes {pid = pid} in_range idle) core = drain_keeps s h pid in_range idle core
 
 pub core_of_run : (procs rendez : ℕ) (past : List Entry) → IsRun procs rendez past
     → Core (world_of procs rendez past) (history_of past)
@@ -107,10 +114,10 @@ core_of_run procs rendez (entry ∷ past) run =
     (table_moves (world_of procs rendez past) entry.event) (core_of_run procs rendez past run.0))
 
 -- whoever is asleep and posted has fallen asleep in this sleep
-pub fallen_at : (s : State) (h : List Deed) (pid : ℕ) (rendez : RendezId) (level : ℕ) → Core s h
-    → phase_of s pid ≡ phase.Asleep rendez level → posted_of s rendez.0 ≡ pid + 1
-    → HasFallen h pid rendez.0 level
-fallen_at s h pid rendez level core at posted = fit.stays (core.posted rendez.0 pid posted)
+pub fallen_at : (s : State) (h : List Deed) (pid : ℕ) (rendez : RendezId) (threshold : ℕ) → Core s h
+    → phase_of s pid ≡ phase.Asleep rendez threshold → posted_of s rendez.0 ≡ pid + 1
+    → HasFallen h pid rendez.0 threshold
+fallen_at s h pid rendez threshold core at posted = fit.stays (core.posted rendez.0 pid posted)
   where
-    fit : Fits s h pid (phase.Asleep rendez level)
+    fit : Fits s h pid (phase.Asleep rendez threshold)
     fit = subst (Fits s h pid) at (core.fits pid)

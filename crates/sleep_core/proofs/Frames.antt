@@ -10,7 +10,7 @@ use Rattle.sleep_core.specs.History.{Deed, begun_wakeup}
 use Rattle.sleep_core.specs.History.Deed.{Began, Passed, Fell, Roused, Withdrew, Left, Raised, Took, Marked}
 use Rattle.sleep_core.specs.Promises.{IsStillIn, HasFallen, IsHeld, IsCaused}
 use Rattle.sleep_core.proofs.ListLemmas.{get_or-set_cases}
-use Rattle.sleep_core.proofs.CoreInvariant.{Token, token, IsAway, IsNear, MayLeave, Raises, Fits, IsAtLevel, Core}
+use Rattle.sleep_core.proofs.CoreInvariant.{Token, token, IsAway, IsNear, MayLeave, Raises, Fits, IsAtThreshold, Core}
 use Rattle.sleep_core.proofs.CoreInvariant.Token.{Nowhere, InRendez, WithRaiser, InFlags}
 
 -- a choice by number, at the number and elsewhere
@@ -43,17 +43,17 @@ pub apart : (h : List Deed) (p q : ℕ) (x y : Token) → token h p ≡ x → to
 apart h p q x y at_p at_q differ same = differ (sym at_p ∙ (ap (token h) same ∙ at_q))
 
 -- the level that a phase names, after one phase has changed
-pub level_kept : (s : State) (mover : ℕ) (stage : Phase) (pid level : ℕ)
-    → (pid ≡ mover → IsAtLevel level stage) → IsAtLevel level (phase_of s pid)
-    → IsAtLevel level (get_or (set s.phases mover stage) pid phase.Idle)
-level_kept s mover stage pid level own old =
+pub threshold_kept : (s : State) (mover : ℕ) (stage : Phase) (pid threshold : ℕ)
+    → (pid ≡ mover → IsAtThreshold threshold stage) → IsAtThreshold threshold (phase_of s pid)
+    → IsAtThreshold threshold (get_or (set s.phases mover stage) pid phase.Idle)
+threshold_kept s mover stage pid threshold own old =
     by_place (get_or-set_cases s.phases mover stage pid phase.Idle)
   where
     by_place : ((pid ≡ mover) × (get_or (set s.phases mover stage) pid phase.Idle ≡ stage))
         ⊎ (get_or (set s.phases mover stage) pid phase.Idle ≡ phase_of s pid)
-        → IsAtLevel level (get_or (set s.phases mover stage) pid phase.Idle)
-    by_place (inl here) = subst (IsAtLevel level) (sym here.1) (own here.0)
-    by_place (inr there) = subst (IsAtLevel level) (sym there) old
+        → IsAtThreshold threshold (get_or (set s.phases mover stage) pid phase.Idle)
+    by_place (inl here) = subst (IsAtThreshold threshold) (sym here.1) (own here.0)
+    by_place (inr there) = subst (IsAtThreshold threshold) (sym there) old
 
 -- what the phase of a process says, at a phase that is known
 pub fits_at : (s : State) (h : List Deed) (pid : ℕ) (stage : Phase) → Core s h
@@ -81,9 +81,10 @@ fits_each before after h mover stage in_range own others pid = by_pid (same_or_n
 -- what a step leaves true for this process
 pub record Frame (before after : State) (h later : List Deed) (pid : ℕ) : Type 0 where
   pub same_token : token later pid ≡ token h pid
-  pub still_in : (rendez level : ℕ) → IsStillIn h pid rendez level
-      → IsStillIn later pid rendez level
-  pub fallen : (rendez level : ℕ) → HasFallen h pid rendez level → HasFallen later pid rendez level
+  pub still_in : (rendez threshold : ℕ) → IsStillIn h pid rendez threshold
+      → IsStillIn later pid rendez threshold
+  pub fallen : (rendez threshold : ℕ) → HasFallen h pid rendez threshold
+      → HasFallen later pid rendez threshold
   pub caused : IsCaused h pid → IsCaused later pid
   pub noted : has_notes (flags_of before pid).notes ≡ true
       → has_notes (flags_of after pid).notes ≡ true
@@ -260,15 +261,15 @@ pub fits_kept : (before after : State) (h later : List Deed) (pid : ℕ)
     → Frame before after h later pid → (stage : Phase) → Fits before h pid stage
     → Fits after later pid stage
 fits_kept before after h later pid frame phase.Idle fit = frame.same_token ∙ fit
-fits_kept before after h later pid frame (phase.Posted rendez level) fit =
+fits_kept before after h later pid frame (phase.Posted rendez threshold) fit =
     record {
       near = subst (IsNear rendez.0) (sym frame.same_token) fit.near;
-      stays = λ e. frame.still_in rendez.0 level (fit.stays (sym frame.same_token ∙ e));
+      stays = λ e. frame.still_in rendez.0 threshold (fit.stays (sym frame.same_token ∙ e));
     }
-fits_kept before after h later pid frame (phase.Asleep rendez level) fit =
+fits_kept before after h later pid frame (phase.Asleep rendez threshold) fit =
     record {
       near = subst (IsNear rendez.0) (sym frame.same_token) fit.near;
-      stays = λ e. frame.fallen rendez.0 level (fit.stays (sym frame.same_token ∙ e));
+      stays = λ e. frame.fallen rendez.0 threshold (fit.stays (sym frame.same_token ∙ e));
     }
 fits_kept before after h later pid frame (phase.Leaving rendez) fit =
     record {
@@ -313,13 +314,15 @@ pub fits_moved : (before after : State) (h later : List Deed) (pid : ℕ) → to
     → (stage : Phase) → Fits before h pid stage → Fits after later pid stage
 fits_moved before after h later pid somewhere unmarked away caused noted phase.Idle fit =
     absurd (somewhere fit)
-fits_moved before after h later pid somewhere unmarked away caused noted (phase.Posted rendez level)
+fits_moved before after h later pid somewhere unmarked away caused noted (phase.Posted rendez
+    threshold)
     fit =
     record {
       near = near_away rendez.0 (token later pid) away;
       stays = λ e. absurd (subst IsAway e away);
     }
-fits_moved before after h later pid somewhere unmarked away caused noted (phase.Asleep rendez level)
+fits_moved before after h later pid somewhere unmarked away caused noted (phase.Asleep rendez
+    threshold)
     fit =
     record {
       near = near_away rendez.0 (token later pid) away;

@@ -13,17 +13,17 @@ use Rattle.sleep_core.specs.Table.{has_notes}
 use Rattle.sleep_core.specs.Step.{with_phase, with_flags, with_posted}
 use Rattle.sleep_core.specs.History.{Deed}
 use Rattle.sleep_core.specs.History.Deed.{Withdrew, Left}
-use Rattle.sleep_core.specs.Promises.{IsStillIn, IsHeld, IsCaused, pending, IsRightEnding, EachSleepIsCaused}
+use Rattle.sleep_core.specs.Promises.{IsStillIn, IsCaused, pending, IsRightEnding, EachSleepIsCaused}
 use Rattle.sleep_core.proofs.Soundness.{IsSound-with_phase, IsSound-with_flags, IsSound-with_posted}
 use Rattle.sleep_core.proofs.CoreInvariant.{token, MayLeave, Fits, IsShown, Core}
 use Rattle.sleep_core.proofs.CoreInvariant.Token.{Nowhere, InRendez, WithRaiser, InFlags}
 use Rattle.sleep_core.proofs.Moves.{IsOver, ending_notes}
-use Rattle.sleep_core.proofs.Frames.{if_same, if_other, same_or_not, apart, level_kept, fits_at, fits_each, Frame, frame_past, fits_kept}
+use Rattle.sleep_core.proofs.Frames.{if_same, if_other, same_or_not, apart, threshold_kept, fits_at, fits_each, Frame, frame_past, fits_kept}
 
-pub withdraws_keeps : (s : State) (h : List Deed) (pid : ℕ) (rendez : RendezId)
+pub withdraw_out_keeps : (s : State) (h : List Deed) (pid : ℕ) (rendez : RendezId)
     → pid < length s.phases → phase_of s pid ≡ phase.Leaving rendez → posted_of s rendez.0 ≡ pid + 1
     → Core s h → Core (with_phase (with_posted s rendez.0 0) pid phase.Out) (Withdrew pid ∷ h)
-withdraws_keeps s h pid rendez in_range at mine core =
+withdraw_out_keeps s h pid rendez in_range at mine core =
     record {
       sound = IsSound-with_phase taken pid phase.Out
           (IsSound-with_posted s rendez.0 0 core.sound (omega arith)) tt;
@@ -91,18 +91,18 @@ withdraws_keeps s h pid rendez in_range at mine core =
         (omega (arith, ap (posted_of s) same, was.posted, mine)) in
         record {
           posted = get_or-set_other s.posted rendez.0 r 0 0 elsewhere ∙ was.posted;
-          at_level = level_kept s pid phase.Out p v (λ same. tt) was.at_level;
+          at_threshold = threshold_kept s pid phase.Out p v (λ same. tt) was.at_threshold;
         }
 
 -- no notes are no notes
 has_notes-none : (notes : NoteSet) → has_notes notes ≡ false → notes ≡ no_notes
 has_notes-none notes none = grind (arith, nat_tests)
 
-pub leaves_keeps : (s : State) (h : List Deed) (pid : ℕ) (stage : Phase) → pid < length s.phases
+pub clear_keeps : (s : State) (h : List Deed) (pid : ℕ) (stage : Phase) → pid < length s.phases
     → phase_of s pid ≡ stage → IsOver stage → Core s h
     → Core (with_phase (with_flags s pid no_flags) pid phase.Idle)
     (Left pid (ending_notes (flags_of s pid).notes) ∷ h)
-leaves_keeps s h pid stage in_range at over core =
+clear_keeps s h pid stage in_range at over core =
     record {
       sound = IsSound-with_phase cleared pid phase.Idle
           (IsSound-with_flags s pid no_flags core.sound) tt;
@@ -116,8 +116,8 @@ leaves_keeps s h pid stage in_range at over core =
       returned = core.returned;
       still_in = λ p r v still. record {
         posted = (core.still_in p r v still.1).posted;
-        at_level = level_kept s pid phase.Idle p v (λ same. tt)
-            (core.still_in p r v still.1).at_level;
+        at_threshold = threshold_kept s pid phase.Idle p v (λ same. tt)
+            (core.still_in p r v still.1).at_threshold;
       };
       fallen = λ p r v fell. core.fallen p r v fell.1;
       notes = λ p. by_notes p (same_or_not p pid);

@@ -30,54 +30,55 @@ ending_notes notes = if has_notes notes then Some notes else None
 
 pub data Move (s : State) : Option Deed → State → Type 0 where
   stays : Move s None s
-  begins : {pid : ℕ} {rendez : RendezId} {level : ℕ} → pid < length s.phases
+  post_posted : {pid : ℕ} {rendez : RendezId} {threshold : ℕ} → pid < length s.phases
       → phase_of s pid ≡ phase.Idle → rendez.0 < length s.posted → posted_of s rendez.0 ≡ 0
-      → Move s (Some (Began pid rendez.0 level))
-      (with_phase (with_posted s rendez.0 (pid + 1)) pid (phase.Posted rendez level))
-  passes : {pid : ℕ} {rendez : RendezId} {level : ℕ} → pid < length s.phases
-      → phase_of s pid ≡ phase.Posted rendez level
+      → Move s (Some (Began pid rendez.0 threshold))
+      (with_phase (with_posted s rendez.0 (pid + 1)) pid (phase.Posted rendez threshold))
+  test_leaving : {pid : ℕ} {rendez : RendezId} {threshold : ℕ} → pid < length s.phases
+      → phase_of s pid ≡ phase.Posted rendez threshold
       → Move s (Some (Passed pid)) (with_phase s pid (phase.Leaving rendez))
-  falls : {pid : ℕ} {rendez : RendezId} {level : ℕ} → pid < length s.phases
-      → phase_of s pid ≡ phase.Posted rendez level → level_of s rendez.0 ≤ level
-      → Move s (Some (Fell pid)) (with_phase s pid (phase.Asleep rendez level))
-  rouses : {pid : ℕ} {stage : Phase} → pid < length s.phases → phase_of s pid ≡ stage
+  test_asleep : {pid : ℕ} {rendez : RendezId} {threshold : ℕ} → pid < length s.phases
+      → phase_of s pid ≡ phase.Posted rendez threshold → level_of s rendez.0 ≤ threshold
+      → Move s (Some (Fell pid)) (with_phase s pid (phase.Asleep rendez threshold))
+  look_woken : {pid : ℕ} {stage : Phase} → pid < length s.phases → phase_of s pid ≡ stage
       → IsWaiting stage → (flags_of s pid).wake ≡ true
       → Move s (Some (Roused pid)) (with_phase s pid phase.Woken)
-  gives_up : {pid : ℕ} {rendez : RendezId} {level : ℕ} → pid < length s.phases
-      → phase_of s pid ≡ phase.Asleep rendez level → has_notes (flags_of s pid).notes ≡ true
+  look_leaving : {pid : ℕ} {rendez : RendezId} {threshold : ℕ} → pid < length s.phases
+      → phase_of s pid ≡ phase.Asleep rendez threshold → has_notes (flags_of s pid).notes ≡ true
       → Move s None (with_phase s pid (phase.Leaving rendez))
-  withdraws : {pid : ℕ} {rendez : RendezId} → pid < length s.phases
+  withdraw_out : {pid : ℕ} {rendez : RendezId} → pid < length s.phases
       → phase_of s pid ≡ phase.Leaving rendez → posted_of s rendez.0 ≡ pid + 1
       → Move s (Some (Withdrew pid)) (with_phase (with_posted s rendez.0 0) pid phase.Out)
-  awaits : {pid : ℕ} {rendez : RendezId} → pid < length s.phases
+  withdraw_awaiting : {pid : ℕ} {rendez : RendezId} → pid < length s.phases
       → phase_of s pid ≡ phase.Leaving rendez → posted_of s rendez.0 ≢ pid + 1
       → Move s None (with_phase s pid phase.Awaiting)
-  leaves : {pid : ℕ} {stage : Phase} → pid < length s.phases → phase_of s pid ≡ stage → IsOver stage
+  clear_ended : {pid : ℕ} {stage : Phase} → pid < length s.phases → phase_of s pid ≡ stage → IsOver
+      stage
       → Move s (Some (Left pid (ending_notes (flags_of s pid).notes)))
       (with_phase (with_flags s pid no_flags) pid phase.Idle)
-  raises : {pid : ℕ} {rendez : RendezId} {level : ℕ} → pid < length s.phases
+  raise_owing : {pid : ℕ} {rendez : RendezId} {level : ℕ} → pid < length s.phases
       → phase_of s pid ≡ phase.Idle → rendez.0 < length s.levels
       → Move s (Some (Raised pid rendez.0 level))
       (with_phase (with_level s rendez.0 (max (level_of s rendez.0) level)) pid
       (phase.Owing rendez level))
-  misses : {pid : ℕ} {rendez : RendezId} {level : ℕ} → pid < length s.phases
+  take_nobody : {pid : ℕ} {rendez : RendezId} {level : ℕ} → pid < length s.phases
       → phase_of s pid ≡ phase.Owing rendez level → posted_of s rendez.0 ≡ 0
       → Move s (Some (Missed pid))
       (with_returned (with_phase s pid phase.Idle)
       (Some (record { rendez = rendez.0; level = level })))
-  takes : {pid : ℕ} {sleeper : Pid} {rendez : RendezId} {level : ℕ} → pid < length s.phases
+  take_holding : {pid : ℕ} {sleeper : Pid} {rendez : RendezId} {level : ℕ} → pid < length s.phases
       → phase_of s pid ≡ phase.Owing rendez level → posted_of s rendez.0 ≡ sleeper.0 + 1
       → Move s (Some (Took pid sleeper.0))
       (with_phase (with_posted s rendez.0 0) pid (phase.Holding sleeper rendez level))
-  marks : {pid : ℕ} {sleeper : Pid} {rendez : RendezId} {level : ℕ} → pid < length s.phases
+  mark_marked : {pid : ℕ} {sleeper : Pid} {rendez : RendezId} {level : ℕ} → pid < length s.phases
       → phase_of s pid ≡ phase.Holding sleeper rendez level
       → Move s (Some (Marked pid sleeper.0))
       (with_returned (with_phase
       (with_flags s sleeper.0 (record { wake = true; notes = (flags_of s sleeper.0).notes })) pid
       phase.Idle) (Some (record { rendez = rendez.0; level = level })))
-  notes : {pid : ℕ} {new : NoteSet} → pid < length s.phases
+  note_noted : {pid : ℕ} {new : NoteSet} → pid < length s.phases
       → Move s (Some (Noted pid new))
       (with_flags s pid
       (record { wake = (flags_of s pid).wake; notes = joined (flags_of s pid).notes new }))
-  drains : {pid : ℕ} → pid < length s.phases → phase_of s pid ≡ phase.Idle
+  drain_notes : {pid : ℕ} → pid < length s.phases → phase_of s pid ≡ phase.Idle
       → Move s (Some (Drained pid (flags_of s pid).notes)) (with_flags s pid no_flags)

@@ -19,8 +19,9 @@ use Rattle.sleep_core.proofs.TakesKept.{takes_are_right}
 -- nobody oversleeps
 nobody_oversleeps_in : (s : State) (h : List Deed) (pid : ℕ) (stage : Phase) → Core s h
     → phase_of s pid ≡ stage → Oversleeps s pid stage → ⊥
-nobody_oversleeps_in s h pid (phase.Asleep rendez level) core at left =
-    let low = core.fallen pid rendez.0 level (fallen_at s h pid rendez level core at left.0) in
+nobody_oversleeps_in s h pid (phase.Asleep rendez threshold) core at left =
+    let low = core.fallen pid rendez.0 threshold (fallen_at s h pid rendez threshold core at left.0)
+    in
     omega (arith, left.1)
 nobody_oversleeps_in s h pid stage core at left = absurd left
 
@@ -89,13 +90,14 @@ returned_wakeup_releases procs rendez past run of level returned =
     core : Core (world_of procs rendez past) (history_of past)
     core = core_of_run procs rendez past run
 
-    below : (pid own_level : ℕ)
-        → phase_of (world_of procs rendez past) pid ≡ phase.Asleep of own_level
-        → posted_of (world_of procs rendez past) of.0 ≡ pid + 1 → level ≤ own_level
-    below pid own_level at posted =
-        let fell = fallen_at (world_of procs rendez past) (history_of past) pid of own_level core at
+    below : (pid own_threshold : ℕ)
+        → phase_of (world_of procs rendez past) pid ≡ phase.Asleep of own_threshold
+        → posted_of (world_of procs rendez past) of.0 ≡ pid + 1 → level ≤ own_threshold
+    below pid own_threshold at posted =
+        let fell = fallen_at (world_of procs rendez past) (history_of past) pid of own_threshold
+        core at
         posted in
-        omega (arith, core.returned of.0 level returned, core.fallen pid of.0 own_level fell)
+        omega (arith, core.returned of.0 level returned, core.fallen pid of.0 own_threshold fell)
 
 pub sleeps_end_for_a_cause : SleepsEndForACause
 sleeps_end_for_a_cause procs rendez past run = (core_of_run procs rendez past run).caused

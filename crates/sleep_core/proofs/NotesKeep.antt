@@ -1,5 +1,5 @@
 -- Notes keep what every run keeps.
-use Rattle.std.proofs.Common.{◌≡◌, ◌≢◌, ◌⊎◌, ◌<◌, inl, inr, ℕ, true, false, List, ◌∷◌, length, refl, sym, ◌∙◌, ap, subst, arith}
+use Rattle.std.proofs.Common.{◌≡◌, ◌≢◌, ◌⊎◌, ◌<◌, inl, inr, ℕ, true, false, List, ◌∷◌, length, sym, ◌∙◌, ap, subst, arith}
 use Rattle.std.proofs.lemmas.Bool.Decides.{nat_tests}
 use Rattle.std.proofs.lemmas.List.{get_or-set_same, get_or-set_other}
 use Rattle.sync_base.specs.declared.note.NoteSet.{NoteSet}
@@ -21,12 +21,12 @@ use Rattle.sleep_core.proofs.Frames.{if_same, if_other, same_or_not, Frame, fram
 has_notes-joined : (old new : NoteSet) → has_notes old ≡ true → has_notes (joined old new) ≡ true
 has_notes-joined old new some = grind (arith, nat_tests)
 
-pub notes_keep : (s : State) (h : List Deed) (pid : ℕ) (new : NoteSet) → pid < length s.phases
+pub note_keeps : (s : State) (h : List Deed) (pid : ℕ) (new : NoteSet) → pid < length s.phases
     → Core s h
     → Core (with_flags s pid
     (record { wake = (flags_of s pid).wake; notes = joined (flags_of s pid).notes new }))
     (Noted pid new ∷ h)
-notes_keep s h pid new in_range core =
+note_keeps s h pid new in_range core =
     record {
       sound = IsSound-with_flags s pid noted core.sound;
       fits = λ p. fits_kept s after h later p (frame p) (phase_of s p) (core.fits p);
@@ -36,7 +36,7 @@ notes_keep s h pid new in_range core =
       returned = core.returned;
       still_in = λ p r v still. record {
         posted = (core.still_in p r v still).posted;
-        at_level = (core.still_in p r v still).at_level;
+        at_threshold = (core.still_in p r v still).at_threshold;
       };
       fallen = core.fallen;
       notes = λ p. by_notes p (same_or_not p pid);
@@ -94,10 +94,10 @@ notes_keep s h pid new in_range core =
         frame_past s after h (Noted pid new) p (λ about. about) (λ q moves with_raiser. moves) tt
         (kept p (same_or_not p pid)) (λ r. omega arith)
 
-pub drains_keep : (s : State) (h : List Deed) (pid : ℕ) → pid < length s.phases
+pub drain_keeps : (s : State) (h : List Deed) (pid : ℕ) → pid < length s.phases
     → phase_of s pid ≡ phase.Idle → Core s h
     → Core (with_flags s pid no_flags) (Drained pid (flags_of s pid).notes ∷ h)
-drains_keep s h pid in_range idle core =
+drain_keeps s h pid in_range idle core =
     record {
       sound = IsSound-with_flags s pid no_flags core.sound;
       fits = λ p. by_phase p (same_or_not p pid);
@@ -107,7 +107,7 @@ drains_keep s h pid in_range idle core =
       returned = core.returned;
       still_in = λ p r v still. record {
         posted = (core.still_in p r v still).posted;
-        at_level = (core.still_in p r v still).at_level;
+        at_threshold = (core.still_in p r v still).at_threshold;
       };
       fallen = core.fallen;
       notes = λ p. by_notes p (same_or_not p pid);
@@ -140,7 +140,8 @@ drains_keep s h pid in_range idle core =
       where
         frame : Frame s after h later p
         frame =
-            frame_past s after h (Drained pid (flags_of s pid).notes) p (λ about. about) (λ q moves with_raiser. moves) tt
+            frame_past s after h (Drained pid (flags_of s pid).notes) p (λ about. about) (λ q moves
+                with_raiser. moves) tt
             (λ some. ap (λ (f : ProcFlags). has_notes f.notes) (flags_other p away) ∙ some)
             (λ r. omega arith)
 

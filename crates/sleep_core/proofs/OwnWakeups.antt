@@ -21,7 +21,7 @@ IsDeedBy maker deed = Unit {0}
 
 deed_by_maker : (told : Answer) (event : Event) (maker : ℕ) → IsMadeBy maker event
     → IsDeedBy maker (deed_of told event)
-deed_by_maker answer.Posted (Post pid rendez level) maker made = tt
+deed_by_maker answer.Posted (Post pid rendez threshold) maker made = tt
 deed_by_maker answer.Leaving (Test pid) maker made = tt
 deed_by_maker answer.Asleep (Test pid) maker made = tt
 deed_by_maker answer.Woken (Look pid) maker made = tt

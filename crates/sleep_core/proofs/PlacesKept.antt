@@ -1,4 +1,5 @@
--- Where the token of each process is, the words and the phases have it: so a sleeper is in one place.
+-- Where the token of each process is, the words and the phases have it: so a sleeper is in one
+-- place.
 use Rattle.std.proofs.Common.{◌≡◌, ◌≢◌, ◌⊎◌, ◌<◌, ◌==◌, inl, inr, ℕ, true, false, if◌then◌else◌, Option, Some, List, [], ◌∷◌, length, get_or, set, sym, ◌∙◌, ap, subst, arith}
 use Rattle.std.specs.List.{cons_option}
 use Rattle.std.proofs.lemmas.Bool.Decides.{eqb_tells}
@@ -19,7 +20,7 @@ use Rattle.sleep_core.specs.Whereabouts.{IsHolding}
 use Rattle.sleep_core.proofs.CoreInvariant.{Token, token, Core}
 use Rattle.sleep_core.proofs.CoreInvariant.Token.{Nowhere, InRendez, WithRaiser, InFlags}
 use Rattle.sleep_core.proofs.Moves.{Move, IsWaiting, IsOver, ending_notes}
-use Rattle.sleep_core.proofs.Moves.Move.{stays, begins, passes, falls, rouses, gives_up, withdraws, awaits, leaves, raises, misses, takes, marks, notes, drains}
+use Rattle.sleep_core.proofs.Moves.Move.{stays, post_posted, test_leaving, test_asleep, look_woken, look_leaving, withdraw_out, withdraw_awaiting, clear_ended, raise_owing, take_nobody, take_holding, mark_marked, note_noted, drain_notes}
 use Rattle.sleep_core.proofs.TableMoves.{table_moves}
 use Rattle.sleep_core.proofs.Frames.{same_or_not, fits_at}
 use Rattle.sleep_core.proofs.TokenLemmas.{token_elsewhere}
@@ -94,10 +95,10 @@ wake_other s changed new pid differ wake =
     ap (λ (f : ProcFlags). f.wake)
     (get_or-set_other s.flags changed pid new no_flags (λ same. differ (sym same))) ∙ wake
 
-leaves_places : (s : State) (h : List Deed) (pid : ℕ) (stage : Phase) (told : Option NoteSet)
+clear_places : (s : State) (h : List Deed) (pid : ℕ) (stage : Phase) (told : Option NoteSet)
     → phase_of s pid ≡ stage → IsOver stage → Placed s h
     → Placed (with_phase (with_flags s pid no_flags) pid phase.Idle) (Left pid told ∷ h)
-leaves_places s h pid stage told at over placed =
+clear_places s h pid stage told at over placed =
     record {
       marked = λ p is. by_token p
           (token_elsewhere pid p Nowhere (token h p) InFlags is (λ e. cc));
@@ -109,12 +110,12 @@ leaves_places s h pid stage told at over placed =
         → (get_or (set s.flags pid no_flags) p no_flags).wake ≡ true
     by_token p old = wake_other s pid no_flags p old.0 (placed.marked p old.1)
 
-takes_places : (s : State) (h : List Deed) (pid : ℕ) (sleeper : Pid) (rendez : RendezId)
+take_holding_places : (s : State) (h : List Deed) (pid : ℕ) (sleeper : Pid) (rendez : RendezId)
     (level : ℕ)
     → pid < length s.phases → phase_of s pid ≡ phase.Owing rendez level → Placed s h
     → Placed (with_phase (with_posted s rendez.0 0) pid (phase.Holding sleeper rendez level))
     (Took pid sleeper.0 ∷ h)
-takes_places s h pid sleeper rendez level in_range at placed =
+take_holding_places s h pid sleeper rendez level in_range at placed =
     record {
       marked = λ p is. marked_elsewhere s h sleeper.0 (WithRaiser pid) p placed is (λ e. cc);
       held = λ p raiser is. by_token p raiser is (eqb_tells sleeper.0 p);
@@ -138,14 +139,14 @@ takes_places s h pid sleeper rendez level in_range at placed =
         held_by_others s h pid (phase.Owing rendez level) taken at (λ q holds. holds) placed p
         raiser (sym (ap (λ b. if b then WithRaiser pid else token h p) there.0) ∙ is)
 
-marks_places : (s : State) (h : List Deed) (pid : ℕ) (sleeper : Pid) (rendez : RendezId)
+mark_places : (s : State) (h : List Deed) (pid : ℕ) (sleeper : Pid) (rendez : RendezId)
     (level : ℕ)
     → sleeper.0 < length s.flags → phase_of s pid ≡ phase.Holding sleeper rendez level
     → Placed s h
     → Placed (with_returned (with_phase
     (with_flags s sleeper.0 (record { wake = true; notes = (flags_of s sleeper.0).notes })) pid
     phase.Idle) (Some (record { rendez = rendez.0; level = level }))) (Marked pid sleeper.0 ∷ h)
-marks_places s h pid sleeper rendez level has_flags at placed =
+mark_places s h pid sleeper rendez level has_flags at placed =
     record {
       marked = λ p is. by_mark p is (eqb_tells sleeper.0 p);
       held = λ p raiser is. by_token p raiser
@@ -175,13 +176,17 @@ marks_places s h pid sleeper rendez level has_flags at placed =
         (placed.held p raiser old.1))
         (placed.held p raiser old.1)
 
-notes_places : (s : State) (h : List Deed) (pid : ℕ) (new : NoteSet) → pid < length s.flags
+note_places : (s : State) (h : List Deed) (pid : ℕ) (new : NoteSet) → pid < length s.flags
     → Placed s h
     → Placed (with_flags s pid
     (record { wake = (flags_of s pid).wake; notes = joined (flags_of s pid).notes new }))
     (Noted pid new ∷ h)
-notes_places s h pid new has_flags placed =
-    record { marked = λ p is. by_place p (placed.marked p is) (same_or_not p pid); held = placed.held }
+note_places s h pid new has_flags placed =
+    record {
+      marked = λ p is. by_place p (placed.marked p is) (same_or_not p pid);
+      held =
+          placed.held;
+    }
   where
     noted : ProcFlags
     noted = record { wake = (flags_of s pid).wake; notes = joined (flags_of s pid).notes new }
@@ -194,10 +199,10 @@ notes_places s h pid new has_flags placed =
         ∙ (ap (λ q. (flags_of s q).wake) (sym same) ∙ wake))
     by_place p wake (inr differ) = wake_other s pid noted p (λ same. differ (sym same)) wake
 
-drains_places : (s : State) (h : List Deed) (pid : ℕ) (told : NoteSet)
+drain_places : (s : State) (h : List Deed) (pid : ℕ) (told : NoteSet)
     → token h pid ≡ Nowhere → Placed s h
     → Placed (with_flags s pid no_flags) (Drained pid told ∷ h)
-drains_places s h pid told nowhere placed =
+drain_places s h pid told nowhere placed =
     record {
       marked = λ p is. wake_other s pid no_flags p (differs p is) (placed.marked p is);
       held = placed.held;
@@ -213,68 +218,79 @@ drains_places s h pid told nowhere placed =
 places_kept : (s : State) (h : List Deed) {deed : Option Deed} {after : State}
     → Move s deed after → Core s h → Placed s h → Placed after (cons_option deed h)
 places_kept s h stays core placed = placed
-places_kept s h (begins {pid = pid} {rendez = rendez} {level = level} in_range idle there free) core
+places_kept s h (post_posted {pid = pid} {rendez = rendez} {threshold = threshold} in_range idle
+    there free) core
     placed = record {
       marked = λ p is. marked_elsewhere s h pid (InRendez rendez.0) p placed is (λ e. cc);
-      held = λ p raiser is. held_elsewhere s h pid phase.Idle (phase.Posted rendez level) pid
+      held = λ p raiser is. held_elsewhere s h pid phase.Idle (phase.Posted rendez threshold) pid
           (InRendez rendez.0) p raiser idle (λ q holds. holds) placed is (λ e. cc);
     }
-places_kept s h (passes {pid = pid} {rendez = rendez} {level = level} in_range at) core placed =
+places_kept s h (test_leaving {pid = pid} {rendez = rendez} {threshold = threshold} in_range at)
+    core placed =
     record {
       marked = placed.marked;
-      held = held_by_others s h pid (phase.Posted rendez level) (phase.Leaving rendez) at
+      held = held_by_others s h pid (phase.Posted rendez threshold) (phase.Leaving rendez) at
           (λ q holds. holds) placed;
     }
-places_kept s h (falls {pid = pid} {rendez = rendez} {level = level} in_range at low) core placed =
+places_kept s h (test_asleep {pid = pid} {rendez = rendez} {threshold = threshold} in_range at low)
+    core placed =
     record {
       marked = placed.marked;
-      held = held_by_others s h pid (phase.Posted rendez level) (phase.Asleep rendez level) at
+      held = held_by_others s h pid (phase.Posted rendez threshold) (phase.Asleep rendez threshold)
+          at
           (λ q holds. holds) placed;
     }
-places_kept s h (rouses {pid = pid} {stage = stage} in_range at waiting wake) core placed = record {
-  marked = placed.marked;
-  held = held_by_others s h pid stage phase.Woken at (waiting_holds_none stage waiting) placed;
-}
-places_kept s h (gives_up {pid = pid} {rendez = rendez} {level = level} in_range at noted) core
+places_kept s h (look_woken {pid = pid} {stage = stage} in_range at waiting wake) core placed =
+    record {
+      marked = placed.marked;
+      held = held_by_others s h pid stage phase.Woken at (waiting_holds_none stage waiting) placed;
+    }
+places_kept s h (look_leaving {pid = pid} {rendez = rendez} {threshold = threshold} in_range at
+    noted) core
     placed = record {
       marked = placed.marked;
-      held = held_by_others s h pid (phase.Asleep rendez level) (phase.Leaving rendez) at
+      held = held_by_others s h pid (phase.Asleep rendez threshold) (phase.Leaving rendez) at
           (λ q holds. holds) placed;
     }
-places_kept s h (withdraws {pid = pid} {rendez = rendez} in_range at mine) core placed = record {
+places_kept s h (withdraw_out {pid = pid} {rendez = rendez} in_range at mine) core placed = record {
   marked = λ p is. marked_elsewhere s h pid Nowhere p placed is (λ e. cc);
   held = λ p raiser is. held_elsewhere s h pid (phase.Leaving rendez) phase.Out pid Nowhere p raiser
       at (λ q holds. holds) placed is (λ e. cc);
 }
-places_kept s h (awaits {pid = pid} {rendez = rendez} in_range at other) core placed = record {
-  marked = placed.marked;
-  held = held_by_others s h pid (phase.Leaving rendez) phase.Awaiting at (λ q holds. holds) placed;
-}
-places_kept s h (leaves {pid = pid} {stage = stage} in_range at over) core placed =
-    leaves_places s h pid stage (ending_notes (flags_of s pid).notes) at over placed
-places_kept s h (raises {pid = pid} {rendez = rendez} {level = level} in_range idle there) core
+places_kept s h (withdraw_awaiting {pid = pid} {rendez = rendez} in_range at other) core placed =
+    record {
+      marked = placed.marked;
+      held = held_by_others s h pid (phase.Leaving rendez) phase.Awaiting at (λ q holds. holds)
+          placed;
+    }
+places_kept s h (clear_ended {pid = pid} {stage = stage} in_range at over) core placed =
+    clear_places s h pid stage (ending_notes (flags_of s pid).notes) at over placed
+places_kept s h (raise_owing {pid = pid} {rendez = rendez} {level = level} in_range idle there) core
     placed = record {
       marked = placed.marked;
       held = held_by_others s h pid phase.Idle (phase.Owing rendez level) idle (λ q holds. holds)
           placed;
     }
-places_kept s h (misses {pid = pid} {rendez = rendez} {level = level} in_range at free) core placed
+places_kept s h (take_nobody {pid = pid} {rendez = rendez} {level = level} in_range at free) core
+    placed
     = record {
       marked = placed.marked;
       held = held_by_others s h pid (phase.Owing rendez level) phase.Idle at (λ q holds. holds)
           placed;
     }
-places_kept s h (takes {pid = pid} {sleeper = sleeper} {rendez = rendez} {level = level} in_range at
+places_kept s h (take_holding {pid = pid} {sleeper = sleeper} {rendez = rendez} {level = level}
+    in_range at
     posted) core placed =
-    takes_places s h pid sleeper rendez level in_range at placed
-places_kept s h (marks {pid = pid} {sleeper = sleeper} {rendez = rendez} {level = level} in_range at)
+    take_holding_places s h pid sleeper rendez level in_range at placed
+places_kept s h (mark_marked {pid = pid} {sleeper = sleeper} {rendez = rendez} {level = level}
+    in_range at)
     core placed =
     let there = subst (IsPhaseIn (length s.phases) (length s.posted)) at (core.sound.phases pid) in
-    marks_places s h pid sleeper rendez level (omega (arith, there.0, core.sound.flags)) at placed
-places_kept s h (notes {pid = pid} {new = new} in_range) core placed =
-    notes_places s h pid new (omega (arith, core.sound.flags)) placed
-places_kept s h (drains {pid = pid} in_range idle) core placed =
-    drains_places s h pid (flags_of s pid).notes (fits_at s h pid phase.Idle core idle) placed
+    mark_places s h pid sleeper rendez level (omega (arith, there.0, core.sound.flags)) at placed
+places_kept s h (note_noted {pid = pid} {new = new} in_range) core placed =
+    note_places s h pid new (omega (arith, core.sound.flags)) placed
+places_kept s h (drain_notes {pid = pid} in_range idle) core placed =
+    drain_places s h pid (flags_of s pid).notes (fits_at s h pid phase.Idle core idle) placed
 
 -- so does every run
 pub places_of_run : (procs rendez : ℕ) (past : List Entry) → IsRun procs rendez past

@@ -16,48 +16,49 @@ use Rattle.sleep_core.proofs.ListLemmas.{get_or-set_cases}
 use Rattle.sleep_core.proofs.Soundness.{IsSound-with_phase, IsSound-with_flags, IsSound-with_posted, IsSound-with_level, IsSound-with_returned}
 use Rattle.sleep_core.proofs.CoreInvariant.{token, IsAway, Raises, Holds, Fits, IsShown, Core}
 use Rattle.sleep_core.proofs.CoreInvariant.Token.{Nowhere, InRendez, WithRaiser, InFlags}
-use Rattle.sleep_core.proofs.Frames.{if_same, if_other, same_or_not, apart, level_kept, fits_at, fits_each, Frame, frame_past, fits_kept, fits_moved}
+use Rattle.sleep_core.proofs.Frames.{if_same, if_other, same_or_not, apart, threshold_kept, fits_at, fits_each, Frame, frame_past, fits_kept, fits_moved}
 
 -- who has fallen asleep is still in
-pub still_in_from_fallen : (h : List Deed) (pid rendez level : ℕ) → HasFallen h pid rendez level
-    → IsStillIn h pid rendez level
-still_in_from_fallen [] pid rendez level fell = fell
-still_in_from_fallen (Fell by ∷ h) pid rendez level fell =
-    by_fall fell (still_in_from_fallen h pid rendez level)
+pub still_in_from_fallen : (h : List Deed) (pid rendez threshold : ℕ) → HasFallen h pid rendez
+    threshold
+    → IsStillIn h pid rendez threshold
+still_in_from_fallen [] pid rendez threshold fell = fell
+still_in_from_fallen (Fell by ∷ h) pid rendez threshold fell =
+    by_fall fell (still_in_from_fallen h pid rendez threshold)
   where
-    by_fall : ((by ≡ pid) × IsStillIn h pid rendez level) ⊎ HasFallen h pid rendez level
-        → (HasFallen h pid rendez level → IsStillIn h pid rendez level)
-        → IsStillIn h pid rendez level
+    by_fall : ((by ≡ pid) × IsStillIn h pid rendez threshold) ⊎ HasFallen h pid rendez threshold
+        → (HasFallen h pid rendez threshold → IsStillIn h pid rendez threshold)
+        → IsStillIn h pid rendez threshold
     by_fall (inl new) before = new.1
     by_fall (inr old) before = before old
-still_in_from_fallen (Began by r v ∷ h) pid rendez level fell =
-    inr (still_in_from_fallen h pid rendez level fell)
-still_in_from_fallen (Withdrew by ∷ h) pid rendez level fell =
-    (fell.0, still_in_from_fallen h pid rendez level fell.1)
-still_in_from_fallen (Took by sleeper ∷ h) pid rendez level fell =
-    (fell.0, still_in_from_fallen h pid rendez level fell.1)
-still_in_from_fallen (Left by notes ∷ h) pid rendez level fell =
-    (fell.0, still_in_from_fallen h pid rendez level fell.1)
-still_in_from_fallen (Passed by ∷ h) pid rendez level fell =
-    still_in_from_fallen h pid rendez level fell
-still_in_from_fallen (Roused by ∷ h) pid rendez level fell =
-    still_in_from_fallen h pid rendez level fell
-still_in_from_fallen (Raised by r v ∷ h) pid rendez level fell =
-    still_in_from_fallen h pid rendez level fell
-still_in_from_fallen (Missed by ∷ h) pid rendez level fell =
-    still_in_from_fallen h pid rendez level fell
-still_in_from_fallen (Marked by sleeper ∷ h) pid rendez level fell =
-    still_in_from_fallen h pid rendez level fell
-still_in_from_fallen (Noted by notes ∷ h) pid rendez level fell =
-    still_in_from_fallen h pid rendez level fell
-still_in_from_fallen (Drained by notes ∷ h) pid rendez level fell =
-    still_in_from_fallen h pid rendez level fell
+still_in_from_fallen (Began by r v ∷ h) pid rendez threshold fell =
+    inr (still_in_from_fallen h pid rendez threshold fell)
+still_in_from_fallen (Withdrew by ∷ h) pid rendez threshold fell =
+    (fell.0, still_in_from_fallen h pid rendez threshold fell.1)
+still_in_from_fallen (Took by sleeper ∷ h) pid rendez threshold fell =
+    (fell.0, still_in_from_fallen h pid rendez threshold fell.1)
+still_in_from_fallen (Left by notes ∷ h) pid rendez threshold fell =
+    (fell.0, still_in_from_fallen h pid rendez threshold fell.1)
+still_in_from_fallen (Passed by ∷ h) pid rendez threshold fell =
+    still_in_from_fallen h pid rendez threshold fell
+still_in_from_fallen (Roused by ∷ h) pid rendez threshold fell =
+    still_in_from_fallen h pid rendez threshold fell
+still_in_from_fallen (Raised by r v ∷ h) pid rendez threshold fell =
+    still_in_from_fallen h pid rendez threshold fell
+still_in_from_fallen (Missed by ∷ h) pid rendez threshold fell =
+    still_in_from_fallen h pid rendez threshold fell
+still_in_from_fallen (Marked by sleeper ∷ h) pid rendez threshold fell =
+    still_in_from_fallen h pid rendez threshold fell
+still_in_from_fallen (Noted by notes ∷ h) pid rendez threshold fell =
+    still_in_from_fallen h pid rendez threshold fell
+still_in_from_fallen (Drained by notes ∷ h) pid rendez threshold fell =
+    still_in_from_fallen h pid rendez threshold fell
 
-pub raises_keeps : (s : State) (h : List Deed) (pid : ℕ) (rendez : RendezId) (level : ℕ)
+pub raise_keeps : (s : State) (h : List Deed) (pid : ℕ) (rendez : RendezId) (level : ℕ)
     → pid < length s.phases → phase_of s pid ≡ phase.Idle → rendez.0 < length s.levels → Core s h
     → Core (with_phase (with_level s rendez.0 (max (level_of s rendez.0) level)) pid
     (phase.Owing rendez level)) (Raised pid rendez.0 level ∷ h)
-raises_keeps s h pid rendez level in_range idle has_level core =
+raise_keeps s h pid rendez level in_range idle has_level core =
     record {
       sound = IsSound-with_phase raised pid (phase.Owing rendez level)
           (IsSound-with_level s rendez.0 (max (level_of s rendez.0) level) core.sound)
@@ -69,8 +70,8 @@ raises_keeps s h pid rendez level in_range idle has_level core =
       returned = core.returned;
       still_in = λ p r v still. record {
         posted = (core.still_in p r v still).posted;
-        at_level = level_kept s pid (phase.Owing rendez level) p v (λ same. tt)
-            (core.still_in p r v still).at_level;
+        at_threshold = threshold_kept s pid (phase.Owing rendez level) p v (λ same. tt)
+            (core.still_in p r v still).at_threshold;
       };
       fallen = core.fallen;
       notes = core.notes;
@@ -161,12 +162,12 @@ returned_counts s h pid call has_returned begun rendez level shown =
     (max (returned_of s call.rendez) call.level) 0 has_returned in
     omega (arith, ap (returned_of (with_returned s (Some call))) same_rendez, counted, same_level)
 
-pub misses_keeps : (s : State) (h : List Deed) (pid : ℕ) (rendez : RendezId) (level : ℕ)
+pub take_nobody_keeps : (s : State) (h : List Deed) (pid : ℕ) (rendez : RendezId) (level : ℕ)
     → pid < length s.phases → phase_of s pid ≡ phase.Owing rendez level → posted_of s rendez.0 ≡ 0
     → Core s h
     → Core (with_returned (with_phase s pid phase.Idle)
     (Some (record { rendez = rendez.0; level = level }))) (Missed pid ∷ h)
-misses_keeps s h pid rendez level in_range at free core =
+take_nobody_keeps s h pid rendez level in_range at free core =
     record {
       sound = IsSound-with_returned idle call (IsSound-with_phase s pid phase.Idle core.sound tt);
       fits = fits_each s after later pid phase.Idle in_range fit.nowhere others;
@@ -177,8 +178,8 @@ misses_keeps s h pid rendez level in_range at free core =
       returned = by_return;
       still_in = λ p r v still. record {
         posted = (core.still_in p r v still).posted;
-        at_level = level_kept s pid phase.Idle p v (λ same. tt)
-            (core.still_in p r v still).at_level;
+        at_threshold = threshold_kept s pid phase.Idle p v (λ same. tt)
+            (core.still_in p r v still).at_threshold;
       };
       fallen = λ p r v fell. returned_at_most s call r v (core.fallen p r v fell)
           (λ same. absurd (nobody p r v fell same));
@@ -229,13 +230,13 @@ misses_keeps s h pid rendez level in_range at free core =
         let was = core.still_in p r v (still_in_from_fallen h p r v fell) in
         omega (arith, ap (posted_of s) same, was.posted, free)
 
-pub takes_keeps : (s : State) (h : List Deed) (pid : ℕ) (sleeper : Pid) (rendez : RendezId)
+pub take_holding_keeps : (s : State) (h : List Deed) (pid : ℕ) (sleeper : Pid) (rendez : RendezId)
     (level : ℕ)
     → pid < length s.phases → phase_of s pid ≡ phase.Owing rendez level
     → posted_of s rendez.0 ≡ sleeper.0 + 1 → Core s h
     → Core (with_phase (with_posted s rendez.0 0) pid (phase.Holding sleeper rendez level))
     (Took pid sleeper.0 ∷ h)
-takes_keeps s h pid sleeper rendez level in_range at posted core =
+take_holding_keeps s h pid sleeper rendez level in_range at posted core =
     record {
       sound = IsSound-with_phase taken pid (phase.Holding sleeper rendez level)
           (IsSound-with_posted s rendez.0 0 core.sound (omega arith)) (
@@ -316,7 +317,8 @@ takes_keeps s h pid sleeper rendez level in_range at posted core =
             frame : Frame s after h later p
             frame =
                 frame_past s after h (Took pid sleeper.0) p (λ same. away (sym same))
-                (λ q moves with_raiser. apart h q sleeper.0 (WithRaiser p) (InRendez rendez.0) with_raiser
+                (λ q moves with_raiser. apart h q sleeper.0 (WithRaiser p) (InRendez rendez.0)
+                with_raiser
                 here (λ e. cc) (sym moves)) tt (λ e. e) (λ r. omega arith)
 
     by_rendez : (r p : ℕ) → posted_of after r ≡ p + 1 → (r ≡ rendez.0) ⊎ (r ≢ rendez.0)
@@ -338,17 +340,17 @@ takes_keeps s h pid sleeper rendez level in_range at posted core =
         (omega (arith, ap (posted_of s) same, was.posted, posted)) in
         record {
           posted = get_or-set_other s.posted rendez.0 r 0 0 elsewhere ∙ was.posted;
-          at_level = level_kept s pid (phase.Holding sleeper rendez level) p v (λ same. tt)
-              was.at_level;
+          at_threshold = threshold_kept s pid (phase.Holding sleeper rendez level) p v (λ same. tt)
+              was.at_threshold;
         }
 
-pub marks_keeps : (s : State) (h : List Deed) (pid : ℕ) (sleeper : Pid) (rendez : RendezId)
+pub mark_keeps : (s : State) (h : List Deed) (pid : ℕ) (sleeper : Pid) (rendez : RendezId)
     (level : ℕ)
     → pid < length s.phases → phase_of s pid ≡ phase.Holding sleeper rendez level → Core s h
     → Core (with_returned (with_phase
     (with_flags s sleeper.0 (record { wake = true; notes = (flags_of s sleeper.0).notes })) pid
     phase.Idle) (Some (record { rendez = rendez.0; level = level }))) (Marked pid sleeper.0 ∷ h)
-marks_keeps s h pid sleeper rendez level in_range at core =
+mark_keeps s h pid sleeper rendez level in_range at core =
     record {
       sound = IsSound-with_returned idle call
           (IsSound-with_phase marking pid phase.Idle
@@ -365,8 +367,8 @@ marks_keeps s h pid sleeper rendez level in_range at core =
       returned = by_return;
       still_in = λ p r v still. record {
         posted = (core.still_in p r v still).posted;
-        at_level = level_kept s pid phase.Idle p v (λ same. tt)
-            (core.still_in p r v still).at_level;
+        at_threshold = threshold_kept s pid phase.Idle p v (λ same. tt)
+            (core.still_in p r v still).at_threshold;
       };
       fallen = λ p r v fell. returned_at_most s call r v (core.fallen p r v fell)
           (λ same. fit.below p v (subst (λ q. HasFallen h p q v) same fell));

@@ -12,10 +12,10 @@ use Rattle.sleep_core.specs.History.Deed.{Began, Passed, Fell, Roused}
 use Rattle.sleep_core.specs.Promises.{IsStillIn, HasFallen}
 use Rattle.sleep_core.proofs.ListLemmas.{get_or-set_cases}
 use Rattle.sleep_core.proofs.Soundness.{IsSound-with_phase, IsSound-with_posted}
-use Rattle.sleep_core.proofs.CoreInvariant.{Token, token, IsAway, IsNear, Fits, IsAtLevel, IsShown, Core}
+use Rattle.sleep_core.proofs.CoreInvariant.{Token, token, IsAway, IsNear, Fits, IsAtThreshold, IsShown, Core}
 use Rattle.sleep_core.proofs.CoreInvariant.Token.{Nowhere, InRendez, WithRaiser, InFlags}
 use Rattle.sleep_core.proofs.TokenLemmas.{posted_by_token}
-use Rattle.sleep_core.proofs.Frames.{if_same, if_other, apart, level_kept, fits_at, fits_each, Frame, frame_past, frame_quiet, fits_kept}
+use Rattle.sleep_core.proofs.Frames.{if_same, if_other, apart, threshold_kept, fits_at, fits_each, Frame, frame_past, frame_quiet, fits_kept}
 
 -- what a phase names is there
 has_rendez_at : (s : State) (pid : ℕ) (stage : Phase) → IsSound s → phase_of s pid ≡ stage
@@ -23,17 +23,17 @@ has_rendez_at : (s : State) (pid : ℕ) (stage : Phase) → IsSound s → phase_
 has_rendez_at s pid stage sound at =
     subst (IsPhaseIn (length s.phases) (length s.posted)) at (sound.phases pid)
 
-pub begins_keeps : (s : State) (h : List Deed) (pid : ℕ) (rendez : RendezId) (level : ℕ)
+pub post_keeps : (s : State) (h : List Deed) (pid : ℕ) (rendez : RendezId) (threshold : ℕ)
     → pid < length s.phases → phase_of s pid ≡ phase.Idle → rendez.0 < length s.posted
     → posted_of s rendez.0 ≡ 0 → Core s h
-    → Core (with_phase (with_posted s rendez.0 (pid + 1)) pid (phase.Posted rendez level))
-    (Began pid rendez.0 level ∷ h)
-begins_keeps s h pid rendez level in_range idle has_rendez free core =
+    → Core (with_phase (with_posted s rendez.0 (pid + 1)) pid (phase.Posted rendez threshold))
+    (Began pid rendez.0 threshold ∷ h)
+post_keeps s h pid rendez threshold in_range idle has_rendez free core =
     record {
-      sound = IsSound-with_phase posting pid (phase.Posted rendez level)
+      sound = IsSound-with_phase posting pid (phase.Posted rendez threshold)
           (IsSound-with_posted s rendez.0 (pid + 1) core.sound (omega arith))
           (rw (length-set s.posted rendez.0 (pid + 1)) has_rendez);
-      fits = fits_each posting after later pid (phase.Posted rendez level) in_range own others;
+      fits = fits_each posting after later pid (phase.Posted rendez threshold) in_range own others;
       posted = λ r p at. by_place r p at (get_or-set_cases s.posted rendez.0 (pid + 1) r 0);
       marked = λ p wake. if_other pid p (InRendez rendez.0) (token h p)
           (apart h p pid InFlags Nowhere (core.marked p wake) nowhere (λ e. cc))
@@ -52,15 +52,15 @@ begins_keeps s h pid rendez level in_range idle has_rendez free core =
     posting = with_posted s rendez.0 (pid + 1)
 
     after : State
-    after = with_phase posting pid (phase.Posted rendez level)
+    after = with_phase posting pid (phase.Posted rendez threshold)
 
     later : List Deed
-    later = Began pid rendez.0 level ∷ h
+    later = Began pid rendez.0 threshold ∷ h
 
     nowhere : token h pid ≡ Nowhere
     nowhere = fits_at s h pid phase.Idle core idle
 
-    own : Fits after later pid (phase.Posted rendez level)
+    own : Fits after later pid (phase.Posted rendez threshold)
     own = record {
       near = subst (IsNear rendez.0) (sym (if_same pid pid (InRendez rendez.0) (token h pid) refl))
           refl;
@@ -72,8 +72,9 @@ begins_keeps s h pid rendez level in_range idle has_rendez free core =
       where
         frame : Frame s after h later p
         frame =
-            frame_past s after h (Began pid rendez.0 level) p (λ same. differ (sym same))
-            (λ q moves with_raiser. apart h q pid (WithRaiser p) Nowhere with_raiser nowhere (λ e. cc)
+            frame_past s after h (Began pid rendez.0 threshold) p (λ same. differ (sym same))
+            (λ q moves with_raiser. apart h q pid (WithRaiser p) Nowhere with_raiser nowhere (λ e.
+            cc)
             (sym moves)) tt (λ e. e) (λ r. omega arith)
 
     -- whoever is posted now was posted before, or is this process
@@ -88,15 +89,16 @@ begins_keeps s h pid rendez level in_range idle has_rendez free core =
         if_other pid p (InRendez rendez.0) (token h p)
         (apart h p pid (InRendez r) Nowhere old nowhere (λ e. cc)) ∙ old
 
-    shown : IsShown after pid rendez.0 level
+    shown : IsShown after pid rendez.0 threshold
     shown = record {
       posted = get_or-set_same s.posted rendez.0 (pid + 1) 0 has_rendez;
-      at_level = level_kept s pid (phase.Posted rendez level) pid level (λ same. refl)
-          (subst (IsAtLevel level) (sym idle) tt);
+      at_threshold = threshold_kept s pid (phase.Posted rendez threshold) pid threshold (λ same.
+          refl)
+          (subst (IsAtThreshold threshold) (sym idle) tt);
     }
 
     -- the sleep is the one that began, or one that went on
-    by_sleep : (p r v : ℕ) → ((pid ≡ p) × (rendez.0 ≡ r) × (level ≡ v)) ⊎ IsStillIn h p r v
+    by_sleep : (p r v : ℕ) → ((pid ≡ p) × (rendez.0 ≡ r) × (threshold ≡ v)) ⊎ IsStillIn h p r v
         → IsShown after p r v
     by_sleep p r v (inl new) =
         subst (λ q. IsShown after q r v) new.0
@@ -110,17 +112,18 @@ begins_keeps s h pid rendez level in_range idle has_rendez free core =
         (omega (arith, ap (posted_of s) same, was.posted)) in
         record {
           posted = get_or-set_other s.posted rendez.0 r (pid + 1) 0 elsewhere ∙ was.posted;
-          at_level = level_kept s pid (phase.Posted rendez level) p v (λ same. absurd (differ same))
-              was.at_level;
+          at_threshold = threshold_kept s pid (phase.Posted rendez threshold) p v (λ same. absurd
+              (differ same))
+              was.at_threshold;
         }
 
-pub passes_keeps : (s : State) (h : List Deed) (pid : ℕ) (rendez : RendezId) (level : ℕ)
-    → pid < length s.phases → phase_of s pid ≡ phase.Posted rendez level → Core s h
+pub test_leaving_keeps : (s : State) (h : List Deed) (pid : ℕ) (rendez : RendezId) (threshold : ℕ)
+    → pid < length s.phases → phase_of s pid ≡ phase.Posted rendez threshold → Core s h
     → Core (with_phase s pid (phase.Leaving rendez)) (Passed pid ∷ h)
-passes_keeps s h pid rendez level in_range at core =
+test_leaving_keeps s h pid rendez threshold in_range at core =
     record {
       sound = IsSound-with_phase s pid (phase.Leaving rendez) core.sound
-          (has_rendez_at s pid (phase.Posted rendez level) core.sound at);
+          (has_rendez_at s pid (phase.Posted rendez threshold) core.sound at);
       fits = fits_each s after later pid (phase.Leaving rendez) in_range own others;
       posted = core.posted;
       marked = core.marked;
@@ -128,8 +131,8 @@ passes_keeps s h pid rendez level in_range at core =
       returned = core.returned;
       still_in = λ p r v still. record {
         posted = (core.still_in p r v still).posted;
-        at_level = level_kept s pid (phase.Leaving rendez) p v (λ same. tt)
-            (core.still_in p r v still).at_level;
+        at_threshold = threshold_kept s pid (phase.Leaving rendez) p v (λ same. tt)
+            (core.still_in p r v still).at_threshold;
       };
       fallen = core.fallen;
       notes = core.notes;
@@ -144,8 +147,8 @@ passes_keeps s h pid rendez level in_range at core =
     later : List Deed
     later = Passed pid ∷ h
 
-    fit : Fits s h pid (phase.Posted rendez level)
-    fit = fits_at s h pid (phase.Posted rendez level) core at
+    fit : Fits s h pid (phase.Posted rendez threshold)
+    fit = fits_at s h pid (phase.Posted rendez threshold) core at
 
     own : Fits after later pid (phase.Leaving rendez)
     own = record { place = fit.near; may_leave = inl (inl refl) }
@@ -158,24 +161,24 @@ passes_keeps s h pid rendez level in_range at core =
             frame_past s after h (Passed pid) p (λ about. about) (λ q moves with_raiser. moves) tt
             (λ e. e) (λ r. omega arith)
 
-pub falls_keeps : (s : State) (h : List Deed) (pid : ℕ) (rendez : RendezId) (level : ℕ)
-    → pid < length s.phases → phase_of s pid ≡ phase.Posted rendez level
-    → level_of s rendez.0 ≤ level → Core s h
-    → Core (with_phase s pid (phase.Asleep rendez level)) (Fell pid ∷ h)
-falls_keeps s h pid rendez level in_range at low core =
+pub test_asleep_keeps : (s : State) (h : List Deed) (pid : ℕ) (rendez : RendezId) (threshold : ℕ)
+    → pid < length s.phases → phase_of s pid ≡ phase.Posted rendez threshold
+    → level_of s rendez.0 ≤ threshold → Core s h
+    → Core (with_phase s pid (phase.Asleep rendez threshold)) (Fell pid ∷ h)
+test_asleep_keeps s h pid rendez threshold in_range at low core =
     record {
-      sound = IsSound-with_phase s pid (phase.Asleep rendez level) core.sound
-          (has_rendez_at s pid (phase.Posted rendez level) core.sound at);
-      fits = fits_each s after later pid (phase.Asleep rendez level) in_range own others;
+      sound = IsSound-with_phase s pid (phase.Asleep rendez threshold) core.sound
+          (has_rendez_at s pid (phase.Posted rendez threshold) core.sound at);
+      fits = fits_each s after later pid (phase.Asleep rendez threshold) in_range own others;
       posted = core.posted;
       marked = core.marked;
       low = core.low;
       returned = core.returned;
       still_in = λ p r v still. record {
         posted = (core.still_in p r v still).posted;
-        at_level = level_kept s pid (phase.Asleep rendez level) p v
-            (λ same. own_level p v same (core.still_in p r v still).at_level)
-            (core.still_in p r v still).at_level;
+        at_threshold = threshold_kept s pid (phase.Asleep rendez threshold) p v
+            (λ same. own_threshold p v same (core.still_in p r v still).at_threshold)
+            (core.still_in p r v still).at_threshold;
       };
       fallen = by_fall;
       notes = core.notes;
@@ -185,27 +188,28 @@ falls_keeps s h pid rendez level in_range at low core =
     }
   where
     after : State
-    after = with_phase s pid (phase.Asleep rendez level)
+    after = with_phase s pid (phase.Asleep rendez threshold)
 
     later : List Deed
     later = Fell pid ∷ h
 
-    fit : Fits s h pid (phase.Posted rendez level)
-    fit = fits_at s h pid (phase.Posted rendez level) core at
+    fit : Fits s h pid (phase.Posted rendez threshold)
+    fit = fits_at s h pid (phase.Posted rendez threshold) core at
 
-    own_level : (p v : ℕ) → p ≡ pid → IsAtLevel v (phase_of s p) → level ≡ v
-    own_level p v same level_is = subst (IsAtLevel v) (ap (phase_of s) same ∙ at) level_is
+    own_threshold : (p v : ℕ) → p ≡ pid → IsAtThreshold v (phase_of s p) → threshold ≡ v
+    own_threshold p v same threshold_is = subst (IsAtThreshold v) (ap (phase_of s) same ∙ at)
+        threshold_is
 
-    -- who falls asleep now sleeps in the Rendez and below the level that were tested
+    -- who falls asleep now sleeps in the Rendez and below the threshold that were tested
     just_fell : (x r v : ℕ) → (pid ≡ x) × IsStillIn h x r v → level_of s r ≤ v
     just_fell x r v fell =
         let was = core.still_in x r v fell.1 in
         let here : token h pid ≡ InRendez r = ap (token h) fell.0 ∙ core.posted r x was.posted in
         let same_rendez : r ≡ rendez.0 = subst (IsNear rendez.0) here fit.near in
-        let same_level : level ≡ v = own_level x v (sym fell.0) was.at_level in
-        omega (arith, ap (level_of s) same_rendez, same_level, low)
+        let same_threshold : threshold ≡ v = own_threshold x v (sym fell.0) was.at_threshold in
+        omega (arith, ap (level_of s) same_rendez, same_threshold, low)
 
-    own : Fits after later pid (phase.Asleep rendez level)
+    own : Fits after later pid (phase.Asleep rendez threshold)
     own = record { near = fit.near; stays = λ e. inl (refl, fit.stays e) }
 
     newly_fallen : (r x v : ℕ) → ((pid ≡ x) × IsStillIn h x r v) ⊎ HasFallen h x r v
@@ -226,9 +230,9 @@ falls_keeps s h pid rendez level in_range at low core =
             frame_past s after h (Fell pid) p (λ about. about) (λ q moves with_raiser. moves)
             (λ r x v fell. just_fell x r v fell) (λ e. e) (λ r. omega arith)
 
-pub rouses_keeps : (s : State) (h : List Deed) (pid : ℕ) → pid < length s.phases
+pub look_woken_keeps : (s : State) (h : List Deed) (pid : ℕ) → pid < length s.phases
     → (flags_of s pid).wake ≡ true → Core s h → Core (with_phase s pid phase.Woken) (Roused pid ∷ h)
-rouses_keeps s h pid in_range wake core =
+look_woken_keeps s h pid in_range wake core =
     record {
       sound = IsSound-with_phase s pid phase.Woken core.sound tt;
       fits = fits_each s after later pid phase.Woken in_range (core.marked pid wake, inl refl)
@@ -239,8 +243,8 @@ rouses_keeps s h pid in_range wake core =
       returned = core.returned;
       still_in = λ p r v still. record {
         posted = (core.still_in p r v still).posted;
-        at_level = level_kept s pid phase.Woken p v (λ same. tt)
-            (core.still_in p r v still).at_level;
+        at_threshold = threshold_kept s pid phase.Woken p v (λ same. tt)
+            (core.still_in p r v still).at_threshold;
       };
       fallen = core.fallen;
       notes = core.notes;
@@ -266,8 +270,8 @@ rouses_keeps s h pid in_range wake core =
 -- a phase that changes with nothing done
 quietly_keeps : (s : State) (h : List Deed) (pid : ℕ) (stage : Phase) → pid < length s.phases
     → IsPhaseIn (length s.phases) (length s.posted) stage → Fits s h pid stage
-    → ((level : ℕ) → IsAtLevel level stage) → Core s h → Core (with_phase s pid stage) h
-quietly_keeps s h pid stage in_range there own no_level core =
+    → ((threshold : ℕ) → IsAtThreshold threshold stage) → Core s h → Core (with_phase s pid stage) h
+quietly_keeps s h pid stage in_range there own no_threshold core =
     record {
       sound = IsSound-with_phase s pid stage core.sound there;
       fits = fits_each s after h pid stage in_range (same_fit pid stage own)
@@ -278,8 +282,8 @@ quietly_keeps s h pid stage in_range there own no_level core =
       returned = core.returned;
       still_in = λ p r v still. record {
         posted = (core.still_in p r v still).posted;
-        at_level = level_kept s pid stage p v (λ same. no_level v)
-            (core.still_in p r v still).at_level;
+        at_threshold = threshold_kept s pid stage p v (λ same. no_threshold v)
+            (core.still_in p r v still).at_threshold;
       };
       fallen = core.fallen;
       notes = core.notes;
@@ -298,17 +302,17 @@ quietly_keeps s h pid stage in_range there own no_level core =
         frame =
             frame_quiet s after h p refl refl
 
-pub gives_up_keeps : (s : State) (h : List Deed) (pid : ℕ) (rendez : RendezId) (level : ℕ)
-    → pid < length s.phases → phase_of s pid ≡ phase.Asleep rendez level
+pub look_leaving_keeps : (s : State) (h : List Deed) (pid : ℕ) (rendez : RendezId) (threshold : ℕ)
+    → pid < length s.phases → phase_of s pid ≡ phase.Asleep rendez threshold
     → has_notes (flags_of s pid).notes ≡ true → Core s h
     → Core (with_phase s pid (phase.Leaving rendez)) h
-gives_up_keeps s h pid rendez level in_range at noted core =
+look_leaving_keeps s h pid rendez threshold in_range at noted core =
     quietly_keeps s h pid (phase.Leaving rendez) in_range
-    (has_rendez_at s pid (phase.Asleep rendez level) core.sound at)
+    (has_rendez_at s pid (phase.Asleep rendez threshold) core.sound at)
     (record { place = fit.near; may_leave = inr noted }) (λ v. tt) core
   where
-    fit : Fits s h pid (phase.Asleep rendez level)
-    fit = fits_at s h pid (phase.Asleep rendez level) core at
+    fit : Fits s h pid (phase.Asleep rendez threshold)
+    fit = fits_at s h pid (phase.Asleep rendez threshold) core at
 
 -- who is in the Rendez is posted there, so who is near it and is not posted is away
 away_unless_posted : (rendez : ℕ) (place : Token) → IsNear rendez place
@@ -318,10 +322,10 @@ away_unless_posted rendez (InRendez other) near not_there = absurd (not_there (a
 away_unless_posted rendez (WithRaiser raiser) near not_there = tt
 away_unless_posted rendez InFlags near not_there = tt
 
-pub awaits_keeps : (s : State) (h : List Deed) (pid : ℕ) (rendez : RendezId)
+pub withdraw_awaiting_keeps : (s : State) (h : List Deed) (pid : ℕ) (rendez : RendezId)
     → pid < length s.phases → phase_of s pid ≡ phase.Leaving rendez
     → posted_of s rendez.0 ≢ pid + 1 → Core s h → Core (with_phase s pid phase.Awaiting) h
-awaits_keeps s h pid rendez in_range at other core =
+withdraw_awaiting_keeps s h pid rendez in_range at other core =
     quietly_keeps s h pid phase.Awaiting in_range tt away (λ v. tt) core
   where
     fit : Fits s h pid (phase.Leaving rendez)

@@ -21,7 +21,7 @@ use Rattle.sleep_core.specs.Step.{with_phase, with_flags, with_posted, with_retu
 use Rattle.sleep_core.specs.History.{deed_of}
 use Rattle.sleep_core.specs.History.Deed.{Left, Missed, Noted, Drained}
 use Rattle.sleep_core.proofs.Moves.{Move, IsOver}
-use Rattle.sleep_core.proofs.Moves.Move.{stays, begins, passes, falls, rouses, gives_up, withdraws, awaits, leaves, raises, misses, takes, marks, notes, drains}
+use Rattle.sleep_core.proofs.Moves.Move.{stays, post_posted, test_leaving, test_asleep, look_woken, look_leaving, withdraw_out, withdraw_awaiting, clear_ended, raise_owing, take_nobody, take_holding, mark_marked, note_noted, drain_notes}
 
 -- both answers of a test
 choose : (P : Bool → Type 0) (test : Bool) → (test ≡ true → P true) → (test ≡ false → P false)
@@ -81,57 +81,57 @@ differ_from a b test same = against ((Decides-eqb a b).1 same) test
     against : (a == b) ≡ true → (a == b) ≡ false → ⊥
     against is_true is_false = cc
 
-post_moves : (s : State) (pid : Pid) (rendez : RendezId) (level : ℕ) → pid.0 < length s.phases
-    → (stage : Phase) → phase_of s pid.0 ≡ stage → MoveIn s stage (Post pid rendez level)
-post_moves s pid rendez level in_range phase.Idle at =
+post_moves : (s : State) (pid : Pid) (rendez : RendezId) (threshold : ℕ) → pid.0 < length s.phases
+    → (stage : Phase) → phase_of s pid.0 ≡ stage → MoveIn s stage (Post pid rendez threshold)
+post_moves s pid rendez threshold in_range phase.Idle at =
     choose (λ there. MoveTold s phase.Idle event (if there then told else answer.NoRendez))
     (nat_lt rendez.0 (length s.posted)) by_level (λ absent. stays)
   where
     event : Event
-    event = Post pid rendez level
+    event = Post pid rendez threshold
 
     at_word : Answer
     at_word = if posted_of s rendez.0 == 0 then answer.Posted else answer.DoubleSleep
 
     told : Answer
-    told = if level == TOP_LEVEL then answer.BadLevel else at_word
+    told = if threshold == TOP_LEVEL then answer.BadLevel else at_word
 
     by_word : nat_lt rendez.0 (length s.posted) ≡ true → MoveTold s phase.Idle event at_word
     by_word there =
         choose (λ free. MoveTold s phase.Idle event
         (if free then answer.Posted else answer.DoubleSleep)) (posted_of s rendez.0 == 0)
-        (λ free. begins in_range at (above_from rendez.0 (length s.posted) there)
+        (λ free. post_posted in_range at (above_from rendez.0 (length s.posted) there)
         (same_from (posted_of s rendez.0) 0 free)) (λ taken. stays)
 
     by_level : nat_lt rendez.0 (length s.posted) ≡ true → MoveTold s phase.Idle event told
     by_level there =
         choose (λ top. MoveTold s phase.Idle event (if top then answer.BadLevel else at_word))
-        (level == TOP_LEVEL) (λ top. stays) (λ below. by_word there)
-post_moves s pid rendez level in_range stage at = stays
+        (threshold == TOP_LEVEL) (λ top. stays) (λ below. by_word there)
+post_moves s pid rendez threshold in_range stage at = stays
 
 test_moves : (s : State) (pid : Pid) → pid.0 < length s.phases → (stage : Phase)
     → phase_of s pid.0 ≡ stage → MoveIn s stage (Test pid)
-test_moves s pid in_range (phase.Posted rendez level) at =
-    where_there s (phase.Posted rendez level) (Test pid)
-    (if nat_lt level (level_of s rendez.0) then answer.Leaving else answer.Asleep)
+test_moves s pid in_range (phase.Posted rendez threshold) at =
+    where_there s (phase.Posted rendez threshold) (Test pid)
+    (if nat_lt threshold (level_of s rendez.0) then answer.Leaving else answer.Asleep)
     (nat_lt rendez.0 (length s.levels)) by_level
   where
-    by_level : MoveTold s (phase.Posted rendez level) (Test pid)
-        (if nat_lt level (level_of s rendez.0) then answer.Leaving else answer.Asleep)
+    by_level : MoveTold s (phase.Posted rendez threshold) (Test pid)
+        (if nat_lt threshold (level_of s rendez.0) then answer.Leaving else answer.Asleep)
     by_level =
-        choose (λ above. MoveTold s (phase.Posted rendez level) (Test pid)
-        (if above then answer.Leaving else answer.Asleep)) (nat_lt level (level_of s rendez.0))
-        (λ above. passes in_range at)
-        (λ low. falls in_range at (at_most_from level (level_of s rendez.0) low))
+        choose (λ above. MoveTold s (phase.Posted rendez threshold) (Test pid)
+        (if above then answer.Leaving else answer.Asleep)) (nat_lt threshold (level_of s rendez.0))
+        (λ above. test_leaving in_range at)
+        (λ low. test_asleep in_range at (at_most_from threshold (level_of s rendez.0) low))
 test_moves s pid in_range stage at = stays
 
 look_moves : (s : State) (pid : Pid) → pid.0 < length s.phases → (stage : Phase)
     → phase_of s pid.0 ≡ stage → MoveIn s stage (Look pid)
-look_moves s pid in_range (phase.Asleep rendez level) at =
+look_moves s pid in_range (phase.Asleep rendez threshold) at =
     where_there s stage (Look pid) told (nat_lt pid.0 (length s.flags)) by_wake
   where
     stage : Phase
-    stage = phase.Asleep rendez level
+    stage = phase.Asleep rendez threshold
 
     at_notes : Answer
     at_notes = if has_notes (flags_of s pid.0).notes then answer.Leaving else answer.Parked
@@ -143,13 +143,13 @@ look_moves s pid in_range (phase.Asleep rendez level) at =
     by_notes =
         choose (λ noted. MoveTold s stage (Look pid)
         (if noted then answer.Leaving else answer.Parked)) (has_notes (flags_of s pid.0).notes)
-        (λ noted. gives_up in_range at noted)
+        (λ noted. look_leaving in_range at noted)
         (λ none. subst (Move s None) (sym (with_phase-same s pid.0 stage at)) stays)
 
     by_wake : MoveTold s stage (Look pid) told
     by_wake =
         choose (λ wake. MoveTold s stage (Look pid) (if wake then answer.Woken else at_notes))
-        (flags_of s pid.0).wake (λ wake. rouses in_range at tt wake) (λ unmarked. by_notes)
+        (flags_of s pid.0).wake (λ wake. look_woken in_range at tt wake) (λ unmarked. by_notes)
 look_moves s pid in_range phase.Awaiting at =
     where_there s phase.Awaiting (Look pid)
     (if (flags_of s pid.0).wake then answer.Woken else answer.Parked)
@@ -160,7 +160,7 @@ look_moves s pid in_range phase.Awaiting at =
     by_wake =
         choose (λ wake. MoveTold s phase.Awaiting (Look pid)
         (if wake then answer.Woken else answer.Parked)) (flags_of s pid.0).wake
-        (λ wake. rouses in_range at tt wake)
+        (λ wake. look_woken in_range at tt wake)
         (λ unmarked. subst (Move s None) (sym (with_phase-same s pid.0 phase.Awaiting at)) stays)
 look_moves s pid in_range stage at = stays
 
@@ -190,8 +190,9 @@ withdraw_moves s pid in_range (phase.Leaving rendez) at =
     by_word =
         choose (λ mine. Move s (deed_of (told mine) (Withdraw pid)) (after mine))
         (posted_of s rendez.0 == pid.0 + 1)
-        (λ mine. withdraws in_range at (same_from (posted_of s rendez.0) (pid.0 + 1) mine))
-        (λ other. awaits in_range at (differ_from (posted_of s rendez.0) (pid.0 + 1) other))
+        (λ mine. withdraw_out in_range at (same_from (posted_of s rendez.0) (pid.0 + 1) mine))
+        (λ other. withdraw_awaiting in_range at (differ_from (posted_of s rendez.0) (pid.0 + 1)
+        other))
 withdraw_moves s pid in_range stage at = stays
 
 -- a sleep that is over, in either phase
@@ -201,7 +202,7 @@ ends : (s : State) (pid : Pid) (stage : Phase) → pid.0 < length s.phases → p
     (with_phase (with_flags s pid.0 no_flags) pid.0 phase.Idle)
 ends s pid stage in_range at over some is =
     subst (λ b. Move s (Some (Left pid.0 (if b then Some (flags_of s pid.0).notes else None)))
-    (with_phase (with_flags s pid.0 no_flags) pid.0 phase.Idle)) is (leaves in_range at over)
+    (with_phase (with_flags s pid.0 no_flags) pid.0 phase.Idle)) is (clear_ended in_range at over)
 
 clear_moves : (s : State) (pid : Pid) → pid.0 < length s.phases → (stage : Phase)
     → phase_of s pid.0 ≡ stage → MoveIn s stage (Clear pid)
@@ -234,7 +235,8 @@ raise_moves : (s : State) (pid : Pid) (rendez : RendezId) (level : ℕ) → pid.
 raise_moves s pid rendez level in_range phase.Idle at =
     choose (λ there. MoveTold s phase.Idle (Raise pid rendez level)
     (if there then answer.Owing else answer.NoRendez)) (nat_lt rendez.0 (length s.levels))
-    (λ there. raises in_range at (above_from rendez.0 (length s.levels) there)) (λ absent. stays)
+    (λ there. raise_owing in_range at (above_from rendez.0 (length s.levels) there)) (λ absent.
+    stays)
 raise_moves s pid rendez level in_range stage at = stays
 
 take_moves : (s : State) (pid : Pid) → pid.0 < length s.phases → (stage : Phase)
@@ -260,19 +262,19 @@ take_moves s pid in_range (phase.Owing rendez level) at =
         subst (λ t. Move s (Some (Missed pid.0))
         (with_returned (with_phase t pid.0 phase.Idle) (Some call)))
         (sym (with_posted-same s rendez.0 0 (same_from (posted_of s rendez.0) 0 empty)))
-        (misses in_range at (same_from (posted_of s rendez.0) 0 empty))
+        (take_nobody in_range at (same_from (posted_of s rendez.0) 0 empty))
 
     somebody : (posted_of s rendez.0 == 0) ≡ false → MoveTold s stage (Take pid) (told false)
     somebody full =
         let there : posted_of s rendez.0 ≢ 0 = differ_from (posted_of s rendez.0) 0 full in
-        takes in_range at (omega arith)
+        take_holding in_range at (omega arith)
 take_moves s pid in_range stage at = stays
 
 mark_moves : (s : State) (pid : Pid) → pid.0 < length s.phases → (stage : Phase)
     → phase_of s pid.0 ≡ stage → MoveIn s stage (Mark pid)
 mark_moves s pid in_range (phase.Holding sleeper rendez level) at =
     where_there s (phase.Holding sleeper rendez level) (Mark pid) (answer.Marked sleeper)
-    (nat_lt sleeper.0 (length s.flags)) (marks in_range at)
+    (nat_lt sleeper.0 (length s.flags)) (mark_marked in_range at)
 mark_moves s pid in_range stage at = stays
 
 note_moves : (s : State) (pid : Pid) (new : NoteSet) → pid.0 < length s.phases → (stage : Phase)
@@ -280,7 +282,7 @@ note_moves : (s : State) (pid : Pid) (new : NoteSet) → pid.0 < length s.phases
 note_moves s pid new in_range stage at =
     where_there s stage (Note pid new) answer.Noted (nat_lt pid.0 (length s.flags))
     (subst (Move s (Some (Noted pid.0 new))) (sym (with_phase-same noted pid.0 stage at))
-    (notes in_range))
+    (note_noted in_range))
   where
     noted : State
     noted =
@@ -294,19 +296,19 @@ drain_moves s pid in_range phase.Idle at =
     (nat_lt pid.0 (length s.flags))
     (subst (Move s (Some (Drained pid.0 (flags_of s pid.0).notes)))
     (sym (with_phase-same (with_flags s pid.0 no_flags) pid.0 phase.Idle at))
-    (drains in_range at))
+    (drain_notes in_range at))
 drain_moves s pid in_range stage at = stays
 
 check_moves : (s : State) (pid : Pid) → pid.0 < length s.phases → (stage : Phase)
     → phase_of s pid.0 ≡ stage → MoveIn s stage (Check pid)
-check_moves s pid in_range (phase.Asleep rendez level) at =
+check_moves s pid in_range (phase.Asleep rendez threshold) at =
     where_there s stage (Check pid) (told (posted_of s rendez.0 == pid.0 + 1))
     (nat_lt rendez.0 (length s.posted))
     (choose (λ mine. MoveTold s stage (Check pid) (told mine)) (posted_of s rendez.0 == pid.0 + 1)
     (λ mine. unchanged) (λ other. unchanged))
   where
     stage : Phase
-    stage = phase.Asleep rendez level
+    stage = phase.Asleep rendez threshold
 
     told : Bool → Answer
     told mine = if mine then answer.Posted else answer.Released
@@ -317,8 +319,8 @@ check_moves s pid in_range stage at = stays
 
 row_moves : (s : State) (event : Event) → (pid_of event).0 < length s.phases
     → MoveIn s (phase_of s (pid_of event).0) event
-row_moves s (Post pid rendez level) in_range =
-    post_moves s pid rendez level in_range (phase_of s pid.0) refl
+row_moves s (Post pid rendez threshold) in_range =
+    post_moves s pid rendez threshold in_range (phase_of s pid.0) refl
 row_moves s (Test pid) in_range = test_moves s pid in_range (phase_of s pid.0) refl
 row_moves s (Look pid) in_range = look_moves s pid in_range (phase_of s pid.0) refl
 row_moves s (Withdraw pid) in_range = withdraw_moves s pid in_range (phase_of s pid.0) refl

@@ -16,7 +16,7 @@ use Rattle.sleep_core.specs.Laws.{PostedAreStillIn, StillInArePosted, AsleepHave
 use Rattle.sleep_core.proofs.ListLemmas.{get_or-set_cases}
 use Rattle.sleep_core.proofs.CoreInvariant.{Raises, Holds, Core}
 use Rattle.sleep_core.proofs.Moves.{Move, ending_notes}
-use Rattle.sleep_core.proofs.Moves.Move.{stays, begins, passes, falls, rouses, gives_up, withdraws, awaits, leaves, raises, misses, takes, marks, notes, drains}
+use Rattle.sleep_core.proofs.Moves.Move.{stays, post_posted, test_leaving, test_asleep, look_woken, look_leaving, withdraw_out, withdraw_awaiting, clear_ended, raise_owing, take_nobody, take_holding, mark_marked, note_noted, drain_notes}
 use Rattle.sleep_core.proofs.TableMoves.{table_moves}
 use Rattle.sleep_core.proofs.Frames.{if_same, if_other, same_or_not, fits_at}
 use Rattle.sleep_core.proofs.TokenLemmas.{still_in_by_token}
@@ -59,44 +59,51 @@ owed_each s h later mover stage in_range own others owed p = by_pid (same_or_not
 owed_kept : (s : State) (h : List Deed) {deed : Option Deed} {after : State} → Move s deed after
     → Owed s h → Owed after (cons_option deed h)
 owed_kept s h stays owed = owed
-owed_kept s h (begins {pid = pid} {rendez = rendez} {level = level} in_range idle there free) owed =
-    owed_each s h (Began pid rendez.0 level ∷ h) pid (phase.Posted rendez level) in_range tt
+owed_kept s h (post_posted {pid = pid} {rendez = rendez} {threshold = threshold} in_range idle there
+    free) owed =
+    owed_each s h (Began pid rendez.0 threshold ∷ h) pid (phase.Posted rendez threshold) in_range tt
     (λ p differ. refl) owed
-owed_kept s h (passes {pid = pid} {rendez = rendez} {level = level} in_range at) owed =
+owed_kept s h (test_leaving {pid = pid} {rendez = rendez} {threshold = threshold} in_range at) owed
+    =
     owed_each s h (Passed pid ∷ h) pid (phase.Leaving rendez) in_range tt (λ p differ. refl) owed
-owed_kept s h (falls {pid = pid} {rendez = rendez} {level = level} in_range at low) owed =
-    owed_each s h (Fell pid ∷ h) pid (phase.Asleep rendez level) in_range tt (λ p differ. refl) owed
-owed_kept s h (rouses {pid = pid} {stage = stage} in_range at waiting wake) owed =
+owed_kept s h (test_asleep {pid = pid} {rendez = rendez} {threshold = threshold} in_range at low)
+    owed =
+    owed_each s h (Fell pid ∷ h) pid (phase.Asleep rendez threshold) in_range tt (λ p differ. refl)
+    owed
+owed_kept s h (look_woken {pid = pid} {stage = stage} in_range at waiting wake) owed =
     owed_each s h (Roused pid ∷ h) pid phase.Woken in_range tt (λ p differ. refl) owed
-owed_kept s h (gives_up {pid = pid} {rendez = rendez} {level = level} in_range at noted) owed =
+owed_kept s h (look_leaving {pid = pid} {rendez = rendez} {threshold = threshold} in_range at noted)
+    owed =
     owed_each s h h pid (phase.Leaving rendez) in_range tt (λ p differ. refl) owed
-owed_kept s h (withdraws {pid = pid} {rendez = rendez} in_range at mine) owed =
+owed_kept s h (withdraw_out {pid = pid} {rendez = rendez} in_range at mine) owed =
     owed_each s h (Withdrew pid ∷ h) pid phase.Out in_range tt (λ p differ. refl) owed
-owed_kept s h (awaits {pid = pid} {rendez = rendez} in_range at other) owed =
+owed_kept s h (withdraw_awaiting {pid = pid} {rendez = rendez} in_range at other) owed =
     owed_each s h h pid phase.Awaiting in_range tt (λ p differ. refl) owed
-owed_kept s h (leaves {pid = pid} {stage = stage} in_range at over) owed =
+owed_kept s h (clear_ended {pid = pid} {stage = stage} in_range at over) owed =
     owed_each s h (Left pid (ending_notes (flags_of s pid).notes) ∷ h) pid phase.Idle in_range tt
     (λ p differ. refl) owed
-owed_kept s h (raises {pid = pid} {rendez = rendez} {level = level} in_range idle there) owed =
+owed_kept s h (raise_owing {pid = pid} {rendez = rendez} {level = level} in_range idle there) owed =
     owed_each s h (Raised pid rendez.0 level ∷ h) pid (phase.Owing rendez level) in_range
     (if_same pid pid wakeup (owed_wakeup pid h) refl)
     (λ p differ. if_other pid p wakeup (owed_wakeup p h) differ) owed
   where
     wakeup : Option Wakeup
     wakeup = Some (record { rendez = rendez.0; level = level })
-owed_kept s h (misses {pid = pid} {rendez = rendez} {level = level} in_range at free) owed =
+owed_kept s h (take_nobody {pid = pid} {rendez = rendez} {level = level} in_range at free) owed =
     owed_each s h (Missed pid ∷ h) pid phase.Idle in_range tt
     (λ p differ. if_other pid p None (owed_wakeup p h) differ) owed
-owed_kept s h (takes {pid = pid} {sleeper = sleeper} {rendez = rendez} {level = level} in_range at
+owed_kept s h (take_holding {pid = pid} {sleeper = sleeper} {rendez = rendez} {level = level}
+    in_range at
     posted) owed =
     owed_each s h (Took pid sleeper.0 ∷ h) pid (phase.Holding sleeper rendez level) in_range tt
     (λ p differ. if_other pid p None (owed_wakeup p h) differ) owed
-owed_kept s h (marks {pid = pid} {sleeper = sleeper} {rendez = rendez} {level = level} in_range at)
+owed_kept s h (mark_marked {pid = pid} {sleeper = sleeper} {rendez = rendez} {level = level}
+    in_range at)
     owed =
     owed_each s h (Marked pid sleeper.0 ∷ h) pid phase.Idle in_range tt (λ p differ. refl) owed
-owed_kept s h (notes {pid = pid} {new = new} in_range) owed =
+owed_kept s h (note_noted {pid = pid} {new = new} in_range) owed =
     λ p. owed_same h (Noted pid new ∷ h) p (phase_of s p) refl (owed p)
-owed_kept s h (drains {pid = pid} in_range idle) owed =
+owed_kept s h (drain_notes {pid = pid} in_range idle) owed =
     λ p. owed_same h (Drained pid (flags_of s pid).notes ∷ h) p (phase_of s p) refl (owed p)
 
 owed_in_run : (procs rendez : ℕ) (past : List Entry) → IsRun procs rendez past
@@ -141,24 +148,26 @@ finds_sleeper s h pid sleeper rendez level core owed at posted =
 takes_kept : (s : State) (h : List Deed) {deed : Option Deed} {after : State} → Move s deed after
     → Core s h → Owed s h → TakesAreRight h → TakesAreRight (cons_option deed h)
 takes_kept s h stays core owed right = right
-takes_kept s h (begins in_range idle there free) core owed right = right
-takes_kept s h (passes in_range at) core owed right = right
-takes_kept s h (falls in_range at low) core owed right = right
-takes_kept s h (rouses in_range at waiting wake) core owed right = right
-takes_kept s h (gives_up in_range at noted) core owed right = right
-takes_kept s h (withdraws in_range at mine) core owed right = right
-takes_kept s h (awaits in_range at other) core owed right = right
-takes_kept s h (leaves in_range at over) core owed right = right
-takes_kept s h (raises in_range idle there) core owed right = right
-takes_kept s h (misses {pid = pid} {rendez = rendez} {level = level} in_range at free) core owed
+takes_kept s h (post_posted in_range idle there free) core owed right = right
+takes_kept s h (test_leaving in_range at) core owed right = right
+takes_kept s h (test_asleep in_range at low) core owed right = right
+takes_kept s h (look_woken in_range at waiting wake) core owed right = right
+takes_kept s h (look_leaving in_range at noted) core owed right = right
+takes_kept s h (withdraw_out in_range at mine) core owed right = right
+takes_kept s h (withdraw_awaiting in_range at other) core owed right = right
+takes_kept s h (clear_ended in_range at over) core owed right = right
+takes_kept s h (raise_owing in_range idle there) core owed right = right
+takes_kept s h (take_nobody {pid = pid} {rendez = rendez} {level = level} in_range at free) core
+    owed
     right =
     (finds_nobody s h pid rendez level core owed at free, right)
-takes_kept s h (takes {pid = pid} {sleeper = sleeper} {rendez = rendez} {level = level} in_range at
+takes_kept s h (take_holding {pid = pid} {sleeper = sleeper} {rendez = rendez} {level = level}
+    in_range at
     posted) core owed right =
     (finds_sleeper s h pid sleeper.0 rendez level core owed at posted, right)
-takes_kept s h (marks in_range at) core owed right = right
-takes_kept s h (notes in_range) core owed right = right
-takes_kept s h (drains in_range idle) core owed right = right
+takes_kept s h (mark_marked in_range at) core owed right = right
+takes_kept s h (note_noted in_range) core owed right = right
+takes_kept s h (drain_notes in_range idle) core owed right = right
 
 pub takes_are_right : (procs rendez : ℕ) (past : List Entry) → IsRun procs rendez past
     → TakesAreRight (history_of past)
@@ -227,30 +236,31 @@ reached_kept : (s : State) (h : List Deed) {deed : Option Deed} {after : State} 
     → Core s h → ((r : ℕ) → IsReached h r (returned_of s r)) → (r : ℕ)
     → IsReached (cons_option deed h) r (returned_of after r)
 reached_kept s h stays core reached = reached
-reached_kept s h (begins in_range idle there free) core reached = reached
-reached_kept s h (passes in_range at) core reached = reached
-reached_kept s h (falls in_range at low) core reached = reached
-reached_kept s h (rouses in_range at waiting wake) core reached = reached
-reached_kept s h (gives_up in_range at noted) core reached = reached
-reached_kept s h (withdraws in_range at mine) core reached = reached
-reached_kept s h (awaits in_range at other) core reached = reached
-reached_kept s h (leaves in_range at over) core reached = reached
-reached_kept s h (raises in_range idle there) core reached = reached
-reached_kept s h (misses {pid = pid} {rendez = rendez} {level = level} in_range at free) core
+reached_kept s h (post_posted in_range idle there free) core reached = reached
+reached_kept s h (test_leaving in_range at) core reached = reached
+reached_kept s h (test_asleep in_range at low) core reached = reached
+reached_kept s h (look_woken in_range at waiting wake) core reached = reached
+reached_kept s h (look_leaving in_range at noted) core reached = reached
+reached_kept s h (withdraw_out in_range at mine) core reached = reached
+reached_kept s h (withdraw_awaiting in_range at other) core reached = reached
+reached_kept s h (clear_ended in_range at over) core reached = reached
+reached_kept s h (raise_owing in_range idle there) core reached = reached
+reached_kept s h (take_nobody {pid = pid} {rendez = rendez} {level = level} in_range at free) core
     reached =
     counts_greatest s h pid rendez.0 level fit.begun reached
   where
     fit : Raises s h pid rendez.0 level
     fit = fits_at s h pid (phase.Owing rendez level) core at
-reached_kept s h (takes in_range at posted) core reached = reached
-reached_kept s h (marks {pid = pid} {sleeper = sleeper} {rendez = rendez} {level = level} in_range
+reached_kept s h (take_holding in_range at posted) core reached = reached
+reached_kept s h (mark_marked {pid = pid} {sleeper = sleeper} {rendez = rendez} {level = level}
+    in_range
     at) core reached =
     counts_greatest s h pid rendez.0 level fit.raises.begun reached
   where
     fit : Holds s h pid sleeper.0 rendez.0 level
     fit = fits_at s h pid (phase.Holding sleeper rendez level) core at
-reached_kept s h (notes in_range) core reached = reached
-reached_kept s h (drains in_range idle) core reached = reached
+reached_kept s h (note_noted in_range) core reached = reached
+reached_kept s h (drain_notes in_range idle) core reached = reached
 
 reached_in_run : (procs rendez : ℕ) (past : List Entry) → IsRun procs rendez past → (r : ℕ)
     → IsReached (history_of past) r (returned_of (world_of procs rendez past) r)

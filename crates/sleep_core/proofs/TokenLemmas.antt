@@ -9,7 +9,8 @@ use Rattle.sleep_core.proofs.CoreInvariant.{Token, token, Core}
 use Rattle.sleep_core.proofs.CoreInvariant.Token.{Nowhere, InRendez, WithRaiser, InFlags}
 
 -- one place by number, and another elsewhere, where the first is not the one that is found
-pub token_elsewhere : (a p : ℕ) (here there found : Token) → (if a == p then here else there) ≡ found
+pub token_elsewhere : (a p : ℕ) (here there found : Token) → (if a == p then here else there) ≡
+    found
     → (here ≡ found → ⊥) → (a ≢ p) × (there ≡ found)
 token_elsewhere a p here there found is not_here = by_test (eqb_tells a p)
   where

@@ -72,7 +72,8 @@ is_at_token : (s : State) (h : List Deed) (pid : ℕ) (at : Token) → Core s h 
     → IsInSleep (phase_of s pid) → token h pid ≡ at → IsAt s pid (place_of at)
 is_at_token s h pid Nowhere core placed in_sleep is =
     out_if_nowhere s h pid (phase_of s pid) (core.fits pid) in_sleep is
-is_at_token s h pid (InRendez rendez) core placed in_sleep is = posted_by_token s h pid rendez core is
+is_at_token s h pid (InRendez rendez) core placed in_sleep is = posted_by_token s h pid rendez core
+    is
 is_at_token s h pid (WithRaiser raiser) core placed in_sleep is = placed.held pid raiser is
 is_at_token s h pid InFlags core placed in_sleep is = placed.marked pid is
 

@@ -1,6 +1,7 @@
 -- Runs that are worked out by hand: what each event of a list is answered, which history it shows
 -- and which world it leaves. Each line follows by computing, so that no row of the table, of a step
--- or of the history can be dropped or changed unseen. The numbers of a run differ, so that no number
+-- or of the history can be dropped or changed unseen. The numbers of a run differ, so that no
+-- number
 -- passes for another: process 1 sleeps in Rendez 1 with threshold 4, process 2 wakes it.
 use Rattle.std.proofs.Common.{◌≡◌, ℕ, true, Some, None, List, [], ◌∷◌, refl}
 use Rattle.sync_base.specs.declared.ids.Pid.{Pid}
@@ -158,7 +159,8 @@ taken_before_the_test_shows : history taken_before_the_test
     ≡ Left 1 None ∷ Roused 1 ∷ Marked 2 1 ∷ Passed 1 ∷ Took 2 1 ∷ Raised 2 1 7 ∷ Began 1 1 4 ∷ []
 taken_before_the_test_shows = refl
 
--- A note and a wakeup race for a process that is asleep. The note comes first, and the process wants
+-- A note and a wakeup race for a process that is asleep. The note comes first, and the process
+-- wants
 -- to leave; the wakeup takes it before it withdraws, and notes do not end its wait for the mark.
 abbrev noted_and_marked : List Event
 noted_and_marked =
@@ -188,7 +190,8 @@ marked_and_noted_answers : answers marked_and_noted
     ∷ answer.Interrupted (joined (only Interrupt) (only Alarm)) ∷ answer.Notes no_notes ∷ []
 marked_and_noted_answers = refl
 
--- Notes come outside a sleep. Some are drained; the others are pending as a sleep begins, whose test
+-- Notes come outside a sleep. Some are drained; the others are pending as a sleep begins, whose
+-- test
 -- passes, and end it.
 abbrev notes_drained_and_told : List Event
 notes_drained_and_told =

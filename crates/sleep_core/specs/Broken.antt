@@ -120,7 +120,8 @@ drops_a_note = Left 0 None ∷ Withdrew 0 ∷ Passed 0 ∷ Noted 0 (only Interru
 
 -- one note comes, and the sleep ends with another
 abbrev pub tells_another_note : List Deed
-tells_another_note = Left 0 (Some (only Alarm)) ∷ Withdrew 0 ∷ Noted 0 (only Interrupt) ∷ falls_asleep
+tells_another_note = Left 0 (Some (only Alarm)) ∷ Withdrew 0 ∷ Noted 0 (only Interrupt) ∷
+    falls_asleep
 
 -- no note comes, and the sleep ends with a set of none
 abbrev pub is_interrupted_by_no_note : List Deed

@@ -75,7 +75,8 @@ pub record FindsSleeper (past : List Deed) (pid sleeper : ℕ) : Type 0 where
 
 -- After wakeup in "Process Sleep and Synchronization on a Shared-Memory Multiprocessor" (1991): the
 -- condition is true before the sleeper is looked for. A wakeup takes only a process that is in its
--- sleep on that Rendez, which neither a wakeup nor it itself has taken out, and it finds nobody only
+-- sleep on that Rendez, which neither a wakeup nor it itself has taken out, and it finds nobody
+-- only
 -- where there is none.
 abbrev pub TakesAreRight : List Deed → Type 0
 TakesAreRight [] = ⊤

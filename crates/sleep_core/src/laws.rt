@@ -44,7 +44,8 @@ pub fn local_step()
     ensures returned { KeepsOtherReturned }
 {}
 
-/// An event that may come is answered by its row of the table, which also says what it leaves in its
+/// An event that may come is answered by its row of the table, which also says what it leaves in
+/// its
 /// word and in which phase its process is then.
 pub fn events_follow_rows()
     ensures { EventsFollowRows }

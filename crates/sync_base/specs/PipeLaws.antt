@@ -40,7 +40,8 @@ abbrev pub OtherReadsAreAnswered : Type 0
 OtherReadsAreAnswered =
     (most : ℕ) (s : PipeState) → 0 < most → read_result most s ≡ Ok (read_answer most s)
 
--- what a read is answered may be answered, and it is End where nothing is left of a hung up direction
+-- what a read is answered may be answered, and it is End where nothing is left of a hung up
+-- direction
 abbrev pub ReadAnswersApply : Type 0
 ReadAnswersApply = (most : ℕ) (s : PipeState) → MayAnswerRead most s (read_answer most s)
 
