@@ -9,7 +9,7 @@ use Rattle.p9sync.specs.ScriptLaws.{without_farewell, answers_of, text_of, whole
 use Rattle.p9sync.specs.PipeScript.{pipe_language}
 use Rattle.p9sync.proofs.DeviceLemmas.{told_by_front}
 use Rattle.p9sync.proofs.TextLemmas.{ArePlain, plain_lines, plain_take, lines_of-text, cut_line_of-text, lines_of-append, first_within, text_of-lines}
-use Rattle.p9sync.proofs.ToldLemmas.{lines_grow, farewell_lines, LeavesFirst, fault_leaves_first, cut_lines-fault, front_lines-sound}
+use Rattle.p9sync.proofs.ToldLemmas.{Stays, lines_grow, farewell_lines, LeavesFirst, fault_leaves_first, cut_lines-fault, front_lines-sound}
 
 take-append : (n : ℕ) (a b : List ℕ) → take n (a ++ b) ≡ take n a ++ take (n - length a) b
 take-append zero a b = let none : 0 - length a ≡ 0 = omega arith in rw none refl
@@ -29,10 +29,24 @@ answers_final language front rest =
     (more, ap (λ all. (told_lines (without_farewell language) (is_cut_off (front ++ rest)) all).output) same ∙ is)
 
 pub farewell_last : {S : Type 0} (language : Language S) → FarewellComesLast language
-farewell_last language input none = (farewell_lines language (is_cut_off input) (whole_lines input)).0 none
+farewell_last {S} language input none =
+    let (s, any, is) = (farewell_lines language (λ _. Unit {0}) any_state (is_cut_off input) (whole_lines input)).0 none in (s, is)
+  where
+    any_state : Stays language (λ _. Unit {0})
+    any_state = record { opened = λ line s is. tt; answered = λ s line answered any is. tt }
 
 pub fault_has_no_farewell : {S : Type 0} (language : Language S) → FaultHasNoFarewell language
-fault_has_no_farewell language input n fault = (farewell_lines language (is_cut_off input) (whole_lines input)).1 n fault
+fault_has_no_farewell language input n fault =
+    (farewell_lines language (λ _. Unit {0}) any_state (is_cut_off input) (whole_lines input)).1 n fault
+  where
+    any_state : Stays language (λ _. Unit {0})
+    any_state = record { opened = λ line s is. tt; answered = λ s line answered any is. tt }
+
+-- The farewell is to a state of a kind that stays.
+pub farewell_kept : {S : Type 0} (language : Language S) (P : S → Type 0) → Stays language P → (input : List ℕ)
+    → (told language input).fault ≡ None
+    → (s : S) × P s × ((told language input).output ≡ answers_of language input ++ language.farewell s)
+farewell_kept language P stays input none = (farewell_lines language P stays (is_cut_off input) (whole_lines input)).0 none
 
 -- without farewells a script writes its answers alone
 answers_alone : {S : Type 0} (language : Language S) → ((s : S) → language.farewell s ≡ []) → (input : List ℕ) → (told language input).output ≡ answers_of language input

@@ -1,6 +1,7 @@
 -- What lists of lines say: longer lists go on, a farewell comes last, and a fault leaves what the lines before it say.
-use Rattle.std.proofs.Common.{◌≡◌, ℕ, suc, ◌+◌, ◌<◌, ◌≤◌, Bool, true, false, cond, List, [], ◌∷◌, ◌++◌, length, take, Option, None, Some, refl, ap, sym, ◌∙◌, append_assoc, arith}
+use Rattle.std.proofs.Common.{◌≡◌, ℕ, suc, ◌+◌, ◌<◌, ◌≤◌, nat_le, Bool, true, false, cond, List, [], ◌∷◌, ◌++◌, length, take, Option, None, Some, refl, ap, sym, ◌∙◌, append_assoc, arith}
 use Rattle.std.specs.Option.{option_map_or}
+use Rattle.p9sync.specs.declared.script.TheConstants.{MAX_LINE}
 use Rattle.p9sync.specs.Script.{Language, Answered, Told, fault_at, answer_then, if_fits, told_of, told_lines}
 use Rattle.p9sync.specs.ScriptLaws.{without_farewell}
 
@@ -78,39 +79,76 @@ front_lines-sound {S} language is_cut (line ∷ lines) more some none = step (if
     step None is = is
     step (Some s) is = front_of-sound language is_cut s 2 lines more is
 
--- what is told, and the same without the farewell
-abbrev pub EndsByFarewell : {S : Type 0} → Language S → Told → Told → Type 0
-EndsByFarewell {S} language told answers =
-    (told.fault ≡ None → (s : S) × (told.output ≡ answers.output ++ language.farewell s)) ×
+-- What holds of each state that a first line opens, and stays at each answer.
+pub record Stays {S : Type 0} (language : Language S) (P : S → Type 0) : Type 0 where
+  pub opened : (line : List ℕ) (s : S) → language.opened_by line ≡ Some s → P s
+  pub answered : (s : S) (line : List ℕ) (answered : Answered S) → P s
+      → language.answer_to s line ≡ Some answered → P answered.after
+
+-- a line that is read fits
+fits : {A : Type 0} (read : List ℕ → Option A) (line : List ℕ) (a : A) → if_fits read line ≡ Some a
+    → read line ≡ Some a
+fits {A} read line a is = by_length (nat_le (length line) MAX_LINE) refl
+  where
+    by_length : (within : Bool) → nat_le (length line) MAX_LINE ≡ within → read line ≡ Some a
+    by_length true within = rw within at is
+    by_length false within = let bad = rw within at is in absurd (cc)
+
+-- What is told, and the same without the farewell, which is one to a state of this kind.
+abbrev pub EndsByFarewell : {S : Type 0} → Language S → (S → Type 0) → Told → Told → Type 0
+EndsByFarewell {S} language P told answers =
+    (told.fault ≡ None → (s : S) × P s × (told.output ≡ answers.output ++ language.farewell s)) ×
     ((n : ℕ) → told.fault ≡ Some n → told.output ≡ answers.output)
 
-at_fault : {S : Type 0} (language : Language S) (n : ℕ) → EndsByFarewell language (fault_at n) (fault_at n)
-at_fault language n = (λ none. cc, λ m is. refl)
+at_fault : {S : Type 0} (language : Language S) (P : S → Type 0) (n : ℕ)
+    → EndsByFarewell language P (fault_at n) (fault_at n)
+at_fault language P n = (λ none. cc, λ m is. refl)
 
-farewell_behind : {S : Type 0} (language : Language S) (text : List ℕ) (told answers : Told) → EndsByFarewell language told answers → EndsByFarewell language (answer_then text told) (answer_then text answers)
-farewell_behind language text told answers (last, missing) =
-    (λ none. let (s, is) = last none in (s, ap (λ t. text ++ 10 ∷ t) is ∙ sym (append_assoc text (10 ∷ answers.output) (language.farewell s))), λ n fault. ap (λ t. text ++ 10 ∷ t) (missing n fault))
+farewell_behind : {S : Type 0} (language : Language S) (P : S → Type 0) (text : List ℕ) (told answers : Told)
+    → EndsByFarewell language P told answers
+    → EndsByFarewell language P (answer_then text told) (answer_then text answers)
+farewell_behind language P text told answers (last, missing) = (
+  λ none.
+      let (s, held, is) = last none in
+      (s, held, ap (λ t. text ++ 10 ∷ t) is ∙ sym (append_assoc text (10 ∷ answers.output) (language.farewell s))),
+  λ n fault. ap (λ t. text ++ 10 ∷ t) (missing n fault),
+)
 
-farewell_of : {S : Type 0} (language : Language S) (is_cut : Bool) (s : S) (n : ℕ) (lines : List (List ℕ)) → EndsByFarewell language (told_of language is_cut s n lines) (told_of (without_farewell language) is_cut s n lines)
-farewell_of {S} language is_cut s n [] = at_end is_cut
+farewell_of : {S : Type 0} (language : Language S) (P : S → Type 0) → Stays language P → (is_cut : Bool) (s : S) → P s
+    → (n : ℕ) (lines : List (List ℕ))
+    → EndsByFarewell language P (told_of language is_cut s n lines) (told_of (without_farewell language) is_cut s n lines)
+farewell_of {S} language P stays is_cut s held n [] = at_end is_cut
   where
-    at_end : (cut : Bool) → EndsByFarewell language (cond cut (fault_at n) (record { output = language.farewell s; fault = None })) (cond cut (fault_at n) (record { output = []; fault = None }))
-    at_end true = at_fault language n
-    at_end false = (λ none. (s, refl), λ m is. cc)
-farewell_of {S} language is_cut s n (line ∷ lines) = step (if_fits (language.answer_to s) line) (λ t. farewell_of language is_cut t (n + 1) lines)
+    at_end : (cut : Bool)
+        → EndsByFarewell language P (cond cut (fault_at n) (record { output = language.farewell s; fault = None }))
+        (cond cut (fault_at n) (record { output = []; fault = None }))
+    at_end true = at_fault language P n
+    at_end false = (λ none. (s, held, refl), λ m is. cc)
+farewell_of {S} language P stays is_cut s held n (line ∷ lines) =
+    step (if_fits (language.answer_to s) line) refl (λ t still. farewell_of language P stays is_cut t still (n + 1) lines)
   where
-    step : (v : Option (Answered S)) → ((t : S) → EndsByFarewell language (told_of language is_cut t (n + 1) lines) (told_of (without_farewell language) is_cut t (n + 1) lines)) → EndsByFarewell language (said_with language is_cut n lines v) (said_with (without_farewell language) is_cut n lines v)
-    step None rest = at_fault language n
-    step (Some x) rest = farewell_behind language x.text (told_of language is_cut x.after (n + 1) lines) (told_of (without_farewell language) is_cut x.after (n + 1) lines) (rest x.after)
+    step : (v : Option (Answered S)) → if_fits (language.answer_to s) line ≡ v
+        → ((t : S) → P t → EndsByFarewell language P (told_of language is_cut t (n + 1) lines)
+        (told_of (without_farewell language) is_cut t (n + 1) lines))
+        → EndsByFarewell language P (said_with language is_cut n lines v) (said_with (without_farewell language) is_cut n lines v)
+    step None is rest = at_fault language P n
+    step (Some x) is rest =
+        farewell_behind language P x.text (told_of language is_cut x.after (n + 1) lines)
+        (told_of (without_farewell language) is_cut x.after (n + 1) lines)
+        (rest x.after (stays.answered s line x held (fits (language.answer_to s) line x is)))
 
 -- the farewell comes last, and not where a line is at fault
-pub farewell_lines : {S : Type 0} (language : Language S) (is_cut : Bool) (lines : List (List ℕ)) → EndsByFarewell language (told_lines language is_cut lines) (told_lines (without_farewell language) is_cut lines)
-farewell_lines language is_cut [] = at_fault language 1
-farewell_lines {S} language is_cut (line ∷ lines) = step (if_fits language.opened_by line)
+pub farewell_lines : {S : Type 0} (language : Language S) (P : S → Type 0) → Stays language P → (is_cut : Bool)
+    (lines : List (List ℕ))
+    → EndsByFarewell language P (told_lines language is_cut lines) (told_lines (without_farewell language) is_cut lines)
+farewell_lines language P stays is_cut [] = at_fault language P 1
+farewell_lines {S} language P stays is_cut (line ∷ lines) = step (if_fits language.opened_by line) refl
   where
-    step : (v : Option S) → EndsByFarewell language (said_from language is_cut lines v) (said_from (without_farewell language) is_cut lines v)
-    step None = at_fault language 1
-    step (Some s) = farewell_of language is_cut s 2 lines
+    step : (v : Option S) → if_fits language.opened_by line ≡ v
+        → EndsByFarewell language P (said_from language is_cut lines v) (said_from (without_farewell language) is_cut lines v)
+    step None is = at_fault language P 1
+    step (Some s) is =
+        farewell_of language P stays is_cut s (stays.opened line s (fits language.opened_by line s is)) 2 lines
 
 -- these lines are at fault in the line behind the first k: these have no fault, and their answers are written
 pub record Leaves {S : Type 0} (language : Language S) (s : S) (n : ℕ) (lines : List (List ℕ)) (told : Told) (m : ℕ) : Type 0 where
