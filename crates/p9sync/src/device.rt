@@ -129,12 +129,15 @@ fn read_some<R: Read>(reader: &mut R, room: &mut [u8], most: usize) -> Result<Op
 /// Writes all of these bytes.
 ///
 /// Device: the writer failed, or took none of what it was offered. A write that a signal
-/// interrupted is tried again.
+/// interrupted is tried again. Where there is nothing to write the writer is not called.
 fn write_whole<W: Write>(writer: &mut W, bytes: &[u8]) -> Result<(), Fault>
     ensures ok { OnOk result (Appends (W.contents writer.old) (W.contents writer.new) bytes.now) }
     ensures err { OnErr result (AppendsFront (W.contents writer.old) (W.contents writer.new) bytes.now) }
     ensures device { IfErr result (λ fault. fault ≡ Fault.Device) }
 {
+    if bytes.is_empty() {
+        return Ok(());
+    }
     let mut rest = bytes;
     for _ in 0..u64::MAX {
         if rest.is_empty() {
@@ -146,12 +149,22 @@ fn write_whole<W: Write>(writer: &mut W, bytes: &[u8]) -> Result<(), Fault>
     Err(Fault::Device)
 }
 
-/// Passes on what the writer holds back.
+/// Makes the writer pass on what it holds back. A flush that a signal interrupted is tried again.
 fn flush<W: Write>(writer: &mut W) -> Result<(), Fault>
     ensures keeps { Keeps (W.contents writer.old) (W.contents writer.new) }
     ensures device { IfErr result (λ fault. fault ≡ Fault.Device) }
 {
-    writer.flush().map_err(|_| Fault::Device)
+    for _ in 0..u64::MAX {
+        match writer.flush() {
+            Ok(()) => return Ok(()),
+            Err(error) => {
+                if error.kind() != ErrorKind::Interrupted {
+                    return Err(Fault::Device);
+                }
+            }
+        }
+    }
+    Err(Fault::Device)
 }
 
 /// One write: how many bytes were taken, and 0 where a signal interrupted it.

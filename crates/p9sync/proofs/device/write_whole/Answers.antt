@@ -16,5 +16,5 @@ loop-preserved g c =
 pub returns-clause-err : goal.returns-clause-err
 returns-clause-err g c = front_written _ _ _ c.loop.rest.now c.loop.invariant
 
-pub returns-then-is_empty-clause-err : goal.returns-then-is_empty-clause-err
-returns-then-is_empty-clause-err g c = on_err _ _ (front_kept _ _ _ _ c.loop.rest.now c.loop.invariant c.flush.ensures.keeps)
+pub returns-then-is_empty-2-clause-err : goal.returns-then-is_empty-2-clause-err
+returns-then-is_empty-2-clause-err g c = on_err _ _ (front_kept _ _ _ _ c.loop.rest.now c.loop.invariant c.flush.ensures.keeps)
