@@ -1,5 +1,5 @@
 // Refuses one growth of memory: the one whose number, counted from 1, REFUSED_GROWTH gives. For LD_PRELOAD.
-// It reads /proc/self/environ by no means: getenv takes no memory.
+// getenv, which reads the number, takes no memory.
 #define _GNU_SOURCE
 #include <dlfcn.h>
 #include <errno.h>
