@@ -1,5 +1,5 @@
 //! The program on its words: what the command line asks for, and how it ends. Before this:
-//! `pipe_script` and `replay`.
+//! `run`.
 ghost use Rattle.std.specs.Prelude.{◌≡◌, ◌≤◌, ◌<◌, ◌+◌, ◌↔◌, Some, None, map, IfOk, IfErr, IfSome, IsOk};
 ghost use Rattle.std.specs.Io.KnownBytes.{Keeps};
 ghost use Rattle.clap.specs.Simple.{app_of};
@@ -10,8 +10,7 @@ ghost use Rattle.p9sync.specs.Args.{command_line, status_of, task_asked, task_na
 ghost use Rattle.p9sync.specs.Device.{TakesAtMost};
 ghost use Rattle.p9sync.specs.declared.args.NoTask.TheVariants as why;
 
-use crate::pipe_script::run_pipe;
-use crate::replay::run_replay;
+use crate::run::{run_pipe, run_replay};
 use clap::error::ErrorKind;
 use clap::{Command, Error};
 use std::alloc::{AllocError, Global};

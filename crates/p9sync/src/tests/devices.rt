@@ -378,7 +378,8 @@ fn of_a_longer_script_one_byte_more_is_read(rt: HostRuntime) -> Result<(), Fail>
         assert!(rt; out.as_slice() == answers.as_slice());
         let said = b"p9sync: script fault at line 1677722\n".as_slice();
         assert_eq!(rt; err.as_slice(), said);
-        assert_eq!(rt; from.rest.len(), script.len() - MAX_SCRIPT - 1);
+        // Of its 17,000,008 bytes 16,777,217 were read.
+        assert_eq!(rt; from.rest.len(), 222_791);
     }
     Ok(())
 }
