@@ -20,7 +20,9 @@ use Rattle.p9sync.proofs.NumberLemmas.{decimal_from, value_of-small}
 
 -- each of the sixteen sets of kinds
 by_kinds : (interrupt hangup alarm closed_pipe : Bool)
-    → let set : NoteSet = record { interrupt = interrupt; hangup = hangup; alarm = alarm; closed_pipe = closed_pipe } in
+    → let set : NoteSet =
+    record { interrupt = interrupt; hangup = hangup; alarm = alarm; closed_pipe = closed_pipe }
+    in
     kinds_of (kinds_text set) ≡ Some set
 by_kinds true true true true = refl
 by_kinds true true true false = refl
@@ -39,6 +41,7 @@ by_kinds false false true false = refl
 by_kinds false false false true = refl
 by_kinds false false false false = refl
 
+-- so every set of kinds is read back
 pub kinds_read_back : KindsAreReadBack
 kinds_read_back set = by_kinds set.interrupt set.hangup set.alarm set.closed_pipe
 
@@ -50,6 +53,7 @@ grammar_digits = numerals_by_fold _ (search rules) decimal_from (search rules)
 abbrev BeginsAboveZero : ℕ → List ℕ → Type 0
 BeginsAboveZero n digits = 0 < n → (c : ℕ) × (cs : List ℕ) × (digits ≡ c ∷ cs) × (c ≢ 48)
 
+-- by induction on the digits, from the front
 begins_above_zero : (n : ℕ) → n < 2 ^ 64 → BeginsAboveZero n (decimal n)
 begins_above_zero = decimal_by_steps BeginsAboveZero one more
   where
@@ -71,33 +75,43 @@ number_of-value c (d ∷ cs) above = by_test (c == 48) refl
     by_test true is = absurd (above ((Decides-eqb c 48).0 is))
     by_test false is = rw is refl
 
+-- the digits of a number have its value
 value_of-decimal : (n : ℕ) → n < 2 ^ 64 → value_of (decimal n) ≡ Some n
 value_of-decimal n small =
-    sym (value_of-small (decimal n) n (digits_decimal grammar_digits n small) (sym (digits_value-decimal grammar_digits n small)) small)
+    sym (value_of-small (decimal n) n (digits_decimal grammar_digits n small)
+    (sym (digits_value-decimal grammar_digits n small)) small)
 
+-- so every number is read back
 pub numbers_read_back : NumbersAreReadBack
 unfolding digits
 numbers_read_back zero small = refl
 numbers_read_back (suc n) small =
     let (c, cs, is, above) = begins_above_zero (suc n) small (omega arith) in
-    ap number_of is ∙ (number_of-value c cs above ∙ (ap value_of (sym is) ∙ value_of-decimal (suc n) small))
+    ap number_of is
+    ∙ (number_of-value c cs above ∙ (ap value_of (sym is) ∙ value_of-decimal (suc n) small))
 
 -- two digits or more are no dash
 no_dash : (digits : List ℕ) → 1 < length digits → is_word digits (codes "-") ≡ false
 no_dash digits many = by_test (is_word digits (codes "-")) refl
   where
-    by_test : (is_dash : Bool) → is_word digits (codes "-") ≡ is_dash → is_word digits (codes "-") ≡ false
+    by_test : (is_dash : Bool) → is_word digits (codes "-") ≡ is_dash
+        → is_word digits (codes "-") ≡ false
     by_test false is = is
     by_test true is =
         let same : digits ≡ codes "-" = (bytes_eq-Decides digits (codes "-")).0 is in
         absurd (omega (arith, ap length same))
 
-bytes_of-digits : (digits : List ℕ) → 1 < length digits → bytes_of digits ≡ result_ok (decode_of digits)
+-- such a word is read as digits
+bytes_of-digits : (digits : List ℕ) → 1 < length digits
+    → bytes_of digits ≡ result_ok (decode_of digits)
 bytes_of-digits [] many = absurd (omega arith)
 bytes_of-digits (d ∷ digits) many = rw (no_dash (d ∷ digits) many) refl
 
+-- so the bytes of every piece are read back
 pub bytes_read_back : BytesAreReadBack
 bytes_read_back [] small = refl
 bytes_read_back (b ∷ bytes) small =
-    let many : 1 < length (encode_lower (b ∷ bytes)) = omega (arith, length-encode_with lower_digits (b ∷ bytes)) in
-    bytes_of-digits (encode_lower (b ∷ bytes)) many ∙ ap result_ok (decode_of-encode_lower (b ∷ bytes) small)
+    let many : 1 < length (encode_lower (b ∷ bytes)) =
+    omega (arith, length-encode_with lower_digits (b ∷ bytes)) in
+    bytes_of-digits (encode_lower (b ∷ bytes)) many
+    ∙ ap result_ok (decode_of-encode_lower (b ∷ bytes) small)

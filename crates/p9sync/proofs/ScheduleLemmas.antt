@@ -26,11 +26,14 @@ pub record IsReached (state : State) : Type 0 where
 
 -- one event more
 after_one_more : (state : State) (events : List Event) (event : Event)
-    → world_after_all state (events ++ event ∷ []) ≡ world_after (world_after_all state events) event
+    → world_after_all state (events ++ event ∷ []) ≡ world_after (world_after_all state events)
+    event
 after_one_more state [] event = refl
 after_one_more state (first ∷ events) event = after_one_more (world_after state first) events event
 
-opened_is_reached : (line : List ℕ) (state : State) → schedule_language.opened_by line ≡ Some state → IsReached state
+-- a first line opens a world to which no events lead
+opened_is_reached : (line : List ℕ) (state : State) → schedule_language.opened_by line ≡ Some state
+    → IsReached state
 opened_is_reached line state is = by_size (size_of (words_of line)) refl
   where
     by_size : (size : Option Size) → size_of (words_of line) ≡ size → IsReached state
@@ -39,6 +42,7 @@ opened_is_reached line state is = by_size (size_of (words_of line)) refl
         let opened : Some (opening size.procs size.rendez) ≡ Some state = rw some at is in
         record { procs = size.procs; rendez = size.rendez; events = []; is = cc }
 
+-- and each answer comes from a world to which one event more leads
 answered_is_reached : (state : State) (line : List ℕ) (answered : Answered State) → IsReached state
     → schedule_language.answer_to state line ≡ Some answered → IsReached answered.after
 answered_is_reached state line answered reached is = by_event (event_of (words_of line)) refl
@@ -62,11 +66,14 @@ says_not_lost : (state : State) → has_lost_wakeup state ≡ false
 says_not_lost state not_lost = rw not_lost refl
 
 -- where no events lead to a lost wakeup, no schedule says that one was lost
-pub says_none_lost : ((procs rendez : ℕ) (events : List Event) → ¬ (HasLostWakeup (world_after_all (opening procs rendez) events)))
+pub says_none_lost :
+    ((procs rendez : ℕ) (events : List Event)
+    → ¬ (HasLostWakeup (world_after_all (opening procs rendez) events)))
     → NoScheduleSaysLost
 says_none_lost none_lost input none =
     let (state, reached, is) = farewell_kept schedule_language IsReached stays input none in
-    is ∙ ap (λ text. answers_of schedule_language input ++ text) (says_not_lost state (is_not_lost state reached))
+    is ∙ ap (λ text. answers_of schedule_language input ++ text)
+    (says_not_lost state (is_not_lost state reached))
   where
     stays : Stays schedule_language IsReached
     stays = record { opened = opened_is_reached; answered = answered_is_reached }
@@ -77,6 +84,7 @@ says_none_lost none_lost input none =
         by_test : (lost : Bool) → has_lost_wakeup state ≡ lost → has_lost_wakeup state ≡ false
         by_test false is = is
         by_test true is =
-            let here : HasLostWakeup (world_after_all (opening reached.procs reached.rendez) reached.events) =
+            let here : HasLostWakeup
+            (world_after_all (opening reached.procs reached.rendez) reached.events) =
             subst HasLostWakeup reached.is ((decides_lost state).0 is) in
             absurd (none_lost reached.procs reached.rendez reached.events here)

@@ -61,4 +61,5 @@ taking_nothing name = record (new_shape name) { disable_help_flag = true }
 abbrev pub command_line : App
 command_line =
     let top = on_top needing_command (new_app (codes "p9sync")) in
-    with_subcommand (with_subcommand top (taking_nothing (codes "pipe"))) (taking_nothing (codes "replay"))
+    with_subcommand (with_subcommand top (taking_nothing (codes "pipe")))
+    (taking_nothing (codes "replay"))

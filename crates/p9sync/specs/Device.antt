@@ -21,7 +21,8 @@ pub record TakesUpTo (most : ℕ) (old new : Option (List ℕ)) (input : List �
 abbrev pub TakesScript : Option (List ℕ) → Option (List ℕ) → Type 0
 TakesScript old new = (input : List ℕ) × TakesUpTo (MAX_SCRIPT + 1) old new input
 
--- a read of at most so many bytes gave the first n of its room, and none only at the end or where none were asked for
+-- a read of at most so many bytes gave the first n of its room, and none only at the end or where
+-- none were asked for
 pub record GivesSome (most : ℕ) (old new : Option (List ℕ)) (n : ℕ) (room : List ℕ) : Type 0 where
   pub taken : Consumes old new (take n room)
   pub within : n ≤ most

@@ -44,7 +44,8 @@ abbrev pub OutputIsFinal : {S : Type 0} → Language S → Type 0
 OutputIsFinal {S} language =
     ((s : S) → language.farewell s ≡ []) →
     (front rest : List ℕ) →
-    (more : List ℕ) × ((told language (front ++ rest)).output ≡ (told language front).output ++ more)
+    (more : List ℕ) ×
+    ((told language (front ++ rest)).output ≡ (told language front).output ++ more)
 
 -- and in any language the front of a script without a fault, cut behind a line, has none
 abbrev pub FrontHasNoFault : {S : Type 0} → Language S → Type 0
@@ -55,7 +56,8 @@ FrontHasNoFault language =
 -- a script that is too long says the same however it goes on
 abbrev pub TooLongStaysSo : {S : Type 0} → Language S → Type 0
 TooLongStaysSo language =
-    (front rest : List ℕ) → MAX_SCRIPT < length front → told language (front ++ rest) ≡ told language front
+    (front rest : List ℕ) → MAX_SCRIPT < length front
+    → told language (front ++ rest) ≡ told language front
 
 -- where no line is at fault, the farewell to some state follows the answers
 abbrev pub FarewellComesLast : {S : Type 0} → Language S → Type 0
@@ -102,4 +104,5 @@ PipeOutputIsFinal =
 abbrev pub NoScheduleSaysLost : Type 0
 NoScheduleSaysLost =
     (input : List ℕ) → (told schedule_language input).fault ≡ None →
-    (told schedule_language input).output ≡ answers_of schedule_language input ++ (codes "lost no" ++ LINE_FEED ∷ [])
+    (told schedule_language input).output ≡ answers_of schedule_language input ++
+    (codes "lost no" ++ LINE_FEED ∷ [])

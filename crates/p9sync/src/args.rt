@@ -46,7 +46,7 @@ enum NoTask {
 
 /// The whole program on its words, its name first. It reads a script from `reader`, writes the
 /// answers to `out`, and says on `err` why it failed; a failed write to `err` changes nothing.
-/// It answers the status: 0 where all went well, 1 for a fault, 2 where the command line is refused.
+/// It answers the status: 0 where all went well, 1 for a fault, 2 for a refused command line.
 pub fn run_args<S: AsStr, R: Read, O: Write, E: Write>(
     alloc: Global,
     words: &[S],
@@ -66,7 +66,8 @@ pub fn run_args<S: AsStr, R: Read, O: Write, E: Write>(
         Keeps (O.contents out.old) (O.contents out.new) }
 
     // Other words run what they ask for, and the status says how that ended.
-    ensures at_most { TakesAtMost (MAX_SCRIPT + 1) (R.remaining reader.old) (R.remaining reader.new) }
+    ensures at_most { TakesAtMost (MAX_SCRIPT + 1)
+        (R.remaining reader.old) (R.remaining reader.new) }
     ensures runs { IfSome (task_asked (map S.text words.now)) (λ task.
         IfSome (R.remaining reader.old) (λ input.
         EndsRun (told_by task input) (O.contents out.old) (O.contents out.new) result)) }
@@ -151,7 +152,8 @@ impl From<AllocError> for NoTask {
 }
 
 impl From<Error> for NoTask {
-    ghost from_gives = { λ error no_task. (no_task ≡ why.OutOfMemory) ↔ (kind_of error ≡ kind.OutOfMemory) };
+    ghost from_gives = { λ error no_task.
+        (no_task ≡ why.OutOfMemory) ↔ (kind_of error ≡ kind.OutOfMemory) };
 
     fn from(error: Error) -> NoTask {
         match error.kind() {

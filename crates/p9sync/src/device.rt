@@ -20,7 +20,8 @@ const CHUNK: usize = 65_536;
 pub fn read_script<R: Read>(alloc: Global, reader: &mut R) -> Result<Vec<u8>, Fault>
     ensures read { IfOk result (λ input.
         TakesUpTo (MAX_SCRIPT + 1) (R.remaining reader.old) (R.remaining reader.new) input.items) }
-    ensures at_most { TakesAtMost (MAX_SCRIPT + 1) (R.remaining reader.old) (R.remaining reader.new) }
+    ensures at_most { TakesAtMost (MAX_SCRIPT + 1)
+        (R.remaining reader.old) (R.remaining reader.new) }
     ensures faults { IfErr result IsOutside }
 {
     let mut chunk = room_for(alloc, CHUNK)?;
@@ -36,7 +37,8 @@ fn read_by_chunks<R: Read>(
     requires { 0 < length chunk.old }
     ensures read { IfOk result (λ input.
         TakesUpTo (MAX_SCRIPT + 1) (R.remaining reader.old) (R.remaining reader.new) input.items) }
-    ensures at_most { TakesAtMost (MAX_SCRIPT + 1) (R.remaining reader.old) (R.remaining reader.new) }
+    ensures at_most { TakesAtMost (MAX_SCRIPT + 1)
+        (R.remaining reader.old) (R.remaining reader.new) }
     ensures faults { IfErr result IsOutside }
 {
     let mut input = Vec::new(alloc);
@@ -69,7 +71,8 @@ fn read_some<R: Read>(reader: &mut R, room: &mut [u8], most: usize) -> Result<Op
     requires { most ≤ length room.old }
     ensures some { IfOk result (λ count. IfSome count (λ n.
         GivesSome most (R.remaining reader.old) (R.remaining reader.new) n room.new)) }
-    ensures none { IfOk result (λ count. IfNone count (Keeps (R.remaining reader.old) (R.remaining reader.new))) }
+    ensures none { IfOk result (λ count. IfNone count
+        (Keeps (R.remaining reader.old) (R.remaining reader.new))) }
     ensures err { OnErr result (Keeps (R.remaining reader.old) (R.remaining reader.new)) }
     ensures device { IfErr result (λ fault. fault ≡ Fault.Device) }
 {
@@ -91,7 +94,8 @@ fn read_some<R: Read>(reader: &mut R, room: &mut [u8], most: usize) -> Result<Op
 /// interrupted is tried again. Where there is nothing to write the writer is not called.
 pub fn write_whole<W: Write>(writer: &mut W, bytes: &[u8]) -> Result<(), Fault>
     ensures ok { OnOk result (Appends (W.contents writer.old) (W.contents writer.new) bytes.now) }
-    ensures err { OnErr result (AppendsFront (W.contents writer.old) (W.contents writer.new) bytes.now) }
+    ensures err { OnErr result
+        (AppendsFront (W.contents writer.old) (W.contents writer.new) bytes.now) }
     ensures device { IfErr result (λ fault. fault ≡ Fault.Device) }
 {
     if bytes.is_empty() {
@@ -129,7 +133,8 @@ fn flush<W: Write>(writer: &mut W) -> Result<(), Fault>
 /// One write: how many bytes were taken, and 0 where a signal interrupted it.
 fn write_some<W: Write>(writer: &mut W, bytes: &[u8]) -> Result<usize, Fault>
     ensures bound { IfOk result (λ count. count ≤ length bytes.now) }
-    ensures ok { IfOk result (λ count. Appends (W.contents writer.old) (W.contents writer.new) (take count bytes.now)) }
+    ensures ok { IfOk result (λ count.
+        Appends (W.contents writer.old) (W.contents writer.new) (take count bytes.now)) }
     ensures err { OnErr result (Keeps (W.contents writer.old) (W.contents writer.new)) }
     ensures device { IfErr result (λ fault. fault ≡ Fault.Device) }
 {

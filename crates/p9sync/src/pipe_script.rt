@@ -73,7 +73,8 @@ fn answer_write(
     output: &mut Vec<u8>,
 ) -> Result<(), AllocError>
     ensures { (s : PipeState) → Shows pipe.old s → OnOk result
-        (IsAnswered (answered s (Writes writer bytes.now)) pipe.new output.old.items output.new.items) }
+        (IsAnswered (answered s (Writes writer bytes.now))
+        pipe.new output.old.items output.new.items) }
 {
     match pipe.write(writer, bytes) {
         Ok(answer) => push_write_answer(output, answer),

@@ -13,7 +13,8 @@ returns-in_err-input g c =
     record {
       at_most = search rules;
       reads_first = search rules;
-      told = told_of_none g.S.Script.language (g.R.Read.remaining c.args.reader.now) _ c.from_residual.result failed.0 failed.1
+      told = told_of_none g.S.Script.language (g.R.Read.remaining c.args.reader.now) _
+          c.from_residual.result failed.0 failed.1
           (subst IsOutside (sym failed.2) c.in_err-input.ensures.faults);
       faults = search rules;
     }
@@ -24,12 +25,14 @@ returns g c =
     let held = g.W.Write.contents c.args.writer.now in
     let now = g.W.Write.contents c.write_answers.new.writer in
     let writes = subst
-    (λ (input : List ℕ). WritesTold (told g.S.Script.language input) held now c.write_answers.result)
+    (λ (input : List ℕ). WritesTold (told g.S.Script.language input) held now
+    c.write_answers.result)
     c.deref.ensures.value c.write_answers.ensures.told in
     record {
       at_most = search rules;
       reads_first = search rules;
-      told = told_of_all g.S.Script.language (g.R.Read.remaining c.args.reader.now) _ c.in_ok-input.input.items
+      told = told_of_all g.S.Script.language (g.R.Read.remaining c.args.reader.now) _
+          c.in_ok-input.input.items
           held now c.write_answers.result c.in_ok-input.ensures.read writes;
       faults = search rules;
     }
