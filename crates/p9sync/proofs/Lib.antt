@@ -1,3 +1,4 @@
+mod ArgsLemmas
 mod DeviceLemmas
 mod EventLineLemmas
 mod EventTextLemmas
@@ -5,6 +6,8 @@ mod HexTextLemmas
 mod LineLemmas
 mod NumberLemmas
 mod PipeLineLemmas
+mod ReadBackLemmas
+mod ScheduleLemmas
 mod ScriptLawLemmas
 mod ScriptLemmas
 mod TextLemmas

@@ -10,18 +10,26 @@ use Rattle.p9sync.specs.Lines.{decimal_value, value_of}
 abbrev pub decimal_from : ℕ → List ℕ → ℕ
 decimal_from n digits = fold (λ n digit. 10 * n + (digit - 48)) n digits
 
+-- a number that goes on does not get smaller
 grows : (n : ℕ) (digits : List ℕ) → n ≤ decimal_from n digits
 grows n [] = omega arith
 grows n (digit ∷ digits) = omega (arith, grows (10 * n + (digit - 48)) digits)
 
+-- a number of 2^64 and more is none
 pub value_of-large : (digits : List ℕ) → 2 ^ 64 ≤ decimal_value digits → value_of digits ≡ None
 value_of-large digits large = grind (arith, nat_tests)
 
-pub value_of-small : (digits : List ℕ) (n : ℕ) → list_all is_ascii_digit digits ≡ true → n ≡ decimal_value digits → n < 2 ^ 64 → Some n ≡ value_of digits
+-- a smaller one is read
+pub value_of-small : (digits : List ℕ) (n : ℕ) → list_all is_ascii_digit digits ≡ true
+    → n ≡ decimal_value digits → n < 2 ^ 64 → Some n ≡ value_of digits
 value_of-small digits n all is small = grind (arith, nat_tests)
 
 -- the digit at i makes the number too large
-pub value_of-overflow : (digits : List ℕ) (i n : ℕ) → i < length digits → decimal_from n (drop i digits) ≡ decimal_value digits → 2 ^ 64 ≤ 10 * n + (get_or digits i 0 - 48) → value_of digits ≡ None
+pub value_of-overflow : (digits : List ℕ) (i n : ℕ) → i < length digits
+    → decimal_from n (drop i digits) ≡ decimal_value digits
+    → 2 ^ 64 ≤ 10 * n + (get_or digits i 0 - 48) → value_of digits ≡ None
 value_of-overflow digits i n within is large =
-    let front : decimal_from n (drop i digits) ≡ decimal_from (10 * n + (get_or digits i 0 - 48)) (drop (suc i) digits) = ap (decimal_from n) (drop-cons digits i 0 within) in
-    value_of-large digits (omega (arith, grows (10 * n + (get_or digits i 0 - 48)) (drop (suc i) digits)))
+    let front : decimal_from n (drop i digits) ≡ decimal_from (10 * n + (get_or digits i 0 - 48))
+    (drop (suc i) digits) = ap (decimal_from n) (drop-cons digits i 0 within) in
+    value_of-large digits
+    (omega (arith, grows (10 * n + (get_or digits i 0 - 48)) (drop (suc i) digits)))

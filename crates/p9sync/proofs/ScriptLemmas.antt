@@ -6,7 +6,8 @@ use Rattle.p9sync.specs.Lines.{lines_of, cut_line_of}
 use Rattle.p9sync.specs.Script.{Language, Told, told, told_lines, told_of}
 
 -- from this state the lines to come, with what was written so far, say what all lines say
-pub record GoesOn {S : Type 0} (language : Language S) (is_cut : Bool) (all : Told) (old : List ℕ) (s : S) (number : ℕ) (written : List ℕ) (rest : List (List ℕ)) : Type 0 where
+pub record GoesOn {S : Type 0} (language : Language S) (is_cut : Bool) (all : Told) (old : List ℕ)
+    (s : S) (number : ℕ) (written : List ℕ) (rest : List (List ℕ)) : Type 0 where
   pub output : old ++ all.output ≡ written ++ (told_of language is_cut s number rest).output
   pub fault : all.fault ≡ (told_of language is_cut s number rest).fault
 
@@ -15,9 +16,14 @@ pub front-take : (n k : ℕ) (bs : List ℕ) → k ≡ min (length bs) n → tak
 front-take n k bs is_least = grind (arith, common_steps)
 
 -- what a script says is what its front says, and that bytes follow it
-pub told_front : {S : Type 0} (language : Language S) (input text : List ℕ) → text ≡ take MAX_SCRIPT input → told_lines language (nat_lt MAX_SCRIPT (length input) || nat_lt 0 (length (cut_line_of text))) (lines_of text) ≡ told language input
+pub told_front : {S : Type 0} (language : Language S) (input text : List ℕ)
+    → text ≡ take MAX_SCRIPT input
+    → told_lines language (nat_lt MAX_SCRIPT (length input) || nat_lt 0 (length (cut_line_of text)))
+    (lines_of text) ≡ told language input
 told_front language input text is_front =
-    ap (λ t. told_lines language (nat_lt MAX_SCRIPT (length input) || nat_lt 0 (length (cut_line_of t))) (lines_of t)) is_front
+    ap (λ t. told_lines language
+    (nat_lt MAX_SCRIPT (length input) || nat_lt 0 (length (cut_line_of t))) (lines_of t))
+    is_front
 
 -- what was written behind nothing
 pub behind_nothing : (old new a b : List ℕ) → new ≡ old ++ a → old ≡ [] → a ≡ b → new ≡ b

@@ -11,19 +11,24 @@ abbrev pub IsPlain : List ℕ → Type 0
 IsPlain [] = Unit {0}
 IsPlain (b ∷ bs) = (is_line_feed b ≡ false) × IsPlain bs
 
+-- no line feed stands in these lines
 abbrev pub ArePlain : List (List ℕ) → Type 0
 ArePlain [] = Unit {0}
 ArePlain (line ∷ lines) = IsPlain line × ArePlain lines
 
-plain_onto : (b : ℕ) (parts : List (List ℕ)) → is_line_feed b ≡ false → ArePlain parts → ArePlain (onto_first b parts)
+plain_onto : (b : ℕ) (parts : List (List ℕ)) → is_line_feed b ≡ false → ArePlain parts
+    → ArePlain (onto_first b parts)
 plain_onto b [] is plain = tt
 plain_onto b (part ∷ parts) is plain = ((is, plain.0), plain.1)
 
+-- none stands in the lines of a text
 plain_parts : (text : List ℕ) → ArePlain (parts_of is_line_feed text)
 plain_parts [] = (tt, tt)
 plain_parts (b ∷ bs) = step (is_line_feed b) refl (plain_parts bs)
   where
-    step : (v : Bool) → is_line_feed b ≡ v → ArePlain (parts_of is_line_feed bs) → ArePlain (cond v ([] ∷ parts_of is_line_feed bs) (onto_first b (parts_of is_line_feed bs)))
+    step : (v : Bool) → is_line_feed b ≡ v → ArePlain (parts_of is_line_feed bs)
+        → ArePlain (cond v ([] ∷ parts_of is_line_feed bs)
+        (onto_first b (parts_of is_line_feed bs)))
     step true is rest = (tt, rest)
     step false is rest = plain_onto b (parts_of is_line_feed bs) is rest
 
@@ -36,39 +41,50 @@ plain_front (part ∷ next ∷ parts) plain = (plain.0, plain_front (next ∷ pa
 pub plain_lines : (text : List ℕ) → ArePlain (lines_of text)
 plain_lines text = plain_front (parts_of is_line_feed text) (plain_parts text)
 
+-- nor in some of them
 pub plain_take : (k : ℕ) (lines : List (List ℕ)) → ArePlain lines → ArePlain (take k lines)
 plain_take zero lines plain = tt
 plain_take (suc k) [] plain = tt
 plain_take (suc k) (line ∷ lines) plain = (plain.0, plain_take k lines plain.1)
 
 -- a line with its line feed is the first part of a text
-parts_of-line : (line rest : List ℕ) → IsPlain line → parts_of is_line_feed (line ++ 10 ∷ rest) ≡ line ∷ parts_of is_line_feed rest
+parts_of-line : (line rest : List ℕ) → IsPlain line
+    → parts_of is_line_feed (line ++ 10 ∷ rest) ≡ line ∷ parts_of is_line_feed rest
 parts_of-line [] rest plain = refl
 parts_of-line (b ∷ bs) rest plain =
-    ap (λ v. cond v ([] ∷ parts_of is_line_feed (bs ++ 10 ∷ rest)) (onto_first b (parts_of is_line_feed (bs ++ 10 ∷ rest)))) plain.0 ∙ ap (onto_first b) (parts_of-line bs rest plain.1)
+    ap (λ v. cond v ([] ∷ parts_of is_line_feed (bs ++ 10 ∷ rest))
+    (onto_first b (parts_of is_line_feed (bs ++ 10 ∷ rest)))) plain.0
+    ∙ ap (onto_first b) (parts_of-line bs rest plain.1)
 
 -- a text that begins with these lines has them first, and is cut where the rest of it is
-pub lines_of-text : (lines : List (List ℕ)) (rest : List ℕ) → ArePlain lines → lines_of (text_of lines ++ rest) ≡ lines ++ lines_of rest
+pub lines_of-text : (lines : List (List ℕ)) (rest : List ℕ) → ArePlain lines
+    → lines_of (text_of lines ++ rest) ≡ lines ++ lines_of rest
 lines_of-text [] rest plain = refl
 lines_of-text (line ∷ lines) rest plain =
     ap lines_of (append_assoc line (10 ∷ text_of lines) rest) ∙
     (ap all_but_last (parts_of-line line (text_of lines ++ rest) plain.0) ∙
-    (all_but_last-cons line (parts_of is_line_feed (text_of lines ++ rest)) (parts_of-some is_line_feed (text_of lines ++ rest)) ∙
+    (all_but_last-cons line (parts_of is_line_feed (text_of lines ++ rest))
+    (parts_of-some is_line_feed (text_of lines ++ rest)) ∙
     ap (λ all. line ∷ all) (lines_of-text lines rest plain.1)))
 
-pub cut_line_of-text : (lines : List (List ℕ)) (rest : List ℕ) → ArePlain lines → cut_line_of (text_of lines ++ rest) ≡ cut_line_of rest
+-- what follows the last of some lines is what is cut
+pub cut_line_of-text : (lines : List (List ℕ)) (rest : List ℕ) → ArePlain lines
+    → cut_line_of (text_of lines ++ rest) ≡ cut_line_of rest
 cut_line_of-text [] rest plain = refl
 cut_line_of-text (line ∷ lines) rest plain =
     ap cut_line_of (append_assoc line (10 ∷ text_of lines) rest) ∙
     (ap last_of (parts_of-line line (text_of lines ++ rest) plain.0) ∙
-    (last_of-cons line (parts_of is_line_feed (text_of lines ++ rest)) (parts_of-some is_line_feed (text_of lines ++ rest)) ∙
+    (last_of-cons line (parts_of is_line_feed (text_of lines ++ rest))
+    (parts_of-some is_line_feed (text_of lines ++ rest)) ∙
     cut_line_of-text lines rest plain.1))
 
 -- the parts with their line feeds, but for the last, make the text
 abbrev joined : List (List ℕ) → List ℕ
 joined parts = text_of (all_but_last parts) ++ last_of parts
 
-joined_onto : (b : ℕ) (parts : List (List ℕ)) → 0 < length parts → joined (onto_first b parts) ≡ b ∷ joined parts
+-- a byte in front of parts goes in front of their text
+joined_onto : (b : ℕ) (parts : List (List ℕ)) → 0 < length parts
+    → joined (onto_first b parts) ≡ b ∷ joined parts
 joined_onto b [] some = absurd (omega arith)
 joined_onto b (part ∷ []) some = refl
 joined_onto b (part ∷ next ∷ parts) some = refl
@@ -80,29 +96,46 @@ joined_cons (part ∷ parts) some = refl
 line_feed-is : (b : ℕ) → is_line_feed b ≡ true → b ≡ 10
 line_feed-is b is = grind (arith, nat_tests)
 
+-- a text is its whole lines, and what is cut
 pub text_of-lines : (text : List ℕ) → text_of (lines_of text) ++ cut_line_of text ≡ text
 text_of-lines [] = refl
 text_of-lines (b ∷ bs) = step (is_line_feed b) refl (text_of-lines bs)
   where
-    step : (v : Bool) → is_line_feed b ≡ v → joined (parts_of is_line_feed bs) ≡ bs → joined (cond v ([] ∷ parts_of is_line_feed bs) (onto_first b (parts_of is_line_feed bs))) ≡ b ∷ bs
-    step true is rest = joined_cons (parts_of is_line_feed bs) (parts_of-some is_line_feed bs) ∙ (ap (λ all. 10 ∷ all) rest ∙ ap (λ c. c ∷ bs) (sym (line_feed-is b is)))
-    step false is rest = joined_onto b (parts_of is_line_feed bs) (parts_of-some is_line_feed bs) ∙ ap (λ all. b ∷ all) rest
+    step : (v : Bool) → is_line_feed b ≡ v → joined (parts_of is_line_feed bs) ≡ bs
+        → joined (cond v ([] ∷ parts_of is_line_feed bs) (onto_first b (parts_of is_line_feed bs)))
+        ≡ b ∷ bs
+    step true is rest = joined_cons (parts_of is_line_feed bs) (parts_of-some is_line_feed bs)
+        ∙ (ap (λ all. 10 ∷ all) rest ∙ ap (λ c. c ∷ bs) (sym (line_feed-is b is)))
+    step false is rest = joined_onto b (parts_of is_line_feed bs) (parts_of-some is_line_feed bs)
+        ∙ ap (λ all. b ∷ all) rest
 
 -- a text that goes on keeps its lines
-pub lines_of-append : (text rest : List ℕ) → lines_of (text ++ rest) ≡ lines_of text ++ lines_of (cut_line_of text ++ rest)
+pub lines_of-append : (text rest : List ℕ)
+    → lines_of (text ++ rest) ≡ lines_of text ++ lines_of (cut_line_of text ++ rest)
 lines_of-append text rest =
     ap (λ t. lines_of (t ++ rest)) (sym (text_of-lines text)) ∙
     (ap lines_of (append_assoc (text_of (lines_of text)) (cut_line_of text) rest) ∙
     lines_of-text (lines_of text) (cut_line_of text ++ rest) (plain_lines text))
 
+-- the text of two lists of lines
 text_of-append : (a b : List (List ℕ)) → text_of (a ++ b) ≡ text_of a ++ text_of b
 text_of-append [] b = refl
-text_of-append (line ∷ a) b = ap (λ t. line ++ 10 ∷ t) (text_of-append a b) ∙ sym (append_assoc line (10 ∷ text_of a) (text_of b))
+text_of-append (line ∷ a) b = ap (λ t. line ++ 10 ∷ t) (text_of-append a b)
+    ∙ sym (append_assoc line (10 ∷ text_of a) (text_of b))
 
 -- the first lines of a text are no longer than it
 pub first_within : (k : ℕ) (text : List ℕ) → length (text_of (take k (lines_of text))) ≤ length text
 first_within k text =
     let lines = lines_of text in
-    let whole : length (text_of (take k lines) ++ text_of (drop k lines)) ≡ length (text_of lines) = ap length (sym (text_of-append (take k lines) (drop k lines)) ∙ ap text_of (take-append-drop k lines)) in
-    let all : length (text_of lines ++ cut_line_of text) ≡ length text = ap length (text_of-lines text) in
-    omega (arith, whole, all, length-append (text_of (take k lines)) (text_of (drop k lines)), length-append (text_of lines) (cut_line_of text))
+    let whole : length (text_of (take k lines) ++ text_of (drop k lines)) ≡ length (text_of lines) =
+    ap length (sym (text_of-append (take k lines) (drop k lines))
+    ∙ ap text_of (take-append-drop k lines)) in
+    let all : length (text_of lines ++ cut_line_of text) ≡ length text =
+    ap length (text_of-lines text) in
+    omega (
+      arith,
+      whole,
+      all,
+      length-append (text_of (take k lines)) (text_of (drop k lines)),
+      length-append (text_of lines) (cut_line_of text),
+    )

@@ -1,6 +1,7 @@
 -- What a run takes from its reader and gives to its writer, where these tell their bytes.
 use Rattle.std.specs.Prelude.{◌≡◌, ◌≤◌, ◌<◌, ◌+◌, ◌⊎◌, ℕ, List, length, take, Option, None, Some, Result, Ok, Err}
-use Rattle.std.specs.Io.KnownBytes.{Appends, Consumes, IsAtEnd}
+use Rattle.std.specs.Prelude.{IfSome, IfErr}
+use Rattle.std.specs.Io.KnownBytes.{Appends, Consumes, IsAtEnd, Keeps}
 use Rattle.sync_base.specs.declared.fault.Fault.{Fault}
 use Rattle.sync_base.specs.declared.fault.Fault.TheVariants.{Memory, Script, Device}
 use Rattle.p9sync.specs.declared.script.TheConstants.{MAX_SCRIPT}
@@ -20,7 +21,8 @@ pub record TakesUpTo (most : ℕ) (old new : Option (List ℕ)) (input : List �
 abbrev pub TakesScript : Option (List ℕ) → Option (List ℕ) → Type 0
 TakesScript old new = (input : List ℕ) × TakesUpTo (MAX_SCRIPT + 1) old new input
 
--- a read of at most so many bytes gave the first n of its room, and none only at the end or where none were asked for
+-- a read of at most so many bytes gave the first n of its room, and none only at the end or where
+-- none were asked for
 pub record GivesSome (most : ℕ) (old new : Option (List ℕ)) (n : ℕ) (room : List ℕ) : Type 0 where
   pub taken : Consumes old new (take n room)
   pub within : n ≤ most
@@ -44,3 +46,13 @@ IsOutside fault = (fault ≡ Memory) ⊎ (fault ≡ Device)
 abbrev pub IsRunFault : Fault → Type 0
 IsRunFault (Script line) = Unit {0}
 IsRunFault fault = IsOutside fault
+
+-- A run that says this of its input ended so. No more is read than what tells that a script is too
+-- long, and nothing is written before; what is written is what the input says, and the fault is the
+-- one that it names.
+pub record Runs (says : List ℕ → Told) (unread left held written : Option (List ℕ))
+    (result : Result (Unit {0}) Fault) : Type 0 where
+  pub at_most : TakesAtMost (MAX_SCRIPT + 1) unread left
+  pub reads_first : Keeps held written ⊎ TakesScript unread left
+  pub told : IfSome unread (λ input. WritesTold (says input) held written result)
+  pub faults : IfErr result IsRunFault

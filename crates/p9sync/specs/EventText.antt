@@ -27,7 +27,8 @@ listed set text note = if holds set note then behind_comma text (kind_text note)
 
 -- the kinds in the set, in the order in which they are printed
 abbrev pub kinds_listed : NoteSet → List ℕ
-kinds_listed set = listed set (listed set (listed set (listed set [] Interrupt) Hangup) Alarm) ClosedPipe
+kinds_listed set =
+    listed set (listed set (listed set (listed set [] Interrupt) Hangup) Alarm) ClosedPipe
 
 -- or a dash for none
 abbrev pub or_dash : List ℕ → List ℕ

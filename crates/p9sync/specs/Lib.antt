@@ -8,3 +8,4 @@ pub mod PipeScript
 pub mod Schedule
 pub mod Script
 pub mod ScriptLaws
+pub mod TextLaws

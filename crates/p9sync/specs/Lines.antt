@@ -23,7 +23,8 @@ abbrev pub onto_first : ℕ → List (List ℕ) → List (List ℕ)
 onto_first b [] = []
 onto_first b (part ∷ parts) = (b ∷ part) ∷ parts
 
--- the parts of a text between the bytes that part it; two such bytes have an empty part between them
+-- the parts of a text between the bytes that part it; two such bytes have an empty part between
+-- them
 abbrev pub parts_of : (ℕ → Bool) → List ℕ → List (List ℕ)
 parts_of is_parting [] = [] ∷ []
 parts_of is_parting (b ∷ bs) =

@@ -29,6 +29,7 @@ IsOp (Some op) None = ⊥
 IsOp None (Some asked) = ⊥
 
 -- the pipe shows the state after an answer, and the answer was written as a line
-pub record IsAnswered (answered : Answered PipeState) (kept : Kept) (old new : List ℕ) : Type 0 where
-  pub state : Shows kept answered.after
-  pub text : new ≡ old ++ answered.text ++ LINE_FEED ∷ []
+pub record IsAnswered (answered : Answered PipeState) (kept : Kept) (old new : List ℕ) : Type 0
+  where
+    pub state : Shows kept answered.after
+    pub text : new ≡ old ++ answered.text ++ LINE_FEED ∷ []

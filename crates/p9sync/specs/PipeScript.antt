@@ -40,7 +40,8 @@ read_of words = None
 -- `write W HEX`
 abbrev pub write_of : List (List ℕ) → Option Op
 write_of (writer ∷ bytes ∷ []) =
-    option_and_then (λ w. option_map (Writes w) (bytes_of bytes)) (number_within 0 (MAX_WRITERS - 1) writer)
+    option_and_then (λ w. option_map (Writes w) (bytes_of bytes))
+    (number_within 0 (MAX_WRITERS - 1) writer)
 write_of words = None
 
 -- each line but the first, by its verb

@@ -71,7 +71,8 @@ with_kinds set (word ∷ words) =
 
 -- different kinds with a comma between each two, in any order, or a dash for none
 abbrev pub kinds_of : List ℕ → Option NoteSet
-kinds_of word = if is_word word (codes "-") then Some no_notes else with_kinds no_notes (parts_of is_comma word)
+kinds_of word =
+    if is_word word (codes "-") then Some no_notes else with_kinds no_notes (parts_of is_comma word)
 
 -- `note P KINDS`
 abbrev pub note_of : List (List ℕ) → Option Event
@@ -99,12 +100,14 @@ verb_of word =
 
 -- what follows the first word
 abbrev pub event_with : Verb → List (List ℕ) → Option Event
-event_with verb.Post words = option_map (λ call. event.Post call.pid call.rendez call.level) (call_of words)
+event_with verb.Post words =
+    option_map (λ call. event.Post call.pid call.rendez call.level) (call_of words)
 event_with verb.Test words = option_map event.Test (lone_pid words)
 event_with verb.Look words = option_map event.Look (lone_pid words)
 event_with verb.Withdraw words = option_map event.Withdraw (lone_pid words)
 event_with verb.Clear words = option_map event.Clear (lone_pid words)
-event_with verb.Raise words = option_map (λ call. event.Raise call.pid call.rendez call.level) (call_of words)
+event_with verb.Raise words =
+    option_map (λ call. event.Raise call.pid call.rendez call.level) (call_of words)
 event_with verb.Take words = option_map event.Take (lone_pid words)
 event_with verb.Mark words = option_map event.Mark (lone_pid words)
 event_with verb.Note words = note_of words
@@ -120,13 +123,16 @@ event_of (word ∷ words) = option_and_then (λ v. event_with v words) (verb_of 
 abbrev pub lost_text : State → List ℕ
 lost_text state = if has_lost_wakeup state then codes "lost yes" else codes "lost no"
 
--- the language: `world PROCS RENDEZ` opens a world, and at the end it is said whether a wakeup was lost
+-- the language: `world PROCS RENDEZ` opens a world, and at the end it is said whether a wakeup was
+-- lost
 abbrev pub schedule_language : Language State
 schedule_language =
     record {
-      opened_by = λ line. option_map (λ size. opening size.procs size.rendez) (size_of (words_of line));
+      opened_by = λ line. option_map (λ size. opening size.procs size.rendez)
+          (size_of (words_of line));
       answer_to = λ state line.
-          option_map (λ e. record { text = event_text (answer_to state e); after = world_after state e })
+          option_map (λ e. record
+          { text = event_text (answer_to state e); after = world_after state e })
           (event_of (words_of line));
       farewell = λ state. lost_text state ++ LINE_FEED ∷ [];
     }

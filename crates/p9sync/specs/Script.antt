@@ -1,4 +1,5 @@
--- What a script says, whichever its language: its lines are answered in order, up to the first that is not in the grammar.
+-- What a script says, whichever its language: its lines are answered in order, up to the first
+-- that is not in the grammar.
 use Rattle.std.specs.Prelude.{◌≡◌, ◌||◌, ℕ, ◌+◌, nat_lt, nat_le, Bool, true, false, if◌then◌else◌, List, [], ◌∷◌, ◌++◌, length, take, Option, None, Some}
 use Rattle.std.specs.Option.{option_map_or}
 use Rattle.p9sync.specs.declared.lines.TheConstants.{LINE_FEED}
@@ -33,14 +34,16 @@ answer_then text told = record { output = text ++ LINE_FEED ∷ told.output; fau
 abbrev pub if_fits : {A : Type 0} → (List ℕ → Option A) → List ℕ → Option A
 if_fits read line = if nat_le (length line) MAX_LINE then read line else None
 
--- what these lines say, from a state; the first of them has this number. Behind them the script ends, or a line that
+-- what these lines say, from a state; the first of them has this number. Behind them the script
+-- ends, or a line that
 -- is cut or stands too far behind.
 abbrev pub told_of : {S : Type 0} → Language S → Bool → S → ℕ → List (List ℕ) → Told
 told_of {S} language is_cut s number [] =
     if is_cut then fault_at number else record { output = language.farewell s; fault = None }
 told_of {S} language is_cut s number (line ∷ lines) =
     option_map_or
-    (λ (answered : Answered S). answer_then answered.text (told_of language is_cut answered.after (number + 1) lines))
+    (λ (answered : Answered S). answer_then answered.text
+    (told_of language is_cut answered.after (number + 1) lines))
     (if_fits (language.answer_to s) line)
     (fault_at number)
 
@@ -48,17 +51,20 @@ told_of {S} language is_cut s number (line ∷ lines) =
 abbrev pub told_lines : {S : Type 0} → Language S → Bool → List (List ℕ) → Told
 told_lines language is_cut [] = fault_at 1
 told_lines language is_cut (line ∷ lines) =
-    option_map_or (λ s. told_of language is_cut s 2 lines) (if_fits language.opened_by line) (fault_at 1)
+    option_map_or (λ s. told_of language is_cut s 2 lines) (if_fits language.opened_by line)
+    (fault_at 1)
 
 -- whether bytes follow the last whole line of the text, or follow the text
 abbrev pub is_cut_off : List ℕ → Bool
-is_cut_off input = nat_lt MAX_SCRIPT (length input) || nat_lt 0 (length (cut_line_of (take MAX_SCRIPT input)))
+is_cut_off input =
+    nat_lt MAX_SCRIPT (length input) || nat_lt 0 (length (cut_line_of (take MAX_SCRIPT input)))
 
 -- what a script says, as a function of its bytes
 abbrev pub told : {S : Type 0} → Language S → List ℕ → Told
 told language input = told_lines language (is_cut_off input) (lines_of (take MAX_SCRIPT input))
 
--- What a program that follows a language keeps of a state, by its own lights: T stands for S where `stands` says so.
+-- What a program that follows a language keeps of a state, by its own lights: T stands for S where
+-- `stands` says so.
 
 -- the line opened this, by what the language says
 abbrev pub Opens : {T S : Type 0} → (T → S → Type 0) → Option S → Option T → Type 0
@@ -67,8 +73,10 @@ Opens stands (Some s) (Some t) = stands t s
 Opens stands None (Some t) = ⊥
 Opens stands (Some s) None = ⊥
 
--- the line was answered behind what was written before, or it is not in the grammar and nothing was written
-abbrev pub Answers : {T S : Type 0} → (T → S → Type 0) → Option (Answered S) → List ℕ → Bool → T → List ℕ → Type 0
+-- the line was answered behind what was written before, or it is not in the grammar and nothing
+-- was written
+abbrev pub Answers : {T S : Type 0} → (T → S → Type 0) → Option (Answered S) → List ℕ → Bool → T
+    → List ℕ → Type 0
 Answers stands (Some answered) old true t new =
     stands t answered.after × (new ≡ old ++ answered.text ++ LINE_FEED ∷ [])
 Answers stands None old false t new = new ≡ old

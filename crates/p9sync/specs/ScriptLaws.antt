@@ -1,10 +1,11 @@
 -- What holds of every script of every language, said of the definitions alone.
-use Rattle.std.specs.Prelude.{◌≡◌, ℕ, ◌+◌, ◌-◌, ◌<◌, ◌≤◌, List, [], ◌∷◌, ◌++◌, length, take, None, Some}
+use Rattle.std.specs.Prelude.{◌≡◌, ℕ, ◌+◌, ◌-◌, ◌<◌, ◌≤◌, List, [], ◌∷◌, ◌++◌, length, take, codes, None, Some}
 use Rattle.p9sync.specs.declared.lines.TheConstants.{LINE_FEED}
 use Rattle.p9sync.specs.declared.script.TheConstants.{MAX_SCRIPT}
 use Rattle.p9sync.specs.Lines.{lines_of, cut_line_of}
 use Rattle.p9sync.specs.Script.{Language, told}
 use Rattle.p9sync.specs.PipeScript.{pipe_told}
+use Rattle.p9sync.specs.Schedule.{schedule_language}
 
 -- the language, but that nothing is written after the last line
 abbrev pub without_farewell : {S : Type 0} → Language S → Language S
@@ -43,7 +44,8 @@ abbrev pub OutputIsFinal : {S : Type 0} → Language S → Type 0
 OutputIsFinal {S} language =
     ((s : S) → language.farewell s ≡ []) →
     (front rest : List ℕ) →
-    (more : List ℕ) × ((told language (front ++ rest)).output ≡ (told language front).output ++ more)
+    (more : List ℕ) ×
+    ((told language (front ++ rest)).output ≡ (told language front).output ++ more)
 
 -- and in any language the front of a script without a fault, cut behind a line, has none
 abbrev pub FrontHasNoFault : {S : Type 0} → Language S → Type 0
@@ -54,7 +56,8 @@ FrontHasNoFault language =
 -- a script that is too long says the same however it goes on
 abbrev pub TooLongStaysSo : {S : Type 0} → Language S → Type 0
 TooLongStaysSo language =
-    (front rest : List ℕ) → MAX_SCRIPT < length front → told language (front ++ rest) ≡ told language front
+    (front rest : List ℕ) → MAX_SCRIPT < length front
+    → told language (front ++ rest) ≡ told language front
 
 -- where no line is at fault, the farewell to some state follows the answers
 abbrev pub FarewellComesLast : {S : Type 0} → Language S → Type 0
@@ -96,3 +99,10 @@ abbrev pub PipeOutputIsFinal : Type 0
 PipeOutputIsFinal =
     (front rest : List ℕ) →
     (more : List ℕ) × ((pipe_told (front ++ rest)).output ≡ (pipe_told front).output ++ more)
+
+-- a schedule without a fault ends in the line that no wakeup was lost
+abbrev pub NoScheduleSaysLost : Type 0
+NoScheduleSaysLost =
+    (input : List ℕ) → (told schedule_language input).fault ≡ None →
+    (told schedule_language input).output ≡ answers_of schedule_language input ++
+    (codes "lost no" ++ LINE_FEED ∷ [])

@@ -13,7 +13,8 @@ const PART: usize = 64;
 
 /// The answer to a write.
 pub fn push_write_answer(output: &mut Vec<u8>, answer: WriteAnswer) -> Result<(), AllocError>
-    ensures { OnOk result (output.new.items ≡ output.old.items ++ write_text answer ++ LINE_FEED ∷ []) }
+    ensures { OnOk result (output.new.items
+        ≡ output.old.items ++ write_text answer ++ LINE_FEED ∷ []) }
 {
     let text = match answer {
         WriteAnswer::Taken => b"taken\n".as_slice(),
@@ -25,7 +26,8 @@ pub fn push_write_answer(output: &mut Vec<u8>, answer: WriteAnswer) -> Result<()
 
 /// The answer to a read.
 pub fn push_read_answer(output: &mut Vec<u8>, answer: &ReadAnswer) -> Result<(), AllocError>
-    ensures { OnOk result (output.new.items ≡ output.old.items ++ read_text answer.now ++ LINE_FEED ∷ []) }
+    ensures { OnOk result (output.new.items
+        ≡ output.old.items ++ read_text answer.now ++ LINE_FEED ∷ []) }
 {
     match answer {
         ReadAnswer::Got(piece) => {
@@ -58,7 +60,8 @@ fn push_hex(output: &mut Vec<u8>, bytes: &[u8]) -> Result<(), AllocError>
 /// A part of the bytes as hexadecimal digits.
 fn push_digits(output: &mut Vec<u8>, part: &[u8]) -> Result<(), AllocError>
     requires { length part.now ≤ PART }
-    ensures { OnOk result (output.new.items ≡ output.old.items ++ encode_lower part.now) }
+    ensures { OnOk result (output.new.items
+        ≡ output.old.items ++ encode_lower part.now) }
 {
     let mut digits = [0u8; 2 * PART];
     let room = &mut digits[..2 * part.len()];

@@ -1,10 +1,15 @@
 //! What holds of every script of every language. Each law is a function that does nothing: its
 //! contract is the law. Before this: `script`, which the laws speak of.
+ghost use Rattle.std.specs.Prelude.{◌≡◌};
 ghost use Rattle.p9sync.specs.PipeScript.{pipe_language};
 ghost use Rattle.p9sync.specs.Schedule.{schedule_language};
-ghost use Rattle.p9sync.specs.ScriptLaws.{LinesMakeText, AnswersAreFinal, OutputIsFinal, FrontHasNoFault, TooLongStaysSo, FarewellComesLast, FaultHasNoFarewell, FaultIsInScript, FaultLeavesAnswers, FirstFaultLeavesNone, LinesBeforeHaveNoFault, PipeOutputIsFinal};
+ghost use Rattle.p9sync.specs.ScriptLaws.{LinesMakeText, AnswersAreFinal, OutputIsFinal, FrontHasNoFault, TooLongStaysSo, FarewellComesLast, FaultHasNoFarewell, FaultIsInScript, FaultLeavesAnswers, FirstFaultLeavesNone, LinesBeforeHaveNoFault, PipeOutputIsFinal, NoScheduleSaysLost};
+ghost use Rattle.p9sync.specs.TextLaws.{NumbersAreReadBack, BytesAreReadBack, KindsAreReadBack};
 
-use crate::script::Script;
+use crate::args::{FAULT, GOOD, REFUSED};
+use crate::lines::{COMMA, LINE_FEED, SPACE, ZERO};
+use crate::script::{MAX_LINE, MAX_SCRIPT, Script};
+use sleep_core::laws::no_lost_wakeup;
 
 /// Answers are final: a script that is cut anywhere writes, but for its farewell, a front of what
 /// the whole script writes.
@@ -32,4 +37,32 @@ pub fn pipes_and_schedules()
     ensures pipe_fault { FaultLeavesAnswers pipe_language }
     ensures schedule_answers { AnswersAreFinal schedule_language }
     ensures schedule_fault { FaultLeavesAnswers schedule_language }
+{}
+
+/// No schedule says that a wakeup was lost: one without a fault ends in `lost no`. The core's law
+/// on lists of events gives it.
+pub fn no_schedule_says_lost()
+    ensures { NoScheduleSaysLost }
+{
+    no_lost_wakeup();
+}
+
+/// What is printed is read back as it was: numbers, bytes and kinds of notes.
+pub fn printed_is_read_back()
+    ensures numbers { NumbersAreReadBack }
+    ensures bytes { BytesAreReadBack }
+    ensures kinds { KindsAreReadBack }
+{}
+
+/// Each limit of a script, each byte with a meaning and each status, by its number.
+pub fn numbers_of_the_program()
+    ensures line { MAX_LINE ≡ 200_000 }
+    ensures script { MAX_SCRIPT ≡ 16_777_216 }
+    ensures line_feed { LINE_FEED ≡ 10 }
+    ensures space { SPACE ≡ 32 }
+    ensures comma { COMMA ≡ 44 }
+    ensures zero { ZERO ≡ 48 }
+    ensures good { GOOD ≡ 0 }
+    ensures fault { FAULT ≡ 1 }
+    ensures refused { REFUSED ≡ 2 }
 {}

@@ -44,7 +44,8 @@ pub fn next_word(text: &[u8]) -> (&[u8], Option<&[u8]>)
 
 /// The part before the first such byte, and what follows that; `None` follows the last part.
 pub fn next_part(parting: u8, text: &[u8]) -> (&[u8], Option<&[u8]>)
-    ensures part { parts_of (λ b. b == parting) text.now ≡ result.0.now ∷ parts_behind (λ b. b == parting) result.1 }
+    ensures part { parts_of (λ b. b == parting) text.now
+        ≡ result.0.now ∷ parts_behind (λ b. b == parting) result.1 }
     ensures shorter { IfSome result.1 (λ rest. length rest.now < length text.now) }
 {
     match place_of(parting, text) {

@@ -1,20 +1,15 @@
 //! Scripts of pipe operations, over a pipe for one thread. Before this: `pipe_line`, `answer_text`
-//! and `script`.
-ghost use Rattle.std.specs.Prelude.{◌≡◌, ◌+◌, ◌⊎◌, IfErr, IfSome, OnOk};
-ghost use Rattle.std.specs.Io.KnownBytes.{Keeps};
+//! and `script`. After it: `run`.
+ghost use Rattle.std.specs.Prelude.{◌≡◌, OnOk};
 ghost use Rattle.sync_base.specs.Pipe.{PipeState};
 ghost use Rattle.sync_base.specs.PlainPipe.{Shows};
-ghost use Rattle.p9sync.specs.declared.script.TheConstants.{MAX_SCRIPT};
-ghost use Rattle.p9sync.specs.Device.{TakesAtMost, TakesScript, WritesTold, IsRunFault};
-ghost use Rattle.p9sync.specs.PipeScript.{pipe_language, pipe_told, answered, Writes, Reads};
+ghost use Rattle.p9sync.specs.PipeScript.{pipe_language, answered, Writes, Reads};
 ghost use Rattle.p9sync.specs.PipeLine.{IsAnswered, asked_by};
 
 use crate::answer_text::{push_read_answer, push_write_answer};
-use crate::device::run_script;
 use crate::pipe_line::{PipeOp, limit};
 use crate::script::Script;
 use std::alloc::{AllocError, Global};
-use std::io::{Read, Write};
 use sync_base::{Fault, PlainPipe};
 
 /// A pipe script while it runs.
@@ -78,7 +73,8 @@ fn answer_write(
     output: &mut Vec<u8>,
 ) -> Result<(), AllocError>
     ensures { (s : PipeState) → Shows pipe.old s → OnOk result
-        (IsAnswered (answered s (Writes writer bytes.now)) pipe.new output.old.items output.new.items) }
+        (IsAnswered (answered s (Writes writer bytes.now))
+        pipe.new output.old.items output.new.items) }
 {
     match pipe.write(writer, bytes) {
         Ok(answer) => push_write_answer(output, answer),
@@ -96,28 +92,4 @@ fn answer_read(pipe: &mut PlainPipe, most: u64, output: &mut Vec<u8>) -> Result<
         Err(Fault::BadCount) => output.extend_from_slice(b"bad count\n"),
         Err(_) => Err(AllocError),
     }
-}
-
-/// Runs a pipe script: reads it whole, and then writes the answers to its lines. The page
-/// `docs/SCRIPTS.md` says what a pipe script is and what its lines are answered.
-///
-/// Device: the reader failed, and then nothing was written; or the writer failed, and then a front
-/// of the answers was. Memory: the same. Script: the line that is not in the grammar, and then the
-/// answers of the lines before it were written.
-pub fn run_pipe<R: Read, W: Write>(
-    alloc: Global,
-    reader: &mut R,
-    writer: &mut W,
-) -> Result<(), Fault>
-    // No more is read than what tells that a script is too long, and nothing is written before.
-    ensures at_most { TakesAtMost (MAX_SCRIPT + 1) (R.remaining reader.old) (R.remaining reader.new) }
-    ensures reads_first { Keeps (W.contents writer.old) (W.contents writer.new)
-        ⊎ TakesScript (R.remaining reader.old) (R.remaining reader.new) }
-
-    // What is written is what the script says, and the fault is the one that it names.
-    ensures told { IfSome (R.remaining reader.old) (λ input.
-        WritesTold (pipe_told input) (W.contents writer.old) (W.contents writer.new) result) }
-    ensures faults { IfErr result IsRunFault }
-{
-    run_script::<PipeScript, R, W>(alloc, reader, writer)
 }

@@ -32,7 +32,8 @@ pub trait Script: Drop + Sized {
     /// the grammar.
     fn answer(&mut self, line: &[u8], output: &mut Vec<u8>) -> Result<bool, AllocError>
         ensures { (s : State) → stands_for self.old s → IfOk result (λ is_answered.
-            Answers stands_for (language.answer_to s line.now) output.old.items is_answered self.new output.new.items) };
+            Answers stands_for (language.answer_to s line.now)
+            output.old.items is_answered self.new output.new.items) };
 
     /// Writes what comes behind the answer to the last line.
     fn farewell(&self, output: &mut Vec<u8>) -> Result<(), AllocError>
@@ -68,7 +69,8 @@ fn tell_text<S: Script>(
 ) -> Result<Option<u64>, AllocError>
     requires { length text.now ≤ MAX_SCRIPT }
     ensures { IfOk result (λ fault.
-        Says (told_lines S.language (is_too_long || nat_lt 0 (length (cut_line_of text.now))) (lines_of text.now))
+        Says (told_lines S.language
+        (is_too_long || nat_lt 0 (length (cut_line_of text.now))) (lines_of text.now))
         output.old.items output.new.items fault) }
 {
     let Some((first, rest)) = next_line(text) else {
@@ -99,7 +101,8 @@ fn answer_lines<S: Script>(
 ) -> Result<Option<u64>, AllocError>
     requires { length lines.now ≤ MAX_SCRIPT }
     ensures { (s : S.State) → S.stands_for script s → IfOk result (λ fault.
-        Says (told_of S.language (is_too_long || nat_lt 0 (length (cut_line_of lines.now))) s 2 (lines_of lines.now))
+        Says (told_of S.language
+        (is_too_long || nat_lt 0 (length (cut_line_of lines.now))) s 2 (lines_of lines.now))
         output.old.items output.new.items fault) }
 {
     let mut rest = lines;

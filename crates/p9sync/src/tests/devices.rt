@@ -1,27 +1,111 @@
-//! Readers and writers that fail, stop short or are interrupted.
-use crate::pipe_script::run_pipe;
+//! Readers and writers that fail in every way, give or take little at once, or are interrupted.
+//! An interruption alone is tried again; every other failure is a device fault.
+use crate::args::run_args;
+use crate::script::MAX_SCRIPT;
 use crate::tests::repeated;
+use std::alloc::Global;
 use std::io;
 use std::io::{ErrorKind, Read, Write};
 use std::test::Fail;
-use sync_base::Fault;
 
-/// A reader of these bytes that gives at most so many at once, and whose call with this number, from
-/// 1 on, ends in an error.
+const PIPE: [&str; 2] = ["p9sync", "pipe"];
+
+const SCRIPT: &[u8] = b"limit 2\nwrite 0 616263\nread 8\nfrob\n";
+
+const ANSWERS: &[u8] = b"taken\ngot 616263\n";
+
+const SCRIPT_FAULT: &[u8] = b"p9sync: script fault at line 4\n";
+
+const DEVICE_FAULT: &[u8] = b"p9sync: device fault\n";
+
+/// Each kind of error but an interruption.
+const FAILURES: [ErrorKind; 41] = [
+    ErrorKind::NotFound,
+    ErrorKind::PermissionDenied,
+    ErrorKind::ConnectionRefused,
+    ErrorKind::ConnectionReset,
+    ErrorKind::HostUnreachable,
+    ErrorKind::NetworkUnreachable,
+    ErrorKind::ConnectionAborted,
+    ErrorKind::NotConnected,
+    ErrorKind::AddrInUse,
+    ErrorKind::AddrNotAvailable,
+    ErrorKind::NetworkDown,
+    ErrorKind::BrokenPipe,
+    ErrorKind::AlreadyExists,
+    ErrorKind::WouldBlock,
+    ErrorKind::NotADirectory,
+    ErrorKind::IsADirectory,
+    ErrorKind::DirectoryNotEmpty,
+    ErrorKind::ReadOnlyFilesystem,
+    ErrorKind::FilesystemLoop,
+    ErrorKind::StaleNetworkFileHandle,
+    ErrorKind::InvalidInput,
+    ErrorKind::InvalidData,
+    ErrorKind::TimedOut,
+    ErrorKind::WriteZero,
+    ErrorKind::StorageFull,
+    ErrorKind::NotSeekable,
+    ErrorKind::QuotaExceeded,
+    ErrorKind::FileTooLarge,
+    ErrorKind::ResourceBusy,
+    ErrorKind::ExecutableFileBusy,
+    ErrorKind::Deadlock,
+    ErrorKind::CrossesDevices,
+    ErrorKind::TooManyLinks,
+    ErrorKind::InvalidFilename,
+    ErrorKind::ArgumentListTooLong,
+    ErrorKind::Unsupported,
+    ErrorKind::UnexpectedEof,
+    ErrorKind::OutOfMemory,
+    ErrorKind::InProgress,
+    ErrorKind::Other,
+    ErrorKind::Uncategorized,
+];
+
+/// Which calls fail, and how: from the first with this number, counted from 1, so many in a row.
+#[derive(Clone, Copy)]
+struct Failing {
+    first: usize,
+    times: usize,
+    kind: ErrorKind,
+}
+
+const NEVER: Failing = Failing {
+    first: 0,
+    times: 0,
+    kind: ErrorKind::Other,
+};
+
+impl Failing {
+    /// This call alone.
+    fn at(first: usize, kind: ErrorKind) -> Failing {
+        Failing {
+            first,
+            times: 1,
+            kind,
+        }
+    }
+
+    fn fails(&self, call: usize) -> bool {
+        self.first <= call && call - self.first < self.times
+    }
+}
+
+/// A reader of these bytes that gives at most so many at once.
 #[derive(Drop)]
 struct Reader<'a> {
     rest: &'a [u8],
     most: usize,
     calls: usize,
-    failing: usize,
-    kind: ErrorKind,
+    failing: Failing,
 }
 
 impl Read for Reader<'_> {
     fn read(&mut self, buf: &mut [u8]) -> io::Result<usize> {
         self.calls = self.calls.saturating_add(1);
-        if self.calls == self.failing {
-            return Err(io::Error::from(self.kind));
+        if self.failing.fails(self.calls) {
+            return Err(io::Error::from(self.failing.kind));
         }
         let count = self.rest.len().min(self.most).min(buf.len());
         let (given, rest) = self.rest.split_at(count);
@@ -31,26 +115,37 @@ impl Read for Reader<'_> {
     }
 }
 
-/// A writer that takes at most so many bytes at once, and whose call with this number, from 1 on,
-/// ends in an error.
+/// How much a writer takes at once.
+#[derive(Clone, Copy)]
+enum Takes {
+    AtMost(usize),
+    AllButOne,
+}
+
+/// A writer that holds what it took. Flushes are counted apart.
 #[derive(Drop)]
 struct Writer {
     held: Vec<u8>,
-    most: usize,
+    takes: Takes,
     calls: usize,
-    failing: usize,
-    kind: ErrorKind,
-    /// Whether nothing was written since the last flush.
+    failing: Failing,
+    flushes: usize,
+    failing_flush: Failing,
+    /// Whether nothing was written since the last flush that went well.
     is_flushed: bool,
 }
 
 impl Write for Writer {
     fn write(&mut self, buf: &[u8]) -> io::Result<usize> {
         self.calls = self.calls.saturating_add(1);
-        if self.calls == self.failing {
-            return Err(io::Error::from(self.kind));
+        if self.failing.fails(self.calls) {
+            return Err(io::Error::from(self.failing.kind));
         }
-        let count = buf.len().min(self.most);
+        let count = match self.takes {
+            Takes::AtMost(most) => buf.len().min(most),
+            Takes::AllButOne if buf.len() > 1 => buf.len() - 1,
+            Takes::AllButOne => buf.len(),
+        };
         if self.held.extend_from_slice(&buf[..count]).is_err() {
             return Err(io::Error::from(ErrorKind::OutOfMemory));
         }
@@ -59,105 +154,232 @@ impl Write for Writer {
     }
 
     fn flush(&mut self) -> io::Result<()> {
+        self.flushes = self.flushes.saturating_add(1);
+        if self.failing_flush.fails(self.flushes) {
+            return Err(io::Error::from(self.failing_flush.kind));
+        }
         self.is_flushed = true;
         Ok(())
     }
 }
 
-const SCRIPT: &[u8] = b"limit 2\nwrite 0 616263\nread 8\nfrob\n";
-
-const ANSWERS: &[u8] = b"taken\ngot 616263\n";
-
-fn reading(most: usize, failing: usize, kind: ErrorKind) -> Reader<'static> {
+fn reading(rest: &[u8], most: usize, failing: Failing) -> Reader<'_> {
     Reader {
-        rest: SCRIPT,
+        rest,
         most,
         calls: 0,
         failing,
-        kind,
     }
 }
 
-fn writing(held: Vec<u8>, most: usize, failing: usize, kind: ErrorKind) -> Writer {
+fn writing(alloc: Global, takes: Takes, failing: Failing, failing_flush: Failing) -> Writer {
     Writer {
-        held,
-        most,
+        held: Vec::new(alloc),
+        takes,
         calls: 0,
         failing,
-        kind,
+        flushes: 0,
+        failing_flush,
         is_flushed: true,
     }
 }
 
 #[test]
-fn a_failed_read_writes_nothing(rt: HostRuntime) {
+fn a_failed_read_writes_nothing_whichever_its_kind(rt: HostRuntime) {
     let alloc = rt.alloc();
-    for failing in 1..4 {
-        let mut from = reading(20, failing, ErrorKind::NotFound);
-        let mut to = Vec::new(alloc);
-        assert_eq!(rt; run_pipe(alloc, &mut from, &mut to), Err(Fault::Device));
-        assert!(rt; to.is_empty(), "read {failing}");
+    // The reads give 20 bytes, 15, and none at the end.
+    for kind in FAILURES {
+        for call in 1..4 {
+            let mut from = reading(SCRIPT, 20, Failing::at(call, kind));
+            let (mut out, mut err) = (Vec::new(alloc), Vec::new(alloc));
+            let status = run_args(alloc, &PIPE, &mut from, &mut out, &mut err);
+            assert_eq!(rt; status, 1, "read {call}");
+            assert!(rt; out.is_empty(), "read {call}");
+            assert_eq!(rt; err.as_slice(), DEVICE_FAULT);
+            assert_eq!(rt; from.calls, call);
+        }
     }
+}
+
+#[test]
+fn a_read_behind_the_end_is_not_asked_for(rt: HostRuntime) {
+    let alloc = rt.alloc();
+    let mut from = reading(SCRIPT, 20, Failing::at(4, ErrorKind::Other));
+    let (mut out, mut err) = (Vec::new(alloc), Vec::new(alloc));
+    assert_eq!(rt; run_args(alloc, &PIPE, &mut from, &mut out, &mut err), 1);
+    assert_eq!(rt; out.as_slice(), ANSWERS);
+    assert_eq!(rt; err.as_slice(), SCRIPT_FAULT);
 }
 
 #[test]
 fn an_interrupted_read_is_tried_again(rt: HostRuntime) {
     let alloc = rt.alloc();
     for most in [1, 7, 64] {
-        for failing in 0..40 {
-            let mut from = reading(most, failing, ErrorKind::Interrupted);
-            let mut to = Vec::new(alloc);
-            assert_eq!(rt; run_pipe(alloc, &mut from, &mut to), Err(Fault::Script(4)));
-            assert_eq!(rt; to.as_slice(), ANSWERS);
+        for first in 1..40 {
+            for times in [1, 5] {
+                let kind = ErrorKind::Interrupted;
+                let mut from = reading(SCRIPT, most, Failing { first, times, kind });
+                let (mut out, mut err) = (Vec::new(alloc), Vec::new(alloc));
+                let status = run_args(alloc, &PIPE, &mut from, &mut out, &mut err);
+                assert_eq!(rt; status, 1);
+                assert_eq!(rt; out.as_slice(), ANSWERS);
+                assert_eq!(rt; err.as_slice(), SCRIPT_FAULT);
+            }
         }
     }
 }
 
 #[test]
-fn a_failed_write_leaves_a_front_of_the_answers(rt: HostRuntime) {
+fn a_failed_write_leaves_a_prefix_whichever_its_kind(rt: HostRuntime) {
     let alloc = rt.alloc();
-    for failing in 1..5 {
-        let mut from = SCRIPT;
-        let mut to = writing(Vec::new(alloc), 5, failing, ErrorKind::NotFound);
-        let outcome = run_pipe(alloc, &mut from, &mut to);
-        let fault = if failing < 5 {
-            Fault::Device
-        } else {
-            Fault::Script(4)
-        };
-        assert_eq!(rt; outcome, Err(fault));
-        let written = (5 * (failing - 1)).min(ANSWERS.len());
-        assert_eq!(rt; to.held.as_slice(), &ANSWERS[..written]);
+    // The 17 bytes of the answers take four writes. A fault of the device hides the script's.
+    for kind in FAILURES {
+        for call in 1..5 {
+            let mut from = SCRIPT;
+            let mut out = writing(alloc, Takes::AtMost(5), Failing::at(call, kind), NEVER);
+            let mut err = Vec::new(alloc);
+            let status = run_args(alloc, &PIPE, &mut from, &mut out, &mut err);
+            assert_eq!(rt; status, 1);
+            assert_eq!(rt; err.as_slice(), DEVICE_FAULT);
+            assert_eq!(rt; out.held.as_slice(), &ANSWERS[..5 * (call - 1)]);
+            assert_eq!(rt; out.calls, call);
+        }
     }
-}
-
-#[test]
-fn a_writer_that_takes_nothing_has_failed(rt: HostRuntime) {
-    let alloc = rt.alloc();
-    let mut from = SCRIPT;
-    let mut to = writing(Vec::new(alloc), 0, 0, ErrorKind::NotFound);
-    assert_eq!(rt; run_pipe(alloc, &mut from, &mut to), Err(Fault::Device));
-    assert!(rt; to.held.is_empty());
 }
 
 #[test]
 fn an_interrupted_write_is_tried_again(rt: HostRuntime) {
     let alloc = rt.alloc();
-    for failing in 1..4 {
-        let mut from = SCRIPT;
-        let mut to = writing(Vec::new(alloc), 6, failing, ErrorKind::Interrupted);
-        assert_eq!(rt; run_pipe(alloc, &mut from, &mut to), Err(Fault::Script(4)));
-        assert_eq!(rt; to.held.as_slice(), ANSWERS);
-        assert!(rt; to.is_flushed);
+    for first in 1..6 {
+        for times in [1, 5] {
+            let kind = ErrorKind::Interrupted;
+            let mut from = SCRIPT;
+            let failing = Failing { first, times, kind };
+            let mut out = writing(alloc, Takes::AtMost(6), failing, failing);
+            let mut err = Vec::new(alloc);
+            let status = run_args(alloc, &PIPE, &mut from, &mut out, &mut err);
+            assert_eq!(rt; status, 1);
+            assert_eq!(rt; out.held.as_slice(), ANSWERS);
+            assert!(rt; out.is_flushed);
+            assert_eq!(rt; err.as_slice(), SCRIPT_FAULT);
+        }
     }
 }
 
 #[test]
-fn nothing_to_write_needs_no_writer(rt: HostRuntime) -> Result<(), Fail> {
+fn a_writer_may_take_few_bytes_at_once_but_not_none(rt: HostRuntime) {
     let alloc = rt.alloc();
-    let script = repeated(alloc, &[(b"limit 2\n".as_slice(), 1)])?;
-    let mut from = script.as_slice();
-    let mut to = writing(Vec::new(alloc), 6, 1, ErrorKind::NotFound);
-    assert_eq!(rt; run_pipe(alloc, &mut from, &mut to), Ok(()));
+    for takes in [Takes::AtMost(1), Takes::AtMost(16), Takes::AllButOne] {
+        let mut from = SCRIPT;
+        let mut out = writing(alloc, takes, NEVER, NEVER);
+        let mut err = Vec::new(alloc);
+        assert_eq!(rt; run_args(alloc, &PIPE, &mut from, &mut out, &mut err), 1);
+        assert_eq!(rt; out.held.as_slice(), ANSWERS);
+        assert_eq!(rt; err.as_slice(), SCRIPT_FAULT);
+        assert!(rt; out.is_flushed);
+    }
+    let mut from = SCRIPT;
+    let mut out = writing(alloc, Takes::AtMost(0), NEVER, NEVER);
+    let mut err = Vec::new(alloc);
+    assert_eq!(rt; run_args(alloc, &PIPE, &mut from, &mut out, &mut err), 1);
+    assert_eq!(rt; err.as_slice(), DEVICE_FAULT);
+    assert!(rt; out.held.is_empty());
+}
+
+#[test]
+fn a_failed_flush_is_a_fault_where_something_was_written(rt: HostRuntime) {
+    let alloc = rt.alloc();
+    for kind in FAILURES {
+        let mut from = SCRIPT;
+        let mut out = writing(alloc, Takes::AtMost(64), NEVER, Failing::at(1, kind));
+        let mut err = Vec::new(alloc);
+        assert_eq!(rt; run_args(alloc, &PIPE, &mut from, &mut out, &mut err), 1);
+        assert_eq!(rt; out.held.as_slice(), ANSWERS);
+        assert_eq!(rt; err.as_slice(), DEVICE_FAULT);
+    }
+}
+
+#[test]
+fn nothing_to_write_needs_no_writer(rt: HostRuntime) {
+    let alloc = rt.alloc();
+    let scripts: [(&[u8], u8, &[u8]); 2] = [
+        (b"limit 2\n", 0, b""),
+        (b"limit 2\nfrob\n", 1, b"p9sync: script fault at line 2\n"),
+    ];
+    for (script, expected, said) in scripts {
+        let mut from = script;
+        let failing = Failing::at(1, ErrorKind::Other);
+        let mut out = writing(alloc, Takes::AtMost(0), failing, failing);
+        let mut err = Vec::new(alloc);
+        let status = run_args(alloc, &PIPE, &mut from, &mut out, &mut err);
+        assert_eq!(rt; status, expected);
+        assert_eq!(rt; err.as_slice(), said);
+        assert_eq!(rt; out.calls, 0);
+        assert_eq!(rt; out.flushes, 0);
+    }
+}
+
+#[test]
+fn a_failing_error_stream_changes_nothing(rt: HostRuntime) {
+    let alloc = rt.alloc();
+    let refused: [&str; 2] = ["p9sync", "frob"];
+    for takes in [Takes::AtMost(0), Takes::AtMost(1), Takes::AtMost(64)] {
+        for call in 1..4 {
+            let failing = Failing::at(call, ErrorKind::BrokenPipe);
+            let mut from = SCRIPT;
+            let mut out = Vec::new(alloc);
+            let mut err = writing(alloc, takes, failing, failing);
+            assert_eq!(rt; run_args(alloc, &PIPE, &mut from, &mut out, &mut err), 1);
+            assert_eq!(rt; out.as_slice(), ANSWERS);
+            let mut from = SCRIPT;
+            let mut out = Vec::new(alloc);
+            let mut err = writing(alloc, takes, failing, failing);
+            assert_eq!(rt; run_args(alloc, &refused, &mut from, &mut out, &mut err), 2);
+            assert!(rt; out.is_empty());
+            assert_eq!(rt; from, SCRIPT);
+        }
+    }
+}
+
+#[test]
+fn the_largest_script_may_come_in_small_pieces(rt: HostRuntime) -> Result<(), Fail> {
+    let alloc = rt.alloc();
+    // A first line of 8 bytes, 1,677,720 lines of 10 and one of 8 are the largest script.
+    let parts: [(&[u8], usize); 3] = [
+        (b"limit 1\n", 1),
+        (b"read 1234\n", 1_677_720),
+        (b"read 12\n", 1),
+    ];
+    let script = repeated(alloc, &parts)?;
+    assert_eq!(rt; script.len(), MAX_SCRIPT);
+    let answers = repeated(alloc, &[(b"empty\n".as_slice(), 1_677_721)])?;
+    for most in [1, 4_096] {
+        let mut from = reading(&script, most, NEVER);
+        let (mut out, mut err) = (Vec::new(alloc), Vec::new(alloc));
+        let status = run_args(alloc, &PIPE, &mut from, &mut out, &mut err);
+        assert_eq!(rt; status, 0, "{most} bytes at once");
+        assert!(rt; out.as_slice() == answers.as_slice());
+        assert!(rt; err.is_empty());
+    }
+    Ok(())
+}
+
+#[test]
+fn of_a_longer_script_one_byte_more_is_read(rt: HostRuntime) -> Result<(), Fail> {
+    let alloc = rt.alloc();
+    let parts: [(&[u8], usize); 2] = [(b"limit 1\n", 1), (b"read 1234\n", 1_700_000)];
+    let script = repeated(alloc, &parts)?;
+    let answers = repeated(alloc, &[(b"empty\n".as_slice(), 1_677_720)])?;
+    for most in [4_096, 1_000_000] {
+        let mut from = reading(&script, most, NEVER);
+        let (mut out, mut err) = (Vec::new(alloc), Vec::new(alloc));
+        let status = run_args(alloc, &PIPE, &mut from, &mut out, &mut err);
+        assert_eq!(rt; status, 1);
+        assert!(rt; out.as_slice() == answers.as_slice());
+        let said = b"p9sync: script fault at line 1677722\n".as_slice();
+        assert_eq!(rt; err.as_slice(), said);
+        // Of its 17,000,008 bytes 16,777,217 were read.
+        assert_eq!(rt; from.rest.len(), 222_791);
+    }
     Ok(())
 }

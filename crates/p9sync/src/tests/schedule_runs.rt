@@ -1,5 +1,5 @@
 //! Runs of `p9sync replay`: that they succeed with memory, the edges of the grammar, and devices.
-use crate::replay::run_replay;
+use crate::run::run_replay;
 use crate::tests::{repeated, run};
 use std::test::Fail;
 

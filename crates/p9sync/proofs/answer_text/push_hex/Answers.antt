@@ -5,7 +5,8 @@ use Rattle.p9sync.proofs.answer_text.push_hex.Goals as goal
 
 pub loop-rest-preserved : goal.loop-rest-preserved
 loop-rest-preserved c =
-    digits_go_on _ _ _ _ c.loop-rest.rest.now _ _ c.min.result c.loop-rest.invariant c.in_ok-push_digits.ensures c.split_at.ensures.front c.split_at.ensures.back
+    digits_go_on _ _ _ _ c.loop-rest.rest.now _ _ c.min.result c.loop-rest.invariant
+    c.in_ok-push_digits.ensures c.split_at.ensures.front c.split_at.ensures.back
 
 pub returns : goal.returns
 returns c =

@@ -8,13 +8,21 @@ use Rattle.p9sync.proofs.lines.value.Goals as goal
 
 pub returns-in_err-checked_mul : goal.returns-in_err-checked_mul
 returns-in_err-checked_mul c =
-    let large : 2 ^ 64 ≤ 10 * c.loop-digit.n + (get_or c.args.digits.now c.loop-digit.digit-index 0 - 48) = omega (arith, c.in_err-checked_mul.ensures) in
-    c.from_residual.ensures ∙ sym (value_of-overflow c.args.digits.now c.loop-digit.digit-index c.loop-digit.n c.loop-digit-test.true c.loop-digit.invariant.value large)
+    let large : 2 ^ 64 ≤ 10 * c.loop-digit.n +
+    (get_or c.args.digits.now c.loop-digit.digit-index 0 - 48) =
+    omega (arith, c.in_err-checked_mul.ensures) in
+    c.from_residual.ensures
+    ∙ sym (value_of-overflow c.args.digits.now c.loop-digit.digit-index c.loop-digit.n
+    c.loop-digit-test.true c.loop-digit.invariant.value large)
 
 pub returns-in_err-n : goal.returns-in_err-n
 returns-in_err-n c =
-    let large : 2 ^ 64 ≤ 10 * c.loop-digit.n + (get_or c.args.digits.now c.loop-digit.digit-index 0 - 48) = omega (arith, c.in_err-n.ensures, c.from.ensures, c.in_ok-checked_mul.ensures) in
-    c.from_residual-in_err-n.ensures ∙ sym (value_of-overflow c.args.digits.now c.loop-digit.digit-index c.loop-digit.n c.loop-digit-test.true c.loop-digit.invariant.value large)
+    let large : 2 ^ 64 ≤ 10 * c.loop-digit.n +
+    (get_or c.args.digits.now c.loop-digit.digit-index 0 - 48) =
+    omega (arith, c.in_err-n.ensures, c.from.ensures, c.in_ok-checked_mul.ensures) in
+    c.from_residual-in_err-n.ensures
+    ∙ sym (value_of-overflow c.args.digits.now c.loop-digit.digit-index c.loop-digit.n
+    c.loop-digit-test.true c.loop-digit.invariant.value large)
 
 pub returns : goal.returns
 returns c =

@@ -8,6 +8,7 @@ use Rattle.p9sync.proofs.lines.value.Given as goal
 abbrev pub invariant-loop-digit : goal.invariant-loop-digit
 invariant-loop-digit l = record {
   digits : list_all is_ascii_digit (take l.digit-index l.digits) ≡ true;
-  value : fold (λ n digit. 10 * n + (digit - 48)) l.n (drop l.digit-index l.digits) ≡ decimal_value l.digits;
+  value : fold (λ n digit. 10 * n + (digit - 48)) l.n (drop l.digit-index l.digits) ≡ decimal_value
+      l.digits;
   small : l.n < 2 ^ 64;
 }

@@ -12,8 +12,10 @@ invariant-loop-line g l =
     record {
       counted : l.number + length l.rest ≤ 2 + length l.fn.lines;
       cut : cut_line_of l.rest ≡ cut_line_of l.fn.lines;
-      goes_on : (s : g.S.Script.State) → g.S.Script.stands_for l.fn.script s → (now : g.S.Script.State) × g.S.Script.stands_for l.script now
-          × GoesOn language is_cut (told_of language is_cut s 2 (lines_of l.fn.lines)) l.fn.output.items now l.number l.output.items (lines_of l.rest);
+      goes_on : (s : g.S.Script.State) → g.S.Script.stands_for l.fn.script s
+          → (now : g.S.Script.State) × g.S.Script.stands_for l.script now
+          × GoesOn language is_cut (told_of language is_cut s 2 (lines_of l.fn.lines))
+          l.fn.output.items now l.number l.output.items (lines_of l.rest);
     }
 
 abbrev pub decreases-loop-line : goal.decreases-loop-line

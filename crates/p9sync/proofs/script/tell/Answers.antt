@@ -14,4 +14,5 @@ pub returns-clause-fault : goal.returns-clause-fault
 returns-clause-fault g c =
     let input = c.args.input.now in
     let front = front-take MAX_SCRIPT c.min.result input c.min.ensures in
-    c.in_ok-fault.ensures.fault ∙ ap (λ t. t.fault) (told_front g.S.Script.language input (take c.min.result input) front)
+    c.in_ok-fault.ensures.fault
+    ∙ ap (λ t. t.fault) (told_front g.S.Script.language input (take c.min.result input) front)

@@ -7,4 +7,6 @@ use Rattle.p9sync.proofs.pipe_line.PipeOp.read.Goals as goal
 pub returns-in-Some : goal.returns-in-Some
 returns-in-Some c =
     let most = c.next_word.result.0.now in
-    no_op _ (ap read_of c.next_word.ensures ∙ (ap (λ rest. read_of (most ∷ words_behind rest)) c.in-Some.is ∙ read_of-long most c.in-Some.field-0.now))
+    no_op _ (ap read_of c.next_word.ensures
+    ∙ (ap (λ rest. read_of (most ∷ words_behind rest)) c.in-Some.is
+    ∙ read_of-long most c.in-Some.field-0.now))

@@ -1,0 +1,51 @@
+//! Schedules: each line is an event of the sleep core, answered by its world. Before this:
+//! `event_line`, `event_text` and `script`. After it: `run`.
+ghost use Rattle.std.specs.Prelude.{◌≡◌};
+ghost use Rattle.sleep_core.specs.State.{State};
+ghost use Rattle.p9sync.specs.Schedule.{schedule_language};
+
+use crate::event_line::{parse_event, parse_size};
+use crate::event_text::push_event_answer;
+use crate::script::Script;
+use sleep_core::World;
+use std::alloc::{AllocError, Global};
+
+/// A schedule while it runs.
+#[derive(Drop)]
+pub struct Schedule {
+    world: World,
+}
+
+impl Script for Schedule {
+    ghost State = { State };
+
+    ghost language = { schedule_language };
+
+    ghost stands_for = { λ schedule state. schedule.world ≡ state };
+
+    fn open(alloc: Global, line: &[u8]) -> Result<Option<Self>, AllocError> {
+        let Some(size) = parse_size(line) else {
+            return Ok(None);
+        };
+        let Ok(world) = World::new(alloc, size.procs, size.rendez) else {
+            return Err(AllocError);
+        };
+        Ok(Some(Schedule { world }))
+    }
+
+    fn answer(&mut self, line: &[u8], output: &mut Vec<u8>) -> Result<bool, AllocError> {
+        let Some(event) = parse_event(line) else {
+            return Ok(false);
+        };
+        push_event_answer(output, self.world.step(event))?;
+        Ok(true)
+    }
+
+    fn farewell(&self, output: &mut Vec<u8>) -> Result<(), AllocError> {
+        if self.world.is_lost() {
+            output.extend_from_slice(b"lost yes\n")
+        } else {
+            output.extend_from_slice(b"lost no\n")
+        }
+    }
+}

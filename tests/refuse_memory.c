@@ -1,0 +1,46 @@
+// Refuses one growth of memory: the one whose number, counted from 1, REFUSED_GROWTH gives. For LD_PRELOAD.
+// getenv, which reads the number, takes no memory.
+#define _GNU_SOURCE
+#include <dlfcn.h>
+#include <errno.h>
+#include <stddef.h>
+#include <stdlib.h>
+
+static long growths;
+static long refused = -1;
+
+static int is_refused(void)
+{
+	if (refused < 0) {
+		const char *number = getenv("REFUSED_GROWTH");
+		refused = number ? atol(number) : 0;
+	}
+	if (++growths != refused)
+		return 0;
+	errno = ENOMEM;
+	return 1;
+}
+
+void *malloc(size_t size)
+{
+	static void *(*next)(size_t);
+	if (!next)
+		next = dlsym(RTLD_NEXT, "malloc");
+	return is_refused() ? NULL : next(size);
+}
+
+void *realloc(void *old, size_t size)
+{
+	static void *(*next)(void *, size_t);
+	if (!next)
+		next = dlsym(RTLD_NEXT, "realloc");
+	return is_refused() ? NULL : next(old, size);
+}
+
+void *aligned_alloc(size_t alignment, size_t size)
+{
+	static void *(*next)(size_t, size_t);
+	if (!next)
+		next = dlsym(RTLD_NEXT, "aligned_alloc");
+	return is_refused() ? NULL : next(alignment, size);
+}
