@@ -6,4 +6,4 @@ use Rattle.p9sync.proofs.laws.no_schedule_says_lost.Goals as goal
 pub returns : goal.returns
 returns c = says_none_lost
     (λ procs rendez events. let kept = c.no_lost_wakeup.ensures.events procs rendez events in
-    kept.none_left_asleep)
+    kept.nobody_oversleeps)
