@@ -16,6 +16,7 @@ pub data Token : Type 0 where
   WithRaiser : ℕ → Token
   InFlags : Token
 
+-- where the token of a process is, by the newest deed that moved it
 abbrev pub token : List Deed → ℕ → Token
 token [] pid = Nowhere
 token (Began by rendez level ∷ past) pid = if by == pid then InRendez rendez else token past pid
@@ -49,6 +50,7 @@ pub record Sleeps (history : List Deed) (pid rendez : ℕ) (Stays : Type 0) : Ty
 abbrev pub MayLeave : State → List Deed → ℕ → Type 0
 MayLeave s history pid = IsCaused history pid ⊎ (has_notes (flags_of s pid).notes ≡ true)
 
+-- a process that wants to leave, or has withdrawn: where its token is, and why it may leave
 pub record Leaves (s : State) (history : List Deed) (pid : ℕ) (Place : Type 0) : Type 0 where
   pub place : Place
   pub may_leave : MayLeave s history pid
@@ -93,6 +95,7 @@ pub record IsShown (s : State) (pid rendez threshold : ℕ) : Type 0 where
   pub posted : posted_of s rendez ≡ pid + 1
   pub at_threshold : IsAtThreshold threshold (phase_of s pid)
 
+-- all of it: the words are those of the history, each process fits its phase, and the promises hold
 pub record Core (s : State) (history : List Deed) : Type 0 where
   pub sound : IsSound s
   pub fits : (pid : ℕ) → Fits s history pid (phase_of s pid)

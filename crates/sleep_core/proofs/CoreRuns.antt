@@ -104,6 +104,7 @@ core_kept s h (note_noted {pid = pid} {new = new} in_range) core = note_keeps s 
     core
 core_kept s h (drain_notes {pid = pid} in_range idle) core = drain_keeps s h pid in_range idle core
 
+-- every run keeps it
 pub core_of_run : (procs rendez : ℕ) (past : List Entry) → IsRun procs rendez past
     → Core (world_of procs rendez past) (history_of past)
 core_of_run procs rendez [] run = core_at_opening procs rendez

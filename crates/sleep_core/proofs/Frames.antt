@@ -30,6 +30,7 @@ if_other a p x y differ = by_test (eqb_tells a p)
     by_test (inl here) = absurd (differ (sym here.1))
     by_test (inr there) = ap (λ b. if b then x else y) there.0
 
+-- two numbers are the same, or not
 pub same_or_not : (p a : ℕ) → (p ≡ a) ⊎ (p ≢ a)
 same_or_not p a = by_test (eqb_tells p a)
   where
@@ -257,6 +258,7 @@ raises_kept before after h later pid rendez level frame raises =
     at_most : {a b c : ℕ} → a ≤ b → b ≤ c → a ≤ c
     at_most h₁ h₂ = omega arith
 
+-- a process that a deed is not about fits its phase as it did
 pub fits_kept : (before after : State) (h later : List Deed) (pid : ℕ)
     → Frame before after h later pid → (stage : Phase) → Fits before h pid stage
     → Fits after later pid stage
@@ -308,6 +310,7 @@ near_away rendez (InRendez other) away = absurd away
 near_away rendez (WithRaiser raiser) away = tt
 near_away rendez InFlags away = tt
 
+-- so does a sleeper whose token a wakeup has now, in each phase in which it can be
 pub fits_moved : (before after : State) (h later : List Deed) (pid : ℕ) → token h pid ≢ Nowhere
     → token h pid ≢ InFlags → IsAway (token later pid) → (IsCaused h pid → IsCaused later pid)
     → (has_notes (flags_of before pid).notes ≡ true → has_notes (flags_of after pid).notes ≡ true)

@@ -36,6 +36,7 @@ history_of-kept (entry ∷ past) =
         before ∙ sym (ap (λ (deed : Option Deed). cons_option deed (history_of past))
         (no_deed entry.answer entry.event is))
 
+-- a receipt in what is kept of a trace is a receipt in the run
 pub returns_by_kept_events : ReturnsByKeptEvents
 returns_by_kept_events procs rendez past run pid at level returned =
     returns_by_own_events procs rendez past run pid at level

@@ -20,6 +20,7 @@ use Rattle.sleep_core.proofs.CoreInvariant.Token.{Nowhere, InRendez, WithRaiser,
 use Rattle.sleep_core.proofs.Moves.{IsOver, ending_notes}
 use Rattle.sleep_core.proofs.Frames.{if_same, if_other, same_or_not, apart, threshold_kept, fits_at, fits_each, Frame, frame_past, fits_kept}
 
+-- a withdrawal of a process that is still posted
 pub withdraw_out_keeps : (s : State) (h : List Deed) (pid : ℕ) (rendez : RendezId)
     → pid < length s.phases → phase_of s pid ≡ phase.Leaving rendez → posted_of s rendez.0 ≡ pid + 1
     → Core s h → Core (with_phase (with_posted s rendez.0 0) pid phase.Out) (Withdrew pid ∷ h)
@@ -98,6 +99,7 @@ withdraw_out_keeps s h pid rendez in_range at mine core =
 has_notes-none : (notes : NoteSet) → has_notes notes ≡ false → notes ≡ no_notes
 has_notes-none notes none = grind (arith, nat_tests)
 
+-- the end of a sleep, after a withdrawal or a mark
 pub clear_keeps : (s : State) (h : List Deed) (pid : ℕ) (stage : Phase) → pid < length s.phases
     → phase_of s pid ≡ stage → IsOver stage → Core s h
     → Core (with_phase (with_flags s pid no_flags) pid phase.Idle)

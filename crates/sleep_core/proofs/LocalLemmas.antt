@@ -51,6 +51,7 @@ word_at-with_returned s (Some wakeup) (LevelOf r) = refl
 word_at-with_returned s (Some wakeup) (FlagsOf p) = refl
 word_at-with_returned s (Some wakeup) NoCell = refl
 
+-- a step changes no word but the one that it touches
 pub word_at-changed_by : (s : State) (stage : Phase) (event : Event) (told : Answer) (cell : Cell)
     → cell ≢ cell_of event stage → word_at (changed_by s stage event told) cell ≡ word_at s cell
 word_at-changed_by s stage event told cell differ =
@@ -61,6 +62,7 @@ word_at-changed_by s stage event told cell differ =
     ∙ (word_at-with_phase written (pid_of event).0 (phase_after told event stage) cell
     ∙ word_at-with_word s touched (stored event stage (word_at s touched)) cell differ)
 
+-- nor does one that may be refused
 pub word_at-world_told : (s : State) (stage : Phase) (event : Event) (told : Answer) (cell : Cell)
     → cell ≢ cell_of event stage → word_at (world_told s stage event told) cell ≡ word_at s cell
 word_at-world_told s stage event told cell differ = by_test (is_refusal told)
@@ -129,6 +131,7 @@ answer_to-no_process : (s : State) (event : Event) → length s.phases ≤ (pid_
     → answer_to s event ≡ answer.NoProc
 answer_to-no_process s event past = grind (arith, nat_tests)
 
+-- the process named is where its answer puts it
 pub phase_of-world_after : (s : State) (event : Event)
     → phase_of (world_after s event) (pid_of event).0
     ≡ phase_after (answer_to s event) event (phase_of s (pid_of event).0)

@@ -28,6 +28,7 @@ IsOver stage = ⊥
 abbrev pub ending_notes : NoteSet → Option NoteSet
 ending_notes notes = if has_notes notes then Some notes else None
 
+-- a row of the table that was answered: what held before, the deed that it shows, the world after
 pub data Move (s : State) : Option Deed → State → Type 0 where
   stays : Move s None s
   post_posted : {pid : ℕ} {rendez : RendezId} {threshold : ℕ} → pid < length s.phases

@@ -43,6 +43,7 @@ kept_by_core s h core right =
         let above = lost.is_above in
         omega arith
 
+-- the law, over runs
 pub no_lost_wakeup_lem : NoLostWakeup
 no_lost_wakeup_lem procs rendez past run =
     kept_by_core (world_of procs rendez past) (history_of past) (core_of_run procs rendez past run)
@@ -67,6 +68,7 @@ world_of-run_of procs rendez past [] = refl
 world_of-run_of procs rendez past (event ∷ events) =
     world_of-run_of procs rendez (entry_of (world_of procs rendez past) event ∷ past) events
 
+-- every list of events makes a run, which ends in the world after them
 pub events_make_runs : EventsMakeRuns
 events_make_runs procs rendez events =
     record {
@@ -74,12 +76,14 @@ events_make_runs procs rendez events =
       world = world_of-run_of procs rendez [] events;
     }
 
+-- the law, over lists of events
 pub no_lost_wakeup_in_events : NoLostWakeupInEvents
 no_lost_wakeup_in_events procs rendez events =
     let past = run_of (opening procs rendez) [] events in
     subst (IsKept (history_of past)) (events_make_runs procs rendez events).world
     (no_lost_wakeup_lem procs rendez past (events_make_runs procs rendez events).run)
 
+-- a wakeup that has returned leaves nobody posted who is asleep below its level
 pub returned_wakeup_releases : ReturnedWakeupReleases
 returned_wakeup_releases procs rendez past run of level returned =
     record {
@@ -99,9 +103,11 @@ returned_wakeup_releases procs rendez past run of level returned =
         posted in
         omega (arith, core.returned of.0 level returned, core.fallen pid of.0 own_threshold fell)
 
+-- each sleep that ends without notes has a cause
 pub sleeps_end_for_a_cause : SleepsEndForACause
 sleeps_end_for_a_cause procs rendez past run = (core_of_run procs rendez past run).caused
 
+-- a world keeps its size, and whatever it names is there
 pub runs_are_sound : RunsAreSound
 runs_are_sound procs rendez past run =
     record {

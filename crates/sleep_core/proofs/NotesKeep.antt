@@ -21,6 +21,7 @@ use Rattle.sleep_core.proofs.Frames.{if_same, if_other, same_or_not, Frame, fram
 has_notes-joined : (old new : NoteSet) → has_notes old ≡ true → has_notes (joined old new) ≡ true
 has_notes-joined old new some = grind (arith, nat_tests)
 
+-- notes that come to a process
 pub note_keeps : (s : State) (h : List Deed) (pid : ℕ) (new : NoteSet) → pid < length s.phases
     → Core s h
     → Core (with_flags s pid
@@ -94,6 +95,7 @@ note_keeps s h pid new in_range core =
         frame_past s after h (Noted pid new) p (λ about. about) (λ q moves with_raiser. moves) tt
         (kept p (same_or_not p pid)) (λ r. omega arith)
 
+-- notes that a process takes outside a sleep
 pub drain_keeps : (s : State) (h : List Deed) (pid : ℕ) → pid < length s.phases
     → phase_of s pid ≡ phase.Idle → Core s h
     → Core (with_flags s pid no_flags) (Drained pid (flags_of s pid).notes ∷ h)
@@ -141,7 +143,7 @@ drain_keeps s h pid in_range idle core =
         frame : Frame s after h later p
         frame =
             frame_past s after h (Drained pid (flags_of s pid).notes) p (λ about. about) (λ q moves
-                with_raiser. moves) tt
+            with_raiser. moves) tt
             (λ some. ap (λ (f : ProcFlags). has_notes f.notes) (flags_other p away) ∙ some)
             (λ r. omega arith)
 

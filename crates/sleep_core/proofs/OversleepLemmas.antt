@@ -13,6 +13,7 @@ decides_oversleeps s pid (phase.Asleep rendez level) =
     (Decides-eqb (posted_of s rendez.0) (pid + 1)) (Decides-ltb level (returned_of s rendez.0))
 decides_oversleeps s pid stage = (λ test. cc, λ left. absurd left)
 
+-- the test of a world says whether somebody oversleeps
 pub decides_lost : (s : State) → Decides (has_lost_wakeup s) (HasLostWakeup s)
 decides_lost s =
     Decides-below_or (λ pid. oversleeps s pid (phase_of s pid))
@@ -25,6 +26,7 @@ pub found_lost : (s : State) (pid : ℕ) → pid < length s.phases
 found_lost s pid in_range left =
     sym ((decides_lost s).1 (pid, in_range, (decides_oversleeps s pid (phase_of s pid)).0 left))
 
+-- so does an answer that is the test
 pub lost_fact : (s : State) (answer : Bool) → answer ≡ has_lost_wakeup s
     → (IsTrue answer ↔ HasLostWakeup s)
 lost_fact s answer value = Decides-at answer (has_lost_wakeup s) value (decides_lost s)

@@ -58,6 +58,7 @@ phase_of-others s (Note named notes) maker pid made differ = phase_of-note s nam
 phase_of-others s event maker pid made differ =
     phase_of-world_after_other s event pid (λ same. differ (sym (same ∙ made)))
 
+-- a phase is what the own events of its process give
 pub phase_by-own : (procs rendez : ℕ) (past : List Entry) → IsRun procs rendez past → (pid : ℕ)
     → phase_by (own pid past) ≡ phase_of (world_of procs rendez past) pid
 phase_by-own procs rendez [] run pid = idle_at_opening procs pid
@@ -110,6 +111,7 @@ phase_by-kept (entry ∷ trace) =
     by_test before false is =
         before ∙ sym (phase_after-not_kept entry.answer entry.event (phase_by trace) is)
 
+-- and what those that are kept give
 pub phase_by-kept_own : (procs rendez : ℕ) (past : List Entry) → IsRun procs rendez past → (pid : ℕ)
     → phase_by (kept (own pid past)) ≡ phase_of (world_of procs rendez past) pid
 phase_by-kept_own procs rendez past run pid =

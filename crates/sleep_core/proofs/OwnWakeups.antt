@@ -107,6 +107,7 @@ returned-own (Some deed) maker pid a b of level by_maker same begun before retur
     before returned
 returned-own None maker pid a b of level by_maker same begun before returned = before returned
 
+-- a receipt in the own events of a process is a receipt in the run
 pub returns_by_own_events : ReturnsByOwnEvents
 returns_by_own_events procs rendez [] run pid of level returned = returned
 returns_by_own_events procs rendez (entry ∷ past) run pid of level returned =

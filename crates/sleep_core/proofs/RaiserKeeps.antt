@@ -54,6 +54,7 @@ still_in_from_fallen (Noted by notes ∷ h) pid rendez threshold fell =
 still_in_from_fallen (Drained by notes ∷ h) pid rendez threshold fell =
     still_in_from_fallen h pid rendez threshold fell
 
+-- a raise: the level becomes at least this one
 pub raise_keeps : (s : State) (h : List Deed) (pid : ℕ) (rendez : RendezId) (level : ℕ)
     → pid < length s.phases → phase_of s pid ≡ phase.Idle → rendez.0 < length s.levels → Core s h
     → Core (with_phase (with_level s rendez.0 (max (level_of s rendez.0) level)) pid
@@ -162,6 +163,7 @@ returned_counts s h pid call has_returned begun rendez level shown =
     (max (returned_of s call.rendez) call.level) 0 has_returned in
     omega (arith, ap (returned_of (with_returned s (Some call))) same_rendez, counted, same_level)
 
+-- a take that finds nobody: the wakeup has returned
 pub take_nobody_keeps : (s : State) (h : List Deed) (pid : ℕ) (rendez : RendezId) (level : ℕ)
     → pid < length s.phases → phase_of s pid ≡ phase.Owing rendez level → posted_of s rendez.0 ≡ 0
     → Core s h
@@ -230,6 +232,7 @@ take_nobody_keeps s h pid rendez level in_range at free core =
         let was = core.still_in p r v (still_in_from_fallen h p r v fell) in
         omega (arith, ap (posted_of s) same, was.posted, free)
 
+-- a take that finds a sleeper: the raiser has its token now
 pub take_holding_keeps : (s : State) (h : List Deed) (pid : ℕ) (sleeper : Pid) (rendez : RendezId)
     (level : ℕ)
     → pid < length s.phases → phase_of s pid ≡ phase.Owing rendez level
@@ -344,6 +347,7 @@ take_holding_keeps s h pid sleeper rendez level in_range at posted core =
               was.at_threshold;
         }
 
+-- a mark: the sleeper has its token in its flags, and the wakeup has returned
 pub mark_keeps : (s : State) (h : List Deed) (pid : ℕ) (sleeper : Pid) (rendez : RendezId)
     (level : ℕ)
     → pid < length s.phases → phase_of s pid ≡ phase.Holding sleeper rendez level → Core s h

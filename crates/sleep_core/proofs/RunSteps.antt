@@ -7,6 +7,7 @@ use Rattle.sleep_core.specs.State.{State}
 use Rattle.sleep_core.specs.Step.{answer_to, world_after}
 use Rattle.sleep_core.specs.Runs.{answers_to_all, world_after_all}
 
+-- the answers so far and those to come, after one more event
 pub answers_to_all-more : (told : List Answer) (s : State) (events : List Event) (i : ℕ) (d : Event)
     → i < length events
     → (told ++ answer_to s (get_or events i d) ∷ []) ++ answers_to_all
@@ -17,6 +18,7 @@ answers_to_all-more told s events i d lt =
     (answers_to_all (world_after s (get_or events i d)) (drop (i + 1) events))
     ∙ ap (λ rest. told ++ rest) (sym (at_drop_more (answers_to_all s) events i d lt))
 
+-- and the world
 pub world_after_all-more : (s : State) (events : List Event) (i : ℕ) (d : Event) → i < length events
     → world_after_all (world_after s (get_or events i d)) (drop (i + 1) events)
     ≡ world_after_all s (drop i events)

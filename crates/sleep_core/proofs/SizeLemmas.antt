@@ -9,6 +9,7 @@ use Rattle.sleep_core.proofs.Moves.{Move}
 use Rattle.sleep_core.proofs.Moves.Move.{stays, post_posted, test_leaving, test_asleep, look_woken, look_leaving, withdraw_out, withdraw_awaiting, clear_ended, raise_owing, take_nobody, take_holding, mark_marked, note_noted, drain_notes}
 use Rattle.sleep_core.proofs.TableMoves.{table_moves}
 
+-- a world of so many processes and Rendez
 pub record HasSize (procs rendez : ℕ) (s : State) : Type 0 where
   pub phases : length s.phases ≡ procs
   pub posted : length s.posted ≡ rendez
@@ -54,8 +55,7 @@ size_kept procs rendez s (withdraw_awaiting {pid = pid} {rendez = at} in_range t
       phases = length-set s.phases pid phase.Awaiting ∙ size.phases;
       posted = size.posted;
     }
-size_kept procs rendez s (clear_ended {pid = pid} {stage = stage} in_range told over) size = record
-    {
+size_kept procs rendez s (clear_ended {pid = pid} {stage = stage} in_range at over) size = record {
   phases = length-set s.phases pid phase.Idle ∙ size.phases;
   posted = size.posted;
 }
@@ -94,6 +94,7 @@ size_kept procs rendez s (drain_notes {pid = pid} in_range idle) size = record {
   posted = size.posted;
 }
 
+-- a world keeps its size
 pub size_of_run : (procs rendez : ℕ) (past : List Entry)
     → HasSize procs rendez (world_of procs rendez past)
 size_of_run procs rendez [] = record {

@@ -23,6 +23,7 @@ has_rendez_at : (s : State) (pid : ℕ) (stage : Phase) → IsSound s → phase_
 has_rendez_at s pid stage sound at =
     subst (IsPhaseIn (length s.phases) (length s.posted)) at (sound.phases pid)
 
+-- a post: the process is in the Rendez
 pub post_keeps : (s : State) (h : List Deed) (pid : ℕ) (rendez : RendezId) (threshold : ℕ)
     → pid < length s.phases → phase_of s pid ≡ phase.Idle → rendez.0 < length s.posted
     → posted_of s rendez.0 ≡ 0 → Core s h
@@ -117,6 +118,7 @@ post_keeps s h pid rendez threshold in_range idle has_rendez free core =
               was.at_threshold;
         }
 
+-- a test that finds the level above the threshold
 pub test_leaving_keeps : (s : State) (h : List Deed) (pid : ℕ) (rendez : RendezId) (threshold : ℕ)
     → pid < length s.phases → phase_of s pid ≡ phase.Posted rendez threshold → Core s h
     → Core (with_phase s pid (phase.Leaving rendez)) (Passed pid ∷ h)
@@ -161,6 +163,7 @@ test_leaving_keeps s h pid rendez threshold in_range at core =
             frame_past s after h (Passed pid) p (λ about. about) (λ q moves with_raiser. moves) tt
             (λ e. e) (λ r. omega arith)
 
+-- a test that does not: the process falls asleep
 pub test_asleep_keeps : (s : State) (h : List Deed) (pid : ℕ) (rendez : RendezId) (threshold : ℕ)
     → pid < length s.phases → phase_of s pid ≡ phase.Posted rendez threshold
     → level_of s rendez.0 ≤ threshold → Core s h
@@ -230,6 +233,7 @@ test_asleep_keeps s h pid rendez threshold in_range at low core =
             frame_past s after h (Fell pid) p (λ about. about) (λ q moves with_raiser. moves)
             (λ r x v fell. just_fell x r v fell) (λ e. e) (λ r. omega arith)
 
+-- a look that finds the mark
 pub look_woken_keeps : (s : State) (h : List Deed) (pid : ℕ) → pid < length s.phases
     → (flags_of s pid).wake ≡ true → Core s h → Core (with_phase s pid phase.Woken) (Roused pid ∷ h)
 look_woken_keeps s h pid in_range wake core =
@@ -302,6 +306,7 @@ quietly_keeps s h pid stage in_range there own no_threshold core =
         frame =
             frame_quiet s after h p refl refl
 
+-- a look that finds notes
 pub look_leaving_keeps : (s : State) (h : List Deed) (pid : ℕ) (rendez : RendezId) (threshold : ℕ)
     → pid < length s.phases → phase_of s pid ≡ phase.Asleep rendez threshold
     → has_notes (flags_of s pid).notes ≡ true → Core s h
@@ -322,6 +327,7 @@ away_unless_posted rendez (InRendez other) near not_there = absurd (not_there (a
 away_unless_posted rendez (WithRaiser raiser) near not_there = tt
 away_unless_posted rendez InFlags near not_there = tt
 
+-- a withdrawal of a process that was taken: its mark will come
 pub withdraw_awaiting_keeps : (s : State) (h : List Deed) (pid : ℕ) (rendez : RendezId)
     → pid < length s.phases → phase_of s pid ≡ phase.Leaving rendez
     → posted_of s rendez.0 ≢ pid + 1 → Core s h → Core (with_phase s pid phase.Awaiting) h

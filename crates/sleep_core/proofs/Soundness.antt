@@ -9,6 +9,7 @@ use Rattle.sleep_core.specs.Table.{Wakeup}
 use Rattle.sleep_core.specs.Step.{with_phase, with_flags, with_posted, with_level, with_returned}
 use Rattle.sleep_core.proofs.ListLemmas.{get_or-set_cases}
 
+-- a phase that names what is there
 pub IsSound-with_phase : (s : State) (pid : ℕ) (stage : Phase) → IsSound s
     → IsPhaseIn (length s.phases) (length s.posted) stage → IsSound (with_phase s pid stage)
 IsSound-with_phase s pid stage sound fits =
@@ -35,6 +36,7 @@ IsSound-with_phase s pid stage sound fits =
         at (inr there) =
             subst (IsPhaseIn (length s.phases) (length s.posted)) (sym there) (sound.phases p)
 
+-- flags
 pub IsSound-with_flags : (s : State) (pid : ℕ) (flags : ProcFlags) → IsSound s
     → IsSound (with_flags s pid flags)
 IsSound-with_flags s pid flags sound =
@@ -46,6 +48,7 @@ IsSound-with_flags s pid flags sound =
       posted = sound.posted;
     }
 
+-- a posted word of a process that is there
 pub IsSound-with_posted : (s : State) (rendez word : ℕ) → IsSound s → word ≤ length s.phases
     → IsSound (with_posted s rendez word)
 IsSound-with_posted s rendez word sound fits =
@@ -70,6 +73,7 @@ IsSound-with_posted s rendez word sound fits =
         at (inl here) = subst (λ n. n ≤ length s.phases) (sym here.1) fits
         at (inr there) = subst (λ n. n ≤ length s.phases) (sym there) (sound.posted r)
 
+-- a level
 pub IsSound-with_level : (s : State) (rendez level : ℕ) → IsSound s
     → IsSound (with_level s rendez level)
 IsSound-with_level s rendez level sound =
@@ -81,6 +85,7 @@ IsSound-with_level s rendez level sound =
       posted = sound.posted;
     }
 
+-- a returned level
 pub IsSound-with_returned : (s : State) (call : Wakeup) → IsSound s
     → IsSound (with_returned s (Some call))
 IsSound-with_returned s call sound =

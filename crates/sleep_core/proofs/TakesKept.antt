@@ -169,6 +169,7 @@ takes_kept s h (mark_marked in_range at) core owed right = right
 takes_kept s h (note_noted in_range) core owed right = right
 takes_kept s h (drain_notes in_range idle) core owed right = right
 
+-- so does every run
 pub takes_are_right : (procs rendez : ℕ) (past : List Entry) → IsRun procs rendez past
     → TakesAreRight (history_of past)
 takes_are_right procs rendez [] run = tt
@@ -272,6 +273,7 @@ reached_in_run procs rendez (entry ∷ past) run =
     (table_moves (world_of procs rendez past) entry.event) (core_of_run procs rendez past run.0)
     (reached_in_run procs rendez past run.0))
 
+-- the returned level is the greatest that has returned
 pub returned_is_greatest : ReturnedIsGreatest
 returned_is_greatest procs rendez past run at =
     record {
@@ -285,10 +287,12 @@ posted_are_still_in procs rendez past run pid at posted =
     still_in_by_token (history_of past) pid at
     ((core_of_run procs rendez past run).posted at pid posted)
 
+-- whose sleep goes on is posted
 pub still_in_are_posted : StillInArePosted
 still_in_are_posted procs rendez past run pid at threshold still =
     ((core_of_run procs rendez past run).still_in pid at threshold still).posted
 
+-- and who is asleep and posted has fallen asleep in it
 pub asleep_have_fallen : AsleepHaveFallen
 asleep_have_fallen procs rendez past run pid at threshold asleep posted =
     fallen_at (world_of procs rendez past) (history_of past) pid at threshold

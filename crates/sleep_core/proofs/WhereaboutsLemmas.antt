@@ -77,6 +77,7 @@ is_at_token s h pid (InRendez rendez) core placed in_sleep is = posted_by_token 
 is_at_token s h pid (WithRaiser raiser) core placed in_sleep is = placed.held pid raiser is
 is_at_token s h pid InFlags core placed in_sleep is = placed.marked pid is
 
+-- each sleeper is in just one place
 pub sleepers_are_in_one_place : SleepersAreInOnePlace
 sleepers_are_in_one_place procs rendez past run pid in_sleep =
     record {
@@ -111,6 +112,7 @@ none_outside s h pid (IsPostedIn rendez) nowhere not_out there is = cc
 none_outside s h pid (IsHeldBy raiser) nowhere not_out there is = cc
 none_outside s h pid IsMarked nowhere not_out there is = cc
 
+-- and no other process is in any
 pub others_are_in_no_place : OthersAreInNoPlace
 others_are_in_no_place procs rendez past run pid outside at there =
     none_outside s h pid at (nowhere_outside s h pid (phase_of s pid) (core.fits pid) outside)
@@ -163,6 +165,7 @@ is_raised s h pid (phase.Owing rendez level) fit = fit.low
 is_raised s h pid (phase.Holding sleeper rendez level) fit = fit.raises.low
 is_raised s h pid stage fit = tt
 
+-- the words agree with the phases after every run
 pub words_agree_in_runs : WordsAgreeInRuns
 words_agree_in_runs procs rendez past run =
     record {

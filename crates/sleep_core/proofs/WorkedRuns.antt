@@ -3,7 +3,7 @@
 -- or of the history can be dropped or changed unseen. The numbers of a run differ, so that no
 -- number
 -- passes for another: process 1 sleeps in Rendez 1 with threshold 4, process 2 wakes it.
-use Rattle.std.proofs.Common.{◌≡◌, ℕ, true, Some, None, List, [], ◌∷◌, refl}
+use Rattle.std.proofs.Common.{◌≡◌, ℕ, true, Some, None, List, [], ◌∷◌, refl, arith}
 use Rattle.sync_base.specs.declared.ids.Pid.{Pid}
 use Rattle.sync_base.specs.declared.ids.RendezId.{RendezId}
 use Rattle.sync_base.specs.declared.limits.TheConstants.{TOP_LEVEL}
@@ -16,7 +16,8 @@ use Rattle.sleep_core.specs.declared.answer.Answer.{Answer}
 use Rattle.sleep_core.specs.declared.answer.Answer.TheVariants as answer
 use Rattle.sleep_core.specs.declared.phase.Phase.TheVariants as phase
 use Rattle.sleep_core.specs.State.{State, opening, no_flags}
-use Rattle.sleep_core.specs.Runs.{Entry, answers_to_all, world_after_all, run_of, own, kept, phase_by}
+use Rattle.sleep_core.specs.Runs.{Entry, IsMadeBy, IsNext, IsRun, answers_to_all, world_after_all, world_of, run_of, own, kept, phase_by}
+use Rattle.sleep_core.specs.Step.{answer_to}
 use Rattle.sleep_core.specs.History.{Deed, history_of}
 use Rattle.sleep_core.specs.History.Deed.{Began, Passed, Fell, Roused, Withdrew, Left, Raised, Missed, Took, Marked, Noted, Drained}
 
@@ -309,3 +310,50 @@ mixed_phase_before = refl
 mixed_phase_of_raiser : phase_by (own 2 (by 2 (take 2) (answer.Holding (proc 1))
     ∷ by 2 (raise 2 1 7) answer.Owing ∷ [])) ≡ phase.Holding (proc 1) (rendez 1) 7
 mixed_phase_of_raiser = refl
+
+-- It is a run: each entry is made by its process, the note by its poster, and answered by the
+-- table.
+step : {state : State} {entry : Entry} → IsMadeBy entry.maker entry.event
+    → entry.answer ≡ answer_to state entry.event → IsNext state entry
+step made answered = record { made = made; answered = answered }
+
+mixed_is_run : IsRun 3 2 mixed
+mixed_is_run =
+    ((
+      (
+        (
+          (
+            (
+              (
+                ((((tt, step refl refl), step refl refl), step refl refl), step refl refl),
+                step refl refl,
+              ),
+              step tt refl,
+            ),
+            step refl refl,
+          ),
+          step refl refl,
+        ),
+        step refl refl,
+      ),
+      step refl refl,
+    ))
+
+mixed_world : world_of 3 2 mixed ≡ record {
+  phases = phase.Idle ∷ phase.Woken ∷ phase.Idle ∷ [];
+  flags = no_flags ∷ record { wake = true; notes = only Alarm } ∷ no_flags ∷ [];
+  posted = 0 ∷ 0 ∷ [];
+  levels = 0 ∷ 7 ∷ [];
+  returned = 0 ∷ 7 ∷ [];
+}
+mixed_world = refl
+
+-- what the table does not answer is no run, and nobody makes another's event
+wrong_answer_is_no_run : IsRun 3 2 (by 1 (post 1 1 4) answer.DoubleSleep ∷ []) → ⊥
+wrong_answer_is_no_run run_so = clash run_so.1.answered
+  where
+    clash : answer.DoubleSleep ≡ answer.Posted → ⊥
+    clash same = cc
+
+anothers_event_is_no_run : IsRun 3 2 (by 2 (post 1 1 4) answer.Posted ∷ []) → ⊥
+anothers_event_is_no_run run_so = absurd (omega (arith, run_so.1.made))
