@@ -8,6 +8,7 @@ input, and the answers go to /dev/null. Figures are medians, with the least and 
 is that of the user and of the system together. A share is p9sync's speed as a part of the plain program's in one round.
 Peak memory is the greatest of all rounds. Of several scripts, it also prints how the processor time of a line in the last
 compares with that in the first."""
+import filecmp
 import os
 import pathlib
 import statistics
@@ -45,12 +46,13 @@ def run(words, script, answers=os.devnull, faults=os.devnull):
 
 def compare(programs, scripts):
     """Ends where the programs differ in their answers, their faults or how they end."""
+    filecmp.clear_cache()
     with tempfile.TemporaryDirectory() as made:
         said = [[os.path.join(made, f"{kind}{number}") for kind in ("answers", "faults")] for number in range(2)]
         for script in scripts:
             ends = [run(words, script, *files).status for words, files in zip(programs, said)]
-            texts = [[pathlib.Path(name).read_bytes() for name in files] for files in said]
-            if ends[0] != ends[1] or texts[0] != texts[1]:
+            # Read piece by piece, since the memory of this process counts as that of what it runs.
+            if ends[0] != ends[1] or not all(filecmp.cmp(*pair, shallow=False) for pair in zip(*said)):
                 sys.exit(f"{script}: the answers differ")
 
 

@@ -31,6 +31,7 @@ static void fill_tables(void) {
 /* Writes the bytes of these digits. The answer is above 255 where one was no digit. */
 static inline unsigned decode(byte *restrict to, const byte *restrict from, size_t len) {
     unsigned seen = 0;
+#pragma GCC unroll 4
     for (size_t i = 0; i < len; i++) {
         unsigned value = high[from[2 * i]] | low[from[2 * i + 1]];
         seen |= value;
@@ -41,6 +42,7 @@ static inline unsigned decode(byte *restrict to, const byte *restrict from, size
 
 static unsigned check(const byte *from, size_t len) {
     unsigned seen = 0;
+#pragma GCC unroll 4
     for (size_t i = 0; i < 2 * len; i++) seen |= low[from[i]];
     return seen;
 }
@@ -126,6 +128,7 @@ static void run(const byte *at, const byte *stop, int is_cut) {
             const byte *from = ring + queue[head].begin + offset;
             o = SAY(o, "got ");
             if (len == 0) *o++ = '-';
+#pragma GCC unroll 4
             for (uint32_t i = 0; i < len; i++) memcpy(o + 2 * i, digits[from[i]], 2);
             o += 2 * len;
             *o++ = '\n';
