@@ -59,6 +59,15 @@ static const byte *notes(const byte *at, unsigned *flags) {
     }
 }
 
+/* Answers whose choice can't be guessed are said without a branch. */
+struct answer { char text[16]; size_t len; };
+#define ANSWER(text) {text, sizeof text - 1}
+
+static inline byte *say_answer(byte *o, const struct answer *answer) {
+    memcpy(o, answer->text, sizeof answer->text);
+    return o + answer->len;
+}
+
 static int is_lost(unsigned proc_count) {
     for (unsigned pid = 0; pid < proc_count; pid++) {
         const struct rendez *r = &rendezes[procs[pid].rendez];
@@ -121,8 +130,10 @@ static void run(const byte *at, const byte *stop, int is_cut) {
             if (at[1] == 'e') {
                 VERB("test", '\n');
                 STEP(p->stage == POSTED);
-                if (r->level > p->level) { p->stage = LEAVING; o = SAY(o, "leaving\n"); }
-                else { p->stage = ASLEEP; o = SAY(o, "asleep\n"); }
+                static const struct answer tested[] = {ANSWER("asleep\n"), ANSWER("leaving\n")};
+                int is_passed = r->level > p->level;
+                p->stage = is_passed ? LEAVING : ASLEEP;
+                o = say_answer(o, &tested[is_passed]);
             } else {
                 VERB("take", '\n');
                 STEP(p->stage == OWING);
@@ -140,15 +151,21 @@ static void run(const byte *at, const byte *stop, int is_cut) {
         case 'l':
             VERB("look", '\n');
             STEP(p->stage == ASLEEP || p->stage == AWAITING);
-            if (p->flags & WAKE) { p->stage = WOKEN; o = SAY(o, "woken\n"); }
-            else if (p->stage == ASLEEP && p->flags) { p->stage = LEAVING; o = SAY(o, "leaving\n"); }
-            else o = SAY(o, "parked\n");
+            static const struct answer looked[] = {ANSWER("parked\n"), ANSWER("leaving\n"), ANSWER("woken\n")};
+            int is_woken = p->flags / WAKE, has_notes = (p->stage == ASLEEP) & (p->flags != 0);
+            int found = is_woken ? 2 : has_notes;
+            byte next[] = {p->stage, LEAVING, WOKEN};
+            p->stage = next[found];
+            o = say_answer(o, &looked[found]);
             continue;
         case 'w':
             VERB("withdraw", '\n');
             STEP(p->stage == LEAVING);
-            if (r->posted == pid + 1) { r->posted = 0; p->stage = OUT; o = SAY(o, "out\n"); }
-            else { p->stage = AWAITING; o = SAY(o, "awaiting\n"); }
+            static const struct answer withdrawn[] = {ANSWER("awaiting\n"), ANSWER("out\n")};
+            int is_out = r->posted == pid + 1;
+            r->posted = is_out ? 0 : r->posted;
+            p->stage = is_out ? OUT : AWAITING;
+            o = say_answer(o, &withdrawn[is_out]);
             continue;
         case 'c':
             if (at[1] == 'l') {
@@ -162,8 +179,8 @@ static void run(const byte *at, const byte *stop, int is_cut) {
             } else {
                 VERB("check", '\n');
                 STEP(p->stage == ASLEEP);
-                if (r->posted == pid + 1) o = SAY(o, "posted\n");
-                else o = SAY(o, "released\n");
+                static const struct answer checked[] = {ANSWER("released\n"), ANSWER("posted\n")};
+                o = say_answer(o, &checked[r->posted == pid + 1]);
             }
             continue;
         case 'r':
