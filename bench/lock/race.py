@@ -8,7 +8,8 @@ they begin together. The history of calls is cut into windows of equally many ca
 made at least a quarter of an equal share of its calls, and the speed is that of the windows in which they met: where a
 machine runs the threads one after the other no lock is contended, and both sides show 40 to 60 million applies. A round is
 one run of each side. It is left out where the threads met in less than half the windows of either side, or could not be
-pinned. What is printed are medians of the rounds that are left, with the least and the greatest."""
+pinned. One thread meets nobody, so its speed is that of the middle one of its windows, which leaves out those in which
+other work had its core. What is printed are medians of the rounds that are left, with the least and the greatest."""
 import os
 import statistics
 import subprocess
@@ -63,7 +64,8 @@ def speed(marks, threads, window):
     met = [place for place in places if makers.get(place) == threads]
     if not met:
         return 0.0, 0.0
-    nanos = sum(first[place + 1] - first[place] for place in met)
+    spans = [first[place + 1] - first[place] for place in met]
+    nanos = sum(spans) if threads > 1 else statistics.median(spans) * len(met)
     return len(met) * window / nanos * 1e3, len(met) / len(places)
 
 
