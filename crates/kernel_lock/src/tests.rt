@@ -370,7 +370,9 @@ fn round<R: Threads + Wait + Abort + Sync>(
     calls: usize,
     total: u64,
 ) -> Result<(), Fail> {
-    let door = Arc::new(alloc, Door::new())?;
+    let Ok(door) = Arc::new(alloc, Door::new()) else {
+        return Ok(());
+    };
     let room = Room {
         calls: 0,
         door: Arc::try_clone(&door)?,
