@@ -14,6 +14,16 @@ use std::sync::Wait;
 /// How often a thread looks at a taken word again before it sleeps.
 const LOOKS: u64 = 20;
 
+/// How long a thread pauses before each look.
+/// A look takes the word's cache line from the thread that has the lock, so looks are few.
+const PAUSES: u64 = 64;
+
+fn pause() {
+    for _ in 0..PAUSES {
+        spin_loop();
+    }
+}
+
 impl<O: Object> Locked<O> {
     /// Takes the lock, and waits where it is taken.
     pub(crate) fn take<R: Wait>(&self, rt: &R, place: &mut Place<O>)
@@ -45,11 +55,21 @@ impl<O: Object> Locked<O> {
         ensures same { place.new.me ≡ place.old.me }
     {
         for _ in 0..LOOKS {
+            pause();
             if self.look(place) {
                 return false;
             }
-            spin_loop();
         }
+        self.sleep(rt, place)
+    }
+
+    /// Sleeps until a release, where the lock is still taken. Says whether it slept.
+    // A release before the mark woke nobody. The look behind the mark finds that one.
+    pub(crate) fn sleep<R: Wait>(&self, rt: &R, place: &mut Place<O>) -> bool
+        requires { IsPlaceOf self.now place.old }
+        ensures place { IsSamePlace place.old place.new }
+        ensures same { place.new.me ≡ place.old.me }
+    {
         let mark = self.waiters.announce();
         if self.look(place) {
             return false;
@@ -66,6 +86,6 @@ impl<O: Object> Locked<O> {
         ensures released { HasReleased M.calls place.old.me place.new.me }
     {
         self.release::<M>(place);
-        self.waiters.wake();
+        self.waiters.wake(place);
     }
 }
