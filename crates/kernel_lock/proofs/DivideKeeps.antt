@@ -67,7 +67,8 @@ module _ {Object State Request Reply : Type 0}
       parent_fits =
           record {
             given = omega (arith, inside.given_is);
-            stage = subst (λ (stage : Stage Request Reply). FitsStage after id (before.given + 1) stage)
+            stage = subst (λ (stage : Stage Request Reply). FitsStage after id
+                (before.given + 1) stage)
                 (sym stage_is)
                 record {
                   history_is = inside.history_is;

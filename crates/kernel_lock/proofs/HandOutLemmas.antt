@@ -138,7 +138,8 @@ module _ {Object Request Reply : Type 0} where
   next_append number first given (other ∷ seats) seat is before new =
       (before.0, next_append number (first + 1) given seats seat (omega arith) before.1 new)
 
-  handed : (key : Key Object) (limit number count : ℕ) (before after child : Me Object Request Reply) →
+  handed : (key : Key Object) (limit number count : ℕ)
+      (before after child : Me Object Request Reply) →
       number + count ≡ limit → number < limit → before ≡ (left_view key number count, []) →
       HasHanded before after child →
       (left : ℕ) × (number + 1 + left ≡ limit) × (after ≡ (left_view key (number + 1) left, [])) ×

@@ -66,7 +66,8 @@ module _ {Object State Request Reply : Type 0}
           record {
             given = omega arith;
             stage = (seen_before_join server account_of rule.ledger s.views id other first second
-                (joined_view first second) spent_view rule.seats at apart at_other refl refl).shorter;
+                (joined_view first second) spent_view rule.seats at apart at_other refl
+                refl).shorter;
           }
 
       others : (seat : ℕ) (view : View Object Request Reply) → seat ≢ id →

@@ -127,7 +127,8 @@ module _ {Object State Request Reply : Type 0}
       after : Follows key s rule id me at served
       after =
           follows key s rule id me at served
-          (subst (λ (h : List (Served Request Reply)). IfSome served (IsOwnRight definition key h me.0))
+          (subst (λ (h : List (Served Request Reply)). IfSome served
+          (IsOwnRight definition key h me.0))
           inside.history_is due.served_right)
 
       kept : IsOneHistory definition key record {

@@ -110,7 +110,8 @@ module _ {Object State Request Reply : Type 0}
               ∙ ap (λ (q : State). definition.after q served.request) found_state;
           served_right = record {
             right = right;
-            own = ap (λ (view : View Object Request Reply). has_number view.account.shares served.by)
+            own = ap (λ (view : View Object Request Reply).
+                has_number view.account.shares served.by)
                 known ∙ own;
           };
         }

@@ -60,7 +60,8 @@ module _ {Object State Request Reply : Type 0}
       IsPast first.account.seen (longer_of first.account.seen second.account.seen) ×
       IsPast second.account.seen (longer_of first.account.seen second.account.seen)
   pasts first second after slots true is has =
-      let less : length first.account.seen < length second.account.seen = grind (arith, nat_tests) in
+      let less : length first.account.seen < length second.account.seen = grind
+      (arith, nat_tests) in
       let short : shorter_of first.account.seen second.account.seen ≡ first.account.seen =
       rw is refl in
       let long : longer_of first.account.seen second.account.seen ≡ second.account.seen =
@@ -69,7 +70,8 @@ module _ {Object State Request Reply : Type 0}
         rw long (past_refl second.account.seen),
       )
   pasts first second after slots false is has =
-      let least : length second.account.seen ≤ length first.account.seen = grind (arith, nat_tests) in
+      let least : length second.account.seen ≤ length first.account.seen = grind
+      (arith, nat_tests) in
       let short : shorter_of first.account.seen second.account.seen ≡ second.account.seen =
       rw is refl in
       let long : longer_of first.account.seen second.account.seen ≡ first.account.seen =

@@ -130,7 +130,8 @@ module _ {Object State Request Reply : Type 0}
     stays (Some child) is same = is
 
     given_key : (o : Option (LockSeat Object Request Reply)) → Stays o → after.0.key ≡ Some key
-    given_key None stay = ap (λ (v : View Object Request Reply). v.key) (stay ∙ taken.view_is) ∙ keyed
+    given_key None stay = ap (λ (v : View Object Request Reply). v.key) (stay ∙ taken.view_is)
+        ∙ keyed
     given_key (Some child) stay =
         ap (λ (v : View Object Request Reply). v.key)
         (stay.parent ∙ ap parent_view taken.view_is) ∙ keyed

@@ -14,6 +14,16 @@ use std::sync::Wait;
 /// How often a thread looks at a taken word again before it sleeps.
 const LOOKS: u64 = 20;
 
+/// How long a thread pauses before each look.
+/// A look takes the word's cache line from the thread that has the lock, so looks are few.
+const PAUSES: u64 = 64;
+
+fn pause() {
+    for _ in 0..PAUSES {
+        spin_loop();
+    }
+}
+
 impl<O: Object> Locked<O> {
     /// Takes the lock, and waits where it is taken.
     pub(crate) fn take<R: Wait>(&self, rt: &R, stepper: &mut Stepper<O>)
@@ -45,11 +55,21 @@ impl<O: Object> Locked<O> {
         ensures same { stepper.new.me ≡ stepper.old.me }
     {
         for _ in 0..LOOKS {
+            pause();
             if self.watch(stepper) {
                 return false;
             }
-            spin_loop();
         }
+        self.sleep(rt, stepper)
+    }
+
+    /// Sleeps until a release, where the lock is still taken. Says whether it slept.
+    // A release before the mark woke nobody. The look behind the mark finds that one.
+    pub(crate) fn sleep<R: Wait>(&self, rt: &R, stepper: &mut Stepper<O>) -> bool
+        requires { IsStepperOf self.now stepper.old }
+        ensures stepper { IsSameStepper stepper.old stepper.new }
+        ensures same { stepper.new.me ≡ stepper.old.me }
+    {
         let mark = self.waiters.announce();
         if self.watch(stepper) {
             return false;
@@ -66,6 +86,6 @@ impl<O: Object> Locked<O> {
         ensures released { HasReleased M.served stepper.old.me stepper.new.me }
     {
         self.release::<M>(stepper);
-        self.waiters.wake();
+        self.waiters.wake(stepper);
     }
 }

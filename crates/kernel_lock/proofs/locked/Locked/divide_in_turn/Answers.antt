@@ -51,5 +51,6 @@ returns g c =
       child = gives_child d lock _ _ _ key stage none taken next.object _ released o stay;
       child_history = gives_history d lock _ _ _ key stage none taken next.object _ released o stay;
       given = gives_seat d lock _ _ _ key stage none taken next.object _ released o stay;
-      refused = gives_none d lock _ _ _ key stage none taken next.object _ released o stay next.full;
+      refused = gives_none d lock _ _ _ key stage none taken next.object _ released o stay
+          next.full;
     }

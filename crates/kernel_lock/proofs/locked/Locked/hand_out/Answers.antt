@@ -48,5 +48,6 @@ returns g c =
       others = invariant.seats;
       next = invariant.next;
       history = first_knows g.O.Object.definition c.args.self c.sit.new.self _ done.1 (omega arith);
-      histories = next_know g.O.Object.definition c.args.self 1 _ c.loop-number.others.items invariant.next (omega arith);
+      histories = next_know g.O.Object.definition c.args.self 1 _ c.loop-number.others.items
+          invariant.next (omega arith);
     }

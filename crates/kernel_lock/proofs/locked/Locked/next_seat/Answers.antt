@@ -14,5 +14,6 @@ returns-clause-object g c =
     let taken = c.take_out-object in
     let divided = c.divide-child in
     divides _ divided.new.stepper.me _ taken.result _ c.requires.inside taken.ensures.value
-    (ap (λ me. me.0) divided.ensures.divided.parent_is ∙ ap (λ me. parent_view me.0) taken.ensures.seat)
+    (ap (λ me. me.0) divided.ensures.divided.parent_is ∙ ap (λ me.
+    parent_view me.0) taken.ensures.seat)
     c.put_back-2.ensures.seat refl refl

@@ -4,7 +4,8 @@ use Rattle.kernel_lock.proofs.locked.Locked.open.Goals as goal
 
 pub new-requires : goal.new-requires
 new-requires g c =
-    opened_keeps g.O.Object.definition _ _ _ (rw c.in-Ok.ensures.items at c.push_reserved.ensures.items)
+    opened_keeps g.O.Object.definition _ _ _
+    (rw c.in-Ok.ensures.items at c.push_reserved.ensures.items)
     (sym c.of.ensures) refl c.requires
 
 pub object_in-requires : goal.object_in-requires

@@ -3,4 +3,5 @@ use Rattle.kernel_lock.specs.Steppers.{IsSameStepper}
 use Rattle.kernel_lock.proofs.locked.Locked.take.Given as goal
 
 abbrev pub invariant-loop : goal.invariant-loop
-invariant-loop g l = IsSameStepper l.initial.stepper l.stepper × (l.stepper.me ≡ l.initial.stepper.me)
+invariant-loop g l = IsSameStepper l.initial.stepper l.stepper × (l.stepper.me
+    ≡ l.initial.stepper.me)
