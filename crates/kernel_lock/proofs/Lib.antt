@@ -11,3 +11,4 @@ pub mod ServeLemmas
 pub mod SettleKeeps
 pub mod SplitLemmas
 pub mod WatchKeeps
+pub mod WorkedLocks
