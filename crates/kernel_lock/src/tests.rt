@@ -5,7 +5,7 @@ ghost use Rattle.std.specs.Prelude.{◌<◌, IfOk};
 ghost use denote.Param.Send.{IsSync};
 ghost use Rattle.kernel_lock.specs.Seats.{IsSeatOf};
 
-use crate::{LockSeat, Locked, Opened};
+use crate::{LockSeat, Locked, Opened, OpenedWhole};
 use std::alloc::{AllocFailed, Global};
 use std::process::Abort;
 use std::sync::{Arc, Wait};
@@ -417,9 +417,9 @@ fn a_sleeper_is_woken_while_three_contend(rt: HostRuntime) -> Result<(), Fail> {
 fn a_release_before_the_mark_is_seen(rt: HostRuntime) -> Result<(), Fail> {
     let Opened { lock, mut seat } = open(&rt, rt.alloc(), 0, 1)?;
     lock.apply(&rt, &mut seat, 1);
-    let mut place = seat.stand();
-    assert!(rt; !lock.sleep(&rt, &mut place), "the lock is free");
-    seat.sit(place);
+    let mut stepper = seat.stand();
+    assert!(rt; !lock.sleep(&rt, &mut stepper), "the lock is free");
+    seat.sit(stepper);
     assert_eq!(rt; lock.close(&rt, seat).sum, 1);
     Ok(())
 }
@@ -463,5 +463,33 @@ fn a_call_that_names_a_seat_moves_a_block(rt: HostRuntime) -> Result<(), Fail> {
     let found = lock.apply(&rt, &mut seat, put);
     assert_eq!(rt; found.as_slice(), b"first".as_slice());
     assert!(rt; lock.close(&rt, seat).block.is_empty());
+    Ok(())
+}
+
+#[test]
+fn a_lock_gives_all_its_seats_at_once(rt: HostRuntime) -> Result<(), Fail> {
+    let whole = match Locked::new_whole(rt.alloc(), Counter { sum: 5 }, 3) {
+        Ok(whole) => whole,
+        Err(refused) => {
+            let AllocFailed { value: counter } = refused;
+            assert_eq!(rt; counter.sum, 5);
+            let Ok(whole) = Locked::new_whole(rt.alloc(), counter, 3) else {
+                panic!(rt; "no memory where no allocation fails")
+            };
+            whole
+        }
+    };
+    let OpenedWhole {
+        lock,
+        mut seat,
+        others,
+    } = whole;
+    assert_eq!(rt; (seat.number(), others.len()), (0, 2));
+    for (i, other) in others.iter().enumerate() {
+        assert_eq!(rt; other.number(), i as u64 + 1);
+    }
+    assert!(rt; matches!(lock.split(&rt, &mut seat), Err(Fault::NoProc)));
+    assert_eq!(rt; lock.apply(&rt, &mut seat, 2), 7);
+    assert_eq!(rt; lock.close(&rt, seat).sum, 7);
     Ok(())
 }

@@ -2,10 +2,10 @@
 //! The mark is no word of the table and no clause speaks of it: it keeps those who wait from
 //! burning the processor, and those who release from calling the system where nobody sleeps.
 ghost use Rattle.std.specs.Prelude.{◌≡◌};
-ghost use Rattle.kernel_lock.specs.declared.view.Stage.TheVariants.{Free};
+ghost use Rattle.kernel_lock.specs.declared.view.Stage.TheVariants.{Outside};
 
 use crate::object::Object;
-use crate::rule::Place;
+use crate::rule::Stepper;
 use std::sync::Wait;
 use std::sync::atomic::AtomicU64;
 use std::sync::atomic::Ordering::SeqCst;
@@ -42,8 +42,8 @@ impl Waiters {
     /// Who calls it has given the lock back: a thread that is woken before may find it taken
     /// and sleep again, and nobody would wake it then.
     // The one that is woken announces itself again with the lock, and so wakes the next.
-    pub(crate) fn wake<O: Object>(&self, _free: &Place<O>)
-        requires { _free.now.me.0.stage ≡ Free }
+    pub(crate) fn wake<O: Object>(&self, _outside: &Stepper<O>)
+        requires { _outside.now.me.0.stage ≡ Outside }
     {
         let mark = self.mark.load(SeqCst);
         if mark & 1 == 1 {

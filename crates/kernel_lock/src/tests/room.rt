@@ -55,7 +55,8 @@ impl Door {
     }
 }
 
-/// A call names how many threads are to sleep before the room, and answers how many calls were made.
+/// A call names how many threads are to sleep before the room,
+/// and answers how many calls were made.
 #[derive(Drop)]
 pub struct Room {
     pub calls: u64,
@@ -63,15 +64,14 @@ pub struct Room {
 }
 
 impl Object for Room {
-    type Call = u64;
+    type Request = u64;
 
     type Reply = u64;
 
     ghost State = { ℕ };
 
-    ghost state = { λ room. room.calls };
-
     ghost definition = { record {
+      state = λ room. room.calls;
       answer = λ calls others. (calls + 1) % 2 ^ 64;
       after = λ calls others. (calls + 1) % 2 ^ 64;
       named = λ others. None;
