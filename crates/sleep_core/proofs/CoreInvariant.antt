@@ -75,7 +75,7 @@ Fits s history pid (phase.Asleep rendez level) =
     Sleeps history pid rendez.0 (HasFallen history pid rendez.0 level)
 Fits s history pid (phase.Leaving rendez) =
     Leaves s history pid (IsNear rendez.0 (token history pid))
-Fits s history pid phase.Awaiting = Unit {0}
+Fits s history pid phase.Awaiting = IsAway (token history pid)
 Fits s history pid phase.Woken = (token history pid ≡ InFlags) × IsCaused history pid
 Fits s history pid phase.Out = Leaves s history pid (token history pid ≡ Nowhere)
 Fits s history pid (phase.Owing rendez level) = Raises s history pid rendez.0 level

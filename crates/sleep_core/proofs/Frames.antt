@@ -130,7 +130,8 @@ fits_kept before after h later pid frame (phase.Leaving rendez) fit =
       place = subst (IsNear rendez.0) (sym frame.same_token) fit.place;
       may_leave = may_leave_kept before after h later pid frame fit.may_leave;
     }
-fits_kept before after h later pid frame phase.Awaiting fit = tt
+fits_kept before after h later pid frame phase.Awaiting fit =
+    subst IsAway (sym frame.same_token) fit
 fits_kept before after h later pid frame phase.Woken fit =
     (frame.same_token ∙ fit.0, frame.caused fit.1)
 fits_kept before after h later pid frame phase.Out fit =
@@ -189,7 +190,7 @@ fits_moved before after h later pid somewhere unmarked away caused noted (phase.
     by_reason : MayLeave before h pid → MayLeave after later pid
     by_reason (inl cause) = inl (caused cause)
     by_reason (inr notes) = inr (noted notes)
-fits_moved before after h later pid somewhere unmarked away caused noted phase.Awaiting fit = tt
+fits_moved before after h later pid somewhere unmarked away caused noted phase.Awaiting fit = away
 fits_moved before after h later pid somewhere unmarked away caused noted phase.Woken fit =
     absurd (unmarked fit.0)
 fits_moved before after h later pid somewhere unmarked away caused noted phase.Out fit =

@@ -3,9 +3,11 @@ pub mod Soundness
 pub mod ClearLemmas
 pub mod RunSteps
 pub mod LocalLemmas
+pub mod TableRows
 pub mod OwnEvents
 pub mod CoreInvariant
 pub mod Moves
+pub mod TokenLemmas
 pub mod Frames
 pub mod SleeperKeeps
 pub mod LeaverKeeps
@@ -14,5 +16,8 @@ pub mod NotesKeep
 pub mod TableMoves
 pub mod SizeLemmas
 pub mod NoLostWakeup
+pub mod PlacesKept
+pub mod WhereaboutsLemmas
+pub mod KeptHistory
 pub mod OwnWakeups
 pub mod OversleepLemmas

@@ -8,7 +8,7 @@ use Rattle.sleep_core.specs.declared.answer.Answer.TheVariants as answer
 use Rattle.sleep_core.specs.declared.phase.Phase.{Phase}
 use Rattle.sleep_core.specs.declared.phase.Phase.TheVariants as phase
 use Rattle.sleep_core.specs.State.{State, phase_of, no_flags}
-use Rattle.sleep_core.specs.Table.{Cell, Word, Call, pid_of, cell_of, stored, phase_after, returned_by, number_in, flags_in}
+use Rattle.sleep_core.specs.Table.{Cell, Word, Wakeup, pid_of, cell_of, stored, phase_after, returned_by, number_in, flags_in}
 use Rattle.sleep_core.specs.Table.Cell.{PostedOf, LevelOf, FlagsOf, NoCell}
 use Rattle.sleep_core.specs.Table.Word.{Number, Flags}
 use Rattle.sleep_core.specs.Step.{with_phase, with_returned, with_word, word_at, is_refusal, answer_to, changed_by, world_told, world_after}
@@ -36,14 +36,14 @@ word_at-with_word s NoCell (Some word) cell differ = refl
 word_at-with_word s changed None cell differ = refl
 
 -- a phase and a returned level are no words
-word_at-with_phase : (s : State) (pid : ℕ) (stage : Phase) (cell : Cell)
+pub word_at-with_phase : (s : State) (pid : ℕ) (stage : Phase) (cell : Cell)
     → word_at (with_phase s pid stage) cell ≡ word_at s cell
 word_at-with_phase s pid stage (PostedOf r) = refl
 word_at-with_phase s pid stage (LevelOf r) = refl
 word_at-with_phase s pid stage (FlagsOf p) = refl
 word_at-with_phase s pid stage NoCell = refl
 
-word_at-with_returned : (s : State) (wakeup : Option Call) (cell : Cell)
+pub word_at-with_returned : (s : State) (wakeup : Option Wakeup) (cell : Cell)
     → word_at (with_returned s wakeup) cell ≡ word_at s cell
 word_at-with_returned s None cell = refl
 word_at-with_returned s (Some wakeup) (PostedOf r) = refl
@@ -88,7 +88,7 @@ phases-with_word s (FlagsOf p) (Some word) = refl
 phases-with_word s NoCell (Some word) = refl
 phases-with_word s cell None = refl
 
-phases-with_returned : (s : State) (wakeup : Option Call)
+phases-with_returned : (s : State) (wakeup : Option Wakeup)
     → (with_returned s wakeup).phases ≡ s.phases
 phases-with_returned s None = refl
 phases-with_returned s (Some wakeup) = refl

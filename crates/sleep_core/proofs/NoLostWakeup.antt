@@ -15,9 +15,9 @@ use Rattle.sleep_core.specs.Table.{pid_of}
 use Rattle.sleep_core.specs.Step.{world_after}
 use Rattle.sleep_core.specs.Runs.{Entry, IsMadeBy, IsRun, world_of, entry_of, run_of, world_after_all}
 use Rattle.sleep_core.specs.History.{Deed, deed_of, history_of}
-use Rattle.sleep_core.specs.Promises.{IsLost, HasFallen, NoMarkIsStray, AreNotesRight, EachSleepIsCaused}
+use Rattle.sleep_core.specs.Promises.{LosesWakeup, HasFallen, NoMarkIsStray, AreNotesRight, EachSleepIsCaused}
 use Rattle.sleep_core.specs.Broken.{takes_too_early, leaves_before_its_mark, drops_a_note, leaves_for_no_cause}
-use Rattle.sleep_core.specs.Oversleep.{IsLeftAsleep}
+use Rattle.sleep_core.specs.Oversleep.{Oversleeps}
 use Rattle.sleep_core.specs.Laws.{IsKept, NoLostWakeup, NoLostWakeupInEvents, EventsMakeRuns, ReturnedWakeupReleases, SleepsEndForACause, RunsAreSound}
 use Rattle.sleep_core.proofs.SizeLemmas.{size_of_run}
 use Rattle.sleep_core.proofs.CoreInvariant.{Fits, Core}
@@ -90,7 +90,7 @@ core_kept s h (gives_up {pid = pid} {rendez = rendez} {level = level} in_range a
 core_kept s h (withdraws {pid = pid} {rendez = rendez} in_range at mine) core =
     withdraws_keeps s h pid rendez in_range at mine core
 core_kept s h (awaits {pid = pid} {rendez = rendez} in_range at other) core =
-    awaits_keeps s h pid in_range core
+    awaits_keeps s h pid rendez in_range at other core
 core_kept s h (leaves {pid = pid} {stage = stage} in_range at over) core =
     leaves_keeps s h pid stage in_range at over core
 core_kept s h (raises {pid = pid} {rendez = rendez} {level = level} in_range idle there) core =
@@ -116,7 +116,7 @@ core_of_run procs rendez (entry ∷ past) run =
     (table_moves (world_of procs rendez past) entry.event) (core_of_run procs rendez past run.0))
 
 -- nobody is left asleep
-fallen_at : (s : State) (h : List Deed) (pid : ℕ) (rendez : RendezId) (level : ℕ) → Core s h
+pub fallen_at : (s : State) (h : List Deed) (pid : ℕ) (rendez : RendezId) (level : ℕ) → Core s h
     → phase_of s pid ≡ phase.Asleep rendez level → posted_of s rendez.0 ≡ pid + 1
     → HasFallen h pid rendez.0 level
 fallen_at s h pid rendez level core at posted = fit.stays (core.posted rendez.0 pid posted)
@@ -124,12 +124,12 @@ fallen_at s h pid rendez level core at posted = fit.stays (core.posted rendez.0 
     fit : Fits s h pid (phase.Asleep rendez level)
     fit = subst (Fits s h pid) at (core.fits pid)
 
-none_left_asleep_in : (s : State) (h : List Deed) (pid : ℕ) (stage : Phase) → Core s h
-    → phase_of s pid ≡ stage → IsLeftAsleep s pid stage → ⊥
-none_left_asleep_in s h pid (phase.Asleep rendez level) core at left =
+nobody_oversleeps_in : (s : State) (h : List Deed) (pid : ℕ) (stage : Phase) → Core s h
+    → phase_of s pid ≡ stage → Oversleeps s pid stage → ⊥
+nobody_oversleeps_in s h pid (phase.Asleep rendez level) core at left =
     let low = core.fallen pid rendez.0 level (fallen_at s h pid rendez level core at left.0) in
     omega (arith, left.1)
-none_left_asleep_in s h pid stage core at left = absurd left
+nobody_oversleeps_in s h pid stage core at left = absurd left
 
 kept_by_core : (s : State) (h : List Deed) → Core s h → IsKept h s
 kept_by_core s h core =
@@ -137,14 +137,14 @@ kept_by_core s h core =
       none_lost = λ lost. not_lost lost;
       none_stray = core.marks_due;
       notes_right = core.notes_right;
-      none_left_asleep = λ lost. none_left_asleep_in s h lost.0 (phase_of s lost.0) core refl
+      nobody_oversleeps = λ lost. nobody_oversleeps_in s h lost.0 (phase_of s lost.0) core refl
           lost.2;
     }
   where
-    not_lost : IsLost h → ⊥
+    not_lost : LosesWakeup h → ⊥
     not_lost lost =
-        let seen = core.returned lost.rendez lost.above lost.returned in
-        let bound = core.fallen lost.pid lost.rendez lost.level lost.fell in
+        let seen = core.returned lost.rendez lost.level lost.returned in
+        let bound = core.fallen lost.pid lost.rendez lost.threshold lost.fell in
         let above = lost.is_above in
         omega arith
 
@@ -214,13 +214,13 @@ runs_are_sound procs rendez past run =
     }
 
 -- the wakeup that a worse machine loses
-pub too_early_loses : IsLost takes_too_early
+pub too_early_loses : LosesWakeup takes_too_early
 too_early_loses =
     record {
       pid = 0;
       rendez = 0;
-      level = 0;
-      above = 1;
+      threshold = 0;
+      level = 1;
       fell = inl (refl, inl (refl, refl, refl));
       returned = inl refl;
       is_above = omega arith;

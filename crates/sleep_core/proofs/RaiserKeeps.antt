@@ -7,7 +7,7 @@ use Rattle.sync_base.specs.declared.ids.RendezId.{RendezId}
 use Rattle.sleep_core.specs.declared.phase.Phase.TheVariants as phase
 use Rattle.sleep_core.specs.declared.phase.ProcFlags.{ProcFlags}
 use Rattle.sleep_core.specs.State.{State, IsPhaseIn, phase_of, flags_of, posted_of, level_of, returned_of, no_flags}
-use Rattle.sleep_core.specs.Table.{Call, has_notes}
+use Rattle.sleep_core.specs.Table.{Wakeup, has_notes}
 use Rattle.sleep_core.specs.Step.{with_phase, with_flags, with_posted, with_level, with_returned}
 use Rattle.sleep_core.specs.History.{Deed, begun_wakeup, HasReturned}
 use Rattle.sleep_core.specs.History.Deed.{Began, Passed, Fell, Roused, Withdrew, Left, Raised, Missed, Took, Marked, Noted, Drained}
@@ -124,7 +124,7 @@ raises_keeps s h pid rendez level in_range idle has_level core =
         }
 
 -- a returned level never falls
-pub returned_grows : (s : State) (call : Call) (r : ℕ)
+pub returned_grows : (s : State) (call : Wakeup) (r : ℕ)
     → returned_of s r ≤ returned_of (with_returned s (Some call)) r
 returned_grows s call r =
     by_place
@@ -140,7 +140,7 @@ returned_grows s call r =
     by_place (inr there) = omega arith
 
 -- a bound on the returned level of a Rendez, that the call's level keeps where it is of that Rendez
-pub returned_at_most : (s : State) (call : Call) (r bound : ℕ) → returned_of s r ≤ bound
+pub returned_at_most : (s : State) (call : Wakeup) (r bound : ℕ) → returned_of s r ≤ bound
     → (r ≡ call.rendez → call.level ≤ bound) → returned_of (with_returned s (Some call)) r ≤ bound
 returned_at_most s call r bound old own =
     by_place
@@ -156,15 +156,15 @@ returned_at_most s call r bound old own =
     by_place (inr there) = omega arith
 
 -- the wakeup that returns is counted
-pub returned_counts : (s : State) (h : List Deed) (pid : ℕ) (call : Call)
+pub returned_counts : (s : State) (h : List Deed) (pid : ℕ) (call : Wakeup)
     → call.rendez < length s.returned → begun_wakeup pid h ≡ Some call → (rendez level : ℕ)
     → begun_wakeup pid h ≡ Some (record { rendez = rendez; level = level })
     → level ≤ returned_of (with_returned s (Some call)) rendez
 returned_counts s h pid call has_returned begun rendez level shown =
     let same : call ≡ record { rendez = rendez; level = level } = same_Some call
     (record { rendez = rendez; level = level }) (sym begun ∙ shown) in
-    let same_rendez : call.rendez ≡ rendez = ap (λ (c : Call). c.rendez) same in
-    let same_level : call.level ≡ level = ap (λ (c : Call). c.level) same in
+    let same_rendez : call.rendez ≡ rendez = ap (λ (c : Wakeup). c.rendez) same in
+    let same_level : call.level ≡ level = ap (λ (c : Wakeup). c.level) same in
     let counted : returned_of (with_returned s (Some call)) call.rendez
     ≡ max (returned_of s call.rendez) call.level = get_or-set_same s.returned call.rendez
     (max (returned_of s call.rendez) call.level) 0 has_returned in
@@ -197,7 +197,7 @@ misses_keeps s h pid rendez level in_range at free core =
       caused = core.caused;
     }
   where
-    call : Call
+    call : Wakeup
     call = record { rendez = rendez.0; level = level }
 
     idle : State
@@ -406,7 +406,7 @@ marks_keeps s h pid sleeper rendez level in_range at core =
       caused = core.caused;
     }
   where
-    call : Call
+    call : Wakeup
     call = record { rendez = rendez.0; level = level }
 
     mark : ProcFlags

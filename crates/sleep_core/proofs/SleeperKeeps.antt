@@ -12,8 +12,9 @@ use Rattle.sleep_core.specs.History.Deed.{Began, Passed, Fell, Roused}
 use Rattle.sleep_core.specs.Promises.{IsStillIn, HasFallen}
 use Rattle.sleep_core.proofs.ListLemmas.{get_or-set_cases}
 use Rattle.sleep_core.proofs.Soundness.{IsSound-with_phase, IsSound-with_posted}
-use Rattle.sleep_core.proofs.CoreInvariant.{token, IsNear, Fits, IsAtLevel, IsShown, Core}
+use Rattle.sleep_core.proofs.CoreInvariant.{Token, token, IsAway, IsNear, Fits, IsAtLevel, IsShown, Core}
 use Rattle.sleep_core.proofs.CoreInvariant.Token.{Nowhere, InRendez, WithRaiser, InFlags}
+use Rattle.sleep_core.proofs.TokenLemmas.{posted_by_token}
 use Rattle.sleep_core.proofs.Frames.{if_same, if_other, apart, level_kept, fits_at, fits_each, Frame, fits_kept}
 
 -- what a phase names is there
@@ -354,7 +355,25 @@ gives_up_keeps s h pid rendez level in_range at noted core =
     fit : Fits s h pid (phase.Asleep rendez level)
     fit = fits_at s h pid (phase.Asleep rendez level) core at
 
-pub awaits_keeps : (s : State) (h : List Deed) (pid : ℕ) → pid < length s.phases → Core s h
-    → Core (with_phase s pid phase.Awaiting) h
-awaits_keeps s h pid in_range core =
-    quietly_keeps s h pid phase.Awaiting in_range tt tt (λ v. tt) core
+-- who is in the Rendez is posted there, so who is near it and is not posted is away
+away_unless_posted : (rendez : ℕ) (place : Token) → IsNear rendez place
+    → (place ≡ InRendez rendez → ⊥) → IsAway place
+away_unless_posted rendez Nowhere near not_there = absurd near
+away_unless_posted rendez (InRendez other) near not_there = absurd (not_there (ap InRendez near))
+away_unless_posted rendez (WithRaiser raiser) near not_there = tt
+away_unless_posted rendez InFlags near not_there = tt
+
+pub awaits_keeps : (s : State) (h : List Deed) (pid : ℕ) (rendez : RendezId)
+    → pid < length s.phases → phase_of s pid ≡ phase.Leaving rendez
+    → posted_of s rendez.0 ≢ pid + 1 → Core s h → Core (with_phase s pid phase.Awaiting) h
+awaits_keeps s h pid rendez in_range at other core =
+    quietly_keeps s h pid phase.Awaiting in_range tt away (λ v. tt) core
+  where
+    fit : Fits s h pid (phase.Leaving rendez)
+    fit = fits_at s h pid (phase.Leaving rendez) core at
+
+    not_there : token h pid ≡ InRendez rendez.0 → ⊥
+    not_there there = other (posted_by_token s h pid rendez.0 core there)
+
+    away : IsAway (token h pid)
+    away = away_unless_posted rendez.0 (token h pid) fit.place not_there

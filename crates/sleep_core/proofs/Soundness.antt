@@ -5,7 +5,7 @@ use Rattle.sleep_core.specs.declared.phase.Phase.{Phase}
 use Rattle.sleep_core.specs.declared.phase.Phase.TheVariants as phase
 use Rattle.sleep_core.specs.declared.phase.ProcFlags.{ProcFlags}
 use Rattle.sleep_core.specs.State.{State, IsSound, IsPhaseIn, phase_of, posted_of, returned_of}
-use Rattle.sleep_core.specs.Table.{Call}
+use Rattle.sleep_core.specs.Table.{Wakeup}
 use Rattle.sleep_core.specs.Step.{with_phase, with_flags, with_posted, with_level, with_returned}
 use Rattle.sleep_core.proofs.ListLemmas.{get_or-set_cases}
 
@@ -81,7 +81,7 @@ IsSound-with_level s rendez level sound =
       posted = sound.posted;
     }
 
-pub IsSound-with_returned : (s : State) (call : Call) → IsSound s
+pub IsSound-with_returned : (s : State) (call : Wakeup) → IsSound s
     → IsSound (with_returned s (Some call))
 IsSound-with_returned s call sound =
     record {

@@ -4,6 +4,7 @@ use Rattle.std.proofs.lemmas.Bool.Decides.{Decides-eqb, Decides-ltb}
 use Rattle.std.proofs.lemmas.List.{set-get_or}
 use Rattle.sync_base.specs.declared.ids.Pid.{Pid}
 use Rattle.sync_base.specs.declared.ids.RendezId.{RendezId}
+use Rattle.sync_base.specs.declared.limits.TheConstants.{TOP_LEVEL}
 use Rattle.sync_base.specs.declared.note.NoteSet.{NoteSet}
 use Rattle.sync_base.specs.NoteSet.{joined}
 use Rattle.sleep_core.specs.declared.event.Event.{Event}
@@ -13,7 +14,7 @@ use Rattle.sleep_core.specs.declared.answer.Answer.TheVariants as answer
 use Rattle.sleep_core.specs.declared.phase.Phase.{Phase}
 use Rattle.sleep_core.specs.declared.phase.Phase.TheVariants as phase
 use Rattle.sleep_core.specs.State.{State, phase_of, flags_of, posted_of, level_of, no_flags}
-use Rattle.sleep_core.specs.Table.{Call, pid_of, phase_after, returned_by, has_notes, top_level}
+use Rattle.sleep_core.specs.Table.{Wakeup, pid_of, phase_after, returned_by, has_notes}
 use Rattle.sleep_core.specs.Table.Cell.{PostedOf}
 use Rattle.sleep_core.specs.Table.Word.{Number}
 use Rattle.sleep_core.specs.Step.{with_phase, with_flags, with_posted, with_returned, with_word, is_refusal, answer_in, answer_to, world_told, world_after}
@@ -93,7 +94,7 @@ post_moves s pid rendez level in_range phase.Idle at =
     at_word = if posted_of s rendez.0 == 0 then answer.Posted else answer.DoubleSleep
 
     told : Answer
-    told = if level == top_level then answer.BadLevel else at_word
+    told = if level == TOP_LEVEL then answer.BadLevel else at_word
 
     by_word : nat_lt rendez.0 (length s.posted) ≡ true → MoveTold s phase.Idle event at_word
     by_word there =
@@ -105,7 +106,7 @@ post_moves s pid rendez level in_range phase.Idle at =
     by_level : nat_lt rendez.0 (length s.posted) ≡ true → MoveTold s phase.Idle event told
     by_level there =
         choose (λ top. MoveTold s phase.Idle event (if top then answer.BadLevel else at_word))
-        (level == top_level) (λ top. stays) (λ below. by_word there)
+        (level == TOP_LEVEL) (λ top. stays) (λ below. by_word there)
 post_moves s pid rendez level in_range stage at = stays
 
 test_moves : (s : State) (pid : Pid) → pid.0 < length s.phases → (stage : Phase)
@@ -247,7 +248,7 @@ take_moves s pid in_range (phase.Owing rendez level) at =
     stage : Phase
     stage = phase.Owing rendez level
 
-    call : Call
+    call : Wakeup
     call = record { rendez = rendez.0; level = level }
 
     told : Bool → Answer

@@ -9,15 +9,15 @@ use Rattle.sleep_core.specs.declared.event.Event.TheVariants.{Post, Test, Look, 
 use Rattle.sleep_core.specs.declared.event.Event.TheVariants.{Raise, Take, Mark, Note, Drain}
 use Rattle.sleep_core.specs.declared.answer.Answer.{Answer}
 use Rattle.sleep_core.specs.declared.answer.Answer.TheVariants as answer
-use Rattle.sleep_core.specs.Table.{Call}
+use Rattle.sleep_core.specs.Table.{Wakeup}
 use Rattle.sleep_core.specs.Runs.{Entry}
 
 -- After sleep and wakeup in "Process Sleep and Synchronization on a Shared-Memory Multiprocessor"
 -- (1991): a process announces itself, tests its condition and waits; another makes the condition
 -- true, takes whom it finds and readies it. Notes are after notify(2).
 pub data Deed : Type 0 where
-  -- the process began a sleep in the Rendez, until its level is above this one
-  Began : (pid rendez level : ℕ) → Deed
+  -- the process began a sleep in the Rendez, until its level is above this threshold
+  Began : (pid rendez threshold : ℕ) → Deed
   -- its test found the condition true
   Passed : (pid : ℕ) → Deed
   -- its test found the condition false
@@ -43,7 +43,7 @@ pub data Deed : Type 0 where
 
 -- what the event did with this answer
 abbrev pub deed_of : Answer → Event → Option Deed
-deed_of answer.Posted (Post pid rendez level) = Some (Began pid.0 rendez.0 level)
+deed_of answer.Posted (Post pid rendez threshold) = Some (Began pid.0 rendez.0 threshold)
 deed_of answer.Leaving (Test pid) = Some (Passed pid.0)
 deed_of answer.Asleep (Test pid) = Some (Fell pid.0)
 deed_of answer.Woken (Look pid) = Some (Roused pid.0)
@@ -63,7 +63,7 @@ abbrev pub history_of : List Entry → List Deed
 history_of past = filter_map (λ entry. deed_of entry.answer entry.event) past
 
 -- the newest wakeup that the process began
-abbrev pub begun_wakeup : ℕ → List Deed → Option Call
+abbrev pub begun_wakeup : ℕ → List Deed → Option Wakeup
 begun_wakeup pid [] = None
 begun_wakeup pid (Raised raiser rendez level ∷ past) =
     if raiser == pid

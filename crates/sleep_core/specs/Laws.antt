@@ -1,12 +1,14 @@
 -- The laws over every run, and over every list of events.
-use Rattle.std.specs.Prelude.{◌≡◌, ◌+◌, ◌≤◌, ℕ, List, [], length}
+use Rattle.std.specs.Prelude.{◌≡◌, ◌≤◌, ℕ, List, [], length}
 use Rattle.sync_base.specs.declared.ids.RendezId.{RendezId}
 use Rattle.sleep_core.specs.declared.event.Event.{Event}
 use Rattle.sleep_core.specs.declared.phase.Phase.TheVariants as phase
-use Rattle.sleep_core.specs.State.{State, IsSound, opening, phase_of, posted_of, returned_of}
-use Rattle.sleep_core.specs.Runs.{Entry, IsRun, world_of, own, run_of, world_after_all}
+use Rattle.sleep_core.specs.State.{State, IsSound, opening, posted_as}
+use Rattle.sleep_core.specs.State.{phase_of, posted_of, returned_of}
+use Rattle.sleep_core.specs.Runs.{Entry, IsRun, world_of, own, kept, run_of}
+use Rattle.sleep_core.specs.Runs.{world_after_all}
 use Rattle.sleep_core.specs.History.{Deed, history_of, HasReturned}
-use Rattle.sleep_core.specs.Promises.{IsLost, NoMarkIsStray, AreNotesRight, EachSleepIsCaused}
+use Rattle.sleep_core.specs.Promises.{LosesWakeup, NoMarkIsStray, AreNotesRight, EachSleepIsCaused}
 use Rattle.sleep_core.specs.Oversleep.{HasLostWakeup}
 
 -- every list of events makes a run, which ends in the world after them
@@ -33,10 +35,10 @@ RunsAreSound =
 
 -- what is promised of a history and of the world in which it ends
 pub record IsKept (history : List Deed) (state : State) : Type 0 where
-  pub none_lost : ¬ (IsLost history)
+  pub none_lost : ¬ (LosesWakeup history)
   pub none_stray : NoMarkIsStray history
   pub notes_right : AreNotesRight history
-  pub none_left_asleep : ¬ (HasLostWakeup state)
+  pub nobody_oversleeps : ¬ (HasLostWakeup state)
 
 -- of every run, in a world of any size
 abbrev pub NoLostWakeup : Type 0
@@ -53,13 +55,13 @@ NoLostWakeupInEvents =
     IsKept (history_of past) (world_after_all (opening procs rendez) events)
 
 -- The receipt of a wakeup: its level is at most the returned level of its Rendez, and no process
--- that is asleep below it is still posted.
+-- that is asleep with a threshold below it is still posted.
 pub record ReleasesBelow (state : State) (rendez : RendezId) (level : ℕ) : Type 0 where
   pub counted : level ≤ returned_of state rendez.0
-  pub released : (pid own_level : ℕ)
-      → phase_of state pid ≡ phase.Asleep rendez own_level
-      → posted_of state rendez.0 ≡ pid + 1
-      → level ≤ own_level
+  pub released : (pid threshold : ℕ)
+      → phase_of state pid ≡ phase.Asleep rendez threshold
+      → posted_of state rendez.0 ≡ posted_as pid
+      → level ≤ threshold
 
 abbrev pub ReturnedWakeupReleases : Type 0
 ReturnedWakeupReleases =
@@ -76,6 +78,19 @@ ReturnsByOwnEvents =
     → IsRun procs rendez past
     → (pid at level : ℕ)
     → HasReturned (history_of (own pid past)) at level
+    → HasReturned (history_of past) at level
+
+-- what is not kept of a run shows nothing in its history
+abbrev pub HistoryByKeptEvents : Type 0
+HistoryByKeptEvents = (past : List Entry) → history_of (kept past) ≡ history_of past
+
+-- so the receipt stands in those of the raiser's own events that are kept
+abbrev pub ReturnsByKeptEvents : Type 0
+ReturnsByKeptEvents =
+    (procs rendez : ℕ) (past : List Entry)
+    → IsRun procs rendez past
+    → (pid at level : ℕ)
+    → HasReturned (history_of (kept (own pid past))) at level
     → HasReturned (history_of past) at level
 
 -- a sleep that ends without notes ended because its test passed or a look found the mark

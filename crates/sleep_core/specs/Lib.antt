@@ -2,9 +2,11 @@ pub mod State
 pub mod Limits
 pub mod Table
 pub mod Step
+pub mod Rows
 pub mod Runs
 pub mod Oversleep
 pub mod Local
+pub mod Whereabouts
 pub mod History
 pub mod Promises
 pub mod Laws

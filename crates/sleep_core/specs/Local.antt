@@ -49,7 +49,7 @@ KeepsOtherPhases =
 abbrev pub ReturnsElsewhere : State → Event → ℕ → Type 0
 ReturnsElsewhere state event rendez =
     let told = answer_to state event in
-    IfSome (returned_by told event (stage_at state event)) (λ call. call.rendez ≢ rendez)
+    IfSome (returned_by told event (stage_at state event)) (λ wakeup. wakeup.rendez ≢ rendez)
 
 -- a returned level stays, unless a wakeup of that Rendez returns with this very event
 abbrev pub KeepsOtherReturned : Type 0

@@ -11,37 +11,37 @@ use Rattle.sleep_core.specs.History.Deed.{Noted, Drained}
 -- The process began this sleep, and since then it has neither left it nor been taken out of the
 -- Rendez, by itself or by a wakeup.
 abbrev pub IsStillIn : List Deed → ℕ → ℕ → ℕ → Type 0
-IsStillIn [] pid rendez level = ⊥
-IsStillIn (Began by at above ∷ past) pid rendez level =
-    ((by ≡ pid) × (at ≡ rendez) × (above ≡ level)) ⊎ IsStillIn past pid rendez level
-IsStillIn (Withdrew by ∷ past) pid rendez level = (by ≢ pid) × IsStillIn past pid rendez level
-IsStillIn (Took by sleeper ∷ past) pid rendez level =
-    (sleeper ≢ pid) × IsStillIn past pid rendez level
-IsStillIn (Left by notes ∷ past) pid rendez level = (by ≢ pid) × IsStillIn past pid rendez level
-IsStillIn (deed ∷ past) pid rendez level = IsStillIn past pid rendez level
+IsStillIn [] pid rendez threshold = ⊥
+IsStillIn (Began by at above ∷ past) pid rendez threshold =
+    ((by ≡ pid) × (at ≡ rendez) × (above ≡ threshold)) ⊎ IsStillIn past pid rendez threshold
+IsStillIn (Withdrew by ∷ past) pid rendez threshold = (by ≢ pid) × IsStillIn past pid rendez threshold
+IsStillIn (Took by sleeper ∷ past) pid rendez threshold =
+    (sleeper ≢ pid) × IsStillIn past pid rendez threshold
+IsStillIn (Left by notes ∷ past) pid rendez threshold = (by ≢ pid) × IsStillIn past pid rendez threshold
+IsStillIn (deed ∷ past) pid rendez threshold = IsStillIn past pid rendez threshold
 
--- So, and in this sleep its test found the condition false.
+-- So, and in this sleep its test found the condition false: the level was not above its threshold.
 abbrev pub HasFallen : List Deed → ℕ → ℕ → ℕ → Type 0
-HasFallen [] pid rendez level = ⊥
-HasFallen (Fell by ∷ past) pid rendez level =
-    ((by ≡ pid) × IsStillIn past pid rendez level) ⊎ HasFallen past pid rendez level
-HasFallen (Withdrew by ∷ past) pid rendez level = (by ≢ pid) × HasFallen past pid rendez level
-HasFallen (Took by sleeper ∷ past) pid rendez level =
-    (sleeper ≢ pid) × HasFallen past pid rendez level
-HasFallen (Left by notes ∷ past) pid rendez level = (by ≢ pid) × HasFallen past pid rendez level
-HasFallen (deed ∷ past) pid rendez level = HasFallen past pid rendez level
+HasFallen [] pid rendez threshold = ⊥
+HasFallen (Fell by ∷ past) pid rendez threshold =
+    ((by ≡ pid) × IsStillIn past pid rendez threshold) ⊎ HasFallen past pid rendez threshold
+HasFallen (Withdrew by ∷ past) pid rendez threshold = (by ≢ pid) × HasFallen past pid rendez threshold
+HasFallen (Took by sleeper ∷ past) pid rendez threshold =
+    (sleeper ≢ pid) × HasFallen past pid rendez threshold
+HasFallen (Left by notes ∷ past) pid rendez threshold = (by ≢ pid) × HasFallen past pid rendez threshold
+HasFallen (deed ∷ past) pid rendez threshold = HasFallen past pid rendez threshold
 
 -- A wakeup is lost: a process fell asleep and has neither been taken out nor left, though a wakeup
--- of its Rendez with a level above its own has returned. It is the race of which "Process Sleep and
--- Synchronization on a Shared-Memory Multiprocessor" (1991) speaks.
-pub record IsLost (history : List Deed) : Type 0 where
+-- of its Rendez with a level above its threshold has returned. It is the race of which "Process
+-- Sleep and Synchronization on a Shared-Memory Multiprocessor" (1991) speaks.
+pub record LosesWakeup (history : List Deed) : Type 0 where
   pub pid : ℕ
   pub rendez : ℕ
+  pub threshold : ℕ
   pub level : ℕ
-  pub above : ℕ
-  pub fell : HasFallen history pid rendez level
-  pub returned : HasReturned history rendez above
-  pub is_above : level < above
+  pub fell : HasFallen history pid rendez threshold
+  pub returned : HasReturned history rendez level
+  pub is_above : threshold < level
 
 -- the raiser took this process out, and since then it has neither left its sleep nor been marked
 abbrev pub IsHeld : List Deed → ℕ → ℕ → Type 0
@@ -86,7 +86,7 @@ abbrev pub IsCaused : List Deed → ℕ → Type 0
 IsCaused [] pid = ⊥
 IsCaused (Passed by ∷ past) pid = (by ≡ pid) ⊎ IsCaused past pid
 IsCaused (Roused by ∷ past) pid = (by ≡ pid) ⊎ IsCaused past pid
-IsCaused (Began by rendez level ∷ past) pid = (by ≢ pid) × IsCaused past pid
+IsCaused (Began by rendez threshold ∷ past) pid = (by ≢ pid) × IsCaused past pid
 IsCaused (deed ∷ past) pid = IsCaused past pid
 
 -- Own: a sleep that ends without notes has such a cause.

@@ -1,6 +1,6 @@
 -- What the core is at one moment: a phase and a word of flags for each process, and for each Rendez
 -- the word of its sleeper, its level, and the greatest level whose wakeup has returned.
-use Rattle.std.specs.Prelude.{◌≡◌, ◌<◌, ◌≤◌, ⊤, ℕ, false}
+use Rattle.std.specs.Prelude.{◌≡◌, ◌<◌, ◌≤◌, ◌+◌, ◌-◌, ⊤, ℕ, false}
 use Rattle.std.specs.Prelude.{List, length, replicate, slice_index, slice_index_or}
 use Rattle.sync_base.specs.NoteSet.{no_notes}
 use Rattle.sleep_core.specs.declared.phase.Phase.{Phase}
@@ -13,10 +13,22 @@ use Rattle.sleep_core.specs.declared.phase.ProcFlags.{ProcFlags}
 pub record State : Type 0 where
   pub phases : List Phase
   pub flags : List ProcFlags
-  -- 0, or the number of the process that is posted in the Rendez, plus 1
+  -- `nobody`, or `posted_as` the process that is posted in the Rendez
   pub posted : List ℕ
   pub levels : List ℕ
   pub returned : List ℕ
+
+-- the posted word of a Rendez that nobody is in
+abbrev pub nobody : ℕ
+nobody = 0
+
+-- the posted word of a Rendez that this process is in: its number, plus 1
+abbrev pub posted_as : ℕ → ℕ
+posted_as pid = pid + 1
+
+-- the process in a posted word
+abbrev pub sleeper_in : ℕ → ℕ
+sleeper_in word = word - 1
 
 -- no mark and no notes
 abbrev pub no_flags : ProcFlags
@@ -44,7 +56,7 @@ opening procs rendez =
     record {
       phases = replicate procs phase.Idle;
       flags = replicate procs no_flags;
-      posted = replicate rendez 0;
+      posted = replicate rendez nobody;
       levels = replicate rendez 0;
       returned = replicate rendez 0;
     }
@@ -52,8 +64,8 @@ opening procs rendez =
 -- what a phase names is there
 abbrev pub IsPhaseIn : ℕ → ℕ → Phase → Type 0
 IsPhaseIn procs rendez phase.Idle = ⊤
-IsPhaseIn procs rendez (phase.Posted at level) = at.0 < rendez
-IsPhaseIn procs rendez (phase.Asleep at level) = at.0 < rendez
+IsPhaseIn procs rendez (phase.Posted at threshold) = at.0 < rendez
+IsPhaseIn procs rendez (phase.Asleep at threshold) = at.0 < rendez
 IsPhaseIn procs rendez (phase.Leaving at) = at.0 < rendez
 IsPhaseIn procs rendez phase.Awaiting = ⊤
 IsPhaseIn procs rendez phase.Woken = ⊤

@@ -8,7 +8,7 @@ use Rattle.sleep_core.specs.declared.answer.Answer.TheVariants as answer
 use Rattle.sleep_core.specs.declared.phase.Phase.{Phase}
 use Rattle.sleep_core.specs.declared.phase.ProcFlags.{ProcFlags}
 use Rattle.sleep_core.specs.State.{State, phase_of, flags_of, posted_of, level_of, returned_of}
-use Rattle.sleep_core.specs.Table.{Cell, Word, Call, pid_of, number_in, flags_in}
+use Rattle.sleep_core.specs.Table.{Cell, Word, Wakeup, pid_of, number_in, flags_in}
 use Rattle.sleep_core.specs.Table.{cell_of, reply, stored, phase_after, returned_by}
 use Rattle.sleep_core.specs.Table.Cell.{PostedOf, LevelOf, FlagsOf, NoCell}
 use Rattle.sleep_core.specs.Table.Word.{Number, Flags, NoWord}
@@ -26,11 +26,11 @@ abbrev pub with_level : State → ℕ → ℕ → State
 with_level state rendez level = record state { levels = slice_set state.levels rendez level }
 
 -- the wakeup has returned, if there is one
-abbrev pub with_returned : State → Option Call → State
+abbrev pub with_returned : State → Option Wakeup → State
 with_returned state None = state
-with_returned state (Some call) =
-    let greatest = max (returned_of state call.rendez) call.level in
-    record state { returned = slice_set state.returned call.rendez greatest }
+with_returned state (Some wakeup) =
+    let greatest = max (returned_of state wakeup.rendez) wakeup.level in
+    record state { returned = slice_set state.returned wakeup.rendez greatest }
 
 -- whether the word is there
 abbrev pub has_cell : State → Cell → Bool

@@ -8,9 +8,9 @@ use sync_base::{NoteSet, Pid};
 pub enum Answer {
     /// To `Post` and `Check`: the process is in the Rendez.
     Posted,
-    /// To `Test` and `Look`: the level is above the process's own, or notes are pending.
+    /// To `Test` and `Look`: the level is above the process's threshold, or notes are pending.
     Leaving,
-    /// To `Test`: the level is not above the process's own.
+    /// To `Test`: the level is not above the process's threshold.
     Asleep,
     /// To `Look`: the mark is there.
     Woken,
@@ -44,7 +44,7 @@ pub enum Answer {
     Refused,
     /// No Rendez has this number.
     NoRendez,
-    /// No level is above this one.
+    /// No level is above this threshold.
     BadLevel,
     /// Another process is in the Rendez.
     DoubleSleep,

@@ -8,13 +8,13 @@ use sync_base::{NoteSet, Pid, RendezId};
 /// One step of one process. The names are those of the calls of a sleep and of a wakeup.
 #[derive(Clone, Copy, Debug, PartialEq, Eq)]
 pub enum Event {
-    /// The process posts itself in a Rendez, to sleep until its level is above this one.
+    /// The process posts itself in a Rendez, to sleep until its level is above this threshold.
     Post {
         pid: Pid,
         rendez: RendezId,
-        level: u64,
+        threshold: u64,
     },
-    /// It compares the level of the Rendez with its own.
+    /// It compares the level of the Rendez with its threshold.
     Test {
         pid: Pid,
     },

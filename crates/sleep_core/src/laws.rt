@@ -5,10 +5,14 @@ ghost use Rattle.sleep_core.specs.Broken.{drops_a_note, leaves_for_no_cause};
 ghost use Rattle.sleep_core.specs.Laws.{EventsMakeRuns, RunsAreSound};
 ghost use Rattle.sleep_core.specs.Laws.{NoLostWakeup, NoLostWakeupInEvents};
 ghost use Rattle.sleep_core.specs.Laws.{ReturnedWakeupReleases, ReturnsByOwnEvents};
+ghost use Rattle.sleep_core.specs.Laws.{HistoryByKeptEvents, ReturnsByKeptEvents};
+ghost use Rattle.sleep_core.specs.Whereabouts.{SleepersAreInOnePlace, OthersAreInNoPlace};
+ghost use Rattle.sleep_core.specs.Whereabouts.{WordsAgreeInRuns};
 ghost use Rattle.sleep_core.specs.Laws.{SleepsEndForACause};
 ghost use Rattle.sleep_core.specs.Local.{AnswersByOneWord, KeepsOtherWords, KeepsOtherPhases};
 ghost use Rattle.sleep_core.specs.Local.{KeepsOtherReturned, PhaseByOwnEvents, PhaseByKeptEvents};
-ghost use Rattle.sleep_core.specs.Promises.{IsLost, NoMarkIsStray, AreNotesRight};
+ghost use Rattle.sleep_core.specs.Rows.{EventsFollowRows};
+ghost use Rattle.sleep_core.specs.Promises.{LosesWakeup, NoMarkIsStray, AreNotesRight};
 ghost use Rattle.sleep_core.specs.Promises.{EachSleepIsCaused};
 
 /// One event reads one word and one phase, and changes at most these and one returned level.
@@ -19,10 +23,21 @@ pub fn local_step()
     ensures returned { KeepsOtherReturned }
 {}
 
+/// An event that may come is answered by its row of the table, which also says what it leaves in its
+/// word and in which phase its process is then.
+pub fn events_follow_rows()
+    ensures { EventsFollowRows }
+{}
+
 /// After every run the phase of a process is what its own events with their answers give.
 pub fn phase_by_own_events()
     ensures all { PhaseByOwnEvents }
     ensures kept { PhaseByKeptEvents }
+{}
+
+/// What is not kept of a run shows nothing in its history.
+pub fn history_by_kept_events()
+    ensures { HistoryByKeptEvents }
 {}
 
 /// Every list of events, each with its answer, is a run.
@@ -48,6 +63,19 @@ pub fn no_lost_wakeup()
 pub fn returned_wakeup_releases()
     ensures releases { ReturnedWakeupReleases }
     ensures own { ReturnsByOwnEvents }
+    ensures kept { ReturnsByKeptEvents }
+{}
+
+/// A process whose sleep is not over is in just one place: posted in its Rendez, held by the wakeup
+/// that took it, marked, or out by itself. No other process is in any.
+pub fn sleepers_are_in_one_place()
+    ensures sleepers { SleepersAreInOnePlace }
+    ensures others { OthersAreInNoPlace }
+{}
+
+/// The words of a world that a run leaves agree with its phases.
+pub fn words_agree_with_phases()
+    ensures { WordsAgreeInRuns }
 {}
 
 /// A sleep that ends without notes ended because its test found the condition true, or a look found
@@ -59,7 +87,7 @@ pub fn sleep_ends_for_a_cause()
 /// What is promised of every history is more than nothing: a worse machine would break each
 /// promise.
 pub fn promises_can_be_broken()
-    ensures lost { IsLost takes_too_early }
+    ensures lost { LosesWakeup takes_too_early }
     ensures stray { ¬ (NoMarkIsStray leaves_before_its_mark) }
     ensures notes { ¬ (AreNotesRight drops_a_note) }
     ensures cause { ¬ (EachSleepIsCaused leaves_for_no_cause) }

@@ -13,12 +13,12 @@ pub enum Phase {
     /// Posted in the Rendez, and has yet to test its level.
     Posted {
         rendez: RendezId,
-        level: u64,
+        threshold: u64,
     },
-    /// The level was not above this one. Somebody has to wake it, or it waits.
+    /// The level was not above this threshold. Somebody has to wake it, or it waits.
     Asleep {
         rendez: RendezId,
-        level: u64,
+        threshold: u64,
     },
     /// Has no reason to wait any more, and has yet to take itself out of the Rendez.
     Leaving {

@@ -6,11 +6,11 @@ use std::process::Abort;
 use std::test::Fail;
 use sync_base::{Fault, Note, NoteSet, Pid, RendezId};
 
-fn post(pid: u64, rendez: u64, level: u64) -> Event {
+fn post(pid: u64, rendez: u64, threshold: u64) -> Event {
     Event::Post {
         pid: Pid(pid),
         rendez: RendezId(rendez),
-        level,
+        threshold,
     }
 }
 

@@ -11,27 +11,27 @@ use Rattle.sync_base.specs.PlainPipe.{Kept, Shows}
 -- the first write kept is the one that is read next
 pub next_write_kept : (kept : Kept) (s : PipeState) (first : Write) → Shows kept s → 0 < length kept.unread → first ≡ get_or kept.unread 0 first → next_write s ≡ Some first
 next_write_kept kept s first shows some is_first =
-    let left : length kept.unread ≡ length s.accepted - s.read = rw shows.unread (length-drop s.read s.accepted) in
-    let within : s.read < length s.accepted = omega arith in
-    slice_get_read s.accepted _ s.read first refl within
-    (is_first ∙ (ap (λ l. get_or l 0 first) shows.unread ∙ (get_or-drop s.read s.accepted 0 first ∙ ap (λ i. get_or s.accepted i first) (omega arith))))
+    let left : length kept.unread ≡ length s.accepted - s.read_whole = rw shows.unread (length-drop s.read_whole s.accepted) in
+    let within : s.read_whole < length s.accepted = omega arith in
+    slice_get_read s.accepted _ s.read_whole first refl within
+    (is_first ∙ (ap (λ l. get_or l 0 first) shows.unread ∙ (get_or-drop s.read_whole s.accepted 0 first ∙ ap (λ i. get_or s.accepted i first) (omega arith))))
 
 -- the position behind a write that is used up
-pub after_piece_used_up : (s : PipeState) (most : ℕ) (first : Write) → length first.bytes - s.offset ≤ most → after_piece most s first ≡ record s { read = s.read + 1; offset = 0 }
+pub after_piece_used_up : (s : PipeState) (most : ℕ) (first : Write) → length first.bytes - s.offset ≤ most → after_piece most s first ≡ record s { read_whole = s.read_whole + 1; offset = 0 }
 after_piece_used_up s most first used_up = grind (arith, nat_tests)
 
 -- a write that is used up leaves, and the next read begins behind it
 pub shows_used_up : (kept : Kept) (s : PipeState) (most : ℕ) (first : Write) → Shows kept s → 0 < length kept.unread → first ≡ get_or kept.unread 0 first → length first.bytes - kept.offset ≤ most → Shows (record kept { unread = drop 1 kept.unread; offset = 0 }) (after_read most s)
 shows_used_up kept s most first shows some is_first used_up =
     let next = next_write_kept kept s first shows some is_first in
-    let left : length kept.unread ≡ length s.accepted - s.read = rw shows.unread (length-drop s.read s.accepted) in
+    let left : length kept.unread ≡ length s.accepted - s.read_whole = rw shows.unread (length-drop s.read_whole s.accepted) in
     let enough : length first.bytes - s.offset ≤ most = rw (← shows.offset) used_up in
-    let after : after_read most s ≡ record s { read = s.read + 1; offset = 0 } =
+    let after : after_read most s ≡ record s { read_whole = s.read_whole + 1; offset = 0 } =
     ap (λ w. unwrap_or (option_map (after_piece most s) w) s) next ∙ after_piece_used_up s most first enough in
     subst (Shows (record kept { unread = drop 1 kept.unread; offset = 0 })) (sym after)
     (record {
       limit = shows.limit;
-      unread = ap (drop 1) shows.unread ∙ drop-drop 1 s.read s.accepted;
+      unread = ap (drop 1) shows.unread ∙ drop-drop 1 s.read_whole s.accepted;
       offset = refl;
       hung = shows.hung;
       position = omega arith;

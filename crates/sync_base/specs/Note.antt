@@ -4,8 +4,8 @@ use Rattle.sync_base.specs.declared.note.Note.{Note}
 use Rattle.sync_base.specs.declared.note.Note.TheVariants.{Interrupt, Hangup, Alarm, ClosedPipe}
 
 -- After notify(2), which lists the texts that the system posts.
-abbrev pub text_of : Note → List ℕ
-text_of Interrupt = codes "interrupt"
-text_of Hangup = codes "hangup"
-text_of Alarm = codes "alarm"
-text_of ClosedPipe = codes "sys: write on closed pipe"
+abbrev pub note_text : Note → List ℕ
+note_text Interrupt = codes "interrupt"
+note_text Hangup = codes "hangup"
+note_text Alarm = codes "alarm"
+note_text ClosedPipe = codes "sys: write on closed pipe"

@@ -12,17 +12,17 @@ use Rattle.sync_base.specs.Write.{Write}
 pub record PipeState : Type 0 where
   pub limit : ℕ  -- how many writes may stand that no read has begun
   pub accepted : List Write  -- each write that was accepted, the oldest first
-  pub read : ℕ  -- how many of them are read whole
+  pub read_whole : ℕ  -- how many of them are read whole
   pub offset : ℕ  -- how many bytes of the next one are read; above 0 it is begun
   pub hung : Bool  -- whether the direction is hung up
 
 -- a new direction
 abbrev pub opening : ℕ → PipeState
-opening limit = record { limit = limit; accepted = []; read = 0; offset = 0; hung = false }
+opening limit = record { limit = limit; accepted = []; read_whole = 0; offset = 0; hung = false }
 
 -- how many writes a read has begun
 abbrev pub begun_of : PipeState → ℕ
-begun_of s = if nat_lt 0 s.offset then s.read + 1 else s.read
+begun_of s = if nat_lt 0 s.offset then s.read_whole + 1 else s.read_whole
 
 -- how many writes stand that no read has begun
 abbrev pub waiting_of : PipeState → ℕ
@@ -30,7 +30,7 @@ waiting_of s = length s.accepted - begun_of s
 
 -- the write that is read next, if there is one
 abbrev pub next_write : PipeState → Option Write
-next_write s = slice_get s.accepted s.read
+next_write s = slice_get s.accepted s.read_whole
 
 -- Own: the number of the next write, where the first one is first + 1.
 abbrev pub next_number : ℕ → PipeState → ℕ
@@ -82,7 +82,7 @@ read_answer most s =
 abbrev pub after_piece : ℕ → PipeState → Write → PipeState
 after_piece most s write =
     if nat_le (length write.bytes - s.offset) most
-    then record s { read = s.read + 1; offset = 0 }
+    then record s { read_whole = s.read_whole + 1; offset = 0 }
     else record s { offset = s.offset + most }
 
 -- a read of at most so many bytes: nothing but the position changes
@@ -95,7 +95,7 @@ after_hangup s = record s { hung = true }
 
 -- a state that a direction can be in
 pub record IsPipeState (s : PipeState) : Type 0 where
-  pub position : s.read ≤ length s.accepted
+  pub position : s.read_whole ≤ length s.accepted
   pub begun : 0 < s.offset → (write : Write) × (next_write s ≡ Some write) × (s.offset < length write.bytes)
   pub room : waiting_of s ≤ s.limit
 

@@ -14,10 +14,10 @@ pub record Kept : Type 0 where
 -- it keeps all of this state but the writes that are read whole
 pub record Shows (kept : Kept) (s : PipeState) : Type 0 where
   pub limit : kept.limit ≡ s.limit
-  pub unread : kept.unread ≡ drop s.read s.accepted
+  pub unread : kept.unread ≡ drop s.read_whole s.accepted
   pub offset : kept.offset ≡ s.offset
   pub hung : kept.hung ≡ s.hung
-  pub position : s.read ≤ length s.accepted
+  pub position : s.read_whole ≤ length s.accepted
 
 -- the bytes of the first of these writes
 abbrev pub first_bytes : List Write → List ℕ

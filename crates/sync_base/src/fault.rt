@@ -1,6 +1,6 @@
 //! Every fault that a call of the library can answer.
 ghost use Rattle.std.specs.Prelude.{◌≡◌};
-ghost use Rattle.sync_base.specs.Fault.{number_of};
+ghost use Rattle.sync_base.specs.Fault.{fault_number};
 ghost use Rattle.sync_base.specs.declared.fault.Fault.TheVariants.{Memory};
 
 use crate::note::NoteSet;
@@ -63,7 +63,7 @@ pub enum Fault {
 impl Fault {
     /// The fault's number, from 1 to 16.
     pub fn number(&self) -> u64
-        ensures { result ≡ number_of self.now }
+        ensures { result ≡ fault_number self.now }
     {
         match self {
             Fault::Memory => 1,

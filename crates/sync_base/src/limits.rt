@@ -15,5 +15,8 @@ pub const MAX_WRITERS: u64 = 64;
 /// The most bytes of one write.
 pub const ATOMIC_SIZE: usize = 8_192;
 
+/// The level of a hangup. No level is above it, so nobody sleeps with it as a threshold.
+pub const TOP_LEVEL: u64 = u64::MAX;
+
 /// The number of the last write of a queue.
 pub const LAST_WRITE: u64 = 4_611_686_018_427_387_903;

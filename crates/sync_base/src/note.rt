@@ -1,6 +1,6 @@
 //! Notes after notify(2): what a process can be told while it runs or sleeps.
 ghost use Rattle.std.specs.Prelude.{◌≡◌, ◌↔◌, ◌||◌, ◌&&◌, not, false, IsTrue};
-ghost use Rattle.sync_base.specs.Note.{text_of};
+ghost use Rattle.sync_base.specs.Note.{note_text};
 ghost use Rattle.sync_base.specs.NoteSet.{holds, is_same_note, joined, no_notes, only};
 
 /// A kind of note. notify(2) has texts of any kind; these four are the library's own choice.
@@ -19,7 +19,7 @@ pub enum Note {
 impl Note {
     /// The text of the note as notify(2) shows it.
     pub fn text(self) -> &'static str
-        ensures { result.now ≡ text_of self }
+        ensures { result.now ≡ note_text self }
     {
         match self {
             Note::Interrupt => "interrupt",

@@ -1,35 +1,37 @@
 //! Whether a wakeup was lost.
 //! The reader comes from `world`. The law `no_lost_wakeup` in `laws` says that none ever is.
 ghost use Rattle.std.specs.Prelude.{◌≡◌, ◌<◌, ◌↔◌, IsTrue, length};
-ghost use Rattle.sleep_core.specs.Oversleep.{HasLostWakeup, has_lost_wakeup, is_left};
+ghost use Rattle.sleep_core.specs.Oversleep.{HasLostWakeup, has_lost_wakeup, oversleeps};
 ghost use Rattle.sleep_core.specs.State.{phase_of};
 
 use crate::Phase;
 use crate::world::World;
+use crate::world::posted::posted_as;
+use sync_base::Pid;
 
 impl World {
     /// Whether some process is asleep in a Rendez and still posted in it, though a wakeup with a
-    /// level above its own has returned.
+    /// level above its threshold has returned.
     pub fn is_lost(&self) -> bool
         ensures fact { IsTrue result ↔ HasLostWakeup self.now }
         ensures value { result ≡ has_lost_wakeup self.now }
     {
         for pid in 0..self.phases.len() {
-            if self.is_left_asleep(pid) {
+            if self.oversleeps(pid) {
                 return true;
             }
         }
         false
     }
 
-    fn is_left_asleep(&self, pid: usize) -> bool
+    fn oversleeps(&self, pid: usize) -> bool
         requires { pid < length self.now.phases }
-        ensures { result ≡ is_left self.now pid (phase_of self.now pid) }
+        ensures { result ≡ oversleeps self.now pid (phase_of self.now pid) }
     {
         match self.phases[pid] {
-            Phase::Asleep { rendez, level } => {
-                self.posted[rendez.0 as usize] == pid as u64 + 1
-                    && self.returned[rendez.0 as usize] > level
+            Phase::Asleep { rendez, threshold } => {
+                self.posted[rendez.0 as usize] == posted_as(Pid(pid as u64))
+                    && self.returned[rendez.0 as usize] > threshold
             }
             _ => false,
         }

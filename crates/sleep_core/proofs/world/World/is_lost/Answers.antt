@@ -3,9 +3,9 @@ use Rattle.std.proofs.Common.{false, sym, rules}
 use Rattle.sleep_core.proofs.OversleepLemmas.{found_lost, none_found, lost_fact}
 use Rattle.sleep_core.proofs.world.World.is_lost.Goals as goal
 
-pub returns-then-is_left_asleep-clause-value : goal.returns-then-is_left_asleep-clause-value
-returns-then-is_left_asleep-clause-value c =
-    found_lost c.args.self.now c.loop-pid.pid (search rules) (sym c.if-is_left_asleep.ensures)
+pub returns-then-oversleeps-clause-value : goal.returns-then-oversleeps-clause-value
+returns-then-oversleeps-clause-value c =
+    found_lost c.args.self.now c.loop-pid.pid (search rules) (sym c.if-oversleeps.ensures)
 
 pub returns-clause-fact : goal.returns-clause-fact
 returns-clause-fact c =

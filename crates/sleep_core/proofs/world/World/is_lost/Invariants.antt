@@ -1,7 +1,7 @@
 use Rattle.std.proofs.Common.{◌≡◌, false}
-use Rattle.sleep_core.specs.Oversleep.{is_left_below}
+use Rattle.sleep_core.specs.Oversleep.{oversleeps_below}
 use Rattle.sleep_core.proofs.world.World.is_lost.Given as goal
 
 -- nobody that was looked at is left asleep
 abbrev pub invariant-loop-pid : goal.invariant-loop-pid
-invariant-loop-pid l = is_left_below l.self l.pid ≡ false
+invariant-loop-pid l = oversleeps_below l.self l.pid ≡ false
