@@ -1,5 +1,6 @@
 //! What holds of every world, every event and every run. Each law is a function with an empty body,
 //! whose contract says it. Before this: `world`, which is the machine that the laws speak of.
+ghost use Rattle.sleep_core.specs.OwnLaws.{OwnSleepsEndForACause};
 ghost use Rattle.sleep_core.specs.Broken.{takes_too_early, leaves_before_its_mark};
 ghost use Rattle.sleep_core.specs.Broken.{drops_a_note, leaves_for_no_cause};
 ghost use Rattle.sleep_core.specs.Laws.{EventsMakeRuns, RunsAreSound};
@@ -82,6 +83,11 @@ pub fn words_agree_with_phases()
 /// the mark.
 pub fn sleep_ends_for_a_cause()
     ensures { SleepsEndForACause }
+{}
+
+/// The cause of a sleep that ends without notes stands among the process's own events.
+pub fn own_sleeps_end_for_a_cause()
+    ensures { OwnSleepsEndForACause }
 {}
 
 /// What is promised of every history is more than nothing: a worse machine would break each
