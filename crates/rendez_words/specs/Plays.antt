@@ -1,14 +1,15 @@
 -- What each kind of step tells its seat, and what it asks.
-use Rattle.std.specs.Prelude.{◌≡◌, ◌<◌, ⊤, ℕ, Bool, List, [], ◌∷◌, if◌then◌else◌, unwrap_or}
+use Rattle.std.specs.Prelude.{◌≡◌, ◌<◌, ⊤, ℕ, Bool, List, [], ◌∷◌, if◌then◌else◌}
 use Rattle.atomic_table.specs.Table as table
 use Rattle.sleep_core.specs.declared.event.Event.{Event}
 use Rattle.sleep_core.specs.declared.event.Event.TheVariants.{Note}
 use Rattle.sleep_core.specs.declared.answer.Answer.{Answer}
 use Rattle.sleep_core.specs.declared.phase.Phase.{Phase}
-use Rattle.sleep_core.specs.Table.{Cell, Word, pid_of, cell_of, reply, stored}
+use Rattle.sleep_core.specs.Table.{Cell, Word, pid_of, cell_of, reply}
 use Rattle.sleep_core.specs.Table.Cell.{PostedOf, LevelOf, FlagsOf, NoCell}
 use Rattle.sleep_core.specs.Table.Word.{Number, Flags, NoWord}
-use Rattle.sleep_core.specs.Step.{is_refusal, answer_to}
+use Rattle.sleep_core.specs.Rows.{word_after}
+use Rattle.sleep_core.specs.Step.{answer_to}
 use Rattle.sleep_core.specs.Runs.{Entry, IsMadeBy, IsRun, world_of, own, kept, is_kept, phase_by}
 use Rattle.rendez_words.specs.declared.view.Part.{Part}
 use Rattle.rendez_words.specs.declared.view.Sizes.{Sizes}
@@ -47,11 +48,6 @@ IsCellIn sizes (PostedOf rendez) = rendez < sizes.rendez
 IsCellIn sizes (LevelOf rendez) = rendez < sizes.rendez
 IsCellIn sizes (FlagsOf pid) = pid < sizes.procs
 IsCellIn sizes NoCell = ⊥
-
--- what the event leaves in its cell
-abbrev pub word_after : Event → Phase → Word → Word
-word_after event stage word =
-    if is_refusal (reply event stage word) then word else unwrap_or (stored event stage word) word
 
 -- one step more, if it is worth keeping
 abbrev pub part_after : Event → Answer → Part → Part

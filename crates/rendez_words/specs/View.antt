@@ -6,6 +6,10 @@ use Rattle.rendez_words.specs.declared.view.Sizes.{Sizes}
 use Rattle.rendez_words.specs.declared.view.View.{View}
 use Rattle.rendez_words.specs.declared.view.View.TheVariants as view
 
+-- how many words there are
+abbrev pub word_count : Sizes → ℕ
+word_count sizes = sizes.rendez + (sizes.rendez + sizes.procs)
+
 -- a process that has made no step
 abbrev pub unused_part : ℕ → Part
 unused_part pid = record { pid = pid; trace = [] }

@@ -3,12 +3,12 @@ use Rattle.std.specs.Prelude.{◌≡◌, ◌≢◌, ◌<◌, ◌≤◌, ◌+◌,
 use Rattle.sync_base.specs.declared.fault.Fault.{Fault}
 use Rattle.sync_base.specs.declared.fault.Fault.TheVariants as fault
 use Rattle.sync_base.specs.declared.ids.RendezId.{RendezId}
+use Rattle.sync_base.specs.declared.limits.TheConstants.{TOP_LEVEL}
 use Rattle.atomic_table.specs.Seated.{TableId}
 use Rattle.sleep_core.specs.declared.event.Event.TheVariants.{Check}
 use Rattle.sleep_core.specs.declared.answer.Answer.TheVariants as answer
 use Rattle.sleep_core.specs.declared.phase.Phase.{Phase}
 use Rattle.sleep_core.specs.declared.phase.Phase.TheVariants as phase
-use Rattle.sleep_core.specs.Table.{top_level}
 use Rattle.sleep_core.specs.Step.{answer_to}
 use Rattle.sleep_core.specs.Runs.{Entry, IsRun, world_of, own, kept}
 use Rattle.sleep_core.specs.History.{history_of, HasReturned}
@@ -54,7 +54,7 @@ one_less pids = record pids { next = pids.next + 1 }
 -- a process may be posted there
 pub record MayPost (words : Words) (rendez : RendezId) (threshold : ℕ) : Type 0 where
   pub rendez_in : rendez.0 < rendez_of words
-  pub not_top : threshold ≢ top_level
+  pub not_top : threshold ≢ TOP_LEVEL
 
 -- Own: the Rendez is tested first, then the threshold, then whether somebody is posted. Of these
 -- only the last is worth keeping.
@@ -63,7 +63,7 @@ abbrev pub WhyNotPosted :
 WhyNotPosted words before rendez threshold after fault.NoRendez =
     (rendez_of words ≤ rendez.0) × (after ≡ before)
 WhyNotPosted words before rendez threshold after fault.BadLevel =
-    (rendez.0 < rendez_of words) × (threshold ≡ top_level) × (after ≡ before)
+    (rendez.0 < rendez_of words) × (threshold ≡ TOP_LEVEL) × (after ≡ before)
 WhyNotPosted words before rendez threshold after fault.DoubleSleep =
     MayPost words rendez threshold × (after ≡ posts before rendez threshold answer.DoubleSleep)
 WhyNotPosted words before rendez threshold after other = ⊥

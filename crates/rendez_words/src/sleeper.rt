@@ -21,21 +21,18 @@ use crate::states::{
     Posted,
     Refused,
     Seat,
-    Stepper,
     TestAnswer,
     WithdrawAnswer,
     Woken,
 };
 use crate::words::Words;
-use sleep_core::{Event, ProcFlags};
+use sleep_core::Event;
 use std::sync::Wait;
-use sync_base::{Fault, NoteSet, Pid, RendezId};
+use sync_base::limits::TOP_LEVEL;
+use sync_base::{Fault, Pid, RendezId};
 
 /// No process is posted.
 pub(crate) const NOBODY: u64 = 0;
-
-/// Nothing is above this level.
-const TOP_LEVEL: u64 = u64::MAX;
 
 impl Words {
     /// Begins a sleep: posts the process in the Rendez, until its level is above the threshold.
@@ -71,7 +68,7 @@ impl Words {
         let event = Event::Post {
             pid,
             rendez,
-            level: threshold,
+            threshold,
         };
         let word = self.posted_word(rendez);
         let found = self.compare_exchange(&mut stepper, word, NOBODY, pid.0 + 1, event);

@@ -1,7 +1,8 @@
 //! The words themselves: how they are made, and where each lies. Before this: `states`.
 //! After it: `steps`, one function for each atomic operation.
-ghost use Rattle.std.specs.Prelude.{◌≡◌, ◌+◌, ◌<◌};
+ghost use Rattle.std.specs.Prelude.{◌≡◌, ◌<◌};
 ghost use Rattle.sleep_core.specs.Limits.{IsWorldSize};
+ghost use Rattle.rendez_words.specs.View.{word_count};
 
 use crate::parking::Parking;
 use crate::plays::GivePid;
@@ -20,11 +21,9 @@ pub struct Words {
     pub(crate) sizes: Sizes,
     pub(crate) parking: Parking,
     ghost sizes_are: { sizes ≡ table.shared.key },
-    ghost in_range: { IsWorldSize sizes.procs sizes.rendez },
-    ghost word_count: {
-        table.shared.table_id.words ≡ sizes.rendez + (sizes.rendez + sizes.procs)
-    },
-    ghost parking_count: { parking ≡ sizes.procs },
+    ghost in_range: { IsWorldSize table.shared.key.procs table.shared.key.rendez },
+    ghost word_count: { table.shared.table_id.words ≡ word_count table.shared.key },
+    ghost parking_count: { parking ≡ table.shared.key.procs },
 }
 
 /// New words, the seat of process 0, and the pids not yet given.

@@ -1,0 +1,4 @@
+pub mod PlaceLemmas
+pub mod RunLemmas
+pub mod StepKeeps
+pub mod StepAnswers
