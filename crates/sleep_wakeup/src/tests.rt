@@ -10,6 +10,7 @@ use sync_base::{Fault, Flags, Note, NoteSet, Pid, RendezId};
 
 mod crowd;
 mod note_at;
+mod pages;
 
 use note_at::{NoteAt, SleepAt};
 
