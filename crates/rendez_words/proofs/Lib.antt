@@ -1,4 +1,12 @@
+pub mod CheckKeeps
+pub mod FlagsLemmas
+pub mod KindSteps
+pub mod LookLemmas
+pub mod OpeningKeeps
 pub mod PlaceLemmas
+pub mod ProcessLemmas
+pub mod ReceiptLemmas
 pub mod RunLemmas
-pub mod StepKeeps
+pub mod SeatKeeps
 pub mod StepAnswers
+pub mod StepKeeps

@@ -9,7 +9,7 @@ use Rattle.sleep_core.specs.Table.{Cell, Word, pid_of, cell_of, reply}
 use Rattle.sleep_core.specs.Table.Cell.{PostedOf, LevelOf, FlagsOf, NoCell}
 use Rattle.sleep_core.specs.Table.Word.{Number, Flags, NoWord}
 use Rattle.sleep_core.specs.Rows.{word_after}
-use Rattle.sleep_core.specs.Step.{answer_to}
+use Rattle.sleep_core.specs.Step.{word_at, answer_to}
 use Rattle.sleep_core.specs.Runs.{Entry, IsMadeBy, IsRun, world_of, own, kept, is_kept, phase_by}
 use Rattle.rendez_words.specs.declared.view.Part.{Part}
 use Rattle.rendez_words.specs.declared.view.Sizes.{Sizes}
@@ -108,4 +108,5 @@ pub record HasChecked (sizes : Sizes) (event : Event) (before : Seated) (found :
   pub legal : IsRun sizes.procs sizes.rendez run
   pub sleeper_is : (sleeper_in before.0).trace ≡ kept (own (sleeper_in before.0).pid run)
   pub raiser_is : (raiser_in before.0).trace ≡ kept (own (raiser_in before.0).pid run)
+  pub read : word ≡ word_at (world_of sizes.procs sizes.rendez run) (cell_of event stage)
   pub answered : answer_to (world_of sizes.procs sizes.rendez run) event ≡ reply event stage word

@@ -1,9 +1,9 @@
 //! The flags of a process as one word, and back: the one place that knows the bits.
 //! The reader comes from `lib`. After this: `view`.
-ghost use Rattle.std.specs.Prelude.{◌≡◌, if◌then◌else◌};
+ghost use Rattle.std.specs.Prelude.{◌≡◌, Bool, List, ◌∷◌, if◌then◌else◌};
 ghost use Rattle.sleep_core.specs.declared.phase.ProcFlags.{ProcFlags};
 ghost use Rattle.sync_base.specs.NoteSet.{joined, only};
-ghost use Rattle.rendez_words.specs.FlagsWord.{flags_word};
+ghost use Rattle.rendez_words.specs.FlagsWord.{flags_word, number_of_bits};
 
 use sleep_core::ProcFlags;
 use sync_base::{Note, NoteSet};
@@ -24,15 +24,29 @@ pub(crate) fn word_from(flags: ProcFlags) -> u64
 pub(crate) fn flags_in(word: u64) -> ProcFlags
     ensures { (flags : ProcFlags) → word ≡ flags_word flags → result ≡ flags }
 {
-    let mut notes = NoteSet::empty();
-    notes = joined_if(notes, Note::Interrupt, word / 2 % 2 == 1);
-    notes = joined_if(notes, Note::Hangup, word / 4 % 2 == 1);
-    notes = joined_if(notes, Note::Alarm, word / 8 % 2 == 1);
-    notes = joined_if(notes, Note::ClosedPipe, word / 16 % 2 == 1);
-    ProcFlags {
-        wake: word % 2 == 1,
-        notes,
-    }
+    let mut bits = word;
+    let wake = lowest_bit(&mut bits);
+    let interrupt = lowest_bit(&mut bits);
+    let hangup = lowest_bit(&mut bits);
+    let alarm = lowest_bit(&mut bits);
+    let closed_pipe = lowest_bit(&mut bits);
+    let notes = joined_if(NoteSet::empty(), Note::Interrupt, interrupt);
+    let notes = joined_if(notes, Note::Hangup, hangup);
+    let notes = joined_if(notes, Note::Alarm, alarm);
+    let notes = joined_if(notes, Note::ClosedPipe, closed_pipe);
+    ProcFlags { wake, notes }
+}
+
+// Takes the lowest bit away, and says whether it was set.
+fn lowest_bit(bits: &mut u64) -> bool
+    ensures bit { (bit : Bool) → (rest : List Bool)
+        → bits.old ≡ number_of_bits (bit ∷ rest) → result ≡ bit }
+    ensures rest { (bit : Bool) → (rest : List Bool)
+        → bits.old ≡ number_of_bits (bit ∷ rest) → bits.new ≡ number_of_bits rest }
+{
+    let is_set = *bits % 2 == 1;
+    *bits /= 2;
+    is_set
 }
 
 // The notes, and this one too where its bit is set.

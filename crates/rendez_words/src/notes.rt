@@ -49,7 +49,7 @@ impl Words {
         ensures drained { seat.new ≡ drains seat.old result }
         ensures words { IsProcessOf self.now seat.new }
     {
-        let pid = Pid(seat.stepper.pid);
+        let pid = seat.stepper.pid();
         let event = Event::Drain { pid };
         let word = self.flags_word(pid);
         let found = self.swap(&mut seat.stepper, word, 0, event);

@@ -40,11 +40,8 @@ impl Words {
             return Err(Refused { seat, fault });
         }
         let Seat { mut stepper } = seat;
-        let event = Event::Raise {
-            pid: Pid(stepper.pid),
-            rendez,
-            level,
-        };
+        let pid = stepper.pid();
+        let event = Event::Raise { pid, rendez, level };
         let word = self.level_word(rendez);
         self.fetch_max(&mut stepper, word, level, event);
         Ok(Owing {
@@ -77,9 +74,8 @@ impl Words {
             rendez,
             level,
         } = owing;
-        let event = Event::Take {
-            pid: Pid(stepper.pid),
-        };
+        let pid = stepper.pid();
+        let event = Event::Take { pid };
         let word = self.posted_word(rendez);
         let found = self.swap(&mut stepper, word, NOBODY, event);
         if found == NOBODY {
@@ -114,9 +110,8 @@ impl Words {
             rendez,
             level,
         } = holding;
-        let event = Event::Mark {
-            pid: Pid(stepper.pid),
-        };
+        let pid = stepper.pid();
+        let event = Event::Mark { pid };
         let mark = word_from(ProcFlags {
             wake: true,
             notes: NoteSet::empty(),

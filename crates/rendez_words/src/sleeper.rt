@@ -29,7 +29,7 @@ use crate::words::Words;
 use sleep_core::Event;
 use std::sync::Wait;
 use sync_base::limits::TOP_LEVEL;
-use sync_base::{Fault, Pid, RendezId};
+use sync_base::{Fault, RendezId};
 
 /// No process is posted.
 pub(crate) const NOBODY: u64 = 0;
@@ -64,7 +64,7 @@ impl Words {
             return Err(Refused { seat, fault });
         }
         let Seat { mut stepper } = seat;
-        let pid = Pid(stepper.pid);
+        let pid = stepper.pid();
         let event = Event::Post {
             pid,
             rendez,
@@ -101,9 +101,8 @@ impl Words {
             rendez,
             threshold,
         } = posted;
-        let event = Event::Test {
-            pid: Pid(stepper.pid),
-        };
+        let pid = stepper.pid();
+        let event = Event::Test { pid };
         let word = self.level_word(rendez);
         let level = self.load(&mut stepper, word, event);
         if level > threshold {
@@ -154,7 +153,7 @@ impl Words {
             mut stepper,
             rendez,
         } = leaving;
-        let pid = Pid(stepper.pid);
+        let pid = stepper.pid();
         let event = Event::Withdraw { pid };
         let word = self.posted_word(rendez);
         let posted_as = pid.0 + 1;

@@ -24,6 +24,17 @@ impl Model for Stepper {
     ghost invariant = { λ stepper. IsPlaceOf stepper.place stepper.pid };
 }
 
+impl Stepper {
+    ghost use Rattle.std.specs.Prelude.{◌≡◌};
+    ghost use Rattle.rendez_words.specs.Process.{pid_in};
+
+    pub(crate) fn pid(&self) -> Pid
+        ensures { result ≡ pid_in self.now }
+    {
+        Pid(self.pid)
+    }
+}
+
 /// A process in no sleep and in no wakeup. `post` begins a sleep, `raise` a wakeup.
 #[derive(Drop)]
 #[must_use]

@@ -45,20 +45,21 @@ impl Words {
             (part_of stepper.old) (flags_word result) (part_of stepper.new) }
         ensures ends { EndsWait notes_end result }
     {
+        let pid = stepper.pid();
         let mut word = self.look_once(stepper, notes_end);
         let mut looks = 0;
         for _ in rt.forever() {
             if ends_wait(flags_in(word), notes_end) {
                 break;
             }
-            self.rest(rt, Pid(stepper.pid), looks, word);
+            self.rest(rt, pid, looks, word);
             if looks <= LOOKS + YIELDS {
                 looks += 1;
             }
             word = self.look_once(stepper, notes_end);
         }
         if looks > LOOKS + YIELDS {
-            self.parking.leave(stepper.pid);
+            self.parking.leave(pid.0);
         }
         flags_in(word)
     }
@@ -73,7 +74,7 @@ impl Words {
             (part_of stepper.old) result (part_of stepper.new) }
     {
         let _ = notes_end;
-        let pid = Pid(stepper.pid);
+        let pid = stepper.pid();
         self.load(stepper, self.flags_word(pid), Event::Look { pid })
     }
 
@@ -114,7 +115,7 @@ impl Words {
         ensures cleared { stepper.new ≡ clears stepper.old result }
         ensures words { IsProcessOf self.now stepper.new }
     {
-        let pid = Pid(stepper.pid);
+        let pid = stepper.pid();
         let word = self.flags_word(pid);
         let found = self.swap(stepper, word, 0, Event::Clear { pid });
         flags_in(found).notes
