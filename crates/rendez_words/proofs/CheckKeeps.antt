@@ -52,7 +52,7 @@ check_keeps sizes slots id sleeper raiser event word check step s rule _ at _ = 
     words = words_step sizes rule.run event sleeper word (λ n. n) s.words rule.words next;
     each_seat = λ seat known there.
         ⊎_elim (λ here. subst (Fits sizes.procs (entry ∷ rule.run) rule.owner seat) here.1 (subst (λ j. Fits sizes.procs (entry ∷ rule.run) rule.owner j (view.Joined sleeper raiser)) (sym here.0) both))
-        (λ else. fits_still sizes.procs entry rule.run rule.owner seat known (λ same. else.0 (sym same ∙ first.owner_is)) (rule.each_seat seat known else.1))
+        (λ there'. fits_still sizes.procs entry rule.run rule.owner seat known (λ same. there'.0 (sym same ∙ first.owner_is)) (rule.each_seat seat known there'.1))
         (at_set s.views id seat (view.Joined sleeper raiser) known there);
   },
   record {

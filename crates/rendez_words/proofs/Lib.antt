@@ -6,6 +6,7 @@ pub mod OpeningKeeps
 pub mod PlaceLemmas
 pub mod ProcessLemmas
 pub mod ReceiptLemmas
+pub mod ReleasedLemmas
 pub mod RunLemmas
 pub mod SeatKeeps
 pub mod StepAnswers

@@ -12,7 +12,7 @@ use Rattle.std.specs.Prelude.{if◌then◌else◌}
 use Rattle.rendez_words.specs.declared.view.Sizes.{Sizes}
 use Rattle.rendez_words.specs.FlagsWord.{flags_word}
 use Rattle.rendez_words.specs.Plays.{number_of, IsWordOf, part_of, HasMade}
-use Rattle.rendez_words.specs.Process.{Process, phase_in}
+use Rattle.rendez_words.specs.Process.{Process, phase_in, pid_in}
 use Rattle.rendez_words.specs.States.{IsLooking, KeepsWait}
 use Rattle.rendez_words.proofs.ProcessLemmas.{unmade_is}
 
@@ -55,3 +55,29 @@ parks sizes notes_end pid before after found read looks table has reads waits =
     unmade_is sizes (Look pid) before found after answer.Parked table has
     (ap (reply (Look pid) has.stage) (found_flags sizes notes_end pid before after found read looks has reads)
     ∙ told_parked notes_end pid has.stage read (subst (IsLooking notes_end) (sym has.in_stage) looks) waits) refl
+
+-- the newest look of a process, which has found this word
+pub record Looked (sizes : Sizes) (before after : Process) (found : ℕ) : Type 0 where
+  pub table : after.table ≡ before.table
+  pub made : HasMade sizes (Look (pid_in before)) (part_of before) found (part_of after)
+
+-- a look that didn't end the wait is as if it had not been
+pub looks_again : (sizes : Sizes) (notes_end : Bool) (before middle after : Process) (found next : ℕ) (read : ProcFlags) → IsLooking notes_end (phase_in before) → Looked sizes before middle found
+    → ((flags : ProcFlags) → found ≡ flags_word flags → read ≡ flags) → KeepsWait notes_end read → after.table ≡ middle.table
+    → HasMade sizes (Look (pid_in middle)) (part_of middle) next (part_of after) → Looked sizes before after next
+looks_again sizes notes_end before middle after found next read looks looked reads waits table has =
+    let same : middle ≡ before = parks sizes notes_end (pid_in before) before middle found read looks looked.table looked.made reads waits in
+    record {
+      table = table ∙ ap (λ (p : Process). p.table) same;
+      made = subst (λ (p : Process). HasMade sizes (Look (pid_in p)) (part_of p) next (part_of after)) same has;
+    }
+
+pub still_waits : (sizes : Sizes) (notes_end : Bool) (before middle : Process) (found : ℕ) (read : ProcFlags) → IsLooking notes_end (phase_in before) → Looked sizes before middle found
+    → ((flags : ProcFlags) → found ≡ flags_word flags → read ≡ flags) → KeepsWait notes_end read → middle ≡ before
+still_waits sizes notes_end before middle found read looks looked reads waits =
+    parks sizes notes_end (pid_in before) before middle found read looks looked.table looked.made reads waits
+
+-- the word that was found, by the flags as which it is read
+pub looked_flags : (sizes : Sizes) (notes_end : Bool) (before after : Process) (found : ℕ) (read : ProcFlags) → IsLooking notes_end (phase_in before) → Looked sizes before after found
+    → ((flags : ProcFlags) → found ≡ flags_word flags → read ≡ flags) → found ≡ flags_word read
+looked_flags sizes notes_end before after found read looks looked reads = found_is_word sizes notes_end (pid_in before) before after found read looks looked.made reads
