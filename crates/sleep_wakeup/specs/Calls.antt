@@ -60,12 +60,16 @@ WhyNotSlept words before rendez threshold after (fault.Interrupted notes) =
 WhyNotSlept words before rendez threshold after other =
     WhyNotPosted words before rendez threshold after other
 
--- A wakeup: the process raised the level and only then took the sleeper; it found nobody, or took
--- one and marked it. Then it has a receipt.
+-- the process that has raised the level found nobody, or took the sleeper and marked it
+abbrev pub Ends : Process → Process → Type 0
+Ends owing after =
+    (after ≡ finds_nobody owing) ⊎ ((sleeper : Pid) × (after ≡ marks (takes owing sleeper)))
+
+-- A wakeup: the process raised the level and only then took the sleeper, if there was one, and
+-- marked it. Then it has a receipt.
 pub record Wakes (before : Process) (rendez : RendezId) (level : ℕ) (after : Process)
     (done : Done) : Type 0 where
-  pub ends : (after ≡ finds_nobody (raises before rendez level))
-      ⊎ ((sleeper : Pid) × (after ≡ marks (takes (raises before rendez level) sleeper)))
+  pub ends : Ends (raises before rendez level) after
   pub rendez_is : done.rendez ≡ rendez
   pub level_is : done.level ≡ level
   pub receipt : HasReceipt after done

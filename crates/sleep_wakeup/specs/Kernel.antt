@@ -1,9 +1,5 @@
 -- What clauses see of a process, and of the roster that gives out pids and Rendez.
 use Rattle.std.specs.Prelude.{◌≡◌, ◌≢◌, ◌<◌, ◌≤◌, ◌+◌, ℕ, ⊤, [], Option, Some, None}
-use Rattle.sync_base.specs.declared.fault.Fault.{Fault}
-use Rattle.sync_base.specs.declared.fault.Fault.TheVariants as fault
-use Rattle.sync_base.specs.declared.flags.Flags.{Flags}
-use Rattle.sync_base.specs.declared.flags.Flags.TheConstants as flags
 use Rattle.sync_base.specs.declared.ids.Pid.{Pid}
 use Rattle.rendez_words.specs.declared.words.Words.{Words}
 use Rattle.rendez_words.specs.Process.{Process, PidsLeft}
@@ -14,6 +10,13 @@ use Rattle.rendez_words.specs.Words.{given_from, one_less}
 pub record Running : Type 0 where
   pub words : Words
   pub process : Process
+
+-- how many pids and Rendez there are, and which are the next
+pub record Counts : Type 0 where
+  pub procs : ℕ
+  pub rendez : ℕ
+  pub next_pid : ℕ
+  pub next_rendez : ℕ
 
 -- what a roster has left: the pids from the next one on, and the Rendez from this one on
 pub record Unused : Type 0 where
@@ -37,10 +40,11 @@ pub record HasSizes (words : Words) (procs rendez : ℕ) : Type 0 where
   pub rendez_are : rendez_of words ≡ rendez
 
 -- the pids and Rendez that are left are these words', from these ones on
-pub record AreLeftOf (words : Words) (pids : PidsLeft) (next_pid next_rendez : ℕ) : Type 0 where
+pub record AreLeftOf (words : Words) (pids : PidsLeft) (left : Counts) : Type 0 where
   pub pids_are : ArePidsOf words pids
-  pub next_is : pids.next ≡ next_pid
-  pub rendez_in : next_rendez ≤ rendez_of words
+  pub next_is : pids.next ≡ left.next_pid
+  pub rendez_in : left.next_rendez ≤ rendez_of words
+  pub sizes : HasSizes words left.procs left.rendez
 
 -- the next process, which has made no step
 abbrev pub next_process : Unused → Running

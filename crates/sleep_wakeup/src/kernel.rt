@@ -11,9 +11,9 @@ use sync_base::{Fault, Pid};
 /// Rendez, and processes that sleep in them and wake each other.
 #[derive(Drop)]
 pub struct Kernel {
-    pub(crate) words: Words,
-    pub(crate) procs: u64,
-    pub(crate) rendez: u64,
+    words: Words,
+    procs: u64,
+    rendez: u64,
 }
 
 impl Model for Kernel {
@@ -86,9 +86,10 @@ impl Kernel {
         ensures roster { HasAllLeft self.now result.roster }
     {
         let Start { seat, pids } = start;
+        let words = &self.words;
         Started {
-            roster: Roster::new(self, pids),
-            proc: Proc::new(self, seat, Pid(0)),
+            roster: Roster::new(words, self.procs, self.rendez, pids),
+            proc: Proc::new(words, seat, Pid(0)),
         }
     }
 }

@@ -23,9 +23,11 @@ impl<'k> Proc<'k> {
         ensures noted { OnOk result (self.new.process ≡ notes self.old.process pid set) }
         ensures words { self.new.words ≡ self.old.words }
     {
-        let mut seat = self.stand();
-        let posted = self.kernel.words.note(&mut seat, pid, set);
-        self.sit(seat);
+        let Some(mut seat) = self.seat.take() else {
+            unreachable!()
+        };
+        let posted = self.words.note(&mut seat, pid, set);
+        self.seat = Some(seat);
         posted
     }
 
@@ -34,9 +36,11 @@ impl<'k> Proc<'k> {
         ensures taken { self.new.process ≡ drains self.old.process result }
         ensures words { self.new.words ≡ self.old.words }
     {
-        let mut seat = self.stand();
-        let set = self.kernel.words.drain(&mut seat);
-        self.sit(seat);
+        let Some(mut seat) = self.seat.take() else {
+            unreachable!()
+        };
+        let set = self.words.drain(&mut seat);
+        self.seat = Some(seat);
         set
     }
 
@@ -45,11 +49,13 @@ impl<'k> Proc<'k> {
         ensures noted { self.new.process ≡ notes self.old.process (pid_in self.old.process) set }
         ensures words { self.new.words ≡ self.old.words }
     {
-        let mut seat = self.stand();
-        match self.kernel.words.note(&mut seat, self.pid(), set) {
+        let Some(mut seat) = self.seat.take() else {
+            unreachable!()
+        };
+        match self.words.note(&mut seat, self.pid, set) {
             Ok(()) => {}
             Err(_) => unreachable!(),
         }
-        self.sit(seat);
+        self.seat = Some(seat);
     }
 }

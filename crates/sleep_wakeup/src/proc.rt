@@ -1,16 +1,15 @@
 //! A process. Before this: `roster`. After it: `sleeping`, `waking` and `noting`, its calls.
-use crate::kernel::Kernel;
-use rendez_words::Seat;
+use rendez_words::{Seat, Words};
 use std::marker::Model;
 use sync_base::Pid;
 
 /// A process of a kernel. One thread has it at a time, and may hand it to another.
 #[derive(Drop)]
 pub struct Proc<'k> {
-    pub(crate) kernel: &'k Kernel,
+    pub(crate) words: &'k Words,
     // It is away while a call makes its steps.
-    seat: Option<Seat>,
-    pid: Pid,
+    pub(crate) seat: Option<Seat>,
+    pub(crate) pid: Pid,
 }
 
 impl<'k> Model for Proc<'k> {
@@ -19,25 +18,25 @@ impl<'k> Model for Proc<'k> {
     ghost Value = { Running };
 
     ghost view = { λ proc. record {
-      words = proc.kernel.now;
-      process = process_in proc.kernel.now proc.seat;
+      words = proc.words.now;
+      process = process_in proc.words.now proc.seat;
     } };
 
-    ghost invariant = { λ proc. IsSeated proc.kernel.now proc.pid proc.seat };
+    ghost invariant = { λ proc. IsSeated proc.words.now proc.pid proc.seat };
 }
 
 impl<'k> Proc<'k> {
     ghost use Rattle.std.specs.Prelude.{◌≡◌};
     ghost use Rattle.rendez_words.specs.Words.{IsProcessOf};
 
-    pub(crate) fn new(kernel: &'k Kernel, seat: Seat, pid: Pid) -> Proc<'k>
-        requires seat { IsProcessOf kernel.now seat }
+    pub(crate) fn new(words: &'k Words, seat: Seat, pid: Pid) -> Proc<'k>
+        requires seat { IsProcessOf words.now seat }
         requires pid { seat.pid ≡ pid.0 }
-        ensures words { result.words ≡ kernel.entry.now }
+        ensures words { result.words ≡ words.entry.now }
         ensures process { result.process ≡ seat }
     {
         Proc {
-            kernel,
+            words,
             seat: Some(seat),
             pid,
         }
@@ -53,21 +52,7 @@ impl<'k> Proc<'k> {
     /// Its steps are those of a process in a run of the core, so the laws of the core hold of them.
     pub fn is_in_a_run(&self)
         ensures { IsProcessOf self.now.words self.now.process }
-    {}
-
-    // Gives the seat out to make steps with, until `sit`.
-    pub(crate) fn stand(&mut self) -> Seat
-        ensures seat { result ≡ self.old.process }
     {
-        let Some(seat) = self.seat.take() else {
-            unreachable!()
-        };
-        seat
-    }
-
-    pub(crate) fn sit(&mut self, seat: Seat)
-        ensures { self.new.process ≡ seat }
-    {
-        self.seat = Some(seat);
+        let _seat = &self.seat;
     }
 }

@@ -1,15 +1,16 @@
 //! Who gives out the pids and the Rendez of a kernel. Before this: `kernel`. After it: `proc`.
-use crate::kernel::Kernel;
 use crate::proc::Proc;
-use rendez_words::Pids;
+use rendez_words::{Pids, Words};
 use std::marker::Model;
 use sync_base::{Fault, Flags, Pid, RendezId};
 
 /// The pids and the Rendez of a kernel that were not given out yet. Each is given once.
 #[derive(Drop)]
 pub struct Roster<'k> {
-    kernel: &'k Kernel,
+    words: &'k Words,
     pids: Pids,
+    procs: u64,
+    rendez: u64,
     next_pid: u64,
     next_rendez: u64,
 }
@@ -20,13 +21,17 @@ impl<'k> Model for Roster<'k> {
     ghost Value = { Unused };
 
     ghost view = { λ roster. record {
-      words = roster.kernel.now;
+      words = roster.words.now;
       pids = roster.pids;
       rendez = roster.next_rendez;
     } };
 
-    ghost invariant = { λ roster.
-        AreLeftOf roster.kernel.now roster.pids roster.next_pid roster.next_rendez };
+    ghost invariant = { λ roster. AreLeftOf roster.words.now roster.pids (record {
+      procs = roster.procs;
+      rendez = roster.rendez;
+      next_pid = roster.next_pid;
+      next_rendez = roster.next_rendez;
+    }) };
 }
 
 /// How many pids and Rendez are left.
@@ -41,19 +46,22 @@ impl<'k> Roster<'k> {
     ghost use Rattle.sync_base.specs.declared.fault.Fault.TheVariants.{NoRendez};
     ghost use Rattle.rendez_words.specs.Words.{ArePidsOf, procs_of, rendez_of};
     ghost use Rattle.sleep_wakeup.specs.Forks.{MayFork, WhyNotForked, Forks};
-    ghost use Rattle.sleep_wakeup.specs.Kernel.{HasRendez, rendez_less};
+    ghost use Rattle.sleep_wakeup.specs.Kernel.{HasSizes, HasRendez, rendez_less};
 
     // The pids from 1 on and all Rendez.
-    pub(crate) fn new(kernel: &'k Kernel, pids: Pids) -> Roster<'k>
-        requires pids { ArePidsOf kernel.now pids }
+    pub(crate) fn new(words: &'k Words, procs: u64, rendez: u64, pids: Pids) -> Roster<'k>
+        requires sizes { HasSizes words.now procs rendez }
+        requires pids { ArePidsOf words.now pids }
         requires next { pids.next ≡ 1 }
-        ensures words { result.words ≡ kernel.entry.now }
+        ensures words { result.words ≡ words.entry.now }
         ensures pids { result.pids ≡ pids }
         ensures rendez { result.rendez ≡ 0 }
     {
         Roster {
-            kernel,
+            words,
             pids,
+            procs,
+            rendez,
             next_pid: 1,
             next_rendez: 0,
         }
@@ -81,10 +89,10 @@ impl<'k> Roster<'k> {
         if flags.bits() != Flags::RFPROC.bits() {
             return Err(Fault::BadFlags);
         }
-        let seat = self.kernel.words.split(&mut self.pids)?;
+        let seat = self.words.split(&mut self.pids)?;
         let pid = Pid(self.next_pid);
         self.next_pid += 1;
-        Ok(Some(Proc::new(self.kernel, seat, pid)))
+        Ok(Some(Proc::new(self.words, seat, pid)))
     }
 
     /// The next Rendez. Refuses as `NoRendez` where none is left.
@@ -117,7 +125,7 @@ impl<'k> Roster<'k> {
         ensures given { OnOk result (self.new ≡ rendez_less count self.old) }
     {
         let first = self.next_rendez;
-        if count == 0 || count > self.kernel.rendez - first {
+        if count == 0 || count > self.rendez - first {
             return Err(Fault::NoRendez);
         }
         self.next_rendez = first + count;
@@ -130,8 +138,8 @@ impl<'k> Roster<'k> {
         ensures rendez { self.now.rendez + result.rendez ≡ rendez_of self.now.words }
     {
         Left {
-            pids: self.kernel.procs - self.next_pid,
-            rendez: self.kernel.rendez - self.next_rendez,
+            pids: self.procs - self.next_pid,
+            rendez: self.rendez - self.next_rendez,
         }
     }
 }

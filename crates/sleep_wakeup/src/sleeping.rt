@@ -6,7 +6,7 @@ ghost use Rattle.sleep_wakeup.specs.Calls.{Sleeps, Leaves, EndsSleep, WhyNotSlep
 
 use crate::proc::Proc;
 use rendez_words::{
-    Asleep, Cleared, Leaving, LookAnswer, Posted, Refused, TestAnswer, WithdrawAnswer, Words,
+    Asleep, Cleared, Leaving, LookAnswer, Posted, Refused, Seat, TestAnswer, WithdrawAnswer, Words,
 };
 use std::sync::Wait;
 use sync_base::{Fault, NoProbe, Probe, RendezId};
@@ -45,24 +45,52 @@ impl<'k> Proc<'k> {
             self.old.process rendez threshold no_notes self.new.process) }
         ensures words { self.new.words ≡ self.old.words }
     {
-        probe.at(1);
-        let words = &self.kernel.words;
-        match words.post(self.stand(), rendez, threshold) {
-            Ok(posted) => {
-                let Cleared { seat, notes } = end_posted(words, rt, posted, probe);
-                probe.at(6);
-                self.sit(seat);
-                if notes.is_empty() {
-                    Ok(())
-                } else {
-                    Err(Fault::Interrupted(notes))
-                }
-            }
-            Err(Refused { seat, fault }) => {
-                self.sit(seat);
-                Err(fault)
-            }
+        let Some(seat) = self.seat.take() else {
+            unreachable!()
+        };
+        let Slept { seat, answer } = sleep_with(self.words, rt, seat, rendez, threshold, probe);
+        self.seat = Some(seat);
+        answer
+    }
+}
+
+// A sleep is over or was refused: the seat of its process, and the answer.
+#[derive(Drop)]
+struct Slept {
+    seat: Seat,
+    answer: Result<(), Fault>,
+}
+
+fn sleep_with<R: Wait, P: Probe>(
+    words: &Words,
+    rt: &R,
+    seat: Seat,
+    rendez: RendezId,
+    threshold: u64,
+    probe: &mut P,
+) -> Slept
+    requires { IsProcessOf words.now seat }
+    ensures fault { IfErr result.answer (WhyNotSlept words.now seat rendez threshold result.seat) }
+    ensures slept { OnOk result.answer (Sleeps seat rendez threshold no_notes result.seat) }
+    ensures words { IsProcessOf words.now result.seat }
+    ensures pid { result.seat.pid ≡ seat.pid }
+{
+    probe.at(1);
+    match words.post(seat, rendez, threshold) {
+        Ok(posted) => {
+            let Cleared { seat, notes } = end_posted(words, rt, posted, probe);
+            probe.at(6);
+            let answer = if notes.is_empty() {
+                Ok(())
+            } else {
+                Err(Fault::Interrupted(notes))
+            };
+            Slept { seat, answer }
         }
+        Err(Refused { seat, fault }) => Slept {
+            seat,
+            answer: Err(fault),
+        },
     }
 }
 
