@@ -13,6 +13,8 @@ mod rule;
 mod sleeper;
 pub mod states;
 mod steps;
+#[cfg(test)]
+mod tests;
 pub mod view;
 mod waiting;
 pub mod words;
