@@ -1,6 +1,7 @@
 pub mod CheckKeeps
 pub mod FlagsLemmas
 pub mod KindSteps
+pub mod LawLemmas
 pub mod LookLemmas
 pub mod OpeningKeeps
 pub mod PlaceLemmas

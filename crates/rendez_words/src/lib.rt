@@ -4,6 +4,7 @@
 #![tactic(auto)]
 
 mod flags_word;
+pub mod laws;
 mod notes;
 mod parking;
 mod plays;
