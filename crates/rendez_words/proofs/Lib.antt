@@ -12,3 +12,4 @@ pub mod RunLemmas
 pub mod SeatKeeps
 pub mod StepAnswers
 pub mod StepKeeps
+pub mod WorkedWords

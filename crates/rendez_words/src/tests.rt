@@ -140,7 +140,7 @@ fn play<R: Wait>(rt: &R, words: &Words, mut seat: Seat, mine: RendezId, other: R
             return rounds;
         };
         seat = slept;
-        rounds += 1;
+        rounds = round + 1;
     }
     rounds
 }
