@@ -1,6 +1,7 @@
 pub mod CheckKeeps
 pub mod FlagsLemmas
 pub mod KindSteps
+pub mod LawLemmas
 pub mod LookLemmas
 pub mod OpeningKeeps
 pub mod PlaceLemmas
@@ -11,3 +12,4 @@ pub mod RunLemmas
 pub mod SeatKeeps
 pub mod StepAnswers
 pub mod StepKeeps
+pub mod WorkedWords

@@ -1,5 +1,6 @@
 pub mod Answers
 pub mod FlagsWord
+pub mod Laws
 pub mod Plays
 pub mod Process
 pub mod Rule

@@ -4,6 +4,7 @@
 #![tactic(auto)]
 
 mod flags_word;
+pub mod laws;
 mod notes;
 mod parking;
 mod plays;
@@ -13,6 +14,8 @@ mod rule;
 mod sleeper;
 pub mod states;
 mod steps;
+#[cfg(test)]
+mod tests;
 pub mod view;
 mod waiting;
 pub mod words;

@@ -13,15 +13,15 @@ loop-init g c = record { table = c.look_once-word.ensures.table; made = c.look_o
 
 pub look_once-word-requires-in-loop-clause-process : goal.look_once-word-requires-in-loop-clause-process
 look_once-word-requires-in-loop-clause-process g c =
-    subst (IsProcessOf c.args.self.now) (sym (still_waits _ _ _ _ _ _ c.requires.looking c.loop.invariant c.flags_in.ensures (c.if-ends_wait.ensures.parks ?))) c.requires.process
+    subst (IsProcessOf c.args.self.now) (sym (still_waits _ _ _ _ _ _ c.requires.looking c.loop.invariant c.flags_in.ensures c.if-ends_wait.ensures.parks)) c.requires.process
 
 pub look_once-word-requires-in-loop-clause-looking : goal.look_once-word-requires-in-loop-clause-looking
 look_once-word-requires-in-loop-clause-looking g c =
-    subst (λ (p : Process). IsLooking c.args.notes_end (phase_in p)) (sym (still_waits _ _ _ _ _ _ c.requires.looking c.loop.invariant c.flags_in.ensures (c.if-ends_wait.ensures.parks ?))) c.requires.looking
+    subst (λ (p : Process). IsLooking c.args.notes_end (phase_in p)) (sym (still_waits _ _ _ _ _ _ c.requires.looking c.loop.invariant c.flags_in.ensures c.if-ends_wait.ensures.parks)) c.requires.looking
 
 pub loop-preserved : goal.loop-preserved
 loop-preserved g c =
-    looks_again _ _ _ _ _ _ _ _ c.requires.looking c.loop.invariant c.flags_in.ensures (c.if-ends_wait.ensures.parks ?) c.look_once-word-in-loop.ensures.table c.look_once-word-in-loop.ensures.made
+    looks_again _ _ _ _ _ _ _ _ c.requires.looking c.loop.invariant c.flags_in.ensures c.if-ends_wait.ensures.parks c.look_once-word-in-loop.ensures.table c.look_once-word-in-loop.ensures.made
 
 pub returns-clause-table : goal.returns-clause-table
 returns-clause-table g c = c.loop.invariant.table
@@ -34,9 +34,9 @@ returns-clause-made g c =
 pub returns-clause-ends : goal.returns-clause-ends
 returns-clause-ends g c =
     elim c.match-next.branch [
-      in-None w ↦ ?
+      in-None w ↦ let steps = w.in-None.ensures.steps in cc
     | in-Some+then-ends_wait w ↦
         subst (EndsWait c.args.notes_end)
         (w.flags_in.ensures c.flags_in-2.result (looked_flags _ _ _ _ _ _ c.requires.looking c.loop.invariant c.flags_in-2.ensures))
-        ?
+        w.if-ends_wait.ensures.ends
     ]
