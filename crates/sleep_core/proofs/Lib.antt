@@ -23,4 +23,5 @@ pub mod PlacesKept
 pub mod WhereaboutsLemmas
 pub mod KeptHistory
 pub mod OwnWakeups
+pub mod OwnCauses
 pub mod OversleepLemmas

@@ -10,4 +10,5 @@ pub mod Whereabouts
 pub mod History
 pub mod Promises
 pub mod Laws
+pub mod OwnLaws
 pub mod Broken

@@ -1,5 +1,6 @@
 //! What holds of every world, every event and every run. Each law is a function with an empty body,
 //! whose contract says it. Before this: `world`, which is the machine that the laws speak of.
+ghost use Rattle.sleep_core.specs.OwnLaws.{OwnSleepsEndForACause};
 ghost use Rattle.sleep_core.specs.Broken.{overlooks_the_sleeper, test_misses_the_level};
 ghost use Rattle.sleep_core.specs.Broken.{posts_over_a_sleeper, overlooks_among_others};
 ghost use Rattle.sleep_core.specs.Broken.{takes_the_sleeper, misses_who_withdrew, misses_who_left};
@@ -117,6 +118,11 @@ pub fn words_agree_with_phases()
 /// the mark.
 pub fn sleep_ends_for_a_cause()
     ensures { SleepsEndForACause }
+{}
+
+/// The cause of a sleep that ends without notes stands among the process's own events.
+pub fn own_sleeps_end_for_a_cause()
+    ensures { OwnSleepsEndForACause }
 {}
 
 /// What is promised of every history can be broken: each short history here breaks a promise, and

@@ -1,0 +1,15 @@
+pub mod CheckKeeps
+pub mod FlagsLemmas
+pub mod KindSteps
+pub mod LawLemmas
+pub mod LookLemmas
+pub mod OpeningKeeps
+pub mod PlaceLemmas
+pub mod ProcessLemmas
+pub mod ReceiptLemmas
+pub mod ReleasedLemmas
+pub mod RunLemmas
+pub mod SeatKeeps
+pub mod StepAnswers
+pub mod StepKeeps
+pub mod WorkedWords

@@ -1,0 +1,11 @@
+use Rattle.std.proofs.Common.{rules}
+use Rattle.rendez_words.proofs.CheckKeeps.{check_allowed}
+use Rattle.rendez_words.proofs.StepAnswers.{step_in}
+use Rattle.rendez_words.proofs.words.Words.check_for.Goals as goal
+
+pub load-requires : goal.load-requires
+load-requires g c = (
+  search rules,
+  step_in _ _ _ _ _ _ _ c.requires.sizes c.args.self.now.word_count c.requires.step,
+  check_allowed _ _ _ _ _ _ _ c.requires.sizes c.requires.joined c.requires.unkept c.requires.step,
+)

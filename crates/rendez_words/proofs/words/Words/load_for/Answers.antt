@@ -1,0 +1,10 @@
+use Rattle.std.proofs.Common.{rules}
+use Rattle.rendez_words.proofs.StepAnswers.{step_in, step_allowed}
+use Rattle.rendez_words.proofs.words.Words.load_for.Goals as goal
+
+pub load-requires : goal.load-requires
+load-requires g c = (
+  search rules,
+  step_in _ _ _ _ _ _ _ c.requires.sizes c.args.self.now.word_count c.requires.step,
+  step_allowed _ _ _ _ _ _ _ _ _ c.requires.sizes c.stepper.invariant c.stepper.view_is c.requires.step,
+)

@@ -1,0 +1,6 @@
+use Rattle.std.proofs.Common.{rules, ◌∙◌, refl}
+use Rattle.rendez_words.proofs.OpeningKeeps.{opening_keeps}
+use Rattle.rendez_words.proofs.words.Words.new.Goals as goal
+
+pub of_words-requires : goal.of_words-requires
+of_words-requires c = opening_keeps _ _ (search rules)

@@ -1,0 +1,10 @@
+pub mod Answers
+pub mod FlagsWord
+pub mod Laws
+pub mod Plays
+pub mod Process
+pub mod Rule
+pub mod States
+pub mod Steps
+pub mod View
+pub mod Words

@@ -1,0 +1,118 @@
+//! Whether a sleeper was released, asked by a process whose wakeup has returned.
+//! Before this: `notes`. After it: `laws`.
+ghost use Rattle.std.specs.Prelude.{◌≡◌, ◌<◌, ℕ, IsTrue, []};
+ghost use Rattle.rendez_words.specs.Plays.{IsStep, HasChecked};
+ghost use Rattle.rendez_words.specs.States.{IsAsleep, IsPlaceOf, IsJoined, IsUnkept};
+ghost use Rattle.rendez_words.specs.View.{part_in, sleeper_in, joined_view};
+ghost use Rattle.rendez_words.specs.View.{sleeper_view, raiser_view};
+ghost use Rattle.rendez_words.specs.Words.{IsProcessOf, HasReceipt, IsChecked};
+ghost use Rattle.rendez_words.specs.Words.{table_of, sizes_of};
+
+use crate::plays::{CheckPosted, CutParts, JoinParts, Making};
+use crate::rule::Place;
+use crate::states::{Asleep, Checked, Done, Seat, Stepper};
+use crate::words::Words;
+use sleep_core::Event;
+use std::marker::Brand;
+use sync_base::Pid;
+
+impl Words {
+    /// Whether the sleeper is no longer posted. The receipt is one that was given with this seat.
+    /// Both states come back as they were. Takes no memory and doesn't wait.
+    pub fn released(&self, asleep: Asleep, seat: Seat, done: &Done) -> Checked
+        requires asleep { IsProcessOf self.now asleep }
+        requires seat { IsProcessOf self.now seat }
+        requires done { HasReceipt seat done.now }
+
+        // The answer is what the posted word says.
+        ensures checked { IsChecked self.now asleep seat result.released }
+
+        // After a wakeup of the sleeper's Rendez with a level above its threshold it is always yes.
+        ensures released { (threshold : ℕ) → IsAsleep asleep done.now.rendez threshold
+            → threshold < done.now.level → IsTrue result.released }
+
+        // Nothing changes.
+        ensures asleep { result.asleep ≡ asleep }
+        ensures seat { result.seat ≡ seat }
+    {
+        let Asleep {
+            stepper,
+            rendez,
+            threshold,
+        } = asleep;
+        let Stepper { mut place, pid } = stepper;
+        let Seat { stepper: raiser } = seat;
+        let Stepper {
+            place: other,
+            pid: other_pid,
+        } = raiser;
+        self.join(&mut place, other);
+        let event = Event::Check { pid: Pid(pid) };
+        let found = self.check(&mut place, self.posted_word(rendez), event);
+        let other = self.cut(&mut place);
+        let stepper = Stepper { place, pid };
+        let raiser = Stepper {
+            place: other,
+            pid: other_pid,
+        };
+        Checked {
+            asleep: Asleep {
+                stepper,
+                rendez,
+                threshold,
+            },
+            seat: Seat { stepper: raiser },
+            released: found != pid + 1,
+        }
+    }
+
+    // Step Join: join of the sleeper's and the raiser's seats, a load of word 0.
+    // Seat: the sleeper's, then joined, with what both knew. The other is spent.
+    fn join(&self, place: &mut Place, other: Place)
+        requires place { place.old.table_id ≡ table_of self.now }
+        requires other { other.table_id ≡ table_of self.now }
+        requires first { IsPlaceOf place.old (part_in place.old.me.0).pid }
+        requires second { IsPlaceOf other (part_in other.me.0).pid }
+        ensures table { place.new.table_id ≡ place.old.table_id }
+        ensures joined { place.new.me ≡ (joined_view place.old.me.0 other.me.0, []) }
+    {
+        self.table.shared.join_seat::<JoinParts>(place, other);
+    }
+
+    // Step Check: load of the posted word. Seat: joined, and as it was.
+    fn check(&self, place: &mut Place, word: usize, event: Event) -> u64
+        requires place { place.old.table_id ≡ table_of self.now }
+        requires joined { IsJoined place.old.me }
+        requires step { IsStep (sizes_of self.now) event (sleeper_in place.old.me.0) word (λ n. n) }
+        requires unkept { IsUnkept event }
+        ensures table { place.new.table_id ≡ place.old.table_id }
+        ensures checked { HasChecked (sizes_of self.now) event place.old.me result place.new.me }
+    {
+        self.check_for::<Brand>(place, word, &event)
+    }
+
+    fn check_for<M: Making>(&self, place: &mut Place, word: usize, _event: &Event) -> u64
+        requires sizes { M.sizes ≡ sizes_of self.now }
+        requires place { place.old.table_id ≡ table_of self.now }
+        requires joined { IsJoined place.old.me }
+        requires step { IsStep M.sizes M.event (sleeper_in place.old.me.0) word (λ n. n) }
+        requires unkept { IsUnkept M.event }
+        ensures table { place.new.table_id ≡ place.old.table_id }
+        ensures checked { HasChecked M.sizes M.event place.old.me result place.new.me }
+    {
+        self.table.shared.load::<CheckPosted<M>>(place, word)
+    }
+
+    // Step Cut: split of the joined seat, a load of word 0.
+    // Seat: joined, then the sleeper's as it was. The new seat is the raiser's as it was.
+    fn cut(&self, place: &mut Place) -> Place
+        requires place { place.old.table_id ≡ table_of self.now }
+        requires joined { IsJoined place.old.me }
+        ensures table { place.new.table_id ≡ place.old.table_id }
+        ensures other_table { result.table_id ≡ place.old.table_id }
+        ensures sleeper { place.new.me ≡ (sleeper_view place.old.me.0, []) }
+        ensures raiser { result.me ≡ (raiser_view place.old.me.0, []) }
+    {
+        self.table.shared.split_seat::<CutParts>(place)
+    }
+}

@@ -1,0 +1,22 @@
+//! The rule of the words. Before this: `view`. After it: `plays`, what each step tells its seat.
+//! The table has no slots. Its words are the posted word of each Rendez, the level of each Rendez,
+//! and the flags of each process, in this order.
+ghost use Rattle.rendez_words.specs.Rule.{ShowsCore};
+ghost use Rattle.rendez_words.specs.View.{first_view};
+
+use crate::view::{Sizes, View};
+use atomic_table::{Seat, Table, TableRule};
+use std::alloc::Global;
+
+/// There is a run of the core whose words are just these, and each seat knows its own part of it.
+pub struct OneRun;
+
+pub type WordTable = Table<(), View, Sizes, OneRun, Global>;
+
+pub type Place = Seat<(), View>;
+
+impl TableRule<(), View, Sizes> for OneRun {
+    ghost holds = { ShowsCore };
+
+    ghost first = { first_view };
+}

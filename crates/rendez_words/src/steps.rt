@@ -1,0 +1,208 @@
+//! One function for each atomic operation, which makes an event of the core.
+//! Before this: `words`. After it: `sleeper`, `raiser` and `notes`, whose steps are made by these.
+//! All orderings are the table's. Each asks that the operation does to its word what the event does
+//! to its cell, and tells what the table answers to the event from what was found there.
+ghost use Rattle.std.specs.Prelude.{◌≡◌, ◌==◌, ◌+◌, ◌<◌, max, bit_or};
+ghost use prog.Atomic.{either};
+ghost use Rattle.sleep_core.specs.Table.Cell.{PostedOf, LevelOf, FlagsOf};
+ghost use Rattle.rendez_words.specs.Plays.{IsStep, HasMade, part_of};
+ghost use Rattle.rendez_words.specs.Rule.{place};
+ghost use Rattle.rendez_words.specs.Words.{table_of, sizes_of, procs_of, rendez_of};
+
+use crate::plays::{Make, Making};
+use crate::states::Stepper;
+use crate::words::Words;
+use sleep_core::Event;
+use std::marker::Brand;
+use sync_base::{Pid, RendezId};
+
+impl Words {
+    /// Where the posted word of the Rendez lies.
+    pub(crate) fn posted_word(&self, rendez: RendezId) -> usize
+        requires { rendez.0 < rendez_of self.now }
+        ensures { result ≡ place (sizes_of self.now) (PostedOf rendez.0) }
+    {
+        rendez.0 as usize
+    }
+
+    /// Where the level of the Rendez lies.
+    pub(crate) fn level_word(&self, rendez: RendezId) -> usize
+        requires { rendez.0 < rendez_of self.now }
+        ensures { result ≡ place (sizes_of self.now) (LevelOf rendez.0) }
+    {
+        (self.sizes.rendez + rendez.0) as usize
+    }
+
+    /// Where the flags of the process lie.
+    pub(crate) fn flags_word(&self, pid: Pid) -> usize
+        requires { pid.0 < procs_of self.now }
+        ensures { result ≡ place (sizes_of self.now) (FlagsOf pid.0) }
+    {
+        (self.sizes.rendez + (self.sizes.rendez + pid.0)) as usize
+    }
+
+    /// Reads the word.
+    pub(crate) fn load(
+        &self,
+        stepper: &mut Stepper,
+        word: usize,
+        event: Event,
+    ) -> u64
+        requires table { stepper.old.table ≡ table_of self.now }
+        requires step { IsStep (sizes_of self.now) event (part_of stepper.old) word (λ n. n) }
+        ensures table { stepper.new.table ≡ stepper.old.table }
+        ensures made { HasMade (sizes_of self.now) event
+            (part_of stepper.old) result (part_of stepper.new) }
+    {
+        self.load_for::<Brand>(stepper, word, &event)
+    }
+
+    fn load_for<M: Making>(
+        &self,
+        stepper: &mut Stepper,
+        word: usize,
+        _event: &Event,
+    ) -> u64
+        requires sizes { M.sizes ≡ sizes_of self.now }
+        requires table { stepper.old.table ≡ table_of self.now }
+        requires step { IsStep M.sizes M.event (part_of stepper.old) word (λ n. n) }
+        ensures table { stepper.new.table ≡ stepper.old.table }
+        ensures made { HasMade M.sizes M.event (part_of stepper.old) result (part_of stepper.new) }
+    {
+        self.table.shared.load::<Make<M>>(&mut stepper.place, word)
+    }
+
+    /// Writes the word, and answers what it was.
+    pub(crate) fn swap(
+        &self,
+        stepper: &mut Stepper,
+        word: usize,
+        new: u64,
+        event: Event,
+    ) -> u64
+        requires table { stepper.old.table ≡ table_of self.now }
+        requires step { IsStep (sizes_of self.now) event (part_of stepper.old) word (λ _. new) }
+        ensures table { stepper.new.table ≡ stepper.old.table }
+        ensures made { HasMade (sizes_of self.now) event
+            (part_of stepper.old) result (part_of stepper.new) }
+    {
+        self.swap_for::<Brand>(stepper, word, new, &event)
+    }
+
+    fn swap_for<M: Making>(
+        &self,
+        stepper: &mut Stepper,
+        word: usize,
+        new: u64,
+        _event: &Event,
+    ) -> u64
+        requires sizes { M.sizes ≡ sizes_of self.now }
+        requires table { stepper.old.table ≡ table_of self.now }
+        requires step { IsStep M.sizes M.event (part_of stepper.old) word (λ _. new) }
+        ensures table { stepper.new.table ≡ stepper.old.table }
+        ensures made { HasMade M.sizes M.event (part_of stepper.old) result (part_of stepper.new) }
+    {
+        self.table.shared.swap::<Make<M>>(&mut stepper.place, word, new)
+    }
+
+    /// Writes the word where it is `old`, and answers what it was.
+    pub(crate) fn compare_exchange(
+        &self,
+        stepper: &mut Stepper,
+        word: usize,
+        old: u64,
+        new: u64,
+        event: Event,
+    ) -> u64
+        requires table { stepper.old.table ≡ table_of self.now }
+        requires step { IsStep (sizes_of self.now) event (part_of stepper.old) word (λ n. either (n == old) new n) }
+        ensures table { stepper.new.table ≡ stepper.old.table }
+        ensures made { HasMade (sizes_of self.now) event
+            (part_of stepper.old) result (part_of stepper.new) }
+    {
+        self.compare_exchange_for::<Brand>(stepper, word, old, new, &event)
+    }
+
+    fn compare_exchange_for<M: Making>(
+        &self,
+        stepper: &mut Stepper,
+        word: usize,
+        old: u64,
+        new: u64,
+        _event: &Event,
+    ) -> u64
+        requires sizes { M.sizes ≡ sizes_of self.now }
+        requires table { stepper.old.table ≡ table_of self.now }
+        requires step { IsStep M.sizes M.event (part_of stepper.old) word (λ n. either (n == old) new n) }
+        ensures table { stepper.new.table ≡ stepper.old.table }
+        ensures made { HasMade M.sizes M.event (part_of stepper.old) result (part_of stepper.new) }
+    {
+        self.table.shared.compare_exchange::<Make<M>>(&mut stepper.place, word, old, new)
+    }
+
+    /// Raises the word to `least`, and answers what it was.
+    pub(crate) fn fetch_max(
+        &self,
+        stepper: &mut Stepper,
+        word: usize,
+        least: u64,
+        event: Event,
+    ) -> u64
+        requires table { stepper.old.table ≡ table_of self.now }
+        requires step { IsStep (sizes_of self.now) event (part_of stepper.old) word (λ n. max n least) }
+        ensures table { stepper.new.table ≡ stepper.old.table }
+        ensures made { HasMade (sizes_of self.now) event
+            (part_of stepper.old) result (part_of stepper.new) }
+    {
+        self.fetch_max_for::<Brand>(stepper, word, least, &event)
+    }
+
+    fn fetch_max_for<M: Making>(
+        &self,
+        stepper: &mut Stepper,
+        word: usize,
+        least: u64,
+        _event: &Event,
+    ) -> u64
+        requires sizes { M.sizes ≡ sizes_of self.now }
+        requires table { stepper.old.table ≡ table_of self.now }
+        requires step { IsStep M.sizes M.event (part_of stepper.old) word (λ n. max n least) }
+        ensures table { stepper.new.table ≡ stepper.old.table }
+        ensures made { HasMade M.sizes M.event (part_of stepper.old) result (part_of stepper.new) }
+    {
+        self.table.shared.fetch_max::<Make<M>>(&mut stepper.place, word, least)
+    }
+
+    /// Sets bits of the word, and answers what it was.
+    pub(crate) fn fetch_or(
+        &self,
+        stepper: &mut Stepper,
+        word: usize,
+        bits: u64,
+        event: Event,
+    ) -> u64
+        requires table { stepper.old.table ≡ table_of self.now }
+        requires step { IsStep (sizes_of self.now) event (part_of stepper.old) word (λ n. bit_or n bits) }
+        ensures table { stepper.new.table ≡ stepper.old.table }
+        ensures made { HasMade (sizes_of self.now) event
+            (part_of stepper.old) result (part_of stepper.new) }
+    {
+        self.fetch_or_for::<Brand>(stepper, word, bits, &event)
+    }
+
+    fn fetch_or_for<M: Making>(
+        &self,
+        stepper: &mut Stepper,
+        word: usize,
+        bits: u64,
+        _event: &Event,
+    ) -> u64
+        requires sizes { M.sizes ≡ sizes_of self.now }
+        requires table { stepper.old.table ≡ table_of self.now }
+        requires step { IsStep M.sizes M.event (part_of stepper.old) word (λ n. bit_or n bits) }
+        ensures table { stepper.new.table ≡ stepper.old.table }
+        ensures made { HasMade M.sizes M.event (part_of stepper.old) result (part_of stepper.new) }
+    {
+        self.table.shared.fetch_or::<Make<M>>(&mut stepper.place, word, bits)
+    }
+}

@@ -1,0 +1,63 @@
+-- What clauses see of a process, and of the roster that gives out pids and Rendez.
+use Rattle.std.specs.Prelude.{◌≡◌, ◌≢◌, ◌<◌, ◌≤◌, ◌+◌, ℕ, ⊤, [], Option, Some, None}
+use Rattle.sync_base.specs.declared.ids.Pid.{Pid}
+use Rattle.rendez_words.specs.declared.words.Words.{Words}
+use Rattle.rendez_words.specs.Process.{Process, PidsLeft}
+use Rattle.rendez_words.specs.Words.{IsProcessOf, ArePidsOf, table_of, procs_of, rendez_of}
+use Rattle.rendez_words.specs.Words.{given_from, one_less}
+
+-- a process of a kernel: the words on which it sleeps and wakes, its pid, and its own steps
+pub record Running : Type 0 where
+  pub words : Words
+  pub process : Process
+
+-- how many pids and Rendez there are, and which are the next
+pub record Counts : Type 0 where
+  pub procs : ℕ
+  pub rendez : ℕ
+  pub next_pid : ℕ
+  pub next_rendez : ℕ
+
+-- what a roster has left: the pids from the next one on, and the Rendez from this one on
+pub record Unused : Type 0 where
+  pub words : Words
+  pub pids : PidsLeft
+  pub rendez : ℕ
+
+-- the process of a seat; where the seat is away there is none
+abbrev pub process_in : Words → Option Process → Process
+process_in words None = record { table = table_of words; pid = 0; trace = [] }
+process_in words (Some process) = process
+
+-- the seat is there, and is this process of these words
+abbrev pub IsSeated : Words → Pid → Option Process → Type 0
+IsSeated words pid None = ⊥
+IsSeated words pid (Some process) = IsProcessOf words process × (process.pid ≡ pid.0)
+
+-- the words have so many processes and Rendez
+pub record HasSizes (words : Words) (procs rendez : ℕ) : Type 0 where
+  pub procs_are : procs_of words ≡ procs
+  pub rendez_are : rendez_of words ≡ rendez
+
+-- the pids and Rendez that are left are these words', from these ones on
+pub record AreLeftOf (words : Words) (pids : PidsLeft) (left : Counts) : Type 0 where
+  pub pids_are : ArePidsOf words pids
+  pub next_is : pids.next ≡ left.next_pid
+  pub rendez_in : left.next_rendez ≤ rendez_of words
+  pub sizes : HasSizes words left.procs left.rendez
+
+-- the next process, which has made no step
+abbrev pub next_process : Unused → Running
+next_process unused = record { words = unused.words; process = given_from unused.pids }
+
+-- one pid less is left
+abbrev pub one_pid_less : Unused → Unused
+one_pid_less unused = record unused { pids = one_less unused.pids }
+
+-- so many Rendez less are left
+abbrev pub rendez_less : ℕ → Unused → Unused
+rendez_less count unused = record unused { rendez = unused.rendez + count }
+
+-- so many Rendez are left
+abbrev pub HasRendez : Unused → ℕ → Type 0
+HasRendez unused count = unused.rendez + count ≤ rendez_of unused.words

@@ -1,0 +1,4 @@
+pub mod Calls
+pub mod Forks
+pub mod Kernel
+pub mod Starts

@@ -1,0 +1,26 @@
+-- What a kernel begins with.
+use Rattle.std.specs.Prelude.{◌≡◌, []}
+use Rattle.rendez_words.specs.declared.words.Words.{Words}
+use Rattle.rendez_words.specs.Words.{IsProcessOf, ArePidsOf}
+use Rattle.sleep_wakeup.specs.declared.kernel.Start.{Start}
+use Rattle.sleep_wakeup.specs.Kernel.{Running, Unused}
+
+-- the first process, and the pids behind it, of these words; nobody has made a step
+pub record IsStartOf (words : Words) (start : Start) : Type 0 where
+  pub process : IsProcessOf words start.seat
+  pub first : start.seat.pid ≡ 0
+  pub unused : start.seat.trace ≡ []
+  pub pids : ArePidsOf words start.pids
+  pub next : start.pids.next ≡ 1
+
+-- the process with the pid 0, which has made no step
+pub record IsFirst (words : Words) (proc : Running) : Type 0 where
+  pub words_are : proc.words ≡ words
+  pub first : proc.process.pid ≡ 0
+  pub unused : proc.process.trace ≡ []
+
+-- every other pid is left, and every Rendez
+pub record HasAllLeft (words : Words) (roster : Unused) : Type 0 where
+  pub words_are : roster.words ≡ words
+  pub pids : roster.pids.next ≡ 1
+  pub rendez : roster.rendez ≡ 0

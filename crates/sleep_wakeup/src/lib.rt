@@ -1,0 +1,19 @@
+//! A kernel and its processes, each on a thread of its own: sleep, wakeup, notes and rfork.
+//! Read `kernel`, what there is at the start; `roster`, which gives pids and Rendez; `proc`, what a
+//! process is; and then `sleeping`, `waking` and `noting`, its calls.
+#![tactic(auto)]
+
+pub mod kernel;
+mod noting;
+pub mod proc;
+pub mod roster;
+mod sleeping;
+mod waking;
+
+pub use kernel::{Kernel, Opened, Start, Started};
+pub use proc::Proc;
+pub use rendez_words::Done;
+pub use roster::{Left, Roster};
+
+#[cfg(test)]
+mod tests;

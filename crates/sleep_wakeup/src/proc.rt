@@ -1,0 +1,58 @@
+//! A process. Before this: `roster`. After it: `sleeping`, `waking` and `noting`, its calls.
+use rendez_words::{Seat, Words};
+use std::marker::Model;
+use sync_base::Pid;
+
+/// A process of a kernel. One thread has it at a time, and may hand it to another.
+#[derive(Drop)]
+pub struct Proc<'k> {
+    pub(crate) words: &'k Words,
+    // It is away while a call makes its steps.
+    pub(crate) seat: Option<Seat>,
+    pub(crate) pid: Pid,
+}
+
+impl<'k> Model for Proc<'k> {
+    ghost use Rattle.sleep_wakeup.specs.Kernel.{Running, IsSeated, process_in};
+
+    ghost Value = { Running };
+
+    ghost view = { λ proc. record {
+      words = proc.words.now;
+      process = process_in proc.words.now proc.seat;
+    } };
+
+    ghost invariant = { λ proc. IsSeated proc.words.now proc.pid proc.seat };
+}
+
+impl<'k> Proc<'k> {
+    ghost use Rattle.std.specs.Prelude.{◌≡◌};
+    ghost use Rattle.rendez_words.specs.Words.{IsProcessOf};
+
+    pub(crate) fn new(words: &'k Words, seat: Seat, pid: Pid) -> Proc<'k>
+        requires seat { IsProcessOf words.now seat }
+        requires pid { seat.pid ≡ pid.0 }
+        ensures words { result.words ≡ words.entry.now }
+        ensures process { result.process ≡ seat }
+    {
+        Proc {
+            words,
+            seat: Some(seat),
+            pid,
+        }
+    }
+
+    /// Its pid. Takes no memory and doesn't wait.
+    pub fn pid(&self) -> Pid
+        ensures { result.0 ≡ self.now.process.pid }
+    {
+        self.pid
+    }
+
+    /// Its steps are those of a process in a run of the core, so the laws of the core hold of them.
+    pub fn is_in_a_run(&self)
+        ensures { IsProcessOf self.now.words self.now.process }
+    {
+        let _seat = &self.seat;
+    }
+}
