@@ -52,7 +52,7 @@ phase_there words process is =
     let run = is.run in
     let sound = runs_are_sound (procs_of words) (rendez_of words) run.run run.legal in
     let phase_is : phase_of (world_of (procs_of words) (rendez_of words) run.run) process.pid ≡ phase_in process =
-        sym (phase_by-kept_own (procs_of words) (rendez_of words) run.run run.legal process.pid) ∙ ap phase_by (sym run.trace_is) in
+    sym (phase_by-kept_own (procs_of words) (rendez_of words) run.run run.legal process.pid) ∙ ap phase_by (sym run.trace_is) in
     subst (IsPhaseIn (procs_of words) (rendez_of words)) phase_is
     (subst (λ n. IsPhaseIn (procs_of words) n (phase_of (world_of (procs_of words) (rendez_of words) run.run) process.pid)) sound.rendez_stay
     (subst (λ n. IsPhaseIn n (Rattle.std.specs.Prelude.length (world_of (procs_of words) (rendez_of words) run.run).posted) (phase_of (world_of (procs_of words) (rendez_of words) run.run) process.pid)) sound.procs_stay

@@ -42,14 +42,14 @@ not_posted sizes pid before found after rendez threshold level has asleep receip
     let count = sizes.rendez in
     let s = world_of procs count has.run in
     let returned : HasReturned (history_of has.run) rendez.0 level =
-        returns_by_kept_events procs count has.run has.legal (raiser_in before.0).pid rendez.0 level
-        (subst (λ (trace : List Entry). HasReturned (history_of trace) rendez.0 level) has.raiser_is receipt) in
+    returns_by_kept_events procs count has.run has.legal (raiser_in before.0).pid rendez.0 level
+    (subst (λ (trace : List Entry). HasReturned (history_of trace) rendez.0 level) has.raiser_is receipt) in
     let phase_is : phase_of s (sleeper_in before.0).pid ≡ phase.Asleep rendez threshold =
-        sym (phase_by-kept_own procs count has.run has.legal (sleeper_in before.0).pid) ∙ ap phase_by (sym has.sleeper_is) ∙ asleep in
+    sym (phase_by-kept_own procs count has.run has.legal (sleeper_in before.0).pid) ∙ ap phase_by (sym has.sleeper_is) ∙ asleep in
     let posted : posted_of s rendez.0 ≡ posted_as (sleeper_in before.0).pid =
-        sym (found_posted s pid rendez threshold has.stage has.word found (has.in_stage ∙ asleep) has.read has.found_is) ∙ same in
+    sym (found_posted s pid rendez threshold has.stage has.word found (has.in_stage ∙ asleep) has.read has.found_is) ∙ same in
     let least : level ≤ threshold =
-        (returned_wakeup_releases procs count has.run has.legal rendez level returned).released (sleeper_in before.0).pid threshold phase_is posted in
+    (returned_wakeup_releases procs count has.run has.legal rendez level returned).released (sleeper_in before.0).pid threshold phase_is posted in
     absurd (omega arith)
 
 -- the same by the two processes

@@ -20,7 +20,8 @@ pub mod view;
 mod waiting;
 pub mod words;
 
-pub use states::{Asleep, Awaiting, Holding, Leaving, Out, Owing, Pids, Posted, Seat, Woken};
-pub use states::{Checked, Cleared, Done, Refused, Returned};
-pub use states::{LookAnswer, TakeAnswer, TestAnswer, WithdrawAnswer};
+pub use states::{
+    Asleep, Awaiting, Checked, Cleared, Done, Holding, Leaving, LookAnswer, Out, Owing, Pids,
+    Posted, Refused, Returned, Seat, TakeAnswer, TestAnswer, WithdrawAnswer, Woken,
+};
 pub use words::{Opened, Words};

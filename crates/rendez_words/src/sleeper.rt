@@ -12,18 +12,8 @@ ghost use Rattle.rendez_words.specs.Words.{IsProcessOf, MayPost, WhyNotPosted};
 
 use crate::flags_word::flags_in;
 use crate::states::{
-    Asleep,
-    Awaiting,
-    Cleared,
-    Leaving,
-    LookAnswer,
-    Out,
-    Posted,
-    Refused,
-    Seat,
-    TestAnswer,
-    WithdrawAnswer,
-    Woken,
+    Asleep, Awaiting, Cleared, Leaving, LookAnswer, Out, Posted, Refused, Seat, TestAnswer,
+    WithdrawAnswer, Woken,
 };
 use crate::words::Words;
 use sleep_core::Event;

@@ -42,12 +42,7 @@ impl Words {
     }
 
     /// Reads the word.
-    pub(crate) fn load(
-        &self,
-        stepper: &mut Stepper,
-        word: usize,
-        event: Event,
-    ) -> u64
+    pub(crate) fn load(&self, stepper: &mut Stepper, word: usize, event: Event) -> u64
         requires table { stepper.old.table ≡ table_of self.now }
         requires step { IsStep (sizes_of self.now) event (part_of stepper.old) word (λ n. n) }
         ensures table { stepper.new.table ≡ stepper.old.table }
@@ -57,12 +52,7 @@ impl Words {
         self.load_for::<Brand>(stepper, word, &event)
     }
 
-    fn load_for<M: Making>(
-        &self,
-        stepper: &mut Stepper,
-        word: usize,
-        _event: &Event,
-    ) -> u64
+    fn load_for<M: Making>(&self, stepper: &mut Stepper, word: usize, _event: &Event) -> u64
         requires sizes { M.sizes ≡ sizes_of self.now }
         requires table { stepper.old.table ≡ table_of self.now }
         requires step { IsStep M.sizes M.event (part_of stepper.old) word (λ n. n) }
@@ -73,13 +63,7 @@ impl Words {
     }
 
     /// Writes the word, and answers what it was.
-    pub(crate) fn swap(
-        &self,
-        stepper: &mut Stepper,
-        word: usize,
-        new: u64,
-        event: Event,
-    ) -> u64
+    pub(crate) fn swap(&self, stepper: &mut Stepper, word: usize, new: u64, event: Event) -> u64
         requires table { stepper.old.table ≡ table_of self.now }
         requires step { IsStep (sizes_of self.now) event (part_of stepper.old) word (λ _. new) }
         ensures table { stepper.new.table ≡ stepper.old.table }
@@ -102,7 +86,9 @@ impl Words {
         ensures table { stepper.new.table ≡ stepper.old.table }
         ensures made { HasMade M.sizes M.event (part_of stepper.old) result (part_of stepper.new) }
     {
-        self.table.shared.swap::<Make<M>>(&mut stepper.place, word, new)
+        self.table
+            .shared
+            .swap::<Make<M>>(&mut stepper.place, word, new)
     }
 
     /// Writes the word where it is `old`, and answers what it was.
@@ -137,7 +123,9 @@ impl Words {
         ensures table { stepper.new.table ≡ stepper.old.table }
         ensures made { HasMade M.sizes M.event (part_of stepper.old) result (part_of stepper.new) }
     {
-        self.table.shared.compare_exchange::<Make<M>>(&mut stepper.place, word, old, new)
+        self.table
+            .shared
+            .compare_exchange::<Make<M>>(&mut stepper.place, word, old, new)
     }
 
     /// Raises the word to `least`, and answers what it was.
@@ -170,7 +158,9 @@ impl Words {
         ensures table { stepper.new.table ≡ stepper.old.table }
         ensures made { HasMade M.sizes M.event (part_of stepper.old) result (part_of stepper.new) }
     {
-        self.table.shared.fetch_max::<Make<M>>(&mut stepper.place, word, least)
+        self.table
+            .shared
+            .fetch_max::<Make<M>>(&mut stepper.place, word, least)
     }
 
     /// Sets bits of the word, and answers what it was.
@@ -203,6 +193,8 @@ impl Words {
         ensures table { stepper.new.table ≡ stepper.old.table }
         ensures made { HasMade M.sizes M.event (part_of stepper.old) result (part_of stepper.new) }
     {
-        self.table.shared.fetch_or::<Make<M>>(&mut stepper.place, word, bits)
+        self.table
+            .shared
+            .fetch_or::<Make<M>>(&mut stepper.place, word, bits)
     }
 }

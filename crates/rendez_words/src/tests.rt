@@ -2,8 +2,10 @@
 ghost use Rattle.std.specs.Prelude.{◌<◌, MatchResult};
 ghost use Rattle.rendez_words.specs.Words.{IsProcessOf, rendez_of};
 
-use crate::{Cleared, LookAnswer, Opened, Refused, Returned, Seat, TakeAnswer, TestAnswer};
-use crate::{WithdrawAnswer, Words};
+use crate::{
+    Cleared, LookAnswer, Opened, Refused, Returned, Seat, TakeAnswer, TestAnswer, WithdrawAnswer,
+    Words,
+};
 use std::process::Abort;
 use std::sync::Wait;
 use std::test::Fail;
@@ -59,7 +61,14 @@ fn wakeup(words: &Words, seat: Seat, rendez: RendezId, level: u64) -> Result<Ret
 
 #[test]
 fn a_wakeup_before_the_post_is_seen(rt: HostRuntime) -> Result<(), Fail> {
-    let Ok(Opened { words, seat, pids: _ }) = Words::new(rt.alloc(), 1, 1) else {
+    let Ok(
+        Opened {
+            words,
+            seat,
+            pids: _,
+        },
+    ) = Words::new(rt.alloc(), 1, 1)
+    else {
         return Ok(());
     };
     let Ok(Returned { seat, done }) = wakeup(&words, seat, FIRST, 1) else {
@@ -77,11 +86,13 @@ fn a_wakeup_before_the_post_is_seen(rt: HostRuntime) -> Result<(), Fail> {
 fn refusals_hand_the_seat_back(rt: HostRuntime) -> Result<(), Fail> {
     assert!(rt; matches!(Words::new(rt.alloc(), 0, 1), Err(Fault::NoProc)));
     assert!(rt; matches!(Words::new(rt.alloc(), 1, 8_193), Err(Fault::NoRendez)));
-    let Ok(Opened {
-        words,
-        seat,
-        mut pids,
-    }) = Words::new(rt.alloc(), 2, 1)
+    let Ok(
+        Opened {
+            words,
+            seat,
+            mut pids,
+        },
+    ) = Words::new(rt.alloc(), 2, 1)
     else {
         return Ok(());
     };
@@ -98,7 +109,10 @@ fn refusals_hand_the_seat_back(rt: HostRuntime) -> Result<(), Fail> {
     };
     assert_eq!(rt; fault, Fault::NoRendez);
     let mut seat = seat;
-    assert_eq!(rt; words.note(&mut seat, Pid(2), NoteSet::empty()), Err(Fault::NoProc));
+    assert_eq!(rt;
+        words.note(&mut seat, Pid(2), NoteSet::empty()),
+        Err(Fault::NoProc)
+    );
     assert!(rt; words.split(&mut pids).is_ok());
     assert!(rt; matches!(words.split(&mut pids), Err(Fault::NoProc)));
     Ok(())
@@ -106,17 +120,27 @@ fn refusals_hand_the_seat_back(rt: HostRuntime) -> Result<(), Fail> {
 
 #[test]
 fn notes_end_a_sleep_and_are_taken(rt: HostRuntime) -> Result<(), Fail> {
-    let Ok(Opened {
-        words,
-        mut seat,
-        pids: _,
-    }) = Words::new(rt.alloc(), 1, 1)
+    let Ok(
+        Opened {
+            words,
+            mut seat,
+            pids: _,
+        },
+    ) = Words::new(rt.alloc(), 1, 1)
     else {
         return Ok(());
     };
     let both = NoteSet::of(Note::Alarm).join(NoteSet::of(Note::ClosedPipe));
-    assert!(rt; words.note(&mut seat, Pid(0), NoteSet::of(Note::ClosedPipe)).is_ok());
-    assert!(rt; words.note(&mut seat, Pid(0), NoteSet::of(Note::Alarm)).is_ok());
+    assert!(rt;
+        words
+            .note(&mut seat, Pid(0), NoteSet::of(Note::ClosedPipe))
+            .is_ok()
+    );
+    assert!(rt;
+        words
+            .note(&mut seat, Pid(0), NoteSet::of(Note::Alarm))
+            .is_ok()
+    );
     let Ok(Cleared { mut seat, notes }) = sleep(&rt, &words, seat, FIRST, 0) else {
         panic!(rt; "nobody is posted")
     };
@@ -133,10 +157,22 @@ fn play<R: Wait>(rt: &R, words: &Words, mut seat: Seat, mine: RendezId, other: R
 {
     let mut rounds = 0;
     for round in 0..1_000 {
-        let Ok(Returned { seat: raised, done: _ }) = wakeup(words, seat, other, round + 1) else {
+        let Ok(
+            Returned {
+                seat: raised,
+                done: _,
+            },
+        ) = wakeup(words, seat, other, round + 1)
+        else {
             return rounds;
         };
-        let Ok(Cleared { seat: slept, notes: _ }) = sleep(rt, words, raised, mine, round) else {
+        let Ok(
+            Cleared {
+                seat: slept,
+                notes: _,
+            },
+        ) = sleep(rt, words, raised, mine, round)
+        else {
             return rounds;
         };
         seat = slept;
@@ -163,11 +199,13 @@ fn rounds_of_two<R: Threads + Wait + Sync>(
 
 #[test]
 fn two_processes_wake_each_other(rt: HostRuntime) -> Result<(), Fail> {
-    let Ok(Opened {
-        words,
-        seat,
-        mut pids,
-    }) = Words::new(rt.alloc(), 2, 2)
+    let Ok(
+        Opened {
+            words,
+            seat,
+            mut pids,
+        },
+    ) = Words::new(rt.alloc(), 2, 2)
     else {
         return Ok(());
     };

@@ -11,8 +11,8 @@ use crate::states::{Pids, Seat, Stepper};
 use crate::view::Sizes;
 use atomic_table::Table;
 use std::alloc::Global;
-use sync_base::limits::{MAX_PROCS, MAX_RENDEZ};
 use sync_base::Fault;
+use sync_base::limits::{MAX_PROCS, MAX_RENDEZ};
 
 /// Rendez and processes that sleep and wake each other, each process on a thread.
 #[derive(Drop)]

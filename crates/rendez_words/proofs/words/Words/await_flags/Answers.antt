@@ -34,9 +34,9 @@ returns-clause-made g c =
 pub returns-clause-ends : goal.returns-clause-ends
 returns-clause-ends g c =
     elim c.match-next.branch [
-      in-None w ↦ let steps = w.in-None.ensures.steps in cc
-    | in-Some+then-ends_wait w ↦
-        subst (EndsWait c.args.notes_end)
-        (w.flags_in.ensures c.flags_in-2.result (looked_flags _ _ _ _ _ _ c.requires.looking c.loop.invariant c.flags_in-2.ensures))
-        w.if-ends_wait.ensures.ends
+      | in-None w ↦ let steps = w.in-None.ensures.steps in cc
+      | in-Some+then-ends_wait w ↦
+          subst (EndsWait c.args.notes_end)
+          (w.flags_in.ensures c.flags_in-2.result (looked_flags _ _ _ _ _ _ c.requires.looking c.loop.invariant c.flags_in-2.ensures))
+          w.if-ends_wait.ensures.ends
     ]

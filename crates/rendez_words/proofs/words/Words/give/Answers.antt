@@ -7,10 +7,9 @@ use Rattle.rendez_words.proofs.words.Words.give.Goals as goal
 pub split_seat-place-requires : goal.split_seat-place-requires
 split_seat-place-requires c =
     let least = c.args.self.now.in_range.1.0 in
-    let count = c.args.self.now.word_count in
-    (
+    let count = c.args.self.now.word_count in (
       search rules,
       omega arith,
       gives _ _ _ _ c.pids.invariant
-      (subst (λ n. n < procs_of c.args.self.now) (sym (ap (λ pids. pids.next) c.pids.view_is) ∙ ap (λ me. next_in me.0) c.pids.invariant) c.requires.left),
+          (subst (λ n. n < procs_of c.args.self.now) (sym (ap (λ pids. pids.next) c.pids.view_is) ∙ ap (λ me. next_in me.0) c.pids.invariant) c.requires.left),
     )
