@@ -1,1 +1,3 @@
+mod GroupLemmas
 mod LineLemmas
+mod TableLemmas

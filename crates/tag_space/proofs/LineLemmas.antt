@@ -62,8 +62,8 @@ module _ (table : List Line) (rising : IsRising table) where
     comparisons_rise =
         IsNonDecreasingBy-from_default (λ line. ordering_index (nat_cmp line.0.0 tag)) table no_line
         (λ i j le in_range.
-          let tags_rise : tag_at table i ≤ tag_at table j = grind (arith, rising i j, λ (same : i ≡ j). ap (tag_at table) same) in
-          grind (arith, nat_tests))
+        let tags_rise : tag_at table i ≤ tag_at table j = grind (arith, rising i j, λ (same : i ≡ j). ap (tag_at table) same) in
+        grind (arith, nat_tests))
 
     -- a binary search ends at the tag, or at the gap for it
     pub searched : (r : Result ℕ ℕ) → IsSearchInRange r (length table) → IsBinarySearchResult (λ line. nat_cmp line.0.0 tag) table r → record { found : IfOk r (IsAt table tag); absent : IfErr r (IsGapFor table tag) }

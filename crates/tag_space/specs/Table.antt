@@ -71,6 +71,12 @@ pub record AreCounts (places : List Place) : Type 0 where
   pub waiting : (member : ℕ) → is_waiting (place_of places member).standing ≡ true
       → (place_of places member).meetings < LAST_MEETING
 
+-- what a space keeps: its members, the table of those who wait, and room for a line of each
+pub record IsGroup (table : List Line) (places : List Place) (room : ℕ) : Type 0 where
+  pub lines : IsTable table places
+  pub counts : AreCounts places
+  pub enough : length places ≤ room
+
 -- the list is the calls that wait, each once, tags rising
 pub record ListsWaiting (lines : List Line) (places : List Place) : Type 0 where
   pub rising : IsRising lines

@@ -6,38 +6,22 @@ use sync_base::Tag;
 #[derive(Clone, Copy, Debug, PartialEq, Eq)]
 pub enum GroupCall {
     /// The member gives its value under the tag, to whoever waits with that tag or comes with it.
-    Call {
-        member: u64,
-        tag: Tag,
-        value: u64,
-    },
+    Call { member: u64, tag: Tag, value: u64 },
     /// The member asks whether its waiting call was met.
-    Collect {
-        member: u64,
-    },
+    Collect { member: u64 },
     /// The member asks the same, and waits no longer.
-    Leave {
-        member: u64,
-    },
+    Leave { member: u64 },
 }
 
 /// The answer to a step.
 #[derive(Clone, Copy, Debug, PartialEq, Eq)]
 pub enum GroupReply {
     /// The call found the waiting call of this member, which gives its value. It was met so often.
-    Met {
-        value: u64,
-        member: u64,
-        count: u64,
-    },
+    Met { value: u64, member: u64, count: u64 },
     /// The waiting call was found by a call that gives this value.
-    WasMet {
-        value: u64,
-    },
+    WasMet { value: u64 },
     /// The member waits. So far its waiting calls were met so often.
-    Wait {
-        count: u64,
-    },
+    Wait { count: u64 },
     /// The call would wait, and no more meetings of this member can be counted.
     Worn,
     /// The member waits no longer, and its call will never be met.
