@@ -1,6 +1,6 @@
 -- What a space keeps stays whole in each step: a member is met, begins to wait, is told or leaves.
-use Rattle.std.proofs.Common.{◌≡◌, ℕ, suc, [], ◌∷◌, ◌+◌, ◌<◌, ◌≤◌, ◌≢◌, Bool, true, false, List, length, get_or, set}
-use Rattle.std.proofs.Common.{eqb, if◌then◌else◌, Option, Some, None, refl, sym, ap, ◌∙◌, subst, arith, inl, inr}
+use Rattle.std.proofs.Common.{◌≡◌, ℕ, suc, [], ◌∷◌, ◌+◌, ◌<◌, ◌≤◌, ◌≢◌, true, false, List, length, get_or}
+use Rattle.std.proofs.Common.{eqb, if◌then◌else◌, Option, Some, refl, sym, ap, ◌∙◌, arith, inl, inr}
 use Rattle.std.specs.List.{insert, remove}
 use Rattle.std.proofs.lemmas.Bool.{cases_eq, false≢true}
 use Rattle.std.proofs.lemmas.List.{get_or-set_same, get_or-set_other, length-set, get_or_default}
@@ -12,9 +12,9 @@ use Rattle.tag_space.specs.declared.place.Place.{Place}
 use Rattle.tag_space.specs.declared.place.TheConstants.{LAST_MEETING}
 use Rattle.tag_space.specs.declared.calls.GroupCall.TheVariants.{Call}
 use Rattle.tag_space.specs.declared.calls.GroupReply.TheVariants as reply
-use Rattle.tag_space.specs.Group.{place_of, fresh_place, put, waits_with, waiter_of, may_call}
+use Rattle.tag_space.specs.Group.{place_of, fresh_place, put, waiter_of, may_call}
 use Rattle.tag_space.specs.Group.{answer_to, places_after, answer_to_call, after_call, value_given}
-use Rattle.tag_space.specs.Table.{Line, no_line, tag_at, member_at, member_with, IsRising, IsAt, IsGapFor}
+use Rattle.tag_space.specs.Table.{Line, no_line, tag_at, member_at, member_with, IsAt, IsGapFor}
 use Rattle.tag_space.specs.Table.{waits_at, is_waiting, IsTable, AreCounts, IsGroup, ListsWaiting}
 use Rattle.tag_space.proofs.LineLemmas.{found_at, found_in_gap}
 use Rattle.tag_space.proofs.TableLemmas.{waits_with_some, waiter_in_range, waits_there, finds_waiter}

@@ -1,3 +1,4 @@
 mod GroupLemmas
 mod LineLemmas
 mod TableLemmas
+mod SpaceLemmas

@@ -1,6 +1,6 @@
 -- Lines in the order of their tags: what a search finds, and what stays found after an edit.
 use Rattle.std.proofs.Common.{◌≡◌, ℕ, zero, suc, ◌+◌, ◌-◌, ◌<◌, ◌≤◌, ◌≢◌, eqb, [], ◌∷◌, List, length}
-use Rattle.std.proofs.Common.{get_or, if◌then◌else◌, Some, None, Result, Ok, Err, IfOk, IfErr}
+use Rattle.std.proofs.Common.{if◌then◌else◌, Some, None, Result, Ok, Err, IfOk, IfErr}
 use Rattle.std.proofs.Common.{refl, sym, ap, subst, arith}
 use Rattle.std.specs.List.{insert, remove}
 use Rattle.std.specs.List.Sorted.{IsSearchInRange, IsBinarySearchResult, IsNonDecreasingBy}

@@ -1,8 +1,8 @@
 -- The table of those who wait: it finds whom the definition finds, and it stays the table when a
 -- member begins to wait, is met or leaves.
-use Rattle.std.proofs.Common.{◌≡◌, ℕ, ◌+◌, ◌<◌, ◌≤◌, ◌≢◌, eqb, nat_lt, Bool, true, false, List, length}
-use Rattle.std.proofs.Common.{get_or, set, if◌then◌else◌, cond, Option, Some, None, refl, sym, ap, ◌∙◌, subst}
-use Rattle.std.proofs.Common.{arith, position, count_by, inl, inr}
+use Rattle.std.proofs.Common.{◌≡◌, ℕ, ◌+◌, ◌<◌, ◌≢◌, true, false, List, length}
+use Rattle.std.proofs.Common.{get_or, cond, Option, Some, None, refl, sym, ap, ◌∙◌, subst}
+use Rattle.std.proofs.Common.{arith, inl, inr}
 use Rattle.std.specs.List.{insert, remove, position_or_len}
 use Rattle.std.proofs.lemmas.Bool.{cases_lt, cases_eq, false_from_ne_true, false≢true}
 use Rattle.std.proofs.lemmas.Bool.Decides.{nat_tests}
@@ -15,7 +15,7 @@ use Rattle.tag_space.specs.declared.place.Standing.{Standing}
 use Rattle.tag_space.specs.declared.place.Standing.TheVariants.{Idle, Waiting, Met}
 use Rattle.tag_space.specs.declared.place.Place.{Place}
 use Rattle.tag_space.specs.Group.{place_of, fresh_place, put, waits_with, waiter_of}
-use Rattle.tag_space.specs.Table.{Line, tag_at, member_at, member_with, IsRising, IsAt, IsGapFor}
+use Rattle.tag_space.specs.Table.{Line, member_at, member_with, IsAt, IsGapFor}
 use Rattle.tag_space.specs.Table.{waits_at, is_waiting, waiters, IsTable}
 use Rattle.tag_space.proofs.LineLemmas.{found_at, found_without, rising_without}
 use Rattle.tag_space.proofs.LineLemmas.{found_in_gap, found_with, rising_with}

@@ -5,6 +5,7 @@
 
 pub mod calls;
 pub mod group_object;
+pub mod laws;
 pub mod place;
 mod table;
 

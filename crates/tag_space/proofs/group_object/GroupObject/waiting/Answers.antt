@@ -1,4 +1,3 @@
-use Rattle.std.proofs.Common.{◌≡◌}
 use Rattle.tag_space.proofs.GroupLemmas.{lists_waiting}
 use Rattle.tag_space.proofs.group_object.GroupObject.waiting.Goals as goal
 
