@@ -2,3 +2,6 @@ mod GroupLemmas
 mod LineLemmas
 mod TableLemmas
 mod SpaceLemmas
+mod PromiseLemmas
+mod WaitLemmas
+mod WorkedSpaces

@@ -1,6 +1,6 @@
 -- The object keeps what its history says: each step is answered as a tag space answers it.
-use Rattle.std.proofs.Common.{◌≡◌, ◌≢◌, ℕ, ◌+◌, ◌<◌, ◌≤◌, eqb, nat_lt, Bool, true, false, if◌then◌else◌}
-use Rattle.std.proofs.Common.{cond, Option, Some, None, List, [], ◌∷◌, ◌++◌, length, get_or, set, replicate}
+use Rattle.std.proofs.Common.{◌≡◌, ◌≢◌, ℕ, ◌+◌, ◌<◌, eqb, nat_lt, Bool, true, false, if◌then◌else◌}
+use Rattle.std.proofs.Common.{cond, Option, Some, None, List, [], ◌∷◌, ◌++◌, length}
 use Rattle.std.proofs.Common.{count_by, map, refl, sym, ap, ◌∙◌, subst, arith, inl, inr}
 use Rattle.std.proofs.lemmas.Bool.{cases_eq, cases_lt, cases_Bool, false≢true}
 use Rattle.std.proofs.lemmas.Bool.Decides.{nat_tests}
@@ -27,9 +27,10 @@ use Rattle.tag_space.specs.Group.{answer_to, places_after, answer_to_call, after
 use Rattle.tag_space.specs.Group.{opening, answer_to_collect, answer_to_leave, after_collect}
 use Rattle.tag_space.specs.Table.{waits_at}
 use Rattle.tag_space.proofs.TableLemmas.{waiter_in_range}
-use Rattle.tag_space.specs.Rendezvous.{Entry, Space, Offer, Pair, Stage, stage_after, stage_of}
+use Rattle.tag_space.proofs.WaitLemmas.{waits_last}
+use Rattle.tag_space.specs.Rendezvous.{Entry, Space, Offer, Pair, Stage, stage_of}
 use Rattle.tag_space.specs.Rendezvous.Stage.{Over, Waits, Paired}
-use Rattle.tag_space.specs.Rendezvous.{pairs_of, count_of, MayCall, NobodyWaits, Finds, IsMet, IsUnmet}
+use Rattle.tag_space.specs.Rendezvous.{pairs_of, count_of, MayCall, NobodyWaits}
 use Rattle.tag_space.specs.Rendezvous.{IsAnswered, found_by, pair_with, rendezvous}
 
 -- how a member with this stage stands
@@ -69,11 +70,11 @@ module _ (space : Space) (places : List Place) (past : List Entry) (shows : Show
   may_call_is member may =
       elim (cases_lt member (length places)) [
         | inl below ↦
-          let idle : is_idle (place_of places member).standing ≡ true = grind (arith, nat_tests) in
-          record {
-            exists = rw (← shows.members) below;
-            is_over = over_from_idle (stage_of past member) (rw (← shows.standings member) idle);
-          }
+            let idle : is_idle (place_of places member).standing ≡ true = grind (arith, nat_tests) in
+            record {
+              exists = rw (← shows.members) below;
+              is_over = over_from_idle (stage_of past member) (rw (← shows.standings member) idle);
+            }
         | inr past_last ↦ absurd (false≢true (let no : nat_lt member (length places) ≡ false = grind (arith, nat_tests) in rw no at may))
       ]
 
@@ -93,12 +94,12 @@ module _ (space : Space) (places : List Place) (past : List Entry) (shows : Show
       let p : Place → Bool = λ place. waits_with tag place.standing in
       elim (cases_lt (position_or_len (λ (place : Place). waits_with tag place.standing) places) (length places)) [
         | inl found ↦
-          let test : nat_lt (position_or_len (λ (place : Place). waits_with tag place.standing) places) (length places) ≡ true = grind (arith, nat_tests) in
-          let some : Some (position_or_len (λ (place : Place). waits_with tag place.standing) places) ≡ None = rw test at none in
-          cc
+            let test : nat_lt (position_or_len (λ (place : Place). waits_with tag place.standing) places) (length places) ≡ true = grind (arith, nat_tests) in
+            let some : Some (position_or_len (λ (place : Place). waits_with tag place.standing) places) ≡ None = rw test at none in
+            cc
         | inr past_last ↦
-          let fails = fails_before_first (λ (place : Place). waits_with tag place.standing) places member (fresh_place 0) (omega arith) in
-          false≢true (sym fails ∙ here)
+            let fails = fails_before_first (λ (place : Place). waits_with tag place.standing) places member (fresh_place 0) (omega arith) in
+            false≢true (sym fails ∙ here)
       ]
 
   -- whom the object finds waits with the tag
@@ -193,7 +194,7 @@ module _ (space : Space) (places : List Place) (past : List Entry) (shows : Show
       let finding : Offer = record { number = length past; member = member; tag = tag.0; value = value } in
       let pair : Pair = record { waiting = offer; finding = finding } in
       let here : stage_of (entry ∷ past) other ≡ Paired pair = rw (yes other) (ap (found_by finding) waits) in
-      let pairs : pairs_of (entry ∷ past) ≡ pair ∷ pairs_of past = ap (λ (stage : Stage). pair_with finding stage ++ pairs_of past) waits in
+      let pairs : pairs_of (entry ∷ past) ≡ pair ∷ pairs_of past = ap (λ (o : Option Offer). pair_with finding o ++ pairs_of past) (waits_last past other offer waits) in
       let mine = shows.owners other offer waits in
       let counted : (m : ℕ) → count_of space (entry ∷ past) m ≡ space.count + (cond {A = ℕ} (eqb offer.member m) 1 0 + count_by (λ (p : Pair). eqb p.waiting.member m) (pairs_of past)) = λ m. ap (λ (ps : List Pair). space.count + count_by (λ (p : Pair). eqb p.waiting.member m) ps) pairs ∙ ap (λ n. space.count + n) (sum_by-cons (λ (p : Pair). cond {A = ℕ} (eqb p.waiting.member m) 1 0) pair (pairs_of past)) in
       shows_put space places past entry other (Met value) count shows below
@@ -225,13 +226,16 @@ module _ (space : Space) (places : List Place) (past : List Entry) (shows : Show
       let waits = somebody_waits space places past shows tag.0 other found in
       let value_is : value_given (place_of places other).standing ≡ waits.1.offer.value = ap value_given (shows.standings other) ∙ waits.1.value_is in
       record {
-        answered = (may, record {
-          offer = waits.1.offer;
-          waits = waits.1.stage_is;
-          tag_is = waits.1.tag_is;
-          given_is = value_is;
-          count_is = ap (λ n. n + 1) (shows.counts other waits.0);
-        });
+        answered = (
+          may,
+          record {
+            offer = waits.1.offer;
+            waits = waits.1.stage_is;
+            tag_is = waits.1.tag_is;
+            given_is = value_is;
+            count_is = ap (λ n. n + 1) (shows.counts other waits.0);
+          },
+        );
         shown = shows_meets space places past shows by member other _ tag value _ waits.1.offer waits.0 waits.1.stage_is refl;
       }
   call_by_waiter member tag value may None none =
@@ -239,26 +243,26 @@ module _ (space : Space) (places : List Place) (past : List Entry) (shows : Show
       let count = shows.counts member may.exists in
       elim (cases_eq (place_of places member).meetings LAST_MEETING) [
         | inl last ↦
-          let test : eqb (place_of places member).meetings LAST_MEETING ≡ true = grind (arith, nat_tests) in
-          rw test (record {
-            answered = (may, nobody, sym count ∙ last);
-            shown = shows_still space places past (record { by = by; call = Call member tag value; reply = reply.Worn }) shows (λ other. refl) refl;
-          })
+            let test : eqb (place_of places member).meetings LAST_MEETING ≡ true = grind (arith, nat_tests) in
+            rw test (record {
+              answered = (may, nobody, sym count ∙ last);
+              shown = shows_still space places past (record { by = by; call = Call member tag value; reply = reply.Worn }) shows (λ other. refl) refl;
+            })
         | inr more ↦
-          let test : eqb (place_of places member).meetings LAST_MEETING ≡ false = grind (arith, nat_tests) in
-          rw test (record {
-            answered = (may, nobody, count, more);
-            shown = shows_waits space places past shows by member tag value _ may.exists refl;
-          })
+            let test : eqb (place_of places member).meetings LAST_MEETING ≡ false = grind (arith, nat_tests) in
+            rw test (record {
+              answered = (may, nobody, count, more);
+              shown = shows_waits space places past shows by member tag value _ may.exists refl;
+            })
       ]
 
   step_call : (member : ℕ) (tag : Tag) (value : ℕ) → IsStepped (Call member tag value) (answer_to places (Call member tag value)) (places_after places (Call member tag value))
   step_call member tag value = elim (cases_Bool (may_call places member)) [
     | inl may ↦ rw may (call_by_waiter member tag value (may_call_is space places past shows member may) (waiter_of places tag.0) refl)
     | inr not ↦ rw not (record {
-        answered = may_not_call_is space places past shows member not;
-        shown = shows_still space places past (record { by = by; call = Call member tag value; reply = reply.Busy }) shows (λ other. refl) refl;
-      })
+      answered = may_not_call_is space places past shows member not;
+      shown = shows_still space places past (record { by = by; call = Call member tag value; reply = reply.Busy }) shows (λ other. refl) refl;
+    })
   ]
 
   -- a member asks, by what became of its call
@@ -266,12 +270,12 @@ module _ (space : Space) (places : List Place) (past : List Entry) (shows : Show
   collect_by_stage member below Over is = record {
     answered = (record { exists = below; none = λ pair paired. let never = sym is ∙ paired in cc }, shows.counts member below);
     shown = rw (put_same places member Idle (shows.standings member ∙ ap standing_of is))
-    (shows_still space places past (record { by = by; call = Collect member; reply = reply.Wait (place_of places member).meetings }) shows (λ other. refl) refl);
+        (shows_still space places past (record { by = by; call = Collect member; reply = reply.Wait (place_of places member).meetings }) shows (λ other. refl) refl);
   }
   collect_by_stage member below (Waits offer) is = record {
     answered = (record { exists = below; none = λ pair paired. let never = sym is ∙ paired in cc }, shows.counts member below);
     shown = rw (put_same places member (Waiting (record { 0 = offer.tag }) offer.value) (shows.standings member ∙ ap standing_of is))
-    (shows_still space places past (record { by = by; call = Collect member; reply = reply.Wait (place_of places member).meetings }) shows (λ other. refl) refl);
+        (shows_still space places past (record { by = by; call = Collect member; reply = reply.Wait (place_of places member).meetings }) shows (λ other. refl) refl);
   }
   collect_by_stage member below (Paired pair) is = record {
     answered = (below, record { pair = pair; paired = is; given_is = refl });
@@ -281,14 +285,14 @@ module _ (space : Space) (places : List Place) (past : List Entry) (shows : Show
   step_collect : (member : ℕ) → IsStepped (Collect member) (answer_to places (Collect member)) (places_after places (Collect member))
   step_collect member = elim (cases_lt member (length places)) [
     | inl below ↦
-      let test : nat_lt member (length places) ≡ true = grind (arith, nat_tests) in
-      rw (test, shows.standings member) (collect_by_stage member (rw (← shows.members) below) (stage_of past member) refl)
+        let test : nat_lt member (length places) ≡ true = grind (arith, nat_tests) in
+        rw (test, shows.standings member) (collect_by_stage member (rw (← shows.members) below) (stage_of past member) refl)
     | inr past_last ↦
-      let test : nat_lt member (length places) ≡ false = grind (arith, nat_tests) in
-      rw test (record {
-        answered = rw (← shows.members) past_last;
-        shown = shows_still space places past (record { by = by; call = Collect member; reply = reply.Busy }) shows (λ other. refl) refl;
-      })
+        let test : nat_lt member (length places) ≡ false = grind (arith, nat_tests) in
+        rw test (record {
+          answered = rw (← shows.members) past_last;
+          shown = shows_still space places past (record { by = by; call = Collect member; reply = reply.Busy }) shows (λ other. refl) refl;
+        })
   ]
 
   leave_by_stage : (member : ℕ) → member < space.members → (stage : Stage) → stage_of past member ≡ stage → IsStepped (Leave member) (answer_to_leave (standing_of stage)) (put places member Idle (place_of places member).meetings)
@@ -308,14 +312,14 @@ module _ (space : Space) (places : List Place) (past : List Entry) (shows : Show
   step_leave : (member : ℕ) → IsStepped (Leave member) (answer_to places (Leave member)) (places_after places (Leave member))
   step_leave member = elim (cases_lt member (length places)) [
     | inl below ↦
-      let test : nat_lt member (length places) ≡ true = grind (arith, nat_tests) in
-      rw (test, shows.standings member) (leave_by_stage member (rw (← shows.members) below) (stage_of past member) refl)
+        let test : nat_lt member (length places) ≡ true = grind (arith, nat_tests) in
+        rw (test, shows.standings member) (leave_by_stage member (rw (← shows.members) below) (stage_of past member) refl)
     | inr past_last ↦
-      let test : nat_lt member (length places) ≡ false = grind (arith, nat_tests) in
-      rw test (record {
-        answered = rw (← shows.members) past_last;
-        shown = shows_still space places past (record { by = by; call = Leave member; reply = reply.Busy }) shows (λ other. refl) refl;
-      })
+        let test : nat_lt member (length places) ≡ false = grind (arith, nat_tests) in
+        rw test (record {
+          answered = rw (← shows.members) past_last;
+          shown = shows_still space places past (record { by = by; call = Leave member; reply = reply.Busy }) shows (λ other. refl) refl;
+        })
   ]
 
   pub step : (call : GroupCall) → IsStepped call (answer_to places call) (places_after places call)
@@ -346,12 +350,12 @@ pub group_image : (space : Space) → IsImage (Shows space) (λ entry. entry) gr
 group_image space = record {
   by = λ entry. refl;
   right = λ places past entry shows right.
-    record {
-      own = right.own;
-      answered = subst (IsAnswered space past entry.call) (sym right.reply) (step space places past shows entry.by entry.call).answered;
-    };
+      record {
+        own = right.own;
+        answered = subst (IsAnswered space past entry.call) (sym right.reply) (step space places past shows entry.by entry.call).answered;
+      };
   after = λ places past entry shows right.
-    subst (λ told. Shows space (places_after places entry.call) (record { by = entry.by; call = entry.call; reply = told } ∷ past)) (sym right.reply) (step space places past shows entry.by entry.call).shown;
+      subst (λ told. Shows space (places_after places entry.call) (record { by = entry.by; call = entry.call; reply = told } ∷ past)) (sym right.reply) (step space places past shows entry.by entry.call).shown;
 }
 
 map_same : (entries : List Entry) → map (λ (entry : Entry). entry) entries ≡ entries

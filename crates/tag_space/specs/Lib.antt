@@ -2,3 +2,4 @@ pub mod Group
 pub mod Laws
 pub mod Rendezvous
 pub mod Table
+pub mod Promises

@@ -3,7 +3,7 @@
 -- Own: Collect and Leave, by which a call that waits ends, and the counts of meetings.
 -- It knows calls and pairs, and nothing of how a call that waits is found.
 use Rattle.std.specs.Prelude.{◌≡◌, ◌≢◌, ◌==◌, ℕ, ◌+◌, ◌<◌, ◌≤◌, if◌then◌else◌}
-use Rattle.std.specs.Prelude.{List, [], ◌∷◌, ◌++◌, length, count_by}
+use Rattle.std.specs.Prelude.{Option, Some, None, List, [], ◌∷◌, ◌++◌, length, count_by}
 use Rattle.histories.specs.History.{Meaning}
 use Rattle.tag_space.specs.declared.calls.GroupCall.{GroupCall}
 use Rattle.tag_space.specs.declared.calls.GroupCall.TheVariants.{Call, Collect, Leave}
@@ -57,7 +57,7 @@ stage_after number member stage (Call caller tag value) (Wait count) =
     else stage
 stage_after number member stage (Call caller tag value) (Met given other count) =
     let finding : Offer =
-        record { number = number; member = caller; tag = tag.0; value = value } in
+    record { number = number; member = caller; tag = tag.0; value = value } in
     if other == member then found_by finding stage else stage
 stage_after number member stage (Collect caller) (WasMet given) =
     if caller == member then Over else stage
@@ -72,18 +72,31 @@ stage_of [] member = Over
 stage_of (entry ∷ past) member =
     stage_after (length past) member (stage_of past member) entry.call entry.reply
 
--- the pair of a call that waits and the one that finds it
-abbrev pub pair_with : Offer → Stage → List Pair
-pair_with finding Over = []
-pair_with finding (Waits offer) = record { waiting = offer; finding = finding } ∷ []
-pair_with finding (Paired pair) = []
+-- the newest call of a member that was answered with Wait, where this entry is the newest
+abbrev pub wait_after : ℕ → ℕ → Option Offer → GroupCall → GroupReply → Option Offer
+wait_after number member before (Call caller tag value) (Wait count) =
+    if caller == member
+    then Some (record { number = number; member = caller; tag = tag.0; value = value })
+    else before
+wait_after number member before call reply = before
 
--- the pair that a call makes that was answered so
+-- the newest call of the member that was answered with Wait, over or not
+abbrev pub last_wait : List Entry → ℕ → Option Offer
+last_wait [] member = None
+last_wait (entry ∷ past) member =
+    wait_after (length past) member (last_wait past member) entry.call entry.reply
+
+-- a call that found this one is its partner
+abbrev pub pair_with : Offer → Option Offer → List Pair
+pair_with finding None = []
+pair_with finding (Some offer) = record { waiting = offer; finding = finding } ∷ []
+
+-- the pair that a call makes that was answered so: the reply says whose call it found
 abbrev pub pair_made : List Entry → GroupCall → GroupReply → List Pair
 pair_made past (Call caller tag value) (Met given other count) =
     let finding : Offer =
-        record { number = length past; member = caller; tag = tag.0; value = value } in
-    pair_with finding (stage_of past other)
+    record { number = length past; member = caller; tag = tag.0; value = value } in
+    pair_with finding (last_wait past other)
 pair_made past call reply = []
 
 -- the pairs that a history gives, the newest first

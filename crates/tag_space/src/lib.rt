@@ -11,3 +11,6 @@ mod table;
 
 pub use calls::{GroupCall, GroupReply};
 pub use group_object::GroupObject;
+
+#[cfg(test)]
+mod tests;
