@@ -1,3 +1,4 @@
+mod AnswerLemmas
 mod GroupLemmas
 mod LineLemmas
 mod TableLemmas

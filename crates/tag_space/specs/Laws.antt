@@ -2,13 +2,15 @@
 use Rattle.std.specs.Prelude.{◌≡◌, ℕ, List, [], ◌∷◌, ◌++◌, length}
 use Rattle.histories.specs.History.{Meaning, IsLegal}
 use Rattle.sync_base.specs.declared.ids.Tag.{Tag}
+use Rattle.tag_space.specs.declared.calls.GroupCall.{GroupCall}
 use Rattle.tag_space.specs.declared.calls.GroupCall.TheVariants.{Call, Leave}
+use Rattle.tag_space.specs.declared.calls.GroupReply.{GroupReply}
 use Rattle.tag_space.specs.declared.calls.GroupReply.TheVariants.{Worn, Gone}
 use Rattle.tag_space.specs.declared.place.Place.{Place}
 use Rattle.tag_space.specs.declared.place.TheConstants.{LAST_MEETING}
 use Rattle.tag_space.specs.Group.{opening, answer_to, places_after}
 use Rattle.tag_space.specs.Rendezvous.{Entry, Space, member_of, rendezvous}
-use Rattle.tag_space.specs.Rendezvous.{Offer, stage_of}
+use Rattle.tag_space.specs.Rendezvous.{Offer, stage_of, IsAnswered}
 use Rattle.tag_space.specs.Rendezvous.Stage.{Waits}
 use Rattle.tag_space.specs.Promises.{AreMeetings, MeetsOnce, WaitApart, IsAlone}
 
@@ -70,3 +72,10 @@ WhoIsWornMeetsNobody =
     → let worn : Entry = record { by = member; call = Call member tag value; reply = Worn } in
     IsLegal (rendezvous space) [] (since ++ worn ∷ past)
     → IsAlone (since ++ worn ∷ past) (length past)
+
+-- after every history of a tag space each call has one answer
+abbrev pub EachCallHasOneAnswer : Type 0
+EachCallHasOneAnswer =
+    (space : Space) (past : List Entry) (call : GroupCall) (first second : GroupReply)
+    → IsLegal (rendezvous space) [] past → IsAnswered space past call first
+    → IsAnswered space past call second → first ≡ second

@@ -1,6 +1,6 @@
 //! What holds of every tag space. Each law is a function that does nothing: its contract is the law.
 //! Before this: `group_object`, the machine that the laws speak of.
-ghost use Rattle.tag_space.specs.Laws.{GroupsAreSpaces, LastMeetingIs};
+ghost use Rattle.tag_space.specs.Laws.{GroupsAreSpaces, EachCallHasOneAnswer, LastMeetingIs};
 ghost use Rattle.tag_space.specs.Laws.{PairsAreMeetings, EachCallMeetsOnce, WaitingTagsDiffer};
 ghost use Rattle.tag_space.specs.Laws.{WhoLeftMeetsNobody, WhoIsWornMeetsNobody};
 
@@ -8,6 +8,11 @@ ghost use Rattle.tag_space.specs.Laws.{WhoLeftMeetsNobody, WhoIsWornMeetsNobody}
 /// gets the other's value, and whoever left meets nobody.
 pub fn groups_are_spaces()
     ensures { GroupsAreSpaces }
+{}
+
+/// After every history a call has one answer: the history says exactly where each comes.
+pub fn each_call_has_one_answer()
+    ensures { EachCallHasOneAnswer }
 {}
 
 /// Who meets whom: a pair is two calls with one tag, of two members; no call is in two pairs; and of
