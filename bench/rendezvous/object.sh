@@ -9,7 +9,7 @@ work=$top/bench/out/rendezvous
 rounds=${1:-5}
 
 mkdir -p "$work/repo/crates/object_bench/src"
-for crate in sync_base histories tag_space; do
+for crate in sync_base histories kernel_lock tag_space; do
     mkdir -p "$work/repo/crates/$crate"
     for part in src specs proofs; do
         rm -rf "$work/repo/crates/$crate/$part"
@@ -21,7 +21,8 @@ cp "$top/HANDLES" "$work/repo/HANDLES"
 cat > "$work/repo/crates.txt" <<'LINES'
 sync_base: thiserror
 histories:
-tag_space: sync_base histories
+kernel_lock: histories sync_base atomic_table
+tag_space: sync_base histories kernel_lock
 object_bench: sync_base tag_space
 LINES
 [ -d "$work/repo/.git" ] || git init -q "$work/repo"

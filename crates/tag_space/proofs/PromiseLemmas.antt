@@ -27,8 +27,8 @@ state_is_past space (entry ∷ past) = ap (λ (h : List Entry). entry ∷ h) (st
 pub data Change (past : List Entry) (entry : Entry) : Type 0 where
   Nothing : ((member : ℕ) → stage_of (entry ∷ past) member ≡ stage_of past member) → pairs_of (entry ∷ past) ≡ pairs_of past → Change past entry
   Ends : (member : ℕ) → stage_of (entry ∷ past) member ≡ Over → ((other : ℕ) → other ≢ member → stage_of (entry ∷ past) other ≡ stage_of past other) → pairs_of (entry ∷ past) ≡ pairs_of past → Change past entry
-  Begins : (offer : Offer) → offer.number ≡ length past → stage_of past offer.member ≡ Over → entry.call ≡ Call offer.member (record { 0 = offer.tag }) offer.value → ((member : ℕ) (waiting : Offer) → stage_of past member ≡ Waits waiting → waiting.tag ≢ offer.tag) → stage_of (entry ∷ past) offer.member ≡ Waits offer → ((other : ℕ) → other ≢ offer.member → stage_of (entry ∷ past) other ≡ stage_of past other) → pairs_of (entry ∷ past) ≡ pairs_of past → Change past entry
-  Meets : (other : ℕ) (pair : Pair) → pair.finding.number ≡ length past → stage_of past pair.finding.member ≡ Over → entry.call ≡ Call pair.finding.member (record { 0 = pair.finding.tag }) pair.finding.value → stage_of past other ≡ Waits pair.waiting → pair.waiting.tag ≡ pair.finding.tag → stage_of (entry ∷ past) other ≡ Paired pair → ((third : ℕ) → third ≢ other → stage_of (entry ∷ past) third ≡ stage_of past third) → pairs_of (entry ∷ past) ≡ pair ∷ pairs_of past → Change past entry
+  Begins : (offer : Offer) → offer.number ≡ length past → stage_of past offer.member ≡ Over → entry.request ≡ Call offer.member (record { 0 = offer.tag }) offer.value → ((member : ℕ) (waiting : Offer) → stage_of past member ≡ Waits waiting → waiting.tag ≢ offer.tag) → stage_of (entry ∷ past) offer.member ≡ Waits offer → ((other : ℕ) → other ≢ offer.member → stage_of (entry ∷ past) other ≡ stage_of past other) → pairs_of (entry ∷ past) ≡ pairs_of past → Change past entry
+  Meets : (other : ℕ) (pair : Pair) → pair.finding.number ≡ length past → stage_of past pair.finding.member ≡ Over → entry.request ≡ Call pair.finding.member (record { 0 = pair.finding.tag }) pair.finding.value → stage_of past other ≡ Waits pair.waiting → pair.waiting.tag ≡ pair.finding.tag → stage_of (entry ∷ past) other ≡ Paired pair → ((third : ℕ) → third ≢ other → stage_of (entry ∷ past) third ≡ stage_of past third) → pairs_of (entry ∷ past) ≡ pair ∷ pairs_of past → Change past entry
 
 yes : (a : ℕ) → eqb a a ≡ true
 yes a = grind (arith, nat_tests)
@@ -37,7 +37,7 @@ no : (a b : ℕ) → b ≢ a → eqb a b ≡ false
 no a b differs = grind (arith, nat_tests)
 
 module _ (space : Space) (past : List Entry) (by : ℕ) where
-  change_of_answer : (call : GroupCall) (told : GroupReply) → IsAnswered space past call told → Change past (record { by = by; call = call; reply = told })
+  change_of_answer : (call : GroupCall) (told : GroupReply) → IsAnswered space past call told → Change past (record { by = by; request = call; reply = told })
   change_of_answer (Call member tag value) (Met given other count) answered =
       let finds = answered.1 in
       let finding : Offer = record { number = length past; member = member; tag = tag.0; value = value } in
@@ -70,7 +70,7 @@ module _ (space : Space) (past : List Entry) (by : ℕ) where
   change_of_answer (Leave member) (Wait count) answered = absurd answered
 
 pub change_of : (space : Space) (past : List Entry) (entry : Entry) → IsRight space past entry → Change past entry
-change_of space past entry right = change_of_answer space past entry.by entry.call entry.reply right.answered
+change_of space past entry right = change_of_answer space past entry.by entry.request entry.reply right.answered
 
 -- what holds of a history that a tag space can have
 pub record IsSpace (past : List Entry) : Type 0 where
@@ -269,7 +269,7 @@ stays_out space (entry ∷ since) past number legal out =
     out_keeps (since ++ past) entry number (stays_out space since past number legal.1 out) (change_of space (since ++ past) entry right)
 
 -- a call whose member left is out
-pub left_is_out : (space : Space) (past : List Entry) (member by : ℕ) (offer : Offer) → IsLegal (rendezvous space) [] past → stage_of past member ≡ Waits offer → IsOut (record { by = by; call = Leave member; reply = Gone } ∷ past) offer.number
+pub left_is_out : (space : Space) (past : List Entry) (member by : ℕ) (offer : Offer) → IsLegal (rendezvous space) [] past → stage_of past member ≡ Waits offer → IsOut (record { by = by; request = Leave member; reply = Gone } ∷ past) offer.number
 left_is_out space past member by offer legal waits =
     let is = is_space space past legal in
     let mine = is.waits member offer waits in
@@ -285,7 +285,7 @@ left_is_out space past member by offer legal waits =
     }
 
 -- a call that was refused is out
-pub refused_is_out : (space : Space) (past : List Entry) (by member : ℕ) (tag : Tag) (value : ℕ) → IsLegal (rendezvous space) [] past → IsOut (record { by = by; call = Call member tag value; reply = Worn } ∷ past) (length past)
+pub refused_is_out : (space : Space) (past : List Entry) (by member : ℕ) (tag : Tag) (value : ℕ) → IsLegal (rendezvous space) [] past → IsOut (record { by = by; request = Call member tag value; reply = Worn } ∷ past) (length past)
 refused_is_out space past by member tag value legal =
     let is = is_space space past legal in
     record {

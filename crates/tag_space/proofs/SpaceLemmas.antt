@@ -9,7 +9,9 @@ use Rattle.std.proofs.lemmas.List.{length-replicate, get_or-replicate}
 use Rattle.histories.specs.History.{IsLegal}
 use Rattle.histories.specs.Image.{IsImage}
 use Rattle.histories.proofs.ImageLemmas.{image_legal}
-use Rattle.tag_space.specs.Laws.{group, GroupsAreSpaces}
+use Rattle.kernel_lock.specs.Definition.{meaning_of}
+use Rattle.tag_space.specs.Laws.{GroupsAreSpaces}
+use Rattle.tag_space.specs.Group.{group}
 use Rattle.std.proofs.lemmas.List.Sums.{sum_by-cons, fails_before_first}
 use Rattle.std.specs.List.{position_or_len}
 use Rattle.std.proofs.lemmas.List.Quantifiers.{position-Some}
@@ -163,9 +165,9 @@ no a b differs = grind (arith, nat_tests)
 
 module _ (space : Space) (places : List Place) (past : List Entry) (shows : Shows space places past) (by : ℕ) where
   -- a call that waits
-  pub shows_waits : (member : ℕ) (tag : Tag) (value count : ℕ) → member < space.members → count ≡ (place_of places member).meetings → Shows space (put places member (Waiting tag value) count) (record { by = by; call = Call member tag value; reply = reply.Wait count } ∷ past)
+  pub shows_waits : (member : ℕ) (tag : Tag) (value count : ℕ) → member < space.members → count ≡ (place_of places member).meetings → Shows space (put places member (Waiting tag value) count) (record { by = by; request = Call member tag value; reply = reply.Wait count } ∷ past)
   shows_waits member tag value count below is_count =
-      let entry : Entry = record { by = by; call = Call member tag value; reply = reply.Wait count } in
+      let entry : Entry = record { by = by; request = Call member tag value; reply = reply.Wait count } in
       let here : stage_of (entry ∷ past) member ≡ Waits (record { number = length past; member = member; tag = tag.0; value = value }) = rw (yes member) refl in
       shows_put space places past entry member (Waiting tag value) count shows below
       (stands_put places member (Waiting tag value) count (rw shows.members below) ∙ sym (ap standing_of here))
@@ -175,9 +177,9 @@ module _ (space : Space) (places : List Place) (past : List Entry) (shows : Show
       (λ other differs. refl)
 
   -- a call that is over
-  pub shows_over : (member count : ℕ) (call : GroupCall) (told : GroupReply) → member < space.members → count ≡ (place_of places member).meetings → ((other : ℕ) → stage_of (record { by = by; call = call; reply = told } ∷ past) other ≡ (if eqb member other then Over else stage_of past other)) → pairs_of (record { by = by; call = call; reply = told } ∷ past) ≡ pairs_of past → Shows space (put places member Idle count) (record { by = by; call = call; reply = told } ∷ past)
+  pub shows_over : (member count : ℕ) (call : GroupCall) (told : GroupReply) → member < space.members → count ≡ (place_of places member).meetings → ((other : ℕ) → stage_of (record { by = by; request = call; reply = told } ∷ past) other ≡ (if eqb member other then Over else stage_of past other)) → pairs_of (record { by = by; request = call; reply = told } ∷ past) ≡ pairs_of past → Shows space (put places member Idle count) (record { by = by; request = call; reply = told } ∷ past)
   shows_over member count call told below is_count stages pairs =
-      let entry : Entry = record { by = by; call = call; reply = told } in
+      let entry : Entry = record { by = by; request = call; reply = told } in
       let here : stage_of (entry ∷ past) member ≡ Over = stages member ∙ rw (yes member) refl in
       let same_count : (other : ℕ) → count_of space (entry ∷ past) other ≡ count_of space past other = λ other. rw pairs refl in
       shows_put space places past entry member Idle count shows below
@@ -188,9 +190,9 @@ module _ (space : Space) (places : List Place) (past : List Entry) (shows : Show
       (λ other differs. same_count other)
 
   -- a call that is found
-  pub shows_meets : (member other count : ℕ) (tag : Tag) (value given : ℕ) (offer : Offer) → other < space.members → stage_of past other ≡ Waits offer → count ≡ (place_of places other).meetings + 1 → Shows space (put places other (Met value) count) (record { by = by; call = Call member tag value; reply = reply.Met given other count } ∷ past)
+  pub shows_meets : (member other count : ℕ) (tag : Tag) (value given : ℕ) (offer : Offer) → other < space.members → stage_of past other ≡ Waits offer → count ≡ (place_of places other).meetings + 1 → Shows space (put places other (Met value) count) (record { by = by; request = Call member tag value; reply = reply.Met given other count } ∷ past)
   shows_meets member other count tag value given offer below waits is_count =
-      let entry : Entry = record { by = by; call = Call member tag value; reply = reply.Met given other count } in
+      let entry : Entry = record { by = by; request = Call member tag value; reply = reply.Met given other count } in
       let finding : Offer = record { number = length past; member = member; tag = tag.0; value = value } in
       let pair : Pair = record { waiting = offer; finding = finding } in
       let here : stage_of (entry ∷ past) other ≡ Paired pair = rw (yes other) (ap (found_by finding) waits) in
@@ -218,7 +220,7 @@ module _ (space : Space) (places : List Place) (past : List Entry) (shows : Show
   -- the answer is a tag space's, and what is kept is then what the history says
   pub record IsStepped (call : GroupCall) (told : GroupReply) (after : List Place) : Type 0 where
     pub answered : IsAnswered space past call told
-    pub shown : Shows space after (record { by = by; call = call; reply = told } ∷ past)
+    pub shown : Shows space after (record { by = by; request = call; reply = told } ∷ past)
 
   -- a call of a member that may call, by who waits with its tag
   call_by_waiter : (member : ℕ) (tag : Tag) (value : ℕ) → MayCall space past member → (found : Option ℕ) → waiter_of places tag.0 ≡ found → IsStepped (Call member tag value) (answer_to_call places member found) (after_call places member tag value found)
@@ -246,7 +248,7 @@ module _ (space : Space) (places : List Place) (past : List Entry) (shows : Show
             let test : eqb (place_of places member).meetings LAST_MEETING ≡ true = grind (arith, nat_tests) in
             rw test (record {
               answered = (may, nobody, sym count ∙ last);
-              shown = shows_still space places past (record { by = by; call = Call member tag value; reply = reply.Worn }) shows (λ other. refl) refl;
+              shown = shows_still space places past (record { by = by; request = Call member tag value; reply = reply.Worn }) shows (λ other. refl) refl;
             })
         | inr more ↦
             let test : eqb (place_of places member).meetings LAST_MEETING ≡ false = grind (arith, nat_tests) in
@@ -261,7 +263,7 @@ module _ (space : Space) (places : List Place) (past : List Entry) (shows : Show
     | inl may ↦ rw may (call_by_waiter member tag value (may_call_is space places past shows member may) (waiter_of places tag.0) refl)
     | inr not ↦ rw not (record {
       answered = may_not_call_is space places past shows member not;
-      shown = shows_still space places past (record { by = by; call = Call member tag value; reply = reply.Busy }) shows (λ other. refl) refl;
+      shown = shows_still space places past (record { by = by; request = Call member tag value; reply = reply.Busy }) shows (λ other. refl) refl;
     })
   ]
 
@@ -270,12 +272,12 @@ module _ (space : Space) (places : List Place) (past : List Entry) (shows : Show
   collect_by_stage member below Over is = record {
     answered = (record { exists = below; none = λ pair paired. let never = sym is ∙ paired in cc }, shows.counts member below);
     shown = rw (put_same places member Idle (shows.standings member ∙ ap standing_of is))
-        (shows_still space places past (record { by = by; call = Collect member; reply = reply.Wait (place_of places member).meetings }) shows (λ other. refl) refl);
+        (shows_still space places past (record { by = by; request = Collect member; reply = reply.Wait (place_of places member).meetings }) shows (λ other. refl) refl);
   }
   collect_by_stage member below (Waits offer) is = record {
     answered = (record { exists = below; none = λ pair paired. let never = sym is ∙ paired in cc }, shows.counts member below);
     shown = rw (put_same places member (Waiting (record { 0 = offer.tag }) offer.value) (shows.standings member ∙ ap standing_of is))
-        (shows_still space places past (record { by = by; call = Collect member; reply = reply.Wait (place_of places member).meetings }) shows (λ other. refl) refl);
+        (shows_still space places past (record { by = by; request = Collect member; reply = reply.Wait (place_of places member).meetings }) shows (λ other. refl) refl);
   }
   collect_by_stage member below (Paired pair) is = record {
     answered = (below, record { pair = pair; paired = is; given_is = refl });
@@ -291,7 +293,7 @@ module _ (space : Space) (places : List Place) (past : List Entry) (shows : Show
         let test : nat_lt member (length places) ≡ false = grind (arith, nat_tests) in
         rw test (record {
           answered = rw (← shows.members) past_last;
-          shown = shows_still space places past (record { by = by; call = Collect member; reply = reply.Busy }) shows (λ other. refl) refl;
+          shown = shows_still space places past (record { by = by; request = Collect member; reply = reply.Busy }) shows (λ other. refl) refl;
         })
   ]
 
@@ -318,7 +320,7 @@ module _ (space : Space) (places : List Place) (past : List Entry) (shows : Show
         let test : nat_lt member (length places) ≡ false = grind (arith, nat_tests) in
         rw test (record {
           answered = rw (← shows.members) past_last;
-          shown = shows_still space places past (record { by = by; call = Leave member; reply = reply.Busy }) shows (λ other. refl) refl;
+          shown = shows_still space places past (record { by = by; request = Leave member; reply = reply.Busy }) shows (λ other. refl) refl;
         })
   ]
 
@@ -346,16 +348,16 @@ shows_opening space = record {
     counts member below = ap (λ (place : Place). place.meetings) (get_or-replicate space.members member (fresh_place space.count) (fresh_place 0) below) ∙ omega arith
 
 -- the object's meaning is the space's, entry by entry
-pub group_image : (space : Space) → IsImage (Shows space) (λ entry. entry) group (rendezvous space)
+pub group_image : (space : Space) → IsImage (Shows space) (λ entry. entry) (meaning_of group) (rendezvous space)
 group_image space = record {
   by = λ entry. refl;
   right = λ places past entry shows right.
       record {
-        own = right.own;
-        answered = subst (IsAnswered space past entry.call) (sym right.reply) (step space places past shows entry.by entry.call).answered;
+        own = sym right.named;
+        answered = subst (IsAnswered space past entry.request) (sym right.reply) (step space places past shows entry.by entry.request).answered;
       };
   after = λ places past entry shows right.
-      subst (λ told. Shows space (places_after places entry.call) (record { by = entry.by; call = entry.call; reply = told } ∷ past)) (sym right.reply) (step space places past shows entry.by entry.call).shown;
+      subst (λ told. Shows space (places_after places entry.request) (record { by = entry.by; request = entry.request; reply = told } ∷ past)) (sym right.reply) (step space places past shows entry.by entry.request).shown;
 }
 
 map_same : (entries : List Entry) → map (λ (entry : Entry). entry) entries ≡ entries
@@ -366,4 +368,4 @@ map_same (entry ∷ past) = ap (λ (es : List Entry). entry ∷ es) (map_same pa
 pub groups_are_spaces : GroupsAreSpaces
 groups_are_spaces space history legal =
     subst (IsLegal (rendezvous space) []) (map_same history)
-    (image_legal (Shows space) (λ (entry : Entry). entry) group (rendezvous space) (group_image space) (opening space.members space.count) [] (shows_opening space) history legal)
+    (image_legal (Shows space) (λ (entry : Entry). entry) (meaning_of group) (rendezvous space) (group_image space) (opening space.members space.count) [] (shows_opening space) history legal)

@@ -42,4 +42,4 @@ module _ (number member : ℕ) (stage : Stage) (before : Option Offer) (offer : 
 pub waits_last : (past : List Entry) (member : ℕ) (offer : Offer) → stage_of past member ≡ Waits offer → last_wait past member ≡ Some offer
 waits_last [] member offer waits = cc
 waits_last (entry ∷ past) member offer waits =
-    one_more (length past) member (stage_of past member) (last_wait past member) offer (waits_last past member offer) entry.call entry.reply waits
+    one_more (length past) member (stage_of past member) (last_wait past member) offer (waits_last past member offer) entry.request entry.reply waits

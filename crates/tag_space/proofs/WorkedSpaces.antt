@@ -7,16 +7,17 @@ use Rattle.tag_space.specs.declared.calls.GroupCall.TheVariants.{Call, Collect, 
 use Rattle.tag_space.specs.declared.calls.GroupReply.{GroupReply}
 use Rattle.tag_space.specs.declared.calls.GroupReply.TheVariants.{Met, WasMet, Wait, Worn, Gone, Busy}
 use Rattle.tag_space.specs.Group.{opening}
-use Rattle.tag_space.specs.Laws.{group}
+use Rattle.kernel_lock.specs.Definition.{meaning_of}
+use Rattle.tag_space.specs.Group.{group, member_of}
 use Rattle.tag_space.specs.Rendezvous.{Entry, Space, Offer, Pair, stage_of, pairs_of, count_of}
 use Rattle.tag_space.specs.Rendezvous.Stage.{Over, Waits, Paired}
-use Rattle.tag_space.specs.Rendezvous.{member_of, rendezvous, last_wait}
+use Rattle.tag_space.specs.Rendezvous.{rendezvous, last_wait}
 use Rattle.tag_space.specs.Promises.{AreMeetings, MeetsOnce, WaitApart, IsAlone}
 use Rattle.tag_space.proofs.SpaceLemmas.{groups_are_spaces}
 
 -- a member's own call, answered so
 abbrev told : GroupCall → GroupReply → Entry
-told call reply = record { by = member_of call; call = call; reply = reply }
+told call reply = record { by = member_of call; request = call; reply = reply }
 
 abbrev gives : ℕ → ℕ → ℕ → GroupCall
 gives member tag value = Call member (record { 0 = tag }) value
@@ -104,20 +105,20 @@ a_run =
     told (gives 1 8 1) Busy ∷ told (gives 1 7 9) (Wait 0) ∷ told (Leave 0) Gone
     ∷ told (gives 0 7 5) (Wait 1) ∷ one_is_told
 
-the_object_runs_so : IsLegal group (opening 2 0) a_run
+the_object_runs_so : IsLegal (meaning_of group) (opening 2 0) a_run
 the_object_runs_so = (
-  record { own = refl; reply = refl },
+  record { reply = refl; named = refl },
   (
-    record { own = refl; reply = refl },
+    record { reply = refl; named = refl },
     (
-      record { own = refl; reply = refl },
+      record { reply = refl; named = refl },
       (
-        record { own = refl; reply = refl },
+        record { reply = refl; named = refl },
         (
-          record { own = refl; reply = refl },
+          record { reply = refl; named = refl },
           (
-            record { own = refl; reply = refl },
-            (record { own = refl; reply = refl }, tt),
+            record { reply = refl; named = refl },
+            (record { reply = refl; named = refl }, tt),
           ),
         ),
       ),
@@ -141,16 +142,16 @@ a_worn_run =
     ∷ told (gives 1 7 9) (Met 5 0 18446744073709551614)
     ∷ told (gives 0 7 5) (Wait 18446744073709551613) ∷ []
 
-the_last_count_waits_no_more : IsLegal group (opening 2 18446744073709551613) a_worn_run
+the_last_count_waits_no_more : IsLegal (meaning_of group) (opening 2 18446744073709551613) a_worn_run
 the_last_count_waits_no_more = (
-  record { own = refl; reply = refl },
+  record { reply = refl; named = refl },
   (
-    record { own = refl; reply = refl },
+    record { reply = refl; named = refl },
     (
-      record { own = refl; reply = refl },
+      record { reply = refl; named = refl },
       (
-        record { own = refl; reply = refl },
-        (record { own = refl; reply = refl }, (record { own = refl; reply = refl }, tt)),
+        record { reply = refl; named = refl },
+        (record { reply = refl; named = refl }, (record { reply = refl; named = refl }, tt)),
       ),
     ),
   ),
@@ -167,7 +168,7 @@ busy_for_nothing : IsLegal (rendezvous two) [] (told (gives 0 7 5) Busy ∷ []) 
 busy_for_nothing legal = legal.0.answered (record { exists = omega arith; is_over = refl })
 
 -- another's call
-by_another : IsLegal (rendezvous two) [] (record { by = 1; call = gives 0 7 5; reply = Wait 0 } ∷ []) → ⊥
+by_another : IsLegal (rendezvous two) [] (record { by = 1; request = gives 0 7 5; reply = Wait 0 } ∷ []) → ⊥
 by_another legal = omega (arith, legal.0.own)
 
 -- a call whose tag waits doesn't wait beside it

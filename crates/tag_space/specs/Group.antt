@@ -5,6 +5,7 @@ use Rattle.std.specs.Prelude.{ℕ, ◌+◌, ◌==◌, nat_lt, Bool, true, false,
 use Rattle.std.specs.Prelude.{Option, Some, None, List, length, replicate, slice_index_or, slice_set}
 use Rattle.std.specs.Prelude.{position}
 use Rattle.sync_base.specs.declared.ids.Tag.{Tag}
+use Rattle.kernel_lock.specs.Definition.{Definition}
 use Rattle.tag_space.specs.declared.calls.GroupCall.{GroupCall}
 use Rattle.tag_space.specs.declared.calls.GroupCall.TheVariants.{Call, Collect, Leave}
 use Rattle.tag_space.specs.declared.calls.GroupReply.{GroupReply}
@@ -124,3 +125,19 @@ places_after places (Leave member) =
     if nat_lt member (length places)
     then put places member Idle (place_of places member).meetings
     else places
+
+-- the member that a call names
+abbrev pub member_of : GroupCall → ℕ
+member_of (Call member tag value) = member
+member_of (Collect member) = member
+member_of (Leave member) = member
+
+-- a space as an object: what is kept of each member, and what each step does
+abbrev pub group : Definition (List Place) (List Place) GroupCall GroupReply
+group =
+    record {
+      state = λ places. places;
+      answer = answer_to;
+      after = places_after;
+      named = λ call. Some (member_of call);
+    }

@@ -1,38 +1,24 @@
 -- What holds of every tag space, over all its histories.
 use Rattle.std.specs.Prelude.{◌≡◌, ℕ, List, [], ◌∷◌, ◌++◌, length}
-use Rattle.histories.specs.History.{Meaning, IsLegal}
+use Rattle.histories.specs.History.{IsLegal}
+use Rattle.kernel_lock.specs.Definition.{meaning_of}
 use Rattle.sync_base.specs.declared.ids.Tag.{Tag}
 use Rattle.tag_space.specs.declared.calls.GroupCall.{GroupCall}
 use Rattle.tag_space.specs.declared.calls.GroupCall.TheVariants.{Call, Leave}
 use Rattle.tag_space.specs.declared.calls.GroupReply.{GroupReply}
 use Rattle.tag_space.specs.declared.calls.GroupReply.TheVariants.{Worn, Gone}
-use Rattle.tag_space.specs.declared.place.Place.{Place}
 use Rattle.tag_space.specs.declared.place.TheConstants.{LAST_MEETING}
-use Rattle.tag_space.specs.Group.{opening, answer_to, places_after}
-use Rattle.tag_space.specs.Rendezvous.{Entry, Space, member_of, rendezvous}
+use Rattle.tag_space.specs.Group.{opening, group}
+use Rattle.tag_space.specs.Rendezvous.{Entry, Space, rendezvous}
 use Rattle.tag_space.specs.Rendezvous.{Offer, stage_of, IsAnswered}
 use Rattle.tag_space.specs.Rendezvous.Stage.{Waits}
 use Rattle.tag_space.specs.Promises.{AreMeetings, MeetsOnce, WaitApart, IsAlone}
-
--- a call on a space as an object: it is answered as the definition of the object says
-pub record IsStep (places : List Place) (entry : Entry) : Type 0 where
-  pub own : entry.by ≡ member_of entry.call
-  pub reply : entry.reply ≡ answer_to places entry.call
-
--- what the calls on the object mean
-abbrev pub group : Meaning (List Place) Entry
-group =
-    record {
-      by = λ entry. entry.by;
-      IsRight = IsStep;
-      after = λ places entry. places_after places entry.call;
-    }
 
 -- each history of the object is a history of a tag space
 abbrev pub GroupsAreSpaces : Type 0
 GroupsAreSpaces =
     (space : Space) (history : List Entry)
-    → IsLegal group (opening space.members space.count) history
+    → IsLegal (meaning_of group) (opening space.members space.count) history
     → IsLegal (rendezvous space) [] history
 
 -- own: the last count leaves one number above it, which is the level of a hangup
@@ -61,7 +47,7 @@ WaitingTagsDiffer =
 abbrev pub WhoLeftMeetsNobody : Type 0
 WhoLeftMeetsNobody =
     (space : Space) (since past : List Entry) (member : ℕ) (offer : Offer)
-    → let left : Entry = record { by = member; call = Leave member; reply = Gone } in
+    → let left : Entry = record { by = member; request = Leave member; reply = Gone } in
     IsLegal (rendezvous space) [] (since ++ left ∷ past) → stage_of past member ≡ Waits offer
     → IsAlone (since ++ left ∷ past) offer.number
 
@@ -69,7 +55,7 @@ WhoLeftMeetsNobody =
 abbrev pub WhoIsWornMeetsNobody : Type 0
 WhoIsWornMeetsNobody =
     (space : Space) (since past : List Entry) (member : ℕ) (tag : Tag) (value : ℕ)
-    → let worn : Entry = record { by = member; call = Call member tag value; reply = Worn } in
+    → let worn : Entry = record { by = member; request = Call member tag value; reply = Worn } in
     IsLegal (rendezvous space) [] (since ++ worn ∷ past)
     → IsAlone (since ++ worn ∷ past) (length past)
 

@@ -11,7 +11,7 @@ abbrev pub IsMade : List Entry → Offer → Type 0
 IsMade [] offer = ⊥
 IsMade (entry ∷ past) offer =
     ((offer.number ≡ length past)
-    × (entry.call ≡ Call offer.member (record { 0 = offer.tag }) offer.value))
+    × (entry.request ≡ Call offer.member (record { 0 = offer.tag }) offer.value))
     ⊎ IsMade past offer
 
 -- After rendezvous(2): a pair is two calls with one tag. Own: they are of two members.

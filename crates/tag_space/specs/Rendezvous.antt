@@ -5,6 +5,8 @@
 use Rattle.std.specs.Prelude.{◌≡◌, ◌≢◌, ◌==◌, ℕ, ◌+◌, ◌<◌, ◌≤◌, if◌then◌else◌}
 use Rattle.std.specs.Prelude.{Option, Some, None, List, [], ◌∷◌, ◌++◌, length, count_by}
 use Rattle.histories.specs.History.{Meaning}
+use Rattle.kernel_lock.specs.declared.view.Served.{Served}
+use Rattle.tag_space.specs.Group.{member_of}
 use Rattle.tag_space.specs.declared.calls.GroupCall.{GroupCall}
 use Rattle.tag_space.specs.declared.calls.GroupCall.TheVariants.{Call, Collect, Leave}
 use Rattle.tag_space.specs.declared.calls.GroupReply.{GroupReply}
@@ -12,10 +14,8 @@ use Rattle.tag_space.specs.declared.calls.GroupReply.TheVariants.{Met, WasMet, W
 use Rattle.tag_space.specs.declared.place.TheConstants.{LAST_MEETING}
 
 -- a call with its reply, and the number of the seat that made it
-pub record Entry : Type 0 where
-  pub by : ℕ
-  pub call : GroupCall
-  pub reply : GroupReply
+abbrev pub Entry : Type 0
+Entry = Served GroupCall GroupReply
 
 -- a tag space: how many members it has, and the count with which each begins
 pub record Space : Type 0 where
@@ -70,7 +70,7 @@ stage_after number member stage call reply = stage
 abbrev pub stage_of : List Entry → ℕ → Stage
 stage_of [] member = Over
 stage_of (entry ∷ past) member =
-    stage_after (length past) member (stage_of past member) entry.call entry.reply
+    stage_after (length past) member (stage_of past member) entry.request entry.reply
 
 -- the newest call of a member that was answered with Wait, where this entry is the newest
 abbrev pub wait_after : ℕ → ℕ → Option Offer → GroupCall → GroupReply → Option Offer
@@ -84,7 +84,7 @@ wait_after number member before call reply = before
 abbrev pub last_wait : List Entry → ℕ → Option Offer
 last_wait [] member = None
 last_wait (entry ∷ past) member =
-    wait_after (length past) member (last_wait past member) entry.call entry.reply
+    wait_after (length past) member (last_wait past member) entry.request entry.reply
 
 -- a call that found this one is its partner
 abbrev pub pair_with : Offer → Option Offer → List Pair
@@ -102,7 +102,7 @@ pair_made past call reply = []
 -- the pairs that a history gives, the newest first
 abbrev pub pairs_of : List Entry → List Pair
 pairs_of [] = []
-pairs_of (entry ∷ past) = pair_made past entry.call entry.reply ++ pairs_of past
+pairs_of (entry ∷ past) = pair_made past entry.request entry.reply ++ pairs_of past
 
 -- how often the member's waiting calls were met, counted from where the space began
 abbrev pub count_of : Space → List Entry → ℕ → ℕ
@@ -161,16 +161,10 @@ IsAnswered space past (Leave member) Gone = IsUnmet space past member
 IsAnswered space past (Leave member) Busy = space.members ≤ member
 IsAnswered space past call reply = ⊥
 
--- the member that a call names
-abbrev pub member_of : GroupCall → ℕ
-member_of (Call member tag value) = member
-member_of (Collect member) = member
-member_of (Leave member) = member
-
 -- a member makes its own calls, and each is answered as the history before it asks
 pub record IsRight (space : Space) (past : List Entry) (entry : Entry) : Type 0 where
-  pub own : entry.by ≡ member_of entry.call
-  pub answered : IsAnswered space past entry.call entry.reply
+  pub own : entry.by ≡ member_of entry.request
+  pub answered : IsAnswered space past entry.request entry.reply
 
 -- what the entries of a space mean: its state is its history
 abbrev pub rendezvous : Space → Meaning (List Entry) Entry

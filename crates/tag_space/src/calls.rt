@@ -1,5 +1,8 @@
 //! What a member asks of a tag space, and what it is answered. Members count from 0.
 //! The reader comes from `lib`. After this: `place`, what a space keeps of a member.
+ghost use Rattle.std.specs.Prelude.{◌≡◌};
+ghost use Rattle.tag_space.specs.Group.{member_of};
+
 use sync_base::Tag;
 
 /// One step of a rendezvous. It waits for nobody.
@@ -11,6 +14,19 @@ pub enum GroupCall {
     Collect { member: u64 },
     /// The member asks the same, and waits no longer.
     Leave { member: u64 },
+}
+
+impl GroupCall {
+    /// The member that calls.
+    pub fn member(&self) -> u64
+        ensures { result ≡ member_of self.now }
+    {
+        match *self {
+            GroupCall::Call { member, .. }
+            | GroupCall::Collect { member }
+            | GroupCall::Leave { member } => member,
+        }
+    }
 }
 
 /// The answer to a step.
