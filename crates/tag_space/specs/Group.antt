@@ -2,7 +2,8 @@
 -- and what it leaves. After rendezvous(2). Own: the steps Collect and Leave, and the counts, by
 -- which a member that waits is woken.
 use Rattle.std.specs.Prelude.{ℕ, ◌+◌, ◌==◌, nat_lt, Bool, true, false, ◌&&◌, if◌then◌else◌}
-use Rattle.std.specs.Prelude.{Option, Some, None, List, length, replicate, slice_index_or, slice_set}
+use Rattle.std.specs.Prelude.{Option, Some, None, List, length, replicate}
+use Rattle.std.specs.Prelude.{slice_index_or, slice_set}
 use Rattle.std.specs.Prelude.{position}
 use Rattle.sync_base.specs.declared.ids.Tag.{Tag}
 use Rattle.kernel_lock.specs.Definition.{Definition}

@@ -1,4 +1,5 @@
--- What is promised of every history of a tag space: who meets whom, once, and who left meets nobody.
+-- What is promised of every history of a tag space: who meets whom, once, and who left meets
+-- nobody.
 use Rattle.std.specs.Prelude.{◌≡◌, ◌≢◌, ◌⊎◌, ℕ, List, [], ◌∷◌, length}
 use Rattle.std.specs.List.{AllByRecursion}
 use Rattle.histories.specs.Account.{AreDifferent}

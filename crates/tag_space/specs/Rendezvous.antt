@@ -10,7 +10,8 @@ use Rattle.tag_space.specs.Group.{member_of}
 use Rattle.tag_space.specs.declared.calls.GroupCall.{GroupCall}
 use Rattle.tag_space.specs.declared.calls.GroupCall.TheVariants.{Call, Collect, Leave}
 use Rattle.tag_space.specs.declared.calls.GroupReply.{GroupReply}
-use Rattle.tag_space.specs.declared.calls.GroupReply.TheVariants.{Met, WasMet, Wait, Worn, Gone, Busy}
+use Rattle.tag_space.specs.declared.calls.GroupReply.TheVariants.{Met, WasMet, Wait, Worn}
+use Rattle.tag_space.specs.declared.calls.GroupReply.TheVariants.{Gone, Busy}
 use Rattle.tag_space.specs.declared.place.TheConstants.{LAST_MEETING}
 
 -- a call with its reply, and the number of the seat that made it

@@ -1,4 +1,5 @@
-//! What holds of every tag space. Each law is a function that does nothing: its contract is the law.
+//! What holds of every tag space. Each law is a function that does nothing: its contract is the
+//! law.
 //! Before this: `group_object`, the machine that the laws speak of.
 ghost use Rattle.tag_space.specs.Laws.{GroupsAreSpaces, EachCallHasOneAnswer, LastMeetingIs};
 ghost use Rattle.tag_space.specs.Laws.{PairsAreMeetings, EachCallMeetsOnce, WaitingTagsDiffer};
@@ -15,8 +16,8 @@ pub fn each_call_has_one_answer()
     ensures { EachCallHasOneAnswer }
 {}
 
-/// Who meets whom: a pair is two calls with one tag, of two members; no call is in two pairs; and of
-/// the calls that wait no two have one tag.
+/// Who meets whom: a pair is two calls with one tag, of two members; no call is in two pairs; and
+/// of the calls that wait no two have one tag.
 pub fn calls_meet_in_pairs()
     ensures meetings { PairsAreMeetings }
     ensures once { EachCallMeetsOnce }

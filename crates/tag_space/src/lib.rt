@@ -1,6 +1,6 @@
 //! Rendezvous in tag spaces, after rendezvous(2): two members of a space that call with one tag
-//! exchange their values. Read `calls`, what a member asks and is answered, `place`, what is kept of
-//! a member, `group_object`, the space as an object for one thread, and then `laws`.
+//! exchange their values. Read `calls`, what a member asks and is answered, `place`, what is kept
+//! of a member, `group_object`, the space as an object for one thread, and then `laws`.
 #![tactic(auto)]
 
 pub mod calls;
