@@ -1,0 +1,47 @@
+#!/bin/sh
+# Times the object of a tag space, for one thread: a Call among 1,023 that wait beside one among two.
+# Each side runs a few times and its best counts. What it builds lies in bench/out/rendezvous,
+# outside the repository's crates.
+set -eu
+here=$(cd "$(dirname "$0")" && pwd)
+top=$(cd "$here/../.." && pwd)
+work=$top/bench/out/rendezvous
+rounds=${1:-5}
+
+mkdir -p "$work/repo/crates/object_bench/src"
+for crate in sync_base histories kernel_lock tag_space; do
+    mkdir -p "$work/repo/crates/$crate"
+    for part in src specs proofs; do
+        rm -rf "$work/repo/crates/$crate/$part"
+        cp -R "$top/crates/$crate/$part" "$work/repo/crates/$crate/"
+    done
+done
+cp "$here/object.rattle" "$work/repo/crates/object_bench/src/main.rt"
+cp "$top/HANDLES" "$work/repo/HANDLES"
+cat > "$work/repo/crates.txt" <<'LINES'
+sync_base: thiserror
+histories:
+kernel_lock: histories sync_base atomic_table
+tag_space: sync_base histories kernel_lock
+object_bench: sync_base tag_space
+LINES
+[ -d "$work/repo/.git" ] || git init -q "$work/repo"
+
+cd "$work/repo/crates/object_bench"
+rt run > "$work/first" 2> "$work/build.log" || { tail -20 "$work/build.log"; exit 1; }
+
+: > "$work/times"
+round=0
+while [ "$round" -lt "$rounds" ]; do
+    rt run >> "$work/times" 2>> "$work/build.log"
+    round=$((round + 1))
+done
+
+# A line: how many wait, how many calls left, their nanoseconds, how many met, their nanoseconds.
+awk '
+    !($1 in alone) || $3 / $2 < alone[$1] { alone[$1] = $3 / $2 }
+    !($1 in met) || $5 / $4 < met[$1] { met[$1] = $5 / $4 }
+    END {
+        printf "a Call that waits, and its Leave: %.1f ns among 2, %.1f ns among 1,023: %.2f times\n", alone[2], alone[1023], alone[1023] / alone[2]
+        printf "a Call that meets, a Collect, a Call that waits: %.1f ns among 2, %.1f ns among 1,023: %.2f times\n", met[2], met[1023], met[1023] / met[2]
+    }' "$work/times"

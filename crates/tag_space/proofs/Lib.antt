@@ -1,0 +1,8 @@
+mod AnswerLemmas
+mod GroupLemmas
+mod LineLemmas
+mod TableLemmas
+mod SpaceLemmas
+mod PromiseLemmas
+mod WaitLemmas
+mod WorkedSpaces

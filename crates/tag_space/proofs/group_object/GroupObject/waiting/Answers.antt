@@ -1,0 +1,6 @@
+use Rattle.tag_space.proofs.GroupLemmas.{lists_waiting}
+use Rattle.tag_space.proofs.group_object.GroupObject.waiting.Goals as goal
+
+-- the lines of the table are the calls that wait
+pub returns : goal.returns
+returns c = rw (← c.self.view_is, c.deref.ensures.value) (lists_waiting _ _ c.self.invariant.lines)

@@ -1,0 +1,67 @@
+-- What holds of every tag space, over all its histories.
+use Rattle.std.specs.Prelude.{◌≡◌, ℕ, List, [], ◌∷◌, ◌++◌, length}
+use Rattle.histories.specs.History.{IsLegal}
+use Rattle.kernel_lock.specs.Definition.{meaning_of}
+use Rattle.sync_base.specs.declared.ids.Tag.{Tag}
+use Rattle.tag_space.specs.declared.calls.GroupCall.{GroupCall}
+use Rattle.tag_space.specs.declared.calls.GroupCall.TheVariants.{Call, Leave}
+use Rattle.tag_space.specs.declared.calls.GroupReply.{GroupReply}
+use Rattle.tag_space.specs.declared.calls.GroupReply.TheVariants.{Worn, Gone}
+use Rattle.tag_space.specs.declared.place.TheConstants.{LAST_MEETING}
+use Rattle.tag_space.specs.Group.{opening, group}
+use Rattle.tag_space.specs.Rendezvous.{Entry, Space, rendezvous}
+use Rattle.tag_space.specs.Rendezvous.{Offer, stage_of, IsAnswered}
+use Rattle.tag_space.specs.Rendezvous.Stage.{Waits}
+use Rattle.tag_space.specs.Promises.{AreMeetings, MeetsOnce, WaitApart, IsAlone}
+
+-- each history of the object is a history of a tag space
+abbrev pub GroupsAreSpaces : Type 0
+GroupsAreSpaces =
+    (space : Space) (history : List Entry)
+    → IsLegal (meaning_of group) (opening space.members space.count) history
+    → IsLegal (rendezvous space) [] history
+
+-- own: the last count leaves one number above it, which is the level of a hangup
+abbrev pub LastMeetingIs : Type 0
+LastMeetingIs = LAST_MEETING ≡ 18446744073709551614
+
+-- in every history of a tag space the pairs are meetings of two members' calls with one tag
+abbrev pub PairsAreMeetings : Type 0
+PairsAreMeetings =
+    (space : Space) (history : List Entry) → IsLegal (rendezvous space) [] history
+    → AreMeetings history
+
+-- no call is in two pairs
+abbrev pub EachCallMeetsOnce : Type 0
+EachCallMeetsOnce =
+    (space : Space) (history : List Entry) → IsLegal (rendezvous space) [] history
+    → MeetsOnce history
+
+-- calls that wait have different tags
+abbrev pub WaitingTagsDiffer : Type 0
+WaitingTagsDiffer =
+    (space : Space) (history : List Entry) → IsLegal (rendezvous space) [] history
+    → WaitApart history
+
+-- a call that waited when its member left meets nobody, whatever comes
+abbrev pub WhoLeftMeetsNobody : Type 0
+WhoLeftMeetsNobody =
+    (space : Space) (since past : List Entry) (member : ℕ) (offer : Offer)
+    → let left : Entry = record { by = member; request = Leave member; reply = Gone } in
+    IsLegal (rendezvous space) [] (since ++ left ∷ past) → stage_of past member ≡ Waits offer
+    → IsAlone (since ++ left ∷ past) offer.number
+
+-- a call that was worn out meets nobody, whatever comes
+abbrev pub WhoIsWornMeetsNobody : Type 0
+WhoIsWornMeetsNobody =
+    (space : Space) (since past : List Entry) (member : ℕ) (tag : Tag) (value : ℕ)
+    → let worn : Entry = record { by = member; request = Call member tag value; reply = Worn } in
+    IsLegal (rendezvous space) [] (since ++ worn ∷ past)
+    → IsAlone (since ++ worn ∷ past) (length past)
+
+-- after every history of a tag space each call has one answer
+abbrev pub EachCallHasOneAnswer : Type 0
+EachCallHasOneAnswer =
+    (space : Space) (past : List Entry) (call : GroupCall) (first second : GroupReply)
+    → IsLegal (rendezvous space) [] past → IsAnswered space past call first
+    → IsAnswered space past call second → first ≡ second

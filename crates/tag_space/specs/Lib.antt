@@ -1,0 +1,5 @@
+pub mod Group
+pub mod Laws
+pub mod Rendezvous
+pub mod Table
+pub mod Promises

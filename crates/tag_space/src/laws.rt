@@ -1,0 +1,37 @@
+//! What holds of every tag space. Each law is a function that does nothing: its contract is the
+//! law.
+//! Before this: `group_object`, the machine that the laws speak of.
+ghost use Rattle.tag_space.specs.Laws.{GroupsAreSpaces, EachCallHasOneAnswer, LastMeetingIs};
+ghost use Rattle.tag_space.specs.Laws.{PairsAreMeetings, EachCallMeetsOnce, WaitingTagsDiffer};
+ghost use Rattle.tag_space.specs.Laws.{WhoLeftMeetsNobody, WhoIsWornMeetsNobody};
+
+/// Each history of a space as an object is a history of rendezvous: calls meet by their tags, each
+/// gets the other's value, and whoever left meets nobody.
+pub fn groups_are_spaces()
+    ensures { GroupsAreSpaces }
+{}
+
+/// After every history a call has one answer: the history says exactly where each comes.
+pub fn each_call_has_one_answer()
+    ensures { EachCallHasOneAnswer }
+{}
+
+/// Who meets whom: a pair is two calls with one tag, of two members; no call is in two pairs; and
+/// of the calls that wait no two have one tag.
+pub fn calls_meet_in_pairs()
+    ensures meetings { PairsAreMeetings }
+    ensures once { EachCallMeetsOnce }
+    ensures apart { WaitingTagsDiffer }
+{}
+
+/// A call that ended without a meeting is in no pair, now and later: its member left, or it was
+/// worn out.
+pub fn who_is_out_meets_nobody()
+    ensures left { WhoLeftMeetsNobody }
+    ensures worn { WhoIsWornMeetsNobody }
+{}
+
+/// The last count of meetings.
+pub fn last_meeting()
+    ensures { LastMeetingIs }
+{}

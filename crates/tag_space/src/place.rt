@@ -1,0 +1,45 @@
+//! What a tag space keeps of a member. Before this: `calls`. After it: `group_object`.
+ghost use Rattle.std.specs.Prelude.{◌≡◌, ◌+◌, ◌<◌};
+ghost use Rattle.tag_space.specs.Group.{value_given};
+
+use sync_base::Tag;
+
+/// The last count of meetings. A member with this count can still find another, but waits no more.
+pub const LAST_MEETING: u64 = u64::MAX - 1;
+
+/// What became of the member's last call that had to wait.
+#[derive(Clone, Copy, Debug, PartialEq, Eq)]
+pub enum Standing {
+    /// There was none, or it is over.
+    Idle,
+    /// It waits with this tag, and gives this value.
+    Waiting { tag: Tag, value: u64 },
+    /// A call that gives this value met it, and the member was not told yet.
+    Met { value: u64 },
+}
+
+/// A member of a space.
+#[derive(Clone, Copy, Debug, PartialEq, Eq)]
+pub struct Place {
+    pub standing: Standing,
+    /// How often its waiting calls were met, counted from where the space began.
+    pub meetings: u64,
+}
+
+impl Place {
+    // The waiting call is met by one with this value, and gives its own.
+    pub(crate) fn meet(&mut self, value: u64) -> u64
+        requires { self.old.meetings < LAST_MEETING }
+        ensures given { result ≡ value_given self.old.standing }
+        ensures after { self.new ≡
+            record { standing = Standing.Met value; meetings = self.old.meetings + 1 } }
+    {
+        let given = match self.standing {
+            Standing::Waiting { tag: _, value } => value,
+            Standing::Idle | Standing::Met { value: _ } => 0,
+        };
+        self.standing = Standing::Met { value };
+        self.meetings += 1;
+        given
+    }
+}
