@@ -1,0 +1,4 @@
+mod Cases
+mod EarlierLemmas
+mod TimerLemmas
+mod TournamentLemmas

@@ -1,0 +1,4 @@
+pub mod Due
+pub mod Procs
+pub mod Timers
+pub mod Tournament
