@@ -1,4 +1,6 @@
 mod Cases
 mod EarlierLemmas
+mod LineLemmas
+mod SemaLemmas
 mod TimerLemmas
 mod TournamentLemmas

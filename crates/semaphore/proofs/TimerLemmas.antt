@@ -1,5 +1,5 @@
 -- Timers and when they expire.
-use Rattle.std.proofs.Common.{◌≡◌, ◌≢◌, ◌⊎◌, inl, inr, ℕ, zero, suc, ◌+◌, ◌-◌, ◌<◌, ◌≤◌, nat_le, Bool, true, false, if◌then◌else◌, List, [], ◌∷◌, Option, None, Some, length, map, get_or, set, replicate, refl, sym, ap, ◌∙◌, subst, arith, add-zero, add-one}
+use Rattle.std.proofs.Common.{◌≡◌, ◌⊎◌, inl, inr, ℕ, zero, suc, ◌+◌, ◌<◌, ◌≤◌, Bool, true, false, if◌then◌else◌, List, [], ◌∷◌, Option, None, Some, length, map, get_or, set, replicate, refl, sym, ap, ◌∙◌, subst, arith}
 use Rattle.std.proofs.lemmas.Bool.Decides.{nat_tests}
 use Rattle.std.proofs.lemmas.List.{set-get_or}
 use Rattle.semaphore.specs.declared.due.Due.{Due}
@@ -9,7 +9,7 @@ use Rattle.semaphore.specs.Due.{is_before, earlier_of, earliest}
 use Rattle.semaphore.specs.declared.timer_object.TimerCall.TheVariants.{Expire}
 use Rattle.semaphore.specs.declared.timer_object.TimerReply.{TimerReply}
 use Rattle.semaphore.specs.declared.timer_object.TimerReply.TheVariants as reply
-use Rattle.semaphore.specs.Timers.{timer_of, due_of, dues_from, if_come, first_due, answer_to, after, timers_after, answer_first, after_first, answer_expired}
+use Rattle.semaphore.specs.Timers.{due_of, dues_from, if_come, first_due, answer_to, after, timers_after, answer_first, after_first, answer_expired}
 use Rattle.sync_base.specs.declared.ids.Pid.{Pid}
 
 -- the earlier of two whose moment is come is the earlier of the two, if its moment is come
@@ -61,7 +61,7 @@ dues-same timers i timer dues are same =
     are
     ∙ (sym (set-get_or (dues_from 0 timers) i None)
     ∙ (ap (set (dues_from 0 timers) i)
-      (get_or-dues_from 0 timers i ∙ (ap (λ s. due_of s (get_or timers i Unset)) (omega arith) ∙ same))
+    (get_or-dues_from 0 timers i ∙ (ap (λ s. due_of s (get_or timers i Unset)) (omega arith) ∙ same))
     ∙ dues-set timers i timer (dues_from 0 timers) refl))
 
 -- the earliest is one of the list
@@ -102,12 +102,13 @@ set_of_due timers place due (Set pid deadline) timer is within =
     record {
       within = subst (λ p. p < length timers) seat within;
       pid = pid;
-      timer = ap (λ p. get_or timers p Unset) (sym seat) ∙ (sym timer ∙ ap (Set pid) moment)
+      timer = ap (λ p. get_or timers p Unset) (sym seat) ∙ (sym timer ∙ ap (Set pid) moment);
     }
   where
     seat_of : Option Due → ℕ
     seat_of (Some d) = d.seat
     seat_of None = 0
+
     deadline_at : Option Due → ℕ
     deadline_at (Some d) = d.deadline
     deadline_at None = 0
@@ -118,10 +119,10 @@ pub earliest_is_set : (timers : List Timer) (due : Due) → earliest (dues_from 
 earliest_is_set timers due is =
     let stands = earliest_stands (dues_from 0 timers) due is in
     let there : due_of stands.place (get_or timers stands.place Unset) ≡ Some due =
-      ap (λ s. due_of s (get_or timers stands.place Unset)) (omega arith)
-      ∙ (sym (get_or-dues_from 0 timers stands.place) ∙ stands.there) in
+    ap (λ s. due_of s (get_or timers stands.place Unset)) (omega arith)
+    ∙ (sym (get_or-dues_from 0 timers stands.place) ∙ stands.there) in
     set_of_due timers stands.place due (get_or timers stands.place Unset) refl there
-      (subst (λ n. stands.place < n) (length-dues_from 0 timers) stands.within)
+    (subst (λ n. stands.place < n) (length-dues_from 0 timers) stands.within)
 
 -- what Expire answers and leaves
 pub record Expires (timers : List Timer) (now : ℕ) (told : TimerReply) (left : List Timer) : Type 0 where
@@ -139,8 +140,8 @@ expires_one timers now due pid deadline is come timer =
     let here : if_come now (Some due) ≡ Some due = grind (arith, nat_tests) in
     let first : first_due now timers ≡ Some due = first_of_all now timers ∙ (ap (if_come now) (sym is) ∙ here) in
     let answer : answer_to timers (Expire now) ≡ reply.Ended pid =
-      ap (answer_first timers) first ∙ ap answer_expired timer in
+    ap (answer_first timers) first ∙ ap answer_expired timer in
     record {
       answer = sym answer;
-      after = sym (ap (timers_after timers (Expire now)) answer ∙ ap (after_first timers) first)
+      after = sym (ap (timers_after timers (Expire now)) answer ∙ ap (after_first timers) first);
     }

@@ -1,7 +1,5 @@
 -- How many processes a semaphore or a list of timers serves.
 use Rattle.std.specs.Prelude.{ℕ, ◌≤◌}
-use Rattle.sync_base.specs.declared.fault.Fault.{Fault}
-use Rattle.sync_base.specs.declared.fault.Fault.TheVariants.{NoProc, Memory}
 use Rattle.sync_base.specs.declared.limits.TheConstants.{MAX_PROCS}
 
 abbrev pub IsProcCount : ℕ → Type 0

@@ -14,8 +14,7 @@ impl Due {
     pub fn is_before(&self, other: &Due) -> bool
         ensures { result ≡ is_before self.now other.now }
     {
-        self.deadline < other.deadline
-            || self.deadline == other.deadline && self.seat < other.seat
+        self.deadline < other.deadline || self.deadline == other.deadline && self.seat < other.seat
     }
 
     /// The one that expires first.

@@ -102,7 +102,11 @@ impl TimerObject {
         ensures after { self.new ≡ after self.old call }
     {
         match call {
-            TimerCall::Add { seat, pid, deadline } => self.add(seat, pid, deadline),
+            TimerCall::Add {
+                seat,
+                pid,
+                deadline,
+            } => self.add(seat, pid, deadline),
             TimerCall::Expire { now } => self.expire(now),
             TimerCall::Cancel { seat } => self.cancel(seat),
         }

@@ -1,4 +1,4 @@
-use Rattle.std.proofs.Common.{◌≡◌, ◌∙◌, ap, length, arith}
+use Rattle.std.proofs.Common.{◌∙◌, ap, length, arith}
 use Rattle.semaphore.specs.declared.timer_object.Timer.TheVariants.{Set}
 use Rattle.semaphore.proofs.TimerLemmas.{length-dues_from, dues-set}
 use Rattle.semaphore.proofs.timer_object.TimerObject.add.Goals as goal

@@ -2,12 +2,12 @@ use Rattle.std.proofs.Common.{◌≡◌, ◌∙◌, ◌<◌, ap, sym, length, ge
 use Rattle.std.proofs.lemmas.Bool.Decides.{nat_tests}
 use Rattle.std.proofs.lemmas.List.{get_or_default}
 use Rattle.semaphore.specs.declared.due.Due.{Due}
-use Rattle.semaphore.specs.declared.timer_object.Timer.TheVariants.{Unset, Set, Expired}
+use Rattle.semaphore.specs.declared.timer_object.Timer.TheVariants.{Unset, Expired}
 use Rattle.semaphore.specs.declared.timer_object.TimerCall.TheVariants.{Expire}
 use Rattle.semaphore.specs.declared.timer_object.TimerReply.TheVariants.{NoneDue, Ended}
 use Rattle.semaphore.specs.Due.{earliest}
-use Rattle.semaphore.specs.Timers.{dues_from, answer_to, after, if_come}
-use Rattle.semaphore.proofs.TimerLemmas.{Expires, IsSet, length-dues_from, dues-set, expires_none, expires_one, earliest_is_set}
+use Rattle.semaphore.specs.Timers.{answer_to, after, if_come}
+use Rattle.semaphore.proofs.TimerLemmas.{Expires, length-dues_from, dues-set, expires_none, expires_one, earliest_is_set}
 use Rattle.semaphore.proofs.timer_object.TimerObject.expire.Goals as goal
 
 -- no timer is set
@@ -46,27 +46,27 @@ returns-then-due-now-clause-after c =
 pub index-requires : goal.index-requires
 index-requires c =
     let within = (earliest_is_set c.self.inside.timers.items c.in-Some.due
-      (ap earliest (sym c.self.invariant) ∙ (sym c.earliest.ensures ∙ c.in-Some.is))).within in
+    (ap earliest (sym c.self.invariant) ∙ (sym c.earliest.ensures ∙ c.in-Some.is))).within in
     omega arith
 
 pub unreachable-requires : goal.unreachable-requires
 unreachable-requires c =
     let timers = c.self.inside.timers.items in
     let set = earliest_is_set timers c.in-Some.due
-      (ap earliest (sym c.self.invariant) ∙ (sym c.earliest.ensures ∙ c.in-Some.is)) in
+    (ap earliest (sym c.self.invariant) ∙ (sym c.earliest.ensures ∙ c.in-Some.is)) in
     c.in_default-index.not-Set set.pid c.in-Some.due.deadline
     (c.index.ensures ∙ (get_or_default timers c.in-Some.due.seat c.index.result.now Unset set.within ∙ set.timer))
 
 pub index_mut-requires : goal.index_mut-requires
 index_mut-requires c =
     let within = (earliest_is_set c.self.inside.timers.items c.in-Some.due
-      (ap earliest (sym c.self.invariant) ∙ (sym c.earliest.ensures ∙ c.in-Some.is))).within in
+    (ap earliest (sym c.self.invariant) ∙ (sym c.earliest.ensures ∙ c.in-Some.is))).within in
     omega arith
 
 pub enter-requires : goal.enter-requires
 enter-requires c =
     let within = (earliest_is_set c.self.inside.timers.items c.in-Some.due
-      (ap earliest (sym c.self.invariant) ∙ (sym c.earliest.ensures ∙ c.in-Some.is))).within in
+    (ap earliest (sym c.self.invariant) ∙ (sym c.earliest.ensures ∙ c.in-Some.is))).within in
     omega (arith, ap length c.self.invariant, length-dues_from 0 c.self.inside.timers.items)
 
 -- the timer that expired plays no longer

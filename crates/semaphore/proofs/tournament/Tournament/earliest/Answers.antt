@@ -1,4 +1,4 @@
-use Rattle.std.proofs.Common.{◌≡◌, ◌∙◌, ap, None, arith, length}
+use Rattle.std.proofs.Common.{◌∙◌, ap, None, arith}
 use Rattle.std.proofs.lemmas.List.{get_or_default}
 use Rattle.semaphore.specs.Due.{earliest}
 use Rattle.semaphore.proofs.TournamentLemmas.{root_is_earliest}

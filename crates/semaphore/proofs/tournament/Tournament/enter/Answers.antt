@@ -1,4 +1,4 @@
-use Rattle.std.proofs.Common.{◌≡◌, ◌∙◌, ap, sym, None, arith, ◌+◌, ◌*◌, ◌/◌, drop, set, length}
+use Rattle.std.proofs.Common.{◌≡◌, ◌∙◌, ap, None, arith, ◌+◌, ◌*◌, ◌/◌, drop, set}
 use Rattle.std.proofs.lemmas.List.{get_or_default, drop-set-lt, drop-set-add}
 use Rattle.std.proofs.Math.ListN.{length-set}
 use Rattle.semaphore.specs.Due.{earlier_of}
@@ -14,13 +14,13 @@ loop-place-preserved c =
     let place = c.loop-place.place / 2 in
     let kept = c.loop-place.invariant in
     let left : c.index.result.now ≡ node_at nodes (2 * place) =
-      c.index.ensures ∙ get_or_default nodes _ _ None (omega arith) in
+    c.index.ensures ∙ get_or_default nodes _ _ None (omega arith) in
     let right : c.index-in-loop-place.result.now ≡ node_at nodes (2 * place + 1) =
-      c.index-in-loop-place.ensures ∙ get_or_default nodes _ _ None (omega arith) in
+    c.index-in-loop-place.ensures ∙ get_or_default nodes _ _ None (omega arith) in
     let winner : c.earlier.result ≡ earlier_of (node_at nodes (2 * place)) (node_at nodes (2 * place + 1)) =
-      c.earlier.ensures
-      ∙ (ap (λ x. earlier_of x c.index-in-loop-place.result.now) left
-      ∙ ap (earlier_of (node_at nodes (2 * place))) right) in
+    c.earlier.ensures
+    ∙ (ap (λ x. earlier_of x c.index-in-loop-place.result.now) left
+    ∙ ap (earlier_of (node_at nodes (2 * place))) right) in
     record {
       entrants = kept.entrants;
       some = kept.some;
@@ -28,7 +28,7 @@ loop-place-preserved c =
       size = length-set nodes place _ ∙ kept.size;
       below = omega arith;
       won = won_after_game half place nodes c.earlier.result kept.size (omega arith) (omega arith) winner kept.won;
-      entered = drop-set-lt half nodes place _ (omega arith) ∙ kept.entered
+      entered = drop-set-lt half nodes place _ (omega arith) ∙ kept.entered;
     }
 
 -- who entered are those of before, but at the seat

@@ -11,9 +11,9 @@ invariant-loop-place l = record {
   size : length l.self-inside.nodes.items ≡ 2 * l.self-inside.entrants;
   below : l.place < 2 * l.self-inside.entrants;
   won : (place : ℕ) → 1 ≤ place → place < l.self-inside.entrants → ¬ (place ≡ l.place / 2) →
-    IsWon l.self-inside.nodes.items place;
+      IsWon l.self-inside.nodes.items place;
   entered : drop l.self-inside.entrants l.self-inside.nodes.items
-    ≡ drop l.self-inside.entrants l.initial.self-inside.nodes.items
+      ≡ drop l.self-inside.entrants l.initial.self-inside.nodes.items;
 }
 
 abbrev pub decreases-loop-place : goal.decreases-loop-place
