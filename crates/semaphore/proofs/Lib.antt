@@ -1,6 +1,7 @@
 mod Cases
 mod EarlierLemmas
 mod LineLemmas
+mod SemaLawLemmas
 mod SemaLemmas
 mod TimerLemmas
 mod TournamentLemmas

@@ -242,7 +242,7 @@ length_join : (xs : List ℕ) (seat : ℕ) → length (xs ++ seat ∷ []) ≡ le
 length_join [] seat = refl
 length_join (x ∷ xs) seat = omega (arith, length_join xs seat)
 
-length_without : (xs : List ℕ) (seat : ℕ) → stands_in xs seat ≡ true → length (without seat xs) + 1 ≡ length xs
+pub length_without : (xs : List ℕ) (seat : ℕ) → stands_in xs seat ≡ true → length (without seat xs) + 1 ≡ length xs
 length_without [] seat is = cc
 length_without (x ∷ xs) seat is = by_case (length_without xs seat) (head_true x seat (stands_in xs seat) is)
   where

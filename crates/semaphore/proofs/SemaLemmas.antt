@@ -14,7 +14,7 @@ use Rattle.semaphore.proofs.Cases.{same_or_not}
 use Rattle.semaphore.proofs.LineLemmas.{head_false, without_here, without_there, left_same, left_other, joined_same, joined_other, seats_join, seats_without}
 
 -- another stage of one seat, and another line that differs in that seat alone
-sound_stage : (s : SemaState) (seat : ℕ) (stage : Stage) (waiters : List ℕ) → IsSound s → seat < length s.stages → AreSeats (length s.stages) waiters → ((other : ℕ) → other ≢ seat → stands_in waiters other ≡ stands_in s.waiters other) → (stands_in waiters seat ≡ true → stage ≡ Waiting) → (stage ≡ Waiting → stands_in waiters seat ≡ true) → (stands_in waiters seat ≡ true → grants_of s seat < LAST_GRANT) → IsSound (record s { stages = set s.stages seat stage; waiters = waiters })
+pub sound_stage : (s : SemaState) (seat : ℕ) (stage : Stage) (waiters : List ℕ) → IsSound s → seat < length s.stages → AreSeats (length s.stages) waiters → ((other : ℕ) → other ≢ seat → stands_in waiters other ≡ stands_in s.waiters other) → (stands_in waiters seat ≡ true → stage ≡ Waiting) → (stage ≡ Waiting → stands_in waiters seat ≡ true) → (stands_in waiters seat ≡ true → grants_of s seat < LAST_GRANT) → IsSound (record s { stages = set s.stages seat stage; waiters = waiters })
 sound_stage s seat stage waiters sound within are others waits stands may =
     let same : length (set s.stages seat stage) ≡ length s.stages = length-set s.stages seat stage in
     record {

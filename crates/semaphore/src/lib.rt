@@ -3,6 +3,7 @@
 #![tactic(auto)]
 
 pub mod due;
+pub mod laws;
 pub mod limits;
 mod seat_line;
 pub mod sema_object;
