@@ -5,3 +5,4 @@ mod SemaLawLemmas
 mod SemaLemmas
 mod TimerLemmas
 mod TournamentLemmas
+mod WorkedUnits

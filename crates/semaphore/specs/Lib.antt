@@ -1,3 +1,4 @@
+pub mod Broken
 pub mod Due
 pub mod Procs
 pub mod SeatLine
