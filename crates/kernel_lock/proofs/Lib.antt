@@ -1,12 +1,13 @@
 pub mod AcquireKeeps
-pub mod ApplyLemmas
 pub mod DivideKeeps
-pub mod DivideLemmas
-pub mod HistoryLemmas
-pub mod LookKeeps
+pub mod HandKeeps
+pub mod HandOutLemmas
 pub mod MergeKeeps
 pub mod OpeningKeeps
 pub mod ReleaseKeeps
 pub mod RuleLemmas
 pub mod SeatLemmas
+pub mod ServeLemmas
 pub mod SettleKeeps
+pub mod SplitLemmas
+pub mod WatchKeeps
