@@ -1,4 +1,5 @@
 pub mod Broken
+pub mod Definitions
 pub mod Due
 pub mod Procs
 pub mod SeatLine

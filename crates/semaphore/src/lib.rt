@@ -5,6 +5,7 @@
 pub mod due;
 pub mod laws;
 pub mod limits;
+mod object;
 mod seat_line;
 pub mod sema_object;
 pub mod timer_object;
