@@ -1,7 +1,7 @@
 -- What each call keeps of the laws of a semaphore.
-use Rattle.std.proofs.Common.{◌≡◌, ◌≢◌, ◌⊎◌, inl, inr, ⊎_elim, ℕ, zero, suc, ◌+◌, ◌-◌, ◌<◌, ◌≤◌, ◌==◌, nat_lt, Bool, true, false, if◌then◌else◌, List, [], ◌∷◌, ◌++◌, length, take, drop, fold, replicate, get_or, set, Option, None, Some, refl, sym, ap, ◌∙◌, subst, arith}
-use Rattle.std.proofs.lemmas.Bool.Decides.{nat_tests, eqb_tells}
-use Rattle.std.proofs.lemmas.List.{get_or-set_same, get_or-set_other, set-get_or}
+use Rattle.std.proofs.Common.{◌≡◌, ◌≢◌, ◌⊎◌, inl, inr, ⊎_elim, ℕ, zero, suc, ◌+◌, ◌-◌, ◌<◌, ◌≤◌, ◌==◌, nat_lt, Bool, true, false, if◌then◌else◌, List, [], ◌∷◌, length, drop, replicate, get_or, set, Some, refl, sym, ap, ◌∙◌, subst, arith}
+use Rattle.std.proofs.lemmas.Bool.Decides.{nat_tests}
+use Rattle.std.proofs.lemmas.List.{get_or-set_same, get_or-set_other}
 use Rattle.std.proofs.Math.ListN.{length-set}
 use Rattle.histories.specs.History.{state_after, IsLegal}
 use Rattle.semaphore.specs.declared.limits.TheConstants.{MAX_VALUE, LAST_GRANT}
@@ -11,8 +11,8 @@ use Rattle.semaphore.specs.declared.sema_object.SemaCall.{SemaCall}
 use Rattle.semaphore.specs.declared.sema_object.SemaCall.TheVariants.{Acquire, AcquireNow, Release, NextWake, Collect, Leave}
 use Rattle.semaphore.specs.declared.sema_object.SemaReply.{SemaReply}
 use Rattle.semaphore.specs.declared.sema_object.SemaReply.TheVariants as reply
-use Rattle.semaphore.specs.SeatLine.{stands_in, without, first_of, AreSeats}
-use Rattle.semaphore.specs.Units.{SemaState, IsSound, opening, is_seat, stage_of, grants_of, granted, passed, is_idle, may_acquire, answer_acquire, answer_release, answer_next, answer_collect, answer_leave, answer_to, after, sema_after}
+use Rattle.semaphore.specs.SeatLine.{without, first_of, AreSeats}
+use Rattle.semaphore.specs.Units.{SemaState, IsSound, opening, is_seat, stage_of, grants_of, granted, passed, is_idle, may_acquire, answer_acquire, answer_collect, answer_leave, answer_to, sema_after}
 use Rattle.semaphore.specs.SemaHistory.{SemaEntry, sema_meaning, added_by, taken_by, released, taken, held_in, uncollected, collected_by, collected}
 use Rattle.semaphore.proofs.Cases.{same_or_not}
 use Rattle.semaphore.proofs.LineLemmas.{length_without}

@@ -1,15 +1,15 @@
 -- Runs of semaphores and timers, computed from the definitions alone: each row is used, and each
 -- has an example that would come out otherwise without it.
-use Rattle.std.proofs.Common.{◌≡◌, ◌≢◌, ℕ, ◌+◌, List, [], ◌∷◌, map, Some, None, refl}
+use Rattle.std.proofs.Common.{◌≡◌, ℕ, List, [], ◌∷◌, refl}
 use Rattle.histories.specs.History.{state_after, IsLegal}
 use Rattle.semaphore.specs.declared.limits.TheConstants.{MAX_VALUE, LAST_GRANT}
-use Rattle.semaphore.specs.declared.sema_object.Stage.TheVariants.{Idle, Waiting, Granted}
+use Rattle.semaphore.specs.declared.sema_object.Stage.TheVariants.{Idle, Granted}
 use Rattle.semaphore.specs.declared.sema_object.SemaCall.{SemaCall}
 use Rattle.semaphore.specs.declared.sema_object.SemaCall.TheVariants.{Acquire, AcquireNow, Release, NextWake, Collect, Leave}
 use Rattle.semaphore.specs.declared.sema_object.SemaReply.{SemaReply}
 use Rattle.semaphore.specs.declared.sema_object.SemaReply.TheVariants as reply
 use Rattle.semaphore.specs.declared.timer_object.Timer.{Timer}
-use Rattle.semaphore.specs.declared.timer_object.Timer.TheVariants.{Unset, Set, Expired}
+use Rattle.semaphore.specs.declared.timer_object.Timer.TheVariants.{Unset}
 use Rattle.semaphore.specs.declared.timer_object.TimerCall.{TimerCall}
 use Rattle.semaphore.specs.declared.timer_object.TimerCall.TheVariants.{Add, Expire, Cancel}
 use Rattle.semaphore.specs.declared.timer_object.TimerReply.{TimerReply}
@@ -17,7 +17,7 @@ use Rattle.semaphore.specs.declared.timer_object.TimerReply.TheVariants as told
 use Rattle.sync_base.specs.declared.ids.Pid.{Pid}
 use Rattle.semaphore.specs.Units.{SemaState, opening, answer_to, after, passed}
 use Rattle.semaphore.specs.Timers as timers
-use Rattle.semaphore.specs.SemaHistory.{SemaEntry, sema_meaning, released, taken, uncollected, collected}
+use Rattle.semaphore.specs.SemaHistory.{SemaEntry, sema_meaning, released, taken, collected}
 use Rattle.semaphore.specs.Broken.{entry, loses_a_granted_unit, gives_a_unit_twice, grants_out_of_order, passes_the_limit, adds_what_it_refused}
 
 -- the limits

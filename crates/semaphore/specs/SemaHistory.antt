@@ -1,32 +1,23 @@
 -- The history of a semaphore: its calls with their replies, newest first, and what they add up to.
-use Rattle.std.specs.Prelude.{◌≡◌, ℕ, ◌+◌, ◌==◌, if◌then◌else◌, List, [], ◌∷◌, Option, None, Some, IfSome}
+use Rattle.std.specs.Prelude.{ℕ, ◌+◌, ◌==◌, if◌then◌else◌, List, [], ◌∷◌}
 use Rattle.histories.specs.History.{Meaning}
 use Rattle.semaphore.specs.declared.sema_object.Stage.{Stage}
 use Rattle.semaphore.specs.declared.sema_object.Stage.TheVariants.{Idle, Waiting, Granted}
 use Rattle.semaphore.specs.declared.sema_object.SemaCall.{SemaCall}
-use Rattle.semaphore.specs.declared.sema_object.SemaCall.TheVariants.{Acquire, AcquireNow, Release, NextWake, Collect, Leave}
+use Rattle.semaphore.specs.declared.sema_object.SemaCall.TheVariants.{Acquire, AcquireNow, Release, Collect, Leave}
 use Rattle.semaphore.specs.declared.sema_object.SemaReply.{SemaReply}
 use Rattle.semaphore.specs.declared.sema_object.SemaReply.TheVariants as reply
-use Rattle.semaphore.specs.Units.{SemaState, answer_to, after, seat_named}
+use Rattle.kernel_lock.specs.declared.view.Served.{Served}
+use Rattle.kernel_lock.specs.Definition.{meaning_of}
+use Rattle.semaphore.specs.Definitions.{sema_definition}
+use Rattle.semaphore.specs.Units.{SemaState}
 
 -- one call: the number of the seat that made it, and what it was answered
-pub record SemaEntry : Type 0 where
-  pub by : ℕ
-  pub request : SemaCall
-  pub reply : SemaReply
-
--- the reply is the definition's, and a call that names a seat is by that seat
-pub record IsAnswered (s : SemaState) (entry : SemaEntry) : Type 0 where
-  pub reply : entry.reply ≡ answer_to s entry.request
-  pub named : IfSome (seat_named entry.request) (λ seat. seat ≡ entry.by)
+abbrev pub SemaEntry : Type 0
+SemaEntry = Served SemaCall SemaReply
 
 abbrev pub sema_meaning : Meaning SemaState SemaEntry
-sema_meaning =
-    record {
-      by = λ entry. entry.by;
-      IsRight = IsAnswered;
-      after = λ s entry. after s entry.request;
-    }
+sema_meaning = meaning_of sema_definition
 
 -- the units that a call added
 abbrev pub added_by : SemaCall → SemaReply → ℕ

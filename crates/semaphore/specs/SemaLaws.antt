@@ -2,7 +2,6 @@
 use Rattle.std.specs.Prelude.{◌≡◌, ◌⊎◌, ℕ, ◌+◌, ◌≤◌, ◌<◌, List, [], length}
 use Rattle.histories.specs.History.{state_after, IsLegal}
 use Rattle.semaphore.specs.declared.limits.TheConstants.{MAX_VALUE, LAST_GRANT}
-use Rattle.semaphore.specs.declared.sema_object.Stage.TheVariants.{Granted}
 use Rattle.semaphore.specs.Units.{SemaState, IsSound, opening, stage_of, grants_of}
 use Rattle.semaphore.specs.SemaHistory.{SemaEntry, sema_meaning, released, taken, held_in, uncollected, collected}
 

@@ -1,10 +1,11 @@
 //! Runs of semaphores and timers. The values come from semacquire(2) and the rules of the library,
 //! and for random calls from a plain model.
-ghost use Rattle.std.specs.Prelude.{◌≤◌};
+ghost use Rattle.std.specs.Prelude.{◌≡◌, ◌≤◌};
 ghost use Rattle.semaphore.specs.declared.limits.TheConstants.{LAST_GRANT};
 
 use crate::timer_object::deadline;
 use crate::{SemaCall, SemaObject, SemaReply, TimerCall, TimerObject, TimerReply};
+use kernel_lock::{Locked, Opened};
 use std::alloc::Global;
 use std::process::Abort;
 use std::test::Fail;
@@ -47,7 +48,9 @@ fn acquire(seat: u64) -> SemaCall {
     SemaCall::Acquire { seat }
 }
 
-fn acquire_now(seat: u64) -> SemaCall {
+fn acquire_now(seat: u64) -> SemaCall
+    ensures { result ≡ SemaCall.AcquireNow seat }
+{
     SemaCall::AcquireNow { seat }
 }
 
@@ -178,6 +181,21 @@ fn a_seat_whose_grants_are_worn_can_still_take_a_unit(rt: HostRuntime) -> Result
         (acquire(0), SemaReply::Worn),
     ];
     sema_answers(&rt, &mut sema, &calls);
+    Ok(())
+}
+
+#[test]
+fn a_lock_stands_round_a_semaphore(rt: HostRuntime) -> Result<(), Fail> {
+    let sema = sema_of(rt.alloc(), 1, 3, 0)?;
+    let Ok(Opened { lock, mut seat }) = Locked::new(rt.alloc(), sema, 1) else {
+        // Memory was refused.
+        return Ok(());
+    };
+    let number = seat.number();
+    let reply = lock.apply(&rt, &mut seat, acquire_now(number));
+    assert_eq!(rt; (number, reply), (0, SemaReply::Acquired));
+    let mut sema = lock.close(&rt, seat);
+    sema_answers(&rt, &mut sema, &[(acquire_now(0), SemaReply::NotNow)]);
     Ok(())
 }
 

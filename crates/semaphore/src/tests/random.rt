@@ -30,7 +30,7 @@ impl Dice {
             0 | 1 => SemaCall::Acquire { seat },
             2 => SemaCall::AcquireNow { seat },
             3 => SemaCall::Release {
-                count: self.roll(3) as u32,
+                count: u32::try_from(self.roll(3)).unwrap_or(0),
             },
             4 => SemaCall::NextWake,
             5 | 6 => SemaCall::Collect { seat },
