@@ -1,0 +1,14 @@
+use Rattle.std.proofs.Common.{◌∙◌, ap, length, arith}
+use Rattle.semaphore.specs.declared.timer_object.Timer.TheVariants.{Set}
+use Rattle.semaphore.proofs.TimerLemmas.{length-dues_from, dues-set}
+use Rattle.semaphore.proofs.timer_object.TimerObject.add.Goals as goal
+
+pub enter-requires : goal.enter-requires
+enter-requires c =
+    omega (arith, ap length c.self.invariant, length-dues_from 0 c.self.inside.timers.items)
+
+-- the timer that is set enters
+pub invariant_of-self : goal.invariant_of-self
+invariant_of-self c =
+    c.enter.ensures
+    ∙ dues-set c.self.inside.timers.items c.args.seat (Set c.args.pid c.args.deadline) c.self.inside.dues c.self.invariant

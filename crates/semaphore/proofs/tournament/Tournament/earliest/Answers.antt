@@ -1,0 +1,13 @@
+use Rattle.std.proofs.Common.{◌∙◌, ap, None, arith}
+use Rattle.std.proofs.lemmas.List.{get_or_default}
+use Rattle.semaphore.specs.Due.{earliest}
+use Rattle.semaphore.proofs.TournamentLemmas.{root_is_earliest}
+use Rattle.semaphore.proofs.tournament.Tournament.earliest.Goals as goal
+
+-- the root is the earliest
+pub returns : goal.returns
+returns c =
+    let nodes = c.self.inside.nodes.items in
+    c.index.ensures
+    ∙ (get_or_default nodes 1 c.index.result.now None (omega arith)
+    ∙ (root_is_earliest c.self.inside.entrants nodes c.self.invariant ∙ ap earliest c.self.view_is))
