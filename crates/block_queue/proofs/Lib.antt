@@ -1,0 +1,3 @@
+pub mod StateLemmas
+pub mod PlaceLemmas
+pub mod WordMoves
