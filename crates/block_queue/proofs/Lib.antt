@@ -1,3 +1,5 @@
 pub mod StateLemmas
 pub mod PlaceLemmas
 pub mod WordMoves
+pub mod ViewMoves
+pub mod RuleMoves

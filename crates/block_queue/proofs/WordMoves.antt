@@ -33,11 +33,11 @@ pub slice_get_last : {A : Type 0} (xs : List A) (x : A) → slice_get (xs ++ x �
 slice_get_last [] x = refl
 slice_get_last (y ∷ xs) x = slice_get_last xs x
 
-same_some : {A : Type 0} (a b : A) → Some a ≡ Some b → a ≡ b
+pub same_some : {A : Type 0} (a b : A) → Some a ≡ Some b → a ≡ b
 same_some a b same = cc
 
 -- the put of this seat and of another after one was set
-put_here : (seat : ℕ) (number : Option ℕ) (putting : ℕ → Option ℕ) → with_put seat number putting seat ≡ number
+pub put_here : (seat : ℕ) (number : Option ℕ) (putting : ℕ → Option ℕ) → with_put seat number putting seat ≡ number
 put_here seat number putting = rw (eq-eqb seat seat refl) refl
 
 pub put_else : (seat other : ℕ) (number : Option ℕ) (putting : ℕ → Option ℕ) → other ≢ seat → with_put seat number putting other ≡ putting other

@@ -6,6 +6,8 @@ pub mod answers;
 pub mod entry;
 pub mod places;
 pub mod queue_object;
+mod rule;
+pub mod view;
 
 pub use answers::{PutAnswer, TakeAnswer};
 pub use queue_object::QueueObject;
