@@ -1,0 +1,7 @@
+pub mod AccountLemmas
+pub mod AloneLemmas
+pub mod HistoryLemmas
+pub mod ImageLemmas
+pub mod ListLemmas
+pub mod SeatsKeep
+pub mod WorkedHistories

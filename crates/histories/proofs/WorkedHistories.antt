@@ -1,0 +1,117 @@
+-- Short histories and accounts, computed: each definition is used, and each has an example that
+-- would come out otherwise without it.
+use Rattle.std.proofs.Common.{◌≡◌, ℕ, ◌+◌, ◌<◌, ◌≤◌, true, false, List, [], ◌∷◌, map}
+use Rattle.std.proofs.Common.{refl, arith}
+use Rattle.histories.specs.declared.account.Account.{Account}
+use Rattle.histories.specs.History.{Meaning, IsPast, IsLegal, entries_by, state_after}
+use Rattle.histories.specs.Account.{HasAllNumbers, numbers_from}
+use Rattle.histories.specs.Account.{longer_of, shorter_of, share_after, unused_share}
+use Rattle.histories.specs.Changes.{child_account, entered_account, joined_account, parent_account}
+
+-- a jar of coins: a seat puts coins in, or takes some that are there
+data Deed : Type 0 where
+  puts : (by coins : ℕ) → Deed
+  takes : (by coins : ℕ) → Deed
+
+abbrev by : Deed → ℕ
+by (puts seat coins) = seat
+by (takes seat coins) = seat
+
+abbrev MayBe : ℕ → Deed → Type 0
+MayBe held (puts seat coins) = 0 < coins
+MayBe held (takes seat coins) = coins ≤ held
+
+abbrev held_after : ℕ → Deed → ℕ
+held_after held (puts seat coins) = held + coins
+held_after held (takes seat coins) = 0
+
+abbrev jar : Meaning ℕ Deed
+jar = record { by = by; IsRight = MayBe; after = held_after }
+
+-- newest first: seat 0 puts 2, seat 1 puts 3, seat 0 takes 5
+abbrev day : List Deed
+day = takes 0 5 ∷ puts 1 3 ∷ puts 0 2 ∷ []
+
+-- an entry comes behind its past, so the jar is empty at the end of the day
+the_day_ends_empty : state_after jar 0 day ≡ 0
+the_day_ends_empty = refl
+
+-- read the other way round it would not be
+the_day_backwards : state_after jar 0 (puts 0 2 ∷ puts 1 3 ∷ takes 0 5 ∷ []) ≡ 5
+the_day_backwards = refl
+
+the_day_is_legal : IsLegal jar 0 day
+the_day_is_legal = (omega arith, (omega arith, (omega arith, tt)))
+
+-- nobody takes what is not there yet
+taking_too_early : IsLegal jar 0 (puts 0 2 ∷ takes 1 1 ∷ []) → ⊥
+taking_too_early legal = let early = legal.1.0 in omega arith
+
+-- the opening counts
+taking_what_was_there : IsLegal jar 1 (puts 0 2 ∷ takes 1 1 ∷ [])
+taking_what_was_there = (omega arith, (omega arith, tt))
+
+-- the entries by a seat, in their order
+by_the_first : entries_by by 0 day ≡ takes 0 5 ∷ puts 0 2 ∷ []
+by_the_first = refl
+
+-- the past is what came before, and not what came first in the list
+morning_is_past : IsPast (puts 1 3 ∷ puts 0 2 ∷ []) day
+morning_is_past = record { since = takes 0 5 ∷ []; new_is = refl }
+
+-- ---- accounts
+
+-- the first seat gives the numbers 1 and 2
+abbrev first : Account Deed
+first =
+    record {
+      number = 0;
+      shares = unused_share 0 ∷ [];
+      seen = [];
+      gave = numbers_from 1 2;
+    }
+
+abbrev second : Account Deed
+second = child_account 1 record { number = 0; shares = []; seen = []; gave = [] }
+
+abbrev third : Account Deed
+third = child_account 2 record { number = 0; shares = []; seen = []; gave = [] }
+
+gave_in_order : first.gave ≡ 1 ∷ 2 ∷ []
+gave_in_order = refl
+
+-- alone the first seat hasn't all numbers: 1 is out
+not_all : HasAllNumbers first → ⊥
+not_all all = let out : false ≡ true = all.gave.0 in cc
+
+-- joined with one of them, it hasn't either
+still_not_all : HasAllNumbers (joined_account first second) → ⊥
+still_not_all all = let out : false ≡ true = all.gave.1.0 in cc
+
+-- joined with both it has all
+all_joined : HasAllNumbers (joined_account (joined_account first second) third)
+all_joined = record { first = refl; gave = (refl, (refl, tt)) }
+
+-- what the others gave counts: seat 1 gave 3, which is out
+a_grandchild_is_out :
+    HasAllNumbers (joined_account (joined_account first (parent_account 3 second)) third) → ⊥
+a_grandchild_is_out all = let out : false ≡ true = all.gave.1.1.0 in cc
+
+-- without 0 a seat has not all, whatever it gave
+without_the_first : HasAllNumbers (joined_account second third) → ⊥
+without_the_first all = let out : false ≡ true = all.first in cc
+
+-- an entry joins the share of its number, and no other
+the_share_gains : map (share_after by (puts 2 1)) (unused_share 1 ∷ unused_share 2 ∷ []) ≡
+    unused_share 1 ∷ record { number = 2; mine = puts 2 1 ∷ [] } ∷ []
+the_share_gains = refl
+
+the_seat_has_seen_it : (entered_account by (puts 0 2) [] first).seen ≡ puts 0 2 ∷ []
+the_seat_has_seen_it = refl
+
+-- of two pasts the longer one is what a joined seat has seen
+longer_is_second : longer_of (puts 0 2 ∷ []) day ≡ day
+longer_is_second = refl
+
+shorter_is_first : shorter_of (puts 0 2 ∷ []) day ≡ puts 0 2 ∷ []
+shorter_is_first = refl

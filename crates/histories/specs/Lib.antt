@@ -1,0 +1,6 @@
+pub mod Account
+pub mod Changes
+pub mod History
+pub mod Image
+pub mod Laws
+pub mod Ledger

@@ -1,0 +1,21 @@
+//! What holds of every history and of all its seats.
+//! Each law is a function that does nothing: its contract is the law, whatever the entries are.
+ghost use Rattle.histories.specs.Laws.{
+  PastsAreInLine,
+  HasEveryNumber,
+  NoOtherHasOne,
+  KnowsWholeHistory,
+};
+
+/// Of two pasts of one history the shorter is a past of the longer.
+pub fn pasts_are_in_line<E>()
+    ensures { PastsAreInLine E }
+{}
+
+/// A seat that has the number 0 and all that it gave has every number that there is,
+/// no other seat has one, and it has seen the whole history.
+pub fn all_numbers_know_all<E>()
+    ensures every { HasEveryNumber E }
+    ensures alone { NoOtherHasOne E }
+    ensures whole { KnowsWholeHistory E }
+{}
