@@ -3,3 +3,9 @@ pub mod PlaceLemmas
 pub mod WordMoves
 pub mod ViewMoves
 pub mod RuleMoves
+pub mod StepLemmas
+pub mod PutKeeps
+pub mod TakeKeeps
+pub mod SeatLemmas
+pub mod HandKeeps
+pub mod OpeningKeeps

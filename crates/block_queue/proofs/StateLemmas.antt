@@ -7,6 +7,9 @@ use Rattle.sync_base.specs.Pipe.{PipeState, begun_of, waiting_of, next_write}
 use Rattle.sync_base.specs.Write.{Write}
 use Rattle.sync_base.specs.declared.limits.TheConstants.{LAST_WRITE}
 use Rattle.block_queue.specs.History.{QueueState, IsRight, IsTaken, IsBlock, opening_state, after_entry}
+use Rattle.histories.specs.History.{IsPast}
+use Rattle.block_queue.specs.declared.view.Key.{Key}
+use Rattle.block_queue.specs.Meaning.{queue_after}
 use Rattle.block_queue.specs.Places.{IsQueueState}
 use Rattle.block_queue.specs.declared.entry.Entry.{Entry}
 use Rattle.block_queue.specs.declared.entry.Entry.TheVariants.{Taken, Stood, Full, Hungup, Worn, Block, NotYet, End, Hung}
@@ -46,3 +49,23 @@ entry_fits limit first s (Block writer block number) fits right =
 entry_fits limit first s (NotYet number) fits right = fits
 entry_fits limit first s End fits right = fits
 entry_fits limit first s (Hung seat) fits right = record { limit_is = fits.limit_is; whole = fits.whole; within = fits.within; room = fits.room; given = fits.given }
+
+-- the mark is never taken back
+stays_hung : (s : QueueState) (entry : Entry) → s.pipe.hung ≡ true → (after_entry s entry).pipe.hung ≡ true
+stays_hung s (Taken writer block number) hung = hung
+stays_hung s (Stood writer number) hung = hung
+stays_hung s (Full writer block number) hung = hung
+stays_hung s (Hungup writer block) hung = hung
+stays_hung s (Worn writer block) hung = hung
+stays_hung s (Block writer block number) hung = hung
+stays_hung s (NotYet number) hung = hung
+stays_hung s End hung = hung
+stays_hung s (Hung seat) hung = refl
+
+-- so what was hung up in a past is hung up still
+pub hung_since : (key : Key) (past history : List Entry) → IsPast past history → (queue_after key past).pipe.hung ≡ true → (queue_after key history).pipe.hung ≡ true
+hung_since key past history is hung = subst (λ (h : List Entry). (queue_after key h).pipe.hung ≡ true) (sym is.new_is) (behind is.since)
+  where
+    behind : (since : List Entry) → (queue_after key (since ++ past)).pipe.hung ≡ true
+    behind [] = hung
+    behind (entry ∷ since) = stays_hung (queue_after key (since ++ past)) entry (behind since)

@@ -42,6 +42,10 @@ is_moving (Looking found) = false
 is_moving (Moving writer block) = true
 is_moving Joined = false
 
+-- the seat is between the two loads of a take
+abbrev pub IsStageLooking : Stage → Type 0
+IsStageLooking stage = (found : Bool) × (stage ≡ Looking found)
+
 -- the put of this number that has not returned, where the seat stands so
 abbrev pub put_at : ℕ → Stage → ℕ → Option ℕ
 put_at first Free number = None

@@ -3,6 +3,9 @@ use Rattle.std.specs.Prelude.{◌≡◌, ◌≢◌, ℕ, ◌+◌, ◌-◌, ◌<�
 use Rattle.std.specs.Prelude.{List, [], ◌∷◌, Option, Some, None}
 use Rattle.atomic_table.specs.Table as table
 use Rattle.histories.specs.declared.account.Account.{Account}
+use Rattle.histories.specs.declared.account.Share.{Share}
+use Rattle.histories.specs.Account.{unused_share}
+use Rattle.histories.specs.Changes.{keeping_account, handed_account}
 use Rattle.sync_base.specs.Pipe.{next_write}
 use Rattle.sync_base.specs.Write.{Write}
 use Rattle.sync_base.specs.declared.limits.TheConstants.{LAST_WRITE}
@@ -113,6 +116,39 @@ pub record HasFreed (key : Key) (write : Write) (before after : Seated) : Type 0
   pub slots : after.1 ≡ table.rest before.1
 
 -- Hang: the queue is hung up
-pub record HasHung (key : Key) (seat : ℕ) (before after : Seated) : Type 0 where
-  pub entered : HasEntered key (entry.Hung seat) Free before.0 after.0
+pub record HasHung (key : Key) (before after : Seated) : Type 0 where
+  pub entered : HasEntered key (entry.Hung before.0.account.number) Free before.0 after.0
   pub slots : after.1 ≡ before.1
+
+-- Hand: the reader keeps its first number and hands the second over to a new seat
+abbrev pub second_share : List (Share Entry) → Share Entry
+second_share [] = unused_share 0
+second_share (share ∷ []) = share
+second_share (share ∷ second ∷ shares) = second
+
+abbrev pub without_second : List (Share Entry) → List (Share Entry)
+without_second [] = []
+without_second (share ∷ []) = share ∷ []
+without_second (share ∷ second ∷ shares) = share ∷ shares
+
+abbrev pub keeper_view : View → View
+keeper_view view =
+    record view { account = keeping_account (without_second view.account.shares) view.account }
+
+abbrev pub handed_view : View → View
+handed_view view =
+    record {
+      account = handed_account (second_share view.account.shares) view.account;
+      taken = 0;
+      stage = Free;
+    }
+
+-- the seat has a number to hand over
+pub record HasToHand (view : View) : Type 0 where
+  pub own : Share Entry
+  pub next : Share Entry
+  pub others : List (Share Entry)
+  pub shares_are : view.account.shares ≡ own ∷ next ∷ others
+  pub own_is : own.number ≡ 0
+  pub next_is : 0 < next.number
+  pub stage_is : view.stage ≡ Free

@@ -4,10 +4,21 @@
 
 pub mod answers;
 pub mod entry;
+pub mod opening;
 pub mod places;
 pub mod queue_object;
+mod plays;
+mod put;
+mod put_steps;
+pub mod queue;
 mod rule;
+pub mod seats;
+mod take;
+mod take_steps;
 pub mod view;
 
 pub use answers::{PutAnswer, TakeAnswer};
+pub use opening::Opened;
+pub use queue::Queue;
 pub use queue_object::QueueObject;
+pub use seats::{PutSeat, TakeSeat};
