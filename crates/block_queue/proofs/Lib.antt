@@ -9,3 +9,4 @@ pub mod TakeKeeps
 pub mod SeatLemmas
 pub mod HandKeeps
 pub mod OpeningKeeps
+pub mod OpeningLemmas

@@ -131,4 +131,3 @@ module _ (limit first : ℕ) (s : QueueState) (out : Bool) (words : List ℕ) (h
       (λ full. inr (lap_before t some full, full, omega arith))
       (λ not_full. inl (⊎_elim (λ free. free) (λ stored. absurd (omega arith)) (word_in_window t in_or_behind (omega arith)), in_or_behind, omega arith)))
       (λ before. let less : t < s.pipe.read = lt_of_not-le before in let round = gone_round t some less in absurd (omega arith))
-

@@ -73,8 +73,7 @@ module _ (asked : Asked) (slots id : ℕ) (me : Seated) (own : has_number me.0.a
     tail_hungup hung =
         let right : IsRight key.first s (entry.Hungup writer block) = record { may = hung; in_turn = in_turn } in
         let tells = refusal_tells key t rule id me.0 at idle no_put (entry.Hungup writer block) own right refl in
-        let tail : word ≡ length s.pipe.accepted + MARK = rule.words.tail ∙ rw hung refl in
-        (
+        let tail : word ≡ length s.pipe.accepted + MARK = rule.words.tail ∙ rw hung refl in (
           refused_view key t rule id me.0 at idle no_put (entry.Hungup writer block) own right refl,
           table.keeps,
           tt,
@@ -100,8 +99,7 @@ module _ (asked : Asked) (slots id : ℕ) (me : Seated) (own : has_number me.0.a
     tail_worn unhung last =
         let right : IsRight key.first s (entry.Worn writer block) = record { may = record { not_hung = unhung; last = omega arith }; in_turn = in_turn } in
         let tells = refusal_tells key t rule id me.0 at idle no_put (entry.Worn writer block) own right refl in
-        let tail : word ≡ length s.pipe.accepted = rule.words.tail ∙ rw unhung refl in
-        (
+        let tail : word ≡ length s.pipe.accepted = rule.words.tail ∙ rw unhung refl in (
           refused_view key t rule id me.0 at idle no_put (entry.Worn writer block) own right refl,
           table.keeps,
           tt,
@@ -120,8 +118,7 @@ module _ (asked : Asked) (slots id : ℕ) (me : Seated) (own : has_number me.0.a
     tail_counted unhung not_last =
         let given = fits.given in
         let tail : word ≡ length s.pipe.accepted = rule.words.tail ∙ rw unhung refl in
-        let counted : IsCounted key.first s word = record { accepted = omega arith; given = omega arith } in
-        (
+        let counted : IsCounted key.first s word = record { accepted = omega arith; given = omega arith } in (
           staged_view (Counted word) me.0,
           table.keeps,
           tt,
@@ -182,8 +179,7 @@ module _ (asked : Asked) (slots id : ℕ) (me : Seated) (own : has_number me.0.a
         let made : Entry = entry.Full writer block (key.first + asked.count - key.limit) in
         let right : IsRight key.first s₂ (entry.Full writer block (key.first + asked.count - key.limit)) =
         record { may = record { may = waiting; number_is = number }; in_turn = no_put_by key t rule id me.0 at idle₂ no_put₂ (writer + 1) own } in
-        let after : View = refused_view key t rule id me.0 at idle₂ no_put₂ (entry.Full writer block (key.first + asked.count - key.limit)) own right refl in
-        (
+        let after : View = refused_view key t rule id me.0 at idle₂ no_put₂ (entry.Full writer block (key.first + asked.count - key.limit)) own right refl in (
           refused_view key t rule id me.0 at idle₂ no_put₂ (entry.Full writer block (key.first + asked.count - key.limit)) own right refl,
           table.keeps,
           tt,
@@ -312,8 +308,7 @@ module _ (asked : Asked) (slots id : ℕ) (me : Seated) (own : has_number me.0.a
 
     accept_wins : s₃.pipe.hung ≡ false → length s₃.pipe.accepted ≡ asked.count → tail₃ ≡ asked.count → Result₃ (asked.count + 1)
     accept_wins unhung count_is found =
-        let all : Accepts asked.count = subst Accepts count_is (last_accepts unhung count_is) in
-        (
+        let all : Accepts asked.count = subst Accepts count_is (last_accepts unhung count_is) in (
           accepted_view asked.count,
           table.takes (place_of key.limit asked.count) None,
           all.home,

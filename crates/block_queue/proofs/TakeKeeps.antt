@@ -68,8 +68,7 @@ module _ (key : Key) (slots id : ℕ) (me : Seated) where
       tail_ended hung all =
           let right : IsRight key.first s entry.End = record { may = (hung, slice_get_past s.pipe.accepted s.pipe.read (omega arith)); in_turn = no_put_by key t rule id me.0 at idle no_put 0 own } in
           let taken = knows.taken in
-          let tail : word ≡ length s.pipe.accepted + MARK = rule.words.tail ∙ rw hung refl in
-          (
+          let tail : word ≡ length s.pipe.accepted + MARK = rule.words.tail ∙ rw hung refl in (
             refused_view key t rule id me.0 at idle no_put entry.End own right refl,
             table.keeps,
             tt,
@@ -151,8 +150,7 @@ module _ (key : Key) (slots id : ℕ) (me : Seated) where
           let not_stored : get_or t.words (sequence_of (place_of key.limit s.pipe.read)) 0 ≢ stored_word key.limit s.pipe.read = λ same. other (next_word ∙ same ∙ sym next_stored) in
           let number : key.first + me.0.taken ≡ key.first + begun_of s.pipe = ap (λ (n : ℕ). key.first + n) (knows.taken ∙ sym (begun_is s.pipe fits.whole)) in
           let right : IsRight key.first s (entry.NotYet (key.first + me.0.taken)) =
-          record { may = record { none = no_block key.limit key.first s rule.out t.words t.homes rule.some_room fits rule.words not_stored; number_is = number }; in_turn = no_put_by key t rule id me.0 at idle₂ no_put₂ 0 own } in
-          (
+          record { may = record { none = no_block key.limit key.first s rule.out t.words t.homes rule.some_room fits rule.words not_stored; number_is = number }; in_turn = no_put_by key t rule id me.0 at idle₂ no_put₂ 0 own } in (
             refused_view key t rule id me.0 at idle₂ no_put₂ (entry.NotYet (key.first + me.0.taken)) own right refl,
             table.keeps,
             tt,
@@ -175,8 +173,7 @@ module _ (key : Key) (slots id : ℕ) (me : Seated) where
           let next = has_block key.limit key.first s rule.out t.words t.homes rule.some_room fits rule.words (sym next_word ∙ same ∙ next_stored) in
           let write : Write = next.0 in
           let home : get_elem? t.homes (place_of key.limit me.0.taken) ≡ some (some (Some write)) = ap (λ (n : ℕ). get_elem? t.homes (place_of key.limit n)) knows.taken ∙ next.3 (knows.out_is ∙ idle₂) in
-          let some_write : s.pipe.read < length s.pipe.accepted = slice_get_within s.pipe.accepted s.pipe.read write next.1 in
-          (
+          let some_write : s.pipe.read < length s.pipe.accepted = slice_get_within s.pipe.accepted s.pipe.read write next.1 in (
             staged_view (Moving next.0.writer next.0.bytes) me.0,
             table.takes (place_of key.limit me.0.taken) (Some next.0),
             home,

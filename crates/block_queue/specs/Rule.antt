@@ -27,7 +27,7 @@ account_of view = view.account
 
 -- the first seat of a queue, and one that was spent in a join
 abbrev pub first_view : Key → View
-first_view key = record { account = first_account 0; taken = 0; stage = Free }
+first_view key = record { account = first_account key.writers; taken = 0; stage = Free }
 
 abbrev pub spent_view : View
 spent_view = record { account = spent_account; taken = 0; stage = Free }

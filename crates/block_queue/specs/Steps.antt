@@ -103,8 +103,10 @@ pub record HasTakeSequence (key : Key) (before : Seated) (found : ℕ) (after : 
   pub left : found ≢ stored_word key.limit before.0.taken → before.0.stage ≡ Looking true →
       next_write (queue_after key after.0.account.seen).pipe ≢ None
   pub moving : found ≡ stored_word key.limit before.0.taken → (write : Write) ×
-      (after ≡ (staged_view (Moving write.writer write.bytes) before.0,
-      (place_of key.limit before.0.taken, Some write) ∷ before.1))
+      (after ≡ (
+        staged_view (Moving write.writer write.bytes) before.0,
+        (place_of key.limit before.0.taken, Some write) ∷ before.1,
+      ))
 
 -- Free: the block was taken out, and its place is free for the next lap
 pub record HasFreed (key : Key) (write : Write) (before after : Seated) : Type 0 where

@@ -1,9 +1,11 @@
 //! How a queue is made, with its seats. Before this: `queue`. After it: `put_steps`.
-ghost use Rattle.std.specs.Prelude.{◌≡◌, ◌⊎◌, ◌↔◌, ◌+◌, ◌<◌, ◌≤◌, [], length, IfOk, IfErr, IsErrOf};
-ghost use Rattle.std.specs.Vec.{vec_len, vec_capacity};
+ghost use Rattle.std.specs.Prelude.{◌≡◌, ◌⊎◌, ◌↔◌, ◌+◌, ◌<◌, ◌≤◌, [], replicate, IfOk, IfErr, IsErrOf};
+ghost use Rattle.std.specs.Vec.{vec_capacity};
 ghost use Rattle.sync_base.specs.declared.fault.Fault.TheVariants.{BadSize, BadArg, Memory};
 ghost use Rattle.sync_base.specs.declared.limits.TheConstants.{
-  LAST_WRITE, MAX_PIPE_LIMIT, MAX_WRITERS,
+  LAST_WRITE,
+  MAX_PIPE_LIMIT,
+  MAX_WRITERS,
 };
 ghost use Rattle.block_queue.specs.Opening.{Opens, AreNewPutSeats, IsBadQueue, handing_view};
 ghost use Rattle.block_queue.specs.Seats.{IsSamePlace};
@@ -15,7 +17,7 @@ use crate::rule::Place;
 use crate::seats::{PutSeat, TakeSeat};
 use crate::view::Key;
 use atomic_table::Table;
-use std::alloc::Global;
+use std::alloc::{AllocError, Global};
 use sync_base::Fault;
 use sync_base::limits::{LAST_WRITE, MAX_PIPE_LIMIT, MAX_WRITERS};
 
@@ -25,6 +27,13 @@ pub struct Opened {
     pub queue: Queue,
     pub take: TakeSeat,
     pub puts: Vec<PutSeat>,
+}
+
+// The words of a new queue.
+fn zeros(alloc: Global, count: usize) -> Result<Vec<u64>, AllocError>
+    ensures { IfOk result (λ words. words.items ≡ replicate count 0) }
+{
+    vec![in alloc; 0; count]
 }
 
 impl Queue {
@@ -48,12 +57,7 @@ impl Queue {
     /// BadSize: the limit is not from 1 to 1,024, or the writers are not from 1 to 64.
     /// BadArg: `first` is above the number of the last write.
     /// Memory: room for the places and the seats was refused.
-    pub fn new_from(
-        alloc: Global,
-        limit: u64,
-        writers: u64,
-        first: u64,
-    ) -> Result<Opened, Fault>
+    pub fn new_from(alloc: Global, limit: u64, writers: u64, first: u64) -> Result<Opened, Fault>
         // Refused first, in this order.
         ensures bad_size { IsErrOf result BadSize ↔ IsBadQueue limit writers }
         ensures bad_arg { IsErrOf result BadArg → LAST_WRITE < first }
@@ -77,7 +81,7 @@ impl Queue {
             writers,
         };
         let mut puts = Vec::with_capacity(alloc, writers as usize)?;
-        let words = vec![in alloc; 0; limit as usize + 1]?;
+        let words = zeros(alloc, limit as usize + 1)?;
         let (table, mut place) = Table::vacant(alloc, words.as_slice(), limit as usize, &key)?;
         let queue = Queue { table, key };
         queue.hand_seats(&mut place, &mut puts);

@@ -4,7 +4,12 @@ ghost use Rattle.sync_base.specs.declared.limits.TheConstants.{LAST_WRITE};
 ghost use Rattle.block_queue.specs.declared.view.Stage.TheVariants.{Free, Placed};
 ghost use Rattle.block_queue.specs.Calls.{Puts, IsFreshPut};
 ghost use Rattle.block_queue.specs.Seats.{
-  IsFreePlaceOf, IsPlaceOf, IsPutSeatOf, IsSamePlace, key_of, put_account,
+  IsFreePlaceOf,
+  IsPlaceOf,
+  IsPutSeatOf,
+  IsSamePlace,
+  key_of,
+  put_account,
 };
 ghost use Rattle.block_queue.specs.Steps.{staged_view};
 ghost use Rattle.block_queue.specs.Tries.{IfAnswered, IfAgain, IsAgain, IsTaken};

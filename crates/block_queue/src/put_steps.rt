@@ -5,7 +5,10 @@ ghost use Rattle.std.specs.Prelude.{◌≡◌, ◌+◌, ◌<◌, [], ◌∷◌, 
 ghost use Rattle.std.specs.Bool.{OnTrue, OnFalse};
 ghost use Rattle.histories.specs.Account.{has_number};
 ghost use Rattle.block_queue.specs.declared.view.Stage.TheVariants.{
-  Free, Counted, Placed, Storing,
+  Free,
+  Counted,
+  Placed,
+  Storing,
 };
 ghost use Rattle.block_queue.specs.Places.{place_of, free_word};
 ghost use Rattle.block_queue.specs.Seats.{IsPlaceOf, IsSamePlace, asks};
@@ -75,7 +78,9 @@ impl Queue {
         ensures seat { IsSamePlace seat.old seat.new }
         ensures told { HasAccepted M.asked seat.old.me result seat.new.me }
     {
-        self.table.shared.compare_exchange::<Accept<M>>(seat, TAIL, count, count + 1)
+        self.table
+            .shared
+            .compare_exchange::<Accept<M>>(seat, TAIL, count, count + 1)
     }
 
     /// Puts the block into the slot of its place.

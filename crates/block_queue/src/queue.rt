@@ -1,7 +1,9 @@
 //! The ring. Before this: `seats`. After it: `opening`, how it is made.
 ghost use Rattle.std.specs.Prelude.{◌≡◌, ◌+◌, ◌<◌, ◌≤◌};
 ghost use Rattle.sync_base.specs.declared.limits.TheConstants.{
-  LAST_WRITE, MAX_PIPE_LIMIT, MAX_WRITERS,
+  LAST_WRITE,
+  MAX_PIPE_LIMIT,
+  MAX_WRITERS,
 };
 
 use crate::rule::QueueTable;

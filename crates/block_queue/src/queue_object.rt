@@ -79,8 +79,12 @@ impl Model for QueueObject {
 
     ghost Value = { Kept };
 
-    ghost view = { λ queue. record { limit = queue.limit; taken_out = queue.taken_out;
-        waiting = queue.waiting.items; hung = queue.hung } };
+    ghost view = { λ queue. record {
+      limit = queue.limit;
+      taken_out = queue.taken_out;
+      waiting = queue.waiting.items;
+      hung = queue.hung;
+    } };
 
     // No more blocks stand than the limit, and there is room for as many.
     ghost invariant = { λ queue. (length queue.waiting.items ≤ queue.limit)
@@ -145,7 +149,8 @@ impl QueueObject {
         if self.waiting.len() as u64 == self.limit {
             return QueueReply::Full(block, self.taken_out);
         }
-        self.waiting.push_back_reserved(StoredBlock { writer, block });
+        self.waiting
+            .push_back_reserved(StoredBlock { writer, block });
         QueueReply::Taken(last + 1)
     }
 

@@ -4,7 +4,12 @@ ghost use Rattle.block_queue.specs.declared.entry.Entry.TheVariants.{Hung};
 ghost use Rattle.block_queue.specs.Calls.{Takes, IsFreshTake, blocks_in};
 ghost use Rattle.block_queue.specs.Meaning.{Enters};
 ghost use Rattle.block_queue.specs.Seats.{
-  IsFreePlaceOf, IsPutSeatOf, IsTakeSeatOf, key_of, put_account, take_account,
+  IsFreePlaceOf,
+  IsPutSeatOf,
+  IsTakeSeatOf,
+  key_of,
+  put_account,
+  take_account,
 };
 
 use crate::answers::TakeAnswer;

@@ -20,8 +20,7 @@ store-requires g c =
     ∙ ap (λ n. stored_word c.args.self.now.key.limit n + 1) (sym c.requires.taken)
     ∙ ap (λ n. n + 1) (sym c.stored-next.ensures) in
     let stage = c.requires.stage ∙ ap (λ w. Moving w.writer w.bytes) (sym write) in
-    let slot = c.requires.slot ∙ ap (λ n. (place_of c.args.self.now.key.limit n, None) ∷ []) c.requires.taken ∙ ap (λ key. (place_of key.limit c.args.seat.now.me.0.taken, None) ∷ []) (sym key) in
-    (
+    let slot = c.requires.slot ∙ ap (λ n. (place_of c.args.self.now.key.limit n, None) ∷ []) c.requires.taken ∙ ap (λ key. (place_of key.limit c.args.seat.now.me.0.taken, None) ∷ []) (sym key) in (
       c.requires.seat.table,
       omega (arith, c.sequence-word.ensures),
       subst (λ n. table.Allows (IsOneQueue c.args.self.now.table.shared.key) c.args.self.now.table.shared.table_id.slots c.args.seat.now.id c.args.seat.now.me c.sequence-word.result (λ _. n) (λ _. HasFreed g.M.Asks.asked.key g.M.Asks.asked.write c.args.seat.now.me)) full

@@ -10,5 +10,5 @@ invariant-loop-writer l =
       table : l.place.table_id ≡ l.self.table.shared.table_id;
       view : l.place.me ≡ (handing_view l.self.key.writers l.writer, []);
       puts : AreNewPutSeats l.self l.writer l.puts.items;
-      room : l.self.key.writers ≤ vec_capacity l.puts
+      room : l.self.key.writers ≤ vec_capacity l.puts;
     }

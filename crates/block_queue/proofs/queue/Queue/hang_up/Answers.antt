@@ -11,8 +11,7 @@ use Rattle.block_queue.proofs.queue.Queue.hang_up.Goals as goal
 pub fetch_or-requires : goal.fetch_or-requires
 fetch_or-requires g c =
     let words = c.args.self.now.words in
-    let own = subst (λ n. has_number c.args.seat.now.me.0.account.shares n ≡ true) c.requires.number c.requires.seat.own in
-    (
+    let own = subst (λ n. has_number c.args.seat.now.me.0.account.shares n ≡ true) c.requires.number c.requires.seat.own in (
       c.requires.seat.table,
       omega arith,
       subst (λ k. table.Allows (IsOneQueue k) c.args.self.now.table.shared.table_id.slots c.args.seat.now.id c.args.seat.now.me 0 (λ n. bit_or n MARK) (λ _. HasHung g.M.Asks.asked.key c.args.seat.now.me))

@@ -16,8 +16,7 @@ store-requires g c =
     let stage = c.requires.stage ∙ ap (λ asked. Storing asked.count asked.write.writer asked.write.bytes) (sym c.requires.asked) in
     let slot = c.requires.slot ∙ ap (λ asked. (place_of asked.key.limit asked.count, Some asked.write) ∷ []) (sym c.requires.asked) in
     let word = ap (λ asked. sequence_of (place_of asked.key.limit asked.count)) c.requires.asked ∙ sym (c.sequence-word.ensures ∙ ap sequence_of c.place.ensures.result) in
-    let full = ap (λ asked. stored_word asked.key.limit asked.count) c.requires.asked ∙ sym c.stored-full.ensures in
-    (
+    let full = ap (λ asked. stored_word asked.key.limit asked.count) c.requires.asked ∙ sym c.stored-full.ensures in (
       c.requires.seat.table,
       omega (arith, c.sequence-word.ensures),
       subst (λ n. table.Allows (IsOneQueue c.args.self.now.table.shared.key) c.args.self.now.table.shared.table_id.slots c.args.seat.now.id c.args.seat.now.me c.sequence-word.result (λ _. n) (λ _. HasStored g.M.Asks.asked c.args.seat.now.me)) full

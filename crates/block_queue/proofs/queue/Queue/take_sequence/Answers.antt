@@ -13,8 +13,7 @@ load-requires g c =
     let asked = ap (λ asked. asked.key) c.requires.asked in
     let word = ap (λ key. sequence_of (place_of key.limit c.args.seat.now.me.0.taken)) asked
     ∙ ap (λ n. sequence_of (place_of c.args.self.now.key.limit n)) (sym c.requires.taken)
-    ∙ sym (c.sequence-word.ensures ∙ ap sequence_of c.place.ensures.result) in
-    (
+    ∙ sym (c.sequence-word.ensures ∙ ap sequence_of c.place.ensures.result) in (
       c.requires.seat.table,
       omega (arith, c.sequence-word.ensures),
       subst (λ i. table.Allows (IsOneQueue c.args.self.now.table.shared.key) c.args.self.now.table.shared.table_id.slots c.args.seat.now.id c.args.seat.now.me i (λ n. n) (HasTakeSequence g.M.Asks.asked.key c.args.seat.now.me)) word

@@ -7,8 +7,7 @@ use Rattle.block_queue.proofs.queue.Queue.take_tail.Goals as goal
 
 pub load-requires : goal.load-requires
 load-requires g c =
-    let words = c.args.self.now.words in
-    (
+    let words = c.args.self.now.words in (
       c.requires.seat.table,
       omega arith,
       subst (λ k. table.Allows (IsOneQueue k) c.args.self.now.table.shared.table_id.slots c.args.seat.now.id c.args.seat.now.me 0 (λ n. n) (HasTakeTail g.M.Asks.asked.key c.args.seat.now.me))
