@@ -10,3 +10,5 @@ pub mod SeatLemmas
 pub mod HandKeeps
 pub mod OpeningKeeps
 pub mod OpeningLemmas
+pub mod GatherKeeps
+pub mod GatherLemmas

@@ -1,4 +1,6 @@
 pub mod Calls
+pub mod Gather
+pub mod GatherSteps
 pub mod History
 pub mod Meaning
 pub mod Opening

@@ -5,7 +5,7 @@ use Rattle.atomic_table.specs.Table as table
 use Rattle.histories.specs.declared.account.Account.{Account}
 use Rattle.histories.specs.declared.account.Share.{Share}
 use Rattle.histories.specs.Account.{unused_share}
-use Rattle.histories.specs.Changes.{keeping_account, handed_account}
+use Rattle.histories.specs.Changes.{keeping_account, handed_account, joined_account}
 use Rattle.sync_base.specs.Pipe.{next_write}
 use Rattle.sync_base.specs.Write.{Write}
 use Rattle.sync_base.specs.declared.limits.TheConstants.{LAST_WRITE}
@@ -154,3 +154,12 @@ pub record HasToHand (view : View) : Type 0 where
   pub own_is : own.number ≡ 0
   pub next_is : 0 < next.number
   pub stage_is : view.stage ≡ Free
+
+-- Join: the reader has the numbers of both, and has seen what either saw
+abbrev pub joined_view : View → View → View
+joined_view first second =
+    record {
+      account = joined_account first.account second.account;
+      taken = first.taken;
+      stage = Free;
+    }

@@ -1,9 +1,12 @@
-//! A bounded queue of blocks with hangup, which many writers and one reader share.
-//! Read `entry`, `answers`, `queue_object`.
+//! A bounded queue of blocks with hangup, which many writers and one reader share: as a sequential
+//! object, and as a ring without a lock.
+//! Read `entry`, `answers`, `queue_object`; then `places`, `view`, `rule`, `plays`, `seats`, `queue`,
+//! `opening`, `put_steps`, `put`, `take_steps`, `take`, and `gather`.
 #![tactic(auto)]
 
 pub mod answers;
 pub mod entry;
+pub mod gather;
 pub mod opening;
 pub mod places;
 mod plays;
@@ -18,6 +21,7 @@ mod take_steps;
 pub mod view;
 
 pub use answers::{PutAnswer, TakeAnswer};
+pub use gather::{Gathered, Ungathered};
 pub use opening::Opened;
 pub use queue::Queue;
 pub use queue_object::QueueObject;

@@ -1,7 +1,10 @@
 //! What each kind of step tells its seat. Before this: `rule`. After it: `seats`.
 //! These types are for the proofs alone.
 ghost use Rattle.std.specs.Prelude.{[]};
+ghost use Rattle.block_queue.specs.GatherSteps.{HasSurveyed};
+ghost use Rattle.block_queue.specs.Rule.{spent_view};
 ghost use Rattle.block_queue.specs.Steps.{
+  joined_view,
   HasPutTail,
   HasPutSequence,
   HasAccepted,
@@ -104,4 +107,20 @@ impl Split<View> for Hand {
     ghost left = { keeper_view };
 
     ghost right = { handed_view };
+}
+
+pub struct Join;
+
+impl atomic_table::Join<View> for Join {
+    ghost both = { joined_view };
+
+    ghost spent = { spent_view };
+}
+
+pub struct Survey<M> {
+    asked: PhantomData<M>,
+}
+
+impl<M: Asks> Play<Option<StoredBlock>, View> for Survey<M> {
+    ghost then = { λ _ before found after. HasSurveyed M.asked.key before found after };
 }

@@ -66,7 +66,12 @@ impl Queue {
     }
 
     // The tail, and then the place of the next write.
-    fn take_next<P: Probe>(&self, place: &mut Place, taken: u64, probe: &mut P) -> TakeAnswer
+    pub(crate) fn take_next<P: Probe>(
+        &self,
+        place: &mut Place,
+        taken: u64,
+        probe: &mut P,
+    ) -> TakeAnswer
         requires place { IsFreePlaceOf self.now place.old 0 }
         requires taken { taken ≡ place.old.me.0.taken }
         ensures place { IsFreePlaceOf self.now place.new 0 }
