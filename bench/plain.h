@@ -1,88 +1,87 @@
-/* What the plain C programs share: bytes that grow, the answers, and a run over the lines of a script.
-   The script is read whole, each line is read whole and then answered, and the answers are written.
-   It stops at the first line that is not in the grammar. Each program defines `line` and `farewell`. */
+/* What the plain C programs share. They are written to be as fast as a good programmer makes them without a proof: the
+   script is read whole into one buffer that is taken at once, each line is parsed where it lies and answered, and the
+   answers go to one buffer of 64 KB that is written where it is full. No line takes memory, no word is a call, and where
+   the next answer goes is kept in a local variable. Each program defines `run`. */
+#include <stddef.h>
 #include <stdint.h>
 #include <stdio.h>
 #include <stdlib.h>
 #include <string.h>
+#include <sys/mman.h>
 #include <unistd.h>
 
-enum { MAX_SCRIPT = 16777216, MAX_LINE = 200000 };
+/* Of a script MAX_SCRIPT bytes are answered, and one more is read. SLACK bytes behind it can be read by any line. The
+   answer to one line is shorter than FLUSH bytes. */
+enum { MAX_SCRIPT = 16777216, MAX_LINE = 200000, SLACK = 64, FLUSH = 65536, LARGE_PAGE = 2097152 };
 
-struct bytes { unsigned char *at; size_t len, room; };
+typedef unsigned char byte;
 
-static struct bytes out;
+static byte out[2 * FLUSH];
 
 static void *must(void *p) {
     if (p == NULL) { fputs("p9sync: out of memory\n", stderr); exit(1); }
     return p;
 }
 
-static void room_for(struct bytes *b, size_t more) {
-    if (b->room - b->len >= more) return;
-    b->room = b->room * 2 > b->len + more ? b->room * 2 : b->len + more;
-    b->at = must(realloc(b->at, b->room));
+static _Noreturn void device_fault(void) {
+    fputs("p9sync: device fault\n", stderr);
+    exit(1);
 }
 
-static void say(const char *text) {
-    size_t n = strlen(text);
-    room_for(&out, n);
-    memcpy(out.at + out.len, text, n);
-    out.len += n;
+/* Writes what stands before `end`, and gives the place for the next answer. */
+static byte *flush(const byte *end) {
+    for (const byte *at = out; at < end;) {
+        ssize_t n = write(1, at, end - at);
+        if (n <= 0) device_fault();
+        at += n;
+    }
+    return out;
 }
 
-static void fault(uint64_t line) {
-    if (out.len) fwrite(out.at, 1, out.len, stdout);
-    fflush(stdout);
+static _Noreturn void fault(const byte *end, uint64_t line) {
+    flush(end);
     fprintf(stderr, "p9sync: script fault at line %llu\n", (unsigned long long)line);
     exit(1);
 }
 
-/* Reads a number in decimal, without a zero in front. */
-static int number(const unsigned char *at, size_t len, uint64_t *value) {
-    uint64_t n = 0;
-    if (len == 0 || (len > 1 && at[0] == '0')) return 0;
-    for (size_t i = 0; i < len; i++) {
-        unsigned digit = at[i] - '0';
-        if (digit > 9 || n > (UINT64_MAX - digit) / 10) return 0;
+#define BEGINS(at, word) (memcmp(at, word, sizeof word - 1) == 0)
+#define SAY(o, text) (memcpy(o, text, sizeof text - 1), (o) + sizeof text - 1)
+
+/* Reads a number in decimal, without a zero in front, and gives the place behind it, or NULL. What follows is not looked
+   at. A loop over the digits was faster than eight digits at once, since most numbers are short. */
+static inline const byte *number(const byte *at, uint64_t *value) {
+    unsigned digit = *at - '0';
+    if (digit > 9) return NULL;
+    uint64_t n = digit;
+    const byte *first = at++;
+    for (; (digit = *at - '0') <= 9; at++) {
+        /* Nineteen digits fit, whichever they are. */
+        if (at - first >= 19 && (at - first > 19 || n > (UINT64_MAX - digit) / 10)) return NULL;
         n = 10 * n + digit;
     }
+    if (*first == '0' && at - first > 1) return NULL;
     *value = n;
-    return 1;
+    return at;
 }
 
-/* Answers a line, of which there is a first. It gives 0 where the line is not in the grammar. */
-static int line(const unsigned char *at, size_t len, int first);
-
-/* Says what stands behind the last answer. */
-static void farewell(void);
-
-static void read_script(struct bytes *in) {
-    while (in->len <= MAX_SCRIPT) {
-        room_for(in, 65536);
-        ssize_t n = read(0, in->at + in->len, 65536);
-        if (n <= 0) break;
-        in->len += n;
-    }
-}
+/* Answers the lines from `at` to `stop`, behind which stands a zero, and faults at the first that is not in the grammar.
+   The script ends in the middle of a line, or is too long, where `is_cut`. */
+static void run(const byte *at, const byte *stop, int is_cut);
 
 int main(void) {
-    struct bytes in = {0};
-    read_script(&in);
-    size_t end = in.len < MAX_SCRIPT ? in.len : MAX_SCRIPT;
-    unsigned char *at = in.at, *stop = in.at + end;
-    uint64_t number = 1;
-    for (; at < stop; number++) {
-        unsigned char *feed = memchr(at, '\n', stop - at);
-        if (feed == NULL || feed - at > MAX_LINE || !line(at, feed - at, number == 1)) fault(number);
-        at = feed + 1;
+    /* Large pages, where the system has them: the script takes nine of 2 MB in place of 4,097 of 4 KB. */
+    byte *script = must(aligned_alloc(LARGE_PAGE, 9 * LARGE_PAGE));
+    madvise(script, 9 * LARGE_PAGE, MADV_HUGEPAGE);
+    size_t len = 0;
+    while (len <= MAX_SCRIPT) {
+        ssize_t n = read(0, script + len, MAX_SCRIPT + 1 - len);
+        if (n < 0) device_fault();
+        if (n == 0) break;
+        len += n;
     }
-    if (in.len == 0 || in.len > MAX_SCRIPT) fault(number);
-    farewell();
-    for (size_t done = 0; done < out.len;) {
-        ssize_t n = write(1, out.at + done, out.len - done);
-        if (n <= 0) { fputs("p9sync: device fault\n", stderr); return 1; }
-        done += n;
-    }
+    int is_cut = len == 0 || len > MAX_SCRIPT;
+    if (len > MAX_SCRIPT) len = MAX_SCRIPT;
+    memset(script + len, 0, SLACK);
+    run(script, script + len, is_cut);
     return 0;
 }

@@ -13,12 +13,12 @@ def numbers(state=0x9E3779B97F4A7C15):
         yield state
 
 
-def write_script(lines):
+def write_script(lines, most=SIZE):
     """Writes these lines as far as they fit."""
     size = 0
     parts = []
     for line in lines:
-        if size + len(line) > SIZE:
+        if size + len(line) > most:
             break
         parts.append(line)
         size += len(line)

@@ -23,4 +23,5 @@ def lines():
             yield "read 8192\n"
 
 
-write_script(lines())
+if __name__ == "__main__":
+    write_script(lines())

@@ -112,5 +112,6 @@ class Model:
                 yield next(call)
 
 
-procs, rendez = map(int, sys.argv[1:])
-write_script(Model(procs, rendez).lines())
+if __name__ == "__main__":
+    procs, rendez = map(int, sys.argv[1:])
+    write_script(Model(procs, rendez).lines())

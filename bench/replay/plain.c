@@ -1,191 +1,229 @@
-/* A plain C program that does the work of `p9sync replay`: `plain.h` reads the schedule and writes
-   the answers. Built with -O2. */
+/* A plain C program that does the work of `p9sync replay`. Built with -O3. What it shares with others is in plain.h. */
 #include "../plain.h"
 
-enum { MAX_PROCS = 1024, MAX_RENDEZ = 8192, MAX_WORDS = 4, WAKE = 16 };
+enum { MAX_PROCS = 1024, MAX_RENDEZ = 8192, KINDS = 4, WAKE = 16 };
 enum stage { IDLE, POSTED, ASLEEP, LEAVING, AWAITING, WOKEN, OUT, OWING, HOLDING };
-enum verb { POST, TEST, LOOK, WITHDRAW, CLEAR, RAISE, TAKE, MARK, NOTE, DRAIN, CHECK, VERBS };
 
-struct word { const unsigned char *at; size_t len; };
-#define IS(word, text) ((word).len == sizeof text - 1 && memcmp((word).at, text, sizeof text - 1) == 0)
 /* What a process is doing, and its flags: a bit for each kind of note, and WAKE. */
-struct proc { enum stage stage; unsigned flags; uint64_t rendez, level, sleeper; };
+struct proc { byte stage, flags; uint16_t sleeper, rendez; uint64_t level; };
 /* Posted is 0 or the number of a process plus 1. */
-struct rendez { uint64_t posted, level, returned; };
+struct rendez { uint64_t level, returned; uint32_t posted; };
 
 static struct proc procs[MAX_PROCS];
 static struct rendez rendezes[MAX_RENDEZ];
-static uint64_t proc_count, rendez_count;
 
-static void say_number(const char *text, uint64_t n) {
-    char digits[21], *at = digits + sizeof digits;
-    *--at = 0;
-    do *--at = '0' + n % 10; while (n /= 10);
-    say(text);
-    say(at);
-    say("\n");
-}
+/* A process's number with its line feed, and each set of notes with its own. */
+static struct { char at[7]; byte len; } pid_text[MAX_PROCS];
+static struct { char at[31]; byte len; } notes_text[1 << KINDS];
 
-static void say_notes(const char *text, unsigned flags) {
-    static const char *kinds[] = {"interrupt", "hangup", "alarm", "closed"};
-    const char *before = "";
-    say(text);
-    for (int i = 0; i < 4; i++) {
-        if (!(flags >> i & 1)) continue;
-        say(before);
-        say(kinds[i]);
-        before = ",";
+static const char *const kind_names[KINDS] = {"interrupt", "hangup", "alarm", "closed"};
+
+static void fill_tables(void) {
+    for (int pid = 0; pid < MAX_PROCS; pid++) pid_text[pid].len = sprintf(pid_text[pid].at, "%d\n", pid);
+    for (int flags = 0; flags < 1 << KINDS; flags++) {
+        char text[64] = "-";
+        size_t len = 0;
+        for (int i = 0; i < KINDS; i++)
+            if (flags >> i & 1) len += sprintf(text + len, "%s%s", len ? "," : "", kind_names[i]);
+        strcat(text, "\n");
+        notes_text[flags].len = strlen(text);
+        memcpy(notes_text[flags].at, text, notes_text[flags].len);
     }
-    say(*before ? "\n" : "-\n");
 }
 
-/* The part up to this byte, or all where it is not there; what follows the byte is left. The parts are short, so a loop
-   is faster than memchr here. */
-static struct word part(struct word *rest, int parting, int *more) {
-    struct word w = {rest->at, 0};
-    while (w.len < rest->len && w.at[w.len] != parting) w.len++;
-    *more = w.len < rest->len;
-    rest->at += w.len + *more;
-    rest->len -= w.len + *more;
-    return w;
+static inline byte *say_pid(byte *o, unsigned pid) {
+    memcpy(o, pid_text[pid].at, sizeof pid_text[pid].at);
+    return o + pid_text[pid].len;
 }
 
-static int notes(struct word w, unsigned *flags) {
+static inline byte *say_notes(byte *o, unsigned flags) {
+    memcpy(o, notes_text[flags].at, sizeof notes_text[flags].at);
+    return o + notes_text[flags].len;
+}
+
+/* Reads kinds of notes, and gives the place behind them, or NULL. */
+static const byte *notes(const byte *at, unsigned *flags) {
     *flags = 0;
-    if (IS(w, "-")) return 1;
-    for (int more = 1; more;) {
-        struct word kind = part(&w, ',', &more);
-        unsigned flag = IS(kind, "interrupt") ? 1 : IS(kind, "hangup") ? 2 : IS(kind, "alarm") ? 4 : IS(kind, "closed") ? 8 : 0;
-        if (flag == 0 || *flags & flag) return 0;
+    if (*at == '-') return at + 1;
+    for (;;) {
+        unsigned flag;
+        if (BEGINS(at, "interrupt")) { flag = 1; at += 9; }
+        else if (BEGINS(at, "hangup")) { flag = 2; at += 6; }
+        else if (BEGINS(at, "alarm")) { flag = 4; at += 5; }
+        else if (BEGINS(at, "closed")) { flag = 8; at += 6; }
+        else return NULL;
+        if (*flags & flag) return NULL;
         *flags |= flag;
+        if (*at != ',') return at;
+        at++;
     }
-    return 1;
 }
 
-static void wakeup_returns(struct proc *p, struct rendez *r) {
-    if (r->returned < p->level) r->returned = p->level;
-    p->stage = IDLE;
+/* Answers whose choice can't be guessed are said without a branch. */
+struct answer { char text[16]; size_t len; };
+#define ANSWER(text) {text, sizeof text - 1}
+
+static inline byte *say_answer(byte *o, const struct answer *answer) {
+    memcpy(o, answer->text, sizeof answer->text);
+    return o + answer->len;
 }
 
-static void step(enum verb verb, uint64_t pid, uint64_t rendez, uint64_t level, unsigned flags) {
-    if (pid >= proc_count) { say("no process\n"); return; }
-    struct proc *p = &procs[pid];
-    struct rendez *r = &rendezes[p->rendez];
-    switch (verb) {
-    case POST:
-        if (p->stage != IDLE) break;
-        if (rendez >= rendez_count) { say("no rendez\n"); return; }
-        if (level == UINT64_MAX) { say("bad level\n"); return; }
-        if (rendezes[rendez].posted) { say("double sleep\n"); return; }
-        rendezes[rendez].posted = pid + 1;
-        p->stage = POSTED; p->rendez = rendez; p->level = level;
-        say("posted\n");
-        return;
-    case TEST:
-        if (p->stage != POSTED) break;
-        if (r->level > p->level) { p->stage = LEAVING; say("leaving\n"); }
-        else { p->stage = ASLEEP; say("asleep\n"); }
-        return;
-    case LOOK:
-        if (p->stage != ASLEEP && p->stage != AWAITING) break;
-        if (p->flags & WAKE) { p->stage = WOKEN; say("woken\n"); }
-        else if (p->stage == ASLEEP && p->flags) { p->stage = LEAVING; say("leaving\n"); }
-        else say("parked\n");
-        return;
-    case WITHDRAW:
-        if (p->stage != LEAVING) break;
-        if (r->posted == pid + 1) { r->posted = 0; p->stage = OUT; say("out\n"); }
-        else { p->stage = AWAITING; say("awaiting\n"); }
-        return;
-    case CLEAR:
-        if (p->stage != OUT && p->stage != WOKEN) break;
-        if (p->flags & ~WAKE) say_notes("interrupted ", p->flags);
-        else say("ok\n");
-        p->stage = IDLE; p->flags = 0;
-        return;
-    case RAISE:
-        if (p->stage != IDLE) break;
-        if (rendez >= rendez_count) { say("no rendez\n"); return; }
-        if (rendezes[rendez].level < level) rendezes[rendez].level = level;
-        p->stage = OWING; p->rendez = rendez; p->level = level;
-        say("owing\n");
-        return;
-    case TAKE:
-        if (p->stage != OWING) break;
-        if (r->posted == 0) { wakeup_returns(p, r); say("nobody\n"); return; }
-        p->sleeper = r->posted - 1; r->posted = 0; p->stage = HOLDING;
-        say_number("holding ", p->sleeper);
-        return;
-    case MARK:
-        if (p->stage != HOLDING) break;
-        procs[p->sleeper].flags |= WAKE;
-        wakeup_returns(p, r);
-        say_number("marked ", p->sleeper);
-        return;
-    case NOTE:
-        p->flags |= flags;
-        say("noted\n");
-        return;
-    case DRAIN:
-        if (p->stage != IDLE) break;
-        say_notes("notes ", p->flags);
-        p->flags = 0;
-        return;
-    case CHECK:
-        if (p->stage != ASLEEP) break;
-        say(r->posted == pid + 1 ? "posted\n" : "released\n");
-        return;
-    case VERBS:
-        break;
-    }
-    say("refused\n");
-}
-
-static int is_lost(void) {
-    for (uint64_t pid = 0; pid < proc_count; pid++) {
+static int is_lost(unsigned proc_count) {
+    for (unsigned pid = 0; pid < proc_count; pid++) {
         const struct rendez *r = &rendezes[procs[pid].rendez];
         if (procs[pid].stage == ASLEEP && r->posted == pid + 1 && r->returned > procs[pid].level) return 1;
     }
     return 0;
 }
 
-static enum verb verb_of(struct word w) {
-    if (IS(w, "post")) return POST;
-    if (IS(w, "test")) return TEST;
-    if (IS(w, "look")) return LOOK;
-    if (IS(w, "withdraw")) return WITHDRAW;
-    if (IS(w, "clear")) return CLEAR;
-    if (IS(w, "raise")) return RAISE;
-    if (IS(w, "take")) return TAKE;
-    if (IS(w, "mark")) return MARK;
-    if (IS(w, "note")) return NOTE;
-    if (IS(w, "drain")) return DRAIN;
-    if (IS(w, "check")) return CHECK;
-    return VERBS;
-}
+/* Reads a number, and then this byte. */
+#define NUMBER(value, behind) do { \
+        at = number(at, &(value)); \
+        if (at == NULL || *at++ != (behind)) fault(o, line); \
+    } while (0)
 
-static int number_of(struct word w, uint64_t *value) { return number(w.at, w.len, value); }
+/* Reads a word that begins as it should, and the process behind it. */
+#define VERB(word, behind) do { \
+        if (!BEGINS(at, word " ")) fault(o, line); \
+        at += sizeof word; \
+        NUMBER(pid, behind); \
+    } while (0)
 
-static int line(const unsigned char *at, size_t len, int first) {
-    struct word words[MAX_WORDS], rest = {at, len};
-    size_t n = 0;
-    for (int more = 1; more;) {
-        if (n == MAX_WORDS) return 0;
-        words[n++] = part(&rest, ' ', &more);
+/* Of a process that is there, what comes next. */
+#define STEP(is_in_phase) \
+    if (pid >= proc_count) { o = SAY(o, "no process\n"); continue; } \
+    p = &procs[pid]; \
+    if (!(is_in_phase)) { o = SAY(o, "refused\n"); continue; } \
+    r = &rendezes[p->rendez]
+
+static void run(const byte *at, const byte *stop, int is_cut) {
+    byte *o = out;
+    uint64_t line = 1, proc_count, rendez_count, pid, rendez, level;
+    unsigned flags;
+    struct proc *p;
+    struct rendez *r;
+    fill_tables();
+
+    if (!BEGINS(at, "world ")) fault(o, line);
+    at += 6;
+    NUMBER(proc_count, ' ');
+    NUMBER(rendez_count, '\n');
+    if (proc_count < 1 || proc_count > MAX_PROCS || rendez_count < 1 || rendez_count > MAX_RENDEZ) fault(o, line);
+
+    for (line = 2; at < stop; line++) {
+        if (o >= out + FLUSH) o = flush(o);
+        switch (*at) {
+        case 'p':
+            VERB("post", ' ');
+            NUMBER(rendez, ' ');
+            NUMBER(level, '\n');
+            STEP(p->stage == IDLE);
+            if (rendez >= rendez_count) { o = SAY(o, "no rendez\n"); continue; }
+            if (level == UINT64_MAX) { o = SAY(o, "bad level\n"); continue; }
+            r = &rendezes[rendez];
+            if (r->posted) { o = SAY(o, "double sleep\n"); continue; }
+            r->posted = pid + 1;
+            p->stage = POSTED; p->rendez = rendez; p->level = level;
+            o = SAY(o, "posted\n");
+            continue;
+        case 't':
+            if (at[1] == 'e') {
+                VERB("test", '\n');
+                STEP(p->stage == POSTED);
+                static const struct answer tested[] = {ANSWER("asleep\n"), ANSWER("leaving\n")};
+                int is_passed = r->level > p->level;
+                p->stage = is_passed ? LEAVING : ASLEEP;
+                o = say_answer(o, &tested[is_passed]);
+            } else {
+                VERB("take", '\n');
+                STEP(p->stage == OWING);
+                if (r->posted == 0) {
+                    if (r->returned < p->level) r->returned = p->level;
+                    p->stage = IDLE;
+                    o = SAY(o, "nobody\n");
+                    continue;
+                }
+                p->sleeper = r->posted - 1; r->posted = 0; p->stage = HOLDING;
+                o = SAY(o, "holding ");
+                o = say_pid(o, p->sleeper);
+            }
+            continue;
+        case 'l':
+            VERB("look", '\n');
+            STEP(p->stage == ASLEEP || p->stage == AWAITING);
+            static const struct answer looked[] = {ANSWER("parked\n"), ANSWER("leaving\n"), ANSWER("woken\n")};
+            int is_woken = p->flags / WAKE, has_notes = (p->stage == ASLEEP) & (p->flags != 0);
+            int found = is_woken ? 2 : has_notes;
+            byte next[] = {p->stage, LEAVING, WOKEN};
+            p->stage = next[found];
+            o = say_answer(o, &looked[found]);
+            continue;
+        case 'w':
+            VERB("withdraw", '\n');
+            STEP(p->stage == LEAVING);
+            static const struct answer withdrawn[] = {ANSWER("awaiting\n"), ANSWER("out\n")};
+            int is_out = r->posted == pid + 1;
+            r->posted = is_out ? 0 : r->posted;
+            p->stage = is_out ? OUT : AWAITING;
+            o = say_answer(o, &withdrawn[is_out]);
+            continue;
+        case 'c':
+            if (at[1] == 'l') {
+                VERB("clear", '\n');
+                STEP(p->stage == OUT || p->stage == WOKEN);
+                flags = p->flags & ~WAKE;
+                p->stage = IDLE; p->flags = 0;
+                if (flags == 0) { o = SAY(o, "ok\n"); continue; }
+                o = SAY(o, "interrupted ");
+                o = say_notes(o, flags);
+            } else {
+                VERB("check", '\n');
+                STEP(p->stage == ASLEEP);
+                static const struct answer checked[] = {ANSWER("released\n"), ANSWER("posted\n")};
+                o = say_answer(o, &checked[r->posted == pid + 1]);
+            }
+            continue;
+        case 'r':
+            VERB("raise", ' ');
+            NUMBER(rendez, ' ');
+            NUMBER(level, '\n');
+            STEP(p->stage == IDLE);
+            if (rendez >= rendez_count) { o = SAY(o, "no rendez\n"); continue; }
+            r = &rendezes[rendez];
+            if (r->level < level) r->level = level;
+            p->stage = OWING; p->rendez = rendez; p->level = level;
+            o = SAY(o, "owing\n");
+            continue;
+        case 'm':
+            VERB("mark", '\n');
+            STEP(p->stage == HOLDING);
+            procs[p->sleeper].flags |= WAKE;
+            if (r->returned < p->level) r->returned = p->level;
+            p->stage = IDLE;
+            o = SAY(o, "marked ");
+            o = say_pid(o, p->sleeper);
+            continue;
+        case 'n':
+            VERB("note", ' ');
+            at = notes(at, &flags);
+            if (at == NULL || *at++ != '\n') fault(o, line);
+            if (pid >= proc_count) { o = SAY(o, "no process\n"); continue; }
+            procs[pid].flags |= flags;
+            o = SAY(o, "noted\n");
+            continue;
+        case 'd':
+            VERB("drain", '\n');
+            STEP(p->stage == IDLE);
+            o = SAY(o, "notes ");
+            o = say_notes(o, p->flags & ~WAKE);
+            p->flags = 0;
+            continue;
+        default:
+            fault(o, line);
+        }
     }
-    if (first) {
-        return n == 3 && IS(words[0], "world") && number_of(words[1], &proc_count) && number_of(words[2], &rendez_count)
-            && 1 <= proc_count && proc_count <= MAX_PROCS && 1 <= rendez_count && rendez_count <= MAX_RENDEZ;
-    }
-    uint64_t pid, rendez = 0, level = 0;
-    unsigned flags = 0;
-    enum verb verb = verb_of(words[0]);
-    size_t expected = verb == POST || verb == RAISE ? 4 : verb == NOTE ? 3 : 2;
-    if (verb == VERBS || n != expected || !number_of(words[1], &pid)) return 0;
-    if (n == 4 && !(number_of(words[2], &rendez) && number_of(words[3], &level))) return 0;
-    if (n == 3 && !notes(words[2], &flags)) return 0;
-    step(verb, pid, rendez, level, flags);
-    return 1;
+    if (is_cut) fault(o, line);
+    if (is_lost(proc_count)) o = SAY(o, "lost yes\n");
+    else o = SAY(o, "lost no\n");
+    flush(o);
 }
-
-static void farewell(void) { say(is_lost() ? "lost yes\n" : "lost no\n"); }

@@ -132,7 +132,8 @@ module _ {Entry : Type 0} where
     where
       either_one : (b : Bool) →
           has_number (xs ++ ys) number ≡ (has_number xs number || has_number ys number) →
-          (b || has_number (xs ++ ys) number) ≡ ((b || has_number xs number) || has_number ys number)
+          (b || has_number (xs ++ ys) number) ≡
+          ((b || has_number xs number) || has_number ys number)
       either_one true same = refl
       either_one false same = same
 

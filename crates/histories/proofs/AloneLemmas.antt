@@ -112,7 +112,8 @@ module _ {View Entry : Type 0} (by : Entry → ℕ) (account_of : View → Accou
         by_others = by_others by (account_of view).shares fits.seen.since
             (none_since by (account_of view).shares fits.seen.since (account_of view).seen
             fits.mine_seen
-            (subst (λ (h : List Entry). AllByRecursion (HasItsEntries by h) (account_of view).shares)
+            (subst (λ (h : List Entry). AllByRecursion (HasItsEntries by h)
+            (account_of view).shares)
             fits.seen.new_is fits.mine));
         mine = fits.mine;
         alone = λ all. nothing_before fits.seen.since (account_of view).seen

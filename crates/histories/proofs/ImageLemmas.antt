@@ -29,7 +29,8 @@ module _ {State Entry State' Entry' : Type 0} (Shows : State → State' → Type
   -- the image of a legal history is legal, and the states that they leave show one another
   pub image_shows : (opening : State) (opening' : State') → Shows opening opening' →
       (entries : List Entry) → IsLegal meaning opening entries →
-      Shows (state_after meaning opening entries) (state_after meaning' opening' (map image entries))
+      Shows (state_after meaning opening entries) (state_after meaning' opening'
+      (map image entries))
   image_shows opening opening' shows [] legal = shows
   image_shows opening opening' shows (entry ∷ past) legal =
       is.after (state_after meaning opening past) (state_after meaning' opening' (map image past))
@@ -51,7 +52,8 @@ module _ {State Entry State' Entry' : Type 0} (Shows : State → State' → Type
       map image (entries_by meaning.by number entries)
   image_by number [] = refl
   image_by number (entry ∷ past) =
-      ap (λ (n : ℕ). cond (eqb n number) (image entry ∷ entries_by meaning'.by number (map image past))
+      ap (λ (n : ℕ). cond (eqb n number) (image entry ∷ entries_by meaning'.by number
+      (map image past))
       (entries_by meaning'.by number (map image past))) (is.by entry)
       ∙ ap (λ (es : List Entry'). cond (eqb (meaning.by entry) number) (image entry ∷ es) es)
       (image_by number past)
@@ -95,7 +97,8 @@ module _ {State Entry State' Entry' : Type 0} (Shows : State → State' → Type
             (all_weaker (HasItsEntries meaning.by account.seen)
             (λ share. HasItsEntries meaning'.by (map image account.seen) (share_image image share))
             (image_mine account.seen) account.shares knows.mine);
-        different = subst AreDifferent (sym (numbers_in-image image account.shares)) knows.different;
+        different = subst AreDifferent (sym
+            (numbers_in-image image account.shares)) knows.different;
         numbers = all_map (λ share. share.number < limit) (share_image image) account.shares
             knows.numbers;
         gave = knows.gave;

@@ -189,3 +189,21 @@ module _ {A : Type 0} where
   pub at_once : (l : List A) (i : ℕ) (a b : A) → get_elem? l i ≡ some a → get_elem? l i ≡ some b →
       a ≡ b
   at_once l i a b e f = some-injective a b (sym e ∙ f)
+
+  -- what is true of each element, with its place, where one was replaced
+  pub each_set : (P : ℕ → A → Type 0) (l : List A) (i : ℕ) (a : A) → P i a →
+      ((j : ℕ) (b : A) → j ≢ i → get_elem? l j ≡ some b → P j b) →
+      (j : ℕ) (b : A) → get_elem? (set l i a) j ≡ some b → P j b
+  each_set P l i a here others j b at =
+      ⊎_elim
+      (λ same. subst (λ (c : A). P j c) same.1 (subst (λ (k : ℕ). P k a) (sym same.0) here))
+      (λ other. others j b other.0 other.1) (at_set l i j a b at)
+
+  -- and where one came to the end
+  pub each_end : (P : ℕ → A → Type 0) (l : List A) (a : A) → P (length l) a →
+      ((j : ℕ) (b : A) → get_elem? l j ≡ some b → P j b) →
+      (j : ℕ) (b : A) → get_elem? (l ++ a ∷ []) j ≡ some b → P j b
+  each_end P l a last others j b at =
+      ⊎_elim (λ old. others j b old)
+      (λ end. subst (λ (c : A). P j c) end.0 (subst (λ (k : ℕ). P k a) (sym end.1) last))
+      (at_end l a b j at)

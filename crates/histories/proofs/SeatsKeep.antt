@@ -153,7 +153,8 @@ module _ {View Entry : Type 0} (by : Entry → ℕ) (account_of : View → Accou
   -- a seat that tells what it told before tells it still
   abbrev Tells : ℕ → List View → ℕ → Type 0
   Tells number views seat =
-      (view : View) × (get_elem? views seat ≡ some view) × (has_given (account_of view) number ≡ true)
+      (view : View) × (get_elem? views seat ≡ some view) × (has_given (account_of view) number
+      ≡ true)
 
   tells_after : (number : ℕ) (views : List View) (id : ℕ) (before after : View) (seat : ℕ) →
       get_elem? views id ≡ some before →
@@ -162,7 +163,8 @@ module _ {View Entry : Type 0} (by : Entry → ℕ) (account_of : View → Accou
   tells_after number views id before after seat at keeps old =
       dite (ℕ_discrete seat id)
       (λ same.
-      let here : get_elem? views id ≡ some old.0 = subst (λ (i : ℕ). get_elem? views i ≡ some old.0) same old.1 in
+      let here : get_elem? views id ≡ some old.0 = subst (λ (i : ℕ). get_elem? views i
+      ≡ some old.0) same old.1 in
       let is : old.0 ≡ before = at_once views id old.0 before here at in (
         after,
         subst (λ (i : ℕ). get_elem? (set views id after) i ≡ some after) (sym same)
@@ -181,15 +183,18 @@ module _ {View Entry : Type 0} (by : Entry → ℕ) (account_of : View → Accou
       ((seat : ℕ) (view : View) → seat ≢ id → get_elem? views seat ≡ some view →
       FitsLedger by ledger' seat (account_of view)) →
       AreSeats by account_of ledger' (set views id after)
-  seats_after ledger ledger' views id before after seats at next owner parent gave below own others =
+  seats_after ledger ledger' views id before after seats at next owner parent gave below own
+      others =
       record {
         by_given = below;
         each_seat = each_after ledger' views id after own others;
         each_number = λ number some_number given.
-            let was = seats.each_number number some_number (subst (λ (n : ℕ). number < n) next given) in
+            let was = seats.each_number number some_number (subst (λ (n : ℕ).
+            number < n) next given) in
             let told = tells_after number views id before after
             (ledger.owner (ledger.parent number)) at
-            (λ has. ap (λ (numbers : List ℕ). list_any (λ given. eqb given number) numbers) gave ∙ has)
+            (λ has. ap (λ (numbers : List ℕ). list_any (λ given. eqb given number) numbers) gave
+            ∙ has)
             (was.view, was.there, was.tells) in
             let same : ledger.owner (ledger.parent number) ≡ ledger'.owner (ledger'.parent number) =
             ap (λ (f : ℕ → ℕ). f (ledger.parent number)) (sym owner)
@@ -317,7 +322,14 @@ module _ {View Entry : Type 0} (by : Entry → ℕ) (account_of : View → Accou
             },
             tt,
           );
-          owned = (record { given = omega arith; owner_is = rw (eq-eqb ledger.next ledger.next refl) refl }, tt);
+          owned = (
+            record {
+              given = omega arith;
+              owner_is = rw
+                  (eq-eqb ledger.next ledger.next refl) refl;
+            },
+            tt,
+          );
           different = (tt, tt);
           gave = tt;
         }
@@ -329,7 +341,8 @@ module _ {View Entry : Type 0} (by : Entry → ℕ) (account_of : View → Accou
         (λ same.
         let up : eqb number ledger.next ≡ true = eq-eqb number ledger.next same in
         let giver_is : after.parent number ≡ giver = rw up refl in
-        let owner_is : after.owner giver ≡ id = owner_stays giver giver_owned.given ∙ giver_owned.owner_is in
+        let owner_is : after.owner giver ≡ id = owner_stays giver giver_owned.given
+        ∙ giver_owned.owner_is in
         let below = giver_owned.given in
         record {
           lower = subst (λ (n : ℕ). n < number) (sym giver_is) (omega arith);
@@ -343,7 +356,8 @@ module _ {View Entry : Type 0} (by : Entry → ℕ) (account_of : View → Accou
         })
         (λ apart.
         let old = seats.each_number number some_number (omega arith) in
-        let parent_stays : after.parent number ≡ ledger.parent number = rw (ne_eqb number ledger.next apart) refl in
+        let parent_stays : after.parent number ≡ ledger.parent number = rw
+        (ne_eqb number ledger.next apart) refl in
         let lower = old.lower in
         let still = tells_after number views id before parent
         (ledger.owner (ledger.parent number)) at
@@ -360,7 +374,8 @@ module _ {View Entry : Type 0} (by : Entry → ℕ) (account_of : View → Accou
           tells = still.2;
         })
 
-    pub seats_split : AreSeats by account_of (ledger_gave giver (length (set views id parent)) ledger)
+    pub seats_split : AreSeats by account_of (ledger_gave giver (length
+        (set views id parent)) ledger)
         (set views id parent ++ child ∷ [])
     seats_split =
         record {
@@ -370,7 +385,8 @@ module _ {View Entry : Type 0} (by : Entry → ℕ) (account_of : View → Accou
               ⊎_elim
               (λ old. each_after after views id parent
               (subst (FitsLedger by after id) (sym parent_is) parent_fits)
-              (λ seat view other there. moved seat (account_of view) (seats.each_seat seat view there))
+              (λ seat view other there. moved seat (account_of view)
+              (seats.each_seat seat view there))
               seat view old)
               (λ last. subst (λ (v : View). FitsLedger by after seat (account_of v)) last.0
               (subst (λ (i : ℕ). FitsLedger by after i (account_of child)) (sym last.1)
@@ -406,7 +422,8 @@ module _ {View Entry : Type 0} (by : Entry → ℕ) (account_of : View → Accou
     moves number owned = rw (eq-eqb (ledger.owner number) other owned) refl
 
     both : Compares (account_of first).seen (account_of second).seen ledger.history
-    both = compares (account_of first).seen (account_of second).seen ledger.history one.seen two.seen
+    both = compares (account_of first).seen
+        (account_of second).seen ledger.history one.seen two.seen
 
     abbrev long : List Entry
     long = longer_of (account_of first).seen (account_of second).seen
@@ -493,8 +510,10 @@ module _ {View Entry : Type 0} (by : Entry → ℕ) (account_of : View → Accou
           lower = old.lower;
           view = old.view;
           there = subst (λ (i : ℕ). get_elem? views_after i ≡ some old.view)
-              (sym (stays (ledger.parent number) (ledger.owner (ledger.parent number)) refl unspent))
-              (set_else (set views id joined) other (ledger.owner (ledger.parent number)) spent unspent
+              (sym (stays (ledger.parent number) (ledger.owner
+              (ledger.parent number)) refl unspent))
+              (set_else (set views id joined) other (ledger.owner
+              (ledger.parent number)) spent unspent
               ∙ set_else views id (ledger.owner (ledger.parent number)) joined another
               ∙ old.there);
           tells = old.tells;
@@ -510,7 +529,8 @@ module _ {View Entry : Type 0} (by : Entry → ℕ) (account_of : View → Accou
             record {
               lower = old.lower;
               view = joined;
-              there = subst (λ (i : ℕ). get_elem? views_after i ≡ some joined) (sym owner_is) at_joined;
+              there = subst (λ (i : ℕ). get_elem? views_after i ≡ some joined)
+                  (sym owner_is) at_joined;
               tells = ap (λ (a : Account Entry). has_given a number) joined_is ∙ has;
             }
 
@@ -563,19 +583,23 @@ module _ {View Entry : Type 0} (by : Entry → ℕ) (account_of : View → Accou
     hand_fits = seats.each_seat id before at
 
     owned_here : AllByRecursion (λ share. IsOwned ledger id share.number) (front ++ handed ∷ back)
-    owned_here = subst (λ (xs : List (Share Entry)). AllByRecursion (λ share. IsOwned ledger id share.number) xs) shares_are hand_fits.owned
+    owned_here = subst (λ (xs : List (Share Entry)). AllByRecursion (λ share.
+        IsOwned ledger id share.number) xs) shares_are hand_fits.owned
 
     different_here : AreDifferent (numbers_in (front ++ handed ∷ back))
-    different_here = subst (λ (xs : List (Share Entry)). AreDifferent (numbers_in xs)) shares_are hand_fits.different
+    different_here = subst (λ (xs : List (Share Entry)). AreDifferent
+        (numbers_in xs)) shares_are hand_fits.different
 
     seen_here : AllByRecursion (HasItsEntries by (account_of before).seen) (front ++ handed ∷ back)
-    seen_here = subst (AllByRecursion (HasItsEntries by (account_of before).seen)) shares_are hand_fits.mine_seen
+    seen_here = subst (AllByRecursion (HasItsEntries by
+        (account_of before).seen)) shares_are hand_fits.mine_seen
 
     mine_here : AllByRecursion (HasItsEntries by ledger.history) (front ++ handed ∷ back)
     mine_here = subst (AllByRecursion (HasItsEntries by ledger.history)) shares_are hand_fits.mine
 
     handed_owned : IsOwned ledger id handed.number
-    handed_owned = (all_past (λ share. IsOwned ledger id share.number) front (handed ∷ back) owned_here).0
+    handed_owned = (all_past (λ share. IsOwned ledger id share.number) front
+        (handed ∷ back) owned_here).0
 
     hand_stays : (number : ℕ) → number ≢ handed.number → handing.owner number ≡ ledger.owner number
     hand_stays number apart = rw (ne_eqb number handed.number apart) refl
@@ -584,7 +608,8 @@ module _ {View Entry : Type 0} (by : Entry → ℕ) (account_of : View → Accou
     kept_fits =
         record {
           seen = hand_fits.seen;
-          mine_seen = all_without (HasItsEntries by (account_of before).seen) front back handed seen_here;
+          mine_seen = all_without (HasItsEntries by
+              (account_of before).seen) front back handed seen_here;
           mine = all_without (HasItsEntries by ledger.history) front back handed mine_here;
           owned = all_both (λ share. IsOwned ledger id share.number)
               (λ share. share.number ≢ handed.number) (λ share. IsOwned handing id share.number)
@@ -602,8 +627,16 @@ module _ {View Entry : Type 0} (by : Entry → ℕ) (account_of : View → Accou
     hand_child_fits =
         record {
           seen = hand_fits.seen;
-          mine_seen = ((all_past (HasItsEntries by (account_of before).seen) front (handed ∷ back) seen_here).0, tt);
-          mine = ((all_past (HasItsEntries by ledger.history) front (handed ∷ back) mine_here).0, tt);
+          mine_seen = (
+            (all_past (HasItsEntries by (account_of before).seen) front
+                (handed ∷ back) seen_here).0,
+            tt,
+          );
+          mine = (
+            (all_past (HasItsEntries by ledger.history) front
+                (handed ∷ back) mine_here).0,
+            tt,
+          );
           owned = (
             record {
               given = handed_owned.given;
@@ -642,7 +675,8 @@ module _ {View Entry : Type 0} (by : Entry → ℕ) (account_of : View → Accou
         (old.view, old.there, old.tells) in
         dite (ℕ_discrete (ledger.parent number) handed.number)
         (λ same.
-        let moves : handing.parent number ≡ kept = rw (eq-eqb (ledger.parent number) handed.number same) refl in
+        let moves : handing.parent number ≡ kept = rw (eq-eqb
+        (ledger.parent number) handed.number same) refl in
         let owner_is : ledger.owner (ledger.parent number) ≡ handing.owner kept =
         ap ledger.owner same ∙ handed_owned.owner_is ∙ sym kept_owned.owner_is
         ∙ sym (hand_stays kept (λ equal. absurd (omega arith))) in
@@ -651,17 +685,20 @@ module _ {View Entry : Type 0} (by : Entry → ℕ) (account_of : View → Accou
           view = still.0;
           there = subst (λ (i : ℕ). get_elem? (set views id parent ++ child ∷ []) i ≡ some still.0)
               (owner_is ∙ ap handing.owner (sym moves))
-              (at_longer (set views id parent) (child ∷ []) (ledger.owner (ledger.parent number)) still.0 still.1);
+              (at_longer (set views id parent) (child ∷ []) (ledger.owner
+              (ledger.parent number)) still.0 still.1);
           tells = still.2;
         })
         (λ apart.
-        let stays : handing.parent number ≡ ledger.parent number = rw (ne_eqb (ledger.parent number) handed.number apart) refl in
+        let stays : handing.parent number ≡ ledger.parent number = rw (ne_eqb
+        (ledger.parent number) handed.number apart) refl in
         record {
           lower = subst (λ (n : ℕ). n < number) (sym stays) old_lower;
           view = still.0;
           there = subst (λ (i : ℕ). get_elem? (set views id parent ++ child ∷ []) i ≡ some still.0)
               (sym (ap handing.owner stays ∙ hand_stays (ledger.parent number) apart))
-              (at_longer (set views id parent) (child ∷ []) (ledger.owner (ledger.parent number)) still.0 still.1);
+              (at_longer (set views id parent) (child ∷ []) (ledger.owner
+              (ledger.parent number)) still.0 still.1);
           tells = still.2;
         })
 
@@ -714,19 +751,26 @@ module _ {View Entry : Type 0} (by : Entry → ℕ) (account_of : View → Accou
             mine = (record { entries = refl }, unused_have (numbers_from 1 more));
             owned = (
               record { given = omega arith; owner_is = refl },
-              all_map (λ (share : Share Entry). IsOwned {Entry = Entry} (opening_ledger more) 0 share.number)
+              all_map (λ (share : Share Entry). IsOwned {Entry = Entry}
+                  (opening_ledger more) 0 share.number)
                   unused_share (numbers_from 1 more)
                   (all_weaker (λ n. (1 ≤ n) × (n < 1 + more))
                   (λ n. IsOwned {Entry = Entry} (opening_ledger more) 0 n)
-                  (λ n within. let below = within.1 in record { given = omega arith; owner_is = refl })
+                  (λ n within. let below = within.1 in record {
+                    given = omega arith;
+                    owner_is =
+                        refl;
+                  })
                   (numbers_from 1 more) (all_from 1 more)),
             );
             different = (
-              subst (AllByRecursion (λ other. 0 ≢ other)) (sym (numbers_in-unused Entry (numbers_from 1 more)))
+              subst (AllByRecursion (λ other. 0 ≢ other)) (sym (numbers_in-unused Entry
+                  (numbers_from 1 more)))
                   (all_weaker (λ n. (1 ≤ n) × (n < 1 + more)) (λ n. 0 ≢ n)
                   (λ n within. let above = within.0 in λ same. absurd (omega arith))
                   (numbers_from 1 more) (all_from 1 more)),
-              subst AreDifferent (sym (numbers_in-unused Entry (numbers_from 1 more))) (different_from 1 more),
+              subst AreDifferent (sym (numbers_in-unused Entry (numbers_from 1 more)))
+                  (different_from 1 more),
             );
             gave = all_weaker (λ n. (1 ≤ n) × (n < 1 + more)) (λ n. n < more + 1)
                 (λ n within. let below = within.1 in omega arith)

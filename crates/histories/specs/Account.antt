@@ -1,4 +1,4 @@
--- What a seat knows: its numbers with their entries, what it has seen, and the numbers that it gave.
+-- What a seat knows: its numbers with their entries, what it has seen, and what it gave.
 use Rattle.std.specs.Prelude.{◌≡◌, ◌≢◌, ℕ, zero, suc, ◌+◌, ◌<◌, ⊤, ◌==◌, nat_lt}
 use Rattle.std.specs.Prelude.{Bool, false, List, [], ◌∷◌, map, length, IsTrue}
 use Rattle.std.specs.Prelude.{if◌then◌else◌}
@@ -65,7 +65,8 @@ module _ {Entry : Type 0} (by : Entry → ℕ) where
 
   -- no entry is by one of these numbers
   abbrev pub AreByOthers : List (Share Entry) → List Entry → Type 0
-  AreByOthers shares entries = AllByRecursion (λ entry. has_number shares (by entry) ≡ false) entries
+  AreByOthers shares entries = AllByRecursion (λ entry. has_number shares (by entry)
+      ≡ false) entries
 
   -- the share gains the entry if the entry is by its number
   abbrev pub share_after : Entry → Share Entry → Share Entry

@@ -1,84 +1,114 @@
--- The step Acquire keeps the rule: a seat that finds the lock free holds it alone.
-use Rattle.std.proofs.Common.{◌≡◌, ℕ, ◌<◌, eqb, set, get_or, refl, sym, subst, arith, eq-eqb, ne_eqb, Some}
+-- The step Acquire keeps the rule: a seat that finds the lock free is alone inside.
+use Rattle.std.proofs.Common.{◌≡◌, ℕ, eqb, set, get_or, refl, sym, subst, arith, eq-eqb, ne_eqb}
+use Rattle.std.proofs.Common.{Some}
 use mathlib.Core.Logic.{dite}
 use mathlib.Core.Option.{none, some}
 use native.Mathlib.Decide.{ℕ_discrete}
 use lib.ListN.{get_elem?}
 use prog.Atomic.{either}
 use Rattle.atomic_table.specs.Table as table
+use Rattle.histories.proofs.AloneLemmas.{looks_at, is_next}
+use Rattle.histories.proofs.HistoryLemmas.{by_below_weaker}
+use Rattle.histories.proofs.ListLemmas.{past_refl}
+use Rattle.histories.proofs.SeatsKeep.{seats_stay}
+use Rattle.histories.specs.Changes.{IsNext}
 use Rattle.kernel_lock.specs.declared.view.Key.{Key}
 use Rattle.kernel_lock.specs.declared.view.View.{View}
-use Rattle.kernel_lock.specs.Definition.{Definition}
-use Rattle.kernel_lock.specs.Rule.{IsOwned, IsOneHistory}
-use Rattle.kernel_lock.specs.Steps.{Slot, Seated, FindsObject, TakesLock, HasAcquired}
-use Rattle.kernel_lock.specs.View.{holding_view}
-use Rattle.kernel_lock.proofs.HistoryLemmas.{all_weaker, prefix_refl, by_below_weaker}
-use Rattle.kernel_lock.proofs.LookKeeps.{looks, knows_history}
-use Rattle.kernel_lock.proofs.RuleLemmas.{stage_moves, seat_moves, rule_after}
+use Rattle.kernel_lock.specs.Definition.{Definition, server}
+use Rattle.kernel_lock.specs.Rule.{IsOneHistory}
+use Rattle.kernel_lock.specs.Steps.{Slot, Me, FindsObject, TakesLock, HasAcquired}
+use Rattle.kernel_lock.specs.View.{account_of, inside_view}
+use Rattle.kernel_lock.proofs.RuleLemmas.{lock_moves, rule_after, sits, knows_history}
 
-module _ {Object State Call Reply : Type 0} (state : Object → State) (meaning : Definition State Call Reply) where
-  module _ (key : Key Object) (slots id : ℕ) (me : Seated Object Call Reply) (keyed : me.0.key ≡ Some key) where
-    takes : (s : table.State (Slot Object) (View Object Call Reply)) (rule : IsOneHistory state meaning key s) → get_elem? s.views id ≡ some me.0 → get_or s.words 0 0 ≡ 0
-        → (after : View Object Call Reply) × (act : table.Act (Slot Object)) × table.Valid s.homes me.1 act × IsOneHistory state meaning key (table.stepped s 0 1 id me.1 after act) × TakesLock state meaning me (after, table.carried_after me.1 act)
+module _ {Object State Request Reply : Type 0}
+    (definition : Definition Object State Request Reply) where
+  module _ (key : Key Object) (slots id : ℕ) (me : Me Object Request Reply)
+      (keyed : me.0.key ≡ Some key) where
+    -- the word was 0: the object and the number beside it are the history's
+    takes : (s : table.State (Slot Object) (View Object Request Reply))
+        (rule : IsOneHistory definition key s) → get_elem? s.views id ≡ some me.0 →
+        get_or s.words 0 0 ≡ 0 →
+        (after : View Object Request Reply) × (act : table.Act (Slot Object)) ×
+        table.Valid s.homes me.1 act ×
+        IsOneHistory definition key (table.stepped s 0 1 id me.1 after act) ×
+        TakesLock definition me (after, table.carried_after me.1 act)
     takes s rule at zero =
         let home = rule.home zero in
-        let held = home.0 in
-        let next_is : held.next ≡ rule.next = home.2.next_is in
-        let fits = rule.each_seat id me.0 at in (
-          holding_view rule.history held.next me.0,
-          table.takes 0 (Some held),
-          home.1,
-          rule_after state meaning key s (set s.homes 0 none) id 1 (holding_view rule.history held.next me.0) rule.one_word rule.history rule.next rule.owner id rule.legal rule.by_given rule.limit (λ no. absurd (omega arith))
+        let guarded = home.guarded in
+        let next_is : guarded.next ≡ rule.ledger.next = home.next_is in
+        let fits = rule.each_seat id me.0 at in
+        let given = fits.given in
+        let limit = rule.limit in
+        let after : View Object Request Reply =
+        inside_view rule.ledger.history guarded.next me.0 in (
+          after,
+          table.takes 0 (Some guarded),
+          home.there,
+          rule_after definition key s (set s.homes 0 none) id 1 after rule.ledger id rule.one_word
+              rule.legal rule.limit (λ no. absurd (omega arith))
+              (seats_stay server account_of rule.ledger s.views id me.0 after rule.seats at refl)
               record {
-                seen = fits.seen;
-                seen_mine = fits.seen_mine;
-                mine = fits.mine;
-                owned = fits.owned;
-                different = fits.different;
                 given = omega arith;
-                stage = record { history_is = refl; next_is = next_is; holder_is = refl; word_is = refl };
+                stage = record {
+                  history_is = refl;
+                  given_is = next_is;
+                  holder_is = refl;
+                  word_is = refl;
+                };
               }
               (λ seat view other there.
-              let old = rule.each_seat seat view there in
-              seat_moves rule.history rule.history rule.next rule.next rule.owner rule.owner rule.holder id (get_or s.words 0 0) 1 seat view old (prefix_refl rule.history) (omega arith) (λ number below owned. (refl, owned))
-              (stage_moves rule.history rule.history rule.next rule.next view.given rule.holder id seat (get_or s.words 0 0) 1 view.stage old.stage (prefix_refl rule.history) (λ holds one. omega arith))),
+              lock_moves
+              record { ledger = rule.ledger; holder = rule.holder; word = get_or s.words 0 0 }
+              record { ledger = rule.ledger; holder = id; word = 1 } seat view
+              (rule.each_seat seat view there) (past_refl rule.ledger.history) (omega arith)
+              (λ holds one. omega arith)),
           record {
-            history = rule.history;
-            held = held;
+            history = rule.ledger.history;
+            guarded = guarded;
             view_is = refl;
             slots_are = refl;
-            seen = fits.seen;
-            mine = fits.mine;
-            below = all_weaker (IsOwned rule.next rule.owner id) (λ share. share.number < held.next) (λ share owned. let below = owned.given in omega arith) me.0.shares fits.owned;
-            by_given = by_below_weaker rule.next held.next rule.history (omega arith) rule.by_given;
-            given = let given = fits.given in omega arith;
+            looked = looks_at server account_of rule.ledger s.views rule.seats id me.0 at;
+            next = subst (IsNext server me.0.account) (sym next_is)
+                (is_next server account_of rule.ledger s.views rule.seats id me.0 at);
+            given = omega arith;
             finds = λ found found_is.
                 let same : found ≡ key = cc in
-                let P : Key Object → Type 0 = λ k. FindsObject state meaning k me.0 rule.history held in
-                subst P (sym same)
+                subst
+                (λ (k : Key Object). FindsObject definition k me.0 rule.ledger.history guarded)
+                (sym same)
                 record {
-                  object = home.2.object;
-                  legal = record { legal = rule.legal; within = by_below_weaker rule.next key.limit rule.history rule.limit rule.by_given };
-                  limit = let limit = rule.limit in omega arith;
-                  knows = knows_history state meaning key s rule id me.0 at;
+                  object = home.object;
+                  legal = record {
+                    legal = rule.legal;
+                    within = by_below_weaker server rule.ledger.next key.limit
+                        rule.ledger.history rule.limit rule.seats.by_given;
+                  };
+                  limit = omega arith;
+                  knows = knows_history definition key s rule id me.0 at;
                 };
           },
         )
 
-    pub acquire_keeps : table.Allows (IsOneHistory state meaning key) slots id me 0 (λ n. either (eqb n 0) 1 n) (λ found after. HasAcquired state meaning me found after)
+    pub acquire_keeps : table.Allows (IsOneHistory definition key) slots id me 0
+        (λ n. either (eqb n 0) 1 n) (λ found after. HasAcquired definition me found after)
     acquire_keeps s rule _ at _ = dite (ℕ_discrete word 0)
         (λ free. let t = takes s rule at free in (
           t.0,
           t.1,
           t.2,
-          subst (λ b. IsOneHistory state meaning key (table.stepped s 0 (either b 1 word) id me.1 t.0 t.1)) (sym (eq-eqb word 0 free)) t.3,
+          subst (λ b. IsOneHistory definition key
+              (table.stepped s 0 (either b 1 word) id me.1 t.0 t.1))
+              (sym (eq-eqb word 0 free)) t.3,
           record { free = λ _. t.4; taken = λ not. absurd (not free) },
         ))
         (λ taken. (
           me.0,
           table.keeps,
           tt,
-          subst (λ b. IsOneHistory state meaning key (table.stepped s 0 (either b 1 word) id me.1 me.0 table.keeps)) (sym (ne_eqb word 0 taken)) (looks state meaning key s rule id me at),
+          subst (λ b. IsOneHistory definition key
+              (table.stepped s 0 (either b 1 word) id me.1 me.0 table.keeps))
+              (sym (ne_eqb word 0 taken))
+              (sits definition key s rule id me.0 me.0 at refl (rule.each_seat id me.0 at)),
           record { free = λ free. absurd (taken free); taken = λ _. refl },
         ))
       where

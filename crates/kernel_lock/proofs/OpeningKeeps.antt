@@ -1,51 +1,58 @@
 -- The rule holds when the lock is made: the history is empty, and the object is at home.
-use Rattle.std.proofs.Common.{◌≡◌, ℕ, zero, suc, ◌<◌, List, [], ◌∷◌, refl, sym, ap, subst, arith, Some}
+use Rattle.std.proofs.Common.{◌≡◌, ℕ, zero, suc, ◌+◌, ◌<◌, List, [], ◌∷◌, refl, sym, ap, subst, arith}
+use Rattle.std.proofs.Common.{Some}
 use mathlib.Core.Option.{some, some-injective, some-ne-none}
 use lib.ListN.{get_elem?}
 use Rattle.atomic_table.specs.Table as table
+use Rattle.histories.specs.Ledger.{opening_ledger}
+use Rattle.histories.proofs.SeatsKeep.{seats_open}
+use Rattle.kernel_lock.specs.declared.view.Guarded.{Guarded}
 use Rattle.kernel_lock.specs.declared.view.Key.{Key}
 use Rattle.kernel_lock.specs.declared.view.View.{View}
-use Rattle.kernel_lock.specs.declared.view.Held.{Held}
-use Rattle.kernel_lock.specs.Definition.{Definition}
-use Rattle.kernel_lock.specs.Rule.{FitsSeat, IsOneHistory}
+use Rattle.kernel_lock.specs.Definition.{Definition, server}
+use Rattle.kernel_lock.specs.Rule.{Standing, FitsLock, IsOneHistory}
 use Rattle.kernel_lock.specs.Steps.{Slot}
-use Rattle.kernel_lock.specs.View.{first_view}
-use Rattle.kernel_lock.proofs.HistoryLemmas.{prefix_refl}
+use Rattle.kernel_lock.specs.View.{account_of, first_view}
 
-module _ {Object State Call Reply : Type 0} (state : Object → State) (meaning : Definition State Call Reply) where
-  opening_keeps : (key : Key Object) (held : Held Object) → held.object ≡ key.opening.value → held.next ≡ 1 → 0 < key.limit
-      → IsOneHistory state meaning key (table.opening (0 ∷ []) (Some held ∷ []) (first_view key))
-  opening_keeps key held object_is next_is some_seat =
+module _ {Object State Request Reply : Type 0}
+    (definition : Definition Object State Request Reply) where
+  opening_keeps : (key : Key Object) (guarded : Guarded Object) →
+      guarded.object ≡ key.opening.value → guarded.next ≡ key.more + 1 → key.more < key.limit →
+      IsOneHistory definition key
+      (table.opening (0 ∷ []) (Some guarded ∷ []) (first_view key))
+  opening_keeps key guarded object_is next_is within =
       record {
-        history = [];
-        next = 1;
-        owner = λ number. 0;
+        ledger = opening_ledger key.more;
         holder = 0;
         one_word = refl;
         legal = tt;
-        by_given = tt;
         limit = omega arith;
-        home = λ free. (held, refl, record { object = ap state object_is; next_is = next_is });
+        home = λ free. record {
+          guarded = guarded;
+          there = refl;
+          object = ap definition.state object_is;
+          next_is = next_is;
+        };
+        seats = seats_open server account_of key.more (first_view key) refl;
         each_seat = each_seat;
       }
     where
-      first : FitsSeat {Call = Call} {Reply = Reply} [] 1 (λ number. 0) 0 0 0 (first_view key)
-      first =
-          record {
-            seen = prefix_refl [];
-            seen_mine = (record { entries = refl }, tt);
-            mine = (record { entries = refl }, tt);
-            owned = (record { given = omega arith; owner_is = refl }, tt);
-            different = (tt, tt);
-            given = omega arith;
-            stage = tt;
-          }
+      now : Standing Request Reply
+      now = record { ledger = opening_ledger key.more; holder = 0; word = 0 }
 
-      each_seat : (seat : ℕ) (view : View Object Call Reply) → get_elem? (first_view {Call = Call} {Reply = Reply} key ∷ []) seat ≡ some view → FitsSeat [] 1 (λ number. 0) 0 0 seat view
-      each_seat zero view at = subst (λ (v : View Object Call Reply). FitsSeat [] 1 (λ number. 0) 0 0 0 v) (some-injective (first_view key) view at) first
+      each_seat : (seat : ℕ) (view : View Object Request Reply) →
+          get_elem? (first_view key ∷ []) seat ≡ some view → FitsLock now seat view
+      each_seat zero view at =
+          subst (λ (v : View Object Request Reply). FitsLock now 0 v)
+          (some-injective (first_view key) view at) record { given = omega arith; stage = tt }
       each_seat (suc seat) view at = absurd (some-ne-none view (sym at))
 
-  pub opened_keeps : (key : Key Object) (held : Held Object) (slots : List (Slot Object)) → slots ≡ Some held ∷ [] → held.object ≡ key.opening.value → held.next ≡ 1 → 0 < key.limit
-      → IsOneHistory state meaning key (table.opening (0 ∷ []) slots (first_view key))
-  opened_keeps key held slots slots_are object_is next_is some_seat =
-      subst (λ (xs : List (Slot Object)). IsOneHistory state meaning key (table.opening (0 ∷ []) xs (first_view key))) (sym slots_are) (opening_keeps key held object_is next_is some_seat)
+  pub opened_keeps : (key : Key Object) (guarded : Guarded Object) (slots : List (Slot Object)) →
+      slots ≡ Some guarded ∷ [] → guarded.object ≡ key.opening.value →
+      guarded.next ≡ key.more + 1 → key.more < key.limit →
+      IsOneHistory definition key (table.opening (0 ∷ []) slots (first_view key))
+  opened_keeps key guarded slots slots_are object_is next_is within =
+      subst
+      (λ (xs : List (Slot Object)). IsOneHistory definition key
+      (table.opening (0 ∷ []) xs (first_view key)))
+      (sym slots_are) (opening_keeps key guarded object_is next_is within)

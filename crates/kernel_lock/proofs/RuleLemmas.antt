@@ -1,90 +1,146 @@
--- Facts on the rule: a seat that makes no step still fits, and how the rule is put together again after a step.
-use Rattle.std.proofs.Common.{◌≡◌, ◌≢◌, ℕ, ◌<◌, ◌≤◌, Bool, true, false, ◌||◌, eqb, List, [], ◌∷◌, length, set, get_or, refl, sym, subst, ◌∙◌, ⊎_elim, arith, length-set, get_or-set_same, Option, Some}
-use Rattle.std.proofs.lemmas.Bool.Decides.{nat_tests}
-use Rattle.std.specs.List.{AllByRecursion}
+-- Facts on the rule: a seat that makes no step still fits, what the rule says of one seat,
+-- and how the rule is put together again after a step.
+use Rattle.std.proofs.Common.{◌≡◌, ◌≢◌, ℕ, ◌≤◌, List, length, set, get_or, sym, subst, ◌∙◌}
+use Rattle.std.proofs.Common.{arith, length-set, get_or-set_same, Option}
 use mathlib.Core.Option.{some}
 use mathlib.Core.Option as maybe
 use lib.ListN.{get_elem?}
 use Rattle.atomic_table.specs.Table as table
-use Rattle.atomic_table.proofs.Lists.{at_set}
-use Rattle.kernel_lock.specs.declared.view.Entry.{Entry}
-use Rattle.kernel_lock.specs.declared.view.Share.{Share}
-use Rattle.kernel_lock.specs.declared.view.Stage.{Stage}
-use Rattle.kernel_lock.specs.declared.view.Stage.TheVariants.{Free, Holding, Merging}
+use Rattle.histories.specs.History.{IsPast, IsLegal}
+use Rattle.histories.specs.Account.{KnowsHistory}
+use Rattle.histories.specs.Ledger.{Ledger, AreSeats}
+use Rattle.histories.proofs.ListLemmas.{past_trans, each_set}
+use Rattle.histories.proofs.SeatsKeep as seats
+use Rattle.kernel_lock.specs.declared.view.Guarded.{Guarded}
 use Rattle.kernel_lock.specs.declared.view.Key.{Key}
+use Rattle.kernel_lock.specs.declared.view.Served.{Served}
+use Rattle.kernel_lock.specs.declared.view.Stage.{Stage}
+use Rattle.kernel_lock.specs.declared.view.Stage.TheVariants.{Outside, Inside, Joining}
 use Rattle.kernel_lock.specs.declared.view.View.{View}
-use Rattle.kernel_lock.specs.declared.view.Held.{Held}
-use Rattle.kernel_lock.specs.Definition.{Definition}
-use Rattle.kernel_lock.specs.History.{IsPrefix, entries_by, AreByBelow, IsLegal}
-use Rattle.kernel_lock.specs.Rule.{IsOwned, FitsStage, FitsSeat, IsAtHome, IsOneHistory}
-use Rattle.kernel_lock.specs.View.{HasItsEntries, opening_state, has_number}
-use Rattle.kernel_lock.proofs.HistoryLemmas.{prefix_trans, all_weaker, all_both}
+use Rattle.kernel_lock.specs.Definition.{Definition, server, meaning_of, opening_state}
+use Rattle.kernel_lock.specs.Rule.{Standing, FitsStage, FitsLock, IsAtHome, IsOneHistory}
+use Rattle.kernel_lock.specs.View.{account_of}
 
-module _ {Call Reply : Type 0} where
-  -- a stage of a seat that does not hold the lock still fits when the history grows
-  pub stage_moves : (history history' : List (Entry Call Reply)) (next next' given holder holder' seat word word' : ℕ) (stage : Stage Call Reply) → FitsStage history next given holder seat word stage
-      → IsPrefix history history' → (seat ≡ holder → word ≡ 1 → ⊥) → FitsStage history' next' given holder' seat word' stage
-  stage_moves history history' next next' given holder holder' seat word word' Free fits grows not_holding = tt
-  stage_moves history history' next next' given holder holder' seat word word' (Holding known) fits grows not_holding = absurd (not_holding fits.holder_is fits.word_is)
-  stage_moves history history' next next' given holder holder' seat word word' (Merging other) fits grows not_holding = prefix_trans other history history' fits grows
+module _ {Request Reply : Type 0} where
+  -- a stage of a seat that is not inside still fits when the history grows
+  pub stage_moves : (now now' : Standing Request Reply) (seat given : ℕ)
+      (stage : Stage Request Reply) → FitsStage now seat given stage →
+      IsPast now.ledger.history now'.ledger.history → (seat ≡ now.holder → now.word ≡ 1 → ⊥) →
+      FitsStage now' seat given stage
+  stage_moves now now' seat given Outside fits grows not_inside = tt
+  stage_moves now now' seat given (Inside known) fits grows not_inside =
+      absurd (not_inside fits.holder_is fits.word_is)
+  stage_moves now now' seat given (Joining other) fits grows not_inside =
+      past_trans other now.ledger.history now'.ledger.history fits grows
 
-  -- what is true of each of the numbers is true of one of them
-  pub number_has : (P : ℕ → Type 0) (number : ℕ) (shares : List (Share Call Reply)) → AllByRecursion (λ share. P share.number) shares → has_number shares number ≡ true → P number
-  number_has P number [] all has = cc
-  number_has P number (share ∷ shares) all has = first (eqb share.number number) refl has (number_has P number shares all.1)
-    where
-      first : (b : Bool) → eqb share.number number ≡ b → (b || has_number shares number) ≡ true → (has_number shares number ≡ true → P number) → P number
-      first true is has rest =
-          let same : share.number ≡ number = grind (arith, nat_tests) in
-          subst P same all.0
-      first false is has rest = rest has
-
-  pub number_is_owned : (next : ℕ) (owner : ℕ → ℕ) (seat number : ℕ) (shares : List (Share Call Reply)) → AllByRecursion (IsOwned next owner seat) shares → has_number shares number ≡ true → (number < next) × (owner number ≡ seat)
-  number_is_owned next owner seat number shares owned has =
-      number_has (λ n. (n < next) × (owner n ≡ seat)) number shares (all_weaker (IsOwned next owner seat) (λ share. (share.number < next) × (owner share.number ≡ seat)) (λ share own. (own.given, own.owner_is)) shares owned) has
-
-module _ {Object Call Reply : Type 0} where
-  -- a seat that makes no step still fits, where the history has no more of its entries and its numbers are still its own
-  pub seat_moves : (history history' : List (Entry Call Reply)) (next next' : ℕ) (owner owner' : ℕ → ℕ) (holder holder' word word' seat : ℕ) (view : View Object Call Reply) → FitsSeat history next owner holder word seat view
-      → IsPrefix history history' → next ≤ next' → ((number : ℕ) → number < next → owner number ≡ seat → (entries_by number history' ≡ entries_by number history) × (owner' number ≡ seat))
-      → FitsStage history' next' view.given holder' seat word' view.stage → FitsSeat history' next' owner' holder' word' seat view
-  seat_moves history history' next next' owner owner' holder holder' word word' seat view fits grows more stays stage =
+  -- and so does what it knows of the lock
+  pub lock_moves : {Object : Type 0} (now now' : Standing Request Reply) (seat : ℕ)
+      (view : View Object Request Reply) → FitsLock now seat view →
+      IsPast now.ledger.history now'.ledger.history → now.ledger.next ≤ now'.ledger.next →
+      (seat ≡ now.holder → now.word ≡ 1 → ⊥) → FitsLock now' seat view
+  lock_moves now now' seat view fits grows more not_inside =
+      let given = fits.given in
       record {
-        seen = prefix_trans view.seen history history' fits.seen grows;
-        seen_mine = fits.seen_mine;
-        mine = all_both (IsOwned next owner seat) (HasItsEntries history) (HasItsEntries history') (λ share owned has. record { entries = (stays share.number owned.given owned.owner_is).0 ∙ has.entries }) view.shares fits.owned fits.mine;
-        owned = all_weaker (IsOwned next owner seat) (IsOwned next' owner' seat) (λ share owned. let below = owned.given in record { given = omega arith; owner_is = (stays share.number owned.given owned.owner_is).1 }) view.shares fits.owned;
-        different = fits.different;
-        given = let old = fits.given in omega arith;
-        stage = stage;
+        given = omega arith;
+        stage = stage_moves now now' seat view.given view.stage fits.stage grows not_inside;
       }
 
-module _ {Object State Call Reply : Type 0} (state : Object → State) (meaning : Definition State Call Reply) where
-  abbrev Table : Type 0
-  Table = table.State (Option (Held Object)) (View Object Call Reply)
+  -- who has which number is nothing to them
+  stage_stays : (now : Standing Request Reply) (owner parent : ℕ → ℕ) (seat given : ℕ)
+      (stage : Stage Request Reply) → FitsStage now seat given stage →
+      FitsStage
+      record {
+        ledger = record now.ledger { owner = owner; parent = parent };
+        holder = now.holder;
+        word = now.word;
+      }
+      seat given stage
+  stage_stays now owner parent seat given Outside fits = tt
+  stage_stays now owner parent seat given (Inside known) fits =
+      record {
+        history_is = fits.history_is;
+        given_is = fits.given_is;
+        holder_is = fits.holder_is;
+        word_is = fits.word_is;
+      }
+  stage_stays now owner parent seat given (Joining other) fits = fits
+
+  pub lock_stays : {Object : Type 0} (now : Standing Request Reply) (owner parent : ℕ → ℕ)
+      (seat : ℕ) (view : View Object Request Reply) → FitsLock now seat view →
+      FitsLock
+      record {
+        ledger = record now.ledger { owner = owner; parent = parent };
+        holder = now.holder;
+        word = now.word;
+      }
+      seat view
+  lock_stays now owner parent seat view fits =
+      record {
+        given = fits.given;
+        stage = stage_stays now owner parent seat view.given view.stage fits.stage;
+      }
+
+module _ {Object State Request Reply : Type 0}
+    (definition : Definition Object State Request Reply) where
+  abbrev pub Table : Type 0
+  Table = table.State (Option (Guarded Object)) (View Object Request Reply)
+
+  -- what a seat knows is a past of the one history
+  pub knows_history : (key : Key Object) (s : Table) (rule : IsOneHistory definition key s)
+      (id : ℕ) (view : View Object Request Reply) → get_elem? s.views id ≡ some view →
+      KnowsHistory (meaning_of definition) (opening_state definition key) key.limit view.account
+  knows_history key s rule id view at =
+      seats.knows_history (meaning_of definition) (opening_state definition key) key.limit
+      rule.ledger id view.account rule.legal rule.seats.by_given rule.limit
+      (rule.seats.each_seat id view at)
 
   -- the rule after a step of one seat that stores a number into the word
-  pub rule_after : (key : Key Object) (s : Table) (homes : List (maybe.Option (Option (Held Object)))) (id n : ℕ) (after : View Object Call Reply) → length s.words ≡ 1
-      → (history : List (Entry Call Reply)) (next : ℕ) (owner : ℕ → ℕ) (holder : ℕ) → IsLegal meaning (opening_state state key) history → AreByBelow next history → next ≤ key.limit
-      → (n ≡ 0 → (held : Held Object) × (get_elem? homes 0 ≡ some (some (Some held))) × IsAtHome state meaning key history next held) → FitsSeat history next owner holder n id after
-      → ((seat : ℕ) (view : View Object Call Reply) → seat ≢ id → get_elem? s.views seat ≡ some view → FitsSeat history next owner holder n seat view)
-      → IsOneHistory state meaning key record { words = set s.words 0 n; homes = homes; views = set s.views id after }
-  rule_after key s homes id n after one_word history next owner holder legal by_given limit home own others =
+  pub rule_after : (key : Key Object) (s : Table)
+      (homes : List (maybe.Option (Option (Guarded Object)))) (id n : ℕ)
+      (after : View Object Request Reply) (ledger : Ledger (Served Request Reply)) (holder : ℕ) →
+      length s.words ≡ 1 →
+      IsLegal (meaning_of definition) (opening_state definition key) ledger.history →
+      ledger.next ≤ key.limit → (n ≡ 0 → IsAtHome definition key ledger homes) →
+      AreSeats server account_of ledger (set s.views id after) →
+      FitsLock record { ledger = ledger; holder = holder; word = n } id after →
+      ((seat : ℕ) (view : View Object Request Reply) → seat ≢ id →
+      get_elem? s.views seat ≡ some view →
+      FitsLock record { ledger = ledger; holder = holder; word = n } seat view) →
+      IsOneHistory definition key
+      record { words = set s.words 0 n; homes = homes; views = set s.views id after }
+  rule_after key s homes id n after ledger holder one_word legal limit home all own others =
       record {
-        history = history;
-        next = next;
-        owner = owner;
+        ledger = ledger;
         holder = holder;
         one_word = length-set s.words 0 n ∙ one_word;
         legal = legal;
-        by_given = by_given;
         limit = limit;
         home = λ free. home (sym word ∙ free);
+        seats = all;
         each_seat = λ seat view at.
-            subst (λ (w : ℕ). FitsSeat history next owner holder w seat view) (sym word)
-            (⊎_elim (λ here. subst (λ (v : View Object Call Reply). FitsSeat history next owner holder n seat v) here.1 (subst (λ (i : ℕ). FitsSeat history next owner holder n i after) (sym here.0) own)) (λ there. others seat view there.0 there.1)
-            (at_set s.views id seat after view at));
+            subst
+            (λ (w : ℕ). FitsLock record { ledger = ledger; holder = holder; word = w } seat view)
+            (sym word)
+            (each_set (λ place its. FitsLock record { ledger = ledger; holder = holder; word = n }
+            place its) s.views id after own others seat view at);
       }
     where
       word : get_or (set s.words 0 n) 0 0 ≡ n
       word = get_or-set_same s.words 0 n 0 (omega arith)
+
+  -- a step that leaves the word, and the seat's account
+  pub sits : (key : Key Object) (s : Table) (rule : IsOneHistory definition key s) (id : ℕ)
+      (before after : View Object Request Reply) → get_elem? s.views id ≡ some before →
+      after.account ≡ before.account →
+      FitsLock record { ledger = rule.ledger; holder = rule.holder; word = get_or s.words 0 0 }
+      id after →
+      IsOneHistory definition key record {
+        words = set s.words 0 (get_or s.words 0 0);
+        homes = s.homes;
+        views = set s.views id after;
+      }
+  sits key s rule id before after at same fits =
+      rule_after key s s.homes id (get_or s.words 0 0) after rule.ledger rule.holder rule.one_word
+      rule.legal rule.limit rule.home
+      (seats.seats_stay server account_of rule.ledger s.views id before after rule.seats at same)
+      fits (λ seat view other there. rule.each_seat seat view there)

@@ -1,9 +1,38 @@
--- What a sequential object means.
-use Rattle.std.specs.Prelude.{ℕ, Option}
+-- What a sequential object means, and so which histories it may have.
+use Rattle.std.specs.Prelude.{◌≡◌, ℕ, Option, IfSome}
+use Rattle.histories.specs.History.{Meaning}
+use Rattle.kernel_lock.specs.declared.view.Key.{Key}
+use Rattle.kernel_lock.specs.declared.view.Served.{Served}
 
--- in each state, the reply to each call and the state after it;
--- and the number of the seat that a call names
-pub record Definition (State Call Reply : Type 0) : Type 0 where
-  pub answer : State → Call → Reply
-  pub after : State → Call → State
-  pub named : Call → Option ℕ
+pub record Definition (Object State Request Reply : Type 0) : Type 0 where
+  -- what an object means
+  pub state : Object → State
+  -- in each state the reply to each request, and the state after it
+  pub answer : State → Request → Reply
+  pub after : State → Request → State
+  -- the number of the seat that a request names
+  pub named : Request → Option ℕ
+
+-- the number of the seat that made the request
+abbrev pub server : {Request Reply : Type 0} → Served Request Reply → ℕ
+server served = served.by
+
+module _ {Object State Request Reply : Type 0}
+    (definition : Definition Object State Request Reply) where
+  -- the reply is the definition's in this state, and a request that names a seat is by that seat
+  pub record IsRight (state : State) (served : Served Request Reply) : Type 0 where
+    pub reply : served.reply ≡ definition.answer state served.request
+    pub named : IfSome (definition.named served.request) (λ number. number ≡ served.by)
+
+  -- a history of served requests, newest first
+  abbrev pub meaning_of : Meaning State (Served Request Reply)
+  meaning_of =
+      record {
+        by = server;
+        IsRight = IsRight;
+        after = λ state served. definition.after state served.request;
+      }
+
+  -- what the object meant when its lock was made
+  abbrev pub opening_state : Key Object → State
+  opening_state key = definition.state key.opening.value

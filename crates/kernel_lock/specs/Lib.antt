@@ -1,8 +1,7 @@
 pub mod Calls
 pub mod Definition
-pub mod History
-pub mod Places
 pub mod Rule
 pub mod Seats
+pub mod Steppers
 pub mod Steps
 pub mod View

@@ -1,5 +1,6 @@
 //! The kernel lock: any sequential object, called by many threads through one lock.
-//! Each call stands in one legal history, with the reply that the object's definition gives there.
+//! Each request stands in one legal history, with the reply that the object's definition
+//! gives there.
 //! Read `object`, `view`, `rule`, `plays`, `lock_seat`, `locked`, `waiters`, `steps`, `waiting`,
 //! and then `apply` and `seats`.
 #![tactic(auto)]
@@ -19,5 +20,5 @@ mod waiters;
 mod waiting;
 
 pub use lock_seat::LockSeat;
-pub use locked::{Locked, Opened};
+pub use locked::{Locked, Opened, OpenedWhole};
 pub use object::Object;

@@ -3,13 +3,13 @@
 ghost use Rattle.std.specs.Prelude.{◌≡◌, [], ◌∷◌};
 
 use crate::object::Object;
-use crate::rule::{Knowledge, Place};
+use crate::rule::{Knowledge, Stepper};
 use atomic_table::Badge;
 use std::mem;
 
 /// A seat at a lock, with one number or, after a join, with several.
 /// A thread calls the object with it.
-/// It has seen a beginning of the history, in which its own calls stand once each.
+/// What it has seen is a past of the history, in which its own requests stand once each.
 #[derive(Drop)]
 pub struct LockSeat<O: Object> {
     pub(crate) badge: Badge<Knowledge<O>>,
@@ -19,7 +19,7 @@ pub struct LockSeat<O: Object> {
 impl<O: Object> LockSeat<O> {
     ghost use Rattle.kernel_lock.specs.Seats.{number_of, view_of};
 
-    /// Its own number, under which it makes the calls that name no seat.
+    /// Its own number, under which it makes the requests that name no seat.
     pub fn number(&self) -> u64
         ensures { result ≡ number_of self.now }
     {
@@ -27,21 +27,21 @@ impl<O: Object> LockSeat<O> {
     }
 
     /// What the seat makes its steps with. A blank badge stands in for what it knows until `sit`.
-    pub(crate) fn stand(&mut self) -> Place<O>
+    pub(crate) fn stand(&mut self) -> Stepper<O>
         requires { self.old.badge.views ≡ view_of self.old ∷ [] }
         ensures table { result.table_id ≡ self.old.badge.table_id }
-        ensures place { result.me ≡ (view_of self.old, []) }
+        ensures stepper { result.me ≡ (view_of self.old, []) }
         ensures number { self.new.number ≡ self.old.number }
     {
         mem::replace(&mut self.badge, Badge::blank()).into_seat()
     }
 
-    pub(crate) fn sit(&mut self, place: Place<O>)
-        requires { place.me.1 ≡ [] }
-        ensures table { self.new.badge.table_id ≡ place.table_id }
-        ensures views { self.new.badge.views ≡ place.me.0 ∷ [] }
+    pub(crate) fn sit(&mut self, stepper: Stepper<O>)
+        requires { stepper.me.1 ≡ [] }
+        ensures table { self.new.badge.table_id ≡ stepper.table_id }
+        ensures views { self.new.badge.views ≡ stepper.me.0 ∷ [] }
         ensures number { self.new.number ≡ self.old.number }
     {
-        self.badge = place.into_badge();
+        self.badge = stepper.into_badge();
     }
 }

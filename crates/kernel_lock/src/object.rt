@@ -4,24 +4,26 @@ ghost use Rattle.kernel_lock.specs.Definition.{Definition};
 
 /// An object that one thread at a time may call.
 pub trait Object: Drop {
-    type Call;
+    /// What is asked of it.
+    type Request;
 
+    /// What it answers.
     type Reply;
 
     /// What an object means.
     ghost State: { Type 0 };
 
-    ghost state: { Self → State };
+    /// The meaning of an object, the reply and the meaning after each request,
+    /// and the seat that a request names.
+    ghost definition: { Definition Self State Self.Request Self.Reply };
 
-    /// The reply and the meaning after each call, and the seat that a call names.
-    ghost definition: { Definition State Self.Call Self.Reply };
+    /// The number of the seat that the request names.
+    fn caller(request: &Self::Request) -> Option<u64>
+        ensures { result ≡ definition.named request.now };
 
-    /// The number of the seat that the call names.
-    fn caller(call: &Self::Call) -> Option<u64>
-        ensures { result ≡ definition.named call.now };
-
-    /// Answers the call.
-    fn run(&mut self, call: Self::Call) -> Self::Reply
-        ensures reply { result ≡ definition.answer (state self.old) call }
-        ensures after { state self.new ≡ definition.after (state self.old) call };
+    /// Answers the request.
+    fn run(&mut self, request: Self::Request) -> Self::Reply
+        ensures reply { result ≡ definition.answer (definition.state self.old) request }
+        ensures after { definition.state self.new ≡
+            definition.after (definition.state self.old) request };
 }

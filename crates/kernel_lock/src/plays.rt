@@ -1,11 +1,18 @@
 //! What each kind of step tells its seat. Before this: `rule`. After it: `lock_seat`.
 //! These types are for the proofs alone.
-ghost use Rattle.std.specs.Prelude.{List, []};
-ghost use Rattle.kernel_lock.specs.Steps.{HasAcquired, HasLooked, HasReleased, HasSettled};
-ghost use Rattle.kernel_lock.specs.View.{parent_view, child_view, merged_view, spent_view};
+ghost use Rattle.std.specs.Prelude.{Option, None};
+ghost use Rattle.kernel_lock.specs.Steps.{HasAcquired, HasWatched, HasReleased, HasSettled};
+ghost use Rattle.kernel_lock.specs.View.{
+  parent_view,
+  child_view,
+  handing_view,
+  handed_view,
+  joined_view,
+  spent_view,
+};
 
 use crate::object::Object;
-use crate::view::{Held, View};
+use crate::view::{Guarded, View};
 use atomic_table::{Join, Play, Split};
 use std::marker::{Brand, PhantomData};
 
@@ -13,48 +20,56 @@ pub struct Acquire<O> {
     object: PhantomData<O>,
 }
 
-impl<O: Object> Play<Option<Held<O>>, View<O, O::Call, O::Reply>> for Acquire<O> {
-    ghost then = { λ _ before found after. HasAcquired O.state O.definition before found after };
+impl<O: Object> Play<Option<Guarded<O>>, View<O, O::Request, O::Reply>> for Acquire<O> {
+    ghost then = { λ _ before found after. HasAcquired O.definition before found after };
 }
 
-pub struct Look;
+pub struct Watch;
 
-impl<O, C, R> Play<Option<Held<O>>, View<O, C, R>> for Look {
-    ghost then = { λ _ before _ after. HasLooked before after };
+impl<O, Q, R> Play<Option<Guarded<O>>, View<O, Q, R>> for Watch {
+    ghost then = { λ _ before _ after. HasWatched before after };
 }
 
-/// The calls that a holder of the lock has made: one, or none where it divided its seat.
-/// Each release picks them.
-pub trait Made<C, R> {
-    ghost use Rattle.kernel_lock.specs.declared.view.Entry.{Entry};
+/// The request that was served inside, or none where the seat was divided.
+/// Each release picks it.
+pub trait Made<Q, R> {
+    ghost use Rattle.kernel_lock.specs.declared.view.Served.{Served};
 
-    ghost calls: { List (Entry C R) };
+    ghost served: { Option (Served Q R) };
 }
 
-impl<C, R> Made<C, R> for Brand {
-    ghost calls = { [] };
+impl<Q, R> Made<Q, R> for Brand {
+    ghost served = { None };
 }
 
 pub struct Release<M> {
     made: PhantomData<M>,
 }
 
-impl<O, C, R, M: Made<C, R>> Play<Option<Held<O>>, View<O, C, R>> for Release<M> {
-    ghost then = { λ _ before _ after. HasReleased M.calls before after };
+impl<O, Q, R, M: Made<Q, R>> Play<Option<Guarded<O>>, View<O, Q, R>> for Release<M> {
+    ghost then = { λ _ before _ after. HasReleased M.served before after };
 }
 
 pub struct Divide;
 
-impl<O, C, R> Split<View<O, C, R>> for Divide {
+impl<O, Q, R> Split<View<O, Q, R>> for Divide {
     ghost left = { parent_view };
 
     ghost right = { child_view };
 }
 
+pub struct Hand;
+
+impl<O, Q, R> Split<View<O, Q, R>> for Hand {
+    ghost left = { handing_view };
+
+    ghost right = { handed_view };
+}
+
 pub struct Merge;
 
-impl<O, C, R> Join<View<O, C, R>> for Merge {
-    ghost both = { merged_view };
+impl<O, Q, R> Join<View<O, Q, R>> for Merge {
+    ghost both = { joined_view };
 
     ghost spent = { spent_view };
 }
@@ -63,6 +78,6 @@ pub struct Settle<O> {
     object: PhantomData<O>,
 }
 
-impl<O: Object> Play<Option<Held<O>>, View<O, O::Call, O::Reply>> for Settle<O> {
-    ghost then = { λ _ before _ after. HasSettled O.state O.definition before after };
+impl<O: Object> Play<Option<Guarded<O>>, View<O, O::Request, O::Reply>> for Settle<O> {
+    ghost then = { λ _ before _ after. HasSettled O.definition before after };
 }

@@ -5,28 +5,32 @@ ghost use Rattle.kernel_lock.specs.Rule.{IsOneHistory};
 ghost use Rattle.kernel_lock.specs.View.{first_view};
 
 use crate::object::Object;
-use crate::view::{Held, Key, View};
+use crate::view::{Guarded, Key, View};
 use atomic_table::{Seat, Shared, Table, TableRule};
 use std::alloc::Global;
 use std::marker::PhantomData;
 
-/// Where the word is 0 the object is at home and is what the history gives.
-/// Each seat's seen is a beginning of the history, and its own calls stand in it once each.
-/// The numbers of the seats differ and are below the next one.
+/// There is one legal history, newest first.
+/// Where the word is 0 the object is at home, as the history leaves it, beside the next number.
+/// What each seat has seen is a past of the history, in which its own requests stand once each.
+/// The numbers of the seats differ, and each but 0 was given by the seat of a lower one,
+/// which knows it.
 pub struct OneHistory<O> {
     object: PhantomData<O>,
 }
 
-pub type Slot<O> = Option<Held<O>>;
+pub type Slot<O> = Option<Guarded<O>>;
 
-pub type Knowledge<O> = View<O, <O as Object>::Call, <O as Object>::Reply>;
+pub type Knowledge<O> = View<O, <O as Object>::Request, <O as Object>::Reply>;
 
 pub type LockTable<O> = Table<Slot<O>, Knowledge<O>, Key<O>, OneHistory<O>, Global>;
 
-pub type Place<O> = Seat<Slot<O>, Knowledge<O>>;
+/// A seat while it makes its steps.
+pub type Stepper<O> = Seat<Slot<O>, Knowledge<O>>;
 
-impl<O: Object> TableRule<Option<Held<O>>, View<O, O::Call, O::Reply>, Key<O>> for OneHistory<O> {
-    ghost holds = { IsOneHistory O.state O.definition };
+impl<O: Object> TableRule<Option<Guarded<O>>, View<O, O::Request, O::Reply>, Key<O>>
+    for OneHistory<O> {
+    ghost holds = { IsOneHistory O.definition };
 
     ghost first = { first_view };
 }

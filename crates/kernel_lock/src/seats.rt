@@ -1,8 +1,9 @@
 //! How a lock gives seats and joins them. Before this: `apply`.
 ghost use Rattle.std.specs.Prelude.{◌≡◌, ◌≤◌, IfSome, IfNone, IfOk, IfErr, OnErr};
 ghost use Rattle.sync_base.specs.declared.fault.Fault.TheVariants.{NoProc};
-ghost use Rattle.kernel_lock.specs.Calls.{GivesSeat};
-ghost use Rattle.kernel_lock.specs.Places.{IsChild, IsPlaceOf, IsFreePlaceOf, IsSamePlace};
+ghost use Rattle.histories.specs.Account.{KnowsHistory};
+ghost use Rattle.kernel_lock.specs.Calls.{GivesSeat, RefusesSeat};
+ghost use Rattle.kernel_lock.specs.Definition.{meaning_of};
 ghost use Rattle.kernel_lock.specs.Seats.{
   IsSeatOf,
   Splits,
@@ -13,14 +14,15 @@ ghost use Rattle.kernel_lock.specs.Seats.{
   opening_of,
   view_of,
 };
-ghost use Rattle.kernel_lock.specs.Steps.{HasGiven, IsHolding};
-ghost use Rattle.kernel_lock.specs.View.{KnowsHistory};
+ghost use Rattle.kernel_lock.specs.Steppers.{IsChild, IsStepperOf, IsOutside, IsSameStepper};
+ghost use Rattle.kernel_lock.specs.Steps.{KeepsObject, IsInsideWith};
+ghost use Rattle.kernel_lock.specs.View.{HasOwn};
 
 use crate::lock_seat::LockSeat;
 use crate::locked::Locked;
 use crate::object::Object;
-use crate::rule::Place;
-use crate::view::Held;
+use crate::rule::Stepper;
+use crate::view::Guarded;
 use std::marker::Brand;
 use std::sync::Wait;
 use sync_base::Fault;
@@ -31,60 +33,67 @@ impl<O: Object> Locked<O> {
     pub fn split<R: Wait>(&self, rt: &R, seat: &mut LockSeat<O>) -> Result<LockSeat<O>, Fault>
         requires { IsSeatOf self.now seat.old }
         ensures seat { IsSeatOf self.now seat.new }
-        ensures history { SeesHistory O.state O.definition self.now seat.new }
+        ensures history { SeesHistory O.definition self.now seat.new }
 
-        // The child has seen what its parent has, and has made no call.
+        // The child has the next number, which its parent gave. It has seen what its parent has,
+        // and has made no request.
         ensures child { IfOk result (IsSeatOf self.now) }
-        ensures child_history { IfOk result (SeesHistory O.state O.definition self.now) }
+        ensures child_history { IfOk result (SeesHistory O.definition self.now) }
         ensures given { IfOk result (Splits self.now seat.old seat.new) }
 
+        // The next number is the limit.
         ensures fault { IfErr result (λ fault. fault ≡ NoProc) }
         ensures refused { OnErr result (KnowsAllGiven self.now seat.old seat.new) }
     {
-        let mut place = seat.stand();
-        let child = self.divide_in_turn(rt, &mut place);
-        seat.sit(place);
+        let mut stepper = seat.stand();
+        let child = self.divide_in_turn(rt, &mut stepper);
+        seat.sit(stepper);
         child.ok_or(Fault::NoProc)
     }
 
     // Takes the lock, divides the seat where another one may be given, and gives the lock back.
-    fn divide_in_turn<R: Wait>(&self, rt: &R, place: &mut Place<O>) -> Option<LockSeat<O>>
-        requires { IsFreePlaceOf self.now place.old }
-        ensures place { IsFreePlaceOf self.now place.new }
-        ensures history { KnowsHistory O.definition (opening_of O.state self.now)
-            (limit_of self.now) place.new.me.0 }
+    fn divide_in_turn<R: Wait>(&self, rt: &R, stepper: &mut Stepper<O>) -> Option<LockSeat<O>>
+        requires stepper { IsStepperOf self.now stepper.old }
+        requires outside { IsOutside stepper.old }
+        requires own { HasOwn stepper.old.me.0 }
+        ensures stepper { IsStepperOf self.now stepper.new }
+        ensures outside { IsOutside stepper.new }
+        ensures history { KnowsHistory (meaning_of O.definition) (opening_of O.definition self.now)
+            (limit_of self.now) stepper.new.me.0.account }
         ensures child { IfSome result (IsSeatOf self.now) }
-        ensures child_history { IfSome result (SeesHistory O.state O.definition self.now) }
+        ensures child_history { IfSome result (SeesHistory O.definition self.now) }
         ensures given { IfSome result (λ child.
-            GivesSeat (limit_of self.now) place.old.me.0 place.new.me.0 (view_of child)) }
+            GivesSeat (limit_of self.now) stepper.old.me.0 stepper.new.me.0 (view_of child)) }
         ensures refused { IfNone result
-            (place.new.me.0 ≡ record place.old.me.0 { given = limit_of self.now }) }
+            (RefusesSeat (limit_of self.now) stepper.old.me.0 stepper.new.me.0) }
     {
-        self.take(rt, place);
-        let child = self.next_seat(place);
-        self.give::<Brand>(place);
+        self.take(rt, stepper);
+        let child = self.next_seat(stepper);
+        self.give::<Brand>(stepper);
         child
     }
 
-    // Divides the seat that holds the lock, where another one may be given.
-    fn next_seat(&self, place: &mut Place<O>) -> Option<LockSeat<O>>
-        requires place { IsPlaceOf self.now place.old }
-        requires holding { IsHolding place.old.me }
-        ensures place { IsSamePlace place.old place.new }
-        ensures given { HasGiven place.old.me place.new.me }
-        ensures child { IfSome result (IsChild self.now place.old.me.0 place.new.me.0) }
-        ensures full { IfNone result (limit_of self.now ≤ place.old.me.0.given) }
-        ensures refused { IfNone result (place.new.me.0 ≡ place.old.me.0) }
+    // Divides the seat that is inside, where another one may be given.
+    fn next_seat(&self, stepper: &mut Stepper<O>) -> Option<LockSeat<O>>
+        requires stepper { IsStepperOf self.now stepper.old }
+        requires inside { IsInsideWith stepper.old.me }
+        requires own { HasOwn stepper.old.me.0 }
+        ensures stepper { IsSameStepper stepper.old stepper.new }
+        ensures object { KeepsObject stepper.old.me stepper.new.me }
+        ensures child { IfSome result
+            (IsChild self.now stepper.old.me.0 stepper.new.me.0) }
+        ensures full { IfNone result (limit_of self.now ≤ stepper.old.me.0.given) }
+        ensures refused { IfNone result (stepper.new.me.0 ≡ stepper.old.me.0) }
     {
-        let Held { object, next } = self.take_out(place);
+        let Guarded { object, next } = self.take_out(stepper);
         if next >= self.limit {
-            self.put_back(place, Held { object, next });
+            self.put_back(stepper, Guarded { object, next });
             return None;
         }
-        let child = self.divide(place);
+        let child = self.divide(stepper);
         self.put_back(
-            place,
-            Held {
+            stepper,
+            Guarded {
                 object,
                 next: next + 1,
             },
@@ -101,17 +110,17 @@ impl<O: Object> Locked<O> {
         requires second { IsSeatOf self.now second }
         ensures seat { IsSeatOf self.now result }
         ensures joined { Joins first second result }
-        ensures history { SeesHistory O.state O.definition self.now result }
+        ensures history { SeesHistory O.definition self.now result }
     {
         let LockSeat { badge, number } = first;
         let LockSeat {
             badge: other,
             number: _,
         } = second;
-        let mut place = badge.into_seat();
-        self.merge(&mut place, other.into_seat());
+        let mut stepper = badge.into_seat();
+        self.merge(&mut stepper, other.into_seat());
         LockSeat {
-            badge: place.into_badge(),
+            badge: stepper.into_badge(),
             number,
         }
     }

@@ -1,20 +1,20 @@
-//! The seven kinds of step on a lock's word and slot, a function each.
+//! The kinds of step on a lock's word and slot, a function each.
 //! Before this: `waiters`. After it: `waiting`. All orderings are the table's.
 //! Above each step stand the seat before and after it, and why the rule stays.
-ghost use Rattle.std.specs.Prelude.{◌≡◌, ◌+◌, ◌<◌, [], ◌∷◌, None, Some};
+ghost use Rattle.std.specs.Prelude.{◌≡◌, ◌<◌, [], ◌∷◌, None, Some};
 ghost use Rattle.std.specs.Bool.{OnTrue, OnFalse};
-ghost use Rattle.atomic_table.specs.Table.{rest};
-ghost use Rattle.kernel_lock.specs.declared.view.Stage.TheVariants.{Free, Holding};
-ghost use Rattle.kernel_lock.specs.Places.{IsPlaceOf, IsFreePlaceOf, IsSamePlace};
-ghost use Rattle.kernel_lock.specs.Seats.{limit_of, opening_of};
-ghost use Rattle.kernel_lock.specs.Steps.{TakesLock, IsDue, HasReleased, HasMerged, HasOnly};
-ghost use Rattle.kernel_lock.specs.View.{parent_view, child_view};
+ghost use Rattle.kernel_lock.specs.declared.view.Stage.TheVariants.{Inside};
+ghost use Rattle.kernel_lock.specs.Seats.{limit_of};
+ghost use Rattle.kernel_lock.specs.Steppers.{IsStepperOf, IsOutside, IsSameStepper};
+ghost use Rattle.kernel_lock.specs.Steps.{TakesLock, HasDivided, HasHanded, IsDue, HasReleased};
+ghost use Rattle.kernel_lock.specs.Steps.{HasMerged, HasOnly};
+ghost use Rattle.kernel_lock.specs.View.{HasOwn, HasSecond};
 
 use crate::locked::Locked;
 use crate::object::Object;
-use crate::plays::{Acquire, Divide, Look, Made, Merge, Release, Settle};
-use crate::rule::Place;
-use crate::view::Held;
+use crate::plays::{Acquire, Divide, Hand, Made, Merge, Release, Settle, Watch};
+use crate::rule::Stepper;
+use crate::view::Guarded;
 
 const WORD: usize = 0;
 
@@ -27,53 +27,53 @@ const TAKEN: u64 = 1;
 impl<O: Object> Locked<O> {
     /// Takes the lock where it is free, and says whether it was.
     // Step Acquire: compare_exchange of the word from 0 to 1. The slot is then the seat's.
-    // Seat: Free, then Holding the history; as it was where the word was not 0.
-    // Keeps the rule: where the word is 0 no seat holds the lock.
-    pub(crate) fn acquire(&self, place: &mut Place<O>) -> bool
-        requires place { IsPlaceOf self.now place.old }
-        ensures place { IsSamePlace place.old place.new }
-        ensures free { OnTrue result (TakesLock O.state O.definition place.old.me place.new.me) }
-        ensures taken { OnFalse result (place.new.me ≡ place.old.me) }
+    // Seat: Outside, then Inside with the history; as it was where the word was not 0.
+    // Keeps the rule: where the word is 0 no seat is inside.
+    pub(crate) fn acquire(&self, stepper: &mut Stepper<O>) -> bool
+        requires { IsStepperOf self.now stepper.old }
+        ensures stepper { IsSameStepper stepper.old stepper.new }
+        ensures free { OnTrue result (TakesLock O.definition stepper.old.me stepper.new.me) }
+        ensures taken { OnFalse result (stepper.new.me ≡ stepper.old.me) }
     {
         let words = &self.table.shared;
-        let found = words.compare_exchange::<Acquire<O>>(place, WORD, FREE, TAKEN);
+        let found = words.compare_exchange::<Acquire<O>>(stepper, WORD, FREE, TAKEN);
         found == FREE
     }
 
     /// Says whether the lock is free.
-    // Step Look: load of the word. Seat: as it was. Keeps the rule: nothing changes.
-    pub(crate) fn look(&self, place: &mut Place<O>) -> bool
-        requires place { IsPlaceOf self.now place.old }
-        ensures place { IsSamePlace place.old place.new }
-        ensures same { place.new.me ≡ place.old.me }
+    // Step Watch: load of the word. Seat: as it was. Keeps the rule: nothing changes.
+    pub(crate) fn watch(&self, stepper: &mut Stepper<O>) -> bool
+        requires { IsStepperOf self.now stepper.old }
+        ensures stepper { IsSameStepper stepper.old stepper.new }
+        ensures same { stepper.new.me ≡ stepper.old.me }
     {
-        let found = self.table.shared.load::<Look>(place, WORD);
+        let found = self.table.shared.load::<Watch>(stepper, WORD);
         found == FREE
     }
 
     /// Takes the object out of the slot.
     // Step TakeOut: exchange of the slot, which is the seat's, as plain memory. Seat: as it was.
     // Keeps the rule: it speaks of the object only where it is at home.
-    pub(crate) fn take_out(&self, place: &mut Place<O>) -> Held<O>
-        requires place { IsPlaceOf self.now place.old }
-        requires full { HasOnly place.old.me }
-        ensures place { IsSamePlace place.old place.new }
-        ensures value { place.old.me.1 ≡ (0, Some result) ∷ [] }
-        ensures seat { place.new.me ≡ (place.old.me.0, (0, None) ∷ []) }
+    pub(crate) fn take_out(&self, stepper: &mut Stepper<O>) -> Guarded<O>
+        requires stepper { IsStepperOf self.now stepper.old }
+        requires full { HasOnly stepper.old.me }
+        ensures stepper { IsSameStepper stepper.old stepper.new }
+        ensures value { stepper.old.me.1 ≡ (0, Some result) ∷ [] }
+        ensures seat { stepper.new.me ≡ (stepper.old.me.0, (0, None) ∷ []) }
     {
-        self.table.shared.exchange(place, SLOT, None).unwrap()
+        self.table.shared.exchange(stepper, SLOT, None).unwrap()
     }
 
     /// Puts the object back into the slot.
     // Step PutBack: exchange of the slot, which is the seat's, as plain memory. Seat: as it was.
     // Keeps the rule: it speaks of the object only where it is at home.
-    pub(crate) fn put_back(&self, place: &mut Place<O>, held: Held<O>)
-        requires place { IsPlaceOf self.now place.old }
-        requires empty { place.old.me.1 ≡ (0, None) ∷ [] }
-        ensures place { IsSamePlace place.old place.new }
-        ensures seat { place.new.me ≡ (place.old.me.0, (0, Some held) ∷ []) }
+    pub(crate) fn put_back(&self, stepper: &mut Stepper<O>, guarded: Guarded<O>)
+        requires stepper { IsStepperOf self.now stepper.old }
+        requires empty { stepper.old.me.1 ≡ (0, None) ∷ [] }
+        ensures stepper { IsSameStepper stepper.old stepper.new }
+        ensures seat { stepper.new.me ≡ (stepper.old.me.0, (0, Some guarded) ∷ []) }
     {
-        match self.table.shared.exchange(place, SLOT, Some(held)) {
+        match self.table.shared.exchange(stepper, SLOT, Some(guarded)) {
             None => {}
             Some(_) => unreachable!(),
         }
@@ -81,50 +81,69 @@ impl<O: Object> Locked<O> {
 
     /// Gives the lock back.
     // Step Release: store of 0 to the word. The slot is at home again.
-    // Seat: Holding, then Free; where it made a call, it has seen the history with that call.
-    // Keeps the rule: the object is what the history and that call give,
-    // and no other seat held the lock.
-    pub(crate) fn release<M: Made<O::Call, O::Reply>>(&self, place: &mut Place<O>)
-        requires place { IsPlaceOf self.now place.old }
-        requires due { IsDue O.state O.definition self.now.table.shared.key M.calls place.old.me }
-        ensures place { IsSamePlace place.old place.new }
-        ensures released { HasReleased M.calls place.old.me place.new.me }
+    // Seat: Inside, then Outside; where a request was served, it has seen the history with that.
+    // Keeps the rule: the object is what the history and that request leave,
+    // and no other seat was inside.
+    pub(crate) fn release<M: Made<O::Request, O::Reply>>(&self, stepper: &mut Stepper<O>)
+        requires stepper { IsStepperOf self.now stepper.old }
+        requires due { IsDue O.definition self.now.table.shared.key M.served stepper.old.me }
+        ensures stepper { IsSameStepper stepper.old stepper.new }
+        ensures released { HasReleased M.served stepper.old.me stepper.new.me }
     {
-        self.table.shared.store::<Release<M>>(place, WORD, FREE);
+        self.table.shared.store::<Release<M>>(stepper, WORD, FREE);
     }
 
     /// Gives a seat with the next number.
-    // Step Divide: split of a seat that holds the lock, a load of the word.
-    // Seat: Holding, with one seat more given. The new seat is Free, with that number and no call.
-    // Keeps the rule: the number is the next one, which no seat has,
-    // and the history has no entry by it.
-    pub(crate) fn divide(&self, place: &mut Place<O>) -> Place<O>
-        requires place { IsPlaceOf self.now place.old }
-        requires holding { (history : _) × (place.old.me.0.stage ≡ Holding history) }
-        requires room { place.old.me.0.given < limit_of self.now }
-        ensures place { IsSamePlace place.old place.new }
-        ensures parent { place.new.me ≡ (parent_view place.old.me.0, place.old.me.1) }
-        ensures child { result.me ≡ (child_view place.old.me.0, []) }
-        ensures table { result.table_id ≡ place.old.table_id }
+    // Step Divide: split of a seat that is inside, a load of the word.
+    // Seat: Inside, and it gave the next number. The new seat is Outside, with that number.
+    // Keeps the rule: the number is the next one, which no seat has, its parent tells of it,
+    // and the history has no request by it.
+    pub(crate) fn divide(&self, stepper: &mut Stepper<O>) -> Stepper<O>
+        requires stepper { IsStepperOf self.now stepper.old }
+        requires inside { (history : _) × (stepper.old.me.0.stage ≡ Inside history) }
+        requires room { stepper.old.me.0.given < limit_of self.now }
+        requires own { HasOwn stepper.old.me.0 }
+        ensures stepper { IsSameStepper stepper.old stepper.new }
+        ensures divided { HasDivided stepper.old.me stepper.new.me result.me }
+        ensures table { result.table_id ≡ stepper.old.table_id }
     {
-        self.table.shared.split_seat::<Divide>(place)
+        self.table.shared.split_seat::<Divide>(stepper)
+    }
+
+    /// Gives a seat with the second of this one's numbers.
+    // Step Hand: split of a seat that has several numbers, a load of the word.
+    // Seat: Outside, with one number fewer. The new seat is Outside, with that number.
+    // Keeps the rule: the number has one seat before and after, and what it gave,
+    // a lower number of the first seat tells.
+    pub(crate) fn hand(&self, stepper: &mut Stepper<O>) -> Stepper<O>
+        requires stepper { IsStepperOf self.now stepper.old }
+        requires outside { IsOutside stepper.old }
+        requires second { HasSecond stepper.old.me.0 }
+        ensures stepper { IsSameStepper stepper.old stepper.new }
+        ensures handed { HasHanded stepper.old.me stepper.new.me result.me }
+        ensures table { result.table_id ≡ stepper.old.table_id }
+    {
+        self.table.shared.split_seat::<Hand>(stepper)
     }
 
     /// Makes one seat of two.
-    // Step Merge: join of two seats, and a load of the word.
-    // Seat: Free, with the numbers of both and the longer of what they had seen.
-    // The other is spent.
-    // Keeps the rule: both had seen a beginning of one history, so the shorter begins the longer.
-    pub(crate) fn merge(&self, place: &mut Place<O>, other: Place<O>)
-        requires place { IsFreePlaceOf self.now place.old }
-        requires other { IsFreePlaceOf self.now other }
-        ensures place { IsSamePlace place.old place.new }
-        ensures merged { HasMerged O.state O.definition self.now.table.shared.key
-            place.old.me.0 other.me.0 place.new.me.0 }
-        ensures no_slot { place.new.me.1 ≡ [] }
+    // Step Merge: join of two seats, a load of the word. Seat: Joining, with the numbers of both
+    // and the longer of what they had seen. The other is spent.
+    // Keeps the rule: both had seen a past of one history, so the shorter is a past of the longer.
+    // Step Settle: load of the word. Seat: Outside, and it knows how the two compare.
+    // Keeps the rule: nothing changes.
+    pub(crate) fn merge(&self, stepper: &mut Stepper<O>, other: Stepper<O>)
+        requires stepper { IsStepperOf self.now stepper.old }
+        requires outside { IsOutside stepper.old }
+        requires other { IsStepperOf self.now other }
+        requires other_outside { IsOutside other }
+        ensures stepper { IsSameStepper stepper.old stepper.new }
+        ensures merged { HasMerged O.definition self.now.table.shared.key
+            stepper.old.me.0 other.me.0 stepper.new.me.0 }
+        ensures no_slot { stepper.new.me.1 ≡ [] }
     {
         let words = &self.table.shared;
-        words.join_seat::<Merge>(place, other);
-        words.load::<Settle<O>>(place, WORD);
+        words.join_seat::<Merge>(stepper, other);
+        words.load::<Settle<O>>(stepper, WORD);
     }
 }

@@ -1,32 +1,26 @@
 //! What a seat knows, and what lies in the slot of the lock.
 //! Before this: `object`. After it: `rule`, what holds of all seats together.
-//! No value of an entry, a share, a stage or a view is ever made: contracts alone see them,
+//! No value of a served request, a stage or a view is ever made: contracts alone see them,
 //! and they take no memory.
+use histories::Account;
 use std::collections::LinkedList;
 use std::snapshot::Snapshot;
 
-/// One call in the history of an object.
-pub struct Entry<C, R> {
-    /// The number of the seat that made the call.
+/// One request in the history of an object.
+pub struct Served<Q, R> {
+    /// The number of the seat that made the request.
     pub by: u64,
-    pub call: C,
+    pub request: Q,
     pub reply: R,
 }
 
-/// A number of a seat.
-pub struct Share<C, R> {
-    pub number: u64,
-    /// The entries by this number, in order.
-    pub mine: LinkedList<Entry<C, R>>,
-}
-
 /// Where a seat stands between two steps.
-pub enum Stage<C, R> {
-    Free,
-    /// It holds the lock, and this is the history.
-    Holding(LinkedList<Entry<C, R>>),
+pub enum Stage<Q, R> {
+    Outside,
+    /// It has taken the lock, and this is the history.
+    Inside(LinkedList<Served<Q, R>>),
     /// It was joined with a seat that had seen this.
-    Merging(LinkedList<Entry<C, R>>),
+    Joining(LinkedList<Served<Q, R>>),
 }
 
 /// What is fixed when a lock is made.
@@ -35,26 +29,24 @@ pub struct Key<O> {
     pub opening: Snapshot<O>,
     /// How many seats the lock may give.
     pub limit: u64,
+    /// How many of them, beside the first, are given when it is made.
+    pub more: u64,
 }
 
 /// What a seat knows.
-pub struct View<O, C, R> {
+pub struct View<O, Q, R> {
     /// The key of its lock, or `None` where it was spent in a join.
     pub key: Option<Key<O>>,
-    /// Its own number, under which it makes the calls that name no seat.
-    pub number: u64,
-    /// All its numbers.
-    pub shares: LinkedList<Share<C, R>>,
-    /// The history as far as it has seen it.
-    pub seen: LinkedList<Entry<C, R>>,
-    /// How many seats had been given when it last held the lock.
+    /// Its numbers with their requests, what it has seen, and the numbers that it gave.
+    pub account: Account<Served<Q, R>>,
+    /// How many seats it knows to have been given: the numbers below this one.
     pub given: u64,
-    pub stage: Stage<C, R>,
+    pub stage: Stage<Q, R>,
 }
 
-/// What the slot holds.
+/// What the lock guards: it lies in the slot.
 #[derive(Drop)]
-pub struct Held<O> {
+pub struct Guarded<O> {
     pub object: O,
     /// The number of the next seat.
     pub next: u64,

@@ -1,6 +1,11 @@
 //! Who waits for a lock. Before this: `locked`. After it: `steps`.
-//! It is no word of the table and no clause speaks of it: it keeps those who wait from
+//! The mark is no word of the table and no clause speaks of it: it keeps those who wait from
 //! burning the processor, and those who release from calling the system where nobody sleeps.
+ghost use Rattle.std.specs.Prelude.{◌≡◌};
+ghost use Rattle.kernel_lock.specs.declared.view.Stage.TheVariants.{Outside};
+
+use crate::object::Object;
+use crate::rule::Stepper;
 use std::sync::Wait;
 use std::sync::atomic::AtomicU64;
 use std::sync::atomic::Ordering::SeqCst;
@@ -34,8 +39,12 @@ impl Waiters {
     }
 
     /// Wakes one thread, if any has announced itself. Otherwise it is a load, and calls no system.
+    /// Who calls it has given the lock back: a thread that is woken before may find it taken
+    /// and sleep again, and nobody would wake it then.
     // The one that is woken announces itself again with the lock, and so wakes the next.
-    pub(crate) fn wake(&self) {
+    pub(crate) fn wake<O: Object>(&self, _outside: &Stepper<O>)
+        requires { _outside.now.me.0.stage ≡ Outside }
+    {
         let mark = self.mark.load(SeqCst);
         if mark & 1 == 1 {
             let next = mark.wrapping_add(1);

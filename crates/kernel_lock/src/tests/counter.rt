@@ -10,15 +10,14 @@ pub struct Counter {
 }
 
 impl Object for Counter {
-    type Call = u64;
+    type Request = u64;
 
     type Reply = u64;
 
     ghost State = { ℕ };
 
-    ghost state = { λ counter. counter.sum };
-
     ghost definition = { record {
+      state = λ counter. counter.sum;
       answer = λ sum amount. (sum + amount) % 2 ^ 64;
       after = λ sum amount. (sum + amount) % 2 ^ 64;
       named = λ amount. None;

@@ -20,15 +20,14 @@ pub struct Put {
 impl Object for Shelf {
     ghost use Rattle.kernel_lock.specs.declared.tests.shelf.Put.{Put};
 
-    type Call = Put;
+    type Request = Put;
 
     type Reply = Vec<u8>;
 
     ghost State = { Vec ℕ Global };
 
-    ghost state = { λ shelf. shelf.block };
-
     ghost definition = { record {
+      state = λ shelf. shelf.block;
       answer = λ block put. block;
       after = λ block put. put.block;
       named = λ put. Some put.seat;

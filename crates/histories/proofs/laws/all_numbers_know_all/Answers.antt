@@ -3,11 +3,13 @@ use Rattle.histories.proofs.laws.all_numbers_know_all.Goals as goal
 
 pub returns-clause-every : goal.returns-clause-every
 returns-clause-every g c = λ by ledger accounts seat account is number below.
-    has_every_number by (λ its. its) ledger accounts is.seats seat account is.there is.all number below
+    has_every_number by (λ its.
+    its) ledger accounts is.seats seat account is.there is.all number below
 
 pub returns-clause-alone : goal.returns-clause-alone
 returns-clause-alone g c = λ by ledger accounts seat account is place other apart there.
-    no_other_has_one by (λ its. its) ledger accounts is.seats seat account is.there is.all place other
+    no_other_has_one by (λ its.
+    its) ledger accounts is.seats seat account is.there is.all place other
     apart there
 
 pub returns-clause-whole : goal.returns-clause-whole

@@ -2,4 +2,5 @@ use Rattle.histories.proofs.ListLemmas.{past_shorter}
 use Rattle.histories.proofs.laws.pasts_are_in_line.Goals as goal
 
 pub returns : goal.returns
-returns g c = λ first second history one two shorter. past_shorter first second history one two shorter
+returns g c = λ first second history one two shorter.
+    past_shorter first second history one two shorter

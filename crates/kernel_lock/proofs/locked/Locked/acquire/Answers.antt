@@ -3,4 +3,5 @@ use Rattle.kernel_lock.proofs.AcquireKeeps.{acquire_keeps}
 use Rattle.kernel_lock.proofs.locked.Locked.acquire.Goals as goal
 
 pub compare_exchange-found-requires : goal.compare_exchange-found-requires
-compare_exchange-found-requires g c = (search rules, search rules, acquire_keeps g.O.Object.state g.O.Object.definition _ _ _ _ c.requires.place.key)
+compare_exchange-found-requires g c =
+    (search rules, search rules, acquire_keeps g.O.Object.definition _ _ _ _ c.requires.key)

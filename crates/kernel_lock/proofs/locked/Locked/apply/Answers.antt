@@ -1,12 +1,14 @@
 use Rattle.std.proofs.Common.{ap, ◌∙◌}
-use Rattle.kernel_lock.proofs.ApplyLemmas.{keeps_numbers}
 use Rattle.kernel_lock.proofs.SeatLemmas.{sits_again}
+use Rattle.kernel_lock.proofs.ServeLemmas.{keeps_numbers}
 use Rattle.kernel_lock.proofs.locked.Locked.apply.Goals as goal
 
 pub returns-clause-seat : goal.returns-clause-seat
 returns-clause-seat g c =
-    let called = c.call-reply.ensures in
+    let served = c.serve-reply.ensures in
     let sat = c.sit.ensures in
-    sits_again c.args.self.now c.args.seat.now c.sit.new.self _ c.call-reply.new.place c.requires.seat (ap (λ me. me.0) c.stand-place.ensures.place) called.place called.call.number
-    (keeps_numbers _ _ _ called.call c.args.seat.now.number)
-    sat.table sat.views (sat.number ∙ c.stand-place.ensures.number)
+    sits_again c.args.self.now c.args.seat.now c.sit.new.self _ c.serve-reply.new.stepper
+    c.requires.seat (ap (λ me. me.0) c.stand-stepper.ensures.stepper) served.stepper served.outside
+    (ap (λ account. account.number) served.served.account.new_is)
+    (keeps_numbers _ _ _ served.served c.args.seat.now.number)
+    sat.table sat.views (sat.number ∙ c.stand-stepper.ensures.number)

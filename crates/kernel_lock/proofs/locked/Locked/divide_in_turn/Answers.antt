@@ -1,43 +1,56 @@
-use Rattle.std.proofs.Common.{sym, ap, subst, ◌∙◌}
-use Rattle.kernel_lock.specs.View.{KnowsHistory}
-use Rattle.kernel_lock.proofs.DivideLemmas.{takes_hold, split_is_due, divided, knows_still, gives_child, gives_history, gives_seat, gives_none}
+use Rattle.std.proofs.Common.{subst, sym, ◌∙◌}
+use Rattle.kernel_lock.specs.View.{HasOwn}
+use Rattle.kernel_lock.proofs.SplitLemmas.{is_inside, stays, split_is_due, no_slot, final_key}
+use Rattle.kernel_lock.proofs.SplitLemmas.{final_stage, gives_knows, gives_child, gives_seat}
+use Rattle.kernel_lock.proofs.SplitLemmas.{gives_history, gives_none}
 use Rattle.kernel_lock.proofs.locked.Locked.divide_in_turn.Goals as goal
 
-pub next_seat-child-requires-clause-holding : goal.next_seat-child-requires-clause-holding
-next_seat-child-requires-clause-holding g c = takes_hold g.O.Object.state g.O.Object.definition _ _ c.requires.no_slot c.take.ensures.taken
+pub next_seat-child-requires-clause-inside : goal.next_seat-child-requires-clause-inside
+next_seat-child-requires-clause-inside g c =
+    is_inside g.O.Object.definition _ _ c.requires.outside.no_slot c.take.ensures.taken
+
+pub next_seat-child-requires-clause-own : goal.next_seat-child-requires-clause-own
+next_seat-child-requires-clause-own g c =
+    subst HasOwn (sym c.take.ensures.taken.view_is) c.requires.own
 
 pub give-requires-clause-due : goal.give-requires-clause-due
 give-requires-clause-due g c =
-    split_is_due g.O.Object.state g.O.Object.definition _ _ _ _ c.requires.key c.requires.stage c.requires.no_slot c.take.ensures.taken c.next_seat-child.ensures.given
+    let next = c.next_seat-child.ensures in
+    let stay = stays g.O.Object.definition c.args.self.now _ _ _ c.requires.stepper.key
+    c.requires.outside.stage c.requires.outside.no_slot c.take.ensures.taken next.object
+    c.next_seat-child.result next.child next.refused in
+    split_is_due g.O.Object.definition c.args.self.now _ _ _ c.requires.stepper.key
+    c.requires.outside.stage c.requires.outside.no_slot c.take.ensures.taken next.object
+    c.next_seat-child.result stay
 
-pub returns-clause-place : goal.returns-clause-place
-returns-clause-place g c =
-    let after = divided g.O.Object.state g.O.Object.definition _ _ _ _ c.requires.key c.requires.stage c.requires.no_slot c.take.ensures.taken c.next_seat-child.ensures.given _ c.give.ensures.released in
+pub returns : goal.returns
+returns g c =
+    let next = c.next_seat-child.ensures in
+    let d = g.O.Object.definition in
+    let lock = c.args.self.now in
+    let key = c.requires.stepper.key in
+    let stage = c.requires.outside.stage in
+    let none = c.requires.outside.no_slot in
+    let taken = c.take.ensures.taken in
+    let o = c.next_seat-child.result in
+    let released = c.give.ensures.released in
+    let stay = stays d lock _ _ _ key stage none taken next.object o next.child next.refused in
     record {
-      table = c.give.ensures.place.table ∙ c.next_seat-child.ensures.place.table ∙ c.take.ensures.place.table ∙ c.requires.table;
-      key = ap (λ view. view.key) after.0 ∙ c.requires.key;
-      stage = ap (λ view. view.stage) after.0 ∙ c.requires.stage;
-      no_slot = after.1;
+      stepper = record {
+        table = c.give.ensures.stepper.table
+            ∙ next.stepper.table
+            ∙ c.take.ensures.stepper.table
+            ∙ c.requires.stepper.table;
+        key = final_key d lock _ _ _ key stage none taken next.object _ released o stay;
+      };
+      outside = record {
+        stage = final_stage d lock _ _ _ key stage none taken next.object _ released o stay;
+        no_slot = no_slot d lock _ _ _ key stage none taken next.object _ released;
+      };
+      history = gives_knows d lock _ _ _ key stage none taken next.object _ released o stay;
+      child = gives_child d lock _ _ _ key stage none taken next.object _ released o stay;
+      child_history = gives_history d lock _ _ _ key stage none taken next.object _ released o stay;
+      given = gives_seat d lock _ _ _ key stage none taken next.object _ released o stay;
+      refused = gives_none d lock _ _ _ key stage none taken next.object _ released o stay
+          next.full;
     }
-
-pub returns-clause-child : goal.returns-clause-child
-returns-clause-child g c =
-    gives_child g.O.Object.state g.O.Object.definition c.args.self.now _ _ _ _ c.requires.key c.requires.stage c.requires.no_slot c.take.ensures.taken c.next_seat-child.ensures.given c.give.ensures.released _ c.next_seat-child.ensures.child
-
-pub returns-clause-child_history : goal.returns-clause-child_history
-returns-clause-child_history g c =
-    gives_history g.O.Object.state g.O.Object.definition c.args.self.now _ _ _ _ c.requires.key c.requires.stage c.requires.no_slot c.take.ensures.taken c.next_seat-child.ensures.given c.give.ensures.released _ c.next_seat-child.ensures.child
-
-pub returns-clause-given : goal.returns-clause-given
-returns-clause-given g c =
-    gives_seat g.O.Object.state g.O.Object.definition c.args.self.now _ _ _ _ c.requires.key c.requires.stage c.requires.no_slot c.take.ensures.taken c.next_seat-child.ensures.given c.give.ensures.released _ c.next_seat-child.ensures.child
-
-pub returns-clause-refused : goal.returns-clause-refused
-returns-clause-refused g c =
-    gives_none g.O.Object.state g.O.Object.definition c.args.self.now _ _ _ _ c.requires.key c.requires.stage c.requires.no_slot c.take.ensures.taken c.next_seat-child.ensures.given c.give.ensures.released _ c.next_seat-child.ensures.full c.next_seat-child.ensures.refused
-
-pub returns-clause-history : goal.returns-clause-history
-returns-clause-history g c =
-    let after = divided g.O.Object.state g.O.Object.definition _ _ _ _ c.requires.key c.requires.stage c.requires.no_slot c.take.ensures.taken c.next_seat-child.ensures.given _ c.give.ensures.released in
-    subst (KnowsHistory g.O.Object.definition _ _) (sym after.0)
-    (knows_still g.O.Object.state g.O.Object.definition _ _ _ _ c.requires.key c.requires.stage c.requires.no_slot c.take.ensures.taken c.next_seat-child.ensures.given)

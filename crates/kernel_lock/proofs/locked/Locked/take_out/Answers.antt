@@ -4,5 +4,10 @@ use Rattle.kernel_lock.proofs.locked.Locked.take_out.Goals as goal
 
 pub exchange-requires : goal.exchange-requires
 exchange-requires g c =
-    let full = c.requires.full in
-    (c.requires.place.table, (Some full.held, full.slots_are ∙ ap (λ slots. (0, Some full.held) ∷ rest slots) (sym full.slots_are)))
+    let full = c.requires.full in (
+      c.requires.stepper.table,
+      (
+        Some full.guarded,
+        full.slots_are ∙ ap (λ slots. (0, Some full.guarded) ∷ rest slots) (sym full.slots_are),
+      ),
+    )

@@ -1,0 +1,19 @@
+use Rattle.std.proofs.Common.{◌≡◌, List, Option, Some, None, ap, refl, ◌∙◌}
+use Rattle.kernel_lock.specs.declared.view.Served.{Served}
+use Rattle.kernel_lock.specs.declared.view.Stage.TheVariants.{Outside}
+use Rattle.kernel_lock.specs.declared.view.View.{View}
+use Rattle.kernel_lock.specs.View.{outside_view}
+use Rattle.kernel_lock.proofs.locked.Locked.give.Goals as goal
+
+-- a seat that has given the lock back is outside, whether a request was served or not
+released_is_outside : {Object Request Reply : Type 0} (history : List (Served Request Reply))
+    (served : Option (Served Request Reply)) (view : View Object Request Reply) →
+    (outside_view history served view).stage ≡ Outside
+released_is_outside history None view = refl
+released_is_outside history (Some served) view = refl
+
+pub wake-requires : goal.wake-requires
+wake-requires g c =
+    ap (λ view. view.stage)
+    (c.release.ensures.released.view_is c.requires.due.history c.requires.due.stage_is)
+    ∙ released_is_outside _ _ _

@@ -1,0 +1,7 @@
+use Rattle.std.proofs.Common.{vec_capacity}
+use Rattle.kernel_lock.proofs.HandOutLemmas.{HandsOut}
+use Rattle.kernel_lock.proofs.locked.Locked.hand_out.Given as goal
+
+abbrev pub invariant-loop-number : goal.invariant-loop-number
+invariant-loop-number g l =
+    HandsOut l.self l.number l.stepper l.others.items (vec_capacity l.others)

@@ -1,0 +1,5 @@
+use Rattle.kernel_lock.specs.Seats.{IsSeatOf}
+use Rattle.kernel_lock.proofs.tests.contend.Given as goal
+
+abbrev pub invariant-loop : goal.invariant-loop
+invariant-loop g l = IsSeatOf l.lock l.seat
