@@ -12,3 +12,4 @@ pub mod OpeningKeeps
 pub mod OpeningLemmas
 pub mod GatherKeeps
 pub mod GatherLemmas
+pub mod WorkedQueue

@@ -56,3 +56,9 @@ after_reply kept call answer = kept
 
 abbrev pub kept_after : Kept → QueueCall → Kept
 kept_after kept call = after_reply kept call (reply_to kept call)
+
+-- the seat that a call names: a put by its writer, a take by the reader; anybody may hang up
+abbrev pub named_by : QueueCall → Option ℕ
+named_by (Put writer block) = if nat_lt writer 18446744073709551615 then Some (writer + 1) else None
+named_by Take = Some 0
+named_by Hang = None

@@ -3,9 +3,10 @@
 ghost use Rattle.std.specs.Prelude.{◌≡◌, ◌<◌, ◌≤◌, length, IfOk, IfErr};
 ghost use Rattle.sync_base.specs.declared.limits.TheConstants.{LAST_WRITE, MAX_PIPE_LIMIT};
 ghost use Rattle.block_queue.specs.QueueObject.{Kept, new_kept, put_reply, take_reply};
-ghost use Rattle.block_queue.specs.QueueObject.{reply_to, after_reply, kept_after};
+ghost use Rattle.block_queue.specs.QueueObject.{after_reply};
 ghost use Rattle.block_queue.specs.declared.queue_object.QueueCall.TheVariants.{Put, Take};
 
+use kernel_lock::Object;
 use std::alloc::Global;
 use std::collections::VecDeque;
 use std::marker::Model;
@@ -113,27 +114,6 @@ impl QueueObject {
         })
     }
 
-    /// Answers the call: the first reply that may be given. It takes no memory.
-    pub fn run(&mut self, call: QueueCall) -> QueueReply
-        ensures reply { result ≡ reply_to self.old call }
-        ensures after { self.new ≡ kept_after self.old call }
-    {
-        match call {
-            QueueCall::Put(writer, block) => {
-                if writer < MAX_WRITERS {
-                    self.put(writer, block)
-                } else {
-                    QueueReply::Busy(block)
-                }
-            }
-            QueueCall::Take => self.take(),
-            QueueCall::Hang => {
-                self.hung = true;
-                QueueReply::Hung
-            }
-        }
-    }
-
     // Puts the block behind the others, where it may.
     fn put(&mut self, writer: u64, block: Piece) -> QueueReply
         ensures reply { result ≡ put_reply self.old block }
@@ -170,6 +150,51 @@ impl QueueObject {
                 } else {
                     QueueReply::NotYet(self.taken_out)
                 }
+            }
+        }
+    }
+}
+
+impl Object for QueueObject {
+    ghost use Rattle.std.specs.Prelude.{ℕ};
+    ghost use Rattle.block_queue.specs.QueueObject.{Kept, reply_to, kept_after, named_by};
+
+    type Request = QueueCall;
+
+    type Reply = QueueReply;
+
+    ghost State = { Kept };
+
+    ghost definition = { record {
+      state = λ queue. queue;
+      answer = reply_to;
+      after = kept_after;
+      named = named_by;
+    } };
+
+    /// The reader is seat 0, and writer w is seat w + 1.
+    fn caller(call: &QueueCall) -> Option<u64> {
+        match call {
+            QueueCall::Put(writer, _) => writer.checked_add(1),
+            QueueCall::Take => Some(0),
+            QueueCall::Hang => None,
+        }
+    }
+
+    /// Answers the call: the first reply that may be given. It takes no memory.
+    fn run(&mut self, call: QueueCall) -> QueueReply {
+        match call {
+            QueueCall::Put(writer, block) => {
+                if writer < MAX_WRITERS {
+                    self.put(writer, block)
+                } else {
+                    QueueReply::Busy(block)
+                }
+            }
+            QueueCall::Take => self.take(),
+            QueueCall::Hang => {
+                self.hung = true;
+                QueueReply::Hung
             }
         }
     }
