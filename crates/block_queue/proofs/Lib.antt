@@ -1,0 +1,15 @@
+pub mod StateLemmas
+pub mod PlaceLemmas
+pub mod WordMoves
+pub mod ViewMoves
+pub mod RuleMoves
+pub mod StepLemmas
+pub mod PutKeeps
+pub mod TakeKeeps
+pub mod SeatLemmas
+pub mod HandKeeps
+pub mod OpeningKeeps
+pub mod OpeningLemmas
+pub mod GatherKeeps
+pub mod GatherLemmas
+pub mod WorkedQueue

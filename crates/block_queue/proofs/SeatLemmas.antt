@@ -1,0 +1,97 @@
+-- A seat between its steps: it has its number still, and is free again after an entry.
+use Rattle.std.proofs.Common.{◌≡◌, ℕ, ◌+◌, ◌<◌, true, [], ◌∷◌, sym, ap, subst, ◌∙◌}
+use Rattle.histories.specs.declared.account.Account.{Account}
+use Rattle.histories.specs.Account.{has_number}
+use Rattle.histories.proofs.AccountLemmas.{has_number-share_after}
+use Rattle.block_queue.specs.declared.entry.Entry.{Entry}
+use Rattle.block_queue.specs.declared.queue.Queue.{Queue}
+use Rattle.block_queue.specs.declared.seats.PutSeat.{PutSeat}
+use Rattle.block_queue.specs.declared.seats.TakeSeat.{TakeSeat}
+use Rattle.block_queue.specs.declared.view.Key.{Key}
+use Rattle.block_queue.specs.declared.view.Stage.{Stage}
+use Rattle.block_queue.specs.declared.view.Stage.TheVariants.{Free}
+use Rattle.block_queue.specs.declared.view.View.{View}
+use Rattle.block_queue.specs.History.{seat_of}
+use Rattle.block_queue.specs.Meaning.{Enters}
+use Rattle.block_queue.specs.Seats.{Place, IsPlaceOf, IsFreePlaceOf, IsSamePlace, IsPutSeatOf, IsTakeSeatOf, head_view, put_view, take_view}
+use Rattle.block_queue.specs.Steps.{Seated}
+
+-- an entry leaves a seat its numbers
+pub entered_own : (key : Key) (made : Entry) (old new : Account Entry) (number : ℕ) → Enters key made old new → has_number old.shares number ≡ true → has_number new.shares number ≡ true
+entered_own key made old new number enters has =
+    subst (λ (a : Account Entry). has_number a.shares number ≡ true) (sym enters.adds.new_is) (has_number-share_after seat_of made old.shares number ∙ has)
+
+pub entered_number : (key : Key) (made : Entry) (old new : Account Entry) → Enters key made old new → new.number ≡ old.number
+entered_number key made old new enters = ap (λ (a : Account Entry). a.number) enters.adds.new_is
+
+pub entered_place : (queue : Queue) (old new : Place) (number : ℕ) (made : Entry) (key : Key) → IsPlaceOf queue old number → IsSamePlace old new → Enters key made old.me.0.account new.me.0.account → IsPlaceOf queue new number
+entered_place queue old new number made key is same enters =
+    record { table = same.table ∙ is.table; own = entered_own key made old.me.0.account new.me.0.account number enters is.own }
+
+-- a seat that made its entry is free again
+pub entered_free : (queue : Queue) (old new : Place) (number : ℕ) (made : Entry) (key : Key) → IsPlaceOf queue old number → old.me.0.account.number ≡ number → IsSamePlace old new
+    → Enters key made old.me.0.account new.me.0.account → new.me.0.stage ≡ Free → new.me.1 ≡ [] → IsFreePlaceOf queue new number
+entered_free queue old new number made key is number_is same enters stage no_slot =
+    let place = entered_place queue old new number made key is same enters in
+    record {
+      table = place.table;
+      own = place.own;
+      number_is = entered_number key made old.me.0.account new.me.0.account enters ∙ number_is;
+      stage = stage;
+      no_slot = no_slot;
+    }
+
+-- a free seat is one that may step
+pub free_steps : (queue : Queue) (place : Place) (number : ℕ) → IsFreePlaceOf queue place number → IsPlaceOf queue place number
+free_steps queue place number free = record { table = free.table; own = free.own }
+
+-- a seat that knows what it knew may step on
+pub steps_on : (queue : Queue) (old new : Place) (number : ℕ) → IsPlaceOf queue old number → IsSamePlace old new → new.me.0.account ≡ old.me.0.account → IsPlaceOf queue new number
+steps_on queue old new number is same account =
+    record { table = same.table ∙ is.table; own = subst (λ (a : Account Entry). has_number a.shares number ≡ true) (sym account) is.own }
+
+-- ---- a seat that sits down
+
+pub stands_put : (queue : Queue) (seat : PutSeat) (place : Place) → IsPutSeatOf queue seat → place.table_id ≡ seat.badge.table_id → place.me ≡ (put_view seat, []) → IsFreePlaceOf queue place (seat.writer + 1)
+stands_put queue seat place is table me =
+    record {
+      table = table ∙ is.table;
+      own = ap (λ (m : Seated). has_number m.0.account.shares (seat.writer + 1)) me ∙ is.own;
+      number_is = ap (λ (m : Seated). m.0.account.number) me ∙ is.number_is;
+      stage = ap (λ (m : Seated). m.0.stage) me ∙ is.stage;
+      no_slot = ap (λ (m : Seated). m.1) me;
+    }
+
+pub sits_put : (queue : Queue) (seat : PutSeat) (place : Place) → seat.writer < queue.key.writers → IsFreePlaceOf queue place (seat.writer + 1) → seat.badge.table_id ≡ place.table_id → seat.badge.views ≡ place.me.0 ∷ [] → IsPutSeatOf queue seat
+sits_put queue seat place writer free table views =
+    let view : put_view seat ≡ place.me.0 = ap head_view views in
+    record {
+      table = table ∙ free.table;
+      views = views ∙ ap (λ (v : View). v ∷ []) (sym view);
+      writer_is = writer;
+      own = ap (λ (v : View). has_number v.account.shares (seat.writer + 1)) view ∙ free.own;
+      number_is = ap (λ (v : View). v.account.number) view ∙ free.number_is;
+      stage = ap (λ (v : View). v.stage) view ∙ free.stage;
+    }
+
+pub stands_take : (queue : Queue) (seat : TakeSeat) (place : Place) → IsTakeSeatOf queue seat → place.table_id ≡ seat.badge.table_id → place.me ≡ (take_view seat, []) → IsFreePlaceOf queue place 0
+stands_take queue seat place is table me =
+    record {
+      table = table ∙ is.table;
+      own = ap (λ (m : Seated). has_number m.0.account.shares 0) me ∙ is.own;
+      number_is = ap (λ (m : Seated). m.0.account.number) me ∙ is.number_is;
+      stage = ap (λ (m : Seated). m.0.stage) me ∙ is.stage;
+      no_slot = ap (λ (m : Seated). m.1) me;
+    }
+
+pub sits_take : (queue : Queue) (seat : TakeSeat) (place : Place) → IsFreePlaceOf queue place 0 → seat.badge.table_id ≡ place.table_id → seat.badge.views ≡ place.me.0 ∷ [] → seat.taken ≡ place.me.0.taken → IsTakeSeatOf queue seat
+sits_take queue seat place free table views taken =
+    let view : take_view seat ≡ place.me.0 = ap head_view views in
+    record {
+      table = table ∙ free.table;
+      views = views ∙ ap (λ (v : View). v ∷ []) (sym view);
+      own = ap (λ (v : View). has_number v.account.shares 0) view ∙ free.own;
+      number_is = ap (λ (v : View). v.account.number) view ∙ free.number_is;
+      stage = ap (λ (v : View). v.stage) view ∙ free.stage;
+      taken = taken ∙ sym (ap (λ (v : View). v.taken) view);
+    }

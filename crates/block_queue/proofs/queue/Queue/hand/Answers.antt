@@ -1,0 +1,16 @@
+use Rattle.std.proofs.Common.{arith, subst}
+use Rattle.atomic_table.specs.Table as table
+use Rattle.block_queue.specs.Rule.{IsOneQueue}
+use Rattle.block_queue.specs.Steps.{keeper_view, handed_view}
+use Rattle.block_queue.proofs.HandKeeps.{hand_keeps}
+use Rattle.block_queue.proofs.queue.Queue.hand.Goals as goal
+
+pub split_seat-requires : goal.split_seat-requires
+split_seat-requires c =
+    let words = c.args.self.now.words in
+    let next = c.requires.next in
+    let seat = c.args.place.now in (
+      c.requires.table,
+      omega arith,
+      hand_keeps c.args.self.now.table.shared.key c.args.place.now.id c.args.place.now.me.0 next.own next.next next.others next.shares_are next.own_is next.next_is next.stage_is,
+    )

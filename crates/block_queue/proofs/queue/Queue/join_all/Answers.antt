@@ -1,0 +1,48 @@
+use Rattle.std.proofs.Common.{◌≡◌, List, [], ◌∷◌, length, refl, sym, ap, subst, ◌∙◌, arith}
+use Rattle.block_queue.specs.declared.seats.PutSeat.{PutSeat}
+use Rattle.block_queue.specs.Gather.{IsJoining}
+use Rattle.histories.specs.Changes.{joined_account}
+use Rattle.block_queue.specs.Seats.{head_view, put_view}
+use Rattle.block_queue.proofs.GatherLemmas.{none_joined, one_joined, all_joined, joined_free, last_seat}
+use Rattle.block_queue.proofs.queue.Queue.join_all.Goals as goal
+
+pub joining-init : goal.joining-init
+joining-init c = record { place = c.requires.place; taken = refl; puts = c.requires.puts; joining = none_joined c.args.self.now _ _ c.requires.place.own c.requires.none }
+
+pub into_seat-requires : goal.into_seat-requires
+into_seat-requires c =
+    let last = last_seat c.args.self.now _ _ _ c.in-Some.ensures.items c.joining.invariant.puts in
+    (put_view c.in-Some.seat, last.0.views)
+
+pub join-requires-clause-table : goal.join-requires-clause-table
+join-requires-clause-table c =
+    let last = last_seat c.args.self.now _ _ _ c.in-Some.ensures.items c.joining.invariant.puts in
+    c.into_seat.ensures.0 ∙ last.0.table
+
+pub join-requires-clause-stage : goal.join-requires-clause-stage
+join-requires-clause-stage c =
+    let last = last_seat c.args.self.now _ _ _ c.in-Some.ensures.items c.joining.invariant.puts in
+    ap (λ view. view.stage) (sym (ap head_view c.into_seat.ensures.2)) ∙ last.0.stage
+
+pub joining-preserved : goal.joining-preserved
+joining-preserved c =
+    let last = last_seat c.args.self.now _ _ _ c.in-Some.ensures.items c.joining.invariant.puts in
+    let joined = c.join.ensures.joined in
+    record {
+      place = joined_free c.args.self.now c.joining.place c.join.new.place c.into_seat.result.me.0 c.joining.invariant.place c.join.ensures.place joined;
+      taken = ap (λ me. me.0.taken) joined ∙ c.joining.invariant.taken;
+      puts = last.1;
+      joining = one_joined c.args.self.now c.args.puts.items c.args.place.now.me.0.account c.joining.place.me.0.account c.join.new.place.me.0.account c.joining.puts.items c.pop.new.self.items c.in-Some.seat c.in-Some.ensures.items c.joining.invariant.joining
+          (ap (λ me. me.0.account) joined ∙ ap (λ view. joined_account c.joining.place.me.0.account view.account) (sym (ap head_view c.into_seat.ensures.2)))
+          last.0.own;
+    }
+
+pub returns-clause-joined : goal.returns-clause-joined
+returns-clause-joined c =
+    let none : c.joining.puts.items ≡ [] = no_more c.joining.puts.items (omega (arith, c.in_default.ensures.cases)) in
+    all_joined c.args.self.now c.args.puts.items c.args.place.now.me.0.account c.joining.place.me.0.account
+    (subst (λ rest. IsJoining c.args.puts.items c.args.place.now.me.0.account rest c.joining.place.me.0.account) none c.joining.invariant.joining)
+  where
+    no_more : (seats : List PutSeat) → length seats ≡ 0 → seats ≡ []
+    no_more [] none = refl
+    no_more (seat ∷ seats) none = absurd (omega arith)

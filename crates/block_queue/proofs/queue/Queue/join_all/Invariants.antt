@@ -1,0 +1,18 @@
+-- the seats that are left have yet to be joined
+use Rattle.std.proofs.Common.{◌≡◌, length}
+use Rattle.std.specs.List.{AllByRecursion}
+use Rattle.block_queue.specs.Gather.{IsJoining}
+use Rattle.block_queue.specs.Seats.{IsFreePlaceOf, IsPutSeatOf}
+use Rattle.block_queue.proofs.queue.Queue.join_all.Given as goal
+
+abbrev pub invariant-joining : goal.invariant-joining
+invariant-joining l =
+    record {
+      place : IsFreePlaceOf l.self l.place 0;
+      taken : l.place.me.0.taken ≡ l.initial.place.me.0.taken;
+      puts : AllByRecursion (IsPutSeatOf l.self) l.puts.items;
+      joining : IsJoining l.initial.puts.items l.initial.place.me.0.account l.puts.items l.place.me.0.account;
+    }
+
+abbrev pub decreases-joining : goal.decreases-joining
+decreases-joining l = length l.puts.items

@@ -1,0 +1,12 @@
+pub mod Calls
+pub mod Gather
+pub mod GatherSteps
+pub mod History
+pub mod Meaning
+pub mod Opening
+pub mod Places
+pub mod QueueObject
+pub mod Rule
+pub mod Seats
+pub mod Steps
+pub mod Tries

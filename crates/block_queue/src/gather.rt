@@ -1,0 +1,139 @@
+//! The end of a queue: all its seats become one, which takes out what is left.
+//! Before this: `take`.
+ghost use Rattle.std.specs.Prelude.{◌≡◌, ◌+◌, ◌<◌, ◌≤◌, [], length, IfOk, IfErr};
+ghost use Rattle.std.specs.Vec.{vec_capacity};
+ghost use Rattle.std.specs.List.{AllByRecursion};
+ghost use Rattle.block_queue.specs.declared.view.Stage.TheVariants.{Free};
+ghost use Rattle.block_queue.specs.Gather.{AreAllSeats, Gathers, HasJoined, Empties, IsLeft};
+ghost use Rattle.block_queue.specs.GatherSteps.{HasSurveyed};
+ghost use Rattle.block_queue.specs.Seats.{
+  IsFreePlaceOf,
+  IsPutSeatOf,
+  IsTakeSeatOf,
+  IsSamePlace,
+  asks,
+  key_of,
+  no_write,
+  put_account,
+};
+ghost use Rattle.block_queue.specs.Steps.{joined_view};
+
+use crate::answers::TakeAnswer;
+use crate::places::{MARK, TAIL};
+use crate::plays::{Asks, Join, Survey};
+use crate::queue::Queue;
+use crate::queue_object::StoredBlock;
+use crate::rule::Place;
+use crate::seats::{PutSeat, TakeSeat};
+use std::alloc::Global;
+use std::marker::Brand;
+use sync_base::NoProbe;
+
+/// What is left of a queue: the blocks that stand, the oldest first, and whether it is hung up.
+#[derive(Drop)]
+pub struct Gathered {
+    pub blocks: Vec<StoredBlock>,
+    pub hung: bool,
+}
+
+/// There was no memory. The seats come back.
+#[derive(Drop)]
+pub struct Ungathered {
+    pub take: TakeSeat,
+    pub puts: Vec<PutSeat>,
+}
+
+impl Queue {
+    /// Takes all that is left out of the queue, with all its seats. It waits for nobody.
+    ///
+    /// Where there is no memory all seats come back.
+    pub fn gather(
+        &self,
+        alloc: Global,
+        take: TakeSeat,
+        puts: Vec<PutSeat>,
+    ) -> Result<Gathered, Ungathered>
+        requires take { IsTakeSeatOf self.now take }
+        requires puts { AllByRecursion (IsPutSeatOf self.now) puts.items }
+        requires all { AreAllSeats take puts.items }
+        ensures gathered { IfOk result (Gathers (key_of self.now) take puts.items) }
+        ensures take { IfErr result (λ refused. refused.take ≡ take) }
+        ensures puts { IfErr result (λ refused. refused.puts ≡ puts) }
+    {
+        let Ok(mut blocks) = Vec::with_capacity(alloc, self.key.limit as usize) else {
+            return Err(Ungathered { take, puts });
+        };
+        let TakeSeat { badge, taken } = take;
+        let mut place = badge.into_seat();
+        self.join_all(&mut place, puts);
+        let tail = self.survey::<Brand>(&mut place);
+        let hung = tail >= MARK;
+        let accepted = tail % MARK;
+        self.empty(&mut place, taken, accepted - taken, &mut blocks);
+        Ok(Gathered { blocks, hung })
+    }
+
+    // Joins the seats of all writers with the reader's.
+    fn join_all(&self, place: &mut Place, mut puts: Vec<PutSeat>)
+        requires place { IsFreePlaceOf self.now place.old 0 }
+        requires puts { AllByRecursion (IsPutSeatOf self.now) puts.items }
+        requires none { AllByRecursion (λ seat. (put_account seat).gave ≡ []) puts.items }
+        ensures place { IsFreePlaceOf self.now place.new 0 }
+        ensures taken { place.new.me.0.taken ≡ place.old.me.0.taken }
+        ensures joined { HasJoined puts.items place.old.me.0.account place.new.me.0.account }
+    {
+        'joining: while let Some(seat) = puts.pop() {
+            let PutSeat { badge, writer: _ } = seat;
+            self.join(place, badge.into_seat());
+        }
+    }
+
+    /// Makes one seat of the reader's and a writer's.
+    // Step Join: join of two seats, a load of the tail.
+    // Seat: Free, with the numbers of both and the longer of what they had seen. The other is spent.
+    // Keeps the rule: both had seen a past of one history, and no put of either was under way.
+    fn join(&self, place: &mut Place, other: Place)
+        requires place { IsFreePlaceOf self.now place.old 0 }
+        requires table { other.table_id ≡ self.now.table.shared.table_id }
+        requires stage { other.me.0.stage ≡ Free }
+        requires no_slot { other.me.1 ≡ [] }
+        ensures place { IsSamePlace place.old place.new }
+        ensures joined { place.new.me ≡ (joined_view place.old.me.0 other.me.0, place.old.me.1) }
+    {
+        self.table.shared.join_seat::<Join>(place, other);
+    }
+
+    /// Reads what is left.
+    // Step Survey: load of the tail. Seat: as it was. Keeps the rule: nothing changes.
+    fn survey<M: Asks>(&self, place: &mut Place) -> u64
+        requires place { IsFreePlaceOf self.now place.old 0 }
+        requires asked { M.asked ≡ asks self.now 0 no_write }
+        ensures place { IsSamePlace place.old place.new }
+        ensures told { HasSurveyed self.now.key place.old.me result place.new.me }
+    {
+        self.table.shared.load::<Survey<M>>(place, TAIL)
+    }
+
+    // Takes so many blocks out, which is all that is left.
+    fn empty(&self, place: &mut Place, taken: u64, left: u64, blocks: &mut Vec<StoredBlock>)
+        requires place { IsFreePlaceOf self.now place.old 0 }
+        requires taken { taken ≡ place.old.me.0.taken }
+        requires left { IsLeft self.now.key place.old.me.0.account left }
+        requires none { blocks.old.items ≡ [] }
+        requires room { left ≤ vec_capacity blocks.old }
+        ensures emptied { Empties self.now.key left place.old.me.0.account place.new.me.0.account
+            blocks.new.items }
+    {
+        let mut taken = taken;
+        'emptying: while (blocks.len() as u64) < left {
+            match self.take_next(place, taken, &mut NoProbe) {
+                TakeAnswer::Block(block, writer, _) => {
+                    blocks.push_reserved(StoredBlock { writer, block });
+                    taken += 1;
+                }
+                TakeAnswer::NotYet(_) => unreachable!(),
+                TakeAnswer::End => unreachable!(),
+            }
+        }
+    }
+}

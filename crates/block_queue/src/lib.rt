@@ -1,0 +1,28 @@
+//! A bounded queue of blocks with hangup, which many writers and one reader share: as a sequential
+//! object, and as a ring without a lock.
+//! Read `entry`, `answers`, `queue_object`; then `places`, `view`, `rule`, `plays`, `seats`, `queue`,
+//! `opening`, `put_steps`, `put`, `take_steps`, `take`, and `gather`.
+#![tactic(auto)]
+
+pub mod answers;
+pub mod entry;
+pub mod gather;
+pub mod opening;
+pub mod places;
+mod plays;
+mod put;
+mod put_steps;
+pub mod queue;
+pub mod queue_object;
+mod rule;
+pub mod seats;
+mod take;
+mod take_steps;
+pub mod view;
+
+pub use answers::{PutAnswer, TakeAnswer};
+pub use gather::{Gathered, Ungathered};
+pub use opening::Opened;
+pub use queue::Queue;
+pub use queue_object::QueueObject;
+pub use seats::{PutSeat, TakeSeat};

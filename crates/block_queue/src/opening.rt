@@ -1,0 +1,128 @@
+//! How a queue is made, with its seats. Before this: `queue`. After it: `put_steps`.
+ghost use Rattle.std.specs.Prelude.{◌≡◌, ◌⊎◌, ◌↔◌, ◌+◌, ◌<◌, ◌≤◌, [], replicate, IfOk, IfErr, IsErrOf};
+ghost use Rattle.std.specs.Vec.{vec_capacity};
+ghost use Rattle.sync_base.specs.declared.fault.Fault.TheVariants.{BadSize, BadArg, Memory};
+ghost use Rattle.sync_base.specs.declared.limits.TheConstants.{
+  LAST_WRITE,
+  MAX_PIPE_LIMIT,
+  MAX_WRITERS,
+};
+ghost use Rattle.block_queue.specs.Opening.{Opens, AreNewPutSeats, IsBadQueue, handing_view};
+ghost use Rattle.block_queue.specs.Seats.{IsSamePlace};
+ghost use Rattle.block_queue.specs.Steps.{HasToHand, keeper_view, handed_view};
+
+use crate::plays::Hand;
+use crate::queue::Queue;
+use crate::rule::Place;
+use crate::seats::{PutSeat, TakeSeat};
+use crate::view::Key;
+use atomic_table::Table;
+use std::alloc::{AllocError, Global};
+use sync_base::Fault;
+use sync_base::limits::{LAST_WRITE, MAX_PIPE_LIMIT, MAX_WRITERS};
+
+/// A new queue, the seat of its reader, and those of its writers in order.
+#[derive(Drop)]
+pub struct Opened {
+    pub queue: Queue,
+    pub take: TakeSeat,
+    pub puts: Vec<PutSeat>,
+}
+
+// The words of a new queue.
+fn zeros(alloc: Global, count: usize) -> Result<Vec<u64>, AllocError>
+    ensures { IfOk result (λ words. words.items ≡ replicate count 0) }
+{
+    vec![in alloc; 0; count]
+}
+
+impl Queue {
+    /// An empty queue that holds at most `limit` blocks, and whose first write has the number 1.
+    ///
+    /// BadSize: the limit is not from 1 to 1,024, or the writers are not from 1 to 64.
+    /// Memory: room for the places and the seats was refused.
+    pub fn new(alloc: Global, limit: u64, writers: u64) -> Result<Opened, Fault>
+        // Refused first.
+        ensures bad_size { IsErrOf result BadSize ↔ IsBadQueue limit writers }
+        ensures faults { IfErr result (λ fault. (fault ≡ BadSize) ⊎ (fault ≡ Memory)) }
+
+        // Otherwise a queue in which nothing was called.
+        ensures opened { IfOk result (Opens (record { limit = limit; first = 0; writers = writers })) }
+    {
+        Queue::new_from(alloc, limit, writers, 0)
+    }
+
+    /// The same, and its first write has the number `first` + 1.
+    ///
+    /// BadSize: the limit is not from 1 to 1,024, or the writers are not from 1 to 64.
+    /// BadArg: `first` is above the number of the last write.
+    /// Memory: room for the places and the seats was refused.
+    pub fn new_from(alloc: Global, limit: u64, writers: u64, first: u64) -> Result<Opened, Fault>
+        // Refused first, in this order.
+        ensures bad_size { IsErrOf result BadSize ↔ IsBadQueue limit writers }
+        ensures bad_arg { IsErrOf result BadArg → LAST_WRITE < first }
+        ensures faults { IfErr result (λ fault.
+            (fault ≡ BadSize) ⊎ ((fault ≡ BadArg) ⊎ (fault ≡ Memory))) }
+
+        // Otherwise a queue in which nothing was called.
+        ensures first { IfOk result (λ _. first ≤ LAST_WRITE) }
+        ensures opened { IfOk result
+            (Opens (record { limit = limit; first = first; writers = writers })) }
+    {
+        if limit == 0 || limit > MAX_PIPE_LIMIT || writers == 0 || writers > MAX_WRITERS {
+            return Err(Fault::BadSize);
+        }
+        if first > LAST_WRITE {
+            return Err(Fault::BadArg);
+        }
+        let key = Key {
+            limit,
+            first,
+            writers,
+        };
+        let mut puts = Vec::with_capacity(alloc, writers as usize)?;
+        let words = zeros(alloc, limit as usize + 1)?;
+        let (table, mut place) = Table::vacant(alloc, words.as_slice(), limit as usize, &key)?;
+        let queue = Queue { table, key };
+        queue.hand_seats(&mut place, &mut puts);
+        let take = TakeSeat {
+            badge: place.into_badge(),
+            taken: 0,
+        };
+        Ok(Opened { queue, take, puts })
+    }
+
+    // Gives each writer its seat.
+    fn hand_seats(&self, place: &mut Place, puts: &mut Vec<PutSeat>)
+        requires table { place.old.table_id ≡ self.now.table.shared.table_id }
+        requires view { place.old.me ≡ (handing_view self.now.key.writers 0, []) }
+        requires empty { puts.old.items ≡ [] }
+        requires room { self.now.key.writers ≤ vec_capacity puts.old }
+        ensures table { place.new.table_id ≡ place.old.table_id }
+        ensures view { place.new.me ≡ (handing_view self.now.key.writers self.now.key.writers, []) }
+        ensures puts { AreNewPutSeats self.now self.now.key.writers puts.new.items }
+    {
+        for writer in 0..self.key.writers {
+            let seat = self.hand(place);
+            puts.push_reserved(PutSeat {
+                badge: seat.into_badge(),
+                writer,
+            });
+        }
+    }
+
+    /// Hands the reader's next number over to a new seat.
+    // Step Hand: split of a seat, a load of the tail.
+    // Seat: Free, without the number. The new seat is Free, with the number, and has made no call.
+    // Keeps the rule: the number was the reader's, and no other seat's.
+    fn hand(&self, place: &mut Place) -> Place
+        requires table { place.old.table_id ≡ self.now.table.shared.table_id }
+        requires next { HasToHand place.old.me.0 }
+        ensures place { IsSamePlace place.old place.new }
+        ensures keeper { place.new.me ≡ (keeper_view place.old.me.0, place.old.me.1) }
+        ensures handed { result.me ≡ (handed_view place.old.me.0, []) }
+        ensures table { result.table_id ≡ place.old.table_id }
+    {
+        self.table.shared.split_seat::<Hand>(place)
+    }
+}

@@ -1,0 +1,46 @@
+//! Where the ring keeps what. Before this: `queue_object`. After it: `view`.
+//! The first word is the tail; behind it stands a sequence word for each place, and each place has
+//! a slot. The writes are counted from 0, and write c is kept in place c mod limit.
+ghost use Rattle.std.specs.Prelude.{◌≡◌, ◌+◌, ◌<◌};
+ghost use Rattle.block_queue.specs.Places.{sequence_of, free_word, stored_word, place_of};
+
+/// The word that counts the writes that were accepted.
+pub const TAIL: usize = 0;
+
+/// The bit of the tail that says that the queue is hung up.
+pub const MARK: u64 = 9_223_372_036_854_775_808;
+
+/// The place of a write.
+pub(crate) fn place(limit: u64, count: u64) -> usize
+    requires { 0 < limit }
+    ensures result { result ≡ place_of limit count }
+    ensures within { result < limit }
+{
+    (count % limit) as usize
+}
+
+/// The word of a place.
+pub(crate) fn sequence(place: usize) -> usize
+    requires { place + 1 < 18446744073709551616 }
+    ensures { result ≡ sequence_of place }
+{
+    place + 1
+}
+
+/// What the word of its place is before a write is put there.
+pub(crate) fn free(limit: u64, count: u64) -> u64
+    requires limit { 0 < limit }
+    requires small { count < 4611686018427387904 }
+    ensures { result ≡ free_word limit count }
+{
+    2 * (count / limit)
+}
+
+/// What it is while the write stands there.
+pub(crate) fn stored(limit: u64, count: u64) -> u64
+    requires limit { 0 < limit }
+    requires small { count < 4611686018427387904 }
+    ensures { result ≡ stored_word limit count }
+{
+    2 * (count / limit) + 1
+}

@@ -1,0 +1,176 @@
+//! A put. Before this: `put_steps`. After it: `take_steps`.
+ghost use Rattle.std.specs.Prelude.{◌≡◌, ◌+◌, ◌<◌, []};
+ghost use Rattle.sync_base.specs.declared.limits.TheConstants.{LAST_WRITE};
+ghost use Rattle.block_queue.specs.declared.view.Stage.TheVariants.{Free, Placed};
+ghost use Rattle.block_queue.specs.Calls.{Puts, IsFreshPut};
+ghost use Rattle.block_queue.specs.Seats.{
+  IsFreePlaceOf,
+  IsPlaceOf,
+  IsPutSeatOf,
+  IsSamePlace,
+  key_of,
+  put_account,
+};
+ghost use Rattle.block_queue.specs.Steps.{staged_view};
+ghost use Rattle.block_queue.specs.Tries.{IfAnswered, IfAgain, IsAgain, IsTaken};
+
+use crate::answers::PutAnswer;
+use crate::places::{MARK, free};
+use crate::queue::Queue;
+use crate::queue_object::StoredBlock;
+use crate::rule::Place;
+use crate::seats::PutSeat;
+use std::marker::Brand;
+use std::snapshot::Snapshot;
+use std::sync::Wait;
+use sync_base::limits::LAST_WRITE;
+use sync_base::{NoProbe, Piece, Probe};
+
+/// How far one round of a put came.
+#[derive(Drop)]
+pub(crate) enum Tried {
+    Answered(PutAnswer),
+    /// Another put came first, or a hangup: the put begins again.
+    Again(Piece),
+}
+
+impl Queue {
+    /// Puts a block behind the others. It waits for nobody, but begins again where another put
+    /// came first. It takes no memory.
+    ///
+    /// Answers `Hungup` where the queue is hung up, `Worn` where the last number is given, `Full`
+    /// where as many blocks stand as the limit allows, and else `Taken`. Where the queue is full
+    /// and hung up, it may be either of `Full` and `Hungup`, but not `Full` to a seat that knew of
+    /// the hangup. A block that is not taken comes back.
+    pub fn put<R: Wait>(&self, rt: &R, seat: &mut PutSeat, block: Piece) -> PutAnswer
+        requires seat { IsPutSeatOf self.now seat.old }
+        ensures seat { IsPutSeatOf self.now seat.new }
+        ensures writer { seat.new.writer ≡ seat.old.writer }
+
+        // Its entry ends what the seat has seen, and stands in one legal history.
+        ensures answer { Puts (key_of self.now) seat.old.writer block
+            (put_account seat.old) (put_account seat.new) result }
+        ensures fresh { IsFreshPut (key_of self.now) (put_account seat.old) result }
+    {
+        self.put_probed(rt, seat, block, &mut NoProbe)
+    }
+
+    /// A `put` that tells a probe before each of its steps, from 1 to 5, and 6 at the end.
+    pub fn put_probed<R: Wait, P: Probe>(
+        &self,
+        rt: &R,
+        seat: &mut PutSeat,
+        block: Piece,
+        probe: &mut P,
+    ) -> PutAnswer
+        requires seat { IsPutSeatOf self.now seat.old }
+        ensures seat { IsPutSeatOf self.now seat.new }
+        ensures writer { seat.new.writer ≡ seat.old.writer }
+
+        // Its entry ends what the seat has seen, and stands in one legal history.
+        ensures answer { Puts (key_of self.now) seat.old.writer block
+            (put_account seat.old) (put_account seat.new) result }
+        ensures fresh { IsFreshPut (key_of self.now) (put_account seat.old) result }
+    {
+        let mut place = seat.stand();
+        let answer = self.put_in_turn(rt, &mut place, seat.writer, block, probe);
+        seat.sit(place);
+        probe.at(6);
+        answer
+    }
+
+    // Tries until it is answered.
+    fn put_in_turn<R: Wait, P: Probe>(
+        &self,
+        rt: &R,
+        place: &mut Place,
+        writer: u64,
+        block: Piece,
+        probe: &mut P,
+    ) -> PutAnswer
+        requires place { IsFreePlaceOf self.now place.old (writer + 1) }
+        ensures place { IsFreePlaceOf self.now place.new (writer + 1) }
+        ensures answer { Puts (key_of self.now) writer block
+            place.old.me.0.account place.new.me.0.account result }
+        ensures fresh { IsFreshPut (key_of self.now) place.old.me.0.account result }
+    {
+        let mut block = block;
+        for _ in rt.forever() {
+            match self.try_put(place, writer, block, probe) {
+                Tried::Answered(answer) => return answer,
+                Tried::Again(back) => block = back,
+            }
+        }
+        unreachable!()
+    }
+
+    // One round: the tail, and then the place of the next write.
+    fn try_put<P: Probe>(
+        &self,
+        place: &mut Place,
+        writer: u64,
+        block: Piece,
+        probe: &mut P,
+    ) -> Tried
+        requires place { IsFreePlaceOf self.now place.old (writer + 1) }
+        ensures place { IsFreePlaceOf self.now place.new (writer + 1) }
+        ensures answer { IfAnswered result (λ answer. Puts (key_of self.now) writer block
+            place.old.me.0.account place.new.me.0.account answer) }
+        ensures fresh { IfAnswered result (IsFreshPut (key_of self.now) place.old.me.0.account) }
+        ensures again { IfAgain result (λ back. back ≡ block) }
+        ensures same { IsAgain result → place.new.me ≡ place.old.me }
+    {
+        probe.at(1);
+        let tail = self.put_tail::<Brand>(place, writer, &block);
+        if tail >= MARK {
+            return Tried::Answered(PutAnswer::Hungup(block));
+        }
+        if self.key.first + tail == LAST_WRITE {
+            return Tried::Answered(PutAnswer::Worn(block));
+        }
+        probe.at(2);
+        let word = self.put_sequence::<Brand>(place, writer, &block, tail);
+        let free = free(self.key.limit, tail);
+        if word < free {
+            let number = self.key.first + tail - self.key.limit;
+            return Tried::Answered(PutAnswer::Full(block, number));
+        }
+        if word > free {
+            return Tried::Again(block);
+        }
+        self.claim(place, writer, block, tail, probe)
+    }
+
+    // The rest of a round: the write is accepted, its block is moved in, and it stands.
+    fn claim<P: Probe>(
+        &self,
+        place: &mut Place,
+        writer: u64,
+        block: Piece,
+        count: u64,
+        probe: &mut P,
+    ) -> Tried
+        requires place { IsPlaceOf self.now place.old (writer + 1) }
+        requires number { place.old.me.0.account.number ≡ writer + 1 }
+        requires stage { place.old.me.0.stage ≡ Placed count }
+        requires no_slot { place.old.me.1 ≡ [] }
+        requires small { self.now.key.first + count < LAST_WRITE }
+        ensures place { IsFreePlaceOf self.now place.new (writer + 1) }
+        ensures answer { IfAnswered result (λ answer. Puts (key_of self.now) writer block
+            place.old.me.0.account place.new.me.0.account answer) }
+        ensures taken { IfAnswered result IsTaken }
+        ensures again { IfAgain result (λ back. back ≡ block) }
+        ensures same { IsAgain result → place.new.me ≡ (staged_view Free place.old.me.0, []) }
+    {
+        probe.at(3);
+        if self.accept::<Brand>(place, writer, &block, count) != count {
+            return Tried::Again(block);
+        }
+        probe.at(4);
+        let asked = Snapshot::of(&block);
+        self.move_in(place, count, StoredBlock { writer, block });
+        probe.at(5);
+        self.store::<Brand>(place, writer, &asked, count);
+        Tried::Answered(PutAnswer::Taken(self.key.first + count + 1))
+    }
+}

@@ -1,0 +1,71 @@
+//! The seats of a queue: what its threads call it with. Before this: `plays`. After it: `queue`.
+ghost use Rattle.std.specs.Prelude.{◌≡◌, [], ◌∷◌};
+ghost use Rattle.block_queue.specs.Seats.{put_view, take_view};
+
+use crate::rule::Place;
+use crate::view::View;
+use atomic_table::Badge;
+use std::mem;
+
+/// The seat of a writer, with which one thread at a time puts blocks.
+#[derive(Drop)]
+pub struct PutSeat {
+    pub(crate) badge: Badge<View>,
+    pub(crate) writer: u64,
+}
+
+/// The seat of the reader, with which one thread at a time takes blocks out.
+#[derive(Drop)]
+pub struct TakeSeat {
+    pub(crate) badge: Badge<View>,
+    pub(crate) taken: u64,
+}
+
+impl PutSeat {
+    /// The number of its writer, from 0 on.
+    pub fn writer(&self) -> u64
+        ensures { result ≡ self.now.writer }
+    {
+        self.writer
+    }
+
+    /// What the seat makes its steps with. A blank badge stands in for what it knows until `sit`.
+    pub(crate) fn stand(&mut self) -> Place
+        requires { self.old.badge.views ≡ put_view self.old ∷ [] }
+        ensures table { result.table_id ≡ self.old.badge.table_id }
+        ensures place { result.me ≡ (put_view self.old, []) }
+        ensures writer { self.new.writer ≡ self.old.writer }
+    {
+        mem::replace(&mut self.badge, Badge::blank()).into_seat()
+    }
+
+    pub(crate) fn sit(&mut self, place: Place)
+        requires { place.me.1 ≡ [] }
+        ensures table { self.new.badge.table_id ≡ place.table_id }
+        ensures views { self.new.badge.views ≡ place.me.0 ∷ [] }
+        ensures writer { self.new.writer ≡ self.old.writer }
+    {
+        self.badge = place.into_badge();
+    }
+}
+
+impl TakeSeat {
+    /// What the seat makes its steps with. A blank badge stands in for what it knows until `sit`.
+    pub(crate) fn stand(&mut self) -> Place
+        requires { self.old.badge.views ≡ take_view self.old ∷ [] }
+        ensures table { result.table_id ≡ self.old.badge.table_id }
+        ensures place { result.me ≡ (take_view self.old, []) }
+        ensures taken { self.new.taken ≡ self.old.taken }
+    {
+        mem::replace(&mut self.badge, Badge::blank()).into_seat()
+    }
+
+    pub(crate) fn sit(&mut self, place: Place)
+        requires { place.me.1 ≡ [] }
+        ensures table { self.new.badge.table_id ≡ place.table_id }
+        ensures views { self.new.badge.views ≡ place.me.0 ∷ [] }
+        ensures taken { self.new.taken ≡ self.old.taken }
+    {
+        self.badge = place.into_badge();
+    }
+}

@@ -1,0 +1,137 @@
+//! A take, and a hangup from either side. Before this: `take_steps`. After it: `gather`.
+ghost use Rattle.std.specs.Prelude.{◌≡◌, ◌+◌, ◌<◌};
+ghost use Rattle.block_queue.specs.declared.entry.Entry.TheVariants.{Hung};
+ghost use Rattle.block_queue.specs.Calls.{Takes, IsFreshTake, blocks_in};
+ghost use Rattle.block_queue.specs.Meaning.{Enters};
+ghost use Rattle.block_queue.specs.Seats.{
+  IsFreePlaceOf,
+  IsPutSeatOf,
+  IsTakeSeatOf,
+  key_of,
+  put_account,
+  take_account,
+};
+
+use crate::answers::TakeAnswer;
+use crate::places::{MARK, stored};
+use crate::queue::Queue;
+use crate::queue_object::StoredBlock;
+use crate::rule::Place;
+use crate::seats::{PutSeat, TakeSeat};
+use std::marker::Brand;
+use sync_base::{NoProbe, Probe};
+
+// How many blocks a take gave.
+fn blocks(answer: &TakeAnswer) -> u64
+    ensures { result ≡ blocks_in answer.now }
+{
+    match answer {
+        TakeAnswer::Block(_, _, _) => 1,
+        TakeAnswer::NotYet(_) => 0,
+        TakeAnswer::End => 0,
+    }
+}
+
+impl Queue {
+    /// Takes the next block out. It waits for nobody, and takes no memory.
+    ///
+    /// Answers `End` where the queue is hung up and all that was accepted is taken out, `NotYet`
+    /// where no block is left or the put of the next one has not returned, and else `Block`. A seat
+    /// that knew of the hangup is answered `NotYet` only while a block is left.
+    pub fn take(&self, seat: &mut TakeSeat) -> TakeAnswer
+        requires seat { IsTakeSeatOf self.now seat.old }
+        ensures seat { IsTakeSeatOf self.now seat.new }
+
+        // Its entry ends what the seat has seen, and stands in one legal history.
+        ensures answer { Takes (key_of self.now) (take_account seat.old) (take_account seat.new) result }
+        ensures fresh { IsFreshTake (key_of self.now) (take_account seat.old) (take_account seat.new) result }
+    {
+        self.take_probed(seat, &mut NoProbe)
+    }
+
+    /// A `take` that tells a probe before each of its steps, from 1 to 4.
+    pub fn take_probed<P: Probe>(&self, seat: &mut TakeSeat, probe: &mut P) -> TakeAnswer
+        requires seat { IsTakeSeatOf self.now seat.old }
+        ensures seat { IsTakeSeatOf self.now seat.new }
+
+        // Its entry ends what the seat has seen, and stands in one legal history.
+        ensures answer { Takes (key_of self.now) (take_account seat.old) (take_account seat.new) result }
+        ensures fresh { IsFreshTake (key_of self.now) (take_account seat.old) (take_account seat.new) result }
+    {
+        let mut place = seat.stand();
+        let answer = self.take_next(&mut place, seat.taken, probe);
+        seat.taken += blocks(&answer);
+        seat.sit(place);
+        answer
+    }
+
+    // The tail, and then the place of the next write.
+    pub(crate) fn take_next<P: Probe>(
+        &self,
+        place: &mut Place,
+        taken: u64,
+        probe: &mut P,
+    ) -> TakeAnswer
+        requires place { IsFreePlaceOf self.now place.old 0 }
+        requires taken { taken ≡ place.old.me.0.taken }
+        ensures place { IsFreePlaceOf self.now place.new 0 }
+        ensures answer { Takes (key_of self.now) place.old.me.0.account place.new.me.0.account result }
+        ensures fresh { IsFreshTake (key_of self.now) place.old.me.0.account place.new.me.0.account result }
+        ensures counted { place.new.me.0.taken ≡ taken + blocks_in result }
+        ensures small { taken < 4611686018427387904 }
+    {
+        probe.at(1);
+        let tail = self.take_tail::<Brand>(place);
+        if tail == taken + MARK {
+            return TakeAnswer::End;
+        }
+        probe.at(2);
+        let word = self.take_sequence::<Brand>(place, taken);
+        if word != stored(self.key.limit, taken) {
+            return TakeAnswer::NotYet(self.key.first + taken);
+        }
+        probe.at(3);
+        let stored = self.move_out(place, taken);
+        probe.at(4);
+        self.free_place::<Brand>(place, taken, &stored);
+        let StoredBlock { writer, block } = stored;
+        TakeAnswer::Block(block, writer, self.key.first + taken + 1)
+    }
+
+    /// Hangs the queue up from the side of the writers, for all of them and for good. What was
+    /// accepted stays. It waits for nobody, and takes no memory.
+    pub fn hang_put(&self, seat: &mut PutSeat)
+        requires seat { IsPutSeatOf self.now seat.old }
+        ensures seat { IsPutSeatOf self.now seat.new }
+        ensures writer { seat.new.writer ≡ seat.old.writer }
+        ensures hung { Enters (key_of self.now) (Hung (seat.old.writer + 1))
+            (put_account seat.old) (put_account seat.new) }
+    {
+        let mut place = seat.stand();
+        self.hang(&mut place, seat.writer + 1);
+        seat.sit(place);
+    }
+
+    /// Hangs the queue up from the side of the reader, for good. What was accepted stays. It waits
+    /// for nobody, and takes no memory.
+    pub fn hang_take(&self, seat: &mut TakeSeat)
+        requires seat { IsTakeSeatOf self.now seat.old }
+        ensures seat { IsTakeSeatOf self.now seat.new }
+        ensures hung { Enters (key_of self.now) (Hung 0)
+            (take_account seat.old) (take_account seat.new) }
+    {
+        let mut place = seat.stand();
+        self.hang(&mut place, 0);
+        seat.sit(place);
+    }
+
+    fn hang(&self, place: &mut Place, number: u64)
+        requires place { IsFreePlaceOf self.now place.old number }
+        ensures place { IsFreePlaceOf self.now place.new number }
+        ensures hung { Enters (key_of self.now) (Hung number)
+            place.old.me.0.account place.new.me.0.account }
+        ensures taken { place.new.me.0.taken ≡ place.old.me.0.taken }
+    {
+        self.hang_up::<Brand>(place, number);
+    }
+}

@@ -1,0 +1,47 @@
+//! What a seat of a queue knows. Before this: `places`. After it: `rule`, what holds of all seats.
+//! No value of a stage or a view is ever made: contracts alone see them, and they take no memory.
+use crate::entry::Entry;
+use histories::Account;
+use sync_base::Piece;
+
+/// What is fixed when a queue is made.
+#[derive(Clone, Copy, Drop)]
+pub struct Key {
+    /// How many blocks may stand.
+    pub limit: u64,
+    /// The first write has the number `first` + 1.
+    pub first: u64,
+    pub writers: u64,
+}
+
+/// Where a seat stands between two steps.
+pub enum Stage {
+    Free,
+    /// A put found the queue not hung up, with so many writes accepted.
+    Counted(u64),
+    /// It then found the place of the next write free.
+    Placed(u64),
+    /// Its write was accepted, behind so many others, and it has the slot of its place.
+    Storing {
+        count: u64,
+        writer: u64,
+        block: Piece,
+    },
+    /// A take found that the queue has not ended, and whether a block was left.
+    Looking(bool),
+    /// It has the slot of the next block.
+    Moving {
+        writer: u64,
+        block: Piece,
+    },
+    /// It was joined with a seat that had seen this, and has yet to look at the history.
+    Joined,
+}
+
+/// What a seat knows.
+pub struct View {
+    pub account: Account<Entry>,
+    /// How many blocks the reader has taken out.
+    pub taken: u64,
+    pub stage: Stage,
+}
