@@ -92,9 +92,11 @@ caused-own procs rendez (entry ∷ past) run pid caused =
 each-cons : (maker pid : ℕ) (deed : Option Deed) (a b : List Deed) → IsDeedBy maker deed
     → maker ≡ pid → (IsCaused a pid → IsCaused b pid) → EachSleepIsCaused b
     → EachSleepIsCaused (cons_option deed a) → EachSleepIsCaused (cons_option deed b)
-each-cons maker pid (Some (Left by None)) a b by_maker same before each now =
-    (subst (λ p. IsCaused b p) (sym (by_maker ∙ same))
-    (before (subst (λ p. IsCaused a p) (by_maker ∙ same) now.0)), each)
+each-cons maker pid (Some (Left by None)) a b by_maker same before each now = (
+  subst (λ p. IsCaused b p) (sym (by_maker ∙ same))
+      (before (subst (λ p. IsCaused a p) (by_maker ∙ same) now.0)),
+  each,
+)
 each-cons maker pid None a b by_maker same before each now = each
 each-cons maker pid (Some deed) a b by_maker same before each now = each
 
