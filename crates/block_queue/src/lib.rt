@@ -18,6 +18,8 @@ mod rule;
 pub mod seats;
 mod take;
 mod take_steps;
+#[cfg(test)]
+mod tests;
 pub mod view;
 
 pub use answers::{PutAnswer, TakeAnswer};
