@@ -58,8 +58,8 @@ module _ (key : Key) (account : Account Entry) (left : ℕ) (is : IsLeft key acc
   there : next_write s.pipe ≢ None
   there none =
       let left_is = is.left_is in
-      let at : slice_get s.pipe.accepted s.pipe.read ≡ Some (get_or s.pipe.accepted s.pipe.read (record { writer = 0; bytes = [] })) = slice_get-get_or s.pipe.accepted s.pipe.read (record { writer = 0; bytes = [] }) (omega arith) in
-      let no : None ≡ Some (get_or s.pipe.accepted s.pipe.read (record { writer = 0; bytes = [] })) = sym none ∙ at in
+      let at : slice_get s.pipe.accepted s.pipe.read_whole ≡ Some (get_or s.pipe.accepted s.pipe.read_whole (record { writer = 0; bytes = [] })) = slice_get-get_or s.pipe.accepted s.pipe.read_whole (record { writer = 0; bytes = [] }) (omega arith) in
+      let no : None ≡ Some (get_or s.pipe.accepted s.pipe.read_whole (record { writer = 0; bytes = [] })) = sym none ∙ at in
       cc
 
   pub not_ended : (new : Account Entry) → Enters key entry.End account new → ⊥
@@ -84,7 +84,7 @@ module _ (key : Key) (account : Account Entry) (left : ℕ) (is : IsLeft key acc
           all = told.2;
           knows = enters.knows;
           puts = λ n. ap (λ (z : QueueState). z.putting n) state ∙ is.puts n;
-          left_is = ap (λ (z : QueueState). length z.pipe.accepted) state ∙ omega arith ∙ sym (ap (λ (z : QueueState). z.pipe.read + (left - 1)) state);
+          left_is = ap (λ (z : QueueState). length z.pipe.accepted) state ∙ omega arith ∙ sym (ap (λ (z : QueueState). z.pipe.read_whole + (left - 1)) state);
         },
         told.0,
         may.number_is,

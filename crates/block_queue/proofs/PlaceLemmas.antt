@@ -91,7 +91,7 @@ unstored_or_stored first s write c = of (s.putting (write.writer + 1)) refl
 
 module _ (limit first : ℕ) (s : QueueState) (out : Bool) (words : List ℕ) (homes : Homes) (ring : AreWords limit first s out words homes) where
   -- the word of a place in the window is one of two
-  word_in_window : (c : ℕ) → s.pipe.read ≤ c → c < s.pipe.read + limit
+  word_in_window : (c : ℕ) → s.pipe.read_whole ≤ c → c < s.pipe.read_whole + limit
       → (get_or words (sequence_of (place_of limit c)) 0 ≡ free_word limit c) ⊎ (get_or words (sequence_of (place_of limit c)) 0 ≡ stored_word limit c)
   word_in_window c low high =
       let place = ring.places c low high in
@@ -101,9 +101,9 @@ module _ (limit first : ℕ) (s : QueueState) (out : Bool) (words : List ℕ) (h
       (accepted_or_free s c)
 
   -- a write that was accepted before the window: its place went round since
-  gone_round : (t : ℕ) → 0 < limit → t < s.pipe.read → stored_word limit t < get_or words (sequence_of (place_of limit t)) 0
+  gone_round : (t : ℕ) → 0 < limit → t < s.pipe.read_whole → stored_word limit t < get_or words (sequence_of (place_of limit t)) 0
   gone_round t some before =
-      let at = in_window limit s.pipe.read t some in
+      let at = in_window limit s.pipe.read_whole t some in
       let c = at.0 in
       let later = later_lap limit t c (omega arith) at.3 in
       let word = word_in_window c at.1 at.2 in
@@ -112,22 +112,22 @@ module _ (limit first : ℕ) (s : QueueState) (out : Bool) (words : List ℕ) (h
       subst (λ (p : ℕ). stored_word limit t < get_or words (sequence_of p) 0) place least
 
   -- the write that comes next where all places are taken: its place has the word of a lap before
-  lap_before : (t : ℕ) → 0 < limit → t ≡ s.pipe.read + limit → get_or words (sequence_of (place_of limit t)) 0 < free_word limit t
+  lap_before : (t : ℕ) → 0 < limit → t ≡ s.pipe.read_whole + limit → get_or words (sequence_of (place_of limit t)) 0 < free_word limit t
   lap_before t some full =
-      let next = next_lap limit s.pipe.read some in
-      let word = word_in_window s.pipe.read (omega arith) (omega arith) in
-      let place : place_of limit s.pipe.read ≡ place_of limit t = sym next.0 ∙ ap (λ (x : ℕ). x % limit) (sym full) in
-      let lap : t / limit ≡ s.pipe.read / limit + 1 = ap (λ (x : ℕ). x / limit) full ∙ next.1 in
-      let most : get_or words (sequence_of (place_of limit s.pipe.read)) 0 < free_word limit t = ⊎_elim (λ free. omega arith) (λ stored. omega arith) word in
+      let next = next_lap limit s.pipe.read_whole some in
+      let word = word_in_window s.pipe.read_whole (omega arith) (omega arith) in
+      let place : place_of limit s.pipe.read_whole ≡ place_of limit t = sym next.0 ∙ ap (λ (x : ℕ). x % limit) (sym full) in
+      let lap : t / limit ≡ s.pipe.read_whole / limit + 1 = ap (λ (x : ℕ). x / limit) full ∙ next.1 in
+      let most : get_or words (sequence_of (place_of limit s.pipe.read_whole)) 0 < free_word limit t = ⊎_elim (λ free. omega arith) (λ stored. omega arith) word in
       subst (λ (p : ℕ). get_or words (sequence_of p) 0 < free_word limit t) place most
 
   -- what the word of its place tells of a write that may come next
   pub put_sequence : (t : ℕ) → 0 < limit → IsQueueState limit first s → t ≤ length s.pipe.accepted → get_or words (sequence_of (place_of limit t)) 0 ≤ free_word limit t
-      → ((get_or words (sequence_of (place_of limit t)) 0 ≡ free_word limit t) × (s.pipe.read ≤ t) × (t < s.pipe.read + limit)) ⊎ ((get_or words (sequence_of (place_of limit t)) 0 < free_word limit t) × (t ≡ s.pipe.read + limit) × (length s.pipe.accepted ≡ s.pipe.read + limit))
+      → ((get_or words (sequence_of (place_of limit t)) 0 ≡ free_word limit t) × (s.pipe.read_whole ≤ t) × (t < s.pipe.read_whole + limit)) ⊎ ((get_or words (sequence_of (place_of limit t)) 0 < free_word limit t) × (t ≡ s.pipe.read_whole + limit) × (length s.pipe.accepted ≡ s.pipe.read_whole + limit))
   put_sequence t some fits accepted low =
       let room = fits.room in
-      dite (dec_le s.pipe.read t)
-      (λ in_or_behind. dite (ℕ_discrete t (s.pipe.read + limit))
+      dite (dec_le s.pipe.read_whole t)
+      (λ in_or_behind. dite (ℕ_discrete t (s.pipe.read_whole + limit))
       (λ full. inr (lap_before t some full, full, omega arith))
       (λ not_full. inl (⊎_elim (λ free. free) (λ stored. absurd (omega arith)) (word_in_window t in_or_behind (omega arith)), in_or_behind, omega arith)))
-      (λ before. let less : t < s.pipe.read = lt_of_not-le before in let round = gone_round t some less in absurd (omega arith))
+      (λ before. let less : t < s.pipe.read_whole = lt_of_not-le before in let round = gone_round t some less in absurd (omega arith))

@@ -170,7 +170,7 @@ module _ (asked : Asked) (slots id : ℕ) (me : Seated) (own : has_number me.0.a
     abbrev Result₂ : Type 0
     Result₂ = (w : View) × (a : table.Act (Option Write)) × table.Valid t.homes me.1 a × IsOneQueue asked.key (table.stepped t index word₂ id me.1 w a) × HasPutSequence asked me word₂ (w, table.carried_after me.1 a)
 
-    sequence_full : word₂ < free_word key.limit asked.count → asked.count ≡ s₂.pipe.read + key.limit → length s₂.pipe.accepted ≡ s₂.pipe.read + key.limit → Result₂
+    sequence_full : word₂ < free_word key.limit asked.count → asked.count ≡ s₂.pipe.read_whole + key.limit → length s₂.pipe.accepted ≡ s₂.pipe.read_whole + key.limit → Result₂
     sequence_full less count_is full =
         let begun = begun_is s₂.pipe fits₂.whole in
         let limit_is = fits₂.limit_is in
@@ -193,7 +193,7 @@ module _ (asked : Asked) (slots id : ℕ) (me : Seated) (own : has_number me.0.a
           },
         )
 
-    sequence_placed : word₂ ≡ free_word key.limit asked.count → asked.count < s₂.pipe.read + key.limit → Result₂
+    sequence_placed : word₂ ≡ free_word key.limit asked.count → asked.count < s₂.pipe.read_whole + key.limit → Result₂
     sequence_placed same room = (
       staged_view (Placed asked.count) me.0,
       table.keeps,
@@ -268,7 +268,7 @@ module _ (asked : Asked) (slots id : ℕ) (me : Seated) (own : has_number me.0.a
         let in_turn : s₃.putting (writer + 1) ≡ None = no_put_by key t rule id me.0 at idle₃ no_put₃ (writer + 1) own in
         let begun = begun_is s₃.pipe fits₃.whole in
         let limit_is = fits₃.limit_is in
-        let room : length s₃.pipe.accepted < s₃.pipe.read + key.limit = let placed = placed.room in omega arith in
+        let room : length s₃.pipe.accepted < s₃.pipe.read_whole + key.limit = let placed = placed.room in omega arith in
         let within = fits₃.within in
         let waiting : waiting_of s₃.pipe < s₃.pipe.limit = subst (λ (n : ℕ). length s₃.pipe.accepted - n < s₃.pipe.limit) (sym begun) (omega arith) in
         let given = placed.counted.given in
@@ -284,7 +284,7 @@ module _ (asked : Asked) (slots id : ℕ) (me : Seated) (own : has_number me.0.a
           told = record { enters = entry_told key t rule id me.0 at (entry.Taken writer block (key.first + length s₃.pipe.accepted + 1)) own right; stage_is = refl; taken_is = refl };
         }
       where
-        storing_fits : s₃.pipe.hung ≡ false → length s₃.pipe.accepted < s₃.pipe.read + key.limit
+        storing_fits : s₃.pipe.hung ≡ false → length s₃.pipe.accepted < s₃.pipe.read_whole + key.limit
             → FitsView key.limit key.first (after_entry s₃ (entry.Taken writer block (key.first + length s₃.pipe.accepted + 1))) rule.out (rule.ledger.owner 0) id (accepted_view (length s₃.pipe.accepted))
         storing_fits unhung room =
             record {

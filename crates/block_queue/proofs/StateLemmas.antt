@@ -15,7 +15,7 @@ use Rattle.block_queue.specs.declared.entry.Entry.{Entry}
 use Rattle.block_queue.specs.declared.entry.Entry.TheVariants.{Taken, Stood, Full, Hungup, Worn, Block, NotYet, End, Hung}
 
 -- where no write is read in part, the writes that are begun are those that are read
-pub begun_is : (s : PipeState) → s.offset ≡ 0 → begun_of s ≡ s.read
+pub begun_is : (s : PipeState) → s.offset ≡ 0 → begun_of s ≡ s.read_whole
 begun_is s whole = rw whole refl
 
 pub opening_fits : (limit first : ℕ) → first ≤ LAST_WRITE → IsQueueState limit first (opening_state limit)
@@ -27,7 +27,7 @@ entry_fits limit first s (Taken writer block number) fits right =
     let taken : IsTaken first s number = right.may in
     let waiting : waiting_of s.pipe < s.pipe.limit = taken.may.1 in
     let begun = begun_is s.pipe fits.whole in
-    let less : length s.pipe.accepted - s.pipe.read < limit = rw fits.limit_is at rw begun at waiting in
+    let less : length s.pipe.accepted - s.pipe.read_whole < limit = rw fits.limit_is at rw begun at waiting in
     let number_is = taken.number_is in
     let given = taken.given in
     record {
@@ -43,7 +43,7 @@ entry_fits limit first s (Hungup writer block) fits right = fits
 entry_fits limit first s (Worn writer block) fits right = fits
 entry_fits limit first s (Block writer block number) fits right =
     let block_is : IsBlock first s (record { writer = writer; bytes = block }) number = right.may in
-    let within : s.pipe.read < length s.pipe.accepted = slice_get_within s.pipe.accepted s.pipe.read (record { writer = writer; bytes = block }) block_is.next in
+    let within : s.pipe.read_whole < length s.pipe.accepted = slice_get_within s.pipe.accepted s.pipe.read_whole (record { writer = writer; bytes = block }) block_is.next in
     let room = fits.room in
     record { limit_is = fits.limit_is; whole = refl; within = omega arith; room = omega arith; given = fits.given }
 entry_fits limit first s (NotYet number) fits right = fits

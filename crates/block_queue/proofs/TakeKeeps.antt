@@ -64,9 +64,9 @@ module _ (key : Key) (slots id : ℕ) (me : Seated) where
       small : me.0.taken < 4611686018427387904
       small = let given = fits.given in let within = fits.within in let taken = knows.taken in omega arith
 
-      tail_ended : s.pipe.hung ≡ true → length s.pipe.accepted ≡ s.pipe.read → Result
+      tail_ended : s.pipe.hung ≡ true → length s.pipe.accepted ≡ s.pipe.read_whole → Result
       tail_ended hung all =
-          let right : IsRight key.first s entry.End = record { may = (hung, slice_get_past s.pipe.accepted s.pipe.read (omega arith)); in_turn = no_put_by key t rule id me.0 at idle no_put 0 own } in
+          let right : IsRight key.first s entry.End = record { may = (hung, slice_get_past s.pipe.accepted s.pipe.read_whole (omega arith)); in_turn = no_put_by key t rule id me.0 at idle no_put 0 own } in
           let taken = knows.taken in
           let tail : word ≡ length s.pipe.accepted + MARK = rule.words.tail ∙ rw hung refl in (
             refused_view key t rule id me.0 at idle no_put entry.End own right refl,
@@ -84,7 +84,7 @@ module _ (key : Key) (slots id : ℕ) (me : Seated) where
           )
 
       -- the take goes on, and this is what it knows of the blocks left
-      tail_looking : (left : Bool) → (left ≡ true → s.pipe.read < length s.pipe.accepted) → word ≢ me.0.taken + MARK → (saw_hangup key me.0.account ≡ true → left ≡ true) → Result
+      tail_looking : (left : Bool) → (left ≡ true → s.pipe.read_whole < length s.pipe.accepted) → word ≢ me.0.taken + MARK → (saw_hangup key me.0.account ≡ true → left ≡ true) → Result
       tail_looking left some_left other fresh = (
         staged_view (Looking left) me.0,
         table.keeps,
@@ -108,7 +108,7 @@ module _ (key : Key) (slots id : ℕ) (me : Seated) where
               let taken = knows.taken in
               let within = fits.within in
               let tail : word ≡ length s.pipe.accepted + MARK = rule.words.tail ∙ rw hung refl in
-              dite (ℕ_discrete (length s.pipe.accepted) s.pipe.read)
+              dite (ℕ_discrete (length s.pipe.accepted) s.pipe.read_whole)
               (λ all. tail_ended hung all)
               (λ more. tail_looking true (λ yes. omega arith) (λ same. more (omega arith)) (λ saw. refl))
           of false unhung =
@@ -139,15 +139,15 @@ module _ (key : Key) (slots id : ℕ) (me : Seated) where
       Result₂ = (w : View) × (a : table.Act (Option Write)) × table.Valid t.homes me.1 a × IsOneQueue key (table.stepped t index word₂ id me.1 w a) × HasTakeSequence key me word₂ (w, table.carried_after me.1 a)
 
       -- the word is that of the next write
-      next_word : word₂ ≡ get_or t.words (sequence_of (place_of key.limit s.pipe.read)) 0
+      next_word : word₂ ≡ get_or t.words (sequence_of (place_of key.limit s.pipe.read_whole)) 0
       next_word = ap (λ (n : ℕ). get_or t.words (sequence_of (place_of key.limit n)) 0) knows.taken
 
-      next_stored : stored_word key.limit me.0.taken ≡ stored_word key.limit s.pipe.read
+      next_stored : stored_word key.limit me.0.taken ≡ stored_word key.limit s.pipe.read_whole
       next_stored = ap (stored_word key.limit) knows.taken
 
       sequence_waits : word₂ ≢ stored_word key.limit me.0.taken → Result₂
       sequence_waits other =
-          let not_stored : get_or t.words (sequence_of (place_of key.limit s.pipe.read)) 0 ≢ stored_word key.limit s.pipe.read = λ same. other (next_word ∙ same ∙ sym next_stored) in
+          let not_stored : get_or t.words (sequence_of (place_of key.limit s.pipe.read_whole)) 0 ≢ stored_word key.limit s.pipe.read_whole = λ same. other (next_word ∙ same ∙ sym next_stored) in
           let number : key.first + me.0.taken ≡ key.first + begun_of s.pipe = ap (λ (n : ℕ). key.first + n) (knows.taken ∙ sym (begun_is s.pipe fits.whole)) in
           let right : IsRight key.first s (entry.NotYet (key.first + me.0.taken)) =
           record { may = record { none = no_block key.limit key.first s rule.out t.words t.homes rule.some_room fits rule.words not_stored; number_is = number }; in_turn = no_put_by key t rule id me.0 at idle₂ no_put₂ 0 own } in (
@@ -161,8 +161,8 @@ module _ (key : Key) (slots id : ℕ) (me : Seated) where
               left = λ other sure none_next.
                   let same : Looking found ≡ Looking true = sym stage ∙ sure in
                   let yes : found ≡ true = cc in
-                  let there : slice_get s.pipe.accepted s.pipe.read ≡ Some (get_or s.pipe.accepted s.pipe.read (record { writer = 0; bytes = [] })) = slice_get-get_or s.pipe.accepted s.pipe.read (record { writer = 0; bytes = [] }) (looking.left yes) in
-                  let no : Some (get_or s.pipe.accepted s.pipe.read (record { writer = 0; bytes = [] })) ≡ None = sym there ∙ none_next in
+                  let there : slice_get s.pipe.accepted s.pipe.read_whole ≡ Some (get_or s.pipe.accepted s.pipe.read_whole (record { writer = 0; bytes = [] })) = slice_get-get_or s.pipe.accepted s.pipe.read_whole (record { writer = 0; bytes = [] }) (looking.left yes) in
+                  let no : Some (get_or s.pipe.accepted s.pipe.read_whole (record { writer = 0; bytes = [] })) ≡ None = sym there ∙ none_next in
                   cc;
               moving = λ same. absurd (other same);
             },
@@ -173,7 +173,7 @@ module _ (key : Key) (slots id : ℕ) (me : Seated) where
           let next = has_block key.limit key.first s rule.out t.words t.homes rule.some_room fits rule.words (sym next_word ∙ same ∙ next_stored) in
           let write : Write = next.0 in
           let home : get_elem? t.homes (place_of key.limit me.0.taken) ≡ some (some (Some write)) = ap (λ (n : ℕ). get_elem? t.homes (place_of key.limit n)) knows.taken ∙ next.3 (knows.out_is ∙ idle₂) in
-          let some_write : s.pipe.read < length s.pipe.accepted = slice_get_within s.pipe.accepted s.pipe.read write next.1 in (
+          let some_write : s.pipe.read_whole < length s.pipe.accepted = slice_get_within s.pipe.accepted s.pipe.read_whole write next.1 in (
             staged_view (Moving next.0.writer next.0.bytes) me.0,
             table.takes (place_of key.limit me.0.taken) (Some next.0),
             home,
@@ -230,7 +230,7 @@ module _ (key : Key) (slots id : ℕ) (me : Seated) where
             (set t.homes (place_of key.limit me.0.taken) (some None))
             own freed_right refl (block_grows key.first s write (key.first + me.0.taken + 1) moving.write_is moving.stored) (λ other. absurd (other refl))
             (subst (λ (n : ℕ). AreWords key.limit key.first (after_entry s (entry.Block write.writer write.bytes (key.first + me.0.taken + 1))) false (set t.words (sequence_of (place_of key.limit n)) (stored_word key.limit n + 1)) (set t.homes (place_of key.limit n) (some None))) (sym knows.taken)
-            (take_frees key.limit key.first s rule.out t.words t.homes rule.some_room fits rule.words write.writer write.bytes (key.first + me.0.taken + 1) (slice_get_within s.pipe.accepted s.pipe.read write moving.write_is)))
+            (take_frees key.limit key.first s rule.out t.words t.homes rule.some_room fits rule.words write.writer write.bytes (key.first + me.0.taken + 1) (slice_get_within s.pipe.accepted s.pipe.read_whole write moving.write_is)))
             record {
               puts = all_map (λ (share : Share Entry). s.putting share.number ≡ None) (share_after seat_of (entry.Block write.writer write.bytes (key.first + me.0.taken + 1))) me.0.account.shares
                   (all_weaker (λ (share : Share Entry). s.putting share.number ≡ None) (λ share. s.putting (share_after seat_of (entry.Block write.writer write.bytes (key.first + me.0.taken + 1)) share).number ≡ None) (λ share put. put) me.0.account.shares none_put);

@@ -28,9 +28,9 @@ pub record Grows (first : ℕ) (s s' : QueueState) (number : ℕ) : Type 0 where
   pub longer : length s.pipe.accepted ≤ length s'.pipe.accepted
   pub kept : (c : ℕ) (write : Write) → slice_get s.pipe.accepted c ≡ Some write → slice_get s'.pipe.accepted c ≡ Some write
   pub stored : (c : ℕ) (write : Write) → slice_get s.pipe.accepted c ≡ Some write → IsUnstored first s' write c → IsUnstored first s write c
-  pub begun : s.pipe.read ≤ s'.pipe.read
-  pub passed : (c : ℕ) (write : Write) → slice_get s.pipe.accepted c ≡ Some write → IsUnstored first s write c → s.pipe.read ≤ c → s'.pipe.read ≤ c
-  pub reader : number ≢ 0 → s'.pipe.read ≡ s.pipe.read
+  pub begun : s.pipe.read_whole ≤ s'.pipe.read_whole
+  pub passed : (c : ℕ) (write : Write) → slice_get s.pipe.accepted c ≡ Some write → IsUnstored first s write c → s.pipe.read_whole ≤ c → s'.pipe.read_whole ≤ c
+  pub reader : number ≢ 0 → s'.pipe.read_whole ≡ s.pipe.read_whole
 
 module _ (limit first : ℕ) (s s' : QueueState) (out out' : Bool) (ledger : Ledger Entry) (number seat : ℕ) (view : View) (grows : Grows first s s' number) (still : number ≢ 0 → out' ≡ out) (other : seat ≢ ledger.owner number) (owns : FitsLedger seat_of ledger seat view.account) (fits : FitsView limit first s out (ledger.owner 0) seat view) where
   not_its : (n : ℕ) → IsOwned ledger seat n → n ≢ number
@@ -63,11 +63,11 @@ module _ (limit first : ℕ) (s s' : QueueState) (out out' : Bool) (ledger : Led
       record { reader_is = fits.reader_is; left = λ yes. let left = fits.left yes in omega arith }
   stage_fits (Moving writer block) fits =
       let write : Write = record { writer = writer; bytes = block } in
-      let read : s'.pipe.read ≡ s.pipe.read = grows.reader (not_reader fits.reader_is) in
+      let read : s'.pipe.read_whole ≡ s.pipe.read_whole = grows.reader (not_reader fits.reader_is) in
       record {
         reader_is = fits.reader_is;
-        write_is = ap (slice_get s'.pipe.accepted) read ∙ grows.kept s.pipe.read write fits.write_is;
-        stored = λ unstored. fits.stored (grows.stored s.pipe.read write fits.write_is (unstored ∙ ap (λ (n : ℕ). Some (first + n + 1)) read));
+        write_is = ap (slice_get s'.pipe.accepted) read ∙ grows.kept s.pipe.read_whole write fits.write_is;
+        stored = λ unstored. fits.stored (grows.stored s.pipe.read_whole write fits.write_is (unstored ∙ ap (λ (n : ℕ). Some (first + n + 1)) read));
       }
   stage_fits Joined fits = tt
 
@@ -146,7 +146,7 @@ taken_grows first s writer block =
     write : Write
     write = record { writer = writer; bytes = block }
 
-pub block_grows : (first : ℕ) (s : QueueState) (write : Write) (number : ℕ) → slice_get s.pipe.accepted s.pipe.read ≡ Some write → (IsUnstored first s write s.pipe.read → ⊥)
+pub block_grows : (first : ℕ) (s : QueueState) (write : Write) (number : ℕ) → slice_get s.pipe.accepted s.pipe.read_whole ≡ Some write → (IsUnstored first s write s.pipe.read_whole → ⊥)
     → Grows first s (after_entry s (Block write.writer write.bytes number)) 0
 block_grows first s write number at stored =
     record {
@@ -155,7 +155,7 @@ block_grows first s write number at stored =
       kept = λ c other there. there;
       stored = λ c other there unstored. unstored;
       begun = omega arith;
-      passed = λ c other there unstored low. dite (ℕ_discrete c s.pipe.read)
+      passed = λ c other there unstored low. dite (ℕ_discrete c s.pipe.read_whole)
           (λ same.
           let is : other ≡ write = same_some other write (sym there ∙ ap (slice_get s.pipe.accepted) same ∙ at) in
           absurd (stored (ap (λ (w : Write). s.putting (w.writer + 1)) (sym is) ∙ unstored ∙ ap (λ (n : ℕ). Some (first + n + 1)) same)))

@@ -69,7 +69,7 @@ module _ (limit first : ℕ) (s s' : QueueState) (out out' : Bool) (words words'
       → ((write : Write) → slice_get s'.pipe.accepted c ≡ Some write → slice_get s.pipe.accepted c ≡ Some write)
       → ((write : Write) → slice_get s'.pipe.accepted c ≡ Some write → IsUnstored first s' write c → IsUnstored first s write c)
       → ((write : Write) → slice_get s'.pipe.accepted c ≡ Some write → IsUnstored first s write c → IsUnstored first s' write c)
-      → ((out' ≡ false) ⊎ (c ≢ s'.pipe.read) → (out ≡ false) ⊎ (c ≢ s.pipe.read))
+      → ((out' ≡ false) ⊎ (c ≢ s'.pipe.read_whole) → (out ≡ false) ⊎ (c ≢ s.pipe.read_whole))
       → IsPlace limit first s' out' words' homes' c
   place_moves place word home free accepted was is away =
       record {
@@ -84,34 +84,34 @@ module _ (limit first : ℕ) (s : QueueState) (out : Bool) (words : List ℕ) (h
   -- ---- take
 
   -- the word of the next place says that its write does not stand
-  pub no_block : get_or words (sequence_of (place_of limit s.pipe.read)) 0 ≢ stored_word limit s.pipe.read
+  pub no_block : get_or words (sequence_of (place_of limit s.pipe.read_whole)) 0 ≢ stored_word limit s.pipe.read_whole
       → (next_write s.pipe ≡ None) ⊎ IsUnready s (begun_number first s.pipe + 1)
   no_block other =
-      let place = ring.places s.pipe.read (omega arith) (omega arith) in
+      let place = ring.places s.pipe.read_whole (omega arith) (omega arith) in
       ⊎_elim
       (λ taken. ⊎_elim
       (λ unstored. inr record { write = taken.0; next = taken.1; returning = unstored ∙ ap (λ (n : ℕ). Some (first + n + 1)) (sym (begun_is s.pipe fits.whole)) })
       (λ stored. absurd (other (place.stored taken.0 taken.1 stored)))
-      (unstored_or_stored first s taken.0 s.pipe.read))
-      (λ past. inl (slice_get_past s.pipe.accepted s.pipe.read past))
-      (accepted_or_free s s.pipe.read)
+      (unstored_or_stored first s taken.0 s.pipe.read_whole))
+      (λ past. inl (slice_get_past s.pipe.accepted s.pipe.read_whole past))
+      (accepted_or_free s s.pipe.read_whole)
 
   -- or that it does, and then its block is in the slot
-  pub has_block : get_or words (sequence_of (place_of limit s.pipe.read)) 0 ≡ stored_word limit s.pipe.read
-      → (write : Write) × (next_write s.pipe ≡ Some write) × (IsUnstored first s write s.pipe.read → ⊥) × (out ≡ false → get_elem? homes (place_of limit s.pipe.read) ≡ some (some (Some write)))
+  pub has_block : get_or words (sequence_of (place_of limit s.pipe.read_whole)) 0 ≡ stored_word limit s.pipe.read_whole
+      → (write : Write) × (next_write s.pipe ≡ Some write) × (IsUnstored first s write s.pipe.read_whole → ⊥) × (out ≡ false → get_elem? homes (place_of limit s.pipe.read_whole) ≡ some (some (Some write)))
   has_block is =
-      let place = ring.places s.pipe.read (omega arith) (omega arith) in
+      let place = ring.places s.pipe.read_whole (omega arith) (omega arith) in
       ⊎_elim
       (λ taken. ⊎_elim
       (λ unstored. let word = place.begun taken.0 taken.1 unstored in absurd (omega arith))
       (λ stored. (taken.0, taken.1, stored, λ home. place.full taken.0 taken.1 stored (inl home)))
-      (unstored_or_stored first s taken.0 s.pipe.read))
+      (unstored_or_stored first s taken.0 s.pipe.read_whole))
       (λ past. let word = place.free past in absurd (omega arith))
-      (accepted_or_free s s.pipe.read)
+      (accepted_or_free s s.pipe.read_whole)
 
   -- another write of the window has another place
-  apart : (a b : ℕ) → s.pipe.read ≤ a → a < s.pipe.read + limit → s.pipe.read ≤ b → b < s.pipe.read + limit → a ≢ b → place_of limit a ≢ place_of limit b
-  apart a b low_a high_a low_b high_b other same = other (same_write limit s.pipe.read a b low_a high_a low_b high_b same)
+  apart : (a b : ℕ) → s.pipe.read_whole ≤ a → a < s.pipe.read_whole + limit → s.pipe.read_whole ≤ b → b < s.pipe.read_whole + limit → a ≢ b → place_of limit a ≢ place_of limit b
+  apart a b low_a high_a low_b high_b other same = other (same_write limit s.pipe.read_whole a b low_a high_a low_b high_b same)
 
   -- a step on the tail leaves the words of the places
   behind_tail : (n place : ℕ) → get_or (set words 0 n) (sequence_of place) 0 ≡ get_or words (sequence_of place) 0
@@ -137,16 +137,16 @@ module _ (limit first : ℕ) (s : QueueState) (out : Bool) (words : List ℕ) (h
   home_else a c home other = set_else homes (place_of limit a) (place_of limit c) home other
 
   -- the reader takes the slot of the next write
-  pub reader_takes : s.pipe.read < length s.pipe.accepted → AreWords limit first s true words (set homes (place_of limit s.pipe.read) none)
+  pub reader_takes : s.pipe.read_whole < length s.pipe.accepted → AreWords limit first s true words (set homes (place_of limit s.pipe.read_whole) none)
   reader_takes some_write =
       record {
         word_count = ring.word_count;
-        slot_count = length-set homes (place_of limit s.pipe.read) none ∙ ring.slot_count;
+        slot_count = length-set homes (place_of limit s.pipe.read_whole) none ∙ ring.slot_count;
         tail = ring.tail;
-        places = λ c low high. dite (ℕ_discrete c s.pipe.read) (λ same. next c same) (λ other. others c low high other);
+        places = λ c low high. dite (ℕ_discrete c s.pipe.read_whole) (λ same. next c same) (λ other. others c low high other);
       }
     where
-      next : (c : ℕ) → c ≡ s.pipe.read → IsPlace limit first s true words (set homes (place_of limit s.pipe.read) none) c
+      next : (c : ℕ) → c ≡ s.pipe.read_whole → IsPlace limit first s true words (set homes (place_of limit s.pipe.read_whole) none) c
       next c same =
           let place = ring.places c (omega arith) (omega arith) in
           record {
@@ -157,16 +157,16 @@ module _ (limit first : ℕ) (s : QueueState) (out : Bool) (words : List ℕ) (h
             full = λ write at stored there. absurd (⊎_elim (λ no. let false_is : true ≡ false = no in cc) (λ away. away same) there);
           }
 
-      others : (c : ℕ) → s.pipe.read ≤ c → c < s.pipe.read + limit → c ≢ s.pipe.read → IsPlace limit first s true words (set homes (place_of limit s.pipe.read) none) c
+      others : (c : ℕ) → s.pipe.read_whole ≤ c → c < s.pipe.read_whole + limit → c ≢ s.pipe.read_whole → IsPlace limit first s true words (set homes (place_of limit s.pipe.read_whole) none) c
       others c low high other =
-          place_moves limit first s s out true words words homes (set homes (place_of limit s.pipe.read) none) c (ring.places c low high) refl
-          (home_else s.pipe.read c none (apart c s.pipe.read low high (omega arith) (omega arith) other))
+          place_moves limit first s s out true words words homes (set homes (place_of limit s.pipe.read_whole) none) c (ring.places c low high) refl
+          (home_else s.pipe.read_whole c none (apart c s.pipe.read_whole low high (omega arith) (omega arith) other))
           (λ past. past) (λ write at. at) (λ write at unstored. unstored) (λ write at unstored. unstored)
           (λ there. inr other)
 
   -- ---- a write is accepted
 
-  module _ (writer : ℕ) (block : List ℕ) (not_hung : s.pipe.hung ≡ false) (room : length s.pipe.accepted < s.pipe.read + limit) (in_turn : s.putting (writer + 1) ≡ None) where
+  module _ (writer : ℕ) (block : List ℕ) (not_hung : s.pipe.hung ≡ false) (room : length s.pipe.accepted < s.pipe.read_whole + limit) (in_turn : s.putting (writer + 1) ≡ None) where
     abbrev write : Write
     write = record { writer = writer; bytes = block }
 
@@ -232,7 +232,7 @@ module _ (limit first : ℕ) (s : QueueState) (out : Bool) (words : List ℕ) (h
                 let is : write ≡ other = same_some write other (sym (slice_get_last s.pipe.accepted write) ∙ ap (slice_get taken.pipe.accepted) (sym same) ∙ at) in
                 ap (λ (w : Write). taken.putting (w.writer + 1)) (sym is) ∙ put_here (writer + 1) (Some (first + last + 1)) s.putting ∙ ap (λ (n : ℕ). Some (first + n + 1)) (sym same)
 
-        others : (c : ℕ) → s.pipe.read ≤ c → c < s.pipe.read + limit → c ≢ last → IsPlace limit first taken out (set words 0 (last + 1)) (set homes (place_of limit last) none) c
+        others : (c : ℕ) → s.pipe.read_whole ≤ c → c < s.pipe.read_whole + limit → c ≢ last → IsPlace limit first taken out (set words 0 (last + 1)) (set homes (place_of limit last) none) c
         others c low high other =
             let within = fits.within in
             let long = longer in
@@ -247,11 +247,11 @@ module _ (limit first : ℕ) (s : QueueState) (out : Bool) (words : List ℕ) (h
 
   -- ---- a write stands
 
-  module _ (write : Write) (a : ℕ) (low_a : s.pipe.read ≤ a) (at_a : slice_get s.pipe.accepted a ≡ Some write) (unstored_a : IsUnstored first s write a) where
+  module _ (write : Write) (a : ℕ) (low_a : s.pipe.read_whole ≤ a) (at_a : slice_get s.pipe.accepted a ≡ Some write) (unstored_a : IsUnstored first s write a) where
     abbrev stood : QueueState
     stood = after_entry s (Stood write.writer (first + a + 1))
 
-    high_a : a < s.pipe.read + limit
+    high_a : a < s.pipe.read_whole + limit
     high_a = let below = slice_get_within s.pipe.accepted a write at_a in let room = fits.room in omega arith
 
     -- no other write of its writer is unstored
@@ -285,7 +285,7 @@ module _ (limit first : ℕ) (s : QueueState) (out : Bool) (words : List ℕ) (h
               full = λ other at stored there. home_after a (some (Some write)) ∙ ap (λ (w : Write). some (some (Some w))) (same_some write other (sym at_a ∙ at));
             }
 
-        others : (c : ℕ) → s.pipe.read ≤ c → c < s.pipe.read + limit → c ≢ a → IsPlace limit first stood out (set words (sequence_of (place_of limit a)) (stored_word limit a)) (set homes (place_of limit a) (some (Some write))) c
+        others : (c : ℕ) → s.pipe.read_whole ≤ c → c < s.pipe.read_whole + limit → c ≢ a → IsPlace limit first stood out (set words (sequence_of (place_of limit a)) (stored_word limit a)) (set homes (place_of limit a) (some (Some write))) c
         others c low high other =
             let place = apart c a low high low_a high_a other in
             place_moves limit first s stood out out words (set words (sequence_of (place_of limit a)) (stored_word limit a)) homes (set homes (place_of limit a) (some (Some write))) c (ring.places c low high)
@@ -299,29 +299,29 @@ module _ (limit first : ℕ) (s : QueueState) (out : Bool) (words : List ℕ) (h
 
   -- ---- a block is taken out
 
-  pub take_frees : (writer : ℕ) (block : List ℕ) (number : ℕ) → s.pipe.read < length s.pipe.accepted
-      → AreWords limit first (after_entry s (Block writer block number)) false (set words (sequence_of (place_of limit s.pipe.read)) (stored_word limit s.pipe.read + 1)) (set homes (place_of limit s.pipe.read) (some None))
+  pub take_frees : (writer : ℕ) (block : List ℕ) (number : ℕ) → s.pipe.read_whole < length s.pipe.accepted
+      → AreWords limit first (after_entry s (Block writer block number)) false (set words (sequence_of (place_of limit s.pipe.read_whole)) (stored_word limit s.pipe.read_whole + 1)) (set homes (place_of limit s.pipe.read_whole) (some None))
   take_frees writer block number some_write =
       record {
-        word_count = length-set words (sequence_of (place_of limit s.pipe.read)) (stored_word limit s.pipe.read + 1) ∙ ring.word_count;
-        slot_count = length-set homes (place_of limit s.pipe.read) (some None) ∙ ring.slot_count;
-        tail = tail_kept s.pipe.read (stored_word limit s.pipe.read + 1) ∙ ring.tail;
-        places = λ c low high. dite (ℕ_discrete c (s.pipe.read + limit)) (λ same. new_place c same) (λ other. others c low high other);
+        word_count = length-set words (sequence_of (place_of limit s.pipe.read_whole)) (stored_word limit s.pipe.read_whole + 1) ∙ ring.word_count;
+        slot_count = length-set homes (place_of limit s.pipe.read_whole) (some None) ∙ ring.slot_count;
+        tail = tail_kept s.pipe.read_whole (stored_word limit s.pipe.read_whole + 1) ∙ ring.tail;
+        places = λ c low high. dite (ℕ_discrete c (s.pipe.read_whole + limit)) (λ same. new_place c same) (λ other. others c low high other);
       }
     where
       taken_out : QueueState
       taken_out = after_entry s (Block writer block number)
 
-      new_place : (c : ℕ) → c ≡ s.pipe.read + limit → IsPlace limit first taken_out false (set words (sequence_of (place_of limit s.pipe.read)) (stored_word limit s.pipe.read + 1)) (set homes (place_of limit s.pipe.read) (some None)) c
+      new_place : (c : ℕ) → c ≡ s.pipe.read_whole + limit → IsPlace limit first taken_out false (set words (sequence_of (place_of limit s.pipe.read_whole)) (stored_word limit s.pipe.read_whole + 1)) (set homes (place_of limit s.pipe.read_whole) (some None)) c
       new_place c same =
-          let next = next_lap limit s.pipe.read some_limit in
+          let next = next_lap limit s.pipe.read_whole some_limit in
           let room = fits.room in
-          let place : place_of limit s.pipe.read ≡ place_of limit c = sym next.0 ∙ ap (λ (x : ℕ). x % limit) (sym same) in
-          let lap : c / limit ≡ s.pipe.read / limit + 1 = ap (λ (x : ℕ). x / limit) same ∙ next.1 in
-          let word : get_or (set words (sequence_of (place_of limit s.pipe.read)) (stored_word limit s.pipe.read + 1)) (sequence_of (place_of limit c)) 0 ≡ stored_word limit s.pipe.read + 1 =
-          subst (λ (p : ℕ). get_or (set words (sequence_of (place_of limit s.pipe.read)) (stored_word limit s.pipe.read + 1)) (sequence_of p) 0 ≡ stored_word limit s.pipe.read + 1) place (word_after s.pipe.read (stored_word limit s.pipe.read + 1)) in
-          let home : get_elem? (set homes (place_of limit s.pipe.read) (some None)) (place_of limit c) ≡ some (some None) =
-          subst (λ (p : ℕ). get_elem? (set homes (place_of limit s.pipe.read) (some None)) p ≡ some (some None)) place (home_after s.pipe.read (some None)) in
+          let place : place_of limit s.pipe.read_whole ≡ place_of limit c = sym next.0 ∙ ap (λ (x : ℕ). x % limit) (sym same) in
+          let lap : c / limit ≡ s.pipe.read_whole / limit + 1 = ap (λ (x : ℕ). x / limit) same ∙ next.1 in
+          let word : get_or (set words (sequence_of (place_of limit s.pipe.read_whole)) (stored_word limit s.pipe.read_whole + 1)) (sequence_of (place_of limit c)) 0 ≡ stored_word limit s.pipe.read_whole + 1 =
+          subst (λ (p : ℕ). get_or (set words (sequence_of (place_of limit s.pipe.read_whole)) (stored_word limit s.pipe.read_whole + 1)) (sequence_of p) 0 ≡ stored_word limit s.pipe.read_whole + 1) place (word_after s.pipe.read_whole (stored_word limit s.pipe.read_whole + 1)) in
+          let home : get_elem? (set homes (place_of limit s.pipe.read_whole) (some None)) (place_of limit c) ≡ some (some None) =
+          subst (λ (p : ℕ). get_elem? (set homes (place_of limit s.pipe.read_whole) (some None)) p ≡ some (some None)) place (home_after s.pipe.read_whole (some None)) in
           let past_all : (w : Write) → slice_get s.pipe.accepted c ≡ Some w → ⊥ = λ w at. let below = slice_get_within s.pipe.accepted c w at in omega arith in
           record {
             free = λ past. word ∙ omega arith;
@@ -331,13 +331,13 @@ module _ (limit first : ℕ) (s : QueueState) (out : Bool) (words : List ℕ) (h
             full = λ w at stored there. absurd (past_all w at);
           }
 
-      others : (c : ℕ) → s.pipe.read + 1 ≤ c → c < s.pipe.read + 1 + limit → c ≢ s.pipe.read + limit → IsPlace limit first taken_out false (set words (sequence_of (place_of limit s.pipe.read)) (stored_word limit s.pipe.read + 1)) (set homes (place_of limit s.pipe.read) (some None)) c
+      others : (c : ℕ) → s.pipe.read_whole + 1 ≤ c → c < s.pipe.read_whole + 1 + limit → c ≢ s.pipe.read_whole + limit → IsPlace limit first taken_out false (set words (sequence_of (place_of limit s.pipe.read_whole)) (stored_word limit s.pipe.read_whole + 1)) (set homes (place_of limit s.pipe.read_whole) (some None)) c
       others c low high other =
-          let behind : c ≢ s.pipe.read = λ same. omega arith in
-          let place = apart c s.pipe.read (omega arith) (omega arith) (omega arith) (omega arith) behind in
-          place_moves limit first s taken_out out false words (set words (sequence_of (place_of limit s.pipe.read)) (stored_word limit s.pipe.read + 1)) homes (set homes (place_of limit s.pipe.read) (some None)) c (ring.places c (omega arith) (omega arith))
-          (word_else s.pipe.read c (stored_word limit s.pipe.read + 1) place)
-          (home_else s.pipe.read c (some None) place)
+          let behind : c ≢ s.pipe.read_whole = λ same. omega arith in
+          let place = apart c s.pipe.read_whole (omega arith) (omega arith) (omega arith) (omega arith) behind in
+          place_moves limit first s taken_out out false words (set words (sequence_of (place_of limit s.pipe.read_whole)) (stored_word limit s.pipe.read_whole + 1)) homes (set homes (place_of limit s.pipe.read_whole) (some None)) c (ring.places c (omega arith) (omega arith))
+          (word_else s.pipe.read_whole c (stored_word limit s.pipe.read_whole + 1) place)
+          (home_else s.pipe.read_whole c (some None) place)
           (λ past. past)
           (λ w at. at)
           (λ w at unstored. unstored)

@@ -66,7 +66,7 @@ pub record IsLeft (key : Key) (account : Account Entry) (left : ℕ) : Type 0 wh
   pub knows : KnowsQueue key account
   pub puts : (number : ℕ) → (queue_after key account.seen).putting number ≡ None
   pub left_is : length (queue_after key account.seen).pipe.accepted ≡
-      (queue_after key account.seen).pipe.read + left
+      (queue_after key account.seen).pipe.read_whole + left
 
 -- so many blocks were taken out, and so many less are left
 pub record IsEmptying (key : Key) (left : ℕ) (old now : Account Entry) (blocks : List Write) :

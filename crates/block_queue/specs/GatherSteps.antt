@@ -12,7 +12,7 @@ use Rattle.block_queue.specs.Steps.{Seated}
 -- the tail and the seat tell the state that this history leaves, and no put is under way
 pub record KnowsState (key : Key) (view : View) (found : ℕ) (history : List Entry) : Type 0 where
   pub tail : found ≡ tail_word (queue_after key history).pipe
-  pub taken : view.taken ≡ (queue_after key history).pipe.read
+  pub taken : view.taken ≡ (queue_after key history).pipe.read_whole
   pub puts : (number : ℕ) → (queue_after key history).putting number ≡ None
   pub given : key.first ≤ LAST_WRITE
 

@@ -27,7 +27,7 @@ opening_state limit = record { pipe = opening limit; putting = λ seat. None }
 
 -- the next write is read whole
 abbrev pub after_block : PipeState → PipeState
-after_block s = record s { read = s.read + 1; offset = 0 }
+after_block s = record s { read_whole = s.read_whole + 1; offset = 0 }
 
 -- the put of this seat that has not returned is now this one, or none
 abbrev pub with_put : ℕ → Option ℕ → (ℕ → Option ℕ) → ℕ → Option ℕ

@@ -60,7 +60,7 @@ pub record IsPlace (limit first : ℕ) (s : QueueState) (out : Bool) (words : Li
       slice_index words (sequence_of (place_of limit count)) ≡ stored_word limit count
   -- its block is in the slot, but where the reader has taken it out
   pub full : (write : Write) → slice_get s.pipe.accepted count ≡ Some write →
-      (IsUnstored first s write count → ⊥) → (out ≡ false) ⊎ (count ≢ s.pipe.read) →
+      (IsUnstored first s write count → ⊥) → (out ≡ false) ⊎ (count ≢ s.pipe.read_whole) →
       get_elem? homes (place_of limit count) ≡ some (some (Some write))
 
 -- the words and slots of the ring are those of the direction
@@ -69,13 +69,13 @@ pub record AreWords (limit first : ℕ) (s : QueueState) (out : Bool) (words : L
   pub word_count : length words ≡ limit + 1
   pub slot_count : length homes ≡ limit
   pub tail : slice_index words 0 ≡ tail_word s.pipe
-  pub places : (count : ℕ) → s.pipe.read ≤ count → count < s.pipe.read + limit →
+  pub places : (count : ℕ) → s.pipe.read_whole ≤ count → count < s.pipe.read_whole + limit →
       IsPlace limit first s out words homes count
 
 -- what is so in each state that a legal history leaves
 pub record IsQueueState (limit first : ℕ) (s : QueueState) : Type 0 where
   pub limit_is : s.pipe.limit ≡ limit
   pub whole : s.pipe.offset ≡ 0
-  pub within : s.pipe.read ≤ length s.pipe.accepted
-  pub room : length s.pipe.accepted ≤ s.pipe.read + limit
+  pub within : s.pipe.read_whole ≤ length s.pipe.accepted
+  pub room : length s.pipe.accepted ≤ s.pipe.read_whole + limit
   pub given : first + length s.pipe.accepted ≤ LAST_WRITE

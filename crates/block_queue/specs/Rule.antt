@@ -65,12 +65,12 @@ pub record IsCounted (first : ℕ) (s : QueueState) (count : ℕ) : Type 0 where
 -- and there is room for it
 pub record IsPlaced (limit first : ℕ) (s : QueueState) (count : ℕ) : Type 0 where
   pub counted : IsCounted first s count
-  pub room : count < s.pipe.read + limit
+  pub room : count < s.pipe.read_whole + limit
 
 -- its write was accepted, and no read has begun it
 pub record IsStoring (first : ℕ) (s : QueueState) (shares : List (Share Entry)) (count : ℕ)
     (write : Write) : Type 0 where
-  pub not_begun : s.pipe.read ≤ count
+  pub not_begun : s.pipe.read_whole ≤ count
   pub write_is : slice_get s.pipe.accepted count ≡ Some write
   pub unstored : IsUnstored first s write count
   pub own : IsTrue (has_number shares (write.writer + 1))
@@ -78,13 +78,13 @@ pub record IsStoring (first : ℕ) (s : QueueState) (shares : List (Share Entry)
 -- a take that found a block left: it is left
 pub record IsLooking (s : QueueState) (reader seat : ℕ) (found : Bool) : Type 0 where
   pub reader_is : reader ≡ seat
-  pub left : found ≡ true → s.pipe.read < length s.pipe.accepted
+  pub left : found ≡ true → s.pipe.read_whole < length s.pipe.accepted
 
 -- a take that has the next block: it stands
 pub record IsMoving (first : ℕ) (s : QueueState) (reader seat : ℕ) (write : Write) : Type 0 where
   pub reader_is : reader ≡ seat
-  pub write_is : slice_get s.pipe.accepted s.pipe.read ≡ Some write
-  pub stored : IsUnstored first s write s.pipe.read → ⊥
+  pub write_is : slice_get s.pipe.accepted s.pipe.read_whole ≡ Some write
+  pub stored : IsUnstored first s write s.pipe.read_whole → ⊥
 
 abbrev pub FitsStage : ℕ → ℕ → QueueState → List (Share Entry) → ℕ → ℕ → Stage → Type 0
 FitsStage limit first s shares reader seat Free = ⊤
@@ -99,7 +99,7 @@ FitsStage limit first s shares reader seat Joined = ⊤
 
 -- the reader knows how many blocks were taken out, and has the slot of the next where it is out
 pub record IsReader (s : QueueState) (out : Bool) (view : View) : Type 0 where
-  pub taken : view.taken ≡ s.pipe.read
+  pub taken : view.taken ≡ s.pipe.read_whole
   pub out_is : out ≡ is_moving view.stage
 
 pub record FitsView (limit first : ℕ) (s : QueueState) (out : Bool) (reader seat : ℕ)

@@ -13,7 +13,7 @@ use Rattle.sleep_core.specs.Runs.{Entry, world_of, own, kept, phase_by}
 use Rattle.sleep_core.specs.History.{Deed, history_of, begun_wakeup}
 use Rattle.sleep_core.proofs.CoreInvariant.{Fits}
 use Rattle.sleep_core.proofs.KeptHistory.{history_of-kept}
-use Rattle.sleep_core.proofs.NoLostWakeup.{core_of_run}
+use Rattle.sleep_core.proofs.CoreRuns.{core_of_run}
 use Rattle.sleep_core.proofs.OwnEvents.{phase_by-kept_own}
 use Rattle.sleep_core.proofs.OwnWakeups.{begun-own}
 use Rattle.rendez_words.specs.declared.states.Done.{Done}

@@ -1,4 +1,4 @@
-//! The examples of the manual pages, line for line. `check_pages` compares them with the pages.
+//! The examples of the manual pages, line for line. `tests/pages` compares them with the pages.
 use crate::tests::forked;
 use crate::{Kernel, Left, Opened};
 use std::test::Fail;

@@ -1,0 +1,289 @@
+-- The headline: what was read and is held is what was accepted.
+use Rattle.std.proofs.Common.{◌≡◌, ◌≢◌, ◌⊎◌, ◌==◌, ◌+◌, ◌≤◌, inl, inr, ℕ, Bool, true, false, eqb, if◌then◌else◌, List, [], ◌∷◌, ◌++◌, length, take, drop, refl, sym, ◌∙◌, ap, subst, arith}
+use Rattle.std.specs.Prelude.{map}
+use Rattle.std.specs.List.{AllByRecursion}
+use Rattle.std.proofs.lemmas.Bool.Decides.{eqb_tells}
+use Rattle.std.proofs.lemmas.List.{append_assoc, append-nil, length-append, length-take-le, take-append-le, take-append-drop}
+use Rattle.std.proofs.lemmas.List.Elements.{filter-append}
+use Rattle.std.proofs.lemmas.Option.{slice_get_within}
+use Rattle.histories.specs.declared.account.Share.{Share}
+use Rattle.histories.specs.Account.{HasItsEntries}
+use Rattle.histories.specs.History.{IsLegal, entries_by}
+use Rattle.sync_base.specs.Pipe.{PipeState}
+use Rattle.sync_base.specs.Write.{Write}
+use Rattle.block_queue.specs.declared.entry.Entry.{Entry}
+use Rattle.block_queue.specs.declared.entry.Entry.TheVariants.{Taken, Stood, Full, Hungup, Worn}
+use Rattle.block_queue.specs.declared.entry.Entry.TheVariants.{Block, NotYet, End, Hung}
+use Rattle.block_queue.specs.declared.view.Key.{Key}
+use Rattle.block_queue.specs.History.{seat_of, opening_state}
+use Rattle.block_queue.specs.Meaning.{queue_meaning}
+use Rattle.pipe_dev.specs.Parts.{Part, whole_at, whole_from, bytes_by}
+use Rattle.pipe_dev.specs.Reading.{Reading, IsReading}
+use Rattle.pipe_dev.specs.Finishing.{Holdings, Finishes, accepted_in, left_state}
+use Rattle.pipe_dev.specs.Laws.{read_and_held, IsAllOfWriter, EachWriteIsReadWholeAndOnce}
+use Rattle.pipe_dev.specs.Laws.{IsNeverHung, NoWriteAfterHangup, NoneIsAcceptedAfterHangup}
+use Rattle.pipe_dev.proofs.PartLemmas.{whole_from-append, bytes_by-append}
+
+abbrev LegalFor : Key → List Entry → Type 0
+LegalFor key history = IsLegal (queue_meaning key.first) (opening_state key.limit) history
+
+-- no more writes are read than were accepted
+read_within : (key : Key) (history : List Entry) → LegalFor key history
+    → (left_state key history).read_whole ≤ length (left_state key history).accepted
+read_within key [] legal = omega arith
+read_within key (Taken writer block number ∷ past) legal =
+    let before = read_within key past legal.1 in
+    let longer = length-append (left_state key past).accepted
+    (record { writer = writer; bytes = block } ∷ []) in
+    omega (arith, before, longer)
+read_within key (Stood writer number ∷ past) legal = read_within key past legal.1
+read_within key (Full writer block number ∷ past) legal = read_within key past legal.1
+read_within key (Hungup writer block ∷ past) legal = read_within key past legal.1
+read_within key (Worn writer block ∷ past) legal = read_within key past legal.1
+read_within key (Block writer block number ∷ past) legal =
+    let there = slice_get_within (left_state key past).accepted (left_state key past).read_whole
+    (record { writer = writer; bytes = block }) legal.0.may.next in
+    omega (arith, there)
+read_within key (NotYet number ∷ past) legal = read_within key past legal.1
+read_within key (End ∷ past) legal = read_within key past legal.1
+read_within key (Hung seat ∷ past) legal = read_within key past legal.1
+
+-- what others did since: they read nothing, and accepted writes came behind the others
+record OnlyAccepts (before after : PipeState) : Type 0 where
+  read : after.read_whole ≡ before.read_whole
+  more : List Write
+  accepted : after.accepted ≡ before.accepted ++ more
+
+-- of entries of which none is by the number, none of the older ones is
+none_older : (number : ℕ) (entry : Entry) (past : List Entry)
+    → entries_by seat_of number (entry ∷ past) ≡ [] → entries_by seat_of number past ≡ []
+none_older number entry past none = by (eqb (seat_of entry) number) none
+  where
+    by : (b : Bool) → (if b then entry ∷ entries_by seat_of number past
+        else entries_by seat_of number past) ≡ [] → entries_by seat_of number past ≡ []
+    by true absent = cc
+    by false absent = absent
+
+-- entries of which none is the reader's
+only_accepts : (key : Key) (since seen : List Entry) → entries_by seat_of 0 since ≡ []
+    → OnlyAccepts (left_state key seen) (left_state key (since ++ seen))
+only_accepts key [] seen none =
+    record { read = refl; more = []; accepted = sym (append-nil (left_state key seen).accepted) }
+only_accepts key (Taken writer block number ∷ since) seen none =
+    let before = only_accepts key since seen
+    (none_older 0 (Taken writer block number) since none) in
+    let write : Write = record { writer = writer; bytes = block } in
+    record {
+      read = before.read;
+      more = before.more ++ write ∷ [];
+      accepted = ap (λ writes. writes ++ write ∷ []) before.accepted
+          ∙ append_assoc (left_state key seen).accepted before.more (write ∷ []);
+    }
+only_accepts key (Block writer block number ∷ since) seen none = cc
+only_accepts key (Stood writer number ∷ since) seen none =
+    only_accepts key since seen (none_older 0 (Stood writer number) since none)
+only_accepts key (Full writer block number ∷ since) seen none =
+    only_accepts key since seen (none_older 0 (Full writer block number) since none)
+only_accepts key (Hungup writer block ∷ since) seen none =
+    only_accepts key since seen (none_older 0 (Hungup writer block) since none)
+only_accepts key (Worn writer block ∷ since) seen none =
+    only_accepts key since seen (none_older 0 (Worn writer block) since none)
+only_accepts key (NotYet number ∷ since) seen none =
+    only_accepts key since seen (none_older 0 (NotYet number) since none)
+only_accepts key (End ∷ since) seen none =
+    only_accepts key since seen (none_older 0 End since none)
+only_accepts key (Hung seat ∷ since) seen none =
+    let before = only_accepts key since seen (none_older 0 (Hung seat) since none) in
+    record { read = before.read; more = before.more; accepted = before.accepted }
+
+-- what stands in front of a past by whom nothing is missing is not by it
+none_since : (number : ℕ) (since seen : List Entry)
+    → entries_by seat_of number (since ++ seen) ≡ entries_by seat_of number seen
+    → entries_by seat_of number since ≡ []
+none_since number since seen same =
+    by (entries_by seat_of number since)
+    (sym (filter-append (λ entry. seat_of entry == number) since seen) ∙ same)
+  where
+    by : (xs : List Entry)
+        → xs ++ entries_by seat_of number seen ≡ entries_by seat_of number seen → xs ≡ []
+    by [] is = refl
+    by (x ∷ xs) is =
+        let longer = length-append (x ∷ xs) (entries_by seat_of number seen) in
+        let same_length = ap length is in
+        absurd (omega (arith, longer, same_length))
+
+-- two numbers of writers differ where those of their seats do
+same_writer : (a b : ℕ) → eqb (a + 1) (b + 1) ≡ eqb a b
+same_writer a b = by (eqb_tells (a + 1) (b + 1)) (eqb_tells a b)
+  where
+    by : ((eqb (a + 1) (b + 1) ≡ true) × (a + 1 ≡ b + 1))
+        ⊎ ((eqb (a + 1) (b + 1) ≡ false) × (a + 1 ≢ b + 1))
+        → ((eqb a b ≡ true) × (a ≡ b)) ⊎ ((eqb a b ≡ false) × (a ≢ b))
+        → eqb (a + 1) (b + 1) ≡ eqb a b
+    by (inl x) (inl y) = x.0 ∙ sym y.0
+    by (inr x) (inr y) = x.0 ∙ sym y.0
+    by (inl x) (inr y) = absurd (y.1 (let e = x.1 in omega (arith, e)))
+    by (inr x) (inl y) = absurd (x.1 (let e = y.1 in omega (arith, e)))
+
+-- an entry that is no acceptance adds none
+not_accepted : (number : ℕ) (entry : Entry) (past : List Entry)
+    → ((xs : List Entry) → accepted_in (entry ∷ xs) ≡ accepted_in xs)
+    → accepted_in (entries_by seat_of number (entry ∷ past))
+    ≡ accepted_in (entries_by seat_of number past)
+not_accepted number entry past same = by (eqb (seat_of entry) number)
+  where
+    by : (b : Bool) → accepted_in (if b then entry ∷ entries_by seat_of number past
+        else entries_by seat_of number past) ≡ accepted_in (entries_by seat_of number past)
+    by true = same (entries_by seat_of number past)
+    by false = refl
+
+bytes_by_writer : (key : Key) (writer : ℕ) (history : List Entry)
+    → bytes_by writer (whole_from 0 (left_state key history).accepted)
+    ≡ accepted_in (entries_by seat_of (writer + 1) history)
+bytes_by_writer key writer [] = refl
+bytes_by_writer key writer (Taken by block number ∷ past) =
+    ap (bytes_by writer) (whole_from-append 0 accepted (write ∷ []))
+    ∙ (bytes_by-append writer (whole_from 0 accepted)
+    (whole_at (0 + length accepted) write ∷ [])
+    ∙ (ap (λ bytes. bytes ++ bytes_by writer (whole_at (0 + length accepted) write ∷ []))
+    (bytes_by_writer key writer past)
+    ∙ (one (eqb by writer)
+    ∙ sym (ap (λ b. accepted_in (if b then Taken by block number ∷ mine else mine))
+    (same_writer by writer)))))
+  where
+    accepted : List Write
+    accepted = (left_state key past).accepted
+
+    write : Write
+    write = record { writer = by; bytes = block }
+
+    mine : List Entry
+    mine = entries_by seat_of (writer + 1) past
+
+    one : (b : Bool)
+        → accepted_in mine ++ map (λ (piece : Part). piece.bytes)
+        (if b then whole_at (0 + length accepted) write ∷ [] else [])
+        ≡ accepted_in (if b then Taken by block number ∷ mine else mine)
+    one true = refl
+    one false = append-nil (accepted_in mine)
+bytes_by_writer key writer (Stood by number ∷ past) =
+    bytes_by_writer key writer past
+    ∙ sym (not_accepted (writer + 1) (Stood by number) past (λ xs. refl))
+bytes_by_writer key writer (Full by block number ∷ past) =
+    bytes_by_writer key writer past
+    ∙ sym (not_accepted (writer + 1) (Full by block number) past (λ xs. refl))
+bytes_by_writer key writer (Hungup by block ∷ past) =
+    bytes_by_writer key writer past
+    ∙ sym (not_accepted (writer + 1) (Hungup by block) past (λ xs. refl))
+bytes_by_writer key writer (Worn by block ∷ past) =
+    bytes_by_writer key writer past
+    ∙ sym (not_accepted (writer + 1) (Worn by block) past (λ xs. refl))
+bytes_by_writer key writer (Block by block number ∷ past) =
+    bytes_by_writer key writer past
+    ∙ sym (not_accepted (writer + 1) (Block by block number) past (λ xs. refl))
+bytes_by_writer key writer (NotYet number ∷ past) =
+    bytes_by_writer key writer past
+    ∙ sym (not_accepted (writer + 1) (NotYet number) past (λ xs. refl))
+bytes_by_writer key writer (End ∷ past) =
+    bytes_by_writer key writer past
+    ∙ sym (not_accepted (writer + 1) End past (λ xs. refl))
+bytes_by_writer key writer (Hung seat ∷ past) =
+    bytes_by_writer key writer past
+    ∙ sym (not_accepted (writer + 1) (Hung seat) past (λ xs. refl))
+
+-- the writes that were taken out and the writes behind them are all that were accepted
+whole_from-cut : (count : ℕ) (writes : List Write) → count ≤ length writes
+    → whole_from 0 (take count writes) ++ whole_from count (drop count writes)
+    ≡ whole_from 0 writes
+whole_from-cut count writes within =
+    ap (λ n. whole_from 0 (take count writes) ++ whole_from n (drop count writes))
+    (let e = length-take-le count writes within in omega (arith, e))
+    ∙ (sym (whole_from-append 0 (take count writes) (drop count writes))
+    ∙ ap (whole_from 0) (take-append-drop count writes))
+
+-- what was read and is held is all that was accepted, in its order
+pub all_accepted : (key : Key) (reading : Reading) (writers : List (Share Entry)) (held : Holdings)
+    → IsReading key reading → (finishes : Finishes key reading writers held)
+    → read_and_held key reading held
+    ≡ whole_from 0 (left_state key finishes.history).accepted
+all_accepted key reading writers held right finishes = by finishes.seen.since finishes.seen.new_is
+  where
+    seen : List Entry
+    seen = reading.account.seen
+
+    by : (since : List Entry) → finishes.history ≡ since ++ seen
+        → read_and_held key reading held
+        ≡ whole_from 0 (left_state key finishes.history).accepted
+    by since is =
+        let none : entries_by seat_of 0 since ≡ []
+        = none_since 0 since seen
+        (subst (λ h. entries_by seat_of 0 h ≡ entries_by seat_of 0 seen) is
+        finishes.no_more_read) in
+        let grown : OnlyAccepts (left_state key seen) (left_state key finishes.history)
+        = subst (λ h. OnlyAccepts (left_state key seen) (left_state key h)) (sym is)
+        (only_accepts key since seen none) in
+        let within : (left_state key seen).read_whole ≤ length (left_state key seen).accepted
+        = read_within key seen right.knows.history.legal in
+        let within_all : (left_state key seen).read_whole ≤ length (left_state key finishes.history).accepted
+        = let e = ap length grown.accepted in
+        let l = length-append (left_state key seen).accepted grown.more in
+        omega (arith, within, e, l) in
+        ap (λ pieces. pieces ++ whole_from (left_state key seen).read_whole held.writes) right.right.whole
+        ∙ (ap (λ writes. whole_from 0 (take (left_state key seen).read_whole (left_state key seen).accepted)
+        ++ whole_from (left_state key seen).read_whole writes)
+        (finishes.writes ∙ ap (λ n. drop n (left_state key finishes.history).accepted) grown.read)
+        ∙ (ap (λ writes. whole_from 0 writes ++ whole_from (left_state key seen).read_whole
+        (drop (left_state key seen).read_whole (left_state key finishes.history).accepted))
+        (sym (ap (take (left_state key seen).read_whole) grown.accepted
+        ∙ take-append-le (left_state key seen).read_whole (left_state key seen).accepted grown.more
+        within))
+        ∙ whole_from-cut (left_state key seen).read_whole (left_state key finishes.history).accepted
+        within_all))
+
+pub each_write_is_read_whole_and_once : EachWriteIsReadWholeAndOnce
+each_write_is_read_whole_and_once key reading writers held right finishes =
+    all writers finishes.shares
+  where
+    one : (share : Share Entry) → HasItsEntries seat_of finishes.history share
+        → IsAllOfWriter (read_and_held key reading held) share
+    one share own writer number =
+        ap (bytes_by writer) (all_accepted key reading writers held right finishes)
+        ∙ (bytes_by_writer key writer finishes.history
+        ∙ (ap (λ n. accepted_in (entries_by seat_of n finishes.history)) (sym number)
+        ∙ ap accepted_in own.entries))
+
+    all : (shares : List (Share Entry))
+        → AllByRecursion (HasItsEntries seat_of finishes.history) shares
+        → AllByRecursion (IsAllOfWriter (read_and_held key reading held)) shares
+    all [] own = tt
+    all (share ∷ shares) own = (one share own.0, all shares own.1)
+
+-- a direction that is not hung up was never hung up
+never_hung : (key : Key) (history : List Entry) → (left_state key history).hung ≡ false
+    → IsNeverHung history
+never_hung key [] not_hung = tt
+never_hung key (Taken writer block number ∷ past) not_hung = never_hung key past not_hung
+never_hung key (Stood writer number ∷ past) not_hung = never_hung key past not_hung
+never_hung key (Full writer block number ∷ past) not_hung = never_hung key past not_hung
+never_hung key (Hungup writer block ∷ past) not_hung = never_hung key past not_hung
+never_hung key (Worn writer block ∷ past) not_hung = never_hung key past not_hung
+never_hung key (Block writer block number ∷ past) not_hung = never_hung key past not_hung
+never_hung key (NotYet number ∷ past) not_hung = never_hung key past not_hung
+never_hung key (End ∷ past) not_hung = never_hung key past not_hung
+never_hung key (Hung seat ∷ past) not_hung = cc
+
+none_after : (key : Key) (history : List Entry) → LegalFor key history → NoWriteAfterHangup history
+none_after key [] legal = tt
+none_after key (Taken writer block number ∷ past) legal =
+    (never_hung key past legal.0.may.may.0, none_after key past legal.1)
+none_after key (Stood writer number ∷ past) legal = none_after key past legal.1
+none_after key (Full writer block number ∷ past) legal = none_after key past legal.1
+none_after key (Hungup writer block ∷ past) legal = none_after key past legal.1
+none_after key (Worn writer block ∷ past) legal = none_after key past legal.1
+none_after key (Block writer block number ∷ past) legal = none_after key past legal.1
+none_after key (NotYet number ∷ past) legal = none_after key past legal.1
+none_after key (End ∷ past) legal = none_after key past legal.1
+none_after key (Hung seat ∷ past) legal = none_after key past legal.1
+
+pub none_is_accepted_after_hangup : NoneIsAcceptedAfterHangup
+none_is_accepted_after_hangup key history legal = none_after key history legal.legal

@@ -1,0 +1,56 @@
+-- The headline: each write is read whole and once, none is accepted after a hangup, and no wakeup is
+-- lost.
+use Rattle.std.specs.Prelude.{◌≡◌, ◌+◌, ℕ, ⊤, List, [], ◌∷◌, ◌++◌, reverse}
+use Rattle.std.specs.List.{AllByRecursion}
+use Rattle.histories.specs.declared.account.Share.{Share}
+use Rattle.histories.specs.History.{IsHistory}
+use Rattle.block_queue.specs.declared.entry.Entry.{Entry}
+use Rattle.block_queue.specs.declared.entry.Entry.TheVariants.{Taken}
+use Rattle.block_queue.specs.declared.entry.Entry.TheVariants.{Hung}
+use Rattle.block_queue.specs.declared.view.Key.{Key}
+use Rattle.block_queue.specs.History.{opening_state}
+use Rattle.block_queue.specs.Meaning.{queue_meaning}
+use Rattle.pipe_dev.specs.Parts.{Part, pieces_of, continued, whole_from, bytes_by}
+use Rattle.pipe_dev.specs.Reading.{Reading, IsReading, seen_state}
+use Rattle.pipe_dev.specs.Finishing.{Holdings, Finishes, accepted_in}
+
+-- what was read from the end, continued by the rest that it holds, and then the writes that it
+-- holds: the oldest first
+abbrev pub read_and_held : Key → Reading → Holdings → List Part
+read_and_held key reading held =
+    reverse (pieces_of (continued reading.rest reading.parts))
+    ++ whole_from (seen_state key reading).read_whole held.writes
+
+-- for a writer these are the bytes of its accepted writes, in its order
+abbrev pub IsAllOfWriter : List Part → Share Entry → Type 0
+IsAllOfWriter pieces share =
+    (writer : ℕ) → share.number ≡ writer + 1 → bytes_by writer pieces ≡ accepted_in share.mine
+
+-- Whoever has all ends of a direction back finds: what was read, followed by what is still held, is
+-- for each writer the bytes of its accepted writes, in its order, each whole, contiguous and once.
+abbrev pub EachWriteIsReadWholeAndOnce : Type 0
+EachWriteIsReadWholeAndOnce =
+    (key : Key) (reading : Reading) (writers : List (Share Entry)) (held : Holdings)
+    → IsReading key reading
+    → Finishes key reading writers held
+    → AllByRecursion (IsAllOfWriter (read_and_held key reading held)) writers
+
+-- no entry hangs the direction up
+abbrev pub IsNeverHung : List Entry → Type 0
+IsNeverHung [] = ⊤
+IsNeverHung (Hung seat ∷ past) = ⊥
+IsNeverHung (entry ∷ past) = IsNeverHung past
+
+-- behind each write that was accepted stands no hangup
+abbrev pub NoWriteAfterHangup : List Entry → Type 0
+NoWriteAfterHangup [] = ⊤
+NoWriteAfterHangup (Taken writer block number ∷ past) =
+    IsNeverHung past × NoWriteAfterHangup past
+NoWriteAfterHangup (entry ∷ past) = NoWriteAfterHangup past
+
+-- of every legal history of a direction
+abbrev pub NoneIsAcceptedAfterHangup : Type 0
+NoneIsAcceptedAfterHangup =
+    (key : Key) (history : List Entry)
+    → IsHistory (queue_meaning key.first) (opening_state key.limit) (key.writers + 1) history
+    → NoWriteAfterHangup history

@@ -1,0 +1,58 @@
+-- What a reader got of a direction, part by part, the newest first; and the pieces that the parts
+-- of one write make.
+use Rattle.std.specs.Prelude.{◌==◌, ◌&&◌, ◌+◌, ℕ, Bool, true, false, not, if◌then◌else◌}
+use Rattle.std.specs.Prelude.{List, [], ◌∷◌, ◌++◌, map, Option, Some, None}
+use Rattle.std.specs.List.{filter}
+use Rattle.sync_base.specs.Write.{Write}
+
+-- some bytes of a write: the place of the write among those that were accepted, counted from 0, and
+-- who wrote it
+pub record Part : Type 0 where
+  pub place : ℕ
+  pub writer : ℕ
+  pub bytes : List ℕ
+
+abbrev pub is_empty : List ℕ → Bool
+is_empty [] = true
+is_empty (byte ∷ bytes) = false
+
+-- The part goes on where the piece ended: both are of one write. An empty part goes on with none:
+-- it is all of a write that has no bytes.
+abbrev pub goes_on : Part → Part → Bool
+goes_on piece part =
+    (piece.place == part.place) && (piece.writer == part.writer)
+    && not (is_empty piece.bytes) && not (is_empty part.bytes)
+
+-- the piece with the bytes of the part behind its own
+abbrev pub longer_by : Part → Part → Part
+longer_by piece part = record piece { bytes = piece.bytes ++ part.bytes }
+
+-- one part more: the latest piece goes on, or another begins
+abbrev pub with_part : Part → List Part → List Part
+with_part part [] = part ∷ []
+with_part part (piece ∷ past) =
+    if goes_on piece part then longer_by piece part ∷ past else part ∷ piece ∷ past
+
+-- the pieces that the parts make, the newest first
+abbrev pub pieces_of : List Part → List Part
+pieces_of [] = []
+pieces_of (part ∷ past) = with_part part (pieces_of past)
+
+-- the write at this place, whole
+abbrev pub whole_at : ℕ → Write → Part
+whole_at place write = record { place = place; writer = write.writer; bytes = write.bytes }
+
+-- these writes, each whole, the first at this place
+abbrev pub whole_from : ℕ → List Write → List Part
+whole_from place [] = []
+whole_from place (write ∷ writes) = whole_at place write ∷ whole_from (place + 1) writes
+
+-- what was read, continued by what is left of a write that was begun
+abbrev pub continued : Option Part → List Part → List Part
+continued None parts = parts
+continued (Some rest) parts = rest ∷ parts
+
+-- the bytes of the pieces by this writer
+abbrev pub bytes_by : ℕ → List Part → List (List ℕ)
+bytes_by writer pieces =
+    map (λ piece. piece.bytes) (filter (λ piece. piece.writer == writer) pieces)
