@@ -1,5 +1,5 @@
-//! What no clause says: that calls succeed where there is memory, and worked runs of the queue,
-//! by one thread, with a probe that acts between two steps, and by several threads.
+//! What no clause says: that calls succeed where there is memory, and worked runs of the queue by
+//! one thread.
 ghost use Rattle.std.specs.Prelude.{IfOk, ◌<◌, ◌≤◌};
 ghost use Rattle.sync_base.specs.declared.limits.TheConstants.{LAST_WRITE};
 ghost use Rattle.block_queue.specs.Seats.{IsPutSeatOf, IsTakeSeatOf};

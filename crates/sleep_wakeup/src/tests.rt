@@ -16,9 +16,9 @@ use note_at::{NoteAt, SleepAt};
 
 const ROUNDS: u64 = 100_000;
 
-const R0: RendezId = RendezId(0);
+const INPUT: RendezId = RendezId(0);
 
-const R1: RendezId = RendezId(1);
+const OUTPUT: RendezId = RendezId(1);
 
 // The next process.
 fn forked<'k>(rt: &impl Abort, started: &mut Started<'k>) -> Proc<'k> {
@@ -52,8 +52,8 @@ fn two_processes_wake_each_other(rt: HostRuntime) -> Result<(), Fail> {
     let mut first = started.proc;
     let (woken, slept) = join(
         &rt,
-        || -> bool { first.wakeup(R1, 1).is_ok() && first.sleep(&rt, R0, 0).is_ok() },
-        || -> bool { second.sleep(&rt, R1, 0).is_ok() && second.wakeup(R0, 1).is_ok() },
+        || -> bool { first.wakeup(OUTPUT, 1).is_ok() && first.sleep(&rt, INPUT, 0).is_ok() },
+        || -> bool { second.sleep(&rt, OUTPUT, 0).is_ok() && second.wakeup(INPUT, 1).is_ok() },
     );
     assert!(rt; woken && slept);
     Ok(())
@@ -67,8 +67,8 @@ fn two_processes_pass_a_wakeup_to_and_fro(rt: HostRuntime) -> Result<(), Fail> {
     let first = started.proc;
     let (first_good, second_good) = join(
         &rt,
-        || pings(&rt, first, R0, R1, true),
-        || pings(&rt, second, R1, R0, false),
+        || pings(&rt, first, INPUT, OUTPUT, true),
+        || pings(&rt, second, OUTPUT, INPUT, false),
     );
     assert!(rt; first_good && second_good);
     Ok(())
@@ -83,12 +83,12 @@ fn a_pending_note_ends_a_sleep_and_is_gone(rt: HostRuntime) -> Result<(), Fail> 
     } = kernel.start(start);
     let hangup = NoteSet::of(Note::Hangup);
     assert_eq!(rt;
-        proc.wakeup(R0, 1).map(|done| (done.rendez, done.level)),
-        Ok((R0, 1))
+        proc.wakeup(INPUT, 1).map(|done| (done.rendez, done.level)),
+        Ok((INPUT, 1))
     );
     assert_eq!(rt; proc.postnote(Pid(0), hangup), Ok(()));
-    assert_eq!(rt; proc.sleep(&rt, R0, 0), Err(Fault::Interrupted(hangup)));
-    assert_eq!(rt; proc.sleep(&rt, R0, 0), Ok(()));
+    assert_eq!(rt; proc.sleep(&rt, INPUT, 0), Err(Fault::Interrupted(hangup)));
+    assert_eq!(rt; proc.sleep(&rt, INPUT, 0), Ok(()));
     proc.put_back(hangup);
     assert_eq!(rt; proc.notes(), hangup);
     assert_eq!(rt; proc.notes(), NoteSet::empty());
@@ -115,7 +115,7 @@ fn a_kernel_gives_each_pid_and_rendez_once(rt: HostRuntime) -> Result<(), Fail> 
     assert!(rt; matches!(roster.rfork(&mut proc, Flags::RFPROC), Err(Fault::NoProc)));
     assert_eq!(rt; roster.row(0), Err(Fault::NoRendez));
     assert_eq!(rt; roster.row(4), Err(Fault::NoRendez));
-    assert_eq!(rt; roster.row(2), Ok(R0));
+    assert_eq!(rt; roster.row(2), Ok(INPUT));
     assert_eq!(rt; roster.row(2), Err(Fault::NoRendez));
     assert_eq!(rt; roster.rendez(), Ok(RendezId(2)));
     assert_eq!(rt; roster.rendez(), Err(Fault::NoRendez));
@@ -134,9 +134,9 @@ fn calls_refuse_what_is_not_there(rt: HostRuntime) -> Result<(), Fail> {
         roster: _,
         mut proc,
     } = kernel.start(start);
-    assert_eq!(rt; proc.sleep(&rt, R1, u64::MAX), Err(Fault::NoRendez));
-    assert_eq!(rt; proc.sleep(&rt, R0, u64::MAX), Err(Fault::BadLevel));
-    assert_eq!(rt; proc.wakeup(R1, 1), Err(Fault::NoRendez));
+    assert_eq!(rt; proc.sleep(&rt, OUTPUT, u64::MAX), Err(Fault::NoRendez));
+    assert_eq!(rt; proc.sleep(&rt, INPUT, u64::MAX), Err(Fault::BadLevel));
+    assert_eq!(rt; proc.wakeup(OUTPUT, 1), Err(Fault::NoRendez));
     assert_eq!(rt;
         proc.postnote(Pid(2), NoteSet::of(Note::Alarm)),
         Err(Fault::NoProc)
@@ -153,7 +153,7 @@ fn a_note_waits_for_a_process_that_is_not_made_yet(rt: HostRuntime) -> Result<()
     assert_eq!(rt; started.proc.postnote(Pid(1), alarm), Ok(()));
     let mut child = forked(&rt, &mut started);
     assert_eq!(rt; started.proc.notes(), NoteSet::empty());
-    assert_eq!(rt; child.sleep(&rt, R0, 0), Err(Fault::Interrupted(alarm)));
+    assert_eq!(rt; child.sleep(&rt, INPUT, 0), Err(Fault::Interrupted(alarm)));
     Ok(())
 }
 
@@ -170,7 +170,7 @@ fn noted_at<R: Wait + Abort>(
     let mut poster = forked(rt, &mut started);
     let mut sleeper = started.proc;
     if level > 0 {
-        assert!(rt; poster.wakeup(R0, level).is_ok());
+        assert!(rt; poster.wakeup(INPUT, level).is_ok());
     }
     let mut probe = NoteAt {
         poster,
@@ -178,7 +178,7 @@ fn noted_at<R: Wait + Abort>(
         to: sleeper.pid(),
         visited: false,
     };
-    let answer = sleeper.sleep_probed(rt, R0, 0, &mut probe);
+    let answer = sleeper.sleep_probed(rt, INPUT, 0, &mut probe);
     assert!(rt; probe.visited, "the sleep passes the point");
     Ok((answer, sleeper.notes()))
 }
@@ -219,7 +219,10 @@ fn a_second_sleeper_is_refused_and_can_wake_the_first(rt: HostRuntime) -> Result
         second,
         answer: Ok(()),
     };
-    assert_eq!(rt; started.proc.sleep_probed(&rt, R0, 0, &mut probe), Ok(()));
+    assert_eq!(rt;
+        started.proc.sleep_probed(&rt, INPUT, 0, &mut probe),
+        Ok(())
+    );
     assert_eq!(rt; probe.answer, Err(Fault::DoubleSleep));
     Ok(())
 }
