@@ -1,5 +1,5 @@
 -- Which command lines `clap` takes, and that it refuses every other.
-use Rattle.std.proofs.Common.{◌≡◌, ℕ, Bool, true, false, not, cond, ◌⊎◌, inl, inr, zero, suc, List, [], ◌∷◌, ◌++◌, length, drop, fold, append_assoc, Option, None, Some, refl, sym, ◌∙◌, ap, ap₂, subst, codes, rules}
+use Rattle.std.proofs.Common.{◌≡◌, ℕ, Bool, true, false, ◌⊎◌, inl, inr, zero, suc, List, [], ◌∷◌, ◌++◌, length, fold, append_assoc, Option, None, Some, refl, sym, ◌∙◌, ap, ap₂, subst, codes, rules}
 use Rattle.std.proofs.Common.{slice_get, option_map}
 use Rattle.std.specs.Str.{bytes_eq, chars}
 use Rattle.std.specs.Bool.{Decides}
@@ -7,8 +7,8 @@ use Rattle.std.proofs.lemmas.Bool.Decides.{same_from_decides}
 use Rattle.std.proofs.lemmas.List.{append-nil}
 use Rattle.std.proofs.lemmas.Slice.Eq.{bytes_eq-Decides}
 use Rattle.clap.specs.Lexer.{long_of, short_of}
-use Rattle.clap.specs.Walk.{Held, Names, Row, Rule, Text, Walk, idle, walk, walk_from, walked, nothing_held, bundle_met, plain, Outcome, subcommand_met}
-use Rattle.clap.specs.Simple.{App, Shape, built, names_of, subcommand_of, subcommand_rows}
+use Rattle.clap.specs.Walk.{Names, Rule, Text, Walk, idle, walk, walk_from, walked, nothing_held, bundle_met, subcommand_met}
+use Rattle.clap.specs.Simple.{Shape, built, names_of, subcommand_of, subcommand_rows}
 use Rattle.clap.specs.declared.parser.matches.SubCommand.{SubCommand}
 use Rattle.clap.specs.declared.parser.matches.ArgMatches.TheViews.{out-SubCommand}
 use Rattle.std.specs.Box.{box_value}
@@ -23,7 +23,6 @@ use Rattle.std.specs.Option.{ok_or}
 use Rattle.std.specs.Result.{IfOk, IfErr}
 use Rattle.std.specs.Prelude.{Result, Err, IfSome}
 use Rattle.p9sync.specs.declared.args.Task.{Task}
-use Rattle.p9sync.specs.declared.args.Task.TheVariants.{Pipe, Replay}
 use Rattle.p9sync.specs.Lines.{is_word}
 use Rattle.p9sync.specs.declared.args.TheConstants.{FAULT}
 use Rattle.p9sync.specs.Args.{command_line, task_asked, task_named, told_by, EndsRun}

@@ -1,7 +1,7 @@
 -- Lines of a schedule with a word too many are not in the grammar.
 use Rattle.std.proofs.Common.{◌≡◌, ℕ, ◌<◌, List, [], ◌∷◌, length, ◌+◌, Option, None, Some, Bor, refl, arith}
 use Rattle.p9sync.specs.Lines.{is_space, words_of}
-use Rattle.p9sync.specs.Schedule.{size_of, lone_pid, call_of, note_of}
+use Rattle.p9sync.specs.Schedule.{size_of, lone_pid, operands_of, note_of}
 use Rattle.p9sync.proofs.LineLemmas.{parts_of-some}
 
 -- a process and a word more is no process alone
@@ -23,15 +23,15 @@ pub note_of-long : (pid kinds rest : List ℕ) → note_of (pid ∷ kinds ∷ wo
 note_of-long pid kinds rest = note_of-more pid kinds (words_of rest) (parts_of-some is_space rest)
 
 -- nor a process, a Rendez and a level
-call_of-more : (pid rendez level : List ℕ) (words : List (List ℕ)) → 0 < length words
-    → call_of (pid ∷ rendez ∷ level ∷ words) ≡ None
-call_of-more pid rendez level [] some = absurd (omega arith)
-call_of-more pid rendez level (word ∷ words) some = refl
+operands_of-more : (pid rendez level : List ℕ) (words : List (List ℕ)) → 0 < length words
+    → operands_of (pid ∷ rendez ∷ level ∷ words) ≡ None
+operands_of-more pid rendez level [] some = absurd (omega arith)
+operands_of-more pid rendez level (word ∷ words) some = refl
 
-pub call_of-long : (pid rendez level rest : List ℕ)
-    → call_of (pid ∷ rendez ∷ level ∷ words_of rest) ≡ None
-call_of-long pid rendez level rest =
-    call_of-more pid rendez level (words_of rest) (parts_of-some is_space rest)
+pub operands_of-long : (pid rendez level rest : List ℕ)
+    → operands_of (pid ∷ rendez ∷ level ∷ words_of rest) ≡ None
+operands_of-long pid rendez level rest =
+    operands_of-more pid rendez level (words_of rest) (parts_of-some is_space rest)
 
 -- nor the sizes of a world
 size_of-more : (verb procs rendez : List ℕ) (words : List (List ℕ)) → 0 < length words

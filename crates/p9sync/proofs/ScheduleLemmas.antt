@@ -1,7 +1,6 @@
 -- A schedule comes only to worlds that events from the opening one lead to, and in those no wakeup
 -- is lost.
 use Rattle.std.proofs.Common.{◌≡◌, ℕ, Bool, true, false, List, [], ◌∷◌, ◌++◌, codes, Option, None, Some, refl, ap, sym, subst, ◌∙◌}
-use Rattle.std.specs.Option.{option_map}
 use Rattle.sleep_core.specs.declared.event.Event.{Event}
 use Rattle.sleep_core.specs.State.{State, opening}
 use Rattle.sleep_core.specs.Step.{world_after}
@@ -12,7 +11,7 @@ use Rattle.p9sync.specs.declared.event_line.Size.{Size}
 use Rattle.p9sync.specs.declared.lines.TheConstants.{LINE_FEED}
 use Rattle.p9sync.specs.Lines.{words_of}
 use Rattle.p9sync.specs.Script.{Answered}
-use Rattle.p9sync.specs.Schedule.{schedule_language, schedule_told, size_of, event_of}
+use Rattle.p9sync.specs.Schedule.{schedule_language, size_of, event_of}
 use Rattle.p9sync.specs.ScriptLaws.{answers_of, NoScheduleSaysLost}
 use Rattle.p9sync.proofs.ToldLemmas.{Stays}
 use Rattle.p9sync.proofs.ScriptLawLemmas.{farewell_kept}

@@ -4,11 +4,11 @@ use Rattle.std.proofs.lemmas.List.{append-nil, take_all, take-append-le}
 use Rattle.std.proofs.lemmas.Bool.Decides.{nat_tests}
 use Rattle.p9sync.specs.declared.script.TheConstants.{MAX_SCRIPT}
 use Rattle.p9sync.specs.Lines.{lines_of, cut_line_of}
-use Rattle.p9sync.specs.Script.{Language, told, told_lines, is_cut_off}
-use Rattle.p9sync.specs.ScriptLaws.{without_farewell, answers_of, text_of, whole_lines, first_lines, AnswersAreFinal, OutputIsFinal, TooLongStaysSo, FarewellComesLast, FaultHasNoFarewell, FaultIsInScript, FaultLeavesAnswers, FirstFaultLeavesNone, LinesBeforeHaveNoFault, FrontHasNoFault, PipeOutputIsFinal}
+use Rattle.p9sync.specs.Script.{Language, told, lines_told, is_cut_off}
+use Rattle.p9sync.specs.ScriptLaws.{without_farewell, answers_of, lines_text, whole_lines, first_lines, AnswersAreFinal, OutputIsFinal, TooLongStaysSo, FarewellComesLast, FaultHasNoFarewell, FaultIsInScript, FaultLeavesAnswers, FirstFaultLeavesNone, LinesBeforeHaveNoFault, FrontHasNoFault, PipeOutputIsFinal}
 use Rattle.p9sync.specs.PipeScript.{pipe_language}
 use Rattle.p9sync.proofs.DeviceLemmas.{told_by_front}
-use Rattle.p9sync.proofs.TextLemmas.{ArePlain, plain_lines, plain_take, lines_of-text, cut_line_of-text, lines_of-append, first_within, text_of-lines}
+use Rattle.p9sync.proofs.TextLemmas.{ArePlain, plain_lines, plain_take, lines_of-text, cut_line_of-text, lines_of-append, first_within, lines_text-lines}
 use Rattle.p9sync.proofs.ToldLemmas.{Stays, lines_grow, farewell_lines, LeavesFirst, fault_leaves_first, cut_lines-fault, front_lines-sound}
 
 -- the first bytes of two texts
@@ -37,7 +37,7 @@ answers_final language front rest =
     lines in (
       more,
       ap (λ all.
-          (told_lines (without_farewell language) (is_cut_off (front ++ rest)) all).output) same
+          (lines_told (without_farewell language) (is_cut_off (front ++ rest)) all).output) same
           ∙ is,
     )
 
@@ -100,7 +100,7 @@ too_long_stays language front rest long =
 
 -- a text of whole lines says what its lines say
 told_whole : {S : Type 0} (language : Language S) (text : List ℕ) → length text ≤ MAX_SCRIPT
-    → cut_line_of text ≡ [] → told language text ≡ told_lines language false (lines_of text)
+    → cut_line_of text ≡ [] → told language text ≡ lines_told language false (lines_of text)
 told_whole language text within whole =
     let all : take MAX_SCRIPT text ≡ text = take_all MAX_SCRIPT text within in
     let short : nat_lt MAX_SCRIPT (length text) ≡ false = grind (arith, nat_tests) in
@@ -108,19 +108,19 @@ told_whole language text within whole =
 
 -- what a script of whole lines says
 told_text : {S : Type 0} (language : Language S) (lines : List (List ℕ)) → ArePlain lines
-    → length (text_of lines) ≤ MAX_SCRIPT
-    → told language (text_of lines) ≡ told_lines language false lines
+    → length (lines_text lines) ≤ MAX_SCRIPT
+    → told language (lines_text lines) ≡ lines_told language false lines
 told_text language lines plain within =
-    let bare : text_of lines ++ [] ≡ text_of lines = append-nil (text_of lines) in
-    let whole : cut_line_of (text_of lines) ≡ [] = ap cut_line_of (sym bare)
+    let bare : lines_text lines ++ [] ≡ lines_text lines = append-nil (lines_text lines) in
+    let whole : cut_line_of (lines_text lines) ≡ [] = ap cut_line_of (sym bare)
     ∙ cut_line_of-text lines [] plain in
-    let same : lines_of (text_of lines) ≡ lines = ap lines_of (sym bare)
+    let same : lines_of (lines_text lines) ≡ lines = ap lines_of (sym bare)
     ∙ (lines_of-text lines [] plain ∙ append-nil lines) in
-    told_whole language (text_of lines) within whole ∙ ap (told_lines language false) same
+    told_whole language (lines_text lines) within whole ∙ ap (lines_told language false) same
 
 -- the first lines of a script are a script
 told_first : {S : Type 0} (language : Language S) (k : ℕ) (input : List ℕ)
-    → told language (first_lines k input) ≡ told_lines language false (take k (whole_lines input))
+    → told language (first_lines k input) ≡ lines_told language false (take k (whole_lines input))
 told_first language k input =
     let within = first_within k (take MAX_SCRIPT input) in
     told_text language (take k (whole_lines input))
@@ -174,7 +174,7 @@ not_too_long : {S : Type 0} (language : Language S) (input : List ℕ)
 not_too_long language input none = step (is_cut_off input) refl none
   where
     step : (v : Bool) → is_cut_off input ≡ v
-        → (told_lines language v (whole_lines input)).fault ≡ None → length input ≤ MAX_SCRIPT
+        → (lines_told language v (whole_lines input)).fault ≡ None → length input ≤ MAX_SCRIPT
     step true is fault = absurd (cut_lines-fault language (whole_lines input) fault)
     step false is fault =
         let short : nat_lt MAX_SCRIPT (length input) ≡ false =
@@ -183,7 +183,7 @@ not_too_long language input none = step (is_cut_off input) refl none
         grind (arith, nat_tests)
 
 -- a text of whole lines that is not empty has a line
-some_line : (lines : List (List ℕ)) (cut text : List ℕ) → text_of lines ++ cut ≡ text → cut ≡ []
+some_line : (lines : List (List ℕ)) (cut text : List ℕ) → lines_text lines ++ cut ≡ text → cut ≡ []
     → 0 < length text → 0 < length lines
 some_line [] cut text is none some = absurd (omega (arith, ap length is, ap length none))
 some_line (line ∷ lines) cut text is none some = omega arith
@@ -196,11 +196,11 @@ front_sound language front rest whole some none =
     let (more, same) = lines_before front rest in
     let lines : whole_lines (front ++ rest) ≡ lines_of front ++ more = same
     ∙ ap (λ t. lines_of t ++ more) (take_all MAX_SCRIPT front within) in
-    let fault = subst (λ all. (told_lines language (is_cut_off (front ++ rest)) all).fault ≡ None)
+    let fault = subst (λ all. (lines_told language (is_cut_off (front ++ rest)) all).fault ≡ None)
     lines none in
     ap (λ t. t.fault) (told_whole language front within whole) ∙
     front_lines-sound language (is_cut_off (front ++ rest)) (lines_of front) more
-    (some_line (lines_of front) (cut_line_of front) front (text_of-lines front) whole some) fault
+    (some_line (lines_of front) (cut_line_of front) front (lines_text-lines front) whole some) fault
 
 -- the law: all that a pipe script writes is final
 pub pipe_output_final : PipeOutputIsFinal

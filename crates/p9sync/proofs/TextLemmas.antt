@@ -3,7 +3,7 @@ use Rattle.std.proofs.Common.{◌≡◌, ℕ, zero, suc, ◌<◌, ◌≤◌, Boo
 use Rattle.std.proofs.lemmas.List.{take-append-drop}
 use Rattle.std.proofs.lemmas.Bool.Decides.{nat_tests}
 use Rattle.p9sync.specs.Lines.{is_line_feed, parts_of, onto_first, all_but_last, last_of, lines_of, cut_line_of}
-use Rattle.p9sync.specs.ScriptLaws.{text_of}
+use Rattle.p9sync.specs.ScriptLaws.{lines_text}
 use Rattle.p9sync.proofs.LineLemmas.{parts_of-some, all_but_last-cons, last_of-cons}
 
 -- no line feed stands in the line, and none in these lines
@@ -58,29 +58,29 @@ parts_of-line (b ∷ bs) rest plain =
 
 -- a text that begins with these lines has them first, and is cut where the rest of it is
 pub lines_of-text : (lines : List (List ℕ)) (rest : List ℕ) → ArePlain lines
-    → lines_of (text_of lines ++ rest) ≡ lines ++ lines_of rest
+    → lines_of (lines_text lines ++ rest) ≡ lines ++ lines_of rest
 lines_of-text [] rest plain = refl
 lines_of-text (line ∷ lines) rest plain =
-    ap lines_of (append_assoc line (10 ∷ text_of lines) rest) ∙
-    (ap all_but_last (parts_of-line line (text_of lines ++ rest) plain.0) ∙
-    (all_but_last-cons line (parts_of is_line_feed (text_of lines ++ rest))
-    (parts_of-some is_line_feed (text_of lines ++ rest)) ∙
+    ap lines_of (append_assoc line (10 ∷ lines_text lines) rest) ∙
+    (ap all_but_last (parts_of-line line (lines_text lines ++ rest) plain.0) ∙
+    (all_but_last-cons line (parts_of is_line_feed (lines_text lines ++ rest))
+    (parts_of-some is_line_feed (lines_text lines ++ rest)) ∙
     ap (λ all. line ∷ all) (lines_of-text lines rest plain.1)))
 
 -- what follows the last of some lines is what is cut
 pub cut_line_of-text : (lines : List (List ℕ)) (rest : List ℕ) → ArePlain lines
-    → cut_line_of (text_of lines ++ rest) ≡ cut_line_of rest
+    → cut_line_of (lines_text lines ++ rest) ≡ cut_line_of rest
 cut_line_of-text [] rest plain = refl
 cut_line_of-text (line ∷ lines) rest plain =
-    ap cut_line_of (append_assoc line (10 ∷ text_of lines) rest) ∙
-    (ap last_of (parts_of-line line (text_of lines ++ rest) plain.0) ∙
-    (last_of-cons line (parts_of is_line_feed (text_of lines ++ rest))
-    (parts_of-some is_line_feed (text_of lines ++ rest)) ∙
+    ap cut_line_of (append_assoc line (10 ∷ lines_text lines) rest) ∙
+    (ap last_of (parts_of-line line (lines_text lines ++ rest) plain.0) ∙
+    (last_of-cons line (parts_of is_line_feed (lines_text lines ++ rest))
+    (parts_of-some is_line_feed (lines_text lines ++ rest)) ∙
     cut_line_of-text lines rest plain.1))
 
 -- the parts with their line feeds, but for the last, make the text
 abbrev joined : List (List ℕ) → List ℕ
-joined parts = text_of (all_but_last parts) ++ last_of parts
+joined parts = lines_text (all_but_last parts) ++ last_of parts
 
 -- a byte in front of parts goes in front of their text
 joined_onto : (b : ℕ) (parts : List (List ℕ)) → 0 < length parts
@@ -97,9 +97,9 @@ line_feed-is : (b : ℕ) → is_line_feed b ≡ true → b ≡ 10
 line_feed-is b is = grind (arith, nat_tests)
 
 -- a text is its whole lines, and what is cut
-pub text_of-lines : (text : List ℕ) → text_of (lines_of text) ++ cut_line_of text ≡ text
-text_of-lines [] = refl
-text_of-lines (b ∷ bs) = step (is_line_feed b) refl (text_of-lines bs)
+pub lines_text-lines : (text : List ℕ) → lines_text (lines_of text) ++ cut_line_of text ≡ text
+lines_text-lines [] = refl
+lines_text-lines (b ∷ bs) = step (is_line_feed b) refl (lines_text-lines bs)
   where
     step : (v : Bool) → is_line_feed b ≡ v → joined (parts_of is_line_feed bs) ≡ bs
         → joined (cond v ([] ∷ parts_of is_line_feed bs) (onto_first b (parts_of is_line_feed bs)))
@@ -113,29 +113,31 @@ text_of-lines (b ∷ bs) = step (is_line_feed b) refl (text_of-lines bs)
 pub lines_of-append : (text rest : List ℕ)
     → lines_of (text ++ rest) ≡ lines_of text ++ lines_of (cut_line_of text ++ rest)
 lines_of-append text rest =
-    ap (λ t. lines_of (t ++ rest)) (sym (text_of-lines text)) ∙
-    (ap lines_of (append_assoc (text_of (lines_of text)) (cut_line_of text) rest) ∙
+    ap (λ t. lines_of (t ++ rest)) (sym (lines_text-lines text)) ∙
+    (ap lines_of (append_assoc (lines_text (lines_of text)) (cut_line_of text) rest) ∙
     lines_of-text (lines_of text) (cut_line_of text ++ rest) (plain_lines text))
 
 -- the text of two lists of lines
-text_of-append : (a b : List (List ℕ)) → text_of (a ++ b) ≡ text_of a ++ text_of b
-text_of-append [] b = refl
-text_of-append (line ∷ a) b = ap (λ t. line ++ 10 ∷ t) (text_of-append a b)
-    ∙ sym (append_assoc line (10 ∷ text_of a) (text_of b))
+lines_text-append : (a b : List (List ℕ)) → lines_text (a ++ b) ≡ lines_text a ++ lines_text b
+lines_text-append [] b = refl
+lines_text-append (line ∷ a) b = ap (λ t. line ++ 10 ∷ t) (lines_text-append a b)
+    ∙ sym (append_assoc line (10 ∷ lines_text a) (lines_text b))
 
 -- the first lines of a text are no longer than it
-pub first_within : (k : ℕ) (text : List ℕ) → length (text_of (take k (lines_of text))) ≤ length text
+pub first_within : (k : ℕ) (text : List ℕ)
+    → length (lines_text (take k (lines_of text))) ≤ length text
 first_within k text =
     let lines = lines_of text in
-    let whole : length (text_of (take k lines) ++ text_of (drop k lines)) ≡ length (text_of lines) =
-    ap length (sym (text_of-append (take k lines) (drop k lines))
-    ∙ ap text_of (take-append-drop k lines)) in
-    let all : length (text_of lines ++ cut_line_of text) ≡ length text =
-    ap length (text_of-lines text) in
+    let whole : length (lines_text (take k lines) ++ lines_text (drop k lines))
+    ≡ length (lines_text lines) =
+    ap length (sym (lines_text-append (take k lines) (drop k lines))
+    ∙ ap lines_text (take-append-drop k lines)) in
+    let all : length (lines_text lines ++ cut_line_of text) ≡ length text =
+    ap length (lines_text-lines text) in
     omega (
       arith,
       whole,
       all,
-      length-append (text_of (take k lines)) (text_of (drop k lines)),
-      length-append (text_of lines) (cut_line_of text),
+      length-append (lines_text (take k lines)) (lines_text (drop k lines)),
+      length-append (lines_text lines) (cut_line_of text),
     )

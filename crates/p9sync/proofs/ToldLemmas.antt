@@ -3,7 +3,7 @@
 use Rattle.std.proofs.Common.{◌≡◌, ℕ, suc, ◌+◌, ◌<◌, ◌≤◌, nat_le, Bool, true, false, cond, List, [], ◌∷◌, ◌++◌, length, take, Option, None, Some, refl, ap, sym, ◌∙◌, append_assoc, arith}
 use Rattle.std.specs.Option.{option_map_or}
 use Rattle.p9sync.specs.declared.script.TheConstants.{MAX_LINE}
-use Rattle.p9sync.specs.Script.{Language, Answered, Told, fault_at, answer_then, if_fits, told_of, told_lines}
+use Rattle.p9sync.specs.Script.{Language, Answered, Told, fault_at, answer_then, if_fits, told_from, lines_told}
 use Rattle.p9sync.specs.ScriptLaws.{without_farewell}
 
 -- what a line that reads as this and these lines say; the first of them has this number
@@ -11,12 +11,12 @@ abbrev said_with : {S : Type 0} → Language S → Bool → ℕ → List (List �
 said_with {S} language is_cut n rest answer =
     option_map_or
     (λ (answered : Answered S). answer_then answered.text
-    (told_of language is_cut answered.after (n + 1) rest)) answer (fault_at n)
+    (told_from language is_cut answered.after (n + 1) rest)) answer (fault_at n)
 
 -- what lines say behind a first line that opens this
 abbrev said_from : {S : Type 0} → Language S → Bool → List (List ℕ) → Option S → Told
 said_from language is_cut rest opened =
-    option_map_or (λ s. told_of language is_cut s 2 rest) opened (fault_at 1)
+    option_map_or (λ s. told_from language is_cut s 2 rest) opened (fault_at 1)
 
 -- the text goes on
 abbrev pub Grows : List ℕ → List ℕ → Type 0
@@ -36,34 +36,34 @@ grows_behind text old new (more, is) =
 -- by induction on the lines: their answers stand first, however many follow
 answers_grow : {S : Type 0} (language : Language S) (is_cut goes_cut : Bool) (s : S) (n : ℕ)
     (lines more : List (List ℕ))
-    → Grows (told_of (without_farewell language) is_cut s n lines).output
-    (told_of (without_farewell language) goes_cut s n (lines ++ more)).output
+    → Grows (told_from (without_farewell language) is_cut s n lines).output
+    (told_from (without_farewell language) goes_cut s n (lines ++ more)).output
 answers_grow {S} language is_cut goes_cut s n [] more =
-    let all = (told_of (without_farewell language) goes_cut s n more).output in
+    let all = (told_from (without_farewell language) goes_cut s n more).output in
     (all, ap (λ t. t ++ all) (sym (no_answer is_cut n)))
 answers_grow {S} language is_cut goes_cut s n (line ∷ lines) more =
     step (if_fits (language.answer_to s) line)
     (λ t. answers_grow language is_cut goes_cut t (n + 1) lines more)
   where
     step : (v : Option (Answered S))
-        → ((t : S) → Grows (told_of (without_farewell language) is_cut t (n + 1) lines).output
-        (told_of (without_farewell language) goes_cut t (n + 1) (lines ++ more)).output)
+        → ((t : S) → Grows (told_from (without_farewell language) is_cut t (n + 1) lines).output
+        (told_from (without_farewell language) goes_cut t (n + 1) (lines ++ more)).output)
         → Grows (said_with (without_farewell language) is_cut n lines v).output
         (said_with (without_farewell language) goes_cut n (lines ++ more) v).output
     step None rest = ([], refl)
     step (Some x) rest =
         grows_behind x.text
-        (told_of (without_farewell language) is_cut x.after (n + 1) lines).output
-        (told_of (without_farewell language) goes_cut x.after (n + 1) (lines ++ more)).output
+        (told_from (without_farewell language) is_cut x.after (n + 1) lines).output
+        (told_from (without_farewell language) goes_cut x.after (n + 1) (lines ++ more)).output
         (rest x.after)
 
 -- longer lists of lines keep the answers
 pub lines_grow : {S : Type 0} (language : Language S) (is_cut goes_cut : Bool)
     (lines more : List (List ℕ))
-    → Grows (told_lines (without_farewell language) is_cut lines).output
-    (told_lines (without_farewell language) goes_cut (lines ++ more)).output
+    → Grows (lines_told (without_farewell language) is_cut lines).output
+    (lines_told (without_farewell language) goes_cut (lines ++ more)).output
 lines_grow {S} language is_cut goes_cut [] more =
-    ((told_lines (without_farewell language) goes_cut more).output, refl)
+    ((lines_told (without_farewell language) goes_cut more).output, refl)
 lines_grow {S} language is_cut goes_cut (line ∷ lines) more = step (if_fits language.opened_by line)
   where
     step : (v : Option S)
@@ -74,20 +74,20 @@ lines_grow {S} language is_cut goes_cut (line ∷ lines) more = step (if_fits la
 
 -- what is cut has a fault, and where there is none, the front of the lines has none
 cut_of-fault : {S : Type 0} (language : Language S) (s : S) (n : ℕ) (lines : List (List ℕ))
-    → (told_of language true s n lines).fault ≡ None → ⊥
+    → (told_from language true s n lines).fault ≡ None → ⊥
 cut_of-fault language s n [] none = cc
 cut_of-fault {S} language s n (line ∷ lines) none =
     step (if_fits (language.answer_to s) line) (λ t. cut_of-fault language t (n + 1) lines) none
   where
     step : (v : Option (Answered S))
-        → ((t : S) → (told_of language true t (n + 1) lines).fault ≡ None → ⊥)
+        → ((t : S) → (told_from language true t (n + 1) lines).fault ≡ None → ⊥)
         → (said_with language true n lines v).fault ≡ None → ⊥
     step None rest is = cc
     step (Some x) rest is = rest x.after is
 
 -- a script that is cut has a fault
 pub cut_lines-fault : {S : Type 0} (language : Language S) (lines : List (List ℕ))
-    → (told_lines language true lines).fault ≡ None → ⊥
+    → (lines_told language true lines).fault ≡ None → ⊥
 cut_lines-fault language [] none = cc
 cut_lines-fault {S} language (line ∷ lines) none = step (if_fits language.opened_by line) none
   where
@@ -97,16 +97,16 @@ cut_lines-fault {S} language (line ∷ lines) none = step (if_fits language.open
 
 -- by induction on the lines: where all have no fault, the first of them have none
 front_of-sound : {S : Type 0} (language : Language S) (is_cut : Bool) (s : S) (n : ℕ)
-    (lines more : List (List ℕ)) → (told_of language is_cut s n (lines ++ more)).fault ≡ None
-    → (told_of language false s n lines).fault ≡ None
+    (lines more : List (List ℕ)) → (told_from language is_cut s n (lines ++ more)).fault ≡ None
+    → (told_from language false s n lines).fault ≡ None
 front_of-sound language is_cut s n [] more none = refl
 front_of-sound {S} language is_cut s n (line ∷ lines) more none =
     step (if_fits (language.answer_to s) line)
     (λ t. front_of-sound language is_cut t (n + 1) lines more) none
   where
     step : (v : Option (Answered S))
-        → ((t : S) → (told_of language is_cut t (n + 1) (lines ++ more)).fault ≡ None
-        → (told_of language false t (n + 1) lines).fault ≡ None)
+        → ((t : S) → (told_from language is_cut t (n + 1) (lines ++ more)).fault ≡ None
+        → (told_from language false t (n + 1) lines).fault ≡ None)
         → (said_with language is_cut n (lines ++ more) v).fault ≡ None
         → (said_with language false n lines v).fault ≡ None
     step None rest is = is
@@ -115,8 +115,8 @@ front_of-sound {S} language is_cut s n (line ∷ lines) more none =
 -- the same of all lines, the first of which opens a state
 pub front_lines-sound : {S : Type 0} (language : Language S) (is_cut : Bool)
     (lines more : List (List ℕ)) → 0 < length lines
-    → (told_lines language is_cut (lines ++ more)).fault ≡ None
-    → (told_lines language false lines).fault ≡ None
+    → (lines_told language is_cut (lines ++ more)).fault ≡ None
+    → (lines_told language false lines).fault ≡ None
 front_lines-sound language is_cut [] more some none = absurd (omega arith)
 front_lines-sound {S} language is_cut (line ∷ lines) more some none =
     step (if_fits language.opened_by line) none
@@ -172,8 +172,8 @@ farewell_behind language P text told answers (last, missing) = (
 farewell_of : {S : Type 0} (language : Language S) (P : S → Type 0) → Stays language P
     → (is_cut : Bool) (s : S) → P s
     → (n : ℕ) (lines : List (List ℕ))
-    → EndsByFarewell language P (told_of language is_cut s n lines)
-    (told_of (without_farewell language) is_cut s n lines)
+    → EndsByFarewell language P (told_from language is_cut s n lines)
+    (told_from (without_farewell language) is_cut s n lines)
 farewell_of {S} language P stays is_cut s held n [] = at_end is_cut
   where
     at_end : (cut : Bool)
@@ -187,22 +187,22 @@ farewell_of {S} language P stays is_cut s held n (line ∷ lines) =
     (λ t still. farewell_of language P stays is_cut t still (n + 1) lines)
   where
     step : (v : Option (Answered S)) → if_fits (language.answer_to s) line ≡ v
-        → ((t : S) → P t → EndsByFarewell language P (told_of language is_cut t (n + 1) lines)
-        (told_of (without_farewell language) is_cut t (n + 1) lines))
+        → ((t : S) → P t → EndsByFarewell language P (told_from language is_cut t (n + 1) lines)
+        (told_from (without_farewell language) is_cut t (n + 1) lines))
         → EndsByFarewell language P (said_with language is_cut n lines v)
         (said_with (without_farewell language) is_cut n lines v)
     step None is rest = at_fault language P n
     step (Some x) is rest =
-        farewell_behind language P x.text (told_of language is_cut x.after (n + 1) lines)
-        (told_of (without_farewell language) is_cut x.after (n + 1) lines)
+        farewell_behind language P x.text (told_from language is_cut x.after (n + 1) lines)
+        (told_from (without_farewell language) is_cut x.after (n + 1) lines)
         (rest x.after (stays.answered s line x held (fits (language.answer_to s) line x is)))
 
 -- the farewell comes last, and not where a line is at fault
 pub farewell_lines : {S : Type 0} (language : Language S) (P : S → Type 0) → Stays language P
     → (is_cut : Bool)
     (lines : List (List ℕ))
-    → EndsByFarewell language P (told_lines language is_cut lines)
-    (told_lines (without_farewell language) is_cut lines)
+    → EndsByFarewell language P (lines_told language is_cut lines)
+    (lines_told (without_farewell language) is_cut lines)
 farewell_lines language P stays is_cut [] = at_fault language P 1
 farewell_lines {S} language P stays is_cut (line ∷ lines) =
     step (if_fits language.opened_by line) refl
@@ -222,8 +222,8 @@ pub record Leaves {S : Type 0} (language : Language S) (s : S) (n : ℕ) (lines 
   pub k : ℕ
   pub is : m ≡ n + k
   pub within : k ≤ length lines
-  pub output : told.output ≡ (told_of (without_farewell language) false s n (take k lines)).output
-  pub fault : (told_of language false s n (take k lines)).fault ≡ None
+  pub output : told.output ≡ (told_from (without_farewell language) false s n (take k lines)).output
+  pub fault : (told_from language false s n (take k lines)).fault ≡ None
 
 -- the line at fault is the first of these
 same_line : (n m : ℕ) → Some n ≡ Some m → m ≡ n + 0
@@ -231,8 +231,8 @@ same_line n m is = let same : n ≡ m = cc in omega arith
 
 -- by induction on the lines: a fault leaves the answers before it
 fault_leaves : {S : Type 0} (language : Language S) (is_cut : Bool) (s : S) (n : ℕ)
-    (lines : List (List ℕ)) (m : ℕ) → (told_of language is_cut s n lines).fault ≡ Some m
-    → Leaves language s n lines (told_of language is_cut s n lines) m
+    (lines : List (List ℕ)) (m : ℕ) → (told_from language is_cut s n lines).fault ≡ Some m
+    → Leaves language s n lines (told_from language is_cut s n lines) m
 fault_leaves {S} language is_cut s n [] m h = at_end is_cut h
   where
     at_end : (cut : Bool)
@@ -247,8 +247,8 @@ fault_leaves {S} language is_cut s n (line ∷ lines) m h =
     (λ t. fault_leaves language is_cut t (n + 1) lines m) h
   where
     step : (v : Option (Answered S)) → if_fits (language.answer_to s) line ≡ v
-        → ((t : S) → (told_of language is_cut t (n + 1) lines).fault ≡ Some m
-        → Leaves language t (n + 1) lines (told_of language is_cut t (n + 1) lines) m)
+        → ((t : S) → (told_from language is_cut t (n + 1) lines).fault ≡ Some m
+        → Leaves language t (n + 1) lines (told_from language is_cut t (n + 1) lines) m)
         → (said_with language is_cut n lines v).fault ≡ Some m
         → Leaves language s n (line ∷ lines) (said_with language is_cut n lines v) m
     step None reads rest is =
@@ -272,8 +272,8 @@ pub record LeavesFirst {S : Type 0} (language : Language S) (lines : List (List 
   pub k : ℕ
   pub is : m ≡ suc k
   pub within : k ≤ length lines
-  pub output : told.output ≡ (told_lines (without_farewell language) false (take k lines)).output
-  pub fault : 0 < k → (told_lines language false (take k lines)).fault ≡ None
+  pub output : told.output ≡ (lines_told (without_farewell language) false (take k lines)).output
+  pub fault : 0 < k → (lines_told language false (take k lines)).fault ≡ None
 
 -- the line at fault is the first of all
 first_line : (m : ℕ) → Some 1 ≡ Some m → m ≡ 1
@@ -281,8 +281,8 @@ first_line m is = let same : 1 ≡ m = cc in omega arith
 
 -- the same of all lines, the first of which opens a state
 pub fault_leaves_first : {S : Type 0} (language : Language S) (is_cut : Bool)
-    (lines : List (List ℕ)) (m : ℕ) → (told_lines language is_cut lines).fault ≡ Some m
-    → LeavesFirst language lines (told_lines language is_cut lines) m
+    (lines : List (List ℕ)) (m : ℕ) → (lines_told language is_cut lines).fault ≡ Some m
+    → LeavesFirst language lines (lines_told language is_cut lines) m
 fault_leaves_first language is_cut [] m h =
     record {
       k = 0;

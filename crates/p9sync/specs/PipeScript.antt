@@ -1,13 +1,17 @@
 -- The language of pipe scripts: its lines, and what each of them does to one direction of a pipe.
-use Rattle.std.specs.Prelude.{◌==◌, ◌-◌, ℕ, nat_lt, if◌then◌else◌, List, [], ◌∷◌, length, codes, Option, None, Some, option_and_then}
+use Rattle.std.specs.Prelude.{◌-◌, ℕ, if◌then◌else◌, List, [], ◌∷◌, codes, Option, None, Some, option_and_then, Result, Ok, Err}
 use Rattle.std.specs.Option.{option_map}
 use Rattle.std.specs.Result.{result_ok}
 use Rattle.hex.specs.Hex.{decode_of}
-use Rattle.sync_base.specs.Pipe.{PipeState, opening, write_answer, after_write, read_answer, after_read, after_hangup}
-use Rattle.sync_base.specs.declared.limits.TheConstants.{ATOMIC_SIZE, MAX_PIPE_LIMIT, MAX_WRITERS}
+use Rattle.sync_base.specs.declared.answers.WriteAnswer.{WriteAnswer}
+use Rattle.sync_base.specs.declared.answers.ReadAnswer.{ReadAnswer}
+use Rattle.sync_base.specs.declared.fault.Fault.{Fault}
+use Rattle.sync_base.specs.Write.{Write}
+use Rattle.sync_base.specs.Pipe.{PipeState, opening, write_result, after_write, read_result, after_read, after_hangup}
+use Rattle.sync_base.specs.declared.limits.TheConstants.{MAX_PIPE_LIMIT, MAX_WRITERS}
 use Rattle.p9sync.specs.Lines.{words_of, is_word, number_of, number_within}
 use Rattle.p9sync.specs.Script.{Language, Answered, Told, told}
-use Rattle.p9sync.specs.AnswerText.{write_text, read_text}
+use Rattle.p9sync.specs.AnswerText.{write_text, read_text, fault_text}
 
 -- what a line asks for
 pub data Op : Type 0 where
@@ -53,17 +57,22 @@ op_of (verb ∷ words) =
     else if is_word verb (codes "write") then write_of words
     else None
 
--- What an operation is answered. A write is tested for its size first, and a read for its count.
+-- What is written for what a write comes to, and the state after it. A refused one changes nothing.
+abbrev pub write_answered : PipeState → Write → Result WriteAnswer Fault → Answered PipeState
+write_answered s write (Ok answer) =
+    record { text = write_text answer; after = after_write s write answer }
+write_answered s write (Err fault) = record { text = fault_text fault; after = s }
+
+-- the same for a read of at most so many bytes
+abbrev pub read_answered : PipeState → ℕ → Result ReadAnswer Fault → Answered PipeState
+read_answered s most (Ok answer) = record { text = read_text answer; after = after_read most s }
+read_answered s most (Err fault) = record { text = fault_text fault; after = s }
+
+-- what an operation is answered
 abbrev pub answered : PipeState → Op → Answered PipeState
 answered s (Writes writer bytes) =
-    if nat_lt ATOMIC_SIZE (length bytes) then record { text = codes "too big"; after = s }
-    else record {
-      text = write_text (write_answer s);
-      after = after_write s (record { writer = writer; bytes = bytes }) (write_answer s);
-    }
-answered s (Reads most) =
-    if most == 0 then record { text = codes "bad count"; after = s }
-    else record { text = read_text (read_answer most s); after = after_read most s }
+    write_answered s (record { writer = writer; bytes = bytes }) (write_result s bytes)
+answered s (Reads most) = read_answered s most (read_result most s)
 answered s Hangs_up = record { text = codes "ok"; after = after_hangup s }
 
 -- the language: `limit N` opens an empty pipe, and nothing is written at the end

@@ -13,7 +13,7 @@ use Rattle.sleep_core.specs.State.{State, opening}
 use Rattle.sleep_core.specs.Step.{answer_to, world_after}
 use Rattle.sleep_core.specs.Oversleep.{has_lost_wakeup}
 use Rattle.p9sync.specs.declared.event_line.Size.{Size}
-use Rattle.p9sync.specs.declared.event_line.Call.{Call}
+use Rattle.p9sync.specs.declared.event_line.Operands.{Operands}
 use Rattle.p9sync.specs.declared.event_line.Verb.{Verb}
 use Rattle.p9sync.specs.declared.event_line.Verb.TheVariants as verb
 use Rattle.p9sync.specs.declared.lines.TheConstants.{LINE_FEED}
@@ -21,13 +21,16 @@ use Rattle.p9sync.specs.Lines.{parts_of, is_comma, is_word, words_of, number_of,
 use Rattle.p9sync.specs.Script.{Language, Told, told}
 use Rattle.p9sync.specs.EventText.{event_text}
 
+-- these sizes, where each of them is one
+abbrev pub size : Option ℕ → Option ℕ → Option Size
+size (Some procs) (Some rendez) = Some (record { procs = procs; rendez = rendez })
+size procs rendez = None
+
 -- the line `world PROCS RENDEZ`
 abbrev pub size_of : List (List ℕ) → Option Size
 size_of (verb ∷ procs ∷ rendez ∷ []) =
     if is_word verb (codes "world")
-    then option_and_then
-    (λ p. option_map (λ r. record { procs = p; rendez = r }) (number_within 1 MAX_RENDEZ rendez))
-    (number_within 1 MAX_PROCS procs)
+    then size (number_within 1 MAX_PROCS procs) (number_within 1 MAX_RENDEZ rendez)
     else None
 size_of words = None
 
@@ -36,21 +39,21 @@ abbrev pub lone_pid : List (List ℕ) → Option Pid
 lone_pid (pid ∷ []) = option_map (λ n. record { 0 = n }) (number_of pid)
 lone_pid words = None
 
+-- these numbers, where each of them is one
+abbrev pub operands : Option ℕ → Option ℕ → Option ℕ → Option Operands
+operands (Some pid) (Some rendez) (Some level) =
+    Some (record { pid = record { 0 = pid }; rendez = record { 0 = rendez }; level = level })
+operands pid rendez level = None
+
 -- a process, a Rendez and a level
-abbrev pub call_of : List (List ℕ) → Option Call
-call_of (pid ∷ rendez ∷ level ∷ []) =
-    option_and_then
-    (λ p. option_and_then
-    (λ r. option_map
-    (λ l. record { pid = record { 0 = p }; rendez = record { 0 = r }; level = l })
-    (number_of level))
-    (number_of rendez))
-    (number_of pid)
-call_of words = None
+abbrev pub operands_of : List (List ℕ) → Option Operands
+operands_of (pid ∷ rendez ∷ level ∷ []) =
+    operands (number_of pid) (number_of rendez) (number_of level)
+operands_of words = None
 
 -- a kind of note
-abbrev pub kind_of : List ℕ → Option Note
-kind_of word =
+abbrev pub note_named : List ℕ → Option Note
+note_named word =
     if is_word word (codes "interrupt") then Some Interrupt
     else if is_word word (codes "hangup") then Some Hangup
     else if is_word word (codes "alarm") then Some Alarm
@@ -67,19 +70,21 @@ with_kinds set [] = Some set
 with_kinds set (word ∷ words) =
     option_and_then
     (λ note. option_and_then (λ more. with_kinds more words) (kind_added set note))
-    (kind_of word)
+    (note_named word)
 
 -- different kinds with a comma between each two, in any order, or a dash for none
 abbrev pub kinds_of : List ℕ → Option NoteSet
 kinds_of word =
     if is_word word (codes "-") then Some no_notes else with_kinds no_notes (parts_of is_comma word)
 
+-- these notes to that process, where both are there
+abbrev pub note_event : Option ℕ → Option NoteSet → Option Event
+note_event (Some pid) (Some notes) = Some (event.Note (record { 0 = pid }) notes)
+note_event pid notes = None
+
 -- `note P KINDS`
 abbrev pub note_of : List (List ℕ) → Option Event
-note_of (pid ∷ kinds ∷ []) =
-    option_and_then
-    (λ p. option_map (λ notes. event.Note (record { 0 = p }) notes) (kinds_of kinds))
-    (number_of pid)
+note_of (pid ∷ kinds ∷ []) = note_event (number_of pid) (kinds_of kinds)
 note_of words = None
 
 -- the first word of an event
@@ -101,13 +106,13 @@ verb_of word =
 -- what follows the first word
 abbrev pub event_with : Verb → List (List ℕ) → Option Event
 event_with verb.Post words =
-    option_map (λ call. event.Post call.pid call.rendez call.level) (call_of words)
+    option_map (λ to. event.Post to.pid to.rendez to.level) (operands_of words)
 event_with verb.Test words = option_map event.Test (lone_pid words)
 event_with verb.Look words = option_map event.Look (lone_pid words)
 event_with verb.Withdraw words = option_map event.Withdraw (lone_pid words)
 event_with verb.Clear words = option_map event.Clear (lone_pid words)
 event_with verb.Raise words =
-    option_map (λ call. event.Raise call.pid call.rendez call.level) (call_of words)
+    option_map (λ to. event.Raise to.pid to.rendez to.level) (operands_of words)
 event_with verb.Take words = option_map event.Take (lone_pid words)
 event_with verb.Mark words = option_map event.Mark (lone_pid words)
 event_with verb.Note words = note_of words

@@ -37,21 +37,21 @@ if_fits read line = if nat_le (length line) MAX_LINE then read line else None
 -- what these lines say, from a state; the first of them has this number. Behind them the script
 -- ends, or a line that
 -- is cut or stands too far behind.
-abbrev pub told_of : {S : Type 0} → Language S → Bool → S → ℕ → List (List ℕ) → Told
-told_of {S} language is_cut s number [] =
+abbrev pub told_from : {S : Type 0} → Language S → Bool → S → ℕ → List (List ℕ) → Told
+told_from {S} language is_cut s number [] =
     if is_cut then fault_at number else record { output = language.farewell s; fault = None }
-told_of {S} language is_cut s number (line ∷ lines) =
+told_from {S} language is_cut s number (line ∷ lines) =
     option_map_or
     (λ (answered : Answered S). answer_then answered.text
-    (told_of language is_cut answered.after (number + 1) lines))
+    (told_from language is_cut answered.after (number + 1) lines))
     (if_fits (language.answer_to s) line)
     (fault_at number)
 
 -- what a script of these lines says
-abbrev pub told_lines : {S : Type 0} → Language S → Bool → List (List ℕ) → Told
-told_lines language is_cut [] = fault_at 1
-told_lines language is_cut (line ∷ lines) =
-    option_map_or (λ s. told_of language is_cut s 2 lines) (if_fits language.opened_by line)
+abbrev pub lines_told : {S : Type 0} → Language S → Bool → List (List ℕ) → Told
+lines_told language is_cut [] = fault_at 1
+lines_told language is_cut (line ∷ lines) =
+    option_map_or (λ s. told_from language is_cut s 2 lines) (if_fits language.opened_by line)
     (fault_at 1)
 
 -- whether bytes follow the last whole line of the text, or follow the text
@@ -61,7 +61,7 @@ is_cut_off input =
 
 -- what a script says, as a function of its bytes
 abbrev pub told : {S : Type 0} → Language S → List ℕ → Told
-told language input = told_lines language (is_cut_off input) (lines_of (take MAX_SCRIPT input))
+told language input = lines_told language (is_cut_off input) (lines_of (take MAX_SCRIPT input))
 
 -- What a program that follows a language keeps of a state, by its own lights: T stands for S where
 -- `stands` says so.

@@ -17,9 +17,9 @@ abbrev pub answers_of : {S : Type 0} → Language S → List ℕ → List ℕ
 answers_of language input = (told (without_farewell language) input).output
 
 -- these lines, each with its line feed
-abbrev pub text_of : List (List ℕ) → List ℕ
-text_of [] = []
-text_of (line ∷ lines) = line ++ LINE_FEED ∷ text_of lines
+abbrev pub lines_text : List (List ℕ) → List ℕ
+lines_text [] = []
+lines_text (line ∷ lines) = line ++ LINE_FEED ∷ lines_text lines
 
 -- the whole lines of a script, as far as it is looked at
 abbrev pub whole_lines : List ℕ → List (List ℕ)
@@ -27,11 +27,11 @@ whole_lines input = lines_of (take MAX_SCRIPT input)
 
 -- the script of the first k of these alone
 abbrev pub first_lines : ℕ → List ℕ → List ℕ
-first_lines k input = text_of (take k (whole_lines input))
+first_lines k input = lines_text (take k (whole_lines input))
 
 -- a text is its whole lines, and what follows the last line feed
 abbrev pub LinesMakeText : Type 0
-LinesMakeText = (text : List ℕ) → text_of (lines_of text) ++ cut_line_of text ≡ text
+LinesMakeText = (text : List ℕ) → lines_text (lines_of text) ++ cut_line_of text ≡ text
 
 -- a script that goes on keeps each answer of its front
 abbrev pub AnswersAreFinal : {S : Type 0} → Language S → Type 0

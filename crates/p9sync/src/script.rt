@@ -2,7 +2,7 @@
 //! grammar. Before this: `lines`. After it: `device`, which reads a script and writes its answers.
 ghost use Rattle.std.specs.Prelude.{◌≡◌, ◌≤◌, ◌||◌, ◌++◌, ℕ, List, length, nat_lt, IfOk, OnOk};
 ghost use Rattle.p9sync.specs.Lines.{lines_of, cut_line_of};
-ghost use Rattle.p9sync.specs.Script.{Language, Opens, Answers, Says, if_fits, told, told_lines, told_of};
+ghost use Rattle.p9sync.specs.Script.{Language, Opens, Answers, Says, if_fits, told, lines_told, told_from};
 
 use crate::lines::next_line;
 use std::alloc::{AllocError, Global};
@@ -69,7 +69,7 @@ fn tell_text<S: Script>(
 ) -> Result<Option<u64>, AllocError>
     requires { length text.now ≤ MAX_SCRIPT }
     ensures { IfOk result (λ fault.
-        Says (told_lines S.language
+        Says (lines_told S.language
         (is_too_long || nat_lt 0 (length (cut_line_of text.now))) (lines_of text.now))
         output.old.items output.new.items fault) }
 {
@@ -101,7 +101,7 @@ fn answer_lines<S: Script>(
 ) -> Result<Option<u64>, AllocError>
     requires { length lines.now ≤ MAX_SCRIPT }
     ensures { (s : S.State) → S.stands_for script s → IfOk result (λ fault.
-        Says (told_of S.language
+        Says (told_from S.language
         (is_too_long || nat_lt 0 (length (cut_line_of lines.now))) s 2 (lines_of lines.now))
         output.old.items output.new.items fault) }
 {

@@ -1,8 +1,7 @@
 //! The program on its words and its streams: what no clause says of it, and that its runs succeed.
-mod damaged_input;
 mod devices;
-mod pipe_runs;
-mod schedule_runs;
+mod longest_scripts;
+mod worked_runs;
 
 use crate::args::run_args;
 use std::alloc::{AllocError, Global};

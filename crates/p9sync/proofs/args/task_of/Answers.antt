@@ -1,12 +1,11 @@
 -- What `clap` says of the words, and what they ask for.
-use Rattle.std.proofs.Common.{◌≡◌, ◌∙◌, rules, true, [], ap, sym, subst, map, List, ℕ, Some}
+use Rattle.std.proofs.Common.{◌≡◌, ◌∙◌, rules, [], ap, sym, map, Some}
 use Rattle.std.proofs.lemmas.Result.{err_from_is_err_and}
-use Rattle.clap.specs.Walk.{Text}
-use Rattle.clap.specs.Simple.{App, is_simple}
+use Rattle.clap.specs.Simple.{App}
 use Rattle.clap.specs.Takes.{takes}
-use Rattle.clap.specs.Faults.{fault_of, is_simple_and_free}
-use Rattle.p9sync.specs.Args.{command_line, task_asked, task_named}
-use Rattle.p9sync.proofs.ArgsLemmas.{asks_for, command_named, line_is_simple, name_of_rows, not_taken, found_is, none_found}
+use Rattle.clap.specs.Faults.{fault_of}
+use Rattle.p9sync.specs.Args.{command_line}
+use Rattle.p9sync.proofs.ArgsLemmas.{asks_for, command_named, name_of_rows, not_taken, found_is, none_found}
 use Rattle.p9sync.proofs.args.task_of.Goals as goal
 
 pub returns-in_err-matches-clause-refused : goal.returns-in_err-matches-clause-refused

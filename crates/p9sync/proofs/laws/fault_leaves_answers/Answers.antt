@@ -1,10 +1,10 @@
 -- The lines before the one at fault make a script of their own.
-use Rattle.p9sync.proofs.TextLemmas.{text_of-lines}
+use Rattle.p9sync.proofs.TextLemmas.{lines_text-lines}
 use Rattle.p9sync.proofs.ScriptLawLemmas.{fault_in_script, fault_keeps, first_fault, before_fault}
 use Rattle.p9sync.proofs.laws.fault_leaves_answers.Goals as goal
 
 pub returns-clause-text : goal.returns-clause-text
-returns-clause-text g c = text_of-lines
+returns-clause-text g c = lines_text-lines
 
 pub returns-clause-line : goal.returns-clause-line
 returns-clause-line g c = fault_in_script g.S.Script.language

@@ -1,5 +1,4 @@
 -- What the core keeps in every list of events.
-use Rattle.std.proofs.Common.{rules}
 use Rattle.p9sync.proofs.ScheduleLemmas.{says_none_lost}
 use Rattle.p9sync.proofs.laws.no_schedule_says_lost.Goals as goal
 

@@ -1,6 +1,6 @@
 use Rattle.std.proofs.Common.{◌≡◌, ◌+◌, ◌≤◌, ◌||◌, nat_lt, length}
 use Rattle.p9sync.specs.Lines.{lines_of, cut_line_of}
-use Rattle.p9sync.specs.Script.{told_of}
+use Rattle.p9sync.specs.Script.{told_from}
 use Rattle.p9sync.proofs.ScriptLemmas.{GoesOn}
 use Rattle.p9sync.proofs.script.answer_lines.Given as goal
 
@@ -14,7 +14,7 @@ invariant-loop-line g l =
       cut : cut_line_of l.rest ≡ cut_line_of l.fn.lines;
       goes_on : (s : g.S.Script.State) → g.S.Script.stands_for l.fn.script s
           → (now : g.S.Script.State) × g.S.Script.stands_for l.script now
-          × GoesOn language is_cut (told_of language is_cut s 2 (lines_of l.fn.lines))
+          × GoesOn language is_cut (told_from language is_cut s 2 (lines_of l.fn.lines))
           l.fn.output.items now l.number l.output.items (lines_of l.rest);
     }
 

@@ -1,57 +1,10 @@
-//! Scripts that are not in the grammar, and those at the edge of it.
+//! The longest lines and scripts.
 use crate::script::{MAX_LINE, MAX_SCRIPT};
 use crate::tests::{repeated, run};
 use std::alloc::{AllocError, Global};
 use std::test::Fail;
 
 const PIPE: [&str; 2] = ["p9sync", "pipe"];
-
-#[test]
-fn the_first_line_out_of_the_grammar_ends_the_run(rt: HostRuntime) -> Result<(), Fail> {
-    let alloc = rt.alloc();
-    let scripts: [(&[u8], u64, &[u8]); 34] = [
-        (b"", 1, b""),
-        (b"\n", 1, b""),
-        (b"read 8\n", 1, b""),
-        (b"limit 0\n", 1, b""),
-        (b"limit 1025\n", 1, b""),
-        (b"limit 2 \n", 1, b""),
-        (b" limit 2\n", 1, b""),
-        (b"limit  2\n", 1, b""),
-        (b"limit 02\n", 1, b""),
-        (b"limit 2\r\n", 1, b""),
-        (b"limit 2", 1, b""),
-        (b"limit\n", 1, b""),
-        (b"limit 2\nlimit 2\n", 2, b""),
-        (b"limit 2\n\n", 2, b""),
-        (b"limit 2\nread 8", 2, b""),
-        (b"limit 2\nread 08\n", 2, b""),
-        (b"limit 2\nread -1\n", 2, b""),
-        (b"limit 2\nread +1\n", 2, b""),
-        (b"limit 2\nread 18446744073709551616\n", 2, b""),
-        (b"limit 2\nread 99999999999999999999999\n", 2, b""),
-        (b"limit 2\nread\n", 2, b""),
-        (b"limit 2\nread 8 8\n", 2, b""),
-        (b"limit 2\nread  8\n", 2, b""),
-        (b"limit 2\nREAD 8\n", 2, b""),
-        (b"limit 2\nhangup \n", 2, b""),
-        (b"limit 2\nwrite 64 61\n", 2, b""),
-        (b"limit 2\nwrite 0 616\n", 2, b""),
-        (b"limit 2\nwrite 0 6g\n", 2, b""),
-        (b"limit 2\nwrite 0 \n", 2, b""),
-        (b"limit 2\nwrite 0\n", 2, b""),
-        (b"limit 2\nwrite 0 --\n", 2, b""),
-        (b"limit 2\nread 8\0\n", 2, b""),
-        (b"limit 2\nwrite 0 61\nread \xc3\xa9\n", 3, b"taken\n"),
-        (b"limit 2\nwrite 0 61\nfrob\nread 8\n", 3, b"taken\n"),
-    ];
-    for (script, line, answers) in scripts {
-        let fault = format!(in alloc; "p9sync: script fault at line {line}\n")?;
-        let ended = run(alloc, &PIPE, script);
-        assert!(rt; ended.is(1, answers, fault.as_bytes()), "{script:?}");
-    }
-    Ok(())
-}
 
 /// A script of a limit and of writes with so many digits each, and what follows them.
 fn script_of(alloc: Global, writes: &[(usize, usize)], rest: &[u8]) -> Result<Vec<u8>, AllocError> {
