@@ -1,5 +1,5 @@
 -- What the steps of a sleep add up to.
-use Rattle.std.proofs.Common.{◌≡◌, ◌≢◌, ◌⊎◌, inl, inr, ℕ, Option, Some, None, List, [], ◌∷◌, ◌++◌, refl, sym, ◌∙◌, ap, subst}
+use Rattle.std.proofs.Common.{◌≡◌, ◌⊎◌, inl, inr, ℕ, List, [], ◌∷◌, ◌++◌, refl, sym, ◌∙◌, ap, subst}
 use Rattle.std.specs.List.{AllByRecursion, cons_option}
 use Rattle.std.proofs.lemmas.List.{append_assoc}
 use Rattle.sync_base.specs.declared.ids.RendezId.{RendezId}
@@ -8,13 +8,13 @@ use Rattle.sync_base.specs.NoteSet.{no_notes}
 use Rattle.sleep_core.specs.declared.answer.Answer.{Answer}
 use Rattle.sleep_core.specs.declared.answer.Answer.TheVariants as answer
 use Rattle.sleep_core.specs.declared.event.Event.{Event}
-use Rattle.sleep_core.specs.declared.event.Event.TheVariants.{Post, Test, Look, Withdraw}
+use Rattle.sleep_core.specs.declared.event.Event.TheVariants.{Look, Withdraw}
 use Rattle.sleep_core.specs.History.{Deed, deed_of, history_of}
 use Rattle.sleep_core.specs.Promises.{IsCaused, EachSleepIsCaused}
 use Rattle.sleep_core.specs.Runs.{Entry}
 use Rattle.sleep_core.proofs.OwnCauses.{own_sleeps_end_for_a_cause}
 use Rattle.rendez_words.specs.declared.words.Words.{Words}
-use Rattle.rendez_words.specs.Process.{Process, made, pid_in}
+use Rattle.rendez_words.specs.Process.{Process, made}
 use Rattle.rendez_words.specs.Steps.{posts, tests, clears}
 use Rattle.rendez_words.specs.Words.{IsProcessOf, procs_of, rendez_of}
 use Rattle.sleep_wakeup.specs.Calls.{IsOfWait, HasWoken, Leaves, EndsSleep, Sleeps}

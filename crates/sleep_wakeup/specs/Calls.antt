@@ -1,7 +1,7 @@
 -- What each call of a process adds to its steps, after sleep and wakeup in "Process Sleep and
 -- Synchronization on a Shared-Memory Multiprocessor" (1991): a process posts itself, tests its
 -- condition and waits; another makes the condition true, takes whom it finds and marks it.
-use Rattle.std.specs.Prelude.{◌≡◌, ◌≢◌, ◌⊎◌, ◌≤◌, ⊤, ℕ, List, [], ◌∷◌, ◌++◌}
+use Rattle.std.specs.Prelude.{◌≡◌, ◌≢◌, ◌⊎◌, ⊤, ℕ, List, [], ◌∷◌, ◌++◌}
 use Rattle.std.specs.List.{AllByRecursion}
 use Rattle.sync_base.specs.declared.fault.Fault.{Fault}
 use Rattle.sync_base.specs.declared.fault.Fault.TheVariants as fault

@@ -1,5 +1,5 @@
 -- What clauses see of a process, and of the roster that gives out pids and Rendez.
-use Rattle.std.specs.Prelude.{◌≡◌, ◌≢◌, ◌<◌, ◌≤◌, ◌+◌, ℕ, ⊤, [], Option, Some, None}
+use Rattle.std.specs.Prelude.{◌≡◌, ◌≤◌, ◌+◌, ℕ, [], Option, Some, None}
 use Rattle.sync_base.specs.declared.ids.Pid.{Pid}
 use Rattle.rendez_words.specs.declared.words.Words.{Words}
 use Rattle.rendez_words.specs.Process.{Process, PidsLeft}

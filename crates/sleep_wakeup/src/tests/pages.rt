@@ -1,6 +1,6 @@
 //! The examples of the manual pages, line for line. `tests/pages` compares them with the pages.
 use crate::tests::forked;
-use crate::{Kernel, Left, Opened};
+use crate::{Kernel, Left, Opened, Started};
 use std::test::Fail;
 use std::thread::join;
 use sync_base::{Fault, Flags, Note, NoteSet, Pid, RendezId};
@@ -41,10 +41,12 @@ fn postnote_page(rt: HostRuntime) -> Result<(), Fail> {
 #[test]
 fn rfork_page(rt: HostRuntime) -> Result<(), Fail> {
     let Opened { kernel, start } = Kernel::new(rt.alloc(), 2, 1)?;
-    let mut started = kernel.start(start);
-    let (roster, parent) = (&mut started.roster, &mut started.proc);
+    let Started {
+        mut roster,
+        proc: mut parent,
+    } = kernel.start(start);
     assert_eq!(rt; roster.rendez(), Ok(RendezId(0)));
-    let Ok(Some(child)) = roster.rfork(parent, Flags::RFPROC) else {
+    let Ok(Some(child)) = roster.rfork(&mut parent, Flags::RFPROC) else {
         panic!(rt; "a pid is left")
     };
     assert_eq!(rt; (parent.pid(), child.pid()), (Pid(0), Pid(1)));

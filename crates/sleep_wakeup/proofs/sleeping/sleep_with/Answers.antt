@@ -1,5 +1,5 @@
 -- A sleep that ended without notes has a cause.
-use Rattle.std.proofs.Common.{◌≡◌, OnOk, sym, subst}
+use Rattle.std.proofs.Common.{OnOk, sym, subst}
 use Rattle.sync_base.specs.NoteSet.{no_notes}
 use Rattle.sleep_wakeup.specs.Calls.{Sleeps}
 use Rattle.sleep_wakeup.proofs.CallLemmas.{sleeps_well}
