@@ -9,7 +9,7 @@ rounds=${1:-15}
 calls=${2:-20000000}
 
 mkdir -p "$work/repo/crates/lock_bench/src" "$work/repo/crates/lock_bench/proofs/one"
-for crate in sync_base kernel_lock; do
+for crate in sync_base histories kernel_lock; do
     mkdir -p "$work/repo/crates/$crate"
     for part in src specs proofs; do
         rm -rf "$work/repo/crates/$crate/$part"
@@ -21,7 +21,8 @@ cp "$here/counter.rattle" "$work/repo/crates/lock_bench/src/main.rt"
 cp "$top/HANDLES" "$work/repo/HANDLES"
 cat > "$work/repo/crates.txt" <<'LINES'
 sync_base: thiserror
-kernel_lock: sync_base atomic_table
+histories:
+kernel_lock may_wait=9: histories sync_base atomic_table
 lock_bench: sync_base kernel_lock
 LINES
 [ -d "$work/repo/.git" ] || git init -q "$work/repo"
