@@ -3,7 +3,8 @@ use Rattle.std.specs.Prelude.{ℕ, if◌then◌else◌, List, [], ◌∷◌, ◌
 use Rattle.std.specs.Option.{option_map}
 use Rattle.sync_base.specs.declared.limits.TheConstants.{MAX_PROCS, MAX_RENDEZ}
 use Rattle.sync_base.specs.declared.note.Note.{Note}
-use Rattle.sync_base.specs.declared.note.Note.TheVariants.{Interrupt, Hangup, Alarm, ClosedPipe, Expired}
+use Rattle.sync_base.specs.declared.note.Note.TheVariants.{Interrupt, Hangup, Alarm, ClosedPipe}
+use Rattle.sync_base.specs.declared.note.Note.TheVariants.{Expired}
 use Rattle.sync_base.specs.declared.note.NoteSet.{NoteSet}
 use Rattle.sync_base.specs.declared.ids.Pid.{Pid}
 use Rattle.sync_base.specs.NoteSet.{holds, joined, no_notes, only}

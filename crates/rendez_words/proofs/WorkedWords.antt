@@ -1,6 +1,7 @@
 -- Words computed by hand: which bit is whose, and which word lies where.
 use Rattle.std.proofs.Common.{◌≡◌, List, [], ◌∷◌, true, false, refl}
-use Rattle.sync_base.specs.declared.note.Note.TheVariants.{Interrupt, Hangup, Alarm, ClosedPipe, Expired}
+use Rattle.sync_base.specs.declared.note.Note.TheVariants.{Interrupt, Hangup, Alarm, ClosedPipe}
+use Rattle.sync_base.specs.declared.note.Note.TheVariants.{Expired}
 use Rattle.sync_base.specs.NoteSet.{no_notes, only, joined}
 use Rattle.sleep_core.specs.State.{opening}
 use Rattle.sleep_core.specs.Table.Cell.{PostedOf, LevelOf, FlagsOf}

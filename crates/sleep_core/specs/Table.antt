@@ -4,7 +4,8 @@ use Rattle.std.specs.Prelude.{ℕ, max, Bool, true, ◌||◌, ◌==◌, nat_lt, 
 use Rattle.std.specs.Prelude.{Option, Some, None}
 use Rattle.sync_base.specs.declared.ids.Pid.{Pid}
 use Rattle.sync_base.specs.declared.limits.TheConstants.{TOP_LEVEL}
-use Rattle.sync_base.specs.declared.note.Note.TheVariants.{Interrupt, Hangup, Alarm, ClosedPipe, Expired}
+use Rattle.sync_base.specs.declared.note.Note.TheVariants.{Interrupt, Hangup, Alarm, ClosedPipe}
+use Rattle.sync_base.specs.declared.note.Note.TheVariants.{Expired}
 use Rattle.sync_base.specs.declared.note.NoteSet.{NoteSet}
 use Rattle.sync_base.specs.NoteSet.{holds, joined}
 use Rattle.sleep_core.specs.declared.event.Event.{Event}

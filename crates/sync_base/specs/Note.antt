@@ -1,7 +1,8 @@
 -- The texts of notes.
 use Rattle.std.specs.Prelude.{ℕ, List, codes}
 use Rattle.sync_base.specs.declared.note.Note.{Note}
-use Rattle.sync_base.specs.declared.note.Note.TheVariants.{Interrupt, Hangup, Alarm, ClosedPipe, Expired}
+use Rattle.sync_base.specs.declared.note.Note.TheVariants.{Interrupt, Hangup, Alarm, ClosedPipe}
+use Rattle.sync_base.specs.declared.note.Note.TheVariants.{Expired}
 
 -- After notify(2), which lists the texts that the system posts. Own: `expired`, which timers post.
 abbrev pub note_text : Note → List ℕ

@@ -1,7 +1,8 @@
 -- What is in a set of notes. Own: notify(2) queues notes, here each kind is pending at most once.
 use Rattle.std.specs.Prelude.{Bool, true, false, ◌||◌}
 use Rattle.sync_base.specs.declared.note.Note.{Note}
-use Rattle.sync_base.specs.declared.note.Note.TheVariants.{Interrupt, Hangup, Alarm, ClosedPipe, Expired}
+use Rattle.sync_base.specs.declared.note.Note.TheVariants.{Interrupt, Hangup, Alarm, ClosedPipe}
+use Rattle.sync_base.specs.declared.note.Note.TheVariants.{Expired}
 use Rattle.sync_base.specs.declared.note.NoteSet.{NoteSet}
 
 -- whether the note is in the set
