@@ -1,14 +1,14 @@
 -- Why the rule does not allow these states, and why it allows the last.
-use Rattle.std.proofs.Common.{◌≡◌, ◌≢◌, ◌==◌, ◌%◌, ◌++◌, ◌≤◌, ◌<◌, ℕ, zero, suc, Bool, true, false, List, [], ◌∷◌, get_or, length, refl, sym, ◌∙◌, ap, subst, arith, inl}
+use Rattle.std.proofs.Common.{◌≡◌, ◌++◌, ◌≤◌, ℕ, zero, suc, Bool, false}
+use Rattle.std.proofs.Common.{List, [], ◌∷◌, get_or, length, refl, sym, ◌∙◌, ap, subst, arith, inl}
 use Rattle.std.proofs.lemmas.List.{get_or_past}
 use mathlib.Core.Option.{some, some-injective, some-ne-none}
 use lib.ListN.{get_elem?}
 use Rattle.sync_base.specs.declared.note.Note.TheVariants.{Interrupt, Hangup, Alarm, ClosedPipe}
 use Rattle.sync_base.specs.declared.note.Note.TheVariants.{Expired}
 use Rattle.sync_base.specs.NoteSet.{holds}
-use Rattle.sleep_core.specs.declared.phase.Phase.{Phase}
 use Rattle.sleep_core.specs.declared.phase.Phase.TheVariants as phase
-use Rattle.sleep_core.specs.State.{State, phase_of, flags_of, posted_of, posted_as}
+use Rattle.sleep_core.specs.State.{State, phase_of, flags_of, posted_of}
 use Rattle.sleep_core.specs.Table.{Cell}
 use Rattle.sleep_core.specs.Table.Cell.{PostedOf, FlagsOf}
 use Rattle.sleep_core.specs.Step.{word_at}

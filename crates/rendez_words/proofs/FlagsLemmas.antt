@@ -1,5 +1,7 @@
 -- A word of flags: that bits set in it are set in the flags, and that it is read back.
-use Rattle.std.proofs.Common.{◌≡◌, ◌==◌, ℕ, ◌+◌, ◌*◌, ◌/◌, ◌%◌, ◌<◌, Bool, true, false, ◌||◌, if◌then◌else◌, List, [], ◌∷◌, length, bit_or, refl, sym, ◌∙◌, ap, subst, arith}
+use Rattle.std.proofs.Common.{◌≡◌, ◌==◌, ℕ, ◌+◌, ◌*◌, ◌/◌, ◌%◌, ◌<◌, Bool, true, false, ◌||◌}
+use Rattle.std.proofs.Common.{if◌then◌else◌, List, [], ◌∷◌, length, bit_or, refl, ◌∙◌, ap}
+use Rattle.std.proofs.Common.{arith}
 use Rattle.std.proofs.lemmas.Nat.{or_block, div-mul-add, mod-mul-add}
 use Rattle.sync_base.specs.declared.note.Note.{Note}
 use Rattle.sync_base.specs.declared.note.Note.TheVariants.{Interrupt, Hangup, Alarm, ClosedPipe}
@@ -21,10 +23,12 @@ bit_low true = omega arith
 bit_low false = omega arith
 
 -- one bit more
-or_more : (x y : Bool) (xs ys zs : List Bool) → bit_or (number_of_bits xs) (number_of_bits ys) ≡ number_of_bits zs
+or_more : (x y : Bool) (xs ys zs : List Bool)
+    → bit_or (number_of_bits xs) (number_of_bits ys) ≡ number_of_bits zs
     → bit_or (number_of_bits (x ∷ xs)) (number_of_bits (y ∷ ys)) ≡ number_of_bits ((x || y) ∷ zs)
 or_more x y xs ys zs is =
-    or_block 1 (number_of_bits xs) (number_of_bits ys) (if x then 1 else 0) (if y then 1 else 0) (bit_low x) (bit_low y)
+    or_block 1 (number_of_bits xs) (number_of_bits ys) (if x then 1 else 0) (if y then 1 else 0)
+    (bit_low x) (bit_low y)
     ∙ ap (λ n. n * 2 + bit_or (if x then 1 else 0) (if y then 1 else 0)) is
     ∙ ap (λ n. number_of_bits zs * 2 + n) (or_bit x y)
 
@@ -42,17 +46,20 @@ joined_bits [] ys = []
 joined_bits (x ∷ xs) [] = []
 joined_bits (x ∷ xs) (y ∷ ys) = (x || y) ∷ joined_bits xs ys
 
-or_bits : (xs ys : List Bool) → length xs ≡ length ys → bit_or (number_of_bits xs) (number_of_bits ys) ≡ number_of_bits (joined_bits xs ys)
+or_bits : (xs ys : List Bool) → length xs ≡ length ys
+    → bit_or (number_of_bits xs) (number_of_bits ys) ≡ number_of_bits (joined_bits xs ys)
 or_bits [] [] same = refl
 or_bits [] (y ∷ ys) same = absurd (omega arith)
 or_bits (x ∷ xs) [] same = absurd (omega arith)
 or_bits (x ∷ xs) (y ∷ ys) same = or_more x y xs ys (joined_bits xs ys) (or_bits xs ys (omega arith))
 
-or_flags : (a b : ProcFlags) → bit_or (flags_word a) (flags_word b) ≡ number_of_bits (joined_bits (bits_of a) (bits_of b))
+or_flags : (a b : ProcFlags) → bit_or (flags_word a) (flags_word b)
+    ≡ number_of_bits (joined_bits (bits_of a) (bits_of b))
 or_flags a b = or_bits (bits_of a) (bits_of b) refl
 
 -- the mark is set, and the notes stay
-pub or_mark : (flags : ProcFlags) → bit_or (flags_word flags) (flags_word (record { wake = true; notes = no_notes }))
+pub or_mark : (flags : ProcFlags) → bit_or (flags_word flags)
+    (flags_word (record { wake = true; notes = no_notes }))
     ≡ flags_word (record { wake = true; notes = flags.notes })
 or_mark flags =
     or_flags flags (record { wake = true; notes = no_notes })
@@ -65,7 +72,8 @@ or_mark flags =
     ∷ []))
 
 -- the notes are joined, and the mark stays
-pub or_notes : (flags : ProcFlags) (new : NoteSet) → bit_or (flags_word flags) (flags_word (record { wake = false; notes = new }))
+pub or_notes : (flags : ProcFlags) (new : NoteSet)
+    → bit_or (flags_word flags) (flags_word (record { wake = false; notes = new }))
     ≡ flags_word (record { wake = flags.wake; notes = joined flags.notes new })
 or_notes flags new =
     or_flags flags (record { wake = false; notes = new })
@@ -78,15 +86,18 @@ or_notes flags new =
     ∷ [])) (or_false flags.wake)
 
 -- the lowest bit is read, and the others are left
-pub lowest : (bit : Bool) (rest : List Bool) (word : ℕ) → word ≡ number_of_bits (bit ∷ rest) → (word % 2 == 1) ≡ bit
+pub lowest : (bit : Bool) (rest : List Bool) (word : ℕ) → word ≡ number_of_bits (bit ∷ rest)
+    → (word % 2 == 1) ≡ bit
 lowest bit rest word is =
-    ap (λ n. n == 1) (ap (λ n. n % 2) is ∙ mod-mul-add (number_of_bits rest) 2 (if bit then 1 else 0) (bit_low bit)) ∙ tells bit
+    ap (λ n. n == 1) (ap (λ n. n % 2) is ∙ mod-mul-add (number_of_bits rest) 2
+    (if bit then 1 else 0) (bit_low bit)) ∙ tells bit
   where
     tells : (b : Bool) → ((if b then 1 else 0) == 1) ≡ b
     tells true = refl
     tells false = refl
 
-pub others : (bit : Bool) (rest : List Bool) (word : ℕ) → word ≡ number_of_bits (bit ∷ rest) → word / 2 ≡ number_of_bits rest
+pub others : (bit : Bool) (rest : List Bool) (word : ℕ) → word ≡ number_of_bits (bit ∷ rest)
+    → word / 2 ≡ number_of_bits rest
 others bit rest word is =
     ap (λ n. n / 2) is ∙ div-mul-add (number_of_bits rest) 2 (if bit then 1 else 0) (bit_low bit)
 
@@ -150,7 +161,8 @@ pub notes_read : (empty first second third fourth fifth : NoteSet)
     → third ≡ with_note second Alarm alarm → fourth ≡ with_note third ClosedPipe closed_pipe
     → fifth ≡ with_note fourth Expired expired
     → fifth ≡ notes_from interrupt hangup alarm closed_pipe expired
-notes_read empty first second third fourth fifth interrupt hangup alarm closed_pipe expired e i h a c x =
+notes_read empty first second third fourth fifth interrupt hangup alarm closed_pipe expired e i h a
+    c x =
     let one = i ∙ ap (λ n. with_note n Interrupt interrupt) e in
     let two = h ∙ ap (λ n. with_note n Hangup hangup) one in
     let three = a ∙ ap (λ n. with_note n Alarm alarm) two in

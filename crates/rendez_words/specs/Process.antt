@@ -1,5 +1,5 @@
 -- What clauses see of a process between two of its steps, in whatever state it is.
-use Rattle.std.specs.Prelude.{◌≡◌, ℕ, List, [], ◌∷◌}
+use Rattle.std.specs.Prelude.{◌≡◌, ℕ, List, ◌∷◌}
 use Rattle.sync_base.specs.declared.ids.Pid.{Pid}
 pub use Rattle.atomic_table.specs.Seated.{TableId}
 use Rattle.sleep_core.specs.declared.event.Event.{Event}

@@ -8,7 +8,8 @@ ghost use Rattle.rendez_words.specs.FlagsWord.{flags_word, number_of_bits};
 use sleep_core::ProcFlags;
 use sync_base::{Note, NoteSet};
 
-/// The word of these flags: the lowest bit is the mark, and above it is a bit for each kind of note.
+/// The word of these flags: the lowest bit is the mark, and above it is a bit for each kind of
+/// note.
 pub(crate) fn word_from(flags: ProcFlags) -> u64
     ensures { result ≡ flags_word flags }
 {

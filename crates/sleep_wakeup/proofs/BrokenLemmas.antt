@@ -1,5 +1,6 @@
 -- Why these steps are no sleep and no wakeup.
-use Rattle.std.proofs.Common.{◌≡◌, ◌⊎◌, inl, inr, ℕ, Bool, false, List, [], ◌∷◌, ◌++◌, length, refl, sym, ◌∙◌, ap, subst}
+use Rattle.std.proofs.Common.{◌≡◌, ◌⊎◌, inl, inr, ℕ, Bool, false, List, [], ◌∷◌, ◌++◌, length, refl}
+use Rattle.std.proofs.Common.{sym, ◌∙◌, ap, subst}
 use Rattle.std.specs.List.{AllByRecursion}
 use Rattle.rendez_words.specs.Process.{TableId}
 use Rattle.sync_base.specs.declared.ids.Pid.{Pid}
@@ -14,7 +15,8 @@ use Rattle.sleep_core.specs.Runs.{Entry}
 use Rattle.sleep_core.specs.Table.{ending_of}
 use Rattle.rendez_words.specs.Process.{Process}
 use Rattle.rendez_words.specs.Steps.{raises}
-use Rattle.sleep_wakeup.specs.Broken.{after, process, rendez, step, posted, went_out, missed, raised}
+use Rattle.sleep_wakeup.specs.Broken.{after, process, rendez, step, posted, went_out, missed}
+use Rattle.sleep_wakeup.specs.Broken.{raised}
 use Rattle.sleep_wakeup.specs.Calls.{IsOfWait, HasWoken, Sleeps, Ends}
 
 -- the first two steps, and those behind them
@@ -113,7 +115,8 @@ has_alarm told = false
 -- a sleep whose test found the condition false, and that saw no mark, has no cause
 pub no_cause : (told : Answer) → step (Test (process 0)) answer.Asleep
     ≡ step (Test (process 0)) told → ¬ ((told ≡ answer.Leaving) ⊎ HasWoken (went_out ∷ []))
-no_cause told is (inl passed) = let fell : answer.Asleep ≡ told = ap (λ (e : Entry). e.answer) is in cc
+no_cause told is (inl passed) = let fell : answer.Asleep ≡ told = ap (λ (e : Entry). e.answer) is in
+    cc
 no_cause told is (inr (inl woken)) = cc
 no_cause told is (inr (inr none)) = none
 

@@ -1,7 +1,10 @@
-use Rattle.rendez_words.proofs.BrokenLemmas.{no_wakeup_is_lost, no_sleeper_is_nowhere, no_mark_is_stray}
+use Rattle.rendez_words.proofs.BrokenLemmas.{no_wakeup_is_lost, no_sleeper_is_nowhere}
+use Rattle.rendez_words.proofs.BrokenLemmas.{no_mark_is_stray}
 use Rattle.rendez_words.proofs.BrokenLemmas.{no_stranger_is_posted, no_stranger_has_a_seat}
-use Rattle.rendez_words.proofs.BrokenLemmas.{no_process_has_two_seats, no_process_to_come_has_a_seat}
-use Rattle.rendez_words.proofs.BrokenLemmas.{no_process_to_come_is_posted, no_process_is_joined_with_itself}
+use Rattle.rendez_words.proofs.BrokenLemmas.{no_process_has_two_seats}
+use Rattle.rendez_words.proofs.BrokenLemmas.{no_process_to_come_has_a_seat}
+use Rattle.rendez_words.proofs.BrokenLemmas.{no_process_to_come_is_posted}
+use Rattle.rendez_words.proofs.BrokenLemmas.{no_process_is_joined_with_itself}
 use Rattle.rendez_words.proofs.laws.rule_can_be_broken.Goals as goal
 
 pub returns-clause-wakeup_is_lost : goal.returns-clause-wakeup_is_lost

@@ -6,7 +6,8 @@ use Rattle.sleep_wakeup.specs.Broken.{raised, missed, took, marked}
 use Rattle.sleep_wakeup.specs.Broken.{takes_before_it_raises, never_raises, never_takes}
 use Rattle.sleep_wakeup.specs.Broken.{takes_twice, never_marks, marks_another}
 use Rattle.sleep_wakeup.specs.Broken.{raises_elsewhere, raises_to_another_level}
-use Rattle.sleep_wakeup.proofs.BrokenLemmas.{of_wakeup, not_so_many, two_steps, three_steps, third_marks}
+use Rattle.sleep_wakeup.proofs.BrokenLemmas.{of_wakeup, not_so_many, two_steps, three_steps}
+use Rattle.sleep_wakeup.proofs.BrokenLemmas.{third_marks}
 use Rattle.sleep_wakeup.proofs.BrokenLemmas.{raised_at, raised_to}
 use Rattle.sleep_wakeup.proofs.laws.wakeups_can_be_broken.Goals as goal
 
