@@ -1,12 +1,15 @@
 -- The laws of running threads are those of the run that the rule gives.
-use Rattle.std.proofs.Common.{◌≡◌, ◌≤◌, ℕ, List, [], sym, ◌∙◌, ap, subst}
+use Rattle.std.proofs.Common.{List, sym, ◌∙◌, ap, subst}
 use Rattle.sleep_core.specs.Runs.{Entry, phase_by}
 use Rattle.sleep_core.specs.History.{history_of, HasReturned}
 use Rattle.sleep_core.proofs.KeptHistory.{returns_by_kept_events}
-use Rattle.sleep_core.proofs.NoLostWakeup.{no_lost_wakeup_lem, sleeps_end_for_a_cause, returned_wakeup_releases}
+use Rattle.sleep_core.proofs.NoLostWakeup.{no_lost_wakeup_lem, sleeps_end_for_a_cause}
+use Rattle.sleep_core.proofs.NoLostWakeup.{returned_wakeup_releases}
 use Rattle.sleep_core.proofs.OwnEvents.{phase_by-kept_own}
-use Rattle.sleep_core.proofs.WhereaboutsLemmas.{sleepers_are_in_one_place, others_are_in_no_place, words_agree_in_runs}
-use Rattle.rendez_words.specs.Laws.{ThreadsKeepPromises, EachSleeperHasAPlace, SeatsKnowPhases, PidsToComeAreUnused, ReceiptsRelease}
+use Rattle.sleep_core.proofs.WhereaboutsLemmas.{sleepers_are_in_one_place, others_are_in_no_place}
+use Rattle.sleep_core.proofs.WhereaboutsLemmas.{words_agree_in_runs}
+use Rattle.rendez_words.specs.Laws.{ThreadsKeepPromises, EachSleeperHasAPlace, SeatsKnowPhases}
+use Rattle.rendez_words.specs.Laws.{PidsToComeAreUnused, ReceiptsRelease}
 
 pub threads_keep : ThreadsKeepPromises
 threads_keep sizes s shows =
@@ -26,7 +29,8 @@ sleepers_have_places sizes s shows =
 pub seats_know : SeatsKnowPhases
 seats_know sizes s shows seat part at =
     let seated = shows.each_seat seat _ at in
-    sym (phase_by-kept_own sizes.procs sizes.rendez shows.run shows.legal part.pid) ∙ ap phase_by (sym seated.trace_is)
+    sym (phase_by-kept_own sizes.procs sizes.rendez shows.run shows.legal part.pid)
+    ∙ ap phase_by (sym seated.trace_is)
 
 pub pids_unused : PidsToComeAreUnused
 pids_unused sizes s shows seat next pid at least = (shows.each_seat seat _ at pid least).none
@@ -36,4 +40,5 @@ receipts_release sizes s shows seat part rendez level at receipt =
     let seated = shows.each_seat seat _ at in
     returned_wakeup_releases sizes.procs sizes.rendez shows.run shows.legal rendez level
     (returns_by_kept_events sizes.procs sizes.rendez shows.run shows.legal part.pid rendez.0 level
-    (subst (λ (trace : List Entry). HasReturned (history_of trace) rendez.0 level) seated.trace_is receipt))
+    (subst (λ (trace : List Entry). HasReturned (history_of trace) rendez.0 level) seated.trace_is
+    receipt))

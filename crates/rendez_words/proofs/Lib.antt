@@ -1,3 +1,4 @@
+pub mod BrokenLemmas
 pub mod CheckKeeps
 pub mod FlagsLemmas
 pub mod KindSteps

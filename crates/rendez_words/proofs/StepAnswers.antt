@@ -1,37 +1,43 @@
 -- What a step's own function answers: the seat of the process may make the event, and what the step
 -- told its seat is what the process has made.
-use Rattle.std.proofs.Common.{◌≡◌, ℕ, ◌+◌, ◌<◌, [], refl, sym, ◌∙◌, ap, subst, arith}
+use Rattle.std.proofs.Common.{◌≡◌, ℕ, ◌+◌, ◌<◌, sym, subst, arith}
 use Rattle.atomic_table.specs.Table as table
 use Rattle.sleep_core.specs.declared.event.Event.{Event}
 use Rattle.sleep_core.specs.Table.{Cell}
 use Rattle.sleep_core.specs.Table.Cell.{PostedOf, LevelOf, FlagsOf, NoCell}
 use Rattle.rendez_words.specs.declared.view.Part.{Part}
 use Rattle.rendez_words.specs.declared.view.Sizes.{Sizes}
-use Rattle.rendez_words.specs.declared.view.View.{View}
-use Rattle.rendez_words.specs.declared.view.View.TheVariants as view
-use Rattle.rendez_words.specs.Plays.{Seated, IsCellIn, part_of, IsStep, HasMade, HasStepped}
+use Rattle.rendez_words.specs.Plays.{IsCellIn, part_of, IsStep, HasStepped}
 use Rattle.rendez_words.specs.Process.{Process}
 use Rattle.rendez_words.specs.Rule.{place, ShowsCore}
 use Rattle.rendez_words.specs.States.{Place, process_at, IsPlaceOf}
-use Rattle.rendez_words.specs.View.{part_in}
 use Rattle.rendez_words.proofs.StepKeeps.{step_keeps}
 
 -- the place of a cell is one of the words
-in_words : (sizes : Sizes) (cell : Cell) → IsCellIn sizes cell → place sizes cell < sizes.rendez + (sizes.rendez + sizes.procs)
+in_words : (sizes : Sizes) (cell : Cell) → IsCellIn sizes cell
+    → place sizes cell < sizes.rendez + (sizes.rendez + sizes.procs)
 in_words sizes (PostedOf rendez) there = omega arith
 in_words sizes (LevelOf rendez) there = omega arith
 in_words sizes (FlagsOf pid) there = omega arith
 in_words sizes NoCell there = absurd there
 
-pub step_in : (sizes key : Sizes) (event : Event) (part : Part) (word words : ℕ) (does : ℕ → ℕ) → sizes ≡ key → words ≡ key.rendez + (key.rendez + key.procs) → IsStep sizes event part word does → word < words
+pub step_in : (sizes key : Sizes) (event : Event) (part : Part) (word words : ℕ) (does : ℕ → ℕ)
+    → sizes ≡ key → words ≡ key.rendez + (key.rendez + key.procs)
+    → IsStep sizes event part word does → word < words
 step_in sizes key event part word words does same count step =
     subst (λ n. word < n) (sym count)
     (subst (λ (k : Sizes). word < k.rendez + (k.rendez + k.procs)) same
-    (subst (λ n. n < sizes.rendez + (sizes.rendez + sizes.procs)) (sym step.word_is) (in_words sizes step.cell step.cell_in)))
+    (subst (λ n. n < sizes.rendez + (sizes.rendez + sizes.procs)) (sym step.word_is)
+    (in_words sizes step.cell step.cell_in)))
 
-pub step_allowed : (sizes key : Sizes) (at : Place) (pid : ℕ) (process : Process) (slots : ℕ) (event : Event) (word : ℕ) (does : ℕ → ℕ) → sizes ≡ key → IsPlaceOf at pid → process_at at pid ≡ process
-    → IsStep sizes event (part_of process) word does → table.Allows (ShowsCore key) slots at.id at.me word does (λ found after. HasStepped sizes event at.me found after)
+pub step_allowed : (sizes key : Sizes) (at : Place) (pid : ℕ) (process : Process) (slots : ℕ)
+    (event : Event) (word : ℕ) (does : ℕ → ℕ) → sizes ≡ key → IsPlaceOf at pid
+    → process_at at pid ≡ process
+    → IsStep sizes event (part_of process) word does
+    → table.Allows (ShowsCore key) slots at.id at.me word does
+    (λ found after. HasStepped sizes event at.me found after)
 step_allowed sizes key at pid process slots event word does same placed is step =
-    subst (λ (k : Sizes). table.Allows (ShowsCore k) slots at.id at.me word does (λ found after. HasStepped sizes event at.me found after)) same
+    subst (λ (k : Sizes). table.Allows (ShowsCore k) slots at.id at.me word does
+    (λ found after. HasStepped sizes event at.me found after)) same
     (step_keeps sizes slots at.id at.me (part_of (process_at at pid)) event word does placed
     (subst (λ (p : Process). IsStep sizes event (part_of p) word does) (sym is) step))

@@ -1,7 +1,6 @@
 -- A step that makes an event keeps the rule: the run is one event longer.
-use Rattle.std.proofs.Common.{◌≡◌, ◌≢◌, ◌⊎◌, ⊎_elim, ℕ, ◌<◌, List, [], ◌∷◌, length, get_or, set, refl, sym, ◌∙◌, ap, subst}
-use mathlib.Core.Option.{some, some-injective}
-use lib.ListN.{get_elem?}
+use Rattle.std.proofs.Common.{◌≡◌, ⊎_elim, ℕ, ◌<◌, List, [], ◌∷◌, get_or, set}
+use Rattle.std.proofs.Common.{refl, sym, ◌∙◌, ap, subst}
 use Rattle.atomic_table.specs.Table as table
 use Rattle.atomic_table.proofs.Lists.{at_set}
 use Rattle.sleep_core.specs.declared.event.Event.{Event}
@@ -17,15 +16,16 @@ use Rattle.sleep_core.proofs.TableRows.{row}
 use Rattle.sleep_core.proofs.NoLostWakeup.{runs_are_sound}
 use Rattle.rendez_words.specs.declared.view.Part.{Part}
 use Rattle.rendez_words.specs.declared.view.Sizes.{Sizes}
-use Rattle.rendez_words.specs.declared.view.View.{View}
 use Rattle.rendez_words.specs.declared.view.View.TheVariants as view
-use Rattle.rendez_words.specs.Plays.{Seated, IsStage, number_of, IsCellIn, part_after, IsStep, HasMade, HasStepped}
+use Rattle.rendez_words.specs.Plays.{Seated, IsStage, number_of, IsCellIn, part_after, IsStep}
+use Rattle.rendez_words.specs.Plays.{HasMade, HasStepped}
 use Rattle.rendez_words.specs.Rule.{words_of, place, IsSeated, Fits, ShowsCore}
 use Rattle.rendez_words.proofs.PlaceLemmas.{HasSizes, word_of_cell, read_there, words_after}
 use Rattle.rendez_words.proofs.RunLemmas.{trace_more, fits_still, stage_of}
 
 -- a run leaves a world of its sizes
-pub sizes_of_run : (sizes : Sizes) (run : List Entry) → IsRun sizes.procs sizes.rendez run → HasSizes sizes (world_of sizes.procs sizes.rendez run)
+pub sizes_of_run : (sizes : Sizes) (run : List Entry) → IsRun sizes.procs sizes.rendez run
+    → HasSizes sizes (world_of sizes.procs sizes.rendez run)
 sizes_of_run sizes run legal =
     let sound = runs_are_sound sizes.procs sizes.rendez run legal in
     record {
@@ -35,14 +35,16 @@ sizes_of_run sizes run legal =
       phases = sound.procs_stay;
     }
 
-has_word : (sizes : Sizes) (s : State) (cell : Cell) → HasSizes sizes s → IsCellIn sizes cell → HasWord s cell
+has_word : (sizes : Sizes) (s : State) (cell : Cell) → HasSizes sizes s → IsCellIn sizes cell
+    → HasWord s cell
 has_word sizes s (PostedOf rendez) has there = subst (λ n. rendez < n) (sym has.posted) there
 has_word sizes s (LevelOf rendez) has there = subst (λ n. rendez < n) (sym has.levels) there
 has_word sizes s (FlagsOf pid) has there = subst (λ n. pid < n) (sym has.flags) there
 has_word sizes s NoCell has there = tt
 
 -- an event that a step makes, in the world that the run has left
-pub record Comes (sizes : Sizes) (run : List Entry) (event : Event) (part : Part) (word : ℕ) (does : ℕ → ℕ) : Type 0 where
+pub record Comes (sizes : Sizes) (run : List Entry) (event : Event) (part : Part) (word : ℕ)
+    (does : ℕ → ℕ) : Type 0 where
   pub stage : Phase
   pub found : Word
   pub in_stage : IsStage part.trace event stage
@@ -53,8 +55,10 @@ pub record Comes (sizes : Sizes) (run : List Entry) (event : Event) (part : Part
   pub written : words_of (world_after (world_of sizes.procs sizes.rendez run) event)
       ≡ set (words_of (world_of sizes.procs sizes.rendez run)) word (does (number_of found))
 
-pub comes : (sizes : Sizes) (run : List Entry) (event : Event) (part : Part) (word : ℕ) (does : ℕ → ℕ)
-    → IsRun sizes.procs sizes.rendez run → part.trace ≡ kept (own part.pid run) → IsStep sizes event part word does → Comes sizes run event part word does
+pub comes : (sizes : Sizes) (run : List Entry) (event : Event) (part : Part) (word : ℕ) (does : ℕ
+    → ℕ)
+    → IsRun sizes.procs sizes.rendez run → part.trace ≡ kept (own part.pid run)
+    → IsStep sizes event part word does → Comes sizes run event part word does
 comes sizes run event part word does legal trace_is step =
     record {
       stage = stage;
@@ -63,10 +67,13 @@ comes sizes run event part word does legal trace_is step =
       found_is = refl;
       there = there;
       answered = answered;
-      read = ap (λ i. get_or (words_of w) i 0) at_word ∙ read_there sizes w (cell_of event stage) has there;
+      read = ap (λ i. get_or (words_of w) i 0) at_word
+          ∙ read_there sizes w (cell_of event stage) has there;
       written = words_after sizes w event has there answered
           ∙ ap (λ i. set (words_of w) i (number_of (word_after event stage found))) (sym at_word)
-          ∙ ap (set (words_of w) word) (sym (step.does_is stage in_stage found (subst (λ cell. Rattle.rendez_words.specs.Plays.IsWordOf cell found) cell_is (word_of_cell sizes w (cell_of event stage) there))));
+          ∙ ap (set (words_of w) word) (sym (step.does_is stage in_stage found
+          (subst (λ cell. Rattle.rendez_words.specs.Plays.IsWordOf cell found) cell_is
+          (word_of_cell sizes w (cell_of event stage) there))));
     }
   where
     w : State
@@ -79,7 +86,8 @@ comes sizes run event part word does legal trace_is step =
     stage = phase_of w (pid_of event).0
 
     in_stage : IsStage part.trace event stage
-    in_stage = stage_of sizes.procs sizes.rendez run part.pid part.trace event legal trace_is step.maker_is
+    in_stage =
+        stage_of sizes.procs sizes.rendez run part.pid part.trace event legal trace_is step.maker_is
 
     cell_is : cell_of event stage ≡ step.cell
     cell_is = step.cell_is stage in_stage
@@ -106,17 +114,22 @@ comes sizes run event part word does legal trace_is step =
     answered = (row w event stage found due).answered
 
 -- the words after the step are those of the longer run
-pub words_step : (sizes : Sizes) (run : List Entry) (event : Event) (part : Part) (word : ℕ) (does : ℕ → ℕ) (words : List ℕ)
-    → words ≡ words_of (world_of sizes.procs sizes.rendez run) → Comes sizes run event part word does
-    → set words word (does (get_or words word 0)) ≡ words_of (world_after (world_of sizes.procs sizes.rendez run) event)
+pub words_step : (sizes : Sizes) (run : List Entry) (event : Event) (part : Part) (word : ℕ)
+    (does : ℕ → ℕ) (words : List ℕ)
+    → words ≡ words_of (world_of sizes.procs sizes.rendez run)
+    → Comes sizes run event part word does
+    → set words word (does (get_or words word 0))
+    ≡ words_of (world_after (world_of sizes.procs sizes.rendez run) event)
 words_step sizes run event part word does words is next =
     ap (λ xs. set xs word (does (get_or xs word 0))) is
     ∙ ap (λ n. set (words_of (world_of sizes.procs sizes.rendez run)) word (does n)) next.read
     ∙ sym next.written
 
 -- the seat of one process makes an event
-step_keeps_at : (sizes : Sizes) (slots id : ℕ) (part : Part) (event : Event) (word : ℕ) (does : ℕ → ℕ) → IsStep sizes event part word does
-    → table.Allows (ShowsCore sizes) slots id (view.Process part, []) word does (λ found after. HasStepped sizes event (view.Process part, []) found after)
+step_keeps_at : (sizes : Sizes) (slots id : ℕ) (part : Part) (event : Event) (word : ℕ) (does : ℕ
+    → ℕ) → IsStep sizes event part word does
+    → table.Allows (ShowsCore sizes) slots id (view.Process part, []) word does
+    (λ found after. HasStepped sizes event (view.Process part, []) found after)
 step_keeps_at sizes slots id part event word does step s rule _ at _ = (
   view.Process after,
   table.keeps,
@@ -127,8 +140,11 @@ step_keeps_at sizes slots id part event word does step s rule _ at _ = (
     legal = legal;
     words = words_step sizes rule.run event part word does s.words rule.words next;
     each_seat = λ seat known there.
-        ⊎_elim (λ here. subst (Fits sizes.procs (entry ∷ rule.run) rule.owner seat) here.1 (subst (λ j. Fits sizes.procs (entry ∷ rule.run) rule.owner j (view.Process after)) (sym here.0) mine))
-        (λ else. fits_still sizes.procs entry rule.run rule.owner seat known (λ same. else.0 (sym same ∙ seated.owner_is)) (rule.each_seat seat known else.1))
+        ⊎_elim (λ here. subst (Fits sizes.procs (entry ∷ rule.run) rule.owner seat) here.1
+        (subst (λ j. Fits sizes.procs (entry ∷ rule.run) rule.owner j (view.Process after))
+        (sym here.0) mine))
+        (λ else. fits_still sizes.procs entry rule.run rule.owner seat known
+        (λ same. else.0 (sym same ∙ seated.owner_is)) (rule.each_seat seat known else.1))
         (at_set s.views id seat (view.Process after) known there);
   },
   record {
@@ -136,7 +152,9 @@ step_keeps_at sizes slots id part event word does step s rule _ at _ = (
       stage = next.stage;
       word = next.found;
       in_stage = next.in_stage;
-      word_is = subst (Rattle.rendez_words.specs.Plays.IsWordOf (cell_of event next.stage)) (sym next.found_is) (word_of_cell sizes (world_of sizes.procs sizes.rendez rule.run) (cell_of event next.stage) next.there);
+      word_is = subst (Rattle.rendez_words.specs.Plays.IsWordOf (cell_of event next.stage))
+          (sym next.found_is) (word_of_cell sizes (world_of sizes.procs sizes.rendez rule.run)
+          (cell_of event next.stage) next.there);
       found_is = ap (λ xs. get_or xs word 0) rule.words ∙ next.read;
       after_is = refl;
       run = record { run = entry ∷ rule.run; legal = legal; trace_is = trace };
@@ -169,7 +187,11 @@ step_keeps_at sizes slots id part event word does step s rule _ at _ = (
     mine : IsSeated sizes.procs (entry ∷ rule.run) rule.owner id after
     mine = record { pid_in = seated.pid_in; owner_is = seated.owner_is; trace_is = trace }
 
-pub step_keeps : (sizes : Sizes) (slots id : ℕ) (me : Seated) (part : Part) (event : Event) (word : ℕ) (does : ℕ → ℕ) → me ≡ (view.Process part, []) → IsStep sizes event part word does
-    → table.Allows (ShowsCore sizes) slots id me word does (λ found after. HasStepped sizes event me found after)
+pub step_keeps : (sizes : Sizes) (slots id : ℕ) (me : Seated) (part : Part) (event : Event)
+    (word : ℕ) (does : ℕ → ℕ) → me ≡ (view.Process part, []) → IsStep sizes event part word does
+    → table.Allows (ShowsCore sizes) slots id me word does
+    (λ found after. HasStepped sizes event me found after)
 step_keeps sizes slots id me part event word does me_is step =
-    subst (λ (m : Seated). table.Allows (ShowsCore sizes) slots id m word does (λ found after. HasStepped sizes event m found after)) (sym me_is) (step_keeps_at sizes slots id part event word does step)
+    subst (λ (m : Seated). table.Allows (ShowsCore sizes) slots id m word does
+    (λ found after. HasStepped sizes event m found after)) (sym me_is)
+    (step_keeps_at sizes slots id part event word does step)

@@ -1,5 +1,4 @@
 -- A word for each answer of a call.
-use Rattle.std.specs.Prelude.{⊤}
 use Rattle.rendez_words.specs.declared.states.Returned.{Returned}
 use Rattle.rendez_words.specs.declared.states.TestAnswer.{TestAnswer}
 use Rattle.rendez_words.specs.declared.states.TestAnswer.TheVariants as test

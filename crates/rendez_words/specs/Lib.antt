@@ -1,4 +1,5 @@
 pub mod Answers
+pub mod Broken
 pub mod FlagsWord
 pub mod Laws
 pub mod Plays

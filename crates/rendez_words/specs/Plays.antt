@@ -1,5 +1,5 @@
 -- What each kind of step tells its seat, and what it asks.
-use Rattle.std.specs.Prelude.{◌≡◌, ◌<◌, ⊤, ℕ, Bool, List, [], ◌∷◌, if◌then◌else◌}
+use Rattle.std.specs.Prelude.{◌≡◌, ◌<◌, ⊤, ℕ, List, [], ◌∷◌, if◌then◌else◌}
 use Rattle.atomic_table.specs.Table as table
 use Rattle.sleep_core.specs.declared.event.Event.{Event}
 use Rattle.sleep_core.specs.declared.event.Event.TheVariants.{Note}

@@ -1,6 +1,5 @@
 -- What the seats of the table know.
-use Rattle.std.specs.Prelude.{ℕ, ◌+◌, List, []}
-use Rattle.sleep_core.specs.Runs.{Entry}
+use Rattle.std.specs.Prelude.{ℕ, ◌+◌, []}
 use Rattle.rendez_words.specs.declared.view.Part.{Part}
 use Rattle.rendez_words.specs.declared.view.Sizes.{Sizes}
 use Rattle.rendez_words.specs.declared.view.View.{View}

@@ -15,7 +15,7 @@ use Rattle.sleep_core.specs.History.{history_of, HasReturned}
 use Rattle.rendez_words.specs.declared.states.Done.{Done}
 use Rattle.rendez_words.specs.declared.view.Sizes.{Sizes}
 use Rattle.rendez_words.specs.declared.words.Words.{Words}
-use Rattle.rendez_words.specs.Process.{Process, PidsLeft, IsOfRun, phase_in, pid_in}
+use Rattle.rendez_words.specs.Process.{Process, PidsLeft, IsOfRun, pid_in}
 use Rattle.rendez_words.specs.Steps.{posts}
 
 abbrev pub table_of : Words → TableId
@@ -92,5 +92,6 @@ pub record IsChecked (words : Words) (sleeper raiser : Process) (released : Bool
   pub legal : IsRun (procs_of words) (rendez_of words) run
   pub sleeper_is : sleeper.trace ≡ kept (own sleeper.pid run)
   pub raiser_is : raiser.trace ≡ kept (own raiser.pid run)
-  pub answered : answer_to (world_of (procs_of words) (rendez_of words) run) (Check (pid_in sleeper))
+  pub answered : answer_to (world_of (procs_of words) (rendez_of words) run)
+      (Check (pid_in sleeper))
       ≡ (if released then answer.Released else answer.Posted)

@@ -8,12 +8,14 @@ ghost use Rattle.rendez_words.specs.FlagsWord.{flags_word, number_of_bits};
 use sleep_core::ProcFlags;
 use sync_base::{Note, NoteSet};
 
-/// The word of these flags: the lowest bit is the mark, and above it is a bit for each kind of note.
+/// The word of these flags: the lowest bit is the mark, and above it is a bit for each kind of
+/// note.
 pub(crate) fn word_from(flags: ProcFlags) -> u64
     ensures { result ≡ flags_word flags }
 {
     let ProcFlags { wake, notes } = flags;
-    let mut word = notes.has(Note::ClosedPipe) as u64;
+    let mut word = notes.has(Note::Expired) as u64;
+    word = word * 2 + notes.has(Note::ClosedPipe) as u64;
     word = word * 2 + notes.has(Note::Alarm) as u64;
     word = word * 2 + notes.has(Note::Hangup) as u64;
     word = word * 2 + notes.has(Note::Interrupt) as u64;
@@ -30,10 +32,12 @@ pub(crate) fn flags_in(word: u64) -> ProcFlags
     let hangup = lowest_bit(&mut bits);
     let alarm = lowest_bit(&mut bits);
     let closed_pipe = lowest_bit(&mut bits);
+    let expired = lowest_bit(&mut bits);
     let notes = joined_if(NoteSet::empty(), Note::Interrupt, interrupt);
     let notes = joined_if(notes, Note::Hangup, hangup);
     let notes = joined_if(notes, Note::Alarm, alarm);
     let notes = joined_if(notes, Note::ClosedPipe, closed_pipe);
+    let notes = joined_if(notes, Note::Expired, expired);
     ProcFlags { wake, notes }
 }
 

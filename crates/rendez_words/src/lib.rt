@@ -1,6 +1,7 @@
 //! The words of sleep and wakeup on running threads: each event of the core is one atomic step on
-//! one word, with no lock round it. Read `flags_word`, `view`, `rule`, `plays`, `states`, `parking`,
-//! `words`, `steps`, `waiting`, `sleeper`, `raiser`, `notes`, `released` and then `laws`.
+//! one word, with no lock round it. Read `flags_word`, `view`, `rule`, `plays`, `states`,
+//! `parking`, `words`, `steps`, `waiting`, `sleeper`, `raiser`, `notes`, `released` and then
+//! `laws`.
 #![tactic(auto)]
 
 mod flags_word;

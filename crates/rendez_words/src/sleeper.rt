@@ -40,7 +40,8 @@ impl Words {
             WhyNotPosted self.now seat rendez threshold refused.seat refused.fault) }
 
         // Otherwise the process is posted.
-        ensures posted { IfOk result (λ posted. posted ≡ posts seat rendez threshold answer.Posted) }
+        ensures posted { IfOk result (λ posted.
+            posted ≡ posts seat rendez threshold answer.Posted) }
         ensures phase { IfOk result (λ posted. IsPosted posted rendez threshold) }
         ensures words { MatchResult result (IsProcessOf self.now)
             (λ refused. IsProcessOf self.now refused.seat) }
@@ -157,8 +158,8 @@ impl Words {
 
     /// Waits for the mark of the wakeup that took the process; notes don't end this wait.
     /// Takes no memory.
-    // Step Look: load of the flags. Seat: Awaiting, then Woken; as it was where the mark isn't there,
-    // and then the process looks again.
+    // Step Look: load of the flags. Seat: Awaiting, then Woken; as it was where the mark isn't
+    // there, and then the process looks again.
     pub fn look_mark<R: Wait>(&self, rt: &R, awaiting: Awaiting) -> Woken
         requires awaiting { IsProcessOf self.now awaiting }
         ensures looked { result ≡ looks awaiting answer.Woken }

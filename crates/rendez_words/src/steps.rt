@@ -101,7 +101,8 @@ impl Words {
         event: Event,
     ) -> u64
         requires table { stepper.old.table ≡ table_of self.now }
-        requires step { IsStep (sizes_of self.now) event (part_of stepper.old) word (λ n. either (n == old) new n) }
+        requires step { IsStep (sizes_of self.now) event (part_of stepper.old) word
+            (λ n. either (n == old) new n) }
         ensures table { stepper.new.table ≡ stepper.old.table }
         ensures made { HasMade (sizes_of self.now) event
             (part_of stepper.old) result (part_of stepper.new) }
@@ -119,7 +120,8 @@ impl Words {
     ) -> u64
         requires sizes { M.sizes ≡ sizes_of self.now }
         requires table { stepper.old.table ≡ table_of self.now }
-        requires step { IsStep M.sizes M.event (part_of stepper.old) word (λ n. either (n == old) new n) }
+        requires step { IsStep M.sizes M.event (part_of stepper.old) word
+            (λ n. either (n == old) new n) }
         ensures table { stepper.new.table ≡ stepper.old.table }
         ensures made { HasMade M.sizes M.event (part_of stepper.old) result (part_of stepper.new) }
     {
@@ -137,7 +139,8 @@ impl Words {
         event: Event,
     ) -> u64
         requires table { stepper.old.table ≡ table_of self.now }
-        requires step { IsStep (sizes_of self.now) event (part_of stepper.old) word (λ n. max n least) }
+        requires step { IsStep (sizes_of self.now) event (part_of stepper.old) word
+            (λ n. max n least) }
         ensures table { stepper.new.table ≡ stepper.old.table }
         ensures made { HasMade (sizes_of self.now) event
             (part_of stepper.old) result (part_of stepper.new) }
@@ -172,7 +175,8 @@ impl Words {
         event: Event,
     ) -> u64
         requires table { stepper.old.table ≡ table_of self.now }
-        requires step { IsStep (sizes_of self.now) event (part_of stepper.old) word (λ n. bit_or n bits) }
+        requires step { IsStep (sizes_of self.now) event (part_of stepper.old) word
+            (λ n. bit_or n bits) }
         ensures table { stepper.new.table ≡ stepper.old.table }
         ensures made { HasMade (sizes_of self.now) event
             (part_of stepper.old) result (part_of stepper.new) }

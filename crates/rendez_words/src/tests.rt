@@ -1,11 +1,14 @@
 //! Sleeps and wakeups by steps, on one thread and on several. Every test ends by itself.
-ghost use Rattle.std.specs.Prelude.{◌<◌, MatchResult};
-ghost use Rattle.rendez_words.specs.Words.{IsProcessOf, rendez_of};
+ghost use Rattle.std.specs.Prelude.{◌≡◌, ◌<◌, IfOk, MatchResult};
+ghost use Rattle.sleep_core.specs.Limits.{IsWorldSize};
+ghost use Rattle.rendez_words.specs.Words.{IsProcessOf, ArePidsOf, HasReceipt};
+ghost use Rattle.rendez_words.specs.Words.{procs_of, rendez_of};
 
 use crate::{
-    Cleared, LookAnswer, Opened, Refused, Returned, Seat, TakeAnswer, TestAnswer, WithdrawAnswer,
-    Words,
+    Cleared, Leaving, LookAnswer, Opened, Refused, Returned, Seat, TakeAnswer, TestAnswer,
+    WithdrawAnswer, Words,
 };
+use std::alloc::Global;
 use std::process::Abort;
 use std::sync::Wait;
 use std::test::Fail;
@@ -13,9 +16,32 @@ use std::thread::{Threads, join};
 use sync_base::limits::TOP_LEVEL;
 use sync_base::{Fault, Note, NoteSet, Pid, RendezId};
 
+mod receipts;
+
 const FIRST: RendezId = RendezId(0);
 
 const SECOND: RendezId = RendezId(1);
+
+// New words. Where a test makes an allocation fail they are refused as `Memory`, and with memory
+// there are words.
+fn open(rt: &impl Abort, alloc: Global, procs: u64, rendez: u64) -> Opened
+    requires { IsWorldSize procs rendez }
+    ensures procs { procs_of result.words ≡ procs }
+    ensures rendez { rendez_of result.words ≡ rendez }
+    ensures words { IsProcessOf result.words result.seat }
+    ensures pids { ArePidsOf result.words result.pids }
+{
+    match Words::new(alloc, procs, rendez) {
+        Ok(opened) => opened,
+        Err(fault) => {
+            assert_eq!(rt; fault, Fault::Memory);
+            match Words::new(alloc, procs, rendez) {
+                Ok(opened) => opened,
+                Err(_) => panic!(rt; "no memory where no allocation fails"),
+            }
+        }
+    }
+}
 
 // A whole sleep.
 fn sleep<R: Wait>(
@@ -37,11 +63,19 @@ fn sleep<R: Wait>(
             LookAnswer::Woken(woken) => return Ok(words.clear_woken(woken)),
         },
     };
+    Ok(end_leaving(rt, words, leaving))
+}
+
+// The sleep of a process that has no reason to wait any more.
+fn end_leaving<R: Wait>(rt: &R, words: &Words, leaving: Leaving) -> Cleared
+    requires { IsProcessOf words.now leaving }
+    ensures { IsProcessOf words.now result.seat }
+{
     match words.withdraw(leaving) {
-        WithdrawAnswer::Out(out) => Ok(words.clear_out(out)),
+        WithdrawAnswer::Out(out) => words.clear_out(out),
         WithdrawAnswer::Awaiting(awaiting) => {
             let woken = words.look_mark(rt, awaiting);
-            Ok(words.clear_woken(woken))
+            words.clear_woken(woken)
         }
     }
 }
@@ -49,8 +83,9 @@ fn sleep<R: Wait>(
 // A whole wakeup.
 fn wakeup(words: &Words, seat: Seat, rendez: RendezId, level: u64) -> Result<Returned, Refused>
     requires { IsProcessOf words.now seat }
-    ensures { MatchResult result (λ returned. IsProcessOf words.now returned.seat)
+    ensures words { MatchResult result (λ returned. IsProcessOf words.now returned.seat)
         (λ refused. IsProcessOf words.now refused.seat) }
+    ensures receipt { IfOk result (λ returned. HasReceipt returned.seat returned.done) }
 {
     let owing = words.raise(seat, rendez, level)?;
     match words.take(owing) {
@@ -61,16 +96,11 @@ fn wakeup(words: &Words, seat: Seat, rendez: RendezId, level: u64) -> Result<Ret
 
 #[test]
 fn a_wakeup_before_the_post_is_seen(rt: HostRuntime) -> Result<(), Fail> {
-    let Ok(
-        Opened {
-            words,
-            seat,
-            pids: _,
-        },
-    ) = Words::new(rt.alloc(), 1, 1)
-    else {
-        return Ok(());
-    };
+    let Opened {
+        words,
+        seat,
+        pids: _,
+    } = open(&rt, rt.alloc(), 1, 1);
     let Ok(Returned { seat, done }) = wakeup(&words, seat, FIRST, 1) else {
         panic!(rt; "the Rendez exists")
     };
@@ -86,16 +116,11 @@ fn a_wakeup_before_the_post_is_seen(rt: HostRuntime) -> Result<(), Fail> {
 fn refusals_hand_the_seat_back(rt: HostRuntime) -> Result<(), Fail> {
     assert!(rt; matches!(Words::new(rt.alloc(), 0, 1), Err(Fault::NoProc)));
     assert!(rt; matches!(Words::new(rt.alloc(), 1, 8_193), Err(Fault::NoRendez)));
-    let Ok(
-        Opened {
-            words,
-            seat,
-            mut pids,
-        },
-    ) = Words::new(rt.alloc(), 2, 1)
-    else {
-        return Ok(());
-    };
+    let Opened {
+        words,
+        seat,
+        mut pids,
+    } = open(&rt, rt.alloc(), 2, 1);
     let Err(Refused { seat, fault }) = sleep(&rt, &words, seat, FIRST, TOP_LEVEL) else {
         panic!(rt; "no level is above the top")
     };
@@ -120,16 +145,11 @@ fn refusals_hand_the_seat_back(rt: HostRuntime) -> Result<(), Fail> {
 
 #[test]
 fn notes_end_a_sleep_and_are_taken(rt: HostRuntime) -> Result<(), Fail> {
-    let Ok(
-        Opened {
-            words,
-            mut seat,
-            pids: _,
-        },
-    ) = Words::new(rt.alloc(), 1, 1)
-    else {
-        return Ok(());
-    };
+    let Opened {
+        words,
+        mut seat,
+        pids: _,
+    } = open(&rt, rt.alloc(), 1, 1);
     let both = NoteSet::of(Note::Alarm).join(NoteSet::of(Note::ClosedPipe));
     assert!(rt;
         words
@@ -199,16 +219,11 @@ fn rounds_of_two<R: Threads + Wait + Sync>(
 
 #[test]
 fn two_processes_wake_each_other(rt: HostRuntime) -> Result<(), Fail> {
-    let Ok(
-        Opened {
-            words,
-            seat,
-            mut pids,
-        },
-    ) = Words::new(rt.alloc(), 2, 2)
-    else {
-        return Ok(());
-    };
+    let Opened {
+        words,
+        seat,
+        mut pids,
+    } = open(&rt, rt.alloc(), 2, 2);
     let Ok(other) = words.split(&mut pids) else {
         panic!(rt; "a second process")
     };

@@ -1,4 +1,5 @@
-//! How a process waits for its flags, and how it is woken. Before this: `steps`. After it: `sleeper`.
+//! How a process waits for its flags, and how it is woken. Before this: `steps`. After it:
+//! `sleeper`.
 //! A process looks some times, then yields between its looks, and then parks. Who sets its flags
 //! wakes it only where it parks, and else calls no system.
 ghost use Rattle.std.specs.Prelude.{◌≡◌, ◌<◌};

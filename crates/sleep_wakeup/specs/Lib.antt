@@ -1,3 +1,4 @@
+pub mod Broken
 pub mod Calls
 pub mod Forks
 pub mod Kernel

@@ -1,9 +1,11 @@
 //! A kernel and its processes, each on a thread of its own: sleep, wakeup, notes and rfork.
 //! Read `kernel`, what there is at the start; `roster`, which gives pids and Rendez; `proc`, what a
-//! process is; and then `sleeping`, `waking` and `noting`, its calls.
+//! process is; and then `sleeping`, `waking` and `noting`, its calls. `laws` says what
+//! their definitions forbid.
 #![tactic(auto)]
 
 pub mod kernel;
+pub mod laws;
 mod noting;
 pub mod proc;
 pub mod roster;

@@ -1,5 +1,10 @@
 //! Processes that sleep, wake and post notes. Every test ends by itself, whatever the schedule.
 //! `note_at` is a probe that acts between two steps of a sleep, `crowd` has many processes at once.
+ghost use Rattle.std.specs.Prelude.{◌≡◌};
+ghost use Rattle.sleep_core.specs.Limits.{IsWorldSize};
+ghost use Rattle.rendez_words.specs.Words.{procs_of, rendez_of};
+ghost use Rattle.sleep_wakeup.specs.Starts.{IsStartOf};
+
 use crate::{Kernel, Left, Opened, Proc, Started};
 use std::alloc::Global;
 use std::process::Abort;
@@ -19,6 +24,26 @@ const ROUNDS: u64 = 100_000;
 const INPUT: RendezId = RendezId(0);
 
 const OUTPUT: RendezId = RendezId(1);
+
+// A new kernel. Where a test makes an allocation fail it is refused as `Memory`, and with memory
+// there is a kernel.
+fn open(rt: &impl Abort, alloc: Global, procs: u64, rendez: u64) -> Opened
+    requires { IsWorldSize procs rendez }
+    ensures procs { procs_of result.kernel ≡ procs }
+    ensures rendez { rendez_of result.kernel ≡ rendez }
+    ensures start { IsStartOf result.kernel result.start }
+{
+    match Kernel::new(alloc, procs, rendez) {
+        Ok(opened) => opened,
+        Err(fault) => {
+            assert_eq!(rt; fault, Fault::Memory);
+            match Kernel::new(alloc, procs, rendez) {
+                Ok(opened) => opened,
+                Err(_) => panic!(rt; "no memory where no allocation fails"),
+            }
+        }
+    }
+}
 
 // The next process.
 fn forked<'k>(rt: &impl Abort, started: &mut Started<'k>) -> Proc<'k> {
@@ -46,7 +71,7 @@ fn pings<R: Wait>(rt: &R, mut proc: Proc, own: RendezId, other: RendezId, first:
 
 #[test]
 fn two_processes_wake_each_other(rt: HostRuntime) -> Result<(), Fail> {
-    let Opened { kernel, start } = Kernel::new(rt.alloc(), 2, 2)?;
+    let Opened { kernel, start } = open(&rt, rt.alloc(), 2, 2);
     let mut started = kernel.start(start);
     let mut second = forked(&rt, &mut started);
     let mut first = started.proc;
@@ -61,7 +86,7 @@ fn two_processes_wake_each_other(rt: HostRuntime) -> Result<(), Fail> {
 
 #[test]
 fn two_processes_pass_a_wakeup_to_and_fro(rt: HostRuntime) -> Result<(), Fail> {
-    let Opened { kernel, start } = Kernel::new(rt.alloc(), 2, 2)?;
+    let Opened { kernel, start } = open(&rt, rt.alloc(), 2, 2);
     let mut started = kernel.start(start);
     let second = forked(&rt, &mut started);
     let first = started.proc;
@@ -76,7 +101,7 @@ fn two_processes_pass_a_wakeup_to_and_fro(rt: HostRuntime) -> Result<(), Fail> {
 
 #[test]
 fn a_pending_note_ends_a_sleep_and_is_gone(rt: HostRuntime) -> Result<(), Fail> {
-    let Opened { kernel, start } = Kernel::new(rt.alloc(), 1, 1)?;
+    let Opened { kernel, start } = open(&rt, rt.alloc(), 1, 1);
     let Started {
         roster: _,
         mut proc,
@@ -97,7 +122,7 @@ fn a_pending_note_ends_a_sleep_and_is_gone(rt: HostRuntime) -> Result<(), Fail> 
 
 #[test]
 fn a_kernel_gives_each_pid_and_rendez_once(rt: HostRuntime) -> Result<(), Fail> {
-    let Opened { kernel, start } = Kernel::new(rt.alloc(), 2, 3)?;
+    let Opened { kernel, start } = open(&rt, rt.alloc(), 2, 3);
     let Started {
         mut roster,
         mut proc,
@@ -129,7 +154,7 @@ fn calls_refuse_what_is_not_there(rt: HostRuntime) -> Result<(), Fail> {
     assert!(rt; matches!(Kernel::new(rt.alloc(), 1_025, 1), Err(Fault::NoProc)));
     assert!(rt; matches!(Kernel::new(rt.alloc(), 1, 0), Err(Fault::NoRendez)));
     assert!(rt; matches!(Kernel::new(rt.alloc(), 1, 8_193), Err(Fault::NoRendez)));
-    let Opened { kernel, start } = Kernel::new(rt.alloc(), 2, 1)?;
+    let Opened { kernel, start } = open(&rt, rt.alloc(), 2, 1);
     let Started {
         roster: _,
         mut proc,
@@ -147,7 +172,7 @@ fn calls_refuse_what_is_not_there(rt: HostRuntime) -> Result<(), Fail> {
 
 #[test]
 fn a_note_waits_for_a_process_that_is_not_made_yet(rt: HostRuntime) -> Result<(), Fail> {
-    let Opened { kernel, start } = Kernel::new(rt.alloc(), 2, 1)?;
+    let Opened { kernel, start } = open(&rt, rt.alloc(), 2, 1);
     let mut started = kernel.start(start);
     let alarm = NoteSet::of(Note::Alarm);
     assert_eq!(rt; started.proc.postnote(Pid(1), alarm), Ok(()));
@@ -165,7 +190,7 @@ fn noted_at<R: Wait + Abort>(
     level: u64,
     point: u64,
 ) -> Result<(Result<(), Fault>, NoteSet), Fail> {
-    let Opened { kernel, start } = Kernel::new(alloc, 2, 1)?;
+    let Opened { kernel, start } = open(rt, alloc, 2, 1);
     let mut started = kernel.start(start);
     let mut poster = forked(rt, &mut started);
     let mut sleeper = started.proc;
@@ -211,7 +236,7 @@ fn a_note_before_each_step_of_a_sleep(rt: HostRuntime) -> Result<(), Fail> {
 
 #[test]
 fn a_second_sleeper_is_refused_and_can_wake_the_first(rt: HostRuntime) -> Result<(), Fail> {
-    let Opened { kernel, start } = Kernel::new(rt.alloc(), 2, 1)?;
+    let Opened { kernel, start } = open(&rt, rt.alloc(), 2, 1);
     let mut started = kernel.start(start);
     let second = forked(&rt, &mut started);
     let mut probe = SleepAt {

@@ -1,6 +1,6 @@
 //! Eight sleepers on a Rendez each, three wakers, and notes between.
-use crate::tests::forked;
-use crate::{Kernel, Opened, Proc};
+use crate::tests::{forked, open};
+use crate::{Opened, Proc};
 use std::sync::Wait;
 use std::test::Fail;
 use std::thread;
@@ -92,7 +92,7 @@ fn make_work<R: Wait>(rt: &R, job: Job) -> Work {
 #[test]
 fn a_crowd_is_woken_to_the_last(rt: HostRuntime) -> Result<(), Fail> {
     let all = SLEEPERS + WAKERS;
-    let Opened { kernel, start } = Kernel::new(rt.alloc(), all + 1, SLEEPERS)?;
+    let Opened { kernel, start } = open(&rt, rt.alloc(), all + 1, SLEEPERS);
     let mut started = kernel.start(start);
     let mut jobs = Vec::new(rt.alloc());
     for number in 0..all {

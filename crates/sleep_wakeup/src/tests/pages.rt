@@ -1,5 +1,5 @@
 //! The examples of the manual pages, line for line. `tests/pages` compares them with the pages.
-use crate::tests::forked;
+use crate::tests::{forked, open};
 use crate::{Kernel, Left, Opened, Started};
 use std::test::Fail;
 use std::thread::join;
@@ -9,7 +9,7 @@ const READY: RendezId = RendezId(0);
 
 #[test]
 fn sleep_page(rt: HostRuntime) -> Result<(), Fail> {
-    let Opened { kernel, start } = Kernel::new(rt.alloc(), 2, 1)?;
+    let Opened { kernel, start } = open(&rt, rt.alloc(), 2, 1);
     let mut started = kernel.start(start);
     let mut driver = forked(&rt, &mut started);
     let mut device = started.proc;
@@ -24,7 +24,7 @@ fn sleep_page(rt: HostRuntime) -> Result<(), Fail> {
 
 #[test]
 fn postnote_page(rt: HostRuntime) -> Result<(), Fail> {
-    let Opened { kernel, start } = Kernel::new(rt.alloc(), 2, 1)?;
+    let Opened { kernel, start } = open(&rt, rt.alloc(), 2, 1);
     let mut started = kernel.start(start);
     let mut driver = forked(&rt, &mut started);
     let mut shell = started.proc;

@@ -10,11 +10,15 @@ pub returns-after-is_empty-clause-slept : goal.returns-after-is_empty-clause-sle
 returns-after-is_empty-clause-slept g c =
     elim c.if-is_empty.branch [
       | then-is_empty w ↦
-          subst (λ answer. OnOk answer (Sleeps c.args.seat c.args.rendez c.args.threshold no_notes c.end_posted-seat.result.seat))
+          subst (λ answer. OnOk answer (Sleeps c.args.seat c.args.rendez c.args.threshold no_notes
+          c.end_posted-seat.result.seat))
           (sym w.answer-is)
-          (sleeps_well c.args.words.now c.args.seat c.args.rendez c.args.threshold c.in-Ok.posted c.end_posted-seat.result.notes c.end_posted-seat.result.seat
-          c.in-Ok.ensures.posted c.end_posted-seat.ensures.slept (c.is_empty.ensures.0 w.if-is_empty.true) c.end_posted-seat.ensures.words)
+          (sleeps_well c.args.words.now c.args.seat c.args.rendez c.args.threshold c.in-Ok.posted
+          c.end_posted-seat.result.notes c.end_posted-seat.result.seat
+          c.in-Ok.ensures.posted c.end_posted-seat.ensures.slept
+          (c.is_empty.ensures.0 w.if-is_empty.true) c.end_posted-seat.ensures.words)
       | else-is_empty w ↦
-          subst (λ answer. OnOk answer (Sleeps c.args.seat c.args.rendez c.args.threshold no_notes c.end_posted-seat.result.seat))
+          subst (λ answer. OnOk answer (Sleeps c.args.seat c.args.rendez c.args.threshold no_notes
+          c.end_posted-seat.result.seat))
           (sym w.answer-is) tt
     ]

@@ -1,7 +1,3 @@
-use Rattle.std.proofs.Common.{◌≡◌}
-use Rattle.sleep_core.specs.declared.event.Event.TheVariants.{Look}
-use Rattle.rendez_words.specs.Plays.{part_of, HasMade}
-use Rattle.rendez_words.specs.Process.{pid_in}
 use Rattle.rendez_words.specs.Words.{sizes_of}
 use Rattle.rendez_words.proofs.LookLemmas.{Looked}
 use Rattle.rendez_words.proofs.words.Words.await_flags.Given as goal

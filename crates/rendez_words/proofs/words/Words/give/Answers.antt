@@ -11,5 +11,6 @@ split_seat-place-requires c =
       search rules,
       omega arith,
       gives _ _ _ _ c.pids.invariant
-          (subst (λ n. n < procs_of c.args.self.now) (sym (ap (λ pids. pids.next) c.pids.view_is) ∙ ap (λ me. next_in me.0) c.pids.invariant) c.requires.left),
+          (subst (λ n. n < procs_of c.args.self.now) (sym (ap (λ pids. pids.next) c.pids.view_is)
+          ∙ ap (λ me. next_in me.0) c.pids.invariant) c.requires.left),
     )

@@ -1,4 +1,4 @@
-use Rattle.std.proofs.Common.{rules, ◌∙◌, refl}
+use Rattle.std.proofs.Common.{rules}
 use Rattle.rendez_words.proofs.OpeningKeeps.{opening_keeps}
 use Rattle.rendez_words.proofs.words.Words.new.Goals as goal
 

@@ -1,4 +1,4 @@
-use Rattle.std.proofs.Common.{◌≡◌, ap, arith}
+use Rattle.std.proofs.Common.{ap, arith}
 use Rattle.rendez_words.specs.declared.view.Sizes.{Sizes}
 use Rattle.rendez_words.proofs.KindSteps.{post_step}
 use Rattle.rendez_words.proofs.ProcessLemmas.{same_process}
@@ -9,4 +9,6 @@ compare_exchange-found-requires-clause-step c =
     let branch = c.if-rendez-self.false in
     let sizes = c.args.self.now.sizes_are in
     let same = ap (λ (k : Sizes). k.rendez) sizes in
-    post_step c.args.self.now c.seat.inside.stepper _ _ _ _ c.pid-pid.ensures (same_process _ _ _ c.seat.view_is c.requires.seat) c.seat.invariant (omega arith) c.if-threshold-eq-TOP_LEVEL.false c.posted_word-word.ensures
+    post_step c.args.self.now c.seat.inside.stepper _ _ _ _ c.pid-pid.ensures
+    (same_process _ _ _ c.seat.view_is c.requires.seat) c.seat.invariant
+    (omega arith) c.if-threshold-eq-TOP_LEVEL.false c.posted_word-word.ensures

@@ -3,8 +3,11 @@ use Rattle.rendez_words.proofs.ProcessLemmas.{same_process, in_phase}
 use Rattle.rendez_words.proofs.words.Words.test.Goals as goal
 
 pub level_word-word-requires : goal.level_word-word-requires
-level_word-word-requires c = in_phase c.args.self.now _ _ (same_process _ _ _ c.posted.view_is c.requires.posted) c.posted.invariant
+level_word-word-requires c = in_phase c.args.self.now _ _
+    (same_process _ _ _ c.posted.view_is c.requires.posted) c.posted.invariant
 
 pub load-level-requires-clause-step : goal.load-level-requires-clause-step
 load-level-requires-clause-step c =
-    test_step c.args.self.now c.posted.inside.stepper _ _ _ _ c.pid-pid.ensures (same_process _ _ _ c.posted.view_is c.requires.posted) c.posted.invariant c.level_word-word.ensures
+    test_step c.args.self.now c.posted.inside.stepper _ _ _ _ c.pid-pid.ensures
+    (same_process _ _ _ c.posted.view_is c.requires.posted) c.posted.invariant
+    c.level_word-word.ensures

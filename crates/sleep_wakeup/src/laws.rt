@@ -1,0 +1,121 @@
+//! What the definitions of the calls forbid, and what they allow. Before this: `noting`.
+ghost use Rattle.std.specs.Prelude.{◌≡◌, ◌≢◌, ◌+◌, ℕ, [], Some, None};
+ghost use Rattle.rendez_words.specs.Process.{TableId};
+ghost use Rattle.sync_base.specs.declared.flags.Flags.{Flags};
+ghost use Rattle.sync_base.specs.declared.fault.Fault.TheVariants.{Interrupted};
+ghost use Rattle.sync_base.specs.declared.note.Note.TheVariants.{Interrupt, Alarm};
+ghost use Rattle.sync_base.specs.NoteSet.{no_notes, only};
+ghost use Rattle.rendez_words.specs.declared.words.Words.{Words};
+ghost use Rattle.sleep_wakeup.specs.Broken.{after, rendez, done, done_at};
+ghost use Rattle.sleep_wakeup.specs.Broken.{answers_at_once, tests_before_it_posts, never_tests};
+ghost use Rattle.sleep_wakeup.specs.Broken.{never_clears, clears_twice, raises_meanwhile};
+ghost use Rattle.sleep_wakeup.specs.Broken.{posts_elsewhere, posts_with_another_threshold};
+ghost use Rattle.sleep_wakeup.specs.Broken.{leaves_for_no_cause, leaves_as_its_test_passed};
+ghost use Rattle.sleep_wakeup.specs.Broken.{leaves_as_it_was_marked, leaves_as_it_was_taken};
+ghost use Rattle.sleep_wakeup.specs.Broken.{leaves_with_an_alarm};
+ghost use Rattle.sleep_wakeup.specs.Broken.{takes_before_it_raises, never_raises, never_takes};
+ghost use Rattle.sleep_wakeup.specs.Broken.{takes_twice, never_marks, marks_another};
+ghost use Rattle.sleep_wakeup.specs.Broken.{raises_elsewhere, raises_to_another_level};
+ghost use Rattle.sleep_wakeup.specs.Broken.{finds_nobody, marks_the_sleeper};
+ghost use Rattle.sleep_wakeup.specs.Calls.{Sleeps, Wakes, WhyNotSlept};
+ghost use Rattle.sleep_wakeup.specs.Forks.{IsNone, IsRfproc, Forks};
+ghost use Rattle.sleep_wakeup.specs.Kernel.{Unused, next_process, one_pid_less, rendez_less};
+
+/// Steps that are no sleep: each would be one if a sentence of its definition were gone.
+pub fn sleeps_can_be_broken()
+    // The order of the steps.
+    ensures answers_at_once { (table : TableId)
+        → ¬ (Sleeps (after table []) (rendez 0) 0 no_notes (after table answers_at_once)) }
+    ensures tests_before_it_posts { (table : TableId)
+        → ¬ (Sleeps (after table []) (rendez 0) 0 no_notes (after table tests_before_it_posts)) }
+    ensures never_tests { (table : TableId)
+        → ¬ (Sleeps (after table []) (rendez 0) 0 no_notes (after table never_tests)) }
+    ensures never_clears { (table : TableId)
+        → ¬ (Sleeps (after table []) (rendez 0) 0 no_notes (after table never_clears)) }
+    ensures clears_twice { (table : TableId)
+        → ¬ (Sleeps (after table []) (rendez 0) 0 no_notes (after table clears_twice)) }
+    ensures raises_meanwhile { (table : TableId)
+        → ¬ (Sleeps (after table []) (rendez 0) 0 no_notes (after table raises_meanwhile)) }
+
+    // What it was asked.
+    ensures posts_elsewhere { (table : TableId)
+        → ¬ (Sleeps (after table []) (rendez 0) 0 no_notes (after table posts_elsewhere)) }
+    ensures posts_with_another_threshold { (table : TableId)
+        → ¬ (Sleeps (after table []) (rendez 0) 0 no_notes
+        (after table posts_with_another_threshold)) }
+
+    // How it ends.
+    ensures leaves_for_no_cause { (table : TableId)
+        → ¬ (Sleeps (after table []) (rendez 0) 0 no_notes (after table leaves_for_no_cause)) }
+    ensures drops_an_alarm { (table : TableId)
+        → ¬ (Sleeps (after table []) (rendez 0) 0 no_notes (after table leaves_with_an_alarm)) }
+    ensures tells_another_note { (table : TableId)
+        → ¬ (Sleeps (after table []) (rendez 0) 0 (only Interrupt)
+        (after table leaves_with_an_alarm)) }
+    ensures is_interrupted_by_no_notes { (words : Words) (table : TableId)
+        → ¬ (WhyNotSlept words (after table []) (rendez 0) 0
+        (after table leaves_as_its_test_passed) (Interrupted no_notes)) }
+{}
+
+/// Steps that are a sleep, for each of its causes.
+pub fn sleeps_can_be_kept()
+    ensures leaves_as_its_test_passed { (table : TableId)
+        → Sleeps (after table []) (rendez 0) 0 no_notes (after table leaves_as_its_test_passed) }
+    ensures leaves_as_it_was_marked { (table : TableId)
+        → Sleeps (after table []) (rendez 0) 0 no_notes (after table leaves_as_it_was_marked) }
+    ensures leaves_as_it_was_taken { (table : TableId)
+        → Sleeps (after table []) (rendez 0) 0 no_notes (after table leaves_as_it_was_taken) }
+    ensures leaves_with_an_alarm { (table : TableId)
+        → Sleeps (after table []) (rendez 0) 0 (only Alarm) (after table leaves_with_an_alarm) }
+{}
+
+/// Steps that are no wakeup, or are another than the receipt says.
+pub fn wakeups_can_be_broken()
+    // The order of the steps.
+    ensures takes_before_it_raises { (table : TableId)
+        → ¬ (Wakes (after table []) (rendez 0) 1 (after table takes_before_it_raises) done) }
+    ensures never_raises { (table : TableId)
+        → ¬ (Wakes (after table []) (rendez 0) 1 (after table never_raises) done) }
+    ensures never_takes { (table : TableId)
+        → ¬ (Wakes (after table []) (rendez 0) 1 (after table never_takes) done) }
+    ensures takes_twice { (table : TableId)
+        → ¬ (Wakes (after table []) (rendez 0) 1 (after table takes_twice) done) }
+
+    // Who is marked.
+    ensures never_marks { (table : TableId)
+        → ¬ (Wakes (after table []) (rendez 0) 1 (after table never_marks) done) }
+    ensures marks_another { (table : TableId)
+        → ¬ (Wakes (after table []) (rendez 0) 1 (after table marks_another) done) }
+
+    // What it was asked, and what its receipt says.
+    ensures raises_elsewhere { (table : TableId)
+        → ¬ (Wakes (after table []) (rendez 0) 1 (after table raises_elsewhere) done) }
+    ensures raises_to_another_level { (table : TableId)
+        → ¬ (Wakes (after table []) (rendez 0) 1 (after table raises_to_another_level) done) }
+    ensures has_anothers_receipt { (table : TableId)
+        → ¬ (Wakes (after table []) (rendez 0) 1 (after table finds_nobody) (done_at 0 2)) }
+    ensures has_a_receipt_elsewhere { (table : TableId)
+        → ¬ (Wakes (after table []) (rendez 0) 1 (after table finds_nobody) (done_at 1 1)) }
+{}
+
+/// Steps that are a wakeup.
+pub fn wakeups_can_be_kept()
+    ensures finds_nobody { (table : TableId)
+        → Wakes (after table []) (rendez 0) 1 (after table finds_nobody) done }
+    ensures marks_the_sleeper { (table : TableId)
+        → Wakes (after table []) (rendez 0) 1 (after table marks_the_sleeper) done }
+{}
+
+/// No pid and no Rendez is given twice, and none is lost.
+pub fn forks_can_be_broken()
+    ensures gives_a_pid_twice { (unused : Unused) (flags : Flags)
+        → ¬ (Forks unused flags (Some (next_process unused)) unused) }
+    ensures skips_a_pid { (unused : Unused) (flags : Flags)
+        → ¬ (Forks unused flags (Some (next_process (one_pid_less unused))) (one_pid_less unused)) }
+    ensures makes_nobody { (unused : Unused) (flags : Flags) → IsRfproc flags
+        → ¬ (Forks unused flags None unused) }
+    ensures makes_a_child_unasked { (unused : Unused) (flags : Flags) → IsNone flags
+        → ¬ (Forks unused flags (Some (next_process unused)) (one_pid_less unused)) }
+    ensures row_is_one_too_short { (unused : Unused) (count : ℕ)
+        → rendez_less count unused ≢ rendez_less (count + 1) unused }
+{}
