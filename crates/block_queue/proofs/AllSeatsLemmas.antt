@@ -20,7 +20,7 @@ use Rattle.block_queue.specs.Calls.{Puts, Takes}
 use Rattle.block_queue.specs.Gather.{AreAllSeats, numbers_of}
 use Rattle.block_queue.specs.Meaning.{Enters}
 use Rattle.block_queue.specs.Opening.{AreNewPutSeats}
-use Rattle.block_queue.specs.Seats.{IsSameSeat, put_account, take_account}
+use Rattle.block_queue.specs.Seats.{IsPutSeatOf, IsSameSeat, put_account, take_account}
 
 -- ---- what a call leaves of its seat
 
@@ -116,6 +116,18 @@ new_are_all queue count take puts gave are =
     let new = are.each place seat at in
     let writer = new.writer_is in
     (omega arith, ap (λ (a : Account Entry). a.gave) new.account_is))
+
+seats_from : (queue : Queue) (seats : List PutSeat) →
+    ((place : ℕ) (seat : PutSeat) → slice_get seats place ≡ Some seat → IsPutSeatOf queue seat) →
+    AllByRecursion (IsPutSeatOf queue) seats
+seats_from queue [] each = tt
+seats_from queue (seat ∷ seats) each =
+    (each 0 seat refl, seats_from queue seats (λ place other at. each (suc place) other at))
+
+pub new_are_seats : (queue : Queue) (count : ℕ) (puts : List PutSeat) →
+    AreNewPutSeats queue count puts → AllByRecursion (IsPutSeatOf queue) puts
+new_are_seats queue count puts are =
+    seats_from queue puts (λ place seat at. (are.each place seat at).seat_is)
 
 -- a call of the reader, and one of a writer
 pub all_after_take : (old new : TakeSeat) (puts : List PutSeat) → AreAllSeats old puts →

@@ -13,4 +13,5 @@ pub mod OpeningKeeps
 pub mod OpeningLemmas
 pub mod GatherKeeps
 pub mod GatherLemmas
+pub mod CrowdLemmas
 pub mod WorkedQueue
