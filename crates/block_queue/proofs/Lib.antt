@@ -13,5 +13,6 @@ pub mod OpeningKeeps
 pub mod OpeningLemmas
 pub mod GatherKeeps
 pub mod GatherLemmas
+pub mod ObjectLemmas
 pub mod CrowdLemmas
 pub mod WorkedQueue
