@@ -17,6 +17,8 @@ use std::alloc::Global;
 use std::cmp::min;
 use std::process::Abort;
 use std::sync::Wait;
+use std::sync::atomic::AtomicBool;
+use std::sync::atomic::Ordering::SeqCst;
 use std::test::Fail;
 use std::thread::{self, Threads, join};
 use sync_base::limits::MAX_PIPE_LIMIT;
@@ -89,6 +91,7 @@ fn value_of(block: &Piece) -> u64 {
 }
 
 // Puts its blocks, each again where the queue is full, until all are put or the queue is hung up.
+// Where memory is refused it hangs the queue up, so that nobody waits for it.
 fn write_blocks<R: Wait>(rt: &R, alloc: Global, queue: &Queue, job: Writer) -> Writer
     requires seat { IsPutSeatOf queue.now job.seat }
     ensures seat { IsPutSeatOf queue.now result.seat }
@@ -128,6 +131,9 @@ fn write_blocks<R: Wait>(rt: &R, alloc: Global, queue: &Queue, job: Writer) -> W
             PutAnswer::Worn(_) => break,
         }
     }
+    if refused {
+        queue.hang_put(&mut seat);
+    }
     Writer {
         seat,
         writes,
@@ -137,8 +143,9 @@ fn write_blocks<R: Wait>(rt: &R, alloc: Global, queue: &Queue, job: Writer) -> W
     }
 }
 
-// Takes blocks until it has as many as it is to have, or no more will come.
-fn read_blocks<R: Wait>(rt: &R, queue: &Queue, job: Reader) -> Reader
+// Takes blocks until it has as many as it is to have, or no more will come, or the writers could
+// not be started.
+fn read_blocks<R: Wait>(rt: &R, queue: &Queue, job: Reader, given_up: &AtomicBool) -> Reader
     requires seat { IsTakeSeatOf queue.now job.seat }
     ensures seat { IsTakeSeatOf queue.now result.seat }
 {
@@ -167,7 +174,13 @@ fn read_blocks<R: Wait>(rt: &R, queue: &Queue, job: Reader) -> Reader
                     break;
                 }
             }
-            TakeAnswer::NotYet(_) => thread::yield_now(),
+            TakeAnswer::NotYet(_) => {
+                if given_up.load(SeqCst) {
+                    refused = true;
+                    break;
+                }
+                thread::yield_now();
+            }
             TakeAnswer::End => break,
         }
     }
@@ -190,6 +203,7 @@ fn write_all<R: Threads + Wait + Sync>(
     alloc: Global,
     queue: &Queue,
     jobs: Vec<Writer>,
+    given_up: &AtomicBool,
 ) -> Result<Vec<Writer>, Fault>
     requires { All (λ job. IsPutSeatOf queue.now job.seat) jobs.items }
     ensures { IfOk result (λ done. All (λ job. IsPutSeatOf queue.now job.seat) done.items) }
@@ -201,8 +215,14 @@ fn write_all<R: Threads + Wait + Sync>(
             requires { IsPutSeatOf queue.now job.seat }
             ensures { IsPutSeatOf queue.entry.now result.seat }
         { write_blocks(rt, alloc, queue, job) },
-    )?;
-    Ok(done)
+    );
+    match done {
+        Ok(done) => Ok(done),
+        Err(_) => {
+            given_up.store(true, SeqCst);
+            Err(Fault::Memory)
+        }
+    }
 }
 
 // After how many answers the writer hangs the queue up: half of its writes, or never.
@@ -313,18 +333,19 @@ fn make_run<R: Threads + Wait + Sync>(
     };
     let jobs = jobs_of(alloc, &queue, puts, writes, hangs)?;
     let ring = &queue;
+    let given_up = AtomicBool::new(false);
     let (reader, done) = join(
         rt,
         || -> Reader
             requires reader { IsTakeSeatOf ring.now reader.seat }
             ensures reader { IsTakeSeatOf ring.entry.now result.seat }
-        { read_blocks(rt, ring, reader) },
+        { read_blocks(rt, ring, reader, &given_up) },
         || -> Result<Vec<Writer>, Fault>
             requires sync { IsSync R.row }
             requires jobs { All (λ job. IsPutSeatOf ring.now job.seat) jobs.items }
             ensures done { IfOk result (λ done.
                 All (λ job. IsPutSeatOf ring.entry.now job.seat) done.items) }
-        { write_all(rt, alloc, ring, jobs) },
+        { write_all(rt, alloc, ring, jobs, &given_up) },
     );
     let Wrote { puts, numbers } = in_order(alloc, ring, done?)?;
     let Reader {
