@@ -7,9 +7,12 @@ pub mod StepLemmas
 pub mod PutKeeps
 pub mod TakeKeeps
 pub mod SeatLemmas
+pub mod AllSeatsLemmas
 pub mod HandKeeps
 pub mod OpeningKeeps
 pub mod OpeningLemmas
 pub mod GatherKeeps
 pub mod GatherLemmas
+pub mod ObjectLemmas
+pub mod CrowdLemmas
 pub mod WorkedQueue

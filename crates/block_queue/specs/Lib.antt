@@ -2,6 +2,7 @@ pub mod Calls
 pub mod Gather
 pub mod GatherSteps
 pub mod History
+pub mod Laws
 pub mod Meaning
 pub mod Opening
 pub mod Places

@@ -1,10 +1,9 @@
 -- The sequential queue of blocks: what it keeps, what it answers, and what it leaves.
-use Rattle.std.specs.Prelude.{◌≡◌, ◌==◌, ◌+◌, ◌<◌, ◌≤◌, ℕ, Bool, true, false, nat_lt, if◌then◌else◌}
+use Rattle.std.specs.Prelude.{◌==◌, ◌+◌, ℕ, Bool, true, false, nat_lt, if◌then◌else◌}
 use Rattle.std.specs.Prelude.{List, [], ◌∷◌, ◌++◌, length, drop, Option, Some, None}
+use Rattle.kernel_lock.specs.Definition.{Definition}
 use Rattle.sync_base.specs.Write.{Write}
 use Rattle.sync_base.specs.declared.limits.TheConstants.{LAST_WRITE, MAX_WRITERS}
-use Rattle.block_queue.specs.declared.entry.Entry.{Entry}
-use Rattle.block_queue.specs.declared.entry.Entry.TheVariants as entry
 use Rattle.block_queue.specs.declared.queue_object.QueueCall.{QueueCall}
 use Rattle.block_queue.specs.declared.queue_object.QueueCall.TheVariants.{Put, Take, Hang}
 use Rattle.block_queue.specs.declared.queue_object.QueueReply.{QueueReply}
@@ -62,3 +61,8 @@ abbrev pub named_by : QueueCall → Option ℕ
 named_by (Put writer block) = if nat_lt writer 18446744073709551615 then Some (writer + 1) else None
 named_by Take = Some 0
 named_by Hang = None
+
+-- the sequential queue as an object
+abbrev pub queue_definition : Definition Kept Kept QueueCall QueueReply
+queue_definition =
+    record { state = λ kept. kept; answer = reply_to; after = kept_after; named = named_by }

@@ -1,12 +1,14 @@
 //! A bounded queue of blocks with hangup, which many writers and one reader share: as a sequential
 //! object, and as a ring without a lock.
 //! Read `entry`, `answers`, `queue_object`; then `places`, `view`, `rule`, `plays`, `seats`, `queue`,
-//! `opening`, `put_steps`, `put`, `take_steps`, `take`, and `gather`.
+//! `opening`, `put_steps`, `put`, `take_steps`, `take`, and `gather`. What holds of every sequential
+//! queue stands in `laws`.
 #![tactic(auto)]
 
 pub mod answers;
 pub mod entry;
 pub mod gather;
+pub mod laws;
 pub mod opening;
 pub mod places;
 mod plays;
@@ -26,5 +28,5 @@ pub use answers::{PutAnswer, TakeAnswer};
 pub use gather::{Gathered, Ungathered};
 pub use opening::Opened;
 pub use queue::Queue;
-pub use queue_object::QueueObject;
+pub use queue_object::{QueueObject, StoredBlock};
 pub use seats::{PutSeat, TakeSeat};

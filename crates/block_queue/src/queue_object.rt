@@ -16,8 +16,10 @@ use sync_base::{Fault, Piece};
 /// A block that stands in a queue, and who wrote it.
 #[derive(Drop)]
 pub struct StoredBlock {
-    pub(crate) writer: u64,
-    pub(crate) block: Piece,
+    /// The number of its writer, from 0 on.
+    pub writer: u64,
+    /// Its bytes, whole.
+    pub block: Piece,
 }
 
 impl Model for StoredBlock {
@@ -156,8 +158,7 @@ impl QueueObject {
 }
 
 impl Object for QueueObject {
-    ghost use Rattle.std.specs.Prelude.{ℕ};
-    ghost use Rattle.block_queue.specs.QueueObject.{Kept, reply_to, kept_after, named_by};
+    ghost use Rattle.block_queue.specs.QueueObject.{Kept, queue_definition};
 
     type Request = QueueCall;
 
@@ -165,12 +166,7 @@ impl Object for QueueObject {
 
     ghost State = { Kept };
 
-    ghost definition = { record {
-      state = λ queue. queue;
-      answer = reply_to;
-      after = kept_after;
-      named = named_by;
-    } };
+    ghost definition = { queue_definition };
 
     /// The reader is seat 0, and writer w is seat w + 1.
     fn caller(call: &QueueCall) -> Option<u64> {

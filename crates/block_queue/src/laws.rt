@@ -1,0 +1,11 @@
+//! What holds of every sequential queue. A law is a function that does nothing: its contract is the
+//! law. Before this: `queue_object`, and `specs/History`, what any queue may be answered.
+ghost use Rattle.block_queue.specs.Laws.{EachCallIsRight, ObjectsAreQueues};
+
+/// Each call on a sequential queue is answered by the first answer that a direction of a pipe may
+/// give, by whole blocks, and leaves what that answer leaves. So each of its histories is a legal
+/// history of a queue, as those of the ring are.
+pub fn objects_are_queues()
+    ensures calls { EachCallIsRight }
+    ensures histories { ObjectsAreQueues }
+{}
