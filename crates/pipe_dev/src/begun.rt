@@ -1,6 +1,4 @@
 //! What is left of a write that was taken out of the queue. Before this: `waking`. After it: `hand`.
-ghost use Rattle.std.specs.Prelude.{◌≡◌, ◌≢◌, ◌≤◌, ◌<◌, [], length, drop};
-
 use std::alloc::{AllocError, Global};
 use std::marker::Model;
 use sync_base::Piece;
@@ -17,6 +15,7 @@ pub struct Begun {
 }
 
 impl Model for Begun {
+    ghost use Rattle.std.specs.Prelude.{◌≤◌, length, drop};
     ghost use Rattle.pipe_dev.specs.Parts.{Part};
 
     ghost Value = { Part };

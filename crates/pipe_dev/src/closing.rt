@@ -42,11 +42,11 @@ pub fn finish<'p>(
     requires all { AreAllEnds read writes.items }
 
     // What is held is what the history of the direction left.
-    ensures held { IfOk result (GivesHeld read writes.items) }
+    ensures held { IfOk result (GivesHeld read.entry writes.entry.items) }
 
     // Otherwise all ends come back.
-    ensures read { IfErr result (λ unfinished. unfinished.read ≡ read) }
-    ensures writes { IfErr result (λ unfinished. unfinished.writes.items ≡ writes.items) }
+    ensures read { IfErr result (λ unfinished. unfinished.read ≡ read.entry) }
+    ensures writes { IfErr result (λ unfinished. unfinished.writes.items ≡ writes.entry.items) }
 {
     let Ok(rest) = read.left(alloc) else {
         return Err(Unfinished { read, writes });
@@ -89,9 +89,9 @@ struct Emptied<'p> {
 fn take_seats<'p>(writes: Vec<WriteEnd<'p>>, puts: Vec<PutSeat>) -> Emptied<'p>
     requires none { puts.items ≡ [] }
     requires room { length writes.items ≤ vec_capacity puts }
-    ensures seats { AreSeatsOf writes.items result.puts.items }
+    ensures seats { AreSeatsOf writes.entry.items result.puts.items }
     ensures none { result.room.items ≡ [] }
-    ensures room { length writes.items ≤ vec_capacity result.room }
+    ensures room { length writes.entry.items ≤ vec_capacity result.room }
 {
     let mut puts = puts;
     let mut room = writes;

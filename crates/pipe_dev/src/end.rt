@@ -41,9 +41,9 @@ impl Pipe {
         requires start { IsStartOf self.now start }
 
         // Each end reads what is written at the other.
-        ensures there { AreNewEnds self.now.there start.there.row result.first.read
+        ensures there { AreNewEnds self.now.there start.entry.there.row result.first.read
             result.second.writes.items }
-        ensures back { AreNewEnds self.now.back start.back.row result.second.read
+        ensures back { AreNewEnds self.now.back start.entry.back.row result.second.read
             result.first.writes.items }
     {
         let PipeStart { there, back } = start;
@@ -68,8 +68,8 @@ impl<'p> End<'p> {
     /// Where the end is read, and where it is written, a write end for each writer. The write ends
     /// write to the read end of the other end. Takes no memory and doesn't wait.
     pub fn parts(self) -> Parts<'p>
-        ensures read { result.read ≡ self.read }
-        ensures writes { result.writes.items ≡ self.writes.items }
+        ensures read { result.read ≡ self.entry.read }
+        ensures writes { result.writes.items ≡ self.entry.writes.items }
     {
         let End { read, writes } = self;
         Parts { read, writes }
@@ -85,7 +85,7 @@ struct Sides<'p> {
 
 fn lay_out<'p>(queue: &'p Queue, lane: Lane<'p>) -> Sides<'p>
     requires lane { IsLaneOf queue.now lane.row.first lane }
-    ensures ends { AreNewEnds queue.entry.now lane.row result.read result.writes.items }
+    ensures ends { AreNewEnds queue.entry.now lane.entry.row result.read result.writes.items }
 {
     let Lane {
         row,

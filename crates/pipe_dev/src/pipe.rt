@@ -138,7 +138,7 @@ impl<'p> Way<'p> {
     // With its Rendez.
     fn laid(self, row: Row) -> Laid<'p>
         requires way { IsNewWay (key_of self.queue).limit row.writers self }
-        ensures queue { result.queue ≡ self.queue }
+        ensures queue { result.queue ≡ self.entry.queue }
         ensures lane { IsLaneOf result.queue row.first result.lane }
     {
         let Way {

@@ -173,15 +173,23 @@ fn read_round<R: Wait>(
         (reader_with result.hand proc.new) buffer.new }
 {
     let Tried { hand, found } = try_with(queue, row, hand, proc, buffer);
-    let over = match found {
-        Found::Got(count) => Some(Ok(ReadAnswer::Got(count))),
-        Found::End => Some(Ok(ReadAnswer::End)),
-        Found::NotYet(number) => match proc.sleep(rt, row.reader(), number) {
-            Ok(()) => None,
-            Err(fault) => Some(Err(fault)),
+    match found {
+        Found::Got(count) => Round {
+            hand,
+            over: Some(Ok(ReadAnswer::Got(count))),
         },
-    };
-    Round { hand, over }
+        Found::End => Round {
+            hand,
+            over: Some(Ok(ReadAnswer::End)),
+        },
+        Found::NotYet(number) => match proc.sleep(rt, row.reader(), number) {
+            Ok(()) => Round { hand, over: None },
+            Err(fault) => Round {
+                hand,
+                over: Some(Err(fault)),
+            },
+        },
+    }
 }
 
 // One try: what is left of a write that was begun, or else the next write.

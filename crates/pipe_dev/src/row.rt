@@ -1,5 +1,5 @@
 //! The Rendez of a direction. After this: `waking`.
-ghost use Rattle.std.specs.Prelude.{◌≡◌, ◌+◌, ◌<◌};
+ghost use Rattle.std.specs.Prelude.{◌≡◌, ◌+◌, ◌<◌, ◌^◌};
 
 use sync_base::RendezId;
 

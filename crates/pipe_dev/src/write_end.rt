@@ -52,8 +52,8 @@ impl<'p> WriteEnd<'p> {
 
     /// Its seat. The end is spent.
     pub(crate) fn into_seat(self) -> PutSeat
-        ensures seat { IsWriteHand self.queue self.row self.writer result }
-        ensures account { put_account result ≡ self.account }
+        ensures seat { IsWriteHand self.entry.queue self.entry.row self.entry.writer result }
+        ensures account { put_account result ≡ self.entry.account }
     {
         let WriteEnd {
             queue: _,

@@ -136,20 +136,34 @@ fn write_round<R: Wait>(
 {
     let mut seat = seat;
     let writer = seat.writer();
-    let turn = match queue.put(rt, &mut seat, block) {
+    match queue.put(rt, &mut seat, block) {
         PutAnswer::Taken(number) => {
             wake(proc, row.reader(), number);
-            Turn::Over(Ok(number))
+            Round {
+                seat,
+                turn: Turn::Over(Ok(number)),
+            }
         }
         PutAnswer::Full(back, number) => match proc.sleep(rt, row.writer(writer), number) {
-            Ok(()) => Turn::Again(back),
-            Err(fault) => Turn::Over(Err(fault)),
+            Ok(()) => Round {
+                seat,
+                turn: Turn::Again(back),
+            },
+            Err(fault) => Round {
+                seat,
+                turn: Turn::Over(Err(fault)),
+            },
         },
         PutAnswer::Hungup(_) => {
             proc.put_back(NoteSet::of(Note::ClosedPipe));
-            Turn::Over(Err(Fault::Hungup))
+            Round {
+                seat,
+                turn: Turn::Over(Err(Fault::Hungup)),
+            }
         }
-        PutAnswer::Worn(_) => Turn::Over(Err(Fault::Worn)),
-    };
-    Round { seat, turn }
+        PutAnswer::Worn(_) => Round {
+            seat,
+            turn: Turn::Over(Err(Fault::Worn)),
+        },
+    }
 }
