@@ -4,3 +4,4 @@ pub mod RoundLemmas
 pub mod CallLemmas
 pub mod LongLemmas
 pub mod SeatingLemmas
+pub mod FinishLemmas
