@@ -5,3 +5,7 @@ pub mod CallLemmas
 pub mod LongLemmas
 pub mod SeatingLemmas
 pub mod FinishLemmas
+pub mod ReadingLemmas
+pub mod WrittenLemmas
+pub mod ChainLemmas
+pub mod WaitLemmas
