@@ -6,3 +6,6 @@ mod SpaceLemmas
 mod PromiseLemmas
 mod WaitLemmas
 mod WorkedSpaces
+mod OtherLemmas
+mod AskLemmas
+mod CountLemmas

@@ -2,6 +2,7 @@
 //! `meeting`, which puts them together.
 ghost use Rattle.std.specs.Prelude.{◌≡◌};
 ghost use Rattle.tag_space.specs.declared.calls.GroupCall.TheVariants.{Call, Collect, Leave};
+ghost use Rattle.tag_space.specs.Group.{member_of};
 ghost use Rattle.tag_space.specs.Members.{IsMemberOf, IsOneOf, IsSameMember};
 ghost use Rattle.tag_space.specs.Members.{account_of, number_of};
 ghost use Rattle.tag_space.specs.Walk.{Asks};
@@ -40,6 +41,17 @@ pub(crate) enum Left {
 }
 
 impl TagSpace {
+    // Has the space answer a request of the member.
+    fn ask<R: Wait>(&self, rt: &R, member: &mut Member, request: GroupCall) -> GroupReply
+        requires member { IsOneOf self.now member.old }
+        requires own { member_of request ≡ number_of member.old }
+        ensures member { IsOneOf self.now member.new }
+        ensures same { IsSameMember member.old member.new }
+        ensures asked { Asks request result (account_of member.old) (account_of member.new) }
+    {
+        self.lock.apply(rt, &mut member.seat, request)
+    }
+
     // Gives the value under the tag.
     pub(crate) fn call<R: Wait>(
         &self,
@@ -60,7 +72,7 @@ impl TagSpace {
             tag,
             value,
         };
-        match self.lock.apply(rt, &mut member.seat, request) {
+        match self.ask(rt, member, request) {
             GroupReply::Met {
                 value,
                 member: partner,
@@ -90,7 +102,7 @@ impl TagSpace {
         let request = GroupCall::Collect {
             member: member.seat.number(),
         };
-        match self.lock.apply(rt, &mut member.seat, request) {
+        match self.ask(rt, member, request) {
             GroupReply::WasMet { value } => Told::Met { value },
             GroupReply::Wait { count } => Told::Wait { count },
             GroupReply::Met { .. } | GroupReply::Worn | GroupReply::Gone | GroupReply::Busy => {
@@ -110,7 +122,7 @@ impl TagSpace {
         let request = GroupCall::Leave {
             member: member.seat.number(),
         };
-        match self.lock.apply(rt, &mut member.seat, request) {
+        match self.ask(rt, member, request) {
             GroupReply::WasMet { value } => Left::Met { value },
             GroupReply::Gone => Left::Gone,
             GroupReply::Met { .. }

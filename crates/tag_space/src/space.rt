@@ -20,6 +20,7 @@ pub struct TagSpace {
     pub(crate) first: RendezId,
     /// How many members it may have.
     pub(crate) procs: u64,
+    ghost some: { 0 < procs },
     ghost limited: { limit_of lock ≡ procs },
     ghost opened: { opening_of group lock ≡ opening procs 0 },
     ghost numbered: { first.0 + procs < 2 ^ 64 },
