@@ -1,11 +1,11 @@
 -- What entries of others leave as it was: a member that rests, a call under way, the member's calls.
-use Rattle.std.proofs.Common.{◌≡◌, ◌≢◌, ◌⊎◌, ℕ, eqb, if◌then◌else◌, true, false, Bool, List, [], ◌∷◌, ◌++◌}
+use Rattle.std.proofs.Common.{◌≡◌, ◌≢◌, ◌⊎◌, ◌<◌, ℕ, eqb, if◌then◌else◌, true, false, Bool, List, [], ◌∷◌, ◌++◌}
 use Rattle.std.proofs.Common.{Option, Some, length, refl, sym, ap, ◌∙◌, subst, arith, inl, inr}
 use Rattle.std.proofs.lemmas.Bool.{cases_eq, cases_Bool, false≢true}
 use Rattle.std.proofs.lemmas.Bool.Decides.{nat_tests}
 use Rattle.std.specs.List.{AllByRecursion}
 use Rattle.histories.specs.Account.{has_number, AreByOthers}
-use Rattle.histories.specs.History.{IsLegal}
+use Rattle.histories.specs.History.{IsLegal, AreByBelow}
 use Rattle.histories.specs.declared.account.Share.{Share}
 use Rattle.histories.proofs.ListLemmas.{all_weaker}
 use Rattle.kernel_lock.specs.Definition.{server}
@@ -41,7 +41,7 @@ none_by member shares entries has others =
     entries others
 
 -- who rests, rests on
-over_after : (number member : ℕ) (call : GroupCall) (told : GroupReply) → member_of call ≢ member
+pub over_after : (number member : ℕ) (call : GroupCall) (told : GroupReply) → member_of call ≢ member
     → stage_after number member Over call told ≡ Over
 over_after number member (Call caller tag value) (Wait count) differs =
     rw (no caller member differs) refl
@@ -158,3 +158,14 @@ module _ (space : Space) (member : ℕ) where
       calls_after (length (since ++ past)) member entry.request
       (calls_by member (since ++ past)) (not_its entry legal.0.own none.0)
       ∙ calls_still since past legal.1 none.1
+
+-- a number that made no entry rests
+pub over_fresh : (space : Space) (number : ℕ) (history : List Entry)
+    → IsLegal (rendezvous space) [] history → AreByBelow server number history
+    → stage_of history number ≡ Over
+over_fresh space number [] legal below = refl
+over_fresh space number (entry ∷ past) legal below =
+    ap (λ stage. stage_after (length past) number stage entry.request entry.reply)
+    (over_fresh space number past legal.1 below.1)
+    ∙ over_after (length past) number entry.request entry.reply
+    (λ same. let own : entry.by ≡ member_of entry.request = legal.0.own in omega (arith, below.0, own, same))

@@ -94,3 +94,30 @@ abbrev pub left_by : Unused → TagSpace → Flags → Unused
 left_by unused space flags =
     let rows = if asks_space flags then rendez_less space.procs unused else unused in
     if asks_child flags then one_pid_less rows else rows
+
+-- ---- of the parts of rfork
+
+-- a child is there, the next process, a member of this space
+abbrev pub IsChild : Unused → TagSpace → Option Child → Type 0
+IsChild unused space None = ⊥
+IsChild unused space (Some child) =
+    (child.proc ≡ next_process unused) × IsMemberOf space child.member
+
+-- a space is there, of the same size as this one, and its row is the next one
+abbrev pub IsGroup : Unused → TagSpace → Option TagSpace → Type 0
+IsGroup unused old None = ⊥
+IsGroup unused old (Some new) = IsNewSpace unused old.procs new
+
+-- why a child is not made in its parent's space
+abbrev pub WhyNotInside : Unused → TagSpace → Member → Member → Fault → Type 0
+WhyNotInside unused space before after fault.NoProc =
+    (¬ HasPid unused) ⊎ (HasPid unused × KnowsAllGiven space.lock before.seat after.seat)
+WhyNotInside unused space before after other = ⊥
+
+-- why a child is not made in a space of its own
+abbrev pub WhyNotOutside : Unused → TagSpace → Fault → Type 0
+WhyNotOutside unused space fault.NoProc = ¬ HasPid unused
+WhyNotOutside unused space fault.NoRendez =
+    HasPid unused × (¬ HasRendez unused space.procs)
+WhyNotOutside unused space fault.Memory = HasPid unused × HasRendez unused space.procs
+WhyNotOutside unused space other = ⊥

@@ -1,9 +1,8 @@
 //! How rfork(2) makes a child in a tag space, or gives it or the caller a new one.
 //! Before this: `meeting`. After it: `laws`.
 ghost use Rattle.std.specs.Prelude.{◌≡◌, ◌<◌, IfOk, IfErr, OnOk, OnErr, IfSome, None};
-ghost use Rattle.kernel_lock.specs.Seats.{KnowsAllGiven};
 ghost use Rattle.sleep_wakeup.specs.Forks.{HasPid};
-ghost use Rattle.sleep_wakeup.specs.Kernel.{next_process, one_pid_less};
+ghost use Rattle.sleep_wakeup.specs.Kernel.{next_process, one_pid_less, rendez_less};
 ghost use Rattle.tag_space.specs.Members.{IsMemberOf, IsSameMember};
 ghost use Rattle.tag_space.specs.Forks.{
   AreKnown,
@@ -13,7 +12,12 @@ ghost use Rattle.tag_space.specs.Forks.{
   callers_space,
   childs_space,
   left_by,
+  IsChild,
+  IsGroup,
+  WhyNotInside,
+  WhyNotOutside,
 };
+ghost use Rattle.tag_space.specs.Spaces.{WhyNoGroup};
 
 use crate::member::Member;
 use crate::space::{Opened, TagSpace};
@@ -113,7 +117,19 @@ fn fork_inside<'k, R: Wait>(
     parent: &mut Proc<'k>,
     space: &TagSpace,
     member: Member,
-) -> Result<Forked<'k>, NotForked> {
+) -> Result<Forked<'k>, NotForked>
+    requires { IsMemberOf space.now member }
+    ensures fault { IfErr result (λ refused.
+        WhyNotInside roster.old space.now member refused.member refused.fault) }
+    ensures back { IfErr result (λ refused. IsMemberOf space.now refused.member) }
+    ensures same { IfErr result (λ refused. IsSameMember member refused.member) }
+    ensures refused { OnErr result (roster.new ≡ roster.old) }
+    ensures space { IfOk result (λ forked. forked.space ≡ None) }
+    ensures child { IfOk result (λ forked. IsChild roster.old space.now forked.child) }
+    ensures member { IfOk result (λ forked. IsMemberOf space.now forked.member) }
+    ensures left { OnOk result (roster.new ≡ one_pid_less roster.old) }
+    ensures parent { parent.new ≡ parent.old }
+{
     let mut member = member;
     if roster.left().pids == 0 {
         return Err(NotForked {
@@ -140,7 +156,17 @@ fn regroup<'k>(
     roster: &mut Roster<'k>,
     space: &TagSpace,
     member: Member,
-) -> Result<Forked<'k>, NotForked> {
+) -> Result<Forked<'k>, NotForked>
+    ensures fault { IfErr result (λ refused.
+        WhyNoGroup roster.old space.now.procs refused.fault) }
+    ensures back { IfErr result (λ refused. refused.member ≡ member) }
+    ensures refused { OnErr result (roster.new ≡ roster.old) }
+    ensures space { IfOk result (λ forked. IsGroup roster.old space.now forked.space) }
+    ensures child { IfOk result (λ forked. forked.child ≡ None) }
+    ensures member { IfOk result (λ forked.
+        IsMemberOf (childs_space space.now forked.space) forked.member) }
+    ensures left { OnOk result (roster.new ≡ rendez_less space.now.procs roster.old) }
+{
     match space.new_group(alloc, roster) {
         Ok(Opened { space, member }) => Ok(Forked {
             member,
@@ -158,7 +184,19 @@ fn fork_outside<'k>(
     parent: &mut Proc<'k>,
     space: &TagSpace,
     member: Member,
-) -> Result<Forked<'k>, NotForked> {
+) -> Result<Forked<'k>, NotForked>
+    ensures fault { IfErr result (λ refused.
+        WhyNotOutside roster.old space.now refused.fault) }
+    ensures back { IfErr result (λ refused. refused.member ≡ member) }
+    ensures refused { OnErr result (roster.new ≡ roster.old) }
+    ensures space { IfOk result (λ forked. IsGroup roster.old space.now forked.space) }
+    ensures child { IfOk result (λ forked.
+        IsChild roster.old (childs_space space.now forked.space) forked.child) }
+    ensures member { IfOk result (λ forked. forked.member ≡ member) }
+    ensures left { OnOk result
+        (roster.new ≡ one_pid_less (rendez_less space.now.procs roster.old)) }
+    ensures parent { parent.new ≡ parent.old }
+{
     if roster.left().pids == 0 {
         return Err(NotForked {
             member,
