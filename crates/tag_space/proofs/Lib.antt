@@ -9,3 +9,6 @@ mod WorkedSpaces
 mod OtherLemmas
 mod AskLemmas
 mod CountLemmas
+mod WalkLemmas
+mod OutcomeLemmas
+mod EndLemmas

@@ -122,9 +122,11 @@ impl TagSpace {
     ) -> Result<u64, Fault>
         requires member { IsMemberOf self.now member.old }
         requires row { HasRow self.now proc.old.words }
-        ensures member { IsOneOf self.now member.new }
+        ensures member { IsMemberOf self.now member.new }
         ensures same { IsSameMember member.old member.new }
         ensures words { proc.new.words ≡ proc.old.words }
+        ensures exchange { Exchange (space_of self.now) (number_of member.old) tag value
+            (seen_of member.old) (seen_of member.new) result }
         ensures walk { Walks (caller_of self.now member.old proc.old) tag value
             (at_point member.old proc.old) (at_point member.new proc.new) result }
     {
@@ -178,12 +180,12 @@ impl TagSpace {
             probe.at(2);
             let slept = proc.sleep(rt, member.rendez, count);
             probe.at(3);
-            if let Err(why) = slept {
-                return self.give_up(rt, proc, member, why);
-            }
-            match self.collect(rt, member) {
-                Told::Met { value } => return Ok(value),
-                Told::Wait { count: again } => count = again,
+            match slept {
+                Err(why) => return self.give_up(rt, proc, member, why),
+                Ok(()) => match self.collect(rt, member) {
+                    Told::Met { value } => return Ok(value),
+                    Told::Wait { count: again } => count = again,
+                },
             }
         }
         unreachable!()
