@@ -187,36 +187,36 @@ module _ (space : Space) (limit member : ℕ) (old new : Account Entry)
       }
 
   module _ (offer : Offer) (before : List Entry) (given : ℕ) (way : IsUnderWay member offer before old)
-      where
-    -- it asked, and was told of its meeting
-    pub is_told : (asks : Asks (Collect member) (WasMet given) old new)
-        → HasEnded space member offer before new.seen (Ok given)
-    is_told asks =
-        let call : GroupCall = Collect member in
-        let is = seen_is call (WasMet given) asks in
-        let pair = told_of asks.past offer given (under_before call (WasMet given) asks offer way.under)
-        (answered call (WasMet given) asks).1 in
-        record {
-          rests = subst (λ h. stage_of h member ≡ Over) (sym is) (rw (yes member) refl);
-          one = ap (calls_by member) is ∙ calls_before call (WasMet given) asks ∙ way.one;
-          outcome = subst (λ h. IsInPair h offer given) (sym is)
-              (record { pair = pair.pair; is_pair = pair.is_pair; exchanged = pair.exchanged });
-        }
+    where
+      -- it asked, and was told of its meeting
+      pub is_told : (asks : Asks (Collect member) (WasMet given) old new)
+          → HasEnded space member offer before new.seen (Ok given)
+      is_told asks =
+          let call : GroupCall = Collect member in
+          let is = seen_is call (WasMet given) asks in
+          let pair = told_of asks.past offer given (under_before call (WasMet given) asks offer way.under)
+          (answered call (WasMet given) asks).1 in
+          record {
+            rests = subst (λ h. stage_of h member ≡ Over) (sym is) (rw (yes member) refl);
+            one = ap (calls_by member) is ∙ calls_before call (WasMet given) asks ∙ way.one;
+            outcome = subst (λ h. IsInPair h offer given) (sym is)
+                (record { pair = pair.pair; is_pair = pair.is_pair; exchanged = pair.exchanged });
+          }
 
-    -- it left, and was told of its meeting
-    pub is_told_late : (asks : Asks (Leave member) (WasMet given) old new)
-        → HasEnded space member offer before new.seen (Ok given)
-    is_told_late asks =
-        let call : GroupCall = Leave member in
-        let is = seen_is call (WasMet given) asks in
-        let pair = told_of asks.past offer given (under_before call (WasMet given) asks offer way.under)
-        (answered call (WasMet given) asks).1 in
-        record {
-          rests = subst (λ h. stage_of h member ≡ Over) (sym is) (rw (yes member) refl);
-          one = ap (calls_by member) is ∙ calls_before call (WasMet given) asks ∙ way.one;
-          outcome = subst (λ h. IsInPair h offer given) (sym is)
-              (record { pair = pair.pair; is_pair = pair.is_pair; exchanged = pair.exchanged });
-        }
+      -- it left, and was told of its meeting
+      pub is_told_late : (asks : Asks (Leave member) (WasMet given) old new)
+          → HasEnded space member offer before new.seen (Ok given)
+      is_told_late asks =
+          let call : GroupCall = Leave member in
+          let is = seen_is call (WasMet given) asks in
+          let pair = told_of asks.past offer given (under_before call (WasMet given) asks offer way.under)
+          (answered call (WasMet given) asks).1 in
+          record {
+            rests = subst (λ h. stage_of h member ≡ Over) (sym is) (rw (yes member) refl);
+            one = ap (calls_by member) is ∙ calls_before call (WasMet given) asks ∙ way.one;
+            outcome = subst (λ h. IsInPair h offer given) (sym is)
+                (record { pair = pair.pair; is_pair = pair.is_pair; exchanged = pair.exchanged });
+          }
 
   -- who left before anybody met it was waiting
   waiting_still : (past : List Entry) (offer : Offer) → IsUnder past member offer

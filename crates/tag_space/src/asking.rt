@@ -19,9 +19,15 @@ use sync_base::Tag;
 #[derive(Clone, Copy)]
 pub(crate) enum Called {
     /// It found this partner, which gives its value and was met so often.
-    Met { value: u64, partner: u64, count: u64 },
+    Met {
+        value: u64,
+        partner: u64,
+        count: u64,
+    },
     /// It waits, and was met so often.
-    Wait { count: u64 },
+    Wait {
+        count: u64,
+    },
     /// It would wait, and no more meetings can be counted.
     Worn,
 }
@@ -53,13 +59,7 @@ impl TagSpace {
     }
 
     // Gives the value under the tag.
-    pub(crate) fn call<R: Wait>(
-        &self,
-        rt: &R,
-        member: &mut Member,
-        tag: Tag,
-        value: u64,
-    ) -> Called
+    pub(crate) fn call<R: Wait>(&self, rt: &R, member: &mut Member, tag: Tag, value: u64) -> Called
         requires { IsMemberOf self.now member.old }
         ensures member { IsOneOf self.now member.new }
         ensures same { IsSameMember member.old member.new }

@@ -204,10 +204,12 @@ fn fork_outside<'k>(
         });
     }
     match space.new_group(alloc, roster) {
-        Ok(Opened {
-            space,
-            member: childs,
-        }) => Ok(Forked {
+        Ok(
+            Opened {
+                space,
+                member: childs,
+            },
+        ) => Ok(Forked {
             member,
             space: Some(space),
             child: Some(Child {

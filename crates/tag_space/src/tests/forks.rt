@@ -4,7 +4,7 @@ ghost use Rattle.tag_space.specs.Forks.{childs_space, callers_space};
 ghost use Rattle.tag_space.specs.Members.{IsMemberOf, HasRow};
 
 use crate::tests::meddler::Meddler;
-use crate::tests::scene::{Scene, TAG, forked, meets, only, opened};
+use crate::tests::scene::{Scene, TAG, forked, meets, next, opened};
 use crate::{Child, Forked, NotForked, Opened, TagSpace, rfork};
 use sleep_wakeup::{Kernel, Left, Proc, Roster};
 use std::alloc::Global;
@@ -12,7 +12,7 @@ use std::process::Abort;
 use std::sync::Wait;
 use std::test::Fail;
 use std::thread::join;
-use sync_base::{Fault, Flags, Note, RendezId};
+use sync_base::{Fault, Flags, Note, NoteSet, RendezId};
 
 // The flags of a child in a space of its own.
 fn both() -> Flags {
@@ -22,31 +22,42 @@ fn both() -> Flags {
 #[test]
 fn each_member_has_its_own_rendez(rt: HostRuntime) -> Result<(), Fail> {
     let sleep_wakeup::Opened { kernel, start } = Kernel::new(rt.alloc(), 4, 5)?;
-    let mut scene = opened(&rt, rt.alloc(), &kernel, start, 2)?;
-    let second = forked(&rt, &mut scene);
-    assert_eq!(rt; scene.first.member.rendez(), RendezId(0));
+    let Scene {
+        mut roster,
+        space,
+        mut first,
+    } = opened(&rt, rt.alloc(), &kernel, start, 2)?;
+    let second = forked(&rt, &space, &mut roster, &mut first);
+    assert_eq!(rt; first.member.rendez(), RendezId(0));
     assert_eq!(rt; second.member.rendez(), RendezId(1));
     // The space has had its two members.
-    assert!(rt; matches!(
-        scene.space.fork_member(&rt, &mut scene.first.member),
-        Err(Fault::NoProc)
-    ));
-    let left = scene.roster.left();
-    let made = match scene.space.new_group(rt.alloc(), &mut scene.roster) {
-        Err(Fault::Memory) => {
-            assert_eq!(rt; scene.roster.left(), left);
-            scene.space.new_group(rt.alloc(), &mut scene.roster)
+    assert!(rt;
+        matches!(
+            space.fork_member(&rt, &mut first.member),
+            Err(Fault::NoProc)
+        )
+    );
+    let left = roster.left();
+    let Opened {
+        space: group,
+        member,
+    } = match space.new_group(rt.alloc(), &mut roster) {
+        Ok(group) => group,
+        Err(fault) => {
+            assert_eq!(rt; fault, Fault::Memory);
+            assert_eq!(rt; roster.left(), left);
+            space.new_group(rt.alloc(), &mut roster)?
         }
-        made => made,
     };
-    let Opened { space: _, member } = made?;
     assert_eq!(rt; member.rendez(), RendezId(2));
     // One Rendez is left, and a group would need two.
-    assert!(rt; matches!(
-        scene.space.new_group(rt.alloc(), &mut scene.roster),
-        Err(Fault::NoRendez)
-    ));
-    assert_eq!(rt; scene.roster.left(), Left { pids: 2, rendez: 1 });
+    assert!(rt;
+        matches!(
+            group.new_group(rt.alloc(), &mut roster),
+            Err(Fault::NoRendez)
+        )
+    );
+    assert_eq!(rt; roster.left(), Left { pids: 2, rendez: 1 });
     Ok(())
 }
 
@@ -55,15 +66,19 @@ fn a_space_has_at_least_one_member(rt: HostRuntime) -> Result<(), Fail> {
     let sleep_wakeup::Opened { kernel, start } = Kernel::new(rt.alloc(), 1, 2)?;
     let mut started = kernel.start(start);
     for procs in [0, 1_025, u64::MAX] {
-        assert!(rt; matches!(
-            TagSpace::new(rt.alloc(), &mut started.roster, procs),
-            Err(Fault::NoProc)
-        ));
+        assert!(rt;
+            matches!(
+                TagSpace::new(rt.alloc(), &mut started.roster, procs),
+                Err(Fault::NoProc)
+            )
+        );
     }
-    assert!(rt; matches!(
-        TagSpace::new(rt.alloc(), &mut started.roster, 3),
-        Err(Fault::NoRendez)
-    ));
+    assert!(rt;
+        matches!(
+            TagSpace::new(rt.alloc(), &mut started.roster, 3),
+            Err(Fault::NoRendez)
+        )
+    );
     assert_eq!(rt; started.roster.left(), Left { pids: 0, rendez: 2 });
     Ok(())
 }
@@ -86,7 +101,9 @@ fn forked_once<'k, R: Wait + Abort>(
     alloc: Global,
     flags: Flags,
 ) -> Result<Parted<'k>, Fault>
-    ensures space { IfOk result (λ parted. parted.space ≡ scene.space) }
+    requires member { IsMemberOf scene.space scene.first.member }
+    requires row { HasRow scene.space scene.first.proc.words }
+    requires words { scene.roster.words ≡ scene.first.proc.words }
     ensures row { IfOk result (λ parted. HasRow parted.space parted.proc.words) }
     ensures new { IfOk result (λ parted. IfSome parted.forked.space (λ new.
         HasRow new parted.proc.words)) }
@@ -100,17 +117,16 @@ fn forked_once<'k, R: Wait + Abort>(
     let Scene {
         mut roster,
         space,
-        first: Child {
-            mut proc,
-            member,
-        },
+        first: Child { mut proc, member },
     } = scene;
     let left = roster.left();
     let forked = match rfork(alloc, rt, &mut roster, &mut proc, &space, member, flags) {
-        Err(NotForked {
-            member,
-            fault: Fault::Memory,
-        }) => {
+        Err(
+            NotForked {
+                member,
+                fault: Fault::Memory,
+            },
+        ) => {
             assert_eq!(rt; roster.left(), left);
             rfork(alloc, rt, &mut roster, &mut proc, &space, member, flags)
         }
@@ -127,10 +143,10 @@ fn forked_once<'k, R: Wait + Abort>(
             // Nothing was used up, and the member still calls.
             assert_eq!(rt; roster.left(), left);
             let mut back = Child { proc, member };
-            assert_eq!(rt; back.proc.postnote(back.proc.pid(), only(Note::Alarm)), Ok(()));
+            back.proc.put_back(NoteSet::of(Note::Alarm));
             assert_eq!(rt;
                 meets(rt, &space, &mut back, 5),
-                Err(Fault::Interrupted(only(Note::Alarm)))
+                Err(Fault::Interrupted(NoteSet::of(Note::Alarm)))
             );
             Err(fault)
         }
@@ -188,10 +204,11 @@ fn a_child_with_rfrend_does_not_meet_its_parent(rt: HostRuntime) -> Result<(), F
     let (Some(new), Some(child)) = (new, child) else {
         panic!(rt; "both flags make a child and a space")
     };
-    let Ok(Some(poster)) = roster.rfork(&mut proc, Flags::RFPROC) else {
-        panic!(rt; "a pid is left")
-    };
-    assert_eq!(rt; proc.postnote(child.proc.pid(), only(Note::Interrupt)), Ok(()));
+    let poster = next(&rt, &mut roster, &mut proc);
+    assert_eq!(rt;
+        proc.postnote(child.proc.pid(), NoteSet::of(Note::Interrupt)),
+        Ok(())
+    );
     // The parent waits with the tag, the child calls with it and meets nobody, and then a note
     // ends the parent's wait.
     let mut meddler = Meddler {
@@ -208,9 +225,12 @@ fn a_child_with_rfrend_does_not_meet_its_parent(rt: HostRuntime) -> Result<(), F
     };
     assert_eq!(rt;
         space.rendezvous_probed(&rt, &mut proc, &mut member, TAG, 5, &mut meddler),
-        Err(Fault::Interrupted(only(Note::Interrupt)))
+        Err(Fault::Interrupted(NoteSet::of(Note::Interrupt)))
     );
-    assert_eq!(rt; meddler.answer, Err(Fault::Interrupted(only(Note::Interrupt))));
+    assert_eq!(rt;
+        meddler.answer,
+        Err(Fault::Interrupted(NoteSet::of(Note::Interrupt)))
+    );
     Ok(())
 }
 
@@ -270,7 +290,11 @@ fn rfork_refuses_in_its_order(rt: HostRuntime) -> Result<(), Fail> {
         ((2, 2, 2), Flags::RFPROC, None),
     ];
     for (sizes, flags, fault) in rows {
-        assert_eq!(rt; refused(&rt, rt.alloc(), sizes, flags)?, fault, "{sizes:?} {flags:?}");
+        assert_eq!(rt;
+            refused(&rt, rt.alloc(), sizes, flags)?,
+            fault,
+            "{sizes:?} {flags:?}"
+        );
     }
     Ok(())
 }

@@ -1,8 +1,8 @@
 //! Meetings of two processes, with the answers that rendezvous(2) gives.
-use crate::tests::meddler::Meddler;
-use crate::tests::scene::{Scene, TAG, forked, meets, only, opened};
 use crate::Child;
-use sleep_wakeup::Kernel;
+use crate::tests::meddler::Meddler;
+use crate::tests::scene::{Scene, TAG, forked, meets, next, opened};
+use sleep_wakeup::{Kernel, Opened};
 use std::alloc::Global;
 use std::process::Abort;
 use std::sync::Wait;
@@ -13,14 +13,13 @@ use sync_base::{Fault, Note, NoteSet};
 #[test]
 fn two_exchange_their_values(rt: HostRuntime) -> Result<(), Fail> {
     for value in [5, u64::MAX] {
-        let sleep_wakeup::Opened { kernel, start } = Kernel::new(rt.alloc(), 2, 2)?;
-        let mut scene = opened(&rt, rt.alloc(), &kernel, start, 2)?;
-        let mut second = forked(&rt, &mut scene);
+        let Opened { kernel, start } = Kernel::new(rt.alloc(), 2, 2)?;
         let Scene {
-            roster: _,
+            mut roster,
             space,
             mut first,
-        } = scene;
+        } = opened(&rt, rt.alloc(), &kernel, start, 2)?;
+        let mut second = forked(&rt, &space, &mut roster, &mut first);
         let (nine, other) = join(
             &rt,
             || meets(&rt, &space, &mut first, value),
@@ -40,29 +39,20 @@ struct Met {
 }
 
 // A call with value 5, into which a note comes at one point, and a partner with value 9 at another.
-fn met_at<R: Wait + Abort>(
-    rt: &R,
-    alloc: Global,
-    note_at: u64,
-    call_at: u64,
-) -> Result<Met, Fail> {
-    let sleep_wakeup::Opened { kernel, start } = Kernel::new(alloc, 3, 2)?;
-    let mut scene = opened(rt, alloc, &kernel, start, 2)?;
-    let partner = forked(rt, &mut scene);
-    let Ok(Some(poster)) = scene
-        .roster
-        .rfork(&mut scene.first.proc, sync_base::Flags::RFPROC)
-    else {
-        panic!(rt; "a pid is left")
-    };
+// At point 0 the partner comes afterwards, with a note that is pending.
+fn met_at<R: Wait + Abort>(rt: &R, alloc: Global, note_at: u64, call_at: u64) -> Result<Met, Fail> {
+    let Opened { kernel, start } = Kernel::new(alloc, 3, 2)?;
     let Scene {
-        roster: _,
+        mut roster,
         space,
-        first: Child {
-            mut proc,
-            mut member,
-        },
-    } = scene;
+        mut first,
+    } = opened(rt, alloc, &kernel, start, 2)?;
+    let partner = forked(rt, &space, &mut roster, &mut first);
+    let poster = next(rt, &mut roster, &mut first.proc);
+    let Child {
+        mut proc,
+        mut member,
+    } = first;
     let mut meddler = Meddler {
         rt,
         space: &space,
@@ -77,30 +67,30 @@ fn met_at<R: Wait + Abort>(
     };
     let first = space.rendezvous_probed(rt, &mut proc, &mut member, TAG, 5, &mut meddler);
     assert!(rt; meddler.noted, "the call passes the point");
-    let second = if call_at == 0 {
-        let Some(mut late) = meddler.partner.take() else {
-            panic!(rt; "the partner did not call")
-        };
-        assert_eq!(rt; late.proc.postnote(late.proc.pid(), only(Note::Alarm)), Ok(()));
-        meets(rt, &space, &mut late, 9)
-    } else {
-        meddler.answer
-    };
+    if call_at == 0 {
+        meddler.note_partner(Note::Alarm);
+        meddler.call();
+    }
     Ok(Met {
         first,
         pending: proc.notes(),
-        second,
+        second: meddler.answer,
     })
 }
 
 #[test]
 fn an_interrupted_call_is_met_by_nobody(rt: HostRuntime) -> Result<(), Fail> {
-    let interrupt = only(Note::Interrupt);
+    let interrupt = NoteSet::of(Note::Interrupt);
+    let alarm = NoteSet::of(Note::Alarm);
     for point in [1, 2] {
         let met = met_at(&rt, rt.alloc(), point, 0)?;
-        assert_eq!(rt; met.first, Err(Fault::Interrupted(interrupt)), "point {point}");
+        assert_eq!(rt;
+            met.first,
+            Err(Fault::Interrupted(interrupt)),
+            "a note at {point}"
+        );
         assert_eq!(rt; met.pending, NoteSet::empty());
-        assert_eq!(rt; met.second, Err(Fault::Interrupted(only(Note::Alarm))));
+        assert_eq!(rt; met.second, Err(Fault::Interrupted(alarm)));
     }
     Ok(())
 }
@@ -109,9 +99,13 @@ fn an_interrupted_call_is_met_by_nobody(rt: HostRuntime) -> Result<(), Fail> {
 fn notes_that_come_too_late_are_put_back(rt: HostRuntime) -> Result<(), Fail> {
     for (note_at, call_at) in [(2, 3), (2, 2), (3, 2)] {
         let met = met_at(&rt, rt.alloc(), note_at, call_at)?;
-        assert_eq!(rt; met.first, Ok(9), "a note at {note_at}, the partner at {call_at}");
+        assert_eq!(rt;
+            met.first,
+            Ok(9),
+            "a note at {note_at}, the partner at {call_at}"
+        );
         assert_eq!(rt; met.second, Ok(5));
-        assert_eq!(rt; met.pending, only(Note::Interrupt));
+        assert_eq!(rt; met.pending, NoteSet::of(Note::Interrupt));
     }
     Ok(())
 }

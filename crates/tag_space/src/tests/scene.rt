@@ -1,15 +1,15 @@
 //! What the tests on threads begin with: a kernel, a tag space, and processes that are members.
-ghost use Rattle.std.specs.Prelude.{◌≡◌, ◌≤◌, IfOk};
+ghost use Rattle.std.specs.Prelude.{◌≡◌, IfOk};
 ghost use Rattle.sleep_wakeup.specs.Starts.{IsStartOf};
 ghost use Rattle.tag_space.specs.Members.{IsMemberOf, HasRow};
 
 use crate::{Child, Opened, TagSpace};
-use sleep_wakeup::{Kernel, Roster, Start, Started};
+use sleep_wakeup::{Kernel, Proc, Roster, Start, Started};
 use std::alloc::Global;
 use std::process::Abort;
 use std::sync::Wait;
 use std::test::Fail;
-use sync_base::{Fault, Flags, Note, NoteSet, Tag};
+use sync_base::{Fault, Flags, Tag};
 
 /// The tag under which the tests meet.
 pub const TAG: Tag = Tag(7);
@@ -20,9 +20,6 @@ pub struct Scene<'k> {
     pub roster: Roster<'k>,
     pub space: TagSpace,
     pub first: Child<'k>,
-    ghost first_is: { IsMemberOf space first.member },
-    ghost row: { HasRow space first.proc.words },
-    ghost words: { roster.words ≡ first.proc.words },
 }
 
 /// A kernel that has started, with a tag space of so many members. Where memory was refused no
@@ -35,61 +32,67 @@ pub fn opened<'k>(
     procs: u64,
 ) -> Result<Scene<'k>, Fail>
     requires { IsStartOf kernel.now start }
+    ensures member { IfOk result (λ scene. IsMemberOf scene.space scene.first.member) }
+    ensures row { IfOk result (λ scene. HasRow scene.space scene.first.proc.words) }
+    ensures words { IfOk result (λ scene. scene.roster.words ≡ scene.first.proc.words) }
 {
-    let Started {
-        mut roster,
-        proc: first,
-    } = kernel.start(start);
+    let Started { mut roster, proc } = kernel.start(start);
     let left = roster.left();
     let Opened { space, member } = match TagSpace::new(alloc, &mut roster, procs) {
-        Err(Fault::Memory) => {
+        Ok(opened) => opened,
+        Err(fault) => {
+            assert_eq!(rt; fault, Fault::Memory);
             assert_eq!(rt; roster.left(), left);
             TagSpace::new(alloc, &mut roster, procs)?
         }
-        opened => opened?,
     };
     assert_eq!(rt; roster.left().rendez, left.rendez.wrapping_sub(procs));
     Ok(Scene {
         roster,
         space,
-        first: Child {
-            proc: first,
-            member,
-        },
+        first: Child { proc, member },
     })
 }
 
-/// A further process, in the same space.
-pub fn forked<'k, R: Wait + Abort>(rt: &R, scene: &mut Scene<'k>) -> Child<'k>
-    ensures member { IsMemberOf scene.new.space result.member }
-    ensures row { HasRow scene.new.space result.proc.words }
-    ensures space { scene.new.space ≡ scene.old.space }
+/// The next process of a kernel.
+pub fn next<'k>(rt: &impl Abort, roster: &mut Roster<'k>, parent: &mut Proc<'k>) -> Proc<'k>
+    ensures words { result.words ≡ roster.old.words }
+    ensures roster { roster.new.words ≡ roster.old.words }
+    ensures parent { parent.new ≡ parent.old }
 {
-    let Ok(member) = scene.space.fork_member(rt, &mut scene.first.member) else {
-        panic!(rt; "the space has a member more")
-    };
-    let Ok(Some(proc)) = scene.roster.rfork(&mut scene.first.proc, Flags::RFPROC) else {
+    let Ok(Some(proc)) = roster.rfork(parent, Flags::RFPROC) else {
         panic!(rt; "a pid is left")
     };
+    proc
+}
+
+/// A further process, in the same space.
+pub fn forked<'k, R: Wait + Abort>(
+    rt: &R,
+    space: &TagSpace,
+    roster: &mut Roster<'k>,
+    parent: &mut Child<'k>,
+) -> Child<'k>
+    requires member { IsMemberOf space.now parent.old.member }
+    ensures parent { IsMemberOf space.now parent.new.member }
+    ensures proc { parent.new.proc ≡ parent.old.proc }
+    ensures child { IsMemberOf space.now result.member }
+    ensures words { result.proc.words ≡ roster.old.words }
+    ensures roster { roster.new.words ≡ roster.old.words }
+{
+    let Ok(member) = space.fork_member(rt, &mut parent.member) else {
+        panic!(rt; "the space has a member more")
+    };
+    let proc = next(rt, roster, &mut parent.proc);
     Child { proc, member }
 }
 
-/// What one call of a child is answered. Where it was interrupted, the notes are in the fault.
-pub fn meets<R: Wait>(
-    rt: &R,
-    space: &TagSpace,
-    child: &mut Child,
-    value: u64,
-) -> Result<u64, Fault>
+/// What one call of a child is answered.
+pub fn meets<R: Wait>(rt: &R, space: &TagSpace, child: &mut Child, value: u64) -> Result<u64, Fault>
     requires member { IsMemberOf space.now child.old.member }
     requires row { HasRow space.now child.old.proc.words }
     ensures member { IsMemberOf space.now child.new.member }
     ensures words { child.new.proc.words ≡ child.old.proc.words }
 {
     space.rendezvous(rt, &mut child.proc, &mut child.member, TAG, value)
-}
-
-/// The set of this note alone.
-pub fn only(note: Note) -> NoteSet {
-    NoteSet::of(note)
 }

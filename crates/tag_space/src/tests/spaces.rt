@@ -1,42 +1,46 @@
 //! That calls of two spaces never meet, whatever their tags.
 use crate::meeting::INTERRUPTED;
 use crate::tests::meddler::Meddler;
-use crate::tests::scene::{Scene, TAG, forked, meets, only, opened};
+use crate::tests::scene::{Scene, TAG, forked, meets, next, opened};
 use crate::{Child, Opened};
 use sleep_wakeup::Kernel;
 use std::test::Fail;
 use std::thread::join;
-use sync_base::{Fault, Flags, Note};
+use sync_base::{Fault, Note, NoteSet};
 
 #[test]
 fn a_call_in_another_space_meets_nobody(rt: HostRuntime) -> Result<(), Fail> {
-    let sleep_wakeup::Opened { kernel, start } = Kernel::new(rt.alloc(), 4, 4)?;
-    let scene = opened(&rt, rt.alloc(), &kernel, start, 2)?;
+    let sleep_wakeup::Opened { kernel, start } = Kernel::new(rt.alloc(), 5, 6)?;
     let Scene {
         mut roster,
         space,
-        first: Child {
-            mut proc,
-            mut member,
-        },
-    } = scene;
-    let group = match space.new_group(rt.alloc(), &mut roster) {
-        Err(Fault::Memory) => space.new_group(rt.alloc(), &mut roster)?,
-        group => group?,
-    };
+        first,
+    } = opened(&rt, rt.alloc(), &kernel, start, 3)?;
+    let Child {
+        mut proc,
+        mut member,
+    } = first;
+    let left = roster.left();
     let Opened {
         space: other,
         member: others,
-    } = group;
-    let (Ok(Some(away)), Ok(Some(third)), Ok(Some(poster))) = (
-        roster.rfork(&mut proc, Flags::RFPROC),
-        roster.rfork(&mut proc, Flags::RFPROC),
-        roster.rfork(&mut proc, Flags::RFPROC),
-    ) else {
-        panic!(rt; "three pids are left")
+    } = match space.new_group(rt.alloc(), &mut roster) {
+        Ok(group) => group,
+        Err(fault) => {
+            assert_eq!(rt; fault, Fault::Memory);
+            assert_eq!(rt; roster.left(), left);
+            space.new_group(rt.alloc(), &mut roster)?
+        }
     };
-    let interrupt = only(Note::Interrupt);
-    assert_eq!(rt; proc.postnote(away.pid(), interrupt), Ok(()));
+    let mut away = Child {
+        proc: next(&rt, &mut roster, &mut proc),
+        member: others,
+    };
+    let mut third = forked(&rt, &other, &mut roster, &mut away);
+    let mut fourth = forked(&rt, &other, &mut roster, &mut third);
+    let poster = next(&rt, &mut roster, &mut proc);
+    let interrupt = NoteSet::of(Note::Interrupt);
+    away.proc.put_back(interrupt);
     // One waits in the first space. Another calls in the second, and meets nobody.
     let mut meddler = Meddler {
         rt: &rt,
@@ -44,10 +48,7 @@ fn a_call_in_another_space_meets_nobody(rt: HostRuntime) -> Result<(), Fail> {
         poster,
         to: proc.pid(),
         note_at: 2,
-        partner: Some(Child {
-            proc: away,
-            member: others,
-        }),
+        partner: Some(away),
         value: 9,
         call_at: 2,
         answer: Err(Fault::BadArg),
@@ -58,28 +59,18 @@ fn a_call_in_another_space_meets_nobody(rt: HostRuntime) -> Result<(), Fail> {
         Err(Fault::Interrupted(interrupt))
     );
     assert_eq!(rt; meddler.answer, Err(Fault::Interrupted(interrupt)));
-    let Some(mut away) = meddler.partner.take() else {
-        panic!(rt; "it has called and is here again")
-    };
-    // In words an interruption is a number.
-    assert_eq!(rt; proc.postnote(away.proc.pid(), interrupt), Ok(()));
+    // Another doesn't meet it either, and in words its interruption is a number.
+    third.proc.put_back(interrupt);
     assert_eq!(rt;
-        other.rendezvous_word(&rt, &mut away.proc, &mut away.member, TAG, 9),
-        Ok(INTERRUPTED)
+        other.rendezvous_word(&rt, &mut third.proc, &mut third.member, TAG, 9),
+        Ok(18_446_744_073_709_551_615)
     );
     assert_eq!(rt; INTERRUPTED, 18_446_744_073_709_551_615);
-    // It left, so a later call waits for a third caller, and both meet.
-    let Ok(thirds) = other.fork_member(&rt, &mut away.member) else {
-        panic!(rt; "the second space has a member more")
-    };
-    let mut third = Child {
-        proc: third,
-        member: thirds,
-    };
+    // Both left, so a later call waits for a further caller.
     let (six, eight) = join(
         &rt,
         || meets(&rt, &other, &mut third, 8),
-        || meets(&rt, &other, &mut away, 6),
+        || meets(&rt, &other, &mut fourth, 6),
     );
     assert_eq!(rt; (six, eight), (Ok(6), Ok(8)));
     Ok(())
