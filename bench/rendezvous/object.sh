@@ -9,7 +9,7 @@ work=$top/bench/out/rendezvous
 rounds=${1:-5}
 
 mkdir -p "$work/repo/crates/object_bench/src"
-for crate in sync_base histories kernel_lock tag_space; do
+for crate in sync_base histories kernel_lock sleep_core rendez_words sleep_wakeup tag_space; do
     mkdir -p "$work/repo/crates/$crate"
     for part in src specs proofs; do
         rm -rf "$work/repo/crates/$crate/$part"
@@ -18,13 +18,8 @@ for crate in sync_base histories kernel_lock tag_space; do
 done
 cp "$here/object.rattle" "$work/repo/crates/object_bench/src/main.rt"
 cp "$top/HANDLES" "$work/repo/HANDLES"
-cat > "$work/repo/crates.txt" <<'LINES'
-sync_base: thiserror
-histories:
-kernel_lock: histories sync_base atomic_table
-tag_space: sync_base histories kernel_lock
-object_bench: sync_base tag_space
-LINES
+{ grep -E '^(sync_base|histories|kernel_lock|sleep_core|rendez_words|sleep_wakeup|tag_space)[ :]' "$top/crates.txt"
+  echo "object_bench: sync_base tag_space"; } > "$work/repo/crates.txt"
 [ -d "$work/repo/.git" ] || git init -q "$work/repo"
 
 cd "$work/repo/crates/object_bench"
@@ -33,7 +28,7 @@ rt run > "$work/first" 2> "$work/build.log" || { tail -20 "$work/build.log"; exi
 : > "$work/times"
 round=0
 while [ "$round" -lt "$rounds" ]; do
-    rt run >> "$work/times" 2>> "$work/build.log"
+    out/object_bench >> "$work/times"
     round=$((round + 1))
 done
 

@@ -6,3 +6,9 @@ mod SpaceLemmas
 mod PromiseLemmas
 mod WaitLemmas
 mod WorkedSpaces
+mod OtherLemmas
+mod AskLemmas
+mod CountLemmas
+mod WalkLemmas
+mod OutcomeLemmas
+mod EndLemmas

@@ -3,3 +3,9 @@ pub mod Laws
 pub mod Rendezvous
 pub mod Table
 pub mod Promises
+pub mod Members
+pub mod Spaces
+pub mod Asking
+pub mod Walk
+pub mod Outcome
+pub mod Forks

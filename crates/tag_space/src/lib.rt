@@ -1,16 +1,25 @@
 //! Rendezvous in tag spaces, after rendezvous(2): two members of a space that call with one tag
 //! exchange their values. Read `calls`, what a member asks and is answered, `place`, what is kept
-//! of a member, `group_object`, the space as an object for one thread, and then `laws`.
+//! of a member, `group_object`, the space as an object for one thread; then `member`, `space`,
+//! `asking`, `meeting` and `forking`, the space between threads; and then `laws`.
 #![tactic(auto)]
 
+mod asking;
 pub mod calls;
+pub mod forking;
 pub mod group_object;
 pub mod laws;
+pub mod meeting;
+pub mod member;
 pub mod place;
+pub mod space;
 mod table;
 
 pub use calls::{GroupCall, GroupReply};
+pub use forking::{Child, Forked, NotForked, rfork};
 pub use group_object::GroupObject;
+pub use member::Member;
+pub use space::{Opened, TagSpace};
 
 #[cfg(test)]
 mod tests;

@@ -4,6 +4,14 @@
 ghost use Rattle.std.specs.Prelude.{◌≤◌};
 ghost use Rattle.tag_space.specs.declared.place.TheConstants.{LAST_MEETING};
 
+mod crowd;
+mod forks;
+mod meddler;
+mod meetings;
+mod pages;
+mod scene;
+mod spaces;
+
 use crate::place::LAST_MEETING;
 use crate::{GroupCall, GroupObject, GroupReply};
 use std::alloc::Global;

@@ -1,0 +1,31 @@
+-- The child has the next number, by which nothing was asked.
+use Rattle.std.proofs.Common.{sym, ap, ◌∙◌, ◌+◌, ◌≡◌, subst}
+use Rattle.histories.specs.History.{AreByBelow}
+use Rattle.kernel_lock.specs.Definition.{server}
+use Rattle.kernel_lock.specs.Seats.{account_of, seen_of}
+use Rattle.tag_space.specs.Members.{space_of}
+use Rattle.tag_space.specs.Rendezvous.{stage_of}
+use Rattle.tag_space.specs.Rendezvous.Stage.{Over}
+use Rattle.tag_space.proofs.AskLemmas.{knows_space}
+use Rattle.tag_space.proofs.OtherLemmas.{over_fresh}
+use Rattle.tag_space.proofs.space.TagSpace.fork_member.Goals as goal
+
+pub returns-clause-child : goal.returns-clause-child
+returns-clause-child g c =
+    let seat = c.in_ok-seat.seat in
+    let told = c.in_ok-seat.ensures in
+    let knows = knows_space c.args.self.now seat told.child_history in
+    let same : (account_of seat).seen ≡ seen_of c.args.member.now.seat =
+    ap (λ a. a.seen) told.given.account.child_is in
+    let below = subst (λ seen. AreByBelow server (account_of seat).number seen) (sym same)
+    told.given.account.next.seen in
+    record {
+      one = record {
+        seat = told.child;
+        history = knows;
+        rendez = ap (λ n. c.args.self.now.first.0 + n) c.number.ensures;
+      };
+      rests = subst (λ n. stage_of (account_of seat).seen n ≡ Over) (sym told.child.number)
+          (over_fresh (space_of c.args.self.now) (account_of seat).number (account_of seat).seen
+          knows.history.legal below);
+    }

@@ -1,0 +1,123 @@
+-- What rfork does to tag spaces, after fork(2): a child is in its parent's space, but with RFREND
+-- the child is the first in a new space, or, where there is no child, the caller is.
+use Rattle.std.specs.Prelude.{◌≡◌, ◌⊎◌, ◌<◌, ◌==◌, ◌||◌, Bool, true, if◌then◌else◌, IsTrue}
+use Rattle.std.specs.Prelude.{Option, Some, None}
+use Rattle.kernel_lock.specs.Seats.{KnowsAllGiven}
+use Rattle.sleep_wakeup.specs.Forks.{HasPid}
+use Rattle.sleep_wakeup.specs.Kernel.{Unused, HasRendez, next_process, one_pid_less, rendez_less}
+use Rattle.sync_base.specs.declared.fault.Fault.{Fault}
+use Rattle.sync_base.specs.declared.fault.Fault.TheVariants as fault
+use Rattle.sync_base.specs.declared.flags.Flags.{Flags}
+use Rattle.sync_base.specs.Flags.{bits_of}
+use Rattle.tag_space.specs.declared.forking.Child.{Child}
+use Rattle.tag_space.specs.declared.member.Member.{Member}
+use Rattle.tag_space.specs.declared.space.TagSpace.{TagSpace}
+use Rattle.tag_space.specs.Members.{IsMemberOf}
+use Rattle.tag_space.specs.Spaces.{IsNewSpace}
+
+-- RFPROC and RFREND alone are known here
+abbrev pub AreKnown : Flags → Type 0
+AreKnown flags = bits_of flags < 4
+
+-- RFPROC is set: a child is asked for
+abbrev pub asks_child : Flags → Bool
+asks_child flags = (bits_of flags == 1) || (bits_of flags == 3)
+
+-- RFREND is set: a new space is asked for
+abbrev pub asks_space : Flags → Bool
+asks_space flags = (bits_of flags == 2) || (bits_of flags == 3)
+
+-- a pid is left, where one is asked for
+abbrev pub MayHavePid : Unused → Flags → Type 0
+MayHavePid unused flags = IsTrue (asks_child flags) → HasPid unused
+
+-- a child was asked for, and a space of its own was not, so it joins its parent's
+pub record JoinsParent (flags : Flags) : Type 0 where
+  pub child : IsTrue (asks_child flags)
+  pub no_space : ¬ IsTrue (asks_space flags)
+
+-- a row for a new space was asked for, behind a pid
+pub record WantsRow (unused : Unused) (flags : Flags) : Type 0 where
+  pub known : AreKnown flags
+  pub pid : MayHavePid unused flags
+  pub space : IsTrue (asks_space flags)
+
+-- a pid was asked for, and none is left
+pub record WantsPid (unused : Unused) (flags : Flags) : Type 0 where
+  pub known : AreKnown flags
+  pub child : IsTrue (asks_child flags)
+  pub none : ¬ HasPid unused
+
+-- a member of the parent's space was asked for, and all were given
+pub record WantsMember (unused : Unused) (space : TagSpace) (flags : Flags) (before after : Member)
+    : Type 0 where
+  pub joins : JoinsParent flags
+  pub pid : HasPid unused
+  pub all_given : KnowsAllGiven space.lock before.seat after.seat
+
+-- Own: the flags are tested first, then the pid, the Rendez, the member, and then the memory.
+abbrev pub WhyNotForked : Unused → TagSpace → Flags → Member → Member → Fault → Type 0
+WhyNotForked unused space flags before after fault.BadFlags = ¬ AreKnown flags
+WhyNotForked unused space flags before after fault.NoProc =
+    WantsPid unused flags ⊎ WantsMember unused space flags before after
+WhyNotForked unused space flags before after fault.NoRendez =
+    WantsRow unused flags × (¬ HasRendez unused space.procs)
+WhyNotForked unused space flags before after fault.Memory =
+    WantsRow unused flags × HasRendez unused space.procs
+WhyNotForked unused space flags before after other = ⊥
+
+-- the caller's space afterwards: a new one with RFREND alone, else its own
+abbrev pub callers_space : Flags → TagSpace → Option TagSpace → TagSpace
+callers_space flags old None = old
+callers_space flags old (Some new) = if asks_child flags then old else new
+
+-- the child's space: a new one with RFREND, else its parent's
+abbrev pub childs_space : TagSpace → Option TagSpace → TagSpace
+childs_space old None = old
+childs_space old (Some new) = new
+
+-- a new space of the same size is made exactly where RFREND is set
+abbrev pub HasSpace : Unused → TagSpace → Flags → Option TagSpace → Type 0
+HasSpace unused old flags None = ¬ IsTrue (asks_space flags)
+HasSpace unused old flags (Some new) =
+    IsTrue (asks_space flags) × IsNewSpace unused old.procs new
+
+-- a child is made exactly where RFPROC is set: the next process, a member of its space
+abbrev pub HasChild : Unused → TagSpace → Flags → Option Child → Type 0
+HasChild unused space flags None = ¬ IsTrue (asks_child flags)
+HasChild unused space flags (Some child) =
+    IsTrue (asks_child flags) × (child.proc ≡ next_process unused)
+    × IsMemberOf space child.member
+
+-- what is left: a pid less where a child was made, a row less where a space was made
+abbrev pub left_by : Unused → TagSpace → Flags → Unused
+left_by unused space flags =
+    let rows = if asks_space flags then rendez_less space.procs unused else unused in
+    if asks_child flags then one_pid_less rows else rows
+
+-- ---- of the parts of rfork
+
+-- a child is there, the next process, a member of this space
+abbrev pub IsChild : Unused → TagSpace → Option Child → Type 0
+IsChild unused space None = ⊥
+IsChild unused space (Some child) =
+    (child.proc ≡ next_process unused) × IsMemberOf space child.member
+
+-- a space is there, of the same size as this one, and its row is the next one
+abbrev pub IsGroup : Unused → TagSpace → Option TagSpace → Type 0
+IsGroup unused old None = ⊥
+IsGroup unused old (Some new) = IsNewSpace unused old.procs new
+
+-- why a child is not made in its parent's space
+abbrev pub WhyNotInside : Unused → TagSpace → Member → Member → Fault → Type 0
+WhyNotInside unused space before after fault.NoProc =
+    (¬ HasPid unused) ⊎ (HasPid unused × KnowsAllGiven space.lock before.seat after.seat)
+WhyNotInside unused space before after other = ⊥
+
+-- why a child is not made in a space of its own
+abbrev pub WhyNotOutside : Unused → TagSpace → Fault → Type 0
+WhyNotOutside unused space fault.NoProc = ¬ HasPid unused
+WhyNotOutside unused space fault.NoRendez =
+    HasPid unused × (¬ HasRendez unused space.procs)
+WhyNotOutside unused space fault.Memory = HasPid unused × HasRendez unused space.procs
+WhyNotOutside unused space other = ⊥

@@ -1,0 +1,235 @@
+//! How rfork(2) makes a child in a tag space, or gives it or the caller a new one.
+//! Before this: `meeting`. After it: `laws`.
+ghost use Rattle.std.specs.Prelude.{◌≡◌, ◌<◌, IfOk, IfErr, OnOk, OnErr, IfSome, None};
+ghost use Rattle.sleep_wakeup.specs.Forks.{HasPid};
+ghost use Rattle.sleep_wakeup.specs.Kernel.{next_process, one_pid_less, rendez_less};
+ghost use Rattle.tag_space.specs.Members.{IsMemberOf, IsSameMember};
+ghost use Rattle.tag_space.specs.Forks.{
+  AreKnown,
+  WhyNotForked,
+  HasSpace,
+  HasChild,
+  callers_space,
+  childs_space,
+  left_by,
+  IsChild,
+  IsGroup,
+  WhyNotInside,
+  WhyNotOutside,
+};
+ghost use Rattle.tag_space.specs.Spaces.{WhyNoGroup};
+
+use crate::member::Member;
+use crate::space::{Opened, TagSpace};
+use sleep_wakeup::{Proc, Roster};
+use std::alloc::Global;
+use std::sync::Wait;
+use sync_base::{Fault, Flags};
+
+/// A child, and with what it calls in its tag space.
+#[derive(Drop)]
+pub struct Child<'k> {
+    pub proc: Proc<'k>,
+    pub member: Member,
+}
+
+/// What rfork made.
+#[derive(Drop)]
+pub struct Forked<'k> {
+    /// The caller's member, which with RFREND alone is the first of the new space.
+    pub member: Member,
+    /// The new space, with RFREND.
+    pub space: Option<TagSpace>,
+    /// The child, with RFPROC. With RFREND too it is the first of the new space.
+    pub child: Option<Child<'k>>,
+}
+
+/// Why rfork made nothing. The member comes back.
+#[derive(Drop)]
+pub struct NotForked {
+    pub member: Member,
+    pub fault: Fault,
+}
+
+/// After fork(2): makes a child with RFPROC, and a new tag space with RFREND. A child is in its
+/// parent's space, but with RFREND it is the first in a new one. With RFREND alone the caller is,
+/// and its old member is spent. A new space has as many members as the old one.
+///
+/// Refuses, in this order, as `BadFlags` for any other flag, `NoProc` where no pid is left,
+/// `NoRendez` where no row for a new space is left, `NoProc` where the old space has had all its
+/// members, and `Memory`; a refusal uses up no pid, no Rendez and no member, and hands the member
+/// back. Waits for other callers of the space.
+pub fn rfork<'k, R: Wait>(
+    alloc: Global,
+    rt: &R,
+    roster: &mut Roster<'k>,
+    parent: &mut Proc<'k>,
+    space: &TagSpace,
+    member: Member,
+    flags: Flags,
+) -> Result<Forked<'k>, NotForked>
+    requires { IsMemberOf space.now member }
+
+    // Refused first, and then nothing is used up.
+    ensures known { OnOk result (AreKnown flags) }
+    ensures fault { IfErr result (λ refused.
+        WhyNotForked roster.old space.now flags member refused.member refused.fault) }
+    ensures back { IfErr result (λ refused. IsMemberOf space.now refused.member) }
+    ensures same { IfErr result (λ refused. IsSameMember member refused.member) }
+    ensures refused { OnErr result (roster.new ≡ roster.old) }
+
+    // Otherwise the flags say who is in which space.
+    ensures space { IfOk result (λ forked. HasSpace roster.old space.now flags forked.space) }
+    ensures child { IfOk result (λ forked.
+        HasChild roster.old (childs_space space.now forked.space) flags forked.child) }
+    ensures member { IfOk result (λ forked.
+        IsMemberOf (callers_space flags space.now forked.space) forked.member) }
+    ensures left { OnOk result (roster.new ≡ left_by roster.old space.now flags) }
+
+    // The parent is as it was.
+    ensures parent { parent.new ≡ parent.old }
+{
+    let both = Flags::RFPROC.bits() + Flags::RFREND.bits();
+    if flags.bits() == Flags::NONE.bits() {
+        Ok(Forked {
+            member,
+            space: None,
+            child: None,
+        })
+    } else if flags.bits() == Flags::RFPROC.bits() {
+        fork_inside(rt, roster, parent, space, member)
+    } else if flags.bits() == Flags::RFREND.bits() {
+        regroup(alloc, roster, space, member)
+    } else if flags.bits() == both {
+        fork_outside(alloc, roster, parent, space, member)
+    } else {
+        Err(NotForked {
+            member,
+            fault: Fault::BadFlags,
+        })
+    }
+}
+
+// A child in its parent's space.
+fn fork_inside<'k, R: Wait>(
+    rt: &R,
+    roster: &mut Roster<'k>,
+    parent: &mut Proc<'k>,
+    space: &TagSpace,
+    member: Member,
+) -> Result<Forked<'k>, NotForked>
+    requires { IsMemberOf space.now member }
+    ensures fault { IfErr result (λ refused.
+        WhyNotInside roster.old space.now member refused.member refused.fault) }
+    ensures back { IfErr result (λ refused. IsMemberOf space.now refused.member) }
+    ensures same { IfErr result (λ refused. IsSameMember member refused.member) }
+    ensures refused { OnErr result (roster.new ≡ roster.old) }
+    ensures space { IfOk result (λ forked. forked.space ≡ None) }
+    ensures child { IfOk result (λ forked. IsChild roster.old space.now forked.child) }
+    ensures member { IfOk result (λ forked. IsMemberOf space.now forked.member) }
+    ensures left { OnOk result (roster.new ≡ one_pid_less roster.old) }
+    ensures parent { parent.new ≡ parent.old }
+{
+    let mut member = member;
+    if roster.left().pids == 0 {
+        return Err(NotForked {
+            member,
+            fault: Fault::NoProc,
+        });
+    }
+    match space.fork_member(rt, &mut member) {
+        Ok(childs) => Ok(Forked {
+            member,
+            space: None,
+            child: Some(Child {
+                proc: next_child(roster, parent),
+                member: childs,
+            }),
+        }),
+        Err(fault) => Err(NotForked { member, fault }),
+    }
+}
+
+// A new space, of which the caller is the first member.
+fn regroup<'k>(
+    alloc: Global,
+    roster: &mut Roster<'k>,
+    space: &TagSpace,
+    member: Member,
+) -> Result<Forked<'k>, NotForked>
+    ensures fault { IfErr result (λ refused.
+        WhyNoGroup roster.old space.now.procs refused.fault) }
+    ensures back { IfErr result (λ refused. refused.member ≡ member) }
+    ensures refused { OnErr result (roster.new ≡ roster.old) }
+    ensures space { IfOk result (λ forked. IsGroup roster.old space.now forked.space) }
+    ensures child { IfOk result (λ forked. forked.child ≡ None) }
+    ensures member { IfOk result (λ forked.
+        IsMemberOf (childs_space space.now forked.space) forked.member) }
+    ensures left { OnOk result (roster.new ≡ rendez_less space.now.procs roster.old) }
+{
+    match space.new_group(alloc, roster) {
+        Ok(Opened { space, member }) => Ok(Forked {
+            member,
+            space: Some(space),
+            child: None,
+        }),
+        Err(fault) => Err(NotForked { member, fault }),
+    }
+}
+
+// A child in a new space.
+fn fork_outside<'k>(
+    alloc: Global,
+    roster: &mut Roster<'k>,
+    parent: &mut Proc<'k>,
+    space: &TagSpace,
+    member: Member,
+) -> Result<Forked<'k>, NotForked>
+    ensures fault { IfErr result (λ refused.
+        WhyNotOutside roster.old space.now refused.fault) }
+    ensures back { IfErr result (λ refused. refused.member ≡ member) }
+    ensures refused { OnErr result (roster.new ≡ roster.old) }
+    ensures space { IfOk result (λ forked. IsGroup roster.old space.now forked.space) }
+    ensures child { IfOk result (λ forked.
+        IsChild roster.old (childs_space space.now forked.space) forked.child) }
+    ensures member { IfOk result (λ forked. forked.member ≡ member) }
+    ensures left { OnOk result
+        (roster.new ≡ one_pid_less (rendez_less space.now.procs roster.old)) }
+    ensures parent { parent.new ≡ parent.old }
+{
+    if roster.left().pids == 0 {
+        return Err(NotForked {
+            member,
+            fault: Fault::NoProc,
+        });
+    }
+    match space.new_group(alloc, roster) {
+        Ok(
+            Opened {
+                space,
+                member: childs,
+            },
+        ) => Ok(Forked {
+            member,
+            space: Some(space),
+            child: Some(Child {
+                proc: next_child(roster, parent),
+                member: childs,
+            }),
+        }),
+        Err(fault) => Err(NotForked { member, fault }),
+    }
+}
+
+// The next process.
+fn next_child<'k>(roster: &mut Roster<'k>, parent: &mut Proc<'k>) -> Proc<'k>
+    requires { HasPid roster.old }
+    ensures child { result ≡ next_process roster.old }
+    ensures left { roster.new ≡ one_pid_less roster.old }
+    ensures parent { parent.new ≡ parent.old }
+{
+    match roster.rfork(parent, Flags::RFPROC) {
+        Ok(Some(child)) => child,
+        Ok(None) | Err(_) => unreachable!(),
+    }
+}

@@ -1,0 +1,300 @@
+//! Spaces that rfork makes, what it refuses, and that spaces are apart.
+ghost use Rattle.std.specs.Prelude.{◌≡◌, IfOk, IfSome};
+ghost use Rattle.tag_space.specs.Forks.{childs_space, callers_space};
+ghost use Rattle.tag_space.specs.Members.{IsMemberOf, HasRow};
+
+use crate::tests::meddler::Meddler;
+use crate::tests::scene::{Scene, TAG, forked, meets, next, opened};
+use crate::{Child, Forked, NotForked, Opened, TagSpace, rfork};
+use sleep_wakeup::{Kernel, Left, Proc, Roster};
+use std::alloc::Global;
+use std::process::Abort;
+use std::sync::Wait;
+use std::test::Fail;
+use std::thread::join;
+use sync_base::{Fault, Flags, Note, NoteSet, RendezId};
+
+// The flags of a child in a space of its own.
+fn both() -> Flags {
+    Flags::RFPROC.join(Flags::RFREND)
+}
+
+#[test]
+fn each_member_has_its_own_rendez(rt: HostRuntime) -> Result<(), Fail> {
+    let sleep_wakeup::Opened { kernel, start } = Kernel::new(rt.alloc(), 4, 5)?;
+    let Scene {
+        mut roster,
+        space,
+        mut first,
+    } = opened(&rt, rt.alloc(), &kernel, start, 2)?;
+    let second = forked(&rt, &space, &mut roster, &mut first);
+    assert_eq!(rt; first.member.rendez(), RendezId(0));
+    assert_eq!(rt; second.member.rendez(), RendezId(1));
+    // The space has had its two members.
+    assert!(rt;
+        matches!(
+            space.fork_member(&rt, &mut first.member),
+            Err(Fault::NoProc)
+        )
+    );
+    let left = roster.left();
+    let Opened {
+        space: group,
+        member,
+    } = match space.new_group(rt.alloc(), &mut roster) {
+        Ok(group) => group,
+        Err(fault) => {
+            assert_eq!(rt; fault, Fault::Memory);
+            assert_eq!(rt; roster.left(), left);
+            space.new_group(rt.alloc(), &mut roster)?
+        }
+    };
+    assert_eq!(rt; member.rendez(), RendezId(2));
+    // One Rendez is left, and a group would need two.
+    assert!(rt;
+        matches!(
+            group.new_group(rt.alloc(), &mut roster),
+            Err(Fault::NoRendez)
+        )
+    );
+    assert_eq!(rt; roster.left(), Left { pids: 2, rendez: 1 });
+    Ok(())
+}
+
+#[test]
+fn a_space_has_at_least_one_member(rt: HostRuntime) -> Result<(), Fail> {
+    let sleep_wakeup::Opened { kernel, start } = Kernel::new(rt.alloc(), 1, 2)?;
+    let mut started = kernel.start(start);
+    for procs in [0, 1_025, u64::MAX] {
+        assert!(rt;
+            matches!(
+                TagSpace::new(rt.alloc(), &mut started.roster, procs),
+                Err(Fault::NoProc)
+            )
+        );
+    }
+    assert!(rt;
+        matches!(
+            TagSpace::new(rt.alloc(), &mut started.roster, 3),
+            Err(Fault::NoRendez)
+        )
+    );
+    assert_eq!(rt; started.roster.left(), Left { pids: 0, rendez: 2 });
+    Ok(())
+}
+
+/// What is there once a process has forked.
+#[derive(Drop)]
+struct Parted<'k> {
+    roster: Roster<'k>,
+    proc: Proc<'k>,
+    /// The space in which it was.
+    space: TagSpace,
+    forked: Forked<'k>,
+}
+
+// The first process forks. Where memory was refused nothing is used up, and it forks again; after
+// any other refusal its member still calls.
+fn forked_once<'k, R: Wait + Abort>(
+    rt: &R,
+    scene: Scene<'k>,
+    alloc: Global,
+    flags: Flags,
+) -> Result<Parted<'k>, Fault>
+    requires member { IsMemberOf scene.space scene.first.member }
+    requires row { HasRow scene.space scene.first.proc.words }
+    requires words { scene.roster.words ≡ scene.first.proc.words }
+    ensures row { IfOk result (λ parted. HasRow parted.space parted.proc.words) }
+    ensures new { IfOk result (λ parted. IfSome parted.forked.space (λ new.
+        HasRow new parted.proc.words)) }
+    ensures member { IfOk result (λ parted.
+        IsMemberOf (callers_space flags parted.space parted.forked.space) parted.forked.member) }
+    ensures child { IfOk result (λ parted. IfSome parted.forked.child (λ child.
+        IsMemberOf (childs_space parted.space parted.forked.space) child.member)) }
+    ensures child_words { IfOk result (λ parted. IfSome parted.forked.child (λ child.
+        child.proc.words ≡ parted.proc.words)) }
+{
+    let Scene {
+        mut roster,
+        space,
+        first: Child { mut proc, member },
+    } = scene;
+    let left = roster.left();
+    let forked = match rfork(alloc, rt, &mut roster, &mut proc, &space, member, flags) {
+        Err(
+            NotForked {
+                member,
+                fault: Fault::Memory,
+            },
+        ) => {
+            assert_eq!(rt; roster.left(), left);
+            rfork(alloc, rt, &mut roster, &mut proc, &space, member, flags)
+        }
+        forked => forked,
+    };
+    match forked {
+        Ok(forked) => Ok(Parted {
+            roster,
+            proc,
+            space,
+            forked,
+        }),
+        Err(NotForked { member, fault }) => {
+            // Nothing was used up, and the member still calls.
+            assert_eq!(rt; roster.left(), left);
+            let mut back = Child { proc, member };
+            back.proc.put_back(NoteSet::of(Note::Alarm));
+            assert_eq!(rt;
+                meets(rt, &space, &mut back, 5),
+                Err(Fault::Interrupted(NoteSet::of(Note::Alarm)))
+            );
+            Err(fault)
+        }
+    }
+}
+
+#[test]
+fn a_child_is_in_its_parents_space(rt: HostRuntime) -> Result<(), Fail> {
+    let sleep_wakeup::Opened { kernel, start } = Kernel::new(rt.alloc(), 2, 2)?;
+    let scene = opened(&rt, rt.alloc(), &kernel, start, 2)?;
+    let Ok(parted) = forked_once(&rt, scene, rt.alloc(), Flags::RFPROC) else {
+        panic!(rt; "a pid and a member are left")
+    };
+    let Parted {
+        roster: _,
+        proc,
+        space,
+        forked: Forked {
+            member,
+            space: new,
+            child,
+        },
+    } = parted;
+    assert!(rt; new.is_none());
+    let Some(mut child) = child else {
+        panic!(rt; "RFPROC makes a child")
+    };
+    let mut parent = Child { proc, member };
+    let (nine, five) = join(
+        &rt,
+        || meets(&rt, &space, &mut parent, 5),
+        || meets(&rt, &space, &mut child, 9),
+    );
+    assert_eq!(rt; (nine, five), (Ok(9), Ok(5)));
+    Ok(())
+}
+
+#[test]
+fn a_child_with_rfrend_does_not_meet_its_parent(rt: HostRuntime) -> Result<(), Fail> {
+    let sleep_wakeup::Opened { kernel, start } = Kernel::new(rt.alloc(), 3, 4)?;
+    let scene = opened(&rt, rt.alloc(), &kernel, start, 2)?;
+    let Ok(parted) = forked_once(&rt, scene, rt.alloc(), both()) else {
+        panic!(rt; "a pid and a row are left")
+    };
+    let Parted {
+        mut roster,
+        mut proc,
+        space,
+        forked: Forked {
+            mut member,
+            space: new,
+            child,
+        },
+    } = parted;
+    let (Some(new), Some(child)) = (new, child) else {
+        panic!(rt; "both flags make a child and a space")
+    };
+    let poster = next(&rt, &mut roster, &mut proc);
+    assert_eq!(rt;
+        proc.postnote(child.proc.pid(), NoteSet::of(Note::Interrupt)),
+        Ok(())
+    );
+    // The parent waits with the tag, the child calls with it and meets nobody, and then a note
+    // ends the parent's wait.
+    let mut meddler = Meddler {
+        rt: &rt,
+        space: &new,
+        poster,
+        to: proc.pid(),
+        note_at: 2,
+        partner: Some(child),
+        value: 9,
+        call_at: 2,
+        answer: Err(Fault::BadArg),
+        noted: false,
+    };
+    assert_eq!(rt;
+        space.rendezvous_probed(&rt, &mut proc, &mut member, TAG, 5, &mut meddler),
+        Err(Fault::Interrupted(NoteSet::of(Note::Interrupt)))
+    );
+    assert_eq!(rt;
+        meddler.answer,
+        Err(Fault::Interrupted(NoteSet::of(Note::Interrupt)))
+    );
+    Ok(())
+}
+
+#[test]
+fn a_caller_with_rfrend_is_alone(rt: HostRuntime) -> Result<(), Fail> {
+    let sleep_wakeup::Opened { kernel, start } = Kernel::new(rt.alloc(), 1, 4)?;
+    let scene = opened(&rt, rt.alloc(), &kernel, start, 2)?;
+    let Ok(parted) = forked_once(&rt, scene, rt.alloc(), Flags::RFREND) else {
+        panic!(rt; "a row is left")
+    };
+    let Parted {
+        roster,
+        proc: _,
+        space: _,
+        forked: Forked {
+            member,
+            space,
+            child,
+        },
+    } = parted;
+    assert!(rt; space.is_some() && child.is_none());
+    assert_eq!(rt; member.rendez(), RendezId(2));
+    assert_eq!(rt; roster.left(), Left { pids: 0, rendez: 0 });
+    Ok(())
+}
+
+// What a process is refused, in a kernel with so many pids and Rendez and a space of so many
+// members.
+fn refused<R: Wait + Abort>(
+    rt: &R,
+    alloc: Global,
+    sizes: (u64, u64, u64),
+    flags: Flags,
+) -> Result<Option<Fault>, Fail> {
+    let (pids, rendez, members) = sizes;
+    let sleep_wakeup::Opened { kernel, start } = Kernel::new(alloc, pids, rendez)?;
+    let scene = opened(rt, alloc, &kernel, start, members)?;
+    Ok(forked_once(rt, scene, alloc, flags).err())
+}
+
+#[test]
+fn rfork_refuses_in_its_order(rt: HostRuntime) -> Result<(), Fail> {
+    let bad = Some(Fault::BadFlags);
+    let no_proc = Some(Fault::NoProc);
+    let no_rendez = Some(Fault::NoRendez);
+    let rows = [
+        ((1, 1, 1), Flags::from_bits(4), bad),
+        ((1, 1, 1), Flags::from_bits(7), bad),
+        ((1, 1, 1), Flags::NONE, None),
+        ((1, 1, 1), Flags::RFPROC, no_proc),
+        ((1, 1, 1), both(), no_proc),
+        ((1, 1, 1), Flags::RFREND, no_rendez),
+        ((2, 1, 1), both(), no_rendez),
+        ((2, 1, 1), Flags::RFPROC, no_proc),
+        ((2, 2, 1), both(), None),
+        ((1, 2, 1), Flags::RFREND, None),
+        ((2, 2, 2), Flags::RFPROC, None),
+    ];
+    for (sizes, flags, fault) in rows {
+        assert_eq!(rt;
+            refused(&rt, rt.alloc(), sizes, flags)?,
+            fault,
+            "{sizes:?} {flags:?}"
+        );
+    }
+    Ok(())
+}

@@ -1,0 +1,24 @@
+//! The example of the manual page, line for line. `tests/pages` compares it with the page.
+use crate::tests::scene::{Scene, forked, opened};
+use sleep_wakeup::{Kernel, Opened};
+use std::test::Fail;
+use std::thread::join;
+use sync_base::Tag;
+
+#[test]
+fn rendezvous_page(rt: HostRuntime) -> Result<(), Fail> {
+    let Opened { kernel, start } = Kernel::new(rt.alloc(), 2, 2)?;
+    let Scene {
+        mut roster,
+        space,
+        first: mut reader,
+    } = opened(&rt, rt.alloc(), &kernel, start, 2)?;
+    let mut writer = forked(&rt, &space, &mut roster, &mut reader);
+    let (got, given) = join(
+        &rt,
+        || space.rendezvous(&rt, &mut reader.proc, &mut reader.member, Tag(7), 5),
+        || space.rendezvous(&rt, &mut writer.proc, &mut writer.member, Tag(7), 9),
+    );
+    assert_eq!(rt; (got, given), (Ok(9), Ok(5)));
+    Ok(())
+}
