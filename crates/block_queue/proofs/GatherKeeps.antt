@@ -1,20 +1,19 @@
 -- The steps of a gather keep the rule: a writer's seat joins the reader's, and the reader looks at the tail.
-use Rattle.std.proofs.Common.{◌≡◌, ◌≢◌, ◌⊎◌, inl, inr, ⊎_elim, ℕ, ◌+◌, ◌<◌, ◌≤◌, Bool, true, false, List, [], ◌∷◌, ◌++◌, length, get_or, set, refl, sym, ap, subst, ◌∙◌, arith, ne_eqb, eq-eqb, lt_of_not-le, Option, Some, None}
+use Rattle.std.proofs.Common.{◌≡◌, ◌≢◌, ⊎_elim, ℕ, ◌+◌, ◌≤◌, true, List, [], ◌∷◌, get_or, set, refl, sym, ap, subst, ◌∙◌, arith, ne_eqb, lt_of_not-le, Some, None}
 use Rattle.std.specs.List.{AllByRecursion}
-use native.Mathlib.Decide.{dec_le, ℕ_discrete}
+use native.Mathlib.Decide.{dec_le}
 use mathlib.Core.Logic.{dite}
 use mathlib.Core.Option.{some}
 use lib.ListN.{get_elem?}
 use Rattle.atomic_table.specs.Table as table
-use Rattle.histories.specs.declared.account.Account.{Account}
 use Rattle.histories.specs.declared.account.Share.{Share}
-use Rattle.histories.specs.Account.{HasAllNumbers, has_number}
-use Rattle.histories.specs.Ledger.{Ledger, FitsLedger, ledger_joined}
+use Rattle.histories.specs.Account.{has_number}
+use Rattle.histories.specs.Ledger.{Ledger, ledger_joined}
 use Rattle.histories.proofs.ListLemmas.{at_set, set_else, all_append}
 use Rattle.histories.proofs.SeatsKeep.{knows_history, seats_join}
 use Rattle.histories.proofs.AloneLemmas.{knows_whole, has_every_number}
 use Rattle.histories.proofs.AccountLemmas.{number_has}
-use Rattle.histories.specs.History.{AreByBelow}
+use Rattle.histories.specs.History.{AreByBelow, IsPast}
 use Rattle.block_queue.specs.declared.entry.Entry.{Entry}
 use Rattle.block_queue.specs.declared.view.Key.{Key}
 use Rattle.block_queue.specs.declared.view.Stage.{Stage}
@@ -24,8 +23,7 @@ use Rattle.block_queue.specs.declared.entry.Entry.TheVariants as entry
 use Rattle.block_queue.specs.History.{QueueState, seat_of, after_entry, opening_state}
 use Rattle.block_queue.proofs.WordMoves.{put_else}
 use Rattle.block_queue.specs.Meaning.{queue_after, queue_meaning}
-use Rattle.block_queue.specs.Places.{tail_word}
-use Rattle.block_queue.specs.Rule.{IsOneQueue, IsReader, FitsView, FitsStage, account_of, spent_view, put_at, is_moving}
+use Rattle.block_queue.specs.Rule.{IsOneQueue, FitsView, account_of, spent_view, put_at, is_moving}
 use Rattle.block_queue.specs.Steps.{Seated, joined_view}
 use Rattle.block_queue.specs.GatherSteps.{KnowsState, HasSurveyed}
 use Rattle.block_queue.proofs.RuleMoves.{QueueTable, own_view, own_ledger, owned_number}
@@ -71,10 +69,22 @@ module _ (key : Key) (id : ℕ) (first : View) (other : ℕ) (second : View) (ow
             (λ old. subst (λ (reader : ℕ). FitsView key.limit key.first s rule.out reader seat view) (sym reader_is) (rule.views seat view old.1))
             (at_set t.views id seat (joined_view first second) view else.1))
             (at_set (set t.views id (joined_view first second)) other seat spent_view view there);
+        pasts = λ seat view there.
+            ⊎_elim
+            (λ here. subst (λ (v : View). ArePasts v) here.1 tt)
+            (λ else. ⊎_elim
+            (λ here. subst (λ (v : View). ArePasts v) here.1
+            ((rule.seats.each_seat id first at).seen, ((rule.seats.each_seat other second at_other).seen, rule.pasts id first at)))
+            (λ old. rule.pasts seat view old.1)
+            (at_set t.views id seat (joined_view first second) view else.1))
+            (at_set (set t.views id (joined_view first second)) other seat spent_view view there);
       }
     where
       s : QueueState
       s = queue_after key rule.ledger.history
+
+      ArePasts : View → Type 0
+      ArePasts view = AllByRecursion (λ past. IsPast past rule.ledger.history) view.pasts
 
       together : Ledger Entry
       together = ledger_joined id other rule.ledger
@@ -132,6 +142,7 @@ module _ (key : Key) (slots id : ℕ) (me : Seated) (own : has_number me.0.accou
                 (has_every_number seat_of account_of rule.ledger t.views rule.seats id me.0 at all number (omega arith)))
                 (λ not. let high = lt_of_not-le not in unused_put key rule.ledger.next number rule.ledger.history rule.seats.by_given (omega arith));
             given = rule.first_given;
+            pasts = rule.pasts id me.0 at;
           };
     },
   )

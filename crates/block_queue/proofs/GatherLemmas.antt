@@ -1,19 +1,19 @@
 -- What a gather's joins and takes come to.
-use Rattle.std.proofs.Common.{◌≡◌, ◌≢◌, ◌⊎◌, inl, inr, ⊎_elim, eq-eqb, length-append, ℕ, ◌+◌, ◌-◌, ◌%◌, ◌<◌, ◌≤◌, Bool, true, false, ◌||◌, eqb, leb, List, [], ◌∷◌, ◌++◌, length, get_or, map, refl, sym, ap, subst, ◌∙◌, arith, append-nil, append_assoc, Option, Some, None}
-use Rattle.std.specs.Prelude.{slice_get}
+use Rattle.std.proofs.Common.{◌≡◌, ◌≢◌, ◌⊎◌, inl, inr, ⊎_elim, eq-eqb, length-append, ℕ, ◌+◌, ◌-◌, ◌%◌, ◌<◌, ◌≤◌, Bool, true, false, ◌||◌, eqb, leb, zero, suc, List, [], ◌∷◌, ◌++◌, length, get_or, refl, sym, ap, subst, ◌∙◌, arith, append-nil, append_assoc, Some, None}
+use Rattle.std.specs.Prelude.{slice_get, drop}
 use Rattle.std.specs.List.{AllByRecursion, list_any}
-use Rattle.std.proofs.lemmas.Option.{slice_get_past, slice_get-get_or}
+use Rattle.std.proofs.lemmas.Option.{slice_get-get_or}
 use Rattle.histories.specs.declared.account.Account.{Account}
-use Rattle.histories.specs.declared.account.Share.{Share}
 use Rattle.histories.specs.Account.{HasAllNumbers, HasItsEntries, has_number}
-use Rattle.histories.specs.Changes.{entered_account, joined_account}
+use Rattle.histories.specs.Changes.{joined_account}
 use Rattle.histories.proofs.AccountLemmas.{has_number-append}
 use Rattle.std.proofs.lemmas.Bool.Decides.{nat_tests}
 use Rattle.sync_base.specs.declared.limits.TheConstants.{LAST_WRITE}
-use Rattle.histories.specs.History.{IsLegal}
+use Rattle.histories.specs.History.{IsLegal, IsPast}
+use Rattle.histories.proofs.HistoryLemmas.{past_legal}
 use Rattle.histories.proofs.AloneLemmas.{entered_has_all}
-use Rattle.histories.proofs.ListLemmas.{all_append, all_past, all_since, all_weaker}
-use Rattle.sync_base.specs.Pipe.{begun_of, begun_number, next_write}
+use Rattle.histories.proofs.ListLemmas.{all_append, all_past, all_since, all_weaker, past_refl, past_cons, past_trans}
+use Rattle.sync_base.specs.Pipe.{begun_number, next_write}
 use Rattle.sync_base.specs.Write.{Write}
 use Rattle.block_queue.specs.declared.entry.Entry.{Entry}
 use Rattle.block_queue.specs.declared.entry.Entry.TheVariants as entry
@@ -25,10 +25,11 @@ use Rattle.block_queue.specs.declared.view.View.{View}
 use Rattle.block_queue.specs.GatherSteps.{KnowsState}
 use Rattle.block_queue.specs.Places.{IsQueueState}
 use Rattle.block_queue.specs.Steps.{Seated, joined_view}
-use Rattle.block_queue.specs.Seats.{Place, IsFreePlaceOf, IsSamePlace, IsPutSeatOf, put_account}
-use Rattle.block_queue.specs.Gather.{with_blocks, IsLeft, Empties, IsEmptying, IsJoining, HasJoined, AreTheirs, numbers_of}
+use Rattle.block_queue.specs.Seats.{Place, IsFreePlaceOf, IsSamePlace, IsPutSeatOf, put_account, put_view}
+use Rattle.block_queue.specs.Gather.{with_blocks, IsLeft, Empties, IsEmptying, IsJoining, HasJoined, AreTheirs, AreTheirPasts, SawPasts, TellsPasts, numbers_of}
 use Rattle.block_queue.proofs.RuleMoves.{history_fits}
 use Rattle.block_queue.proofs.StateLemmas.{begun_is}
+use Rattle.block_queue.proofs.WordMoves.{same_some}
 use Rattle.block_queue.specs.History.{QueueState, IsRight, IsBlock, IsNotYet, seat_of, after_entry, opening_state}
 use Rattle.block_queue.specs.Meaning.{Enters, KnowsQueue, queue_after, queue_meaning}
 
@@ -97,6 +98,60 @@ module _ (key : Key) (account : Account Entry) (left : ℕ) (is : IsLeft key acc
       let whole = (history_fits key account.seen given is.knows.history.legal).whole in
       let before = begun_is s.pipe whole in
       ap (λ (h : List Entry). begun_number key.first (queue_after key h).pipe) told.0 ∙ omega arith
+
+-- ---- which blocks are left
+
+drop_here : {A : Type 0} (xs : List A) (n : ℕ) (x : A) → slice_get xs n ≡ Some x →
+    drop n xs ≡ x ∷ drop (suc n) xs
+drop_here [] zero x at = cc
+drop_here [] (suc n) x at = cc
+drop_here (y ∷ ys) zero x at = ap (λ z. z ∷ ys) (same_some y x at)
+drop_here (y ∷ ys) (suc n) x at = drop_here ys n x at
+
+drop_end : {A : Type 0} (xs : List A) (n : ℕ) → length xs ≡ n → drop n xs ≡ []
+drop_end [] zero same = refl
+drop_end [] (suc n) same = refl
+drop_end (x ∷ xs) zero same = absurd (omega arith)
+drop_end (x ∷ xs) (suc n) same = drop_end xs n (omega arith)
+
+-- takes go on from the history behind them
+with_blocks_past : (number : ℕ) (writes : List Write) (history : List Entry) →
+    IsPast history (with_blocks number writes history)
+with_blocks_past number [] history = past_refl history
+with_blocks_past number (write ∷ writes) history =
+    past_trans history behind (with_blocks (number + 1) writes behind)
+    (past_cons history history (entry.Block write.writer write.bytes (number + 1))
+    (past_refl history))
+    (with_blocks_past (number + 1) writes behind)
+  where
+    behind : List Entry
+    behind = entry.Block write.writer write.bytes (number + 1) ∷ history
+
+-- takes behind which nothing is left take what was left before them
+pub blocks_left : (key : Key) (number : ℕ) (writes : List Write) (history : List Entry) →
+    IsLegal (queue_meaning key.first) (opening_state key.limit) (with_blocks number writes history) →
+    length (queue_after key (with_blocks number writes history)).pipe.accepted ≡
+    (queue_after key (with_blocks number writes history)).pipe.read_whole →
+    writes ≡ drop (queue_after key history).pipe.read_whole (queue_after key history).pipe.accepted
+blocks_left key number [] history legal all =
+    sym (drop_end (queue_after key history).pipe.accepted (queue_after key history).pipe.read_whole
+    all)
+blocks_left key number (write ∷ writes) history legal all =
+    ap (λ (ws : List Write). write ∷ ws) (blocks_left key (number + 1) writes behind legal all)
+    ∙ ap (λ (n : ℕ). write ∷ drop n (queue_after key history).pipe.accepted) next
+    ∙ sym (drop_here (queue_after key history).pipe.accepted
+    (queue_after key history).pipe.read_whole write right.0.may.next)
+  where
+    next : (queue_after key history).pipe.read_whole + 1 ≡
+        suc (queue_after key history).pipe.read_whole
+    next = omega arith
+
+    behind : List Entry
+    behind = entry.Block write.writer write.bytes (number + 1) ∷ history
+
+    right : IsLegal (queue_meaning key.first) (opening_state key.limit) behind
+    right = past_legal (queue_meaning key.first) (opening_state key.limit) behind
+        (with_blocks (number + 1) writes behind) (with_blocks_past (number + 1) writes behind) legal
 
 -- ---- the loop of takes
 
@@ -230,6 +285,29 @@ module _ (queue : Queue) (puts : List PutSeat) (old : Account Entry) where
       or_nothing : (b : Bool) → (b || false) ≡ true → b ≡ true
       or_nothing true has = refl
       or_nothing false has = has
+
+-- ---- whose pasts the joined seat tells
+
+pub none_told : (puts : List PutSeat) (old : View) → TellsPasts puts old puts old
+none_told puts old =
+    record { reader = λ history saw. saw.seen; writers = λ history saw pasts. pasts }
+
+pub one_told : (puts : List PutSeat) (old now joined : View) (rest front : List PutSeat)
+    (seat : PutSeat) → rest ≡ front ++ seat ∷ [] → TellsPasts puts old rest now →
+    joined ≡ joined_view now (put_view seat) → TellsPasts puts old front joined
+one_told puts old now joined rest front seat rest_is tells joined_is =
+    subst (TellsPasts puts old front) (sym joined_is)
+    record {
+      reader = λ history saw. tells.reader history (before history saw);
+      writers = λ history saw pasts. tells.writers history (before history saw)
+          (subst (AreTheirPasts history) (sym rest_is)
+          (all_append (λ (s : PutSeat). IsPast (put_account s).seen history) front (seat ∷ [])
+          pasts (saw.before.1.0, tt)));
+    }
+  where
+    before : (history : List Entry) → SawPasts history (joined_view now (put_view seat)) →
+        SawPasts history now
+    before history saw = record { seen = saw.before.0; before = saw.before.1.1 }
 
 -- the reader's seat is free after a join
 pub joined_free : (queue : Queue) (old new : Place) (other : View) → IsFreePlaceOf queue old 0 → IsSamePlace old new → new.me ≡ (joined_view old.me.0 other, old.me.1) → IsFreePlaceOf queue new 0

@@ -1,5 +1,5 @@
 -- The step Hand keeps the rule: the reader hands a number over to a new seat.
-use Rattle.std.proofs.Common.{◌≡◌, ◌≢◌, ◌⊎◌, inl, inr, ⊎_elim, ℕ, zero, suc, ◌+◌, ◌<◌, ◌≤◌, eqb, true, List, [], ◌∷◌, ◌++◌, length, set, refl, sym, ap, subst, ◌∙◌, arith, length-set, eq-eqb, ne_eqb, None}
+use Rattle.std.proofs.Common.{◌≡◌, ◌≢◌, ⊎_elim, ℕ, zero, suc, ◌<◌, List, [], ◌∷◌, ◌++◌, length, set, refl, sym, ap, subst, ◌∙◌, arith, length-set, eq-eqb, ne_eqb, None}
 use Rattle.std.specs.List.{AllByRecursion}
 use mathlib.Core.Option.{some, some-ne-none}
 use lib.ListN.{get_elem?}
@@ -7,7 +7,8 @@ use Rattle.atomic_table.specs.Table as table
 use Rattle.histories.specs.declared.account.Share.{Share}
 use Rattle.histories.specs.Account.{has_number}
 use Rattle.histories.specs.Changes.{keeping_account, handed_account}
-use Rattle.histories.specs.Ledger.{Ledger, IsOwned, AreSeats, ledger_handed}
+use Rattle.histories.specs.History.{IsPast}
+use Rattle.histories.specs.Ledger.{Ledger, ledger_handed}
 use Rattle.histories.proofs.ListLemmas.{at_set, at_end}
 use Rattle.histories.proofs.SeatsKeep.{seats_hand}
 use Rattle.block_queue.specs.declared.entry.Entry.{Entry}
@@ -19,7 +20,7 @@ use Rattle.block_queue.specs.History.{QueueState, seat_of}
 use Rattle.block_queue.specs.Meaning.{queue_after}
 use Rattle.block_queue.specs.Rule.{IsOneQueue, FitsView, FitsStage, account_of, put_at}
 use Rattle.block_queue.specs.Steps.{second_share, without_second, keeper_view, handed_view}
-use Rattle.block_queue.proofs.RuleMoves.{QueueTable, own_view, owned_number}
+use Rattle.block_queue.proofs.RuleMoves.{QueueTable, owned_number}
 
 at_within : {A : Type 0} (l : List A) (i : ℕ) (a : A) → get_elem? l i ≡ some a → i < length l
 at_within [] i a e = absurd (some-ne-none a (sym e))
@@ -49,10 +50,21 @@ module _ (key : Key) (id : ℕ) (before : View) (zero_share share : Share Entry)
             (at_set t.views id seat (keeper_view before) view old))
             (λ last. subst (λ (v : View). Fits seat v) last.0 (subst (λ (i : ℕ). Fits i (handed_view before)) (sym last.1) child))
             (at_end (set t.views id (keeper_view before)) (handed_view before) view seat there);
+        pasts = λ seat view there.
+            ⊎_elim
+            (λ old. ⊎_elim
+            (λ here. subst (λ (v : View). ArePasts v) here.1 (rule.pasts id before at))
+            (λ else. rule.pasts seat view else.1)
+            (at_set t.views id seat (keeper_view before) view old))
+            (λ last. subst (λ (v : View). ArePasts v) last.0 tt)
+            (at_end (set t.views id (keeper_view before)) (handed_view before) view seat there);
       }
     where
       s : QueueState
       s = queue_after key rule.ledger.history
+
+      ArePasts : View → Type 0
+      ArePasts view = AllByRecursion (λ past. IsPast past rule.ledger.history) view.pasts
 
       new_seat : ℕ
       new_seat = length (set t.views id (keeper_view before))

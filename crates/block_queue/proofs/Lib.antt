@@ -7,6 +7,7 @@ pub mod StepLemmas
 pub mod PutKeeps
 pub mod TakeKeeps
 pub mod SeatLemmas
+pub mod AllSeatsLemmas
 pub mod HandKeeps
 pub mod OpeningKeeps
 pub mod OpeningLemmas

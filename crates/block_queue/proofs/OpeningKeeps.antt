@@ -1,14 +1,14 @@
 -- The rule holds when the queue is made: the history is empty, and all places are free.
-use Rattle.std.proofs.Common.{◌≡◌, ℕ, zero, suc, false, ◌+◌, ◌/◌, ◌%◌, ◌<◌, ◌≤◌, List, [], ◌∷◌, length, get_or, map, refl, sym, ap, subst, ◌∙◌, arith, None, Some}
+use Rattle.std.proofs.Common.{◌≡◌, ℕ, zero, suc, false, ◌+◌, ◌/◌, ◌%◌, ◌<◌, ◌≤◌, List, [], ◌∷◌, length, get_or, map, refl, sym, subst, ◌∙◌, arith, None, Some}
 use Rattle.std.specs.Prelude.{replicate, Option, slice_get}
 use Rattle.std.specs.List.{AllByRecursion}
 use Rattle.std.proofs.Math.Nat.{div-eq_of_lt, mod-eq_of_lt}
 use mathlib.Core.Option.{some, some-injective, some-ne-none}
-use mathlib.Core.Option as maybe
 use lib.ListN.{get_elem?}
 use Rattle.atomic_table.specs.Table as table
 use Rattle.histories.specs.declared.account.Share.{Share}
 use Rattle.histories.specs.Account.{unused_share, numbers_from}
+use Rattle.histories.specs.History.{IsPast}
 use Rattle.histories.specs.Ledger.{opening_ledger}
 use Rattle.histories.proofs.SeatsKeep.{seats_open}
 use Rattle.sync_base.specs.Write.{Write}
@@ -16,8 +16,8 @@ use Rattle.sync_base.specs.declared.limits.TheConstants.{LAST_WRITE}
 use Rattle.block_queue.specs.declared.entry.Entry.{Entry}
 use Rattle.block_queue.specs.declared.view.Key.{Key}
 use Rattle.block_queue.specs.declared.view.View.{View}
-use Rattle.block_queue.specs.History.{QueueState, seat_of, opening_state}
-use Rattle.block_queue.specs.Places.{Homes, IsPlace, AreWords, place_of, sequence_of, free_word}
+use Rattle.block_queue.specs.History.{seat_of, opening_state}
+use Rattle.block_queue.specs.Places.{Homes, IsPlace, AreWords, place_of, sequence_of}
 use Rattle.block_queue.specs.Rule.{IsOneQueue, FitsView, account_of, first_view}
 
 abbrev no_block : Option Write
@@ -89,6 +89,7 @@ module _ (key : Key) (some_room : 0 < key.limit) (given : key.first ≤ LAST_WRI
         words = opening_words;
         seats = seats_open seat_of account_of key.writers (first_view key) refl;
         views = each;
+        pasts = none;
       }
     where
       first_fits : FitsView key.limit key.first (opening_state key.limit) false 0 0 (first_view key)
@@ -98,6 +99,10 @@ module _ (key : Key) (some_room : 0 < key.limit) (given : key.first ≤ LAST_WRI
             reader_knows = λ reader. record { taken = refl; out_is = refl };
             stage = tt;
           }
+
+      none : (seat : ℕ) (view : View) → get_elem? (first_view key ∷ []) seat ≡ some view → AllByRecursion (λ past. IsPast past []) view.pasts
+      none zero view at = subst (λ (v : View). AllByRecursion (λ past. IsPast past []) v.pasts) (some-injective (first_view key) view at) tt
+      none (suc seat) view at = absurd (some-ne-none view (sym at))
 
       each : (seat : ℕ) (view : View) → get_elem? (first_view key ∷ []) seat ≡ some view → FitsView key.limit key.first (opening_state key.limit) false 0 seat view
       each zero view at = subst (λ (v : View). FitsView key.limit key.first (opening_state key.limit) false 0 0 v) (some-injective (first_view key) view at) first_fits

@@ -1,16 +1,16 @@
 -- What a seat learns from the words of the ring.
-use Rattle.std.proofs.Common.{◌≡◌, ◌≢◌, ◌⊎◌, inl, inr, ⊎_elim, ℕ, ◌+◌, ◌-◌, ◌*◌, ◌/◌, ◌%◌, ◌<◌, ◌≤◌, Bool, true, false, List, [], ◌∷◌, ◌++◌, length, get_or, refl, sym, ap, subst, ◌∙◌, arith, Option, Some, None}
-use Rattle.std.proofs.Common.{mul-le-mul_right, lt_of_not-le, div-add-mod'}
-use Rattle.std.specs.Prelude.{slice_get, slice_index}
+use Rattle.std.proofs.Common.{◌≡◌, ◌⊎◌, inl, inr, ⊎_elim, ℕ, ◌+◌, ◌*◌, ◌/◌, ◌%◌, ◌<◌, ◌≤◌, Bool, List, length, get_or, refl, sym, ap, subst, ◌∙◌, arith, Option, Some, None}
+use Rattle.std.proofs.Common.{lt_of_not-le}
+use Rattle.std.specs.Prelude.{slice_get}
 use Rattle.std.proofs.Math.Nat.{mul-add-mod_self_left, mod-eq_of_lt, div-add-mod, div-eq_of_lt, mul-add-div, mul-add, mul-le-mul_left}
 use Rattle.std.proofs.lemmas.Nat.{mod_below}
-use Rattle.std.proofs.lemmas.Option.{slice_get_within, slice_get_past, slice_get_cases}
+use Rattle.std.proofs.lemmas.Option.{slice_get_cases}
 use native.Mathlib.Decide.{dec_le, ℕ_discrete}
 use mathlib.Core.Logic.{dite}
 use Rattle.atomic_table.proofs.Lists.{one_turn}
 use Rattle.sync_base.specs.Write.{Write}
 use Rattle.block_queue.specs.History.{QueueState}
-use Rattle.block_queue.specs.Places.{Homes, IsPlace, AreWords, IsQueueState, IsUnstored, place_of, lap_of, sequence_of, free_word, stored_word}
+use Rattle.block_queue.specs.Places.{Homes, AreWords, IsQueueState, IsUnstored, place_of, sequence_of, free_word, stored_word}
 
 -- ---- numbers
 

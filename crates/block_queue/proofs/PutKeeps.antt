@@ -1,18 +1,15 @@
 -- The steps of a put keep the rule.
-use Rattle.std.proofs.Common.{◌≡◌, ◌≢◌, ◌⊎◌, inl, inr, ⊎_elim, ℕ, ◌+◌, ◌-◌, ◌<◌, ◌≤◌, Bool, true, false, cond, eqb, List, [], ◌∷◌, length, get_or, set, map, refl, sym, ap, subst, ◌∙◌, arith, eq-eqb, ne_eqb, lt_of_not-le, Option, Some, None}
-use Rattle.std.specs.Prelude.{slice_get}
-use Rattle.std.specs.List.{AllByRecursion}
+use Rattle.std.proofs.Common.{◌≡◌, ◌≢◌, ⊎_elim, ℕ, ◌+◌, ◌-◌, ◌<◌, Bool, true, false, cond, eqb, List, [], ◌∷◌, length, get_or, set, refl, sym, ap, subst, ◌∙◌, arith, eq-eqb, ne_eqb, lt_of_not-le, Option, Some, None}
 use native.Mathlib.Decide.{dec_le, ℕ_discrete}
 use mathlib.Core.Logic.{dite}
 use mathlib.Core.Option.{none, some}
-use mathlib.Core.Option as maybe
 use lib.ListN.{get_elem?}
 use prog.Atomic.{either}
 use Rattle.atomic_table.specs.Table as table
 use Rattle.histories.specs.declared.account.Share.{Share}
 use Rattle.histories.specs.Account.{has_number, share_after}
 use Rattle.histories.proofs.ListLemmas.{all_weaker, all_map}
-use Rattle.sync_base.specs.Pipe.{PipeState, begun_of, waiting_of}
+use Rattle.sync_base.specs.Pipe.{begun_of, waiting_of}
 use Rattle.sync_base.specs.Write.{Write}
 use Rattle.sync_base.specs.declared.limits.TheConstants.{LAST_WRITE}
 use Rattle.block_queue.specs.declared.entry.Entry.{Entry}
@@ -22,16 +19,15 @@ use Rattle.block_queue.specs.declared.view.Key.{Key}
 use Rattle.block_queue.specs.declared.view.Stage.{Stage}
 use Rattle.block_queue.specs.declared.view.Stage.TheVariants.{Free, Counted, Placed, Storing}
 use Rattle.block_queue.specs.declared.view.View.{View}
-use Rattle.block_queue.specs.History.{QueueState, IsRight, IsTaken, IsFull, IsWorn, seat_of, after_entry, with_put}
-use Rattle.block_queue.specs.Meaning.{queue_after}
-use Rattle.block_queue.specs.Places.{Homes, AreWords, IsQueueState, tail_word, place_of, sequence_of, free_word, stored_word}
+use Rattle.block_queue.specs.History.{QueueState, IsRight, seat_of, after_entry, with_put}
+use Rattle.block_queue.specs.Places.{IsQueueState, place_of, sequence_of, free_word, stored_word}
 use Rattle.block_queue.specs.Rule.{IsOneQueue, IsCounted, IsPlaced, IsStoring, FitsStage, FitsView, put_at, is_moving}
 use Rattle.block_queue.specs.Steps.{Seated, Asked, HasEntered, HasPutTail, HasPutSequence, HasAccepted, HasStored, staged_view, saw_hangup}
 use Rattle.block_queue.proofs.StateLemmas.{begun_is, hung_since}
 use Rattle.block_queue.proofs.PlaceLemmas.{put_sequence}
 use Rattle.histories.proofs.AccountLemmas.{has_number-share_after}
 use Rattle.block_queue.proofs.WordMoves.{empty_home, put_accepts, put_stands, slice_get_last, put_here, put_else}
-use Rattle.block_queue.proofs.ViewMoves.{Grows, taken_grows, stood_grows}
+use Rattle.block_queue.proofs.ViewMoves.{taken_grows, stood_grows}
 use Rattle.block_queue.proofs.RuleMoves.{QueueTable, state_now, state_fits, own_ledger, own_view, rule_enters, entry_told}
 use Rattle.block_queue.proofs.StepLemmas.{entered_view, loaded, no_puts, no_put_by, goes_on, refused_view, refusal_keeps, refusal_tells}
 
@@ -277,7 +273,7 @@ module _ (asked : Asked) (slots id : ℕ) (me : Seated) (own : has_number me.0.a
         record {
           home = empty_home key.limit key.first s₃ rule.out t.words t.homes rule.some_room fits₃ rule.words writer block unhung room in_turn;
           keeps = rule_enters key t rule id me.0 at (entry.Taken writer block (key.first + length s₃.pipe.accepted + 1)) (accepted_view (length s₃.pipe.accepted)) rule.out
-              (set t.words 0 (length s₃.pipe.accepted + 1)) (set t.homes (place_of key.limit (length s₃.pipe.accepted)) none) own right refl
+              (set t.words 0 (length s₃.pipe.accepted + 1)) (set t.homes (place_of key.limit (length s₃.pipe.accepted)) none) own right refl refl
               (taken_grows key.first s₃ writer block) (λ other. refl)
               (put_accepts key.limit key.first s₃ rule.out t.words t.homes rule.some_room fits₃ rule.words writer block unhung room in_turn)
               (storing_fits unhung room);
@@ -394,7 +390,7 @@ module _ (asked : Asked) (slots id : ℕ) (me : Seated) (own : has_number me.0.a
           (rule_enters key t rule id me.0 at (entry.Stood asked.write.writer (asked.key.first + asked.count + 1)) stood_view rule.out
           (set t.words (sequence_of (place_of key.limit asked.count)) (stored_word key.limit asked.count))
           (set t.homes (place_of key.limit asked.count) (some (Some asked.write)))
-          own stood_right refl (stood_grows key.first s₅ writer (key.first + asked.count + 1)) (λ other. refl)
+          own stood_right refl refl (stood_grows key.first s₅ writer (key.first + asked.count + 1)) (λ other. refl)
           (put_stands key.limit key.first s₅ rule.out t.words t.homes rule.some_room fits₅ rule.words asked.write asked.count storing.not_begun storing.write_is storing.unstored)
           stood_fits),
       record {

@@ -8,7 +8,6 @@ use Rattle.block_queue.specs.declared.queue.Queue.{Queue}
 use Rattle.block_queue.specs.declared.seats.PutSeat.{PutSeat}
 use Rattle.block_queue.specs.declared.seats.TakeSeat.{TakeSeat}
 use Rattle.block_queue.specs.declared.view.Key.{Key}
-use Rattle.block_queue.specs.declared.view.Stage.{Stage}
 use Rattle.block_queue.specs.declared.view.Stage.TheVariants.{Free}
 use Rattle.block_queue.specs.declared.view.View.{View}
 use Rattle.block_queue.specs.History.{seat_of}

@@ -1,17 +1,14 @@
 -- What the steps have in common: a load changes no word, and a refusal changes nothing but the history.
-use Rattle.std.proofs.Common.{◌≡◌, ◌≢◌, ℕ, ◌+◌, ◌<◌, ◌≤◌, Bool, true, false, List, [], ◌∷◌, length, get_or, set, map, refl, sym, ap, subst, ◌∙◌, arith, Option, Some, None}
+use Rattle.std.proofs.Common.{◌≡◌, ℕ, true, false, List, get_or, set, refl, sym, subst, ◌∙◌, None}
 use Rattle.std.proofs.lemmas.List.{set-get_or}
 use Rattle.std.specs.List.{AllByRecursion}
 use mathlib.Core.Option.{some}
-use mathlib.Core.Option as maybe
 use lib.ListN.{get_elem?}
-use Rattle.atomic_table.specs.Table as table
 use Rattle.histories.specs.declared.account.Share.{Share}
 use Rattle.histories.specs.Account.{has_number, share_after}
 use Rattle.histories.specs.Changes.{entered_account}
 use Rattle.histories.proofs.ListLemmas.{all_weaker, all_map}
 use Rattle.histories.proofs.AccountLemmas.{number_has}
-use Rattle.sync_base.specs.Write.{Write}
 use Rattle.block_queue.specs.declared.entry.Entry.{Entry}
 use Rattle.block_queue.specs.declared.view.Key.{Key}
 use Rattle.block_queue.specs.declared.view.Stage.{Stage}
@@ -19,14 +16,14 @@ use Rattle.block_queue.specs.declared.view.Stage.TheVariants.{Free}
 use Rattle.block_queue.specs.declared.view.View.{View}
 use Rattle.block_queue.specs.History.{QueueState, IsRight, seat_of, after_entry}
 use Rattle.block_queue.specs.Places.{Homes, AreWords}
-use Rattle.block_queue.specs.Rule.{IsOneQueue, IsReader, FitsStage, FitsView, put_at, is_moving}
+use Rattle.block_queue.specs.Rule.{IsOneQueue, FitsStage, FitsView, put_at, is_moving}
 use Rattle.block_queue.specs.Steps.{HasEntered, staged_view}
 use Rattle.block_queue.proofs.ViewMoves.{Grows, same_grows}
 use Rattle.block_queue.proofs.RuleMoves.{QueueTable, state_now, own_view, rule_stays, rule_enters, entry_told}
 
 -- what a seat knows once it has made this entry
 abbrev pub entered_view : Entry → List Entry → Stage → ℕ → View → View
-entered_view entry past stage taken view = record { account = entered_account seat_of entry past view.account; taken = taken; stage = stage }
+entered_view entry past stage taken view = record view { account = entered_account seat_of entry past view.account; taken = taken; stage = stage }
 
 -- a load leaves the words as they were
 pub loaded : (key : Key) (words : List ℕ) (i : ℕ) (homes : Homes) (views : List View) → IsOneQueue key record { words = words; homes = homes; views = views } → IsOneQueue key record { words = set words i (get_or words i 0); homes = homes; views = views }
@@ -46,7 +43,7 @@ module _ (key : Key) (t : QueueTable) (rule : IsOneQueue key t) (id : ℕ) (befo
   module _ (stage : Stage) (still : is_moving stage ≡ false) (none : (number : ℕ) → put_at key.first stage number ≡ None) (number : ℕ) (has : has_number before.account.shares number ≡ true) where
     pub goes_on : FitsStage key.limit key.first (state_now key t rule id before at) before.account.shares (rule.ledger.owner 0) id stage → IsOneQueue key record { words = t.words; homes = t.homes; views = set t.views id (staged_view stage before) }
     goes_on fits =
-        rule_stays key t rule id before at (staged_view stage before) rule.out t.words t.homes number has refl (λ other. refl) rule.words
+        rule_stays key t rule id before at (staged_view stage before) rule.out t.words t.homes number has refl refl (λ other. refl) rule.words
         record {
           puts = all_weaker (λ (share : Share Entry). (state_now key t rule id before at).putting share.number ≡ None) (λ share. (state_now key t rule id before at).putting share.number ≡ put_at key.first stage share.number)
               (λ share put. put ∙ sym (none share.number)) before.account.shares no_puts;
@@ -61,7 +58,7 @@ module _ (key : Key) (t : QueueTable) (rule : IsOneQueue key t) (id : ℕ) (befo
 
     pub refusal_keeps : IsOneQueue key record { words = t.words; homes = t.homes; views = set t.views id refused_view }
     refusal_keeps =
-        rule_enters key t rule id before at entry refused_view rule.out t.words t.homes has right refl
+        rule_enters key t rule id before at entry refused_view rule.out t.words t.homes has right refl refl
         (subst (λ (s : QueueState). Grows key.first (state_now key t rule id before at) s (seat_of entry)) (sym same) (same_grows key.first (state_now key t rule id before at) (seat_of entry)))
         (λ other. refl)
         (subst (λ (s : QueueState). AreWords key.limit key.first s rule.out t.words t.homes) (sym same) rule.words)

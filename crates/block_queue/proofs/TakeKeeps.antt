@@ -1,9 +1,9 @@
 -- The steps of a take and of a hangup keep the rule.
-use Rattle.std.proofs.Common.{◌≡◌, ◌≢◌, ◌⊎◌, inl, inr, ⊎_elim, ℕ, ◌+◌, ◌-◌, ◌<◌, ◌≤◌, Bool, true, false, List, [], ◌∷◌, length, get_or, set, map, refl, sym, ap, subst, ◌∙◌, arith, Option, Some, None}
+use Rattle.std.proofs.Common.{◌≡◌, ◌≢◌, ℕ, ◌+◌, ◌<◌, Bool, true, false, List, [], ◌∷◌, length, get_or, set, refl, sym, ap, subst, ◌∙◌, arith, Option, Some, None}
 use Rattle.std.specs.Prelude.{slice_get, bit_or}
 use Rattle.std.specs.List.{AllByRecursion}
 use Rattle.std.proofs.lemmas.Option.{slice_get_within, slice_get_past, slice_get-get_or}
-use native.Mathlib.Decide.{dec_le, ℕ_discrete}
+use native.Mathlib.Decide.{ℕ_discrete}
 use mathlib.Core.Logic.{dite}
 use mathlib.Core.Option.{none, some}
 use lib.ListN.{get_elem?}
@@ -12,9 +12,8 @@ use Rattle.histories.specs.declared.account.Share.{Share}
 use Rattle.histories.specs.Account.{has_number, share_after}
 use Rattle.histories.proofs.AccountLemmas.{number_has}
 use Rattle.histories.proofs.ListLemmas.{all_weaker, all_map}
-use Rattle.sync_base.specs.Pipe.{PipeState, begun_of, next_write}
+use Rattle.sync_base.specs.Pipe.{begun_of}
 use Rattle.sync_base.specs.Write.{Write}
-use Rattle.sync_base.specs.declared.limits.TheConstants.{LAST_WRITE}
 use Rattle.block_queue.specs.declared.entry.Entry.{Entry}
 use Rattle.block_queue.specs.declared.entry.Entry.TheVariants as entry
 use Rattle.block_queue.specs.declared.places.TheConstants.{MARK}
@@ -23,12 +22,12 @@ use Rattle.block_queue.specs.declared.view.Stage.{Stage}
 use Rattle.block_queue.specs.declared.view.Stage.TheVariants.{Free, Looking, Moving}
 use Rattle.block_queue.specs.declared.view.View.{View}
 use Rattle.block_queue.specs.History.{QueueState, IsRight, seat_of, after_entry}
-use Rattle.block_queue.specs.Places.{Homes, AreWords, IsQueueState, tail_word, place_of, sequence_of, stored_word}
-use Rattle.block_queue.specs.Rule.{IsOneQueue, IsLooking, IsMoving, IsReader, FitsStage, FitsView, put_at, is_moving}
-use Rattle.block_queue.specs.Steps.{Seated, HasEntered, HasTakeTail, HasTakeSequence, HasFreed, HasHung, staged_view, saw_hangup}
+use Rattle.block_queue.specs.Places.{AreWords, IsQueueState, place_of, sequence_of, stored_word}
+use Rattle.block_queue.specs.Rule.{IsOneQueue, IsLooking, IsMoving, IsReader, FitsStage, put_at, is_moving}
+use Rattle.block_queue.specs.Steps.{Seated, HasTakeTail, HasTakeSequence, HasFreed, HasHung, staged_view, saw_hangup}
 use Rattle.block_queue.proofs.StateLemmas.{begun_is, hung_since}
 use Rattle.block_queue.proofs.WordMoves.{no_block, has_block, reader_takes, take_frees, hang_marks}
-use Rattle.block_queue.proofs.ViewMoves.{Grows, block_grows, hung_grows}
+use Rattle.block_queue.proofs.ViewMoves.{block_grows, hung_grows}
 use Rattle.block_queue.proofs.RuleMoves.{QueueTable, state_now, state_fits, own_ledger, own_view, owned_number, rule_stays, rule_enters, entry_told}
 use Rattle.block_queue.proofs.StepLemmas.{entered_view, loaded, no_puts, no_put_by, goes_on, refused_view, refusal_keeps, refusal_tells}
 
@@ -178,7 +177,7 @@ module _ (key : Key) (slots id : ℕ) (me : Seated) where
             table.takes (place_of key.limit me.0.taken) (Some next.0),
             home,
             loaded key t.words index (set t.homes (place_of key.limit me.0.taken) none) (set t.views id (staged_view (Moving next.0.writer next.0.bytes) me.0))
-                (rule_stays key t rule id me.0 at (staged_view (Moving next.0.writer next.0.bytes) me.0) true t.words (set t.homes (place_of key.limit me.0.taken) none) 0 own refl (λ other. absurd (other refl))
+                (rule_stays key t rule id me.0 at (staged_view (Moving next.0.writer next.0.bytes) me.0) true t.words (set t.homes (place_of key.limit me.0.taken) none) 0 own refl refl (λ other. absurd (other refl))
                 (subst (λ (n : ℕ). AreWords key.limit key.first s true t.words (set t.homes (place_of key.limit n) none)) (sym knows.taken)
                 (reader_takes key.limit key.first s rule.out t.words t.homes rule.some_room fits rule.words some_write))
                 record {
@@ -228,7 +227,7 @@ module _ (key : Key) (slots id : ℕ) (me : Seated) where
             (rule_enters key t rule id me.0 at (entry.Block write.writer write.bytes (key.first + me.0.taken + 1)) freed_view false
             (set t.words (sequence_of (place_of key.limit me.0.taken)) (stored_word key.limit me.0.taken + 1))
             (set t.homes (place_of key.limit me.0.taken) (some None))
-            own freed_right refl (block_grows key.first s write (key.first + me.0.taken + 1) moving.write_is moving.stored) (λ other. absurd (other refl))
+            own freed_right refl refl (block_grows key.first s write (key.first + me.0.taken + 1) moving.write_is moving.stored) (λ other. absurd (other refl))
             (subst (λ (n : ℕ). AreWords key.limit key.first (after_entry s (entry.Block write.writer write.bytes (key.first + me.0.taken + 1))) false (set t.words (sequence_of (place_of key.limit n)) (stored_word key.limit n + 1)) (set t.homes (place_of key.limit n) (some None))) (sym knows.taken)
             (take_frees key.limit key.first s rule.out t.words t.homes rule.some_room fits rule.words write.writer write.bytes (key.first + me.0.taken + 1) (slice_get_within s.pipe.accepted s.pipe.read_whole write moving.write_is)))
             record {
@@ -281,7 +280,7 @@ module _ (key : Key) (slots id : ℕ) (me : Seated) where
       hung_view,
       table.keeps,
       tt,
-      rule_enters key t rule id me.0 at (entry.Hung me.0.account.number) hung_view rule.out (set t.words 0 (bit_or (get_or t.words 0 0) MARK)) t.homes own hung_right refl
+      rule_enters key t rule id me.0 at (entry.Hung me.0.account.number) hung_view rule.out (set t.words 0 (bit_or (get_or t.words 0 0) MARK)) t.homes own hung_right refl refl
           (hung_grows key.first s₉ me.0.account.number) (λ other. refl)
           (hang_marks key.limit key.first s₉ rule.out t.words t.homes rule.some_room (state_fits key t rule id me.0 at) rule.words me.0.account.number)
           record {

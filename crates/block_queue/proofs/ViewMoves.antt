@@ -1,25 +1,22 @@
 -- What an entry of one seat leaves of what the others know: all of it.
-use Rattle.std.proofs.Common.{◌≡◌, ◌≢◌, ◌⊎◌, inl, inr, ⊎_elim, ℕ, ◌+◌, ◌<◌, ◌≤◌, Bool, true, false, List, [], ◌∷◌, ◌++◌, length, refl, sym, ap, subst, ◌∙◌, arith, length-append, eq-eqb, ne_eqb, Option, Some, None}
+use Rattle.std.proofs.Common.{◌≡◌, ◌≢◌, ℕ, ◌+◌, ◌<◌, ◌≤◌, Bool, List, [], ◌∷◌, length, refl, sym, ap, ◌∙◌, arith, length-append, Some, None}
 use Rattle.std.specs.Prelude.{slice_get}
-use Rattle.std.specs.List.{AllByRecursion}
 use native.Mathlib.Decide.{ℕ_discrete}
 use mathlib.Core.Logic.{dite}
 use Rattle.std.proofs.lemmas.Option.{slice_get_within}
 use Rattle.histories.specs.declared.account.Share.{Share}
-use Rattle.histories.specs.Account.{has_number}
 use Rattle.histories.specs.Ledger.{Ledger, IsOwned, FitsLedger}
 use Rattle.histories.proofs.ListLemmas.{all_both}
 use Rattle.histories.proofs.SeatsKeep.{number_is_owned}
 use Rattle.sync_base.specs.Write.{Write}
-use Rattle.sync_base.specs.declared.limits.TheConstants.{LAST_WRITE}
 use Rattle.block_queue.specs.declared.entry.Entry.{Entry}
-use Rattle.block_queue.specs.declared.entry.Entry.TheVariants.{Taken, Stood, Full, Hungup, Worn, Block, NotYet, End, Hung}
+use Rattle.block_queue.specs.declared.entry.Entry.TheVariants.{Taken, Stood, Block, Hung}
 use Rattle.block_queue.specs.declared.view.Stage.{Stage}
-use Rattle.block_queue.specs.declared.view.Stage.TheVariants.{Free, Counted, Placed, Storing, Looking, Moving, Joined}
+use Rattle.block_queue.specs.declared.view.Stage.TheVariants.{Free, Counted, Placed, Storing, Looking, Moving}
 use Rattle.block_queue.specs.declared.view.View.{View}
 use Rattle.block_queue.specs.History.{QueueState, seat_of, after_entry, with_put}
 use Rattle.block_queue.specs.Places.{IsUnstored}
-use Rattle.block_queue.specs.Rule.{IsCounted, IsPlaced, IsStoring, IsLooking, IsMoving, IsReader, FitsStage, FitsView, put_at}
+use Rattle.block_queue.specs.Rule.{FitsStage, FitsView, put_at}
 use Rattle.block_queue.proofs.WordMoves.{slice_get_snoc, put_else, put_here, same_some}
 
 -- what an entry by this number does to the state, as far as other seats rely on it
@@ -69,7 +66,6 @@ module _ (limit first : ℕ) (s s' : QueueState) (out out' : Bool) (ledger : Led
         write_is = ap (slice_get s'.pipe.accepted) read ∙ grows.kept s.pipe.read_whole write fits.write_is;
         stored = λ unstored. fits.stored (grows.stored s.pipe.read_whole write fits.write_is (unstored ∙ ap (λ (n : ℕ). Some (first + n + 1)) read));
       }
-  stage_fits Joined fits = tt
 
   pub others_fit : FitsView limit first s' out' (ledger.owner 0) seat view
   others_fit =

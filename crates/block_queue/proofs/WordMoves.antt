@@ -1,24 +1,23 @@
 -- What each step on the ring does to its words and slots: they stay those of the direction.
-use Rattle.std.proofs.Common.{◌≡◌, ◌≢◌, ◌⊎◌, inl, inr, ⊎_elim, ℕ, zero, suc, ◌+◌, ◌-◌, ◌*◌, ◌/◌, ◌%◌, ◌<◌, ◌≤◌, Bool, true, false, eqb, List, [], ◌∷◌, ◌++◌, length, get_or, set, refl, sym, ap, subst, ◌∙◌, arith, length-append, length-set, eq-eqb, ne_eqb, Option, Some, None}
-use Rattle.std.specs.Prelude.{slice_get, slice_index, bit_or, ◌^◌}
+use Rattle.std.proofs.Common.{◌≡◌, ◌≢◌, ◌⊎◌, inl, inr, ⊎_elim, ℕ, zero, suc, ◌+◌, ◌*◌, ◌/◌, ◌%◌, ◌<◌, ◌≤◌, Bool, true, false, List, [], ◌∷◌, ◌++◌, length, get_or, set, refl, sym, ap, subst, ◌∙◌, arith, length-append, length-set, eq-eqb, ne_eqb, Option, Some, None}
+use Rattle.std.specs.Prelude.{slice_get, bit_or, ◌^◌}
 use Rattle.std.specs.Int.Bits.{bit_and, or_add_and}
 use Rattle.std.proofs.lemmas.Nat.{mod_below}
 use Rattle.std.proofs.lemmas.Nat.Bits.{and_pow}
 use Rattle.std.proofs.lemmas.List.{get_or-set_other, get_or-set_same}
 use Rattle.std.proofs.lemmas.Option.{slice_get_within, slice_get_past}
-use native.Mathlib.Decide.{dec_le, ℕ_discrete}
+use native.Mathlib.Decide.{ℕ_discrete}
 use mathlib.Core.Logic.{dite}
 use mathlib.Core.Option.{none, some}
 use mathlib.Core.Option as maybe
 use lib.ListN.{get_elem?}
 use Rattle.atomic_table.proofs.Lists.{set_here, set_else}
-use Rattle.sync_base.specs.Pipe.{PipeState, next_write, begun_number}
+use Rattle.sync_base.specs.Pipe.{next_write, begun_number}
 use Rattle.sync_base.specs.Write.{Write}
-use Rattle.sync_base.specs.declared.limits.TheConstants.{LAST_WRITE}
 use Rattle.block_queue.specs.declared.places.TheConstants.{MARK}
 use Rattle.block_queue.specs.declared.entry.Entry.TheVariants.{Taken, Stood, Block, Hung}
 use Rattle.block_queue.specs.History.{QueueState, IsUnready, after_entry, with_put}
-use Rattle.block_queue.specs.Places.{Homes, IsPlace, AreWords, IsQueueState, IsUnstored, place_of, lap_of, sequence_of, free_word, stored_word, tail_word}
+use Rattle.block_queue.specs.Places.{Homes, IsPlace, AreWords, IsQueueState, IsUnstored, place_of, sequence_of, stored_word, tail_word}
 use Rattle.block_queue.proofs.StateLemmas.{begun_is}
 use Rattle.block_queue.proofs.PlaceLemmas.{accepted_or_free, unstored_or_stored, same_write, next_lap}
 

@@ -1,5 +1,5 @@
 -- What each answer of a queue tells of the one history.
-use Rattle.std.specs.Prelude.{◌≡◌, ◌≢◌, ℕ, ◌+◌, List, true, false, ⊤, None}
+use Rattle.std.specs.Prelude.{◌≡◌, ◌≢◌, ℕ, List, true, false, ⊤, None}
 use Rattle.histories.specs.declared.account.Account.{Account}
 use Rattle.sync_base.specs.Pipe.{next_write}
 use Rattle.block_queue.specs.declared.answers.PutAnswer.{PutAnswer}

@@ -1,9 +1,10 @@
 -- What is left of a queue when all its seats are gathered.
-use Rattle.std.specs.Prelude.{◌≡◌, ◌==◌, ◌+◌, ◌-◌, ◌≤◌, ◌||◌, ℕ, true, None, List, [], ◌∷◌, map, length, IsTrue}
+use Rattle.std.specs.Prelude.{◌≡◌, ◌==◌, ◌+◌, ◌-◌, ◌≤◌, ◌||◌, ℕ, true, None}
+use Rattle.std.specs.Prelude.{List, [], ◌∷◌, map, length, drop, IsTrue}
 use Rattle.std.specs.List.{AllByRecursion, list_any}
 use Rattle.histories.specs.declared.account.Account.{Account}
-use Rattle.histories.specs.declared.account.Share.{Share}
 use Rattle.histories.specs.Account.{HasAllNumbers, HasItsEntries, has_number}
+use Rattle.histories.specs.History.{IsPast, IsHistory}
 use Rattle.sync_base.specs.Pipe.{begun_number}
 use Rattle.sync_base.specs.Write.{Write}
 use Rattle.block_queue.specs.declared.entry.Entry.{Entry}
@@ -12,8 +13,9 @@ use Rattle.block_queue.specs.declared.gather.Gathered.{Gathered}
 use Rattle.block_queue.specs.declared.seats.PutSeat.{PutSeat}
 use Rattle.block_queue.specs.declared.seats.TakeSeat.{TakeSeat}
 use Rattle.block_queue.specs.declared.view.Key.{Key}
-use Rattle.block_queue.specs.History.{seat_of}
-use Rattle.block_queue.specs.Meaning.{KnowsQueue, queue_after}
+use Rattle.block_queue.specs.declared.view.View.{View}
+use Rattle.block_queue.specs.History.{seat_of, opening_state}
+use Rattle.block_queue.specs.Meaning.{KnowsQueue, queue_after, queue_meaning}
 use Rattle.block_queue.specs.Seats.{put_account, take_account}
 
 -- the numbers of these writers
@@ -37,6 +39,22 @@ abbrev pub AreTheirs : List Entry → List PutSeat → Type 0
 AreTheirs history puts =
     AllByRecursion (λ seat. AllByRecursion (HasItsEntries seat_of history) (put_account seat).shares)
     puts
+
+-- what these seats have seen are pasts of the history
+abbrev pub AreTheirPasts : List Entry → List PutSeat → Type 0
+AreTheirPasts history puts = AllByRecursion (λ seat. IsPast (put_account seat).seen history) puts
+
+-- what the seat has seen, and what was seen before each join, are pasts of the history
+pub record SawPasts (history : List Entry) (view : View) : Type 0 where
+  pub seen : IsPast view.account.seen history
+  pub before : AllByRecursion (λ past. IsPast past history) view.pasts
+
+-- whose pasts are told by what one seat saw, which was joined with all but the rest
+pub record TellsPasts (puts : List PutSeat) (old : View) (rest : List PutSeat) (now : View) :
+    Type 0 where
+  pub reader : (history : List Entry) → SawPasts history now → IsPast old.account.seen history
+  pub writers : (history : List Entry) → SawPasts history now → AreTheirPasts history rest →
+      AreTheirPasts history puts
 
 -- one seat of the reader and of those that are not among these
 pub record IsJoining (puts : List PutSeat) (old : Account Entry) (rest : List PutSeat)
@@ -85,13 +103,20 @@ pub record Empties (key : Key) (left : ℕ) (old new : Account Entry) (blocks : 
       with_blocks (begun_number key.first (queue_after key old.seen).pipe) blocks old.seen
   pub none : IsLeft key new 0
 
--- what was gathered: one legal history of all seats ends with takes of these blocks, and then
--- nothing is left
+-- what was gathered: there is one legal history of all seats, of which each has seen a past and
+-- in which its entries stand once each; it goes on with takes of these blocks, and then nothing is
+-- left
 pub record Gathers (key : Key) (take : TakeSeat) (puts : List PutSeat) (gathered : Gathered) :
     Type 0 where
   pub history : List Entry
+  pub legal : IsHistory (queue_meaning key.first) (opening_state key.limit) (key.writers + 1) history
+  pub past : IsPast (take_account take).seen history
   pub mine : AllByRecursion (HasItsEntries seat_of history) (take_account take).shares
+  pub puts_past : AreTheirPasts history puts
   pub puts_mine : AreTheirs history puts
+  -- the blocks are those that the history leaves
+  pub blocks_are : gathered.blocks.items ≡
+      drop (queue_after key history).pipe.read_whole (queue_after key history).pipe.accepted
   pub final : Account Entry
   pub final_is : final.seen ≡ with_blocks
       (begun_number key.first (queue_after key history).pipe) gathered.blocks.items history

@@ -1,6 +1,8 @@
 -- What the steps of a gather tell the seat that gathers.
 use Rattle.std.specs.Prelude.{◌≡◌, ℕ, ◌≤◌, List, None}
+use Rattle.std.specs.List.{AllByRecursion}
 use Rattle.histories.specs.Account.{HasAllNumbers}
+use Rattle.histories.specs.History.{IsPast}
 use Rattle.sync_base.specs.declared.limits.TheConstants.{LAST_WRITE}
 use Rattle.block_queue.specs.declared.entry.Entry.{Entry}
 use Rattle.block_queue.specs.declared.view.Key.{Key}
@@ -15,6 +17,8 @@ pub record KnowsState (key : Key) (view : View) (found : ℕ) (history : List En
   pub taken : view.taken ≡ (queue_after key history).pipe.read_whole
   pub puts : (number : ℕ) → (queue_after key history).putting number ≡ None
   pub given : key.first ≤ LAST_WRITE
+  -- so are the histories that the seats had seen which were joined
+  pub pasts : AllByRecursion (λ past. IsPast past history) view.pasts
 
 -- Survey: a seat that has all the numbers has seen the whole history, and the tail tells its state
 pub record HasSurveyed (key : Key) (before : Seated) (found : ℕ) (after : Seated) : Type 0 where

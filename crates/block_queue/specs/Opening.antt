@@ -1,5 +1,5 @@
 -- What a new queue is, and its seats.
-use Rattle.std.specs.Prelude.{◌≡◌, ◌⊎◌, ℕ, ◌+◌, ◌-◌, ◌<◌, ◌≤◌, List, [], ◌∷◌, map, length, slice_get, Some}
+use Rattle.std.specs.Prelude.{◌≡◌, ◌⊎◌, ℕ, ◌+◌, ◌-◌, ◌<◌, List, [], ◌∷◌, map, length, slice_get, Some}
 use Rattle.histories.specs.declared.account.Account.{Account}
 use Rattle.histories.specs.Account.{unused_share, numbers_from}
 use Rattle.sync_base.specs.declared.limits.TheConstants.{MAX_PIPE_LIMIT, MAX_WRITERS}
@@ -7,7 +7,6 @@ use Rattle.block_queue.specs.declared.entry.Entry.{Entry}
 use Rattle.block_queue.specs.declared.opening.Opened.{Opened}
 use Rattle.block_queue.specs.declared.queue.Queue.{Queue}
 use Rattle.block_queue.specs.declared.seats.PutSeat.{PutSeat}
-use Rattle.block_queue.specs.declared.seats.TakeSeat.{TakeSeat}
 use Rattle.block_queue.specs.declared.view.Key.{Key}
 use Rattle.block_queue.specs.declared.view.Stage.TheVariants.{Free}
 use Rattle.block_queue.specs.declared.view.View.{View}
@@ -39,6 +38,7 @@ handing_view writers done =
       };
       taken = 0;
       stage = Free;
+      pasts = [];
     }
 
 -- the seat of this writer, of a new queue

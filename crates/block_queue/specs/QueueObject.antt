@@ -1,10 +1,8 @@
 -- The sequential queue of blocks: what it keeps, what it answers, and what it leaves.
-use Rattle.std.specs.Prelude.{◌≡◌, ◌==◌, ◌+◌, ◌<◌, ◌≤◌, ℕ, Bool, true, false, nat_lt, if◌then◌else◌}
+use Rattle.std.specs.Prelude.{◌==◌, ◌+◌, ℕ, Bool, true, false, nat_lt, if◌then◌else◌}
 use Rattle.std.specs.Prelude.{List, [], ◌∷◌, ◌++◌, length, drop, Option, Some, None}
 use Rattle.sync_base.specs.Write.{Write}
 use Rattle.sync_base.specs.declared.limits.TheConstants.{LAST_WRITE, MAX_WRITERS}
-use Rattle.block_queue.specs.declared.entry.Entry.{Entry}
-use Rattle.block_queue.specs.declared.entry.Entry.TheVariants as entry
 use Rattle.block_queue.specs.declared.queue_object.QueueCall.{QueueCall}
 use Rattle.block_queue.specs.declared.queue_object.QueueCall.TheVariants.{Put, Take, Hang}
 use Rattle.block_queue.specs.declared.queue_object.QueueReply.{QueueReply}

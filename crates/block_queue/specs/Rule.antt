@@ -1,6 +1,6 @@
 -- The rule of the ring's table, which holds between any two atomic steps.
 use Rattle.std.specs.Prelude.{◌≡◌, ℕ, ◌+◌, ◌<◌, ◌≤◌, ◌==◌, Bool, true, false, if◌then◌else◌}
-use Rattle.std.specs.Prelude.{List, length, slice_get, Option, Some, None, ⊤, IsTrue}
+use Rattle.std.specs.Prelude.{List, [], length, slice_get, Option, Some, None, ⊤, IsTrue}
 use Rattle.std.specs.List.{AllByRecursion}
 use mathlib.Core.Option.{some}
 use lib.ListN.{get_elem?}
@@ -8,7 +8,7 @@ use Rattle.atomic_table.specs.Table as table
 use Rattle.histories.specs.declared.account.Account.{Account}
 use Rattle.histories.specs.declared.account.Share.{Share}
 use Rattle.histories.specs.Account.{has_number, first_account, spent_account}
-use Rattle.histories.specs.History.{IsLegal}
+use Rattle.histories.specs.History.{IsLegal, IsPast}
 use Rattle.histories.specs.Ledger.{Ledger, AreSeats}
 use Rattle.sync_base.specs.Write.{Write}
 use Rattle.sync_base.specs.declared.limits.TheConstants.{LAST_WRITE}
@@ -16,7 +16,7 @@ use Rattle.block_queue.specs.declared.entry.Entry.{Entry}
 use Rattle.block_queue.specs.declared.view.Key.{Key}
 use Rattle.block_queue.specs.declared.view.Stage.{Stage}
 use Rattle.block_queue.specs.declared.view.Stage.TheVariants.{Free, Counted, Placed, Storing}
-use Rattle.block_queue.specs.declared.view.Stage.TheVariants.{Looking, Moving, Joined}
+use Rattle.block_queue.specs.declared.view.Stage.TheVariants.{Looking, Moving}
 use Rattle.block_queue.specs.declared.view.View.{View}
 use Rattle.block_queue.specs.History.{QueueState, seat_of, opening_state}
 use Rattle.block_queue.specs.Meaning.{queue_meaning, queue_after}
@@ -27,10 +27,11 @@ account_of view = view.account
 
 -- the first seat of a queue, and one that was spent in a join
 abbrev pub first_view : Key → View
-first_view key = record { account = first_account key.writers; taken = 0; stage = Free }
+first_view key =
+    record { account = first_account key.writers; taken = 0; stage = Free; pasts = [] }
 
 abbrev pub spent_view : View
-spent_view = record { account = spent_account; taken = 0; stage = Free }
+spent_view = record { account = spent_account; taken = 0; stage = Free; pasts = [] }
 
 -- whether the seat has the slot of the next block
 abbrev pub is_moving : Stage → Bool
@@ -40,7 +41,6 @@ is_moving (Placed count) = false
 is_moving (Storing count writer block) = false
 is_moving (Looking found) = false
 is_moving (Moving writer block) = true
-is_moving Joined = false
 
 -- the seat is between the two loads of a take
 abbrev pub IsStageLooking : Stage → Type 0
@@ -55,7 +55,6 @@ put_at first (Storing count writer block) number =
     if number == writer + 1 then Some (first + count + 1) else None
 put_at first (Looking found) number = None
 put_at first (Moving writer block) number = None
-put_at first Joined number = None
 
 -- a put that saw so many writes accepted: there are no fewer, and one more has a number
 pub record IsCounted (first : ℕ) (s : QueueState) (count : ℕ) : Type 0 where
@@ -95,7 +94,6 @@ FitsStage limit first s shares reader seat (Storing count writer block) =
 FitsStage limit first s shares reader seat (Looking found) = IsLooking s reader seat found
 FitsStage limit first s shares reader seat (Moving writer block) =
     IsMoving first s reader seat (record { writer = writer; bytes = block })
-FitsStage limit first s shares reader seat Joined = ⊤
 
 -- the reader knows how many blocks were taken out, and has the slot of the next where it is out
 pub record IsReader (s : QueueState) (out : Bool) (view : View) : Type 0 where
@@ -111,7 +109,8 @@ pub record FitsView (limit first : ℕ) (s : QueueState) (out : Bool) (reader se
   pub stage : FitsStage limit first s view.account.shares reader seat view.stage
 
 -- the rule: one legal history, which each seat has seen in part and in which its own entries stand
--- once; the words and slots are what that history leaves; and each seat's stage fits
+-- once; the words and slots are what that history leaves; each seat's stage fits; and what the
+-- seats had seen that were joined into it are pasts of that history
 pub record IsOneQueue (key : Key) (t : table.State (Option Write) View) : Type 0 where
   pub ledger : Ledger Entry
   -- whether the slot of the next block is out with the reader
@@ -124,3 +123,5 @@ pub record IsOneQueue (key : Key) (t : table.State (Option Write) View) : Type 0
   pub seats : AreSeats seat_of account_of ledger t.views
   pub views : (seat : ℕ) (view : View) → get_elem? t.views seat ≡ some view →
       FitsView key.limit key.first (queue_after key ledger.history) out (ledger.owner 0) seat view
+  pub pasts : (seat : ℕ) (view : View) → get_elem? t.views seat ≡ some view →
+      AllByRecursion (λ past. IsPast past ledger.history) view.pasts

@@ -73,6 +73,11 @@ pub record IsTakeSeatOf (queue : Queue) (seat : TakeSeat) : Type 0 where
   pub stage : (take_view seat).stage ≡ Free
   pub taken : seat.taken ≡ (take_view seat).taken
 
+-- a call leaves a seat its number, and it gives none away
+pub record IsSameSeat (old new : Account Entry) : Type 0 where
+  pub number : new.number ≡ old.number
+  pub gave : new.gave ≡ old.gave
+
 -- what was fixed when the queue was made
 abbrev pub key_of : Queue → Key
 key_of queue = queue.key

@@ -143,6 +143,7 @@ handed_view view =
       account = handed_account (second_share view.account.shares) view.account;
       taken = 0;
       stage = Free;
+      pasts = [];
     }
 
 -- the seat has a number to hand over
@@ -162,4 +163,5 @@ joined_view first second =
       account = joined_account first.account second.account;
       taken = first.taken;
       stage = Free;
+      pasts = first.account.seen ∷ second.account.seen ∷ first.pasts;
     }

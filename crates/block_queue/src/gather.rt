@@ -4,7 +4,14 @@ ghost use Rattle.std.specs.Prelude.{◌≡◌, ◌+◌, ◌<◌, ◌≤◌, [], 
 ghost use Rattle.std.specs.Vec.{vec_capacity};
 ghost use Rattle.std.specs.List.{AllByRecursion};
 ghost use Rattle.block_queue.specs.declared.view.Stage.TheVariants.{Free};
-ghost use Rattle.block_queue.specs.Gather.{AreAllSeats, Gathers, HasJoined, Empties, IsLeft};
+ghost use Rattle.block_queue.specs.Gather.{
+  AreAllSeats,
+  Gathers,
+  HasJoined,
+  TellsPasts,
+  Empties,
+  IsLeft,
+};
 ghost use Rattle.block_queue.specs.GatherSteps.{HasSurveyed};
 ghost use Rattle.block_queue.specs.Seats.{
   IsFreePlaceOf,
@@ -29,10 +36,12 @@ use std::alloc::Global;
 use std::marker::Brand;
 use sync_base::NoProbe;
 
-/// What is left of a queue: the blocks that stand, the oldest first, and whether it is hung up.
+/// What is left of a queue.
 #[derive(Drop)]
 pub struct Gathered {
+    /// The blocks that were not taken out, each with its writer, the oldest first.
     pub blocks: Vec<StoredBlock>,
+    /// Whether the queue was hung up.
     pub hung: bool,
 }
 
@@ -81,6 +90,7 @@ impl Queue {
         ensures place { IsFreePlaceOf self.now place.new 0 }
         ensures taken { place.new.me.0.taken ≡ place.old.me.0.taken }
         ensures joined { HasJoined puts.items place.old.me.0.account place.new.me.0.account }
+        ensures pasts { TellsPasts puts.items place.old.me.0 [] place.new.me.0 }
     {
         'joining: while let Some(seat) = puts.pop() {
             let PutSeat { badge, writer: _ } = seat;

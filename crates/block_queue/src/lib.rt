@@ -26,5 +26,5 @@ pub use answers::{PutAnswer, TakeAnswer};
 pub use gather::{Gathered, Ungathered};
 pub use opening::Opened;
 pub use queue::Queue;
-pub use queue_object::QueueObject;
+pub use queue_object::{QueueObject, StoredBlock};
 pub use seats::{PutSeat, TakeSeat};

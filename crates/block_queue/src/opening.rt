@@ -7,6 +7,7 @@ ghost use Rattle.sync_base.specs.declared.limits.TheConstants.{
   MAX_PIPE_LIMIT,
   MAX_WRITERS,
 };
+ghost use Rattle.block_queue.specs.Gather.{AreAllSeats};
 ghost use Rattle.block_queue.specs.Opening.{Opens, AreNewPutSeats, IsBadQueue, handing_view};
 ghost use Rattle.block_queue.specs.Seats.{IsSamePlace};
 ghost use Rattle.block_queue.specs.Steps.{HasToHand, keeper_view, handed_view};
@@ -48,6 +49,7 @@ impl Queue {
 
         // Otherwise a queue in which nothing was called.
         ensures opened { IfOk result (Opens (record { limit = limit; first = 0; writers = writers })) }
+        ensures all { IfOk result (λ opened. AreAllSeats opened.take opened.puts.items) }
     {
         Queue::new_from(alloc, limit, writers, 0)
     }
@@ -68,6 +70,7 @@ impl Queue {
         ensures first { IfOk result (λ _. first ≤ LAST_WRITE) }
         ensures opened { IfOk result
             (Opens (record { limit = limit; first = first; writers = writers })) }
+        ensures all { IfOk result (λ opened. AreAllSeats opened.take opened.puts.items) }
     {
         if limit == 0 || limit > MAX_PIPE_LIMIT || writers == 0 || writers > MAX_WRITERS {
             return Err(Fault::BadSize);

@@ -8,6 +8,7 @@ ghost use Rattle.block_queue.specs.Seats.{
   IsPlaceOf,
   IsPutSeatOf,
   IsSamePlace,
+  IsSameSeat,
   key_of,
   put_account,
 };
@@ -46,6 +47,7 @@ impl Queue {
         requires seat { IsPutSeatOf self.now seat.old }
         ensures seat { IsPutSeatOf self.now seat.new }
         ensures writer { seat.new.writer ≡ seat.old.writer }
+        ensures same { IsSameSeat (put_account seat.old) (put_account seat.new) }
 
         // Its entry ends what the seat has seen, and stands in one legal history.
         ensures answer { Puts (key_of self.now) seat.old.writer block
@@ -66,6 +68,7 @@ impl Queue {
         requires seat { IsPutSeatOf self.now seat.old }
         ensures seat { IsPutSeatOf self.now seat.new }
         ensures writer { seat.new.writer ≡ seat.old.writer }
+        ensures same { IsSameSeat (put_account seat.old) (put_account seat.new) }
 
         // Its entry ends what the seat has seen, and stands in one legal history.
         ensures answer { Puts (key_of self.now) seat.old.writer block

@@ -16,8 +16,10 @@ use sync_base::{Fault, Piece};
 /// A block that stands in a queue, and who wrote it.
 #[derive(Drop)]
 pub struct StoredBlock {
-    pub(crate) writer: u64,
-    pub(crate) block: Piece,
+    /// The number of its writer, from 0 on.
+    pub writer: u64,
+    /// Its bytes, whole.
+    pub block: Piece,
 }
 
 impl Model for StoredBlock {

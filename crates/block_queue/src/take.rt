@@ -7,6 +7,7 @@ ghost use Rattle.block_queue.specs.Seats.{
   IsFreePlaceOf,
   IsPutSeatOf,
   IsTakeSeatOf,
+  IsSameSeat,
   key_of,
   put_account,
   take_account,
@@ -41,6 +42,7 @@ impl Queue {
     pub fn take(&self, seat: &mut TakeSeat) -> TakeAnswer
         requires seat { IsTakeSeatOf self.now seat.old }
         ensures seat { IsTakeSeatOf self.now seat.new }
+        ensures same { IsSameSeat (take_account seat.old) (take_account seat.new) }
 
         // Its entry ends what the seat has seen, and stands in one legal history.
         ensures answer { Takes (key_of self.now) (take_account seat.old) (take_account seat.new) result }
@@ -53,6 +55,7 @@ impl Queue {
     pub fn take_probed<P: Probe>(&self, seat: &mut TakeSeat, probe: &mut P) -> TakeAnswer
         requires seat { IsTakeSeatOf self.now seat.old }
         ensures seat { IsTakeSeatOf self.now seat.new }
+        ensures same { IsSameSeat (take_account seat.old) (take_account seat.new) }
 
         // Its entry ends what the seat has seen, and stands in one legal history.
         ensures answer { Takes (key_of self.now) (take_account seat.old) (take_account seat.new) result }
@@ -104,6 +107,7 @@ impl Queue {
         requires seat { IsPutSeatOf self.now seat.old }
         ensures seat { IsPutSeatOf self.now seat.new }
         ensures writer { seat.new.writer ≡ seat.old.writer }
+        ensures same { IsSameSeat (put_account seat.old) (put_account seat.new) }
         ensures hung { Enters (key_of self.now) (Hung (seat.old.writer + 1))
             (put_account seat.old) (put_account seat.new) }
     {
@@ -117,6 +121,7 @@ impl Queue {
     pub fn hang_take(&self, seat: &mut TakeSeat)
         requires seat { IsTakeSeatOf self.now seat.old }
         ensures seat { IsTakeSeatOf self.now seat.new }
+        ensures same { IsSameSeat (take_account seat.old) (take_account seat.new) }
         ensures hung { Enters (key_of self.now) (Hung 0)
             (take_account seat.old) (take_account seat.new) }
     {

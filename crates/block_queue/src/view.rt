@@ -2,6 +2,7 @@
 //! No value of a stage or a view is ever made: contracts alone see them, and they take no memory.
 use crate::entry::Entry;
 use histories::Account;
+use std::collections::LinkedList;
 use sync_base::Piece;
 
 /// What is fixed when a queue is made.
@@ -34,8 +35,6 @@ pub enum Stage {
         writer: u64,
         block: Piece,
     },
-    /// It was joined with a seat that had seen this, and has yet to look at the history.
-    Joined,
 }
 
 /// What a seat knows.
@@ -44,4 +43,6 @@ pub struct View {
     /// How many blocks the reader has taken out.
     pub taken: u64,
     pub stage: Stage,
+    /// What each seat had seen that was joined into this one, and this one before each join.
+    pub pasts: LinkedList<LinkedList<Entry>>,
 }

@@ -1,2 +1,4 @@
 pub mod PartLemmas
 pub mod LawLemmas
+pub mod RoundLemmas
+pub mod CallLemmas

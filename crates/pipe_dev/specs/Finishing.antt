@@ -11,6 +11,9 @@ use Rattle.block_queue.specs.declared.entry.Entry.TheVariants.{Taken}
 use Rattle.block_queue.specs.declared.view.Key.{Key}
 use Rattle.block_queue.specs.History.{seat_of, opening_state}
 use Rattle.block_queue.specs.Meaning.{queue_meaning, queue_after}
+use Rattle.block_queue.specs.Seats.{key_of}
+use Rattle.pipe_dev.specs.declared.closing.Held.{Held}
+use Rattle.pipe_dev.specs.Ends.{ReadSide, WriteSide, reading_of}
 use Rattle.pipe_dev.specs.Parts.{Part}
 use Rattle.pipe_dev.specs.Reading.{Reading}
 
@@ -24,6 +27,15 @@ pub record Holdings : Type 0 where
 abbrev pub rest_bytes : Option Part → List ℕ
 rest_bytes None = []
 rest_bytes (Some rest) = rest.bytes
+
+abbrev pub holdings_of : Held → Holdings
+holdings_of held =
+    record { rest = held.rest; writes = held.writes.items; hung = held.hung }
+
+-- the numbers of the write ends, each with its entries
+abbrev pub shares_of : List WriteSide → List (Share Entry)
+shares_of [] = []
+shares_of (write ∷ writes) = write.account.shares ++ shares_of writes
 
 -- the writes that a writer's entries say were accepted, the oldest first
 abbrev pub accepted_in : List Entry → List (List ℕ)
@@ -48,3 +60,9 @@ pub record Finishes (key : Key) (reading : Reading) (writers : List (Share Entry
   pub rest : held.rest ≡ rest_bytes reading.rest
   pub writes : held.writes ≡ drop (left_state key history).read_whole (left_state key history).accepted
   pub hung : held.hung ≡ (left_state key history).hung
+
+-- what a finish gave is what such ends hold, whatever parts the read end has read
+abbrev pub GivesHeld : ReadSide → List WriteSide → Held → Type 0
+GivesHeld read writes held =
+    (parts : List Part)
+    → Finishes (key_of read.queue) (reading_of read parts) (shares_of writes) (holdings_of held)

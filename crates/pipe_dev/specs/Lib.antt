@@ -1,4 +1,14 @@
 pub mod Parts
 pub mod Reading
+pub mod Rendezes
+pub mod Ends
+pub mod Openings
+pub mod Rounds
+pub mod ReadCalls
+pub mod WriteCalls
+pub mod ReadSteps
+pub mod WriteSteps
+pub mod Ways
+pub mod Seating
 pub mod Finishing
 pub mod Laws

@@ -1,4 +1,31 @@
 //! Two-way pipes between processes, after pipe(2) and pipe(3).
+//! Read `row`, `waking`; `begun`, `hand`, `answers`; `read_end`, `reading`; `write_end`, `writing`,
+//! `write_long`; `hanging`; `pipe`, `end`; `closing`; and then `laws`, the headline.
 #![tactic(auto)]
 
+pub mod answers;
+pub mod begun;
+pub mod closing;
+pub mod end;
+mod hand;
+mod hanging;
 pub mod laws;
+pub mod pipe;
+pub mod read_end;
+mod reading;
+pub mod row;
+mod waking;
+pub mod write_end;
+mod write_long;
+mod writing;
+
+pub use answers::{Long, ReadAnswer, TryAnswer};
+pub use block_queue::StoredBlock;
+pub use closing::{Held, Unfinished, finish};
+pub use end::{End, Ends, Parts};
+pub use pipe::{Opened, Pipe, PipeStart};
+pub use read_end::ReadEnd;
+pub use write_end::WriteEnd;
+
+#[cfg(test)]
+mod tests;

@@ -1,4 +1,4 @@
-use Rattle.std.proofs.Common.{◌≡◌, ◌<◌, ◌-◌, ◌+◌, length, sym, subst, ◌∙◌, arith}
+use Rattle.std.proofs.Common.{◌<◌, ◌-◌, length, sym, subst, arith}
 use Rattle.block_queue.specs.Gather.{IsEmptying}
 use Rattle.block_queue.proofs.GatherLemmas.{one_emptied, not_ended, not_waiting}
 use Rattle.block_queue.proofs.queue.Queue.empty.Goals as goal

@@ -2,10 +2,16 @@ use Rattle.std.proofs.Common.{sym, ap, subst, ◌∙◌, arith, ◌≡◌, ◌�
 use Rattle.std.specs.List.{AllByRecursion}
 use Rattle.histories.specs.Account.{HasItsEntries}
 use Rattle.block_queue.specs.declared.places.TheConstants.{MARK}
-use Rattle.block_queue.specs.Gather.{IsLeft, Empties}
+use Rattle.block_queue.specs.Gather.{IsLeft, Empties, SawPasts}
+use Rattle.block_queue.specs.Meaning.{queue_after}
 use Rattle.block_queue.specs.History.{seat_of}
 use Rattle.block_queue.specs.Seats.{head_view}
-use Rattle.block_queue.proofs.GatherLemmas.{taken_within, left_within, is_left, hung_is}
+use Rattle.block_queue.proofs.GatherLemmas.{taken_within, left_within, is_left, hung_is, blocks_left}
+use Rattle.histories.proofs.ListLemmas.{past_refl}
+use Rattle.histories.specs.History.{IsPast, IsLegal}
+use Rattle.block_queue.specs.Meaning.{queue_meaning}
+use Rattle.block_queue.specs.History.{opening_state}
+use Rattle.std.proofs.Common.{length}
 use Rattle.block_queue.proofs.queue.Queue.gather.Goals as goal
 
 pub overflow_sub-accepted : goal.overflow_sub-accepted
@@ -44,10 +50,21 @@ returns-clause-gathered c =
     let known = ap head_view c.into_seat-place.ensures.2 in
     let all = c.join_all.ensures.joined.all (ap (λ view. view.account.gave) (sym known) ∙ c.requires.all.order) in
     let told = c.survey-tail.ensures.told in
-    let history = c.join_all.new.place.me.0.account.seen in
+    let saw : SawPasts c.join_all.new.place.me.0.account.seen c.join_all.new.place.me.0 =
+    record { seen = past_refl _; before = (told.alone all).pasts } in
     let emptied = subst (λ me. Empties c.args.self.now.key (c.survey-tail.result % MARK - c.args.take.taken) me.0.account c.empty.new.place.me.0.account c.empty.new.blocks.items) told.same c.empty.ensures.emptied in
     record {
       history = c.join_all.new.place.me.0.account.seen;
+      legal = told.knows.history;
+      past = subst (λ view. IsPast view.account.seen c.join_all.new.place.me.0.account.seen)
+          (sym known) (c.join_all.ensures.pasts.reader _ saw);
+      puts_past = c.join_all.ensures.pasts.writers _ saw tt;
+      blocks_are = blocks_left c.args.self.now.key _ _ _
+          (subst (IsLegal (queue_meaning c.args.self.now.key.first) (opening_state c.args.self.now.key.limit))
+          emptied.seen emptied.none.knows.history.legal)
+          (subst (λ history. length (queue_after c.args.self.now.key history).pipe.accepted ≡
+          (queue_after c.args.self.now.key history).pipe.read_whole) emptied.seen
+          (omega (arith, emptied.none.left_is)));
       mine = subst (λ view. AllByRecursion (HasItsEntries seat_of c.join_all.new.place.me.0.account.seen) view.account.shares) (sym known)
           (c.join_all.ensures.joined.theirs c.join_all.new.place.me.0.account.seen told.knows.mine);
       puts_mine = c.join_all.ensures.joined.puts_theirs c.join_all.new.place.me.0.account.seen told.knows.mine;

@@ -1,7 +1,4 @@
-use Rattle.std.proofs.Common.{arith, subst}
-use Rattle.atomic_table.specs.Table as table
-use Rattle.block_queue.specs.Rule.{IsOneQueue}
-use Rattle.block_queue.specs.Steps.{keeper_view, handed_view}
+use Rattle.std.proofs.Common.{arith}
 use Rattle.block_queue.proofs.HandKeeps.{hand_keeps}
 use Rattle.block_queue.proofs.queue.Queue.hand.Goals as goal
 

@@ -1,5 +1,5 @@
-use Rattle.std.proofs.Common.{◌≡◌, ◌<◌, [], ◌∷◌, arith, sym, ap, subst, ◌∙◌, ◌+◌}
-use Rattle.block_queue.specs.Opening.{AreNewPutSeats, handing_view}
+use Rattle.std.proofs.Common.{[], arith, sym, ap, subst, ◌∙◌, ◌+◌}
+use Rattle.block_queue.specs.Opening.{AreNewPutSeats}
 use Rattle.block_queue.specs.Steps.{keeper_view, handed_view}
 use Rattle.block_queue.proofs.OpeningLemmas.{next_to_hand, handed_on, new_put_seat, one_more_seat}
 use Rattle.block_queue.proofs.queue.Queue.hand_seats.Goals as goal

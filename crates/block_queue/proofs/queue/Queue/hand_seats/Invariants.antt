@@ -1,5 +1,5 @@
 -- so many writers have their seats
-use Rattle.std.proofs.Common.{◌≡◌, ◌≤◌, [], length}
+use Rattle.std.proofs.Common.{◌≡◌, ◌≤◌, []}
 use Rattle.std.specs.Vec.{vec_capacity}
 use Rattle.block_queue.specs.Opening.{AreNewPutSeats, handing_view}
 use Rattle.block_queue.proofs.queue.Queue.hand_seats.Given as goal

@@ -1,5 +1,6 @@
-use Rattle.std.proofs.Common.{subst, sym, ◌∙◌, ◌+◌, ◌<◌}
-use Rattle.block_queue.specs.Seats.{IsFreePlaceOf}
+use Rattle.std.proofs.Common.{ap, subst, sym, ◌∙◌, ◌+◌, ◌<◌}
+use Rattle.block_queue.specs.Seats.{IsFreePlaceOf, head_view}
+use Rattle.block_queue.proofs.AllSeatsLemmas.{sat_same, enters_same}
 use Rattle.block_queue.proofs.SeatLemmas.{sits_put}
 use Rattle.block_queue.proofs.queue.Queue.hang_put.Goals as goal
 
@@ -10,3 +11,9 @@ returns-clause-seat c =
     (subst (λ n. n < c.args.self.now.key.writers) (sym writer) c.requires.seat.writer_is)
     (subst (λ n. IsFreePlaceOf c.args.self.now c.hang.new.place (n + 1)) (sym c.sit.ensures.writer) c.hang.ensures.place)
     c.sit.ensures.table c.sit.ensures.views
+
+pub returns-clause-same : goal.returns-clause-same
+returns-clause-same c =
+    sat_same _ _ _ _ (ap (λ me. me.0.account) c.stand-place.ensures.place)
+    (ap (λ views. (head_view views).account) c.sit.ensures.views)
+    (enters_same _ _ _ _ c.hang.ensures.hung)

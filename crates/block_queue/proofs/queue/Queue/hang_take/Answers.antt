@@ -1,4 +1,6 @@
 use Rattle.std.proofs.Common.{ap, sym, ◌∙◌}
+use Rattle.block_queue.specs.Seats.{head_view}
+use Rattle.block_queue.proofs.AllSeatsLemmas.{sat_same, enters_same}
 use Rattle.block_queue.proofs.SeatLemmas.{sits_take}
 use Rattle.block_queue.proofs.queue.Queue.hang_take.Goals as goal
 
@@ -6,3 +8,9 @@ pub returns-clause-seat : goal.returns-clause-seat
 returns-clause-seat c =
     sits_take c.args.self.now c.sit.new.self c.hang.new.place c.hang.ensures.place c.sit.ensures.table c.sit.ensures.views
     (c.sit.ensures.taken ∙ c.stand-place.ensures.taken ∙ c.requires.seat.taken ∙ sym (ap (λ me. me.0.taken) c.stand-place.ensures.place) ∙ sym c.hang.ensures.taken)
+
+pub returns-clause-same : goal.returns-clause-same
+returns-clause-same c =
+    sat_same _ _ _ _ (ap (λ me. me.0.account) c.stand-place.ensures.place)
+    (ap (λ views. (head_view views).account) c.sit.ensures.views)
+    (enters_same _ _ _ _ c.hang.ensures.hung)

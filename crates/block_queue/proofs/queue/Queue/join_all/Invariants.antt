@@ -1,7 +1,7 @@
 -- the seats that are left have yet to be joined
 use Rattle.std.proofs.Common.{◌≡◌, length}
 use Rattle.std.specs.List.{AllByRecursion}
-use Rattle.block_queue.specs.Gather.{IsJoining}
+use Rattle.block_queue.specs.Gather.{IsJoining, TellsPasts}
 use Rattle.block_queue.specs.Seats.{IsFreePlaceOf, IsPutSeatOf}
 use Rattle.block_queue.proofs.queue.Queue.join_all.Given as goal
 
@@ -12,6 +12,7 @@ invariant-joining l =
       taken : l.place.me.0.taken ≡ l.initial.place.me.0.taken;
       puts : AllByRecursion (IsPutSeatOf l.self) l.puts.items;
       joining : IsJoining l.initial.puts.items l.initial.place.me.0.account l.puts.items l.place.me.0.account;
+      pasts : TellsPasts l.initial.puts.items l.initial.place.me.0 l.puts.items l.place.me.0;
     }
 
 abbrev pub decreases-joining : goal.decreases-joining

@@ -1,4 +1,4 @@
-use Rattle.std.proofs.Common.{rules, sym, ap, subst, ◌∙◌, arith, true, ◌≡◌, ◌+◌}
+use Rattle.std.proofs.Common.{sym, ap, subst, ◌∙◌, arith, true, ◌≡◌, ◌+◌}
 use Rattle.atomic_table.specs.Table as table
 use Rattle.histories.specs.Account.{has_number}
 use Rattle.block_queue.specs.Rule.{IsOneQueue}

@@ -1,4 +1,4 @@
-use Rattle.std.proofs.Common.{◌≡◌, ◌≢◌, ◌+◌, arith, ap, sym, ◌∙◌}
+use Rattle.std.proofs.Common.{◌≢◌, ◌+◌, ap, sym, ◌∙◌}
 use Rattle.atomic_table.specs.Table.{rest}
 use Rattle.block_queue.specs.declared.places.TheConstants.{MARK}
 use Rattle.block_queue.specs.Places.{stored_word}

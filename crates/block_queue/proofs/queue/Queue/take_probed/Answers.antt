@@ -1,4 +1,6 @@
-use Rattle.std.proofs.Common.{ap, sym, arith, ◌≡◌, ◌∙◌}
+use Rattle.std.proofs.Common.{ap}
+use Rattle.block_queue.specs.Seats.{head_view}
+use Rattle.block_queue.proofs.AllSeatsLemmas.{sat_same, takes_same}
 use Rattle.block_queue.proofs.SeatLemmas.{sits_take}
 use Rattle.block_queue.proofs.queue.Queue.take_probed.Goals as goal
 
@@ -6,3 +8,9 @@ pub returns-clause-seat : goal.returns-clause-seat
 returns-clause-seat g c =
     sits_take c.args.self.now c.sit.new.self c.take_next-answer.new.place c.take_next-answer.ensures.place c.sit.ensures.table c.sit.ensures.views
     (let sat = c.sit.ensures.taken in let counted = c.take_next-answer.ensures.counted in let blocks = c.blocks-2.ensures in cc)
+
+pub returns-clause-same : goal.returns-clause-same
+returns-clause-same g c =
+    sat_same _ _ _ _ (ap (λ me. me.0.account) c.stand-place.ensures.place)
+    (ap (λ views. (head_view views).account) c.sit.ensures.views)
+    (takes_same _ _ _ _ c.take_next-answer.ensures.answer)

@@ -1,4 +1,4 @@
-use Rattle.std.proofs.Common.{sym, ap, subst, ◌∙◌, arith}
+use Rattle.std.proofs.Common.{ap, subst, ◌∙◌, arith}
 use Rattle.atomic_table.specs.Table as table
 use Rattle.block_queue.specs.Rule.{IsOneQueue}
 use Rattle.block_queue.specs.Steps.{HasTakeTail}

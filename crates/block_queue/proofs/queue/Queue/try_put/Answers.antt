@@ -1,4 +1,4 @@
-use Rattle.std.proofs.Common.{rules, arith, ap, ◌∙◌, ◌<◌}
+use Rattle.std.proofs.Common.{arith, ap, ◌∙◌, ◌<◌}
 use Rattle.block_queue.proofs.SeatLemmas.{free_steps, entered_free, steps_on}
 use Rattle.block_queue.specs.Places.{free_word}
 use Rattle.block_queue.proofs.queue.Queue.try_put.Goals as goal

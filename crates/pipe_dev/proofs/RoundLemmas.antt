@@ -1,0 +1,106 @@
+-- What a sleep between two tries tells, and which numbers it may have.
+use Rattle.std.proofs.Common.{◌≡◌, ◌≢◌, ℕ, ◌+◌, ◌<◌, ◌≤◌, true, false, List, [], ◌∷◌, length, refl, sym, ◌∙◌, ap, subst, arith, inl, inr, ◌⊎◌}
+use Rattle.sync_base.specs.declared.fault.Fault.{Fault}
+use Rattle.sync_base.specs.declared.fault.Fault.TheVariants as fault
+use Rattle.sync_base.specs.declared.ids.RendezId.{RendezId}
+use Rattle.sync_base.specs.declared.limits.TheConstants.{TOP_LEVEL, LAST_WRITE}
+use Rattle.sync_base.specs.Pipe.{begun_number, begun_of}
+use Rattle.rendez_words.specs.declared.words.Words.{Words}
+use Rattle.rendez_words.specs.Process.{Process}
+use Rattle.rendez_words.specs.Words.{rendez_of}
+use Rattle.sleep_wakeup.specs.Calls.{WhyNotSlept}
+use Rattle.histories.specs.declared.account.Account.{Account}
+use Rattle.histories.specs.History.{IsLegal}
+use Rattle.block_queue.specs.declared.entry.Entry.{Entry}
+use Rattle.block_queue.specs.declared.entry.Entry.TheVariants as entry
+use Rattle.block_queue.specs.declared.entry.Entry.TheVariants.{Taken, Stood, Full, Hungup, Worn, Block, NotYet, End, Hung}
+use Rattle.block_queue.specs.declared.view.Key.{Key}
+use Rattle.block_queue.specs.History.{opening_state, IsRight}
+use Rattle.block_queue.specs.Meaning.{Enters, KnowsQueue, queue_meaning, queue_after}
+use Rattle.block_queue.specs.Places.{IsQueueState}
+use Rattle.block_queue.proofs.RuleMoves.{history_fits}
+use Rattle.block_queue.proofs.StateLemmas.{begun_is}
+use Rattle.pipe_dev.specs.Rounds.{FailsAsleep}
+use Rattle.pipe_dev.specs.WriteCalls.{HasHang}
+
+-- a sleep of a Rendez that is there, below the level of a hangup
+pub fails_asleep : (words : Words) (before : Process) (rendez : RendezId) (threshold : ℕ)
+    (after : Process) (why : Fault) → rendez.0 < rendez_of words → threshold < TOP_LEVEL
+    → WhyNotSlept words before rendez threshold after why
+    → FailsAsleep before rendez threshold after why
+fails_asleep words before rendez threshold after (fault.Interrupted notes) there low told = told
+fails_asleep words before rendez threshold after fault.DoubleSleep there low told = told.1
+fails_asleep words before rendez threshold after fault.NoRendez there low told =
+    absurd (omega (arith, there, told.0))
+fails_asleep words before rendez threshold after fault.BadLevel there low told =
+    absurd (omega (arith, low, told.1))
+fails_asleep words before rendez threshold after fault.Memory there low told = absurd told
+fails_asleep words before rendez threshold after fault.Hungup there low told = absurd told
+fails_asleep words before rendez threshold after fault.TooBig there low told = absurd told
+fails_asleep words before rendez threshold after fault.BadArg there low told = absurd told
+fails_asleep words before rendez threshold after fault.BadCount there low told = absurd told
+fails_asleep words before rendez threshold after fault.BadSize there low told = absurd told
+fails_asleep words before rendez threshold after fault.Worn there low told = absurd told
+fails_asleep words before rendez threshold after fault.NoProc there low told = absurd told
+fails_asleep words before rendez threshold after fault.BadFlags there low told = absurd told
+fails_asleep words before rendez threshold after (fault.Script line) there low told = absurd told
+fails_asleep words before rendez threshold after fault.TimedOut there low told = absurd told
+fails_asleep words before rendez threshold after fault.Device there low told = absurd told
+
+-- the entry is right behind what was seen before it
+pub entered_right : (key : Key) (entry : Entry) (old new : Account Entry)
+    → (enters : Enters key entry old new) → IsRight key.first (queue_after key enters.adds.past) entry
+entered_right key entry old new enters =
+    (subst (λ (account : Account Entry). KnowsQueue key account) enters.adds.new_is enters.knows).history.legal.0
+
+pub entered_legal : (key : Key) (entry : Entry) (old new : Account Entry)
+    → (enters : Enters key entry old new)
+    → IsLegal (queue_meaning key.first) (opening_state key.limit) enters.adds.past
+entered_legal key entry old new enters =
+    (subst (λ (account : Account Entry). KnowsQueue key account) enters.adds.new_is enters.knows).history.legal.1
+
+-- the number of the last write that was begun is below the level of a hangup
+begun_low : (key : Key) (history : List Entry) → key.first ≡ 0
+    → IsLegal (queue_meaning key.first) (opening_state key.limit) history
+    → begun_number key.first (queue_after key history).pipe < TOP_LEVEL
+begun_low key history first legal =
+    let fits : IsQueueState key.limit key.first (queue_after key history)
+    = history_fits key history (omega (arith, first)) legal in
+    let begun = begun_is (queue_after key history).pipe fits.whole in
+    let within = fits.within in
+    let given = fits.given in
+    omega (arith, begun, within, given)
+
+pub not_yet_low : (key : Key) (number : ℕ) (old new : Account Entry) → key.first ≡ 0
+    → Enters key (entry.NotYet number) old new → number < TOP_LEVEL
+not_yet_low key number old new first enters =
+    subst (λ n. n < TOP_LEVEL) (sym (entered_right key (entry.NotYet number) old new enters).may.number_is)
+    (begun_low key enters.adds.past first (entered_legal key (entry.NotYet number) old new enters))
+
+pub full_low : (key : Key) (writer : ℕ) (block : List ℕ) (number : ℕ) (old new : Account Entry)
+    → key.first ≡ 0 → Enters key (entry.Full writer block number) old new → number < TOP_LEVEL
+full_low key writer block number old new first enters =
+    subst (λ n. n < TOP_LEVEL)
+    (sym (entered_right key (entry.Full writer block number) old new enters).may.number_is)
+    (begun_low key enters.adds.past first
+    (entered_legal key (entry.Full writer block number) old new enters))
+
+-- a direction that is hung up was hung up by someone
+has_hang : (key : Key) (history : List Entry) → (queue_after key history).pipe.hung ≡ true
+    → HasHang history
+has_hang key [] hung = cc
+has_hang key (Taken writer block number ∷ past) hung = has_hang key past hung
+has_hang key (Stood writer number ∷ past) hung = has_hang key past hung
+has_hang key (Full writer block number ∷ past) hung = has_hang key past hung
+has_hang key (Hungup writer block ∷ past) hung = has_hang key past hung
+has_hang key (Worn writer block ∷ past) hung = has_hang key past hung
+has_hang key (Block writer block number ∷ past) hung = has_hang key past hung
+has_hang key (NotYet number ∷ past) hung = has_hang key past hung
+has_hang key (End ∷ past) hung = has_hang key past hung
+has_hang key (Hung seat ∷ past) hung = tt
+
+pub hungup_knew : (key : Key) (writer : ℕ) (block : List ℕ) (old new : Account Entry)
+    → Enters key (entry.Hungup writer block) old new → HasHang new.seen
+hungup_knew key writer block old new enters =
+    subst (λ (account : Account Entry). HasHang account.seen) (sym enters.adds.new_is)
+    (has_hang key enters.adds.past (entered_right key (entry.Hungup writer block) old new enters).may)

@@ -1,0 +1,16 @@
+-- so many rounds were made, and the block is the same
+use Rattle.std.proofs.Common.{◌≡◌, ℕ}
+use Rattle.block_queue.specs.Seats.{key_of}
+use Rattle.pipe_dev.specs.Ends.{IsWriteHand}
+use Rattle.pipe_dev.specs.Rounds.{Rounds}
+use Rattle.pipe_dev.specs.WriteCalls.{SleepsForRoom, writer_with}
+use Rattle.pipe_dev.proofs.writing.write_with.Given as goal
+
+abbrev pub invariant-writing : goal.invariant-writing
+invariant-writing g l =
+    record {
+      seat : IsWriteHand l.queue l.row l.initial.seat.writer l.seat;
+      words : l.proc.words ≡ l.initial.proc.words;
+      block : l.block ≡ l.initial.block;
+      times : (times : ℕ) × Rounds (SleepsForRoom (key_of l.queue) l.row l.initial.seat.writer l.initial.block) times (writer_with l.initial.seat l.initial.proc) (writer_with l.seat l.proc);
+    }

@@ -1,0 +1,70 @@
+-- What a new pipe is, and its ends.
+use Rattle.std.specs.Prelude.{◌≡◌, ◌≤◌, ℕ, ◌+◌, ◌*◌, [], List, map, length, None}
+use Rattle.std.specs.List.{AllByRecursion}
+use Rattle.std.specs.Vec.{vec_capacity}
+use Rattle.histories.specs.Account.{numbers_from}
+use Rattle.block_queue.specs.declared.queue.Queue.{Queue}
+use Rattle.block_queue.specs.declared.seats.PutSeat.{PutSeat}
+use Rattle.block_queue.specs.declared.view.Key.{Key}
+use Rattle.block_queue.specs.Opening.{new_account, reader_account}
+use Rattle.block_queue.specs.Seats.{key_of, put_account, take_account}
+use Rattle.pipe_dev.specs.declared.pipe.Lane.{Lane}
+use Rattle.pipe_dev.specs.declared.pipe.Opened.{Opened}
+use Rattle.pipe_dev.specs.declared.pipe.Pipe.{Pipe}
+use Rattle.pipe_dev.specs.declared.pipe.PipeStart.{PipeStart}
+use Rattle.pipe_dev.specs.declared.row.Row.{Row}
+use Rattle.pipe_dev.specs.Ends.{ReadSide, WriteSide, IsRowOf, IsReadHand, IsWriteHand}
+use Rattle.pipe_dev.specs.Ends.{AreAllEnds}
+
+-- so many writes may stand in each direction, and each has so many writers
+abbrev pub key_for : ℕ → ℕ → Key
+key_for limit writers = record { limit = limit; first = 0; writers = writers }
+
+-- how many Rendez a pipe takes: of each direction one for the reader, and one for each writer
+abbrev pub rendez_for : ℕ → ℕ
+rendez_for writers = 2 * (1 + writers)
+
+-- the seat of a writer is one of the queue's, and was given to no other
+pub record IsSeatToGive (queue : Queue) (row : Row) (seat : PutSeat) : Type 0 where
+  pub hand : IsWriteHand queue row seat.writer seat
+  pub unused : put_account seat ≡ new_account (seat.writer + 1)
+
+-- what the ends of this direction are made of, with its Rendez from this number on
+pub record IsLaneOf (queue : Queue) (first : ℕ) (lane : Lane) : Type 0 where
+  pub row_is : IsRowOf queue lane.row
+  pub first_is : lane.row.first ≡ first
+  pub read : IsReadHand queue lane.row (record { seat = lane.take; rest = None })
+  pub unread : take_account lane.take ≡ reader_account lane.row.writers
+  pub writes : AllByRecursion (IsSeatToGive queue lane.row) lane.puts.items
+  pub order : map (λ seat. seat.writer) lane.puts.items ≡ numbers_from 0 lane.row.writers
+  pub none : lane.room.items ≡ []
+  pub room : length lane.puts.items ≤ vec_capacity lane.room
+
+-- the start was made with the pipe, whose Rendez are these from the first on
+pub record IsStartOf (pipe : Pipe) (start : PipeStart) : Type 0 where
+  pub there : IsLaneOf pipe.there start.there.row.first start.there
+  pub back : IsLaneOf pipe.back start.back.row.first start.back
+
+-- a new pipe of this size, with its Rendez in a row from this number on: first those of the one
+-- direction, and then those of the other
+pub record Opens (limit writers first : ℕ) (opened : Opened) : Type 0 where
+  pub there_key : key_of opened.pipe.there ≡ key_for limit writers
+  pub back_key : key_of opened.pipe.back ≡ key_for limit writers
+  pub there : IsLaneOf opened.pipe.there first opened.start.there
+  pub back : IsLaneOf opened.pipe.back (first + 1 + writers) opened.start.back
+
+-- a write end of a new direction
+pub record IsNewWriteEnd (queue : Queue) (row : Row) (write : WriteSide) : Type 0 where
+  pub queue_is : write.queue ≡ queue
+  pub row_is : write.row ≡ row
+  pub unused : write.account ≡ new_account (write.writer + 1)
+
+-- the ends of a new direction: nothing was called, and these are all
+pub record AreNewEnds (queue : Queue) (row : Row) (read : ReadSide) (writes : List WriteSide) :
+    Type 0 where
+  pub queue_is : read.queue ≡ queue
+  pub row_is : read.row ≡ row
+  pub unread : read.account ≡ reader_account row.writers
+  pub rest : read.rest ≡ None
+  pub unwritten : AllByRecursion (IsNewWriteEnd queue row) writes
+  pub all : AreAllEnds read writes

@@ -1,0 +1,47 @@
+-- The Rendez of a direction, and who is woken there.
+use Rattle.std.specs.Prelude.{◌≡◌, ℕ, zero, suc, ◌+◌, ◌≤◌}
+use Rattle.sync_base.specs.declared.ids.RendezId.{RendezId}
+use Rattle.sync_base.specs.declared.limits.TheConstants.{TOP_LEVEL}
+use Rattle.rendez_words.specs.declared.states.Done.{Done}
+use Rattle.rendez_words.specs.declared.words.Words.{Words}
+use Rattle.rendez_words.specs.Process.{Process}
+use Rattle.rendez_words.specs.Words.{rendez_of}
+use Rattle.sleep_wakeup.specs.Calls.{Wakes}
+use Rattle.pipe_dev.specs.declared.row.Row.{Row}
+
+-- where the reader waits for a write
+abbrev pub reader_rendez : Row → RendezId
+reader_rendez row = record { 0 = row.first }
+
+-- where this writer waits for room
+abbrev pub writer_rendez : Row → ℕ → RendezId
+writer_rendez row writer = record { 0 = row.first + 1 + writer }
+
+-- the Rendez of the direction are among the kernel's
+abbrev pub HasRow : Words → Row → Type 0
+HasRow words row = row.first + 1 + row.writers ≤ rendez_of words
+
+-- a wakeup of the Rendez with this level has returned, and the process did nothing else
+pub record WakesOne (before : Process) (rendez : RendezId) (level : ℕ) (after : Process) :
+    Type 0 where
+  pub receipt : Done
+  pub woken : Wakes before rendez level after receipt
+
+-- so many writers were woken, from the first one on, and then one more
+pub record WakesNext (WakesBefore : Process → Type 0) (row : Row) (writer level : ℕ)
+    (after : Process) : Type 0 where
+  pub between : Process
+  pub others : WakesBefore between
+  pub last : WakesOne between (writer_rendez row writer) level after
+
+-- the first so many writers were woken, each once and in order, and the process did nothing else
+abbrev pub WakesWriters : Row → ℕ → ℕ → Process → Process → Type 0
+WakesWriters row zero level before after = after ≡ before
+WakesWriters row (suc count) level before after =
+    WakesNext (WakesWriters row count level before) row count level after
+
+-- a hangup wakes both sides: the reader, and then each writer
+pub record WakesAll (row : Row) (before after : Process) : Type 0 where
+  pub between : Process
+  pub reader : WakesOne before (reader_rendez row) TOP_LEVEL between
+  pub writers : WakesWriters row row.writers TOP_LEVEL between after

@@ -1,0 +1,169 @@
+-- What the calls of a write end do, after pipe(2), pipe(3) and write(2).
+use Rattle.std.specs.Prelude.{◌≡◌, ◌+◌, ◌++◌, ◌<◌, ℕ, zero, suc, nat_le, false, true, ⊤}
+use Rattle.std.specs.Prelude.{List, [], ◌∷◌, length, take, drop, reverse}
+use Rattle.std.specs.Prelude.{Option, Some, None, Result, Ok, Err, if◌then◌else◌}
+use Rattle.histories.specs.declared.account.Account.{Account}
+use Rattle.sync_base.specs.declared.fault.Fault.{Fault}
+use Rattle.sync_base.specs.declared.fault.Fault.TheVariants as fault
+use Rattle.sync_base.specs.declared.limits.TheConstants.{ATOMIC_SIZE}
+use Rattle.sync_base.specs.declared.note.Note.TheVariants.{ClosedPipe}
+use Rattle.sync_base.specs.NoteSet.{no_notes, only}
+use Rattle.rendez_words.specs.Process.{Process, pid_in}
+use Rattle.rendez_words.specs.Steps.{notes}
+use Rattle.sleep_wakeup.specs.Calls.{Sleeps}
+use Rattle.sleep_wakeup.specs.Kernel.{Running}
+use Rattle.block_queue.specs.declared.entry.Entry.{Entry}
+use Rattle.block_queue.specs.declared.entry.Entry.TheVariants as entry
+use Rattle.block_queue.specs.declared.view.Key.{Key}
+use Rattle.block_queue.specs.Calls.{Stands}
+use Rattle.block_queue.specs.Meaning.{Enters}
+use Rattle.block_queue.specs.declared.seats.PutSeat.{PutSeat}
+use Rattle.block_queue.specs.Seats.{put_account}
+use Rattle.block_queue.specs.Steps.{saw_hangup}
+use Rattle.pipe_dev.specs.declared.answers.Long.{Long}
+use Rattle.pipe_dev.specs.declared.row.Row.{Row}
+use Rattle.pipe_dev.specs.Ends.{WriteSide}
+use Rattle.pipe_dev.specs.Rendezes.{reader_rendez, writer_rendez, WakesOne}
+use Rattle.pipe_dev.specs.Rounds.{Rounds, FailsAsleep}
+
+-- the writer between two steps of a call: what its seat knows, and the process that calls
+pub record Writer : Type 0 where
+  pub account : Account Entry
+  pub process : Process
+
+abbrev pub writer_of : WriteSide → Running → Writer
+writer_of side proc = record { account = side.account; process = proc.process }
+
+-- a put found no room: this entry was made, and nothing else was done. A writer that knew of the
+-- hangup is not told so.
+pub record FindsFull (key : Key) (writer : ℕ) (block : List ℕ) (number : ℕ) (old new : Writer) :
+    Type 0 where
+  pub entered : Enters key (entry.Full writer block number) old.account new.account
+  pub fresh : saw_hangup key old.account ≡ false
+  pub process : new.process ≡ old.process
+
+-- it was answered Full, and slept on its own Rendez with the number of that answer, and well
+pub record SleepsForRoom (key : Key) (row : Row) (writer : ℕ) (block : List ℕ)
+    (old new : Writer) : Type 0 where
+  pub number : ℕ
+  pub found : FindsFull key writer block number old (record new { process = old.process })
+  pub slept : Sleeps old.process (writer_rendez row writer) number no_notes new.process
+
+-- the sleep did not end well
+pub record FailsForRoom (key : Key) (row : Row) (writer : ℕ) (block : List ℕ) (old : Writer)
+    (why : Fault) (new : Writer) : Type 0 where
+  pub number : ℕ
+  pub found : FindsFull key writer block number old (record new { process = old.process })
+  pub failed : FailsAsleep old.process (writer_rendez row writer) number new.process why
+
+-- the write was accepted and stands, and the reader was woken with its number
+pub record Accepts (key : Key) (row : Row) (writer : ℕ) (block : List ℕ) (number : ℕ)
+    (old new : Writer) : Type 0 where
+  pub stands : Stands key writer block number old.account new.account
+  pub woken : WakesOne old.process (reader_rendez row) number new.process
+
+-- someone hung the direction up, as far as this history tells
+abbrev pub HasHang : List Entry → Type 0
+HasHang [] = ⊥
+HasHang (entry.Hung seat ∷ past) = ⊤
+HasHang (other ∷ past) = HasHang past
+
+-- Hungup: the writer has seen the hangup, and the note of a write on a closed pipe was posted to
+-- the process that calls
+pub record IsTooLate (key : Key) (writer : ℕ) (block : List ℕ) (old new : Writer) : Type 0 where
+  pub entered : Enters key (entry.Hungup writer block) old.account new.account
+  pub knew : HasHang new.account.seen
+  pub noted : new.process ≡ notes old.process (pid_in old.process) (only ClosedPipe)
+
+-- the last number is given
+pub record IsWornOut (key : Key) (writer : ℕ) (block : List ℕ) (old new : Writer) : Type 0 where
+  pub entered : Enters key (entry.Worn writer block) old.account new.account
+  pub process : new.process ≡ old.process
+
+-- how a write ends that asked the queue
+abbrev pub EndsWrite : Key → Row → ℕ → List ℕ → Writer → Result ℕ Fault → Writer → Type 0
+EndsWrite key row writer block old (Ok number) new = Accepts key row writer block number old new
+EndsWrite key row writer block old (Err fault.Hungup) new = IsTooLate key writer block old new
+EndsWrite key row writer block old (Err fault.Worn) new = IsWornOut key writer block old new
+EndsWrite key row writer block old (Err why) new = FailsForRoom key row writer block old why new
+
+-- it found the direction full some times and slept; and then it ended
+pub record Asks (key : Key) (row : Row) (writer : ℕ) (block : List ℕ) (old : Writer)
+    (answer : Result ℕ Fault) (new : Writer) : Type 0 where
+  pub times : ℕ
+  pub between : Writer
+  pub slept : Rounds (SleepsForRoom key row writer block) times old between
+  pub ended : EndsWrite key row writer block between answer new
+
+-- What a write did, by its answer. Own: a write above the atomic size is refused first; it and a
+-- write for whose block there is no memory do nothing.
+abbrev pub Writes : Key → Row → ℕ → List ℕ → Writer → Result ℕ Fault → Writer → Type 0
+Writes key row writer block old (Err fault.TooBig) new = new ≡ old
+Writes key row writer block old (Err fault.Memory) new = new ≡ old
+Writes key row writer block old answer new = Asks key row writer block old answer new
+
+-- ---- a long write
+
+-- Own: a long write is writes of the atomic size, and one of the rest; what fits is one write.
+-- The fuel is the length: each write but the last takes some bytes off.
+abbrev pub atomic_writes_in : ℕ → List ℕ → List (List ℕ)
+atomic_writes_in zero bytes = bytes ∷ []
+atomic_writes_in (suc fuel) bytes =
+    if nat_le (length bytes) ATOMIC_SIZE then bytes ∷ []
+    else take ATOMIC_SIZE bytes ∷ atomic_writes_in fuel (drop ATOMIC_SIZE bytes)
+
+abbrev pub atomic_writes : List ℕ → List (List ℕ)
+atomic_writes bytes = atomic_writes_in (length bytes) bytes
+
+-- a write that was accepted, with some number
+pub record WritesWell (key : Key) (row : Row) (writer : ℕ) (block : List ℕ) (old new : Writer) :
+    Type 0 where
+  pub number : ℕ
+  pub accepted : Writes key row writer block old (Ok number) new
+
+-- these were written, and then one more
+pub record WritesNext (WritesBefore : Writer → Type 0) (Write : Writer → Writer → Type 0)
+    (new : Writer) : Type 0 where
+  pub between : Writer
+  pub others : WritesBefore between
+  pub last : Write between new
+
+-- each of these was accepted, one after the other, the newest first
+abbrev pub WritesEach : Key → Row → ℕ → List (List ℕ) → Writer → Writer → Type 0
+WritesEach key row writer [] old new = new ≡ old
+WritesEach key row writer (block ∷ blocks) old new =
+    WritesNext (WritesEach key row writer blocks old) (WritesWell key row writer block) new
+
+abbrev pub bytes_in : List (List ℕ) → ℕ
+bytes_in [] = 0
+bytes_in (block ∷ blocks) = bytes_in blocks + length block
+
+-- the long write ended so: all was written, or the next write was answered this fault
+abbrev pub EndsLong :
+    Key → Row → ℕ → List ℕ → List (List ℕ) → Writer → Option Fault → Writer → Type 0
+EndsLong key row writer bytes done old None new =
+    (new ≡ old) × (reverse done ≡ atomic_writes bytes)
+EndsLong key row writer bytes done old (Some why) new =
+    (block : List ℕ) × (others : List (List ℕ))
+    × (atomic_writes bytes ≡ reverse done ++ block ∷ others)
+    × Writes key row writer block old (Err why) new
+
+-- What a long write did: the writes that it is cut into, in their order, up to the first that was
+-- not accepted; and it counts the bytes of those that were.
+pub record WritesLong (key : Key) (row : Row) (writer : ℕ) (bytes : List ℕ) (old : Writer)
+    (long : Long) (new : Writer) : Type 0 where
+  pub done : List (List ℕ)
+  pub between : Writer
+  pub written : WritesEach key row writer done old between
+  pub taken : long.taken ≡ bytes_in done
+  pub ended : EndsLong key row writer bytes done between long.fault new
+
+-- the writer that has this seat
+abbrev pub writer_with : PutSeat → Running → Writer
+writer_with seat proc = record { account = put_account seat; process = proc.process }
+
+-- an answer that comes only from a put or a sleep
+abbrev pub IsAsked : Result ℕ Fault → Type 0
+IsAsked (Err fault.TooBig) = ⊥
+IsAsked (Err fault.Memory) = ⊥
+IsAsked answer = ⊤

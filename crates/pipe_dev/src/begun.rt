@@ -1,0 +1,94 @@
+//! What is left of a write that was taken out of the queue. Before this: `waking`. After it: `hand`.
+use std::alloc::{AllocError, Global};
+use std::marker::Model;
+use sync_base::Piece;
+
+/// A write that was taken out, of which a part may have been read.
+#[derive(Drop)]
+pub struct Begun {
+    block: Piece,
+    /// How many of its bytes were read.
+    at: usize,
+    writer: u64,
+    /// How many writes were accepted before it.
+    place: u64,
+}
+
+impl Model for Begun {
+    ghost use Rattle.std.specs.Prelude.{◌≤◌, length, drop};
+    ghost use Rattle.pipe_dev.specs.Parts.{Part};
+
+    ghost Value = { Part };
+
+    ghost view = { λ begun. record {
+      place = begun.place;
+      writer = begun.writer;
+      bytes = drop begun.at begun.block;
+    } };
+
+    ghost invariant = { λ begun. begun.at ≤ length begun.block };
+}
+
+/// What a read gave of it, and what is left.
+#[derive(Drop)]
+pub(crate) struct Given {
+    pub(crate) count: usize,
+    pub(crate) left: Option<Begun>,
+}
+
+impl Begun {
+    ghost use Rattle.std.specs.Prelude.{◌≡◌, ◌≢◌, ◌≤◌, ◌<◌, [], length, IfOk};
+    ghost use Rattle.pipe_dev.specs.ReadCalls.{IsFilled, part_of, rest_of};
+
+    /// A write of which nothing was read.
+    pub(crate) fn whole(block: Piece, writer: u64, place: u64) -> Begun
+        ensures { result ≡ record { place = place; writer = writer; bytes = block } }
+    {
+        Begun {
+            block,
+            at: 0,
+            writer,
+            place,
+        }
+    }
+
+    /// Gives the buffer what it has room for. Each byte is copied once.
+    pub(crate) fn give(self, buffer: &mut [u8]) -> Given
+        ensures filled { IsFilled (part_of (length buffer.old) self) buffer.old buffer.new result.count }
+        ensures left { result.left ≡ rest_of (length buffer.old) self }
+    {
+        let Begun {
+            block,
+            at,
+            writer,
+            place,
+        } = self;
+        let left = block.as_slice().len() - at;
+        if left <= buffer.len() {
+            buffer[..left].copy_from_slice(&block.as_slice()[at..]);
+            Given {
+                count: left,
+                left: None,
+            }
+        } else {
+            let count = buffer.len();
+            buffer.copy_from_slice(&block.as_slice()[at..at + count]);
+            Given {
+                count,
+                left: Some(Begun {
+                    block,
+                    at: at + count,
+                    writer,
+                    place,
+                }),
+            }
+        }
+    }
+
+    /// The bytes that are left, in memory of their own.
+    pub(crate) fn left(&self, alloc: Global) -> Result<Vec<u8>, AllocError>
+        ensures { IfOk result (λ bytes. bytes.items ≡ self.now.bytes) }
+    {
+        Vec::from_slice(alloc, &self.block.as_slice()[self.at..])
+    }
+}

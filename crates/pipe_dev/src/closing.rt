@@ -1,0 +1,123 @@
+//! The end of a direction: all its ends are given back. Before this: `end`. After it: `laws`.
+ghost use Rattle.std.specs.Prelude.{◌≡◌, ◌≤◌, [], length, IfOk, IfErr};
+ghost use Rattle.std.specs.Vec.{vec_capacity};
+ghost use Rattle.block_queue.specs.Seats.{key_of};
+ghost use Rattle.pipe_dev.specs.Ends.{AreAllEnds};
+ghost use Rattle.pipe_dev.specs.Finishing.{GivesHeld};
+ghost use Rattle.pipe_dev.specs.Seating.{AreSeatsOf};
+
+use crate::end::seat_writers;
+use crate::hand::ReadHand;
+use crate::read_end::ReadEnd;
+use crate::write_end::WriteEnd;
+use block_queue::{Gathered, PutSeat, StoredBlock, Ungathered};
+use std::alloc::{AllocError, Global};
+use sync_base::Piece;
+
+/// What a direction still held.
+#[derive(Drop)]
+pub struct Held {
+    /// What is unread of a write that was begun.
+    pub rest: Piece,
+    /// The writes that no read has begun, the oldest first.
+    pub writes: Vec<StoredBlock>,
+    /// Whether it was hung up.
+    pub hung: bool,
+}
+
+/// There was no memory. All ends come back.
+#[derive(Drop)]
+pub struct Unfinished<'p> {
+    pub read: ReadEnd<'p>,
+    pub writes: Vec<WriteEnd<'p>>,
+}
+
+/// Takes all ends of one direction back, the write ends in the order of `parts`, and gives what it
+/// still held. Takes memory and doesn't wait. Where there is no memory all ends come back.
+pub fn finish<'p>(
+    alloc: Global,
+    read: ReadEnd<'p>,
+    writes: Vec<WriteEnd<'p>>,
+) -> Result<Held, Unfinished<'p>>
+    requires all { AreAllEnds read writes.items }
+
+    // What is held is what the history of the direction left.
+    ensures held { IfOk result (GivesHeld read.entry writes.entry.items) }
+
+    // Otherwise all ends come back.
+    ensures read { IfErr result (λ unfinished. unfinished.read ≡ read.entry) }
+    ensures writes { IfErr result (λ unfinished. unfinished.writes.items ≡ writes.entry.items) }
+{
+    let Ok(rest) = read.left(alloc) else {
+        return Err(Unfinished { read, writes });
+    };
+    let Ok(puts) = Vec::with_capacity(alloc, writes.len()) else {
+        return Err(Unfinished { read, writes });
+    };
+    let Emptied { puts, room } = take_seats(writes, puts);
+    let ReadEnd { queue, row, hand } = read;
+    let Some(ReadHand { seat, rest: begun }) = hand else {
+        unreachable!()
+    };
+    match queue.gather(alloc, seat, puts) {
+        Ok(Gathered { blocks, hung }) => Ok(Held {
+            rest: Piece::of(rest),
+            writes: blocks,
+            hung,
+        }),
+        Err(Ungathered { take, puts }) => {
+            let hand = ReadHand {
+                seat: take,
+                rest: begun,
+            };
+            Err(Unfinished {
+                read: ReadEnd::new(queue, row, hand),
+                writes: seat_writers(queue, row, puts, room),
+            })
+        }
+    }
+}
+
+// The seats of all write ends, and the room that they had.
+#[derive(Drop)]
+struct Emptied<'p> {
+    puts: Vec<PutSeat>,
+    room: Vec<WriteEnd<'p>>,
+}
+
+// The last end comes first out of its vector, so the seats are turned round.
+fn take_seats<'p>(writes: Vec<WriteEnd<'p>>, puts: Vec<PutSeat>) -> Emptied<'p>
+    requires none { puts.items ≡ [] }
+    requires room { length writes.items ≤ vec_capacity puts }
+    ensures seats { AreSeatsOf writes.entry.items result.puts.items }
+    ensures none { result.room.items ≡ [] }
+    ensures room { length writes.entry.items ≤ vec_capacity result.room }
+{
+    let mut puts = puts;
+    let mut room = writes;
+    'taking: while let Some(end) = room.pop() {
+        puts.push_reserved(end.into_seat());
+    }
+    puts.as_mut_slice().reverse();
+    Emptied { puts, room }
+}
+
+impl<'p> ReadEnd<'p> {
+    ghost use Rattle.std.specs.Prelude.{◌≡◌, IfOk};
+    ghost use Rattle.pipe_dev.specs.Finishing.{rest_bytes};
+
+    // The bytes that are left of a write that was begun.
+    fn left(&self, alloc: Global) -> Result<Vec<u8>, AllocError>
+        ensures { IfOk result (λ bytes. bytes.items ≡ rest_bytes self.now.rest) }
+    {
+        match &self.hand {
+            Some(
+                ReadHand {
+                    seat: _,
+                    rest: Some(begun),
+                },
+            ) => begun.left(alloc),
+            _ => Ok(Vec::new(alloc)),
+        }
+    }
+}

@@ -1,0 +1,123 @@
+//! The two ends of a pipe. Before this: `pipe`. After it: `closing`.
+ghost use Rattle.std.specs.Prelude.{◌≡◌, ◌≤◌, [], length};
+ghost use Rattle.std.specs.Vec.{vec_capacity};
+ghost use Rattle.std.specs.List.{AllByRecursion};
+ghost use Rattle.pipe_dev.specs.Openings.{IsLaneOf, AreNewEnds};
+ghost use Rattle.pipe_dev.specs.Seating.{AreSeated, IsHandOf};
+
+use crate::hand::ReadHand;
+use crate::pipe::{Lane, Pipe, PipeStart};
+use crate::read_end::ReadEnd;
+use crate::row::Row;
+use crate::write_end::WriteEnd;
+use block_queue::{PutSeat, Queue};
+
+/// An end of a pipe: it reads one direction and writes the other.
+#[derive(Drop)]
+pub struct End<'p> {
+    pub(crate) read: ReadEnd<'p>,
+    pub(crate) writes: Vec<WriteEnd<'p>>,
+}
+
+/// The two ends of a pipe. What is written at one is read at the other.
+#[derive(Drop)]
+pub struct Ends<'p> {
+    pub first: End<'p>,
+    pub second: End<'p>,
+}
+
+/// The parts of an end: where it is read, and where each of its writers writes.
+#[derive(Drop)]
+pub struct Parts<'p> {
+    pub read: ReadEnd<'p>,
+    pub writes: Vec<WriteEnd<'p>>,
+}
+
+impl Pipe {
+    ghost use Rattle.pipe_dev.specs.Openings.{IsStartOf, AreNewEnds};
+
+    /// The two ends, of the start that was made with the pipe. Takes no memory and doesn't wait.
+    pub fn ends<'p>(&'p self, start: PipeStart<'p>) -> Ends<'p>
+        requires start { IsStartOf self.now start }
+
+        // Each end reads what is written at the other.
+        ensures there { AreNewEnds self.now.there start.entry.there.row result.first.read
+            result.second.writes.items }
+        ensures back { AreNewEnds self.now.back start.entry.back.row result.second.read
+            result.first.writes.items }
+    {
+        let PipeStart { there, back } = start;
+        let there = lay_out(&self.there, there);
+        let back = lay_out(&self.back, back);
+        Ends {
+            first: End {
+                read: there.read,
+                writes: back.writes,
+            },
+            second: End {
+                read: back.read,
+                writes: there.writes,
+            },
+        }
+    }
+}
+
+impl<'p> End<'p> {
+    ghost use Rattle.std.specs.Prelude.{◌≡◌};
+
+    /// Where the end is read, and where it is written, a write end for each writer. The write ends
+    /// write to the read end of the other end. Takes no memory and doesn't wait.
+    pub fn parts(self) -> Parts<'p>
+        ensures read { result.read ≡ self.entry.read }
+        ensures writes { result.writes.items ≡ self.entry.writes.items }
+    {
+        let End { read, writes } = self;
+        Parts { read, writes }
+    }
+}
+
+// Both sides of one direction.
+#[derive(Drop)]
+struct Sides<'p> {
+    read: ReadEnd<'p>,
+    writes: Vec<WriteEnd<'p>>,
+}
+
+fn lay_out<'p>(queue: &'p Queue, lane: Lane<'p>) -> Sides<'p>
+    requires lane { IsLaneOf queue.now lane.row.first lane }
+    ensures ends { AreNewEnds queue.entry.now lane.entry.row result.read result.writes.items }
+{
+    let Lane {
+        row,
+        take,
+        puts,
+        room,
+    } = lane;
+    let hand = ReadHand {
+        seat: take,
+        rest: None,
+    };
+    Sides {
+        read: ReadEnd::new(queue, row, hand),
+        writes: seat_writers(queue, row, puts, room),
+    }
+}
+
+/// A write end for each seat, in the room.
+pub(crate) fn seat_writers<'p>(
+    queue: &'p Queue,
+    row: Row,
+    puts: Vec<PutSeat>,
+    room: Vec<WriteEnd<'p>>,
+) -> Vec<WriteEnd<'p>>
+    requires seats { AllByRecursion (IsHandOf queue.now row) puts.items }
+    requires none { room.items ≡ [] }
+    requires room { length puts.items ≤ vec_capacity room }
+    ensures seated { AreSeated queue.entry.now row puts.items result.items }
+{
+    let mut writes = room;
+    'seating: for seat in puts {
+        writes.push_reserved(WriteEnd::new(queue, row, seat));
+    }
+    writes
+}

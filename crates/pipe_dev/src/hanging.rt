@@ -1,0 +1,96 @@
+//! How a direction is hung up, from either side. Before this: `write_long`. After it: `pipe`.
+ghost use Rattle.std.specs.Prelude.{◌≡◌, ◌+◌};
+ghost use Rattle.block_queue.specs.declared.entry.Entry.TheVariants.{Hung};
+ghost use Rattle.block_queue.specs.Meaning.{Enters};
+ghost use Rattle.block_queue.specs.Seats.{key_of, put_account, take_account};
+ghost use Rattle.pipe_dev.specs.Ends.{IsReadHand, IsWriteHand};
+ghost use Rattle.pipe_dev.specs.Rendezes.{HasRow, WakesAll};
+
+use crate::hand::ReadHand;
+use crate::read_end::ReadEnd;
+use crate::row::Row;
+use crate::waking::wake_all;
+use crate::write_end::WriteEnd;
+use block_queue::{PutSeat, Queue};
+use sleep_wakeup::Proc;
+
+impl<'p> ReadEnd<'p> {
+    ghost use Rattle.std.specs.Prelude.{◌≡◌};
+    ghost use Rattle.block_queue.specs.declared.entry.Entry.TheVariants.{Hung};
+    ghost use Rattle.block_queue.specs.Meaning.{Enters};
+    ghost use Rattle.block_queue.specs.Seats.{key_of};
+    ghost use Rattle.pipe_dev.specs.Ends.{IsSameReadEnd};
+    ghost use Rattle.pipe_dev.specs.Rendezes.{HasRow, WakesAll};
+
+    /// Hangs its direction up, for all writers and for good, and wakes both sides. What was accepted
+    /// stays readable. A second hangup wakes again. Takes no memory and doesn't wait. After pipe(2).
+    pub fn hangup(&mut self, proc: &mut Proc<'_>)
+        // The process is of the kernel that the pipe was made with.
+        requires kernel { HasRow proc.old.words self.old.row }
+        ensures hung { Enters (key_of self.old.queue) (Hung 0) self.old.account self.new.account }
+        ensures rest { self.new.rest ≡ self.old.rest }
+        ensures woken { WakesAll self.old.row proc.old.process proc.new.process }
+        ensures end { IsSameReadEnd self.old self.new }
+        ensures words { proc.new.words ≡ proc.old.words }
+    {
+        let Some(hand) = self.hand.take() else {
+            unreachable!()
+        };
+        self.hand = Some(hang_read(self.queue, &self.row, hand, proc));
+    }
+}
+
+impl<'p> WriteEnd<'p> {
+    ghost use Rattle.std.specs.Prelude.{◌≡◌, ◌+◌};
+    ghost use Rattle.block_queue.specs.declared.entry.Entry.TheVariants.{Hung};
+    ghost use Rattle.block_queue.specs.Meaning.{Enters};
+    ghost use Rattle.block_queue.specs.Seats.{key_of};
+    ghost use Rattle.pipe_dev.specs.Ends.{IsSameWriteEnd};
+    ghost use Rattle.pipe_dev.specs.Rendezes.{HasRow, WakesAll};
+
+    /// Hangs its direction up, for all writers and for good, and wakes both sides. What was accepted
+    /// stays readable. A second hangup wakes again. Takes no memory and doesn't wait. After pipe(2).
+    pub fn hangup(&mut self, proc: &mut Proc<'_>)
+        // The process is of the kernel that the pipe was made with.
+        requires kernel { HasRow proc.old.words self.old.row }
+        ensures hung { Enters (key_of self.old.queue) (Hung (self.old.writer + 1))
+            self.old.account self.new.account }
+        ensures woken { WakesAll self.old.row proc.old.process proc.new.process }
+        ensures end { IsSameWriteEnd self.old self.new }
+        ensures words { proc.new.words ≡ proc.old.words }
+    {
+        let Some(seat) = self.seat.take() else {
+            unreachable!()
+        };
+        self.seat = Some(hang_write(self.queue, &self.row, seat, proc));
+    }
+}
+
+fn hang_read(queue: &Queue, row: &Row, hand: ReadHand, proc: &mut Proc<'_>) -> ReadHand
+    requires hand { IsReadHand queue.now row.now hand }
+    requires kernel { HasRow proc.old.words row.now }
+    ensures hand { IsReadHand queue.now row.now result }
+    ensures rest { result.rest ≡ hand.rest }
+    ensures hung { Enters (key_of queue.now) (Hung 0) (take_account hand.seat) (take_account result.seat) }
+    ensures woken { WakesAll row.now proc.old.process proc.new.process }
+    ensures words { proc.new.words ≡ proc.old.words }
+{
+    let ReadHand { mut seat, rest } = hand;
+    queue.hang_take(&mut seat);
+    wake_all(proc, row);
+    ReadHand { seat, rest }
+}
+
+fn hang_write(queue: &Queue, row: &Row, seat: PutSeat, proc: &mut Proc<'_>) -> PutSeat
+    requires seat { IsWriteHand queue.now row.now seat.writer seat }
+    requires kernel { HasRow proc.old.words row.now }
+    ensures seat { IsWriteHand queue.now row.now seat.writer result }
+    ensures hung { Enters (key_of queue.now) (Hung (seat.writer + 1)) (put_account seat) (put_account result) }
+    ensures woken { WakesAll row.now proc.old.process proc.new.process }
+    ensures words { proc.new.words ≡ proc.old.words }
+{
+    let mut seat = seat;
+    queue.hang_put(&mut seat);
+    wake_all(proc, row);
+    seat
+}

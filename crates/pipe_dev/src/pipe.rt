@@ -1,0 +1,158 @@
+//! A pipe: how it is made. Before this: `hanging`. After it: `end`.
+ghost use Rattle.std.specs.Prelude.{◌≡◌, ◌⊎◌, ◌↔◌, ℕ, IfOk, IfErr, IsErrOf};
+ghost use Rattle.sync_base.specs.declared.fault.Fault.TheVariants.{BadSize, Memory};
+ghost use Rattle.block_queue.specs.Opening.{IsBadQueue};
+ghost use Rattle.block_queue.specs.Seats.{key_of};
+ghost use Rattle.pipe_dev.specs.Openings.{IsLaneOf};
+ghost use Rattle.pipe_dev.specs.Ways.{IsNewWay};
+
+use crate::row::Row;
+use crate::write_end::WriteEnd;
+use block_queue::{PutSeat, Queue, TakeSeat};
+use sleep_wakeup::Roster;
+use std::alloc::Global;
+use sync_base::Fault;
+use sync_base::limits::{MAX_PIPE_LIMIT, MAX_WRITERS};
+
+/// Two directions between two ends, after pipe(3).
+#[derive(Drop)]
+pub struct Pipe {
+    pub(crate) there: Queue,
+    pub(crate) back: Queue,
+}
+
+/// What the ends of a pipe are made of. `Pipe::ends` spends it.
+#[derive(Drop)]
+#[must_use]
+pub struct PipeStart<'p> {
+    pub(crate) there: Lane<'p>,
+    pub(crate) back: Lane<'p>,
+}
+
+/// What the ends of one direction are made of: its Rendez and seats, and room for the write ends.
+#[derive(Drop)]
+pub struct Lane<'p> {
+    pub(crate) row: Row,
+    pub(crate) take: TakeSeat,
+    pub(crate) puts: Vec<PutSeat>,
+    pub(crate) room: Vec<WriteEnd<'p>>,
+}
+
+/// A new pipe, and what its ends are made of.
+#[derive(Drop)]
+pub struct Opened<'p> {
+    pub pipe: Pipe,
+    pub start: PipeStart<'p>,
+}
+
+impl Pipe {
+    ghost use Rattle.std.specs.Prelude.{◌≡◌, ◌⊎◌, ◌↔◌, IfOk, IfErr, OnOk, OnErr, IsErrOf};
+    ghost use Rattle.sync_base.specs.declared.fault.Fault.TheVariants.{BadSize, NoRendez, Memory};
+    ghost use Rattle.block_queue.specs.Opening.{IsBadQueue};
+    ghost use Rattle.sleep_wakeup.specs.Kernel.{HasRendez, rendez_less};
+    ghost use Rattle.pipe_dev.specs.Openings.{Opens, rendez_for};
+
+    /// A new pipe, each of whose directions holds at most `limit` writes that no read has begun and
+    /// has so many writers. It takes `2 * (1 + writers)` Rendez of the kernel. Doesn't wait.
+    ///
+    /// Refuses, in this order, as `BadSize`, `NoRendez` and `Memory`.
+    pub fn new<'p>(
+        alloc: Global,
+        roster: &mut Roster<'_>,
+        limit: u64,
+        writers: u64,
+    ) -> Result<Opened<'p>, Fault>
+        // Refused first, in this order, and then no Rendez is used up.
+        ensures bad_size { IsErrOf result BadSize ↔ IsBadQueue limit writers }
+        ensures no_rendez { IsErrOf result NoRendez → ¬ HasRendez roster.old (rendez_for writers) }
+        ensures faults { IfErr result (λ fault.
+            (fault ≡ BadSize) ⊎ ((fault ≡ NoRendez) ⊎ (fault ≡ Memory))) }
+        ensures refused { OnErr result (roster.new ≡ roster.old) }
+
+        // Otherwise a pipe on which nothing was called, with Rendez that nobody was given.
+        ensures allowed { OnOk result (HasRendez roster.old (rendez_for writers)) }
+        ensures opened { IfOk result (Opens limit writers roster.old.rendez) }
+        ensures given { OnOk result (roster.new ≡ rendez_less (rendez_for writers) roster.old) }
+    {
+        if limit == 0 || limit > MAX_PIPE_LIMIT || writers == 0 || writers > MAX_WRITERS {
+            return Err(Fault::BadSize);
+        }
+        let count = 2 * (1 + writers);
+        if roster.left().rendez < count {
+            return Err(Fault::NoRendez);
+        }
+        let there = Way::new(alloc, limit, writers)?;
+        let back = Way::new(alloc, limit, writers)?;
+        let first = roster.row(count)?.0;
+        let there = there.laid(Row { first, writers });
+        let back = back.laid(Row {
+            first: first + 1 + writers,
+            writers,
+        });
+        Ok(Opened {
+            pipe: Pipe {
+                there: there.queue,
+                back: back.queue,
+            },
+            start: PipeStart {
+                there: there.lane,
+                back: back.lane,
+            },
+        })
+    }
+}
+
+// A direction that has no Rendez yet.
+#[derive(Drop)]
+struct Way<'p> {
+    queue: Queue,
+    take: TakeSeat,
+    puts: Vec<PutSeat>,
+    room: Vec<WriteEnd<'p>>,
+}
+
+// A direction, and what its ends are made of.
+#[derive(Drop)]
+struct Laid<'p> {
+    queue: Queue,
+    lane: Lane<'p>,
+}
+
+impl<'p> Way<'p> {
+    // A new queue, and room for the write ends.
+    fn new(alloc: Global, limit: u64, writers: u64) -> Result<Way<'p>, Fault>
+        ensures bad_size { IsErrOf result BadSize ↔ IsBadQueue limit writers }
+        ensures faults { IfErr result (λ fault. (fault ≡ BadSize) ⊎ (fault ≡ Memory)) }
+        ensures opened { IfOk result (IsNewWay limit writers) }
+    {
+        let block_queue::Opened { queue, take, puts } = Queue::new(alloc, limit, writers)?;
+        let room = Vec::with_capacity(alloc, writers as usize)?;
+        Ok(Way {
+            queue,
+            take,
+            puts,
+            room,
+        })
+    }
+
+    // With its Rendez.
+    fn laid(self, row: Row) -> Laid<'p>
+        requires way { IsNewWay (key_of self.queue).limit row.writers self }
+        ensures queue { result.queue ≡ self.entry.queue }
+        ensures lane { IsLaneOf result.queue row.first result.lane }
+    {
+        let Way {
+            queue,
+            take,
+            puts,
+            room,
+        } = self;
+        let lane = Lane {
+            row,
+            take,
+            puts,
+            room,
+        };
+        Laid { queue, lane }
+    }
+}

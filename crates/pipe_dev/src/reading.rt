@@ -1,0 +1,258 @@
+//! How a direction is read. Before this: `read_end`. After it: `write_end`.
+ghost use Rattle.std.specs.Prelude.{◌≡◌, ◌≢◌, [], Some, None};
+ghost use Rattle.block_queue.specs.Seats.{key_of};
+ghost use Rattle.pipe_dev.specs.Ends.{IsReadHand};
+ghost use Rattle.pipe_dev.specs.ReadCalls.{Reads, reader_with};
+ghost use Rattle.pipe_dev.specs.ReadSteps.{TriesOnce, IfOver, IfSlept};
+ghost use Rattle.pipe_dev.specs.Rendezes.{HasRow};
+
+use crate::answers::{ReadAnswer, TryAnswer};
+use crate::begun::{Begun, Given};
+use crate::hand::ReadHand;
+use crate::read_end::ReadEnd;
+use crate::row::Row;
+use crate::waking::wake_writers;
+use block_queue::{Queue, TakeAnswer, TakeSeat};
+use sleep_wakeup::Proc;
+use std::sync::Wait;
+use sync_base::Fault;
+
+impl<'p> ReadEnd<'p> {
+    ghost use Rattle.std.specs.Prelude.{◌≡◌, ◌≢◌, ◌↔◌, [], IsErrOf, IfOk, IfErr, OnErr};
+    ghost use Rattle.sync_base.specs.declared.fault.Fault.TheVariants.{BadCount};
+    ghost use Rattle.block_queue.specs.Seats.{key_of};
+    ghost use Rattle.pipe_dev.specs.Ends.{IsSameReadEnd};
+    ghost use Rattle.pipe_dev.specs.ReadCalls.{Reads, Tries, IsUntouchedRead, reader_of};
+    ghost use Rattle.pipe_dev.specs.Rendezes.{HasRow};
+
+    /// Reads what is next: fills the buffer, up to its end or to the end of one write, whichever
+    /// comes first. Where nothing is there yet it waits. Takes no memory.
+    ///
+    /// `End` where the direction is hung up and all is read. Refuses, in this order, as `BadCount`
+    /// for a buffer of no bytes, and where it would wait as `DoubleSleep` and `Interrupted`. A read
+    /// that took a write out wakes each writer with its number. After pipe(3) and read(2).
+    pub fn read<R: Wait>(
+        &mut self,
+        rt: &R,
+        proc: &mut Proc<'_>,
+        buffer: &mut [u8],
+    ) -> Result<ReadAnswer, Fault>
+        // The process is of the kernel that the pipe was made with.
+        requires kernel { HasRow proc.old.words self.old.row }
+
+        // A buffer of no bytes is refused first, and then nothing is done.
+        ensures bad_count { IsErrOf result BadCount ↔ (buffer.old ≡ []) }
+        ensures refused { IsErrOf result BadCount → IsUntouchedRead
+            (reader_of self.old proc.old) buffer.old (reader_of self.new proc.new) buffer.new }
+
+        // Otherwise it read, slept and woke so.
+        ensures read { buffer.old ≢ [] → Reads (key_of self.old.queue) self.old.row
+            (reader_of self.old proc.old) buffer.old result (reader_of self.new proc.new) buffer.new }
+
+        ensures end { IsSameReadEnd self.old self.new }
+        ensures words { proc.new.words ≡ proc.old.words }
+    {
+        if buffer.is_empty() {
+            return Err(Fault::BadCount);
+        }
+        let Some(hand) = self.hand.take() else {
+            unreachable!()
+        };
+        let Done { hand, answer } = read_with(self.queue, &self.row, rt, hand, proc, buffer);
+        self.hand = Some(hand);
+        answer
+    }
+
+    /// A `read` that does not wait: `NotYet` where nothing is there yet. Takes no memory.
+    ///
+    /// Refuses as `BadCount` for a buffer of no bytes.
+    pub fn try_read(&mut self, proc: &mut Proc<'_>, buffer: &mut [u8]) -> Result<TryAnswer, Fault>
+        // The process is of the kernel that the pipe was made with.
+        requires kernel { HasRow proc.old.words self.old.row }
+
+        // A buffer of no bytes is refused first, and then nothing is done.
+        ensures bad_count { IsErrOf result BadCount ↔ (buffer.old ≡ []) }
+        ensures fault { IfErr result (λ fault. fault ≡ BadCount) }
+        ensures refused { OnErr result (IsUntouchedRead
+            (reader_of self.old proc.old) buffer.old (reader_of self.new proc.new) buffer.new) }
+
+        // Otherwise it read and woke so.
+        ensures tried { IfOk result (λ answer. Tries (key_of self.old.queue) self.old.row
+            (reader_of self.old proc.old) buffer.old answer (reader_of self.new proc.new) buffer.new) }
+
+        ensures end { IsSameReadEnd self.old self.new }
+        ensures words { proc.new.words ≡ proc.old.words }
+    {
+        if buffer.is_empty() {
+            return Err(Fault::BadCount);
+        }
+        let Some(hand) = self.hand.take() else {
+            unreachable!()
+        };
+        let Tried { hand, found } = try_with(self.queue, &self.row, hand, proc, buffer);
+        self.hand = Some(hand);
+        Ok(match found {
+            Found::Got(count) => TryAnswer::Got(count),
+            Found::NotYet(_) => TryAnswer::NotYet,
+            Found::End => TryAnswer::End,
+        })
+    }
+}
+
+// A read is over: what its end holds, and the answer.
+#[derive(Drop)]
+struct Done {
+    hand: ReadHand,
+    answer: Result<ReadAnswer, Fault>,
+}
+
+// What one try found. `NotYet` has the number with which to sleep.
+#[derive(Drop)]
+pub(crate) enum Found {
+    Got(usize),
+    NotYet(u64),
+    End,
+}
+
+#[derive(Drop)]
+struct Tried {
+    hand: ReadHand,
+    found: Found,
+}
+
+// How far one round of a read came: it is over, or it slept.
+#[derive(Drop)]
+struct Round {
+    hand: ReadHand,
+    over: Option<Result<ReadAnswer, Fault>>,
+}
+
+// Tries and sleeps until it is answered.
+fn read_with<R: Wait>(
+    queue: &Queue,
+    row: &Row,
+    rt: &R,
+    hand: ReadHand,
+    proc: &mut Proc<'_>,
+    buffer: &mut [u8],
+) -> Done
+    requires hand { IsReadHand queue.now row.now hand }
+    requires kernel { HasRow proc.old.words row.now }
+    ensures hand { IsReadHand queue.now row.now result.hand }
+    ensures words { proc.new.words ≡ proc.old.words }
+    ensures read { Reads (key_of queue.now) row.now (reader_with hand proc.old) buffer.old result.answer
+        (reader_with result.hand proc.new) buffer.new }
+{
+    let mut hand = hand;
+    'reading: for _ in rt.forever() {
+        let Round { hand: now, over } = read_round(queue, row, rt, hand, proc, buffer);
+        hand = now;
+        if let Some(answer) = over {
+            return Done { hand, answer };
+        }
+    }
+    unreachable!()
+}
+
+// One round: a try, and where it found nothing a sleep.
+fn read_round<R: Wait>(
+    queue: &Queue,
+    row: &Row,
+    rt: &R,
+    hand: ReadHand,
+    proc: &mut Proc<'_>,
+    buffer: &mut [u8],
+) -> Round
+    requires hand { IsReadHand queue.now row.now hand }
+    requires kernel { HasRow proc.old.words row.now }
+    ensures hand { IsReadHand queue.now row.now result.hand }
+    ensures words { proc.new.words ≡ proc.old.words }
+    ensures over { IfOver result.over (key_of queue.now) row.now (reader_with hand proc.old) buffer.old
+        (reader_with result.hand proc.new) buffer.new }
+    ensures slept { IfSlept result.over (key_of queue.now) row.now (reader_with hand proc.old) buffer.old
+        (reader_with result.hand proc.new) buffer.new }
+{
+    let Tried { hand, found } = try_with(queue, row, hand, proc, buffer);
+    match found {
+        Found::Got(count) => Round {
+            hand,
+            over: Some(Ok(ReadAnswer::Got(count))),
+        },
+        Found::End => Round {
+            hand,
+            over: Some(Ok(ReadAnswer::End)),
+        },
+        Found::NotYet(number) => match proc.sleep(rt, row.reader(), number) {
+            Ok(()) => Round { hand, over: None },
+            Err(fault) => Round {
+                hand,
+                over: Some(Err(fault)),
+            },
+        },
+    }
+}
+
+// One try: what is left of a write that was begun, or else the next write.
+fn try_with(
+    queue: &Queue,
+    row: &Row,
+    hand: ReadHand,
+    proc: &mut Proc<'_>,
+    buffer: &mut [u8],
+) -> Tried
+    requires hand { IsReadHand queue.now row.now hand }
+    requires kernel { HasRow proc.old.words row.now }
+    ensures hand { IsReadHand queue.now row.now result.hand }
+    ensures words { proc.new.words ≡ proc.old.words }
+    ensures tried { TriesOnce (key_of queue.now) row.now (reader_with hand proc.old) buffer.old result.found
+        (reader_with result.hand proc.new) buffer.new }
+{
+    let ReadHand { seat, rest } = hand;
+    match rest {
+        Some(begun) => {
+            let Given { count, left } = begun.give(buffer);
+            Tried {
+                hand: ReadHand { seat, rest: left },
+                found: Found::Got(count),
+            }
+        }
+        None => try_next(queue, row, seat, proc, buffer),
+    }
+}
+
+// No write was begun: takes the next one out.
+fn try_next(
+    queue: &Queue,
+    row: &Row,
+    seat: TakeSeat,
+    proc: &mut Proc<'_>,
+    buffer: &mut [u8],
+) -> Tried
+    requires hand { IsReadHand queue.now row.now (record { seat = seat; rest = None }) }
+    requires kernel { HasRow proc.old.words row.now }
+    ensures hand { IsReadHand queue.now row.now result.hand }
+    ensures words { proc.new.words ≡ proc.old.words }
+    ensures tried { TriesOnce (key_of queue.now) row.now
+        (reader_with (record { seat = seat; rest = None }) proc.old) buffer.old result.found
+        (reader_with result.hand proc.new) buffer.new }
+{
+    let mut seat = seat;
+    match queue.take(&mut seat) {
+        TakeAnswer::Block(block, writer, number) => {
+            wake_writers(proc, row, number);
+            let Given { count, left } = Begun::whole(block, writer, number - 1).give(buffer);
+            Tried {
+                hand: ReadHand { seat, rest: left },
+                found: Found::Got(count),
+            }
+        }
+        TakeAnswer::NotYet(number) => Tried {
+            hand: ReadHand { seat, rest: None },
+            found: Found::NotYet(number),
+        },
+        TakeAnswer::End => Tried {
+            hand: ReadHand { seat, rest: None },
+            found: Found::End,
+        },
+    }
+}

@@ -1,0 +1,42 @@
+//! Who wakes whom on the Rendez of a direction. Before this: `row`. After it: `begun`.
+ghost use Rattle.std.specs.Prelude.{◌≡◌, ◌<◌};
+ghost use Rattle.rendez_words.specs.Words.{rendez_of};
+ghost use Rattle.pipe_dev.specs.Rendezes.{HasRow, WakesOne, WakesWriters, WakesAll};
+
+use crate::row::Row;
+use sleep_wakeup::Proc;
+use sync_base::RendezId;
+use sync_base::limits::TOP_LEVEL;
+
+/// Wakes whoever sleeps on the Rendez, which is the kernel's.
+pub(crate) fn wake(proc: &mut Proc<'_>, rendez: RendezId, level: u64)
+    requires rendez { rendez.0 < rendez_of proc.old.words }
+    ensures woken { WakesOne proc.old.process rendez level proc.new.process }
+    ensures words { proc.new.words ≡ proc.old.words }
+{
+    match proc.wakeup(rendez, level) {
+        Ok(_) => {}
+        Err(_) => unreachable!(),
+    }
+}
+
+/// Wakes each writer, from the first one on.
+pub(crate) fn wake_writers(proc: &mut Proc<'_>, row: &Row, level: u64)
+    requires row { HasRow proc.old.words row.now }
+    ensures woken { WakesWriters row.now row.now.writers level proc.old.process proc.new.process }
+    ensures words { proc.new.words ≡ proc.old.words }
+{
+    'waking: for writer in 0..row.writers {
+        wake(proc, row.writer(writer), level);
+    }
+}
+
+/// Wakes both sides after a hangup.
+pub(crate) fn wake_all(proc: &mut Proc<'_>, row: &Row)
+    requires row { HasRow proc.old.words row.now }
+    ensures woken { WakesAll row.now proc.old.process proc.new.process }
+    ensures words { proc.new.words ≡ proc.old.words }
+{
+    wake(proc, row.reader(), TOP_LEVEL);
+    wake_writers(proc, row, TOP_LEVEL);
+}

@@ -1,0 +1,56 @@
+//! How more than one write's bytes are written. Before this: `writing`. After it: `hanging`.
+use crate::answers::Long;
+use crate::write_end::WriteEnd;
+use sleep_wakeup::Proc;
+use std::alloc::Global;
+use std::sync::Wait;
+use sync_base::limits::ATOMIC_SIZE;
+
+impl<'p> WriteEnd<'p> {
+    ghost use Rattle.std.specs.Prelude.{◌≡◌};
+    ghost use Rattle.block_queue.specs.Seats.{key_of};
+    ghost use Rattle.pipe_dev.specs.Ends.{IsSameWriteEnd};
+    ghost use Rattle.pipe_dev.specs.Rendezes.{HasRow};
+    ghost use Rattle.pipe_dev.specs.WriteCalls.{WritesLong, writer_of};
+
+    /// Writes these bytes as writes of the atomic size, and one of the rest; no bytes are one empty
+    /// write. It waits as `write` does, and stops at the first fault.
+    pub fn write_long<R: Wait>(
+        &mut self,
+        alloc: Global,
+        rt: &R,
+        proc: &mut Proc<'_>,
+        bytes: &[u8],
+    ) -> Long
+        // The process is of the kernel that the pipe was made with.
+        requires kernel { HasRow proc.old.words self.old.row }
+        ensures wrote { WritesLong (key_of self.old.queue) self.old.row self.old.writer bytes.now
+            (writer_of self.old proc.old) result (writer_of self.new proc.new) }
+        ensures end { IsSameWriteEnd self.old self.new }
+        ensures words { proc.new.words ≡ proc.old.words }
+    {
+        let mut taken = 0;
+        let mut left = bytes;
+        'writing: while left.len() > ATOMIC_SIZE {
+            let (next, others) = left.split_at(ATOMIC_SIZE);
+            if let Err(fault) = self.write(alloc, rt, proc, next) {
+                return Long {
+                    taken,
+                    fault: Some(fault),
+                };
+            }
+            taken += ATOMIC_SIZE as u64;
+            left = others;
+        }
+        match self.write(alloc, rt, proc, left) {
+            Ok(_) => Long {
+                taken: taken + left.len() as u64,
+                fault: None,
+            },
+            Err(fault) => Long {
+                taken,
+                fault: Some(fault),
+            },
+        }
+    }
+}

@@ -1,0 +1,169 @@
+//! How a direction is written. Before this: `write_end`. After it: `write_long`.
+ghost use Rattle.std.specs.Prelude.{◌≡◌};
+ghost use Rattle.block_queue.specs.Seats.{key_of};
+ghost use Rattle.pipe_dev.specs.Ends.{IsWriteHand};
+ghost use Rattle.pipe_dev.specs.Rendezes.{HasRow};
+ghost use Rattle.pipe_dev.specs.WriteCalls.{Asks, IsAsked, writer_with};
+ghost use Rattle.pipe_dev.specs.WriteSteps.{IfOver, IfAgain};
+
+use crate::row::Row;
+use crate::waking::wake;
+use crate::write_end::WriteEnd;
+use block_queue::{PutAnswer, PutSeat, Queue};
+use sleep_wakeup::Proc;
+use std::alloc::Global;
+use std::sync::Wait;
+use sync_base::limits::ATOMIC_SIZE;
+use sync_base::{Fault, Note, NoteSet, Piece};
+
+impl<'p> WriteEnd<'p> {
+    ghost use Rattle.std.specs.Prelude.{◌≡◌, ◌<◌, ◌↔◌, length, IsErrOf, OnErr};
+    ghost use Rattle.sync_base.specs.declared.fault.Fault.TheVariants.{TooBig};
+    ghost use Rattle.sync_base.specs.declared.limits.TheConstants.{ATOMIC_SIZE};
+    ghost use Rattle.block_queue.specs.Seats.{key_of};
+    ghost use Rattle.pipe_dev.specs.Ends.{IsSameWriteEnd};
+    ghost use Rattle.pipe_dev.specs.Rendezes.{HasRow};
+    ghost use Rattle.pipe_dev.specs.WriteCalls.{Writes, writer_of};
+
+    /// Writes these bytes as one write, which is read whole and in one piece, and answers its
+    /// number. Where there is no room it waits. Memory is taken for the bytes.
+    ///
+    /// Refuses, in this order, as `TooBig` above the atomic size, as `Memory`, as `Hungup` where the
+    /// direction is hung up, and then the note of a write on a closed pipe is posted to the process;
+    /// as `Worn` where the last number is given, and where it would wait as `DoubleSleep` and
+    /// `Interrupted`. A write that was accepted wakes the reader with its number. After pipe(3) and
+    /// write(2).
+    pub fn write<R: Wait>(
+        &mut self,
+        alloc: Global,
+        rt: &R,
+        proc: &mut Proc<'_>,
+        bytes: &[u8],
+    ) -> Result<u64, Fault>
+        // The process is of the kernel that the pipe was made with.
+        requires kernel { HasRow proc.old.words self.old.row }
+
+        // A write above the atomic size is refused first.
+        ensures too_big { IsErrOf result TooBig ↔ (ATOMIC_SIZE < length bytes.now) }
+
+        // It wrote, slept and woke so, or did nothing.
+        ensures wrote { Writes (key_of self.old.queue) self.old.row self.old.writer bytes.now
+            (writer_of self.old proc.old) result (writer_of self.new proc.new) }
+        ensures end { IsSameWriteEnd self.old self.new }
+        ensures words { proc.new.words ≡ proc.old.words }
+    {
+        if bytes.len() > ATOMIC_SIZE {
+            return Err(Fault::TooBig);
+        }
+        let block = Piece::of(Vec::from_slice(alloc, bytes)?);
+        let Some(seat) = self.seat.take() else {
+            unreachable!()
+        };
+        let Done { seat, answer } = write_with(self.queue, &self.row, rt, seat, proc, block);
+        self.seat = Some(seat);
+        answer
+    }
+}
+
+// A write is over: its end's seat, and the answer.
+#[derive(Drop)]
+struct Done {
+    seat: PutSeat,
+    answer: Result<u64, Fault>,
+}
+
+// How far one round of a write came.
+#[derive(Drop)]
+pub(crate) enum Turn {
+    Over(Result<u64, Fault>),
+    /// It slept, and tries again with this block.
+    Again(Piece),
+}
+
+#[derive(Drop)]
+struct Round {
+    seat: PutSeat,
+    turn: Turn,
+}
+
+// Tries and sleeps until it is answered.
+fn write_with<R: Wait>(
+    queue: &Queue,
+    row: &Row,
+    rt: &R,
+    seat: PutSeat,
+    proc: &mut Proc<'_>,
+    block: Piece,
+) -> Done
+    requires seat { IsWriteHand queue.now row.now seat.writer seat }
+    requires kernel { HasRow proc.old.words row.now }
+    ensures seat { IsWriteHand queue.now row.now seat.writer result.seat }
+    ensures words { proc.new.words ≡ proc.old.words }
+    ensures asked { Asks (key_of queue.now) row.now seat.writer block (writer_with seat proc.old) result.answer
+        (writer_with result.seat proc.new) }
+    ensures answer { IsAsked result.answer }
+{
+    let mut seat = seat;
+    let mut block = block;
+    'writing: for _ in rt.forever() {
+        let Round { seat: now, turn } = write_round(queue, row, rt, seat, proc, block);
+        seat = now;
+        match turn {
+            Turn::Over(answer) => return Done { seat, answer },
+            Turn::Again(back) => block = back,
+        }
+    }
+    unreachable!()
+}
+
+// One round: a put, and where there is no room a sleep.
+fn write_round<R: Wait>(
+    queue: &Queue,
+    row: &Row,
+    rt: &R,
+    seat: PutSeat,
+    proc: &mut Proc<'_>,
+    block: Piece,
+) -> Round
+    requires seat { IsWriteHand queue.now row.now seat.writer seat }
+    requires kernel { HasRow proc.old.words row.now }
+    ensures seat { IsWriteHand queue.now row.now seat.writer result.seat }
+    ensures words { proc.new.words ≡ proc.old.words }
+    ensures over { IfOver result.turn (key_of queue.now) row.now seat.writer block
+        (writer_with seat proc.old) (writer_with result.seat proc.new) }
+    ensures again { IfAgain result.turn (key_of queue.now) row.now seat.writer block
+        (writer_with seat proc.old) (writer_with result.seat proc.new) }
+{
+    let mut seat = seat;
+    let writer = seat.writer();
+    match queue.put(rt, &mut seat, block) {
+        PutAnswer::Taken(number) => {
+            wake(proc, row.reader(), number);
+            Round {
+                seat,
+                turn: Turn::Over(Ok(number)),
+            }
+        }
+        PutAnswer::Full(back, number) => match proc.sleep(rt, row.writer(writer), number) {
+            Ok(()) => Round {
+                seat,
+                turn: Turn::Again(back),
+            },
+            Err(fault) => Round {
+                seat,
+                turn: Turn::Over(Err(fault)),
+            },
+        },
+        PutAnswer::Hungup(_) => {
+            proc.put_back(NoteSet::of(Note::ClosedPipe));
+            Round {
+                seat,
+                turn: Turn::Over(Err(Fault::Hungup)),
+            }
+        }
+        PutAnswer::Worn(_) => Round {
+            seat,
+            turn: Turn::Over(Err(Fault::Worn)),
+        },
+    }
+}
