@@ -10,13 +10,21 @@ ghost use Rattle.p9sync.specs.Args.{command_line, status_of, task_asked, task_na
 ghost use Rattle.p9sync.specs.Device.{TakesAtMost};
 ghost use Rattle.p9sync.specs.declared.args.NoTask.TheVariants as why;
 
+use crate::device::write_whole;
+use crate::gate::OpenGate;
+use crate::report_text::push_report;
 use crate::run::{run_pipe, run_replay};
+use crate::threads::{LEAST_SIZE, MAX_WRITES, ThreadsOpts, run_threads};
+use clap::builder::ValueParser;
 use clap::error::ErrorKind;
-use clap::{Command, Error};
+use clap::{Arg, ArgAction, ArgMatches, Command, Error};
 use std::alloc::{AllocError, Global};
 use std::convert::AsStr;
 use std::io::{Read, Write};
+use std::sync::Wait;
+use std::thread::Threads;
 use sync_base::Fault;
+use sync_base::limits::{ATOMIC_SIZE, MAX_WRITERS};
 
 /// The status of a run that went well.
 pub const GOOD: u8 = 0;
@@ -30,11 +38,19 @@ pub const REFUSED: u8 = 2;
 /// The forms of the command line.
 const USAGE: &str = "usage: p9sync pipe | replay | threads --writers W --writes K --size S";
 
+/// The options of `threads`.
+const WRITERS: &str = "writers";
+
+const WRITES: &str = "writes";
+
+const SIZE: &str = "size";
+
 /// What a command line asks for.
 #[derive(Clone, Copy)]
 pub enum Task {
     Pipe,
     Replay,
+    Threads(ThreadsOpts),
 }
 
 /// Why a command line is no task.
@@ -47,7 +63,8 @@ enum NoTask {
 /// The whole program on its words, its name first. It reads a script from `reader`, writes the
 /// answers to `out`, and says on `err` why it failed; a failed write to `err` changes nothing.
 /// It answers the status: 0 where all went well, 1 for a fault, 2 for a refused command line.
-pub fn run_args<S: AsStr, R: Read, O: Write, E: Write>(
+pub fn run_args<T: Threads + Wait + Sync, S: AsStr, R: Read, O: Write, E: Write>(
+    rt: &T,
     alloc: Global,
     words: &[S],
     reader: &mut R,
@@ -78,6 +95,7 @@ pub fn run_args<S: AsStr, R: Read, O: Write, E: Write>(
     match task_of(alloc, words) {
         Ok(Task::Pipe) => end(run_pipe(alloc, reader, out), err),
         Ok(Task::Replay) => end(run_replay(alloc, reader, out), err),
+        Ok(Task::Threads(opts)) => tell_threads(rt, alloc, opts, out, err),
         Err(NoTask::OutOfMemory) => end(Err(Fault::Memory), err),
         Err(NoTask::Refused) => refuse(err),
     }
@@ -105,6 +123,36 @@ pub fn end<E: Write>(outcome: Result<(), Fault>, err: &mut E) -> u8
     }
 }
 
+/// Runs writers and a reader, and says what was read. What is out of order ends as a fault of which
+/// `err` says nothing.
+fn tell_threads<T: Threads + Wait + Sync, O: Write, E: Write>(
+    rt: &T,
+    alloc: Global,
+    opts: ThreadsOpts,
+    out: &mut O,
+    err: &mut E,
+) -> u8 {
+    match write_threads(rt, alloc, opts, out) {
+        Ok(true) => GOOD,
+        Ok(false) => FAULT,
+        Err(fault) => end(Err(fault), err),
+    }
+}
+
+/// Runs writers and a reader, writes what was read, and says whether it was in order.
+fn write_threads<T: Threads + Wait + Sync, O: Write>(
+    rt: &T,
+    alloc: Global,
+    opts: ThreadsOpts,
+    out: &mut O,
+) -> Result<bool, Fault> {
+    let report = run_threads(rt, alloc, opts, &OpenGate)?;
+    let mut text = Vec::new(alloc);
+    push_report(&mut text, &report)?;
+    write_whole(out, &text)?;
+    Ok(report.in_order)
+}
+
 /// What these words ask for.
 fn task_of<S: AsStr>(alloc: Global, words: &[S]) -> Result<Task, NoTask>
     ensures task { IfOk result (λ task. task_asked (map S.text words.now) ≡ Some task) }
@@ -114,20 +162,30 @@ fn task_of<S: AsStr>(alloc: Global, words: &[S]) -> Result<Task, NoTask>
     let command = command(alloc)?;
     let matches = command.try_get_matches_from(words)?;
     match matches.subcommand() {
-        Some((name, _)) => parse_task(name).ok_or(NoTask::Refused),
+        Some((name, given)) => parse_task(name, given).ok_or(NoTask::Refused),
         None => Err(NoTask::Refused),
     }
 }
 
 /// The run that a word names.
-fn parse_task(word: &str) -> Option<Task>
+fn parse_task(word: &str, given: &ArgMatches<'_>) -> Option<Task>
     ensures { result ≡ task_named word.now }
 {
     match word {
         "pipe" => Some(Task::Pipe),
         "replay" => Some(Task::Replay),
+        "threads" => Some(Task::Threads(parse_opts(given)?)),
         _ => None,
     }
+}
+
+/// What the options of `threads` say.
+fn parse_opts(given: &ArgMatches<'_>) -> Option<ThreadsOpts> {
+    Some(ThreadsOpts {
+        writers: given.get_one::<u64>(WRITERS)?,
+        writes: given.get_one::<u64>(WRITES)?,
+        size: given.get_one::<u64>(SIZE)?,
+    })
 }
 
 /// The grammar of the command line. Help and a version are no part of it.
@@ -140,7 +198,26 @@ fn command<'a>(alloc: Global) -> Result<Command<'a>, AllocError>
         .disable_version_flag(true)
         .subcommand_required(true)
         .subcommand(Command::new(alloc, "pipe").disable_help_flag(true))?
-        .subcommand(Command::new(alloc, "replay").disable_help_flag(true))
+        .subcommand(Command::new(alloc, "replay").disable_help_flag(true))?
+        .subcommand(threads_command(alloc)?)
+}
+
+/// The command `threads` with its options.
+fn threads_command<'a>(alloc: Global) -> Result<Command<'a>, AllocError> {
+    Command::new(alloc, "threads")
+        .disable_help_flag(true)
+        .arg(number_option(alloc, WRITERS, 1, MAX_WRITERS))?
+        .arg(number_option(alloc, WRITES, 1, MAX_WRITES))?
+        .arg(number_option(alloc, SIZE, LEAST_SIZE, ATOMIC_SIZE as u64))
+}
+
+/// An option that has to be given once, with a number within these bounds.
+fn number_option<'a>(alloc: Global, name: &'a str, least: u64, most: u64) -> Arg<'a> {
+    Arg::new(alloc, name)
+        .long(name)
+        .required(true)
+        .action(ArgAction::Set)
+        .value_parser(ValueParser::Unsigned(least, most))
 }
 
 impl From<AllocError> for NoTask {
