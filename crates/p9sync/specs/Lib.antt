@@ -10,5 +10,6 @@ pub mod ReportText
 pub mod Schedule
 pub mod Script
 pub mod ScriptLaws
+pub mod Tally
 pub mod TextLaws
 pub mod Threads

@@ -1,14 +1,14 @@
 -- What a run on threads is asked for, and what it answers.
 use Rattle.std.specs.Prelude.{◌≡◌, ◌≤◌, ◌*◌, ℕ, Bool, true}
 use Rattle.sync_base.specs.declared.limits.TheConstants.{ATOMIC_SIZE, MAX_WRITERS}
-use Rattle.p9sync.specs.declared.threads.TheConstants.{LEAST_SIZE, MAX_WRITES}
-use Rattle.p9sync.specs.declared.threads.ThreadsOpts.{ThreadsOpts}
-use Rattle.p9sync.specs.declared.threads.Report.{Report}
+use Rattle.p9sync.specs.declared.opts.TheConstants.{LEAST_SIZE, MAX_WRITES}
+use Rattle.p9sync.specs.declared.opts.ThreadsOpts.{ThreadsOpts}
+use Rattle.p9sync.specs.declared.opts.Report.{Report}
 
 -- a number lies between two others
 pub record IsBetween (least most n : ℕ) : Type 0 where
-  pub least : least ≤ n
-  pub most : n ≤ most
+  pub at_least : least ≤ n
+  pub at_most : n ≤ most
 
 -- what may be asked for
 pub record AreWithin (opts : ThreadsOpts) : Type 0 where

@@ -6,15 +6,18 @@ ghost use Rattle.clap.specs.Simple.{app_of};
 ghost use Rattle.clap.specs.Words.{kind_of};
 ghost use Rattle.clap.specs.declared.error.kind.ErrorKind.TheVariants as kind;
 ghost use Rattle.p9sync.specs.declared.script.TheConstants.{MAX_SCRIPT};
-ghost use Rattle.p9sync.specs.Args.{command_line, status_of, task_asked, task_named, told_by, EndsRun};
+ghost use Rattle.p9sync.specs.Args.{command_line, command_named, number_between, opts_asked};
+ghost use Rattle.p9sync.specs.Args.{option_asked, status_of, task_asked, threads_command};
+ghost use Rattle.p9sync.specs.Args.{EndsTask, EndsThreads, ReadsNothing};
 ghost use Rattle.p9sync.specs.Device.{TakesAtMost};
 ghost use Rattle.p9sync.specs.declared.args.NoTask.TheVariants as why;
 
 use crate::device::write_whole;
 use crate::gate::OpenGate;
+use crate::opts::{LEAST_SIZE, MAX_WRITES, ThreadsOpts};
 use crate::report_text::push_report;
 use crate::run::{run_pipe, run_replay};
-use crate::threads::{LEAST_SIZE, MAX_WRITES, ThreadsOpts, run_threads};
+use crate::threads::run_threads;
 use clap::builder::ValueParser;
 use clap::error::ErrorKind;
 use clap::{Arg, ArgAction, ArgMatches, Command, Error};
@@ -86,8 +89,9 @@ pub fn run_args<T: Threads + Wait + Sync, S: AsStr, R: Read, O: Write, E: Write>
     ensures at_most { TakesAtMost (MAX_SCRIPT + 1)
         (R.remaining reader.old) (R.remaining reader.new) }
     ensures runs { IfSome (task_asked (map S.text words.now)) (λ task.
-        IfSome (R.remaining reader.old) (λ input.
-        EndsRun (told_by task input) (O.contents out.old) (O.contents out.new) result)) }
+        EndsTask task (R.remaining reader.old) (O.contents out.old) (O.contents out.new) result) }
+    ensures no_script { IfSome (task_asked (map S.text words.now)) (λ task.
+        ReadsNothing task → Keeps (R.remaining reader.old) (R.remaining reader.new)) }
 
     // A run that ends well says nothing else.
     ensures silent { result ≡ GOOD → Keeps (E.contents err.old) (E.contents err.new) }
@@ -131,7 +135,10 @@ fn tell_threads<T: Threads + Wait + Sync, O: Write, E: Write>(
     opts: ThreadsOpts,
     out: &mut O,
     err: &mut E,
-) -> u8 {
+) -> u8
+    ensures ends { EndsThreads opts (O.contents out.old) (O.contents out.new) result }
+    ensures silent { result ≡ GOOD → Keeps (E.contents err.old) (E.contents err.new) }
+{
     match write_threads(rt, alloc, opts, out) {
         Ok(true) => GOOD,
         Ok(false) => FAULT,
@@ -145,7 +152,12 @@ fn write_threads<T: Threads + Wait + Sync, O: Write>(
     alloc: Global,
     opts: ThreadsOpts,
     out: &mut O,
-) -> Result<bool, Fault> {
+) -> Result<bool, Fault>
+    ensures good { IfOk result (λ good. (report : Report) × IsReportOf opts report
+        × (report.in_order ≡ good) × Appends (O.contents out.old) (O.contents out.new) (report_line report)) }
+    ensures failed { OnErr result ((report : Report) × IsReportOf opts report
+        × AppendsFront (O.contents out.old) (O.contents out.new) (report_line report)) }
+{
     let report = run_threads(rt, alloc, opts, &OpenGate)?;
     let mut text = Vec::new(alloc);
     push_report(&mut text, &report)?;
@@ -169,7 +181,7 @@ fn task_of<S: AsStr>(alloc: Global, words: &[S]) -> Result<Task, NoTask>
 
 /// The run that a word names.
 fn parse_task(word: &str, given: &ArgMatches<'_>) -> Option<Task>
-    ensures { result ≡ task_named word.now }
+    ensures { result ≡ command_named word.now (rows_of (found_of given.now)) }
 {
     match word {
         "pipe" => Some(Task::Pipe),
@@ -180,12 +192,21 @@ fn parse_task(word: &str, given: &ArgMatches<'_>) -> Option<Task>
 }
 
 /// What the options of `threads` say.
-fn parse_opts(given: &ArgMatches<'_>) -> Option<ThreadsOpts> {
+fn parse_opts(given: &ArgMatches<'_>) -> Option<ThreadsOpts>
+    ensures { result ≡ opts_asked (rows_of (found_of given.now)) }
+{
     Some(ThreadsOpts {
-        writers: given.get_one::<u64>(WRITERS)?,
-        writes: given.get_one::<u64>(WRITES)?,
-        size: given.get_one::<u64>(SIZE)?,
+        writers: parse_number(given, WRITERS)?,
+        writes: parse_number(given, WRITES)?,
+        size: parse_number(given, SIZE)?,
     })
+}
+
+/// The number that was given for an option.
+fn parse_number(given: &ArgMatches<'_>, name: &str) -> Option<u64>
+    ensures { result ≡ option_asked name.now (rows_of (found_of given.now)) }
+{
+    given.get_one::<u64>(name)
 }
 
 /// The grammar of the command line. Help and a version are no part of it.
@@ -203,7 +224,9 @@ fn command<'a>(alloc: Global) -> Result<Command<'a>, AllocError>
 }
 
 /// The command `threads` with its options.
-fn threads_command<'a>(alloc: Global) -> Result<Command<'a>, AllocError> {
+fn threads_command<'a>(alloc: Global) -> Result<Command<'a>, AllocError>
+    ensures shape { IfOk result (λ command. shape_of command ≡ threads_command) }
+{
     Command::new(alloc, "threads")
         .disable_help_flag(true)
         .arg(number_option(alloc, WRITERS, 1, MAX_WRITERS))?
@@ -212,7 +235,9 @@ fn threads_command<'a>(alloc: Global) -> Result<Command<'a>, AllocError> {
 }
 
 /// An option that has to be given once, with a number within these bounds.
-fn number_option<'a>(alloc: Global, name: &'a str, least: u64, most: u64) -> Arg<'a> {
+fn number_option<'a>(alloc: Global, name: &'a str, least: u64, most: u64) -> Arg<'a>
+    ensures { rule_of result ≡ number_between least most name.entry.now }
+{
     Arg::new(alloc, name)
         .long(name)
         .required(true)

@@ -1,8 +1,13 @@
 //! What each thread of a run does. Before this: `tally`. After it: `threads`.
+ghost use Rattle.std.specs.Prelude.{◌≡◌, IfOk};
+ghost use Rattle.p9sync.specs.declared.opts.ThreadsOpts.{ThreadsOpts};
+ghost use Rattle.p9sync.specs.Tally.{IsTallyOf};
+ghost use Rattle.p9sync.specs.Threads.{AreWithin, IsReportOf};
+
 use crate::gate::Gate;
 use crate::message::fill;
+use crate::opts::{Report, ThreadsOpts};
 use crate::tally::Tally;
-use crate::threads::{Report, ThreadsOpts};
 use pipe_dev::{Ends, Parts, ReadAnswer, ReadEnd, WriteEnd};
 use sleep_wakeup::{Proc, Roster};
 use std::alloc::Global;
@@ -52,37 +57,57 @@ impl<'k, 'p> Writer<'k, 'p> {
     }
 }
 
-/// The reader, before and after it reads.
+/// The reader.
 #[derive(Drop)]
 pub struct Reader<'k, 'p> {
     proc: Proc<'k>,
     end: ReadEnd<'p>,
     buffer: Vec<u8>,
-    tally: Tally,
+    pub(crate) tally: Tally,
+}
+
+/// What a reader has counted, and why it read no more, if it did not come to the end.
+#[derive(Drop)]
+pub struct Counted {
+    pub(crate) tally: Tally,
     read: Result<(), Fault>,
 }
 
 impl<'k, 'p> Reader<'k, 'p> {
     /// Reads and counts until the end. Where it can read no more it hangs the pipe up.
-    pub fn read_all<R: Wait>(mut self, rt: &R) -> Reader<'k, 'p> {
+    pub fn read_all<R: Wait>(mut self, rt: &R) -> Counted
+        ensures { (opts : ThreadsOpts) → IsTallyOf opts self.tally → IsTallyOf opts result.tally }
+    {
+        let mut read = Ok(());
         for _ in rt.forever() {
             match self.end.read(rt, &mut self.proc, &mut self.buffer) {
                 Ok(ReadAnswer::Got(count)) => self.tally.count(&self.buffer[..count]),
                 Ok(ReadAnswer::End) => break,
                 Err(fault) => {
-                    self.read = Err(fault);
                     self.end.hangup(&mut self.proc);
+                    read = Err(fault);
                     break;
                 }
             }
         }
-        self
+        let Reader {
+            proc: _,
+            end: _,
+            buffer: _,
+            tally,
+        } = self;
+        Counted { tally, read }
     }
+}
 
-    /// What it has read up to the end, or why it did not come to the end.
-    pub fn report(&self, writers: u64) -> Result<Report, Fault> {
+impl Counted {
+    /// What was read up to the end, or why it did not come to the end.
+    pub fn report(&self, opts: &ThreadsOpts) -> Result<Report, Fault>
+        requires { IsTallyOf opts.now self.now.tally }
+        ensures { IfOk result (IsReportOf opts.now) }
+    {
         self.read?;
-        Ok(self.tally.report(writers))
+        Ok(self.tally.report(opts.writers))
     }
 }
 
@@ -102,7 +127,10 @@ impl<'k, 'p> Crew<'k, 'p> {
         roster: &mut Roster<'k>,
         proc: Proc<'k>,
         ends: Ends<'p>,
-    ) -> Result<Crew<'k, 'p>, Fault> {
+    ) -> Result<Crew<'k, 'p>, Fault>
+        requires { AreWithin opts.now }
+        ensures { IfOk result (λ crew. IsTallyOf opts.now crew.reader.tally) }
+    {
         let Parts { read, writes: _ } = ends.first.parts();
         let Parts { read: _, writes } = ends.second.parts();
         let mut proc = proc;
@@ -125,7 +153,6 @@ impl<'k, 'p> Crew<'k, 'p> {
             end: read,
             buffer: vec![in alloc; 0; opts.size as usize]?,
             tally: Tally::new(alloc, opts)?,
-            read: Ok(()),
         };
         Ok(Crew { reader, writers })
     }

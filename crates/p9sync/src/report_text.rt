@@ -3,7 +3,7 @@ ghost use Rattle.std.specs.Prelude.{◌≡◌, ◌++◌, OnOk};
 ghost use Rattle.std.specs.Fmt.{decimal};
 ghost use Rattle.p9sync.specs.ReportText.{report_line};
 
-use crate::threads::Report;
+use crate::opts::Report;
 use std::alloc::AllocError;
 
 /// The line of a report.

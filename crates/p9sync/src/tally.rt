@@ -1,56 +1,36 @@
-//! What the reader finds. Before this: `message`. After it: `crew`.
-use crate::message::{fill, writer_of};
-use crate::threads::{Report, ThreadsOpts};
+//! What the reader finds. Before this: `opts`. After it: `crew`.
+ghost use Rattle.std.specs.Prelude.{◌≡◌, ◌≤◌, ◌<◌, ◌*◌, ◌^◌, true, length, vec_len};
+ghost use Rattle.p9sync.specs.declared.message.TheConstants.{HEAD};
+ghost use Rattle.p9sync.specs.Message.{message_of};
+
+use crate::message::{HEAD, fill, writer_of};
+use crate::opts::{Report, ThreadsOpts};
 use std::alloc::{AllocError, Global};
 
-/// What was read, and whether each piece was a whole message and the next of its writer.
+/// What the reader expects: the next message of each writer.
 #[derive(Drop)]
-pub struct Tally {
-    writes: u64,
-    bytes: u64,
-    in_order: bool,
-    /// How many messages each writer has, and all of them together.
-    each: u64,
-    most: u64,
+pub struct Expected {
+    /// How many messages each writer has.
+    pub(crate) each: u64,
     /// The number of the next message of each writer.
-    next: Vec<u64>,
+    pub(crate) next: Vec<u64>,
     /// Where a message is made, to be compared.
-    message: Vec<u8>,
+    pub(crate) message: Vec<u8>,
+    pub(crate) ghost head: { HEAD ≤ vec_len message },
 }
 
-impl Tally {
-    /// Nothing was read.
-    pub fn new(alloc: Global, opts: &ThreadsOpts) -> Result<Tally, AllocError> {
-        Ok(Tally {
-            writes: 0,
-            bytes: 0,
-            in_order: true,
-            each: opts.writes,
-            most: opts.writers * opts.writes,
-            next: vec![in alloc; 0; opts.writers as usize]?,
-            message: vec![in alloc; 0; opts.size as usize]?,
-        })
-    }
+impl Expected {
+    ghost use Rattle.std.specs.Prelude.{◌≡◌, true, vec_len};
+    ghost use Rattle.p9sync.specs.Tally.{TakesNext};
 
-    /// Counts a piece that was read.
-    pub fn count(&mut self, piece: &[u8]) {
-        self.in_order = self.in_order && self.writes < self.most && self.is_next(piece);
-        self.writes = self.writes.saturating_add(1);
-        self.bytes = self.bytes.saturating_add(piece.len() as u64);
-    }
-
-    /// What was read, of so many writers.
-    pub fn report(&self, writers: u64) -> Report {
-        Report {
-            writers,
-            writes: self.writes,
-            bytes: self.bytes,
-            in_order: self.in_order,
-        }
-    }
-
-    // Whether it is a whole message, and the next of its writer.
-    fn is_next(&mut self, piece: &[u8]) -> bool {
+    // Whether the piece is the next message of its writer. Then another is the next.
+    fn take_next(&mut self, piece: &[u8]) -> bool
+        ensures same { vec_len self.new.message ≡ vec_len self.old.message }
+        ensures each { self.new.each ≡ self.old.each }
+        ensures size { result ≡ true → length piece.now ≡ vec_len self.old.message }
+        ensures next { result ≡ true → TakesNext self.old.each (vec_len self.old.message)
+            self.old.next.items self.new.next.items piece.now }
+    {
         if piece.len() != self.message.len() {
             return false;
         }
@@ -61,8 +41,83 @@ impl Tally {
         if *next >= self.each {
             return false;
         }
-        fill(&mut self.message, writer, *next);
+        let number = *next;
         *next += 1;
-        self.message.as_slice() == piece
+        is_message(&mut self.message, writer, number, piece)
+    }
+}
+
+// Whether the piece is this message, which is made to be compared.
+fn is_message(room: &mut [u8], writer: u64, number: u64, piece: &[u8]) -> bool
+    requires { HEAD ≤ length room.old }
+    ensures same { length room.new ≡ length room.old }
+    ensures is { result ≡ true → piece.now ≡ message_of (length room.old) writer number }
+{
+    fill(room, writer, number);
+    &*room == piece
+}
+
+/// What was read, and whether each piece was a whole message and the next of its writer.
+#[derive(Drop)]
+pub struct Tally {
+    pub(crate) writes: u64,
+    pub(crate) bytes: u64,
+    pub(crate) in_order: bool,
+    /// How many messages all writers have together.
+    pub(crate) most: u64,
+    pub(crate) expected: Expected,
+    pub(crate) ghost whole: { in_order ≡ true → bytes ≡ writes * vec_len expected.message },
+    pub(crate) ghost few: { in_order ≡ true → writes ≤ most },
+    pub(crate) ghost small: { most * vec_len expected.message < 2 ^ 64 },
+}
+
+impl Tally {
+    ghost use Rattle.std.specs.Prelude.{◌≡◌, IfOk};
+    ghost use Rattle.p9sync.specs.declared.opts.ThreadsOpts.{ThreadsOpts};
+    ghost use Rattle.p9sync.specs.Tally.{IsTallyOf};
+    ghost use Rattle.p9sync.specs.Threads.{AreWithin, IsReportOf};
+
+    /// Nothing was read.
+    pub fn new(alloc: Global, opts: &ThreadsOpts) -> Result<Tally, AllocError>
+        requires { AreWithin opts.now }
+        ensures { IfOk result (IsTallyOf opts.now) }
+    {
+        Ok(Tally {
+            writes: 0,
+            bytes: 0,
+            in_order: true,
+            most: opts.writers * opts.writes,
+            expected: Expected {
+                each: opts.writes,
+                next: vec![in alloc; 0; opts.writers as usize]?,
+                message: vec![in alloc; 0; opts.size as usize]?,
+            },
+        })
+    }
+
+    /// Counts a piece that was read.
+    pub fn count(&mut self, piece: &[u8])
+        ensures { (opts : ThreadsOpts) → IsTallyOf opts self.old → IsTallyOf opts self.new }
+    {
+        if self.in_order && self.writes < self.most && self.expected.take_next(piece) {
+            self.writes += 1;
+            self.bytes += piece.len() as u64;
+        } else {
+            self.in_order = false;
+            self.writes = self.writes.saturating_add(1);
+            self.bytes = self.bytes.saturating_add(piece.len() as u64);
+        }
+    }
+
+    /// What was read, of so many writers.
+    pub fn report(&self, writers: u64) -> Report
+        ensures { (opts : ThreadsOpts) → opts.writers ≡ writers → IsTallyOf opts self.now → IsReportOf opts result }
+    {
+        Report {
+            writers,
+            writes: self.writes,
+            bytes: self.bytes,
+            in_order: self.in_order,
+        }
     }
 }

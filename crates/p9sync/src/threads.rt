@@ -1,8 +1,13 @@
 //! Many writers and one reader, each on a thread of its own, on one direction of a pipe. Before this:
-//! `crew`. After it: `args`, the command line.
-use crate::crew::{Crew, Writer};
+//! `crew`. After it: `report_text`.
+ghost use Rattle.std.specs.Prelude.{◌≡◌, ¬◌, IfOk, Err};
+ghost use Rattle.sync_base.specs.declared.fault.Fault.TheVariants.{BadArg};
+ghost use Rattle.p9sync.specs.Threads.{AreWithin, IsReportOf};
+ghost use Rattle.p9sync.specs.Tally.{IsTallyOf};
+
+use crate::crew::{Counted, Crew, Writer};
 use crate::gate::Gate;
-use crate::message::HEAD;
+use crate::opts::{Report, ThreadsOpts};
 use pipe_dev::Pipe;
 use sleep_wakeup::{Kernel, Started};
 use std::alloc::Global;
@@ -10,48 +15,11 @@ use std::sync::Wait;
 use std::sync::atomic::AtomicBool;
 use std::sync::atomic::Ordering::SeqCst;
 use std::thread;
-use std::thread::{JoinHandle, Scope, Threads};
+use std::thread::{JoinHandle, Promise, Threads};
 use sync_base::Fault;
-use sync_base::limits::{ATOMIC_SIZE, MAX_WRITERS};
-
-/// The most writes of one writer. The least is 1.
-pub const MAX_WRITES: u64 = 100_000;
-
-/// The least bytes of a message: its head. The most is the atomic size of a pipe.
-pub const LEAST_SIZE: u64 = HEAD as u64;
 
 /// How many writes the pipe holds that no read has begun.
 pub const LIMIT: u64 = 16;
-
-/// What is run.
-#[derive(Clone, Copy, Debug, PartialEq, Eq)]
-pub struct ThreadsOpts {
-    /// How many writers, from 1 to 64.
-    pub writers: u64,
-    /// How many messages each of them writes, from 1 to 100,000.
-    pub writes: u64,
-    /// How many bytes each message has, from 16 to 8,192.
-    pub size: u64,
-}
-
-impl ThreadsOpts {
-    /// Whether each lies within its limits.
-    pub fn is_within(&self) -> bool {
-        (1..=MAX_WRITERS).contains(&self.writers)
-            && (1..=MAX_WRITES).contains(&self.writes)
-            && (LEAST_SIZE..=ATOMIC_SIZE as u64).contains(&self.size)
-    }
-}
-
-/// What the reader has read, up to the end.
-#[derive(Clone, Copy, Debug, PartialEq, Eq)]
-pub struct Report {
-    pub writers: u64,
-    pub writes: u64,
-    pub bytes: u64,
-    /// Whether each piece was a whole message, and the next of its writer.
-    pub in_order: bool,
-}
 
 /// Runs so many writers and one reader, each on a thread of its own, on one direction of a pipe:
 /// each writer writes its messages, which are those of `message`, and the reader reads until the
@@ -64,7 +32,13 @@ pub fn run_threads<R: Threads + Wait + Sync, G: Gate + Sync>(
     alloc: Global,
     opts: ThreadsOpts,
     gate: &G,
-) -> Result<Report, Fault> {
+) -> Result<Report, Fault>
+    // Refused first.
+    ensures bad_arg { (¬ AreWithin opts) → result ≡ Err BadArg }
+
+    // Otherwise it reports what was read.
+    ensures report { IfOk result (IsReportOf opts) }
+{
     if !opts.is_within() {
         return Err(Fault::BadArg);
     }
@@ -73,26 +47,45 @@ pub fn run_threads<R: Threads + Wait + Sync, G: Gate + Sync>(
     let Started { mut roster, proc } = kernel.start(start);
     let pipe_dev::Opened { pipe, start } = Pipe::new(alloc, &mut roster, LIMIT, opts.writers)?;
     let crew = Crew::new(alloc, &opts, &mut roster, proc, pipe.ends(start))?;
-    run_crew(rt, alloc, gate, crew)
+    run_crew(rt, alloc, opts, gate, crew)
+}
+
+// The reader's thread counts by these options.
+#[derive(Drop)]
+struct CountsBy(ThreadsOpts);
+
+impl Promise<Counted> for CountsBy {
+    ghost use Rattle.p9sync.specs.Tally.{IsTallyOf};
+
+    ghost kept_by = { λ promise counted. IsTallyOf promise.0 counted.tally };
 }
 
 // Runs each of the crew on a thread of its own, and joins them all.
 fn run_crew<'k, 'p, R: Threads + Wait + Sync, G: Gate + Sync>(
     rt: &R,
     alloc: Global,
+    opts: ThreadsOpts,
     gate: &G,
     crew: Crew<'k, 'p>,
-) -> Result<Report, Fault> {
+) -> Result<Report, Fault>
+    requires { IsTallyOf opts crew.reader.tally }
+    ensures { IfOk result (IsReportOf opts) }
+{
     let Crew { reader, writers } = crew;
     let mut running = Vec::with_capacity(alloc, writers.len())?;
     let called_off = AtomicBool::new(false);
     let off = &called_off;
-    let count = writers.len() as u64;
     thread::scope(
         thread::scope_env(),
         rt,
         move |scope| -> Result<Report, Fault> {
-            let Ok(reading) = scope.spawn(move || reader.read_all(rt)) else {
+            let Ok(reading) = scope.spawn_with(
+                CountsBy(opts),
+                move || -> Counted
+                    requires { IsTallyOf opts reader.tally }
+                    ensures { IsTallyOf opts.entry result.tally }
+                { reader.read_all(rt) },
+            ) else {
                 return Err(Fault::Device);
             };
             let mut started = Ok(());
@@ -108,7 +101,7 @@ fn run_crew<'k, 'p, R: Threads + Wait + Sync, G: Gate + Sync>(
                 }
             }
             let wrote = join_writers(rt, running);
-            let report = reading.join(rt).report(count);
+            let report = reading.join(rt).report(&opts);
             started?;
             let report = report?;
             wrote?;

@@ -1,8 +1,8 @@
 //! What a tally finds in order, and in what it finds a mistake; and what is said of it.
 use crate::message::fill;
+use crate::opts::ThreadsOpts;
 use crate::report_text::push_report;
 use crate::tally::Tally;
-use crate::threads::ThreadsOpts;
 use std::alloc::{AllocError, Global};
 use std::test::Fail;
 

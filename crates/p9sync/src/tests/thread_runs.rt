@@ -1,8 +1,9 @@
 //! Runs on threads: what each command line and each gate makes of them. Every run ends by itself,
 //! whatever the schedule.
 use crate::gate::{Gate, OpenGate};
+use crate::opts::{Report, ThreadsOpts};
 use crate::tests::run;
-use crate::threads::{Report, ThreadsOpts, run_threads};
+use crate::threads::run_threads;
 use std::sync::atomic::AtomicU64;
 use std::sync::atomic::Ordering::SeqCst;
 use std::test::Fail;
