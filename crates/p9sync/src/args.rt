@@ -1,15 +1,20 @@
 //! The program on its words: what the command line asks for, and how it ends. Before this:
 //! `run`.
-ghost use Rattle.std.specs.Prelude.{◌≡◌, ◌≤◌, ◌<◌, ◌+◌, ◌↔◌, Some, None, map, IfOk, IfErr, IfSome, IsOk};
+ghost use Rattle.std.specs.Prelude.{◌≡◌, ◌≤◌, ◌<◌, ◌+◌, ◌↔◌, Some, None, map, IfOk, IfErr, IfSome, IsOk, OnErr};
 ghost use Rattle.std.specs.Io.KnownBytes.{Keeps};
-ghost use Rattle.clap.specs.Simple.{app_of};
-ghost use Rattle.clap.specs.Words.{kind_of};
+ghost use Rattle.clap.specs.Simple.{app_of, shape_of};
+ghost use Rattle.clap.specs.Walk.{rows_of, rule_of};
+ghost use Rattle.clap.specs.Words.{found_of, kind_of};
 ghost use Rattle.clap.specs.declared.error.kind.ErrorKind.TheVariants as kind;
 ghost use Rattle.p9sync.specs.declared.script.TheConstants.{MAX_SCRIPT};
 ghost use Rattle.p9sync.specs.Args.{command_line, command_named, number_between, opts_asked};
 ghost use Rattle.p9sync.specs.Args.{option_asked, status_of, task_asked, threads_command};
 ghost use Rattle.p9sync.specs.Args.{EndsTask, EndsThreads, ReadsNothing};
-ghost use Rattle.p9sync.specs.Device.{TakesAtMost};
+ghost use Rattle.p9sync.specs.declared.opts.Report.{Report};
+ghost use Rattle.p9sync.specs.Device.{AppendsFront, TakesAtMost};
+ghost use Rattle.p9sync.specs.ReportText.{report_line};
+ghost use Rattle.p9sync.specs.Threads.{IsReportOf};
+ghost use Rattle.std.specs.Io.KnownBytes.{Appends};
 ghost use Rattle.p9sync.specs.declared.args.NoTask.TheVariants as why;
 
 use crate::device::write_whole;
