@@ -7,7 +7,7 @@ use Rattle.std.proofs.lemmas.Bool.Decides.{same_from_decides}
 use Rattle.std.proofs.lemmas.List.{append-nil}
 use Rattle.std.proofs.lemmas.Slice.Eq.{bytes_eq-Decides}
 use Rattle.clap.specs.Lexer.{long_of, short_of}
-use Rattle.clap.specs.Walk.{Names, Row, Rule, Text, Walk, idle, walk, walk_from, walked, nothing_held, bundle_met, subcommand_met}
+use Rattle.clap.specs.Walk.{Names, Row, rows_of, Rule, Text, Walk, idle, walk, walk_from, walked, nothing_held, bundle_met, subcommand_met}
 use Rattle.clap.specs.Simple.{Shape, built, entered, names_of, subcommand_of, subcommand_rows}
 use Rattle.clap.specs.declared.parser.matches.SubCommand.{SubCommand}
 use Rattle.clap.specs.declared.parser.matches.ArgMatches.TheViews.{out-SubCommand}
@@ -15,6 +15,12 @@ use Rattle.std.specs.Box.{box_value}
 use Rattle.std.specs.Prelude.{Box}
 use Rattle.clap.specs.Kinds.{HasKind, Kinds, or_else}
 use Rattle.clap.specs.Values.{kind_of}
+use Rattle.clap.specs.Matches.{found_of, ReadsOne}
+use Rattle.clap.specs.ValueTests.{accepts, is_unsigned_in}
+use Rattle.clap.specs.declared.builder.value_parser.ValueParser.TheVariants as vp
+use Rattle.clap.proofs.ValueTestLemmas.{accepts-Accepts, Accepts-accepts}
+use Rattle.std.specs.Str.Parse.{ParsesUnsigned, digits_value, without_leading_plus}
+use Rattle.std.specs.Prelude.{option_and_then, ◌-◌, ◌^◌, Ok}
 use Rattle.clap.specs.declared.error.Error.{Error}
 use Rattle.clap.specs.declared.error.kind.ErrorKind.TheVariants as kind
 use Rattle.clap.specs.Takes.{takes}
@@ -32,7 +38,7 @@ use Rattle.p9sync.specs.declared.opts.Report.{Report}
 use Rattle.p9sync.specs.Threads.{IsReportOf}
 use Rattle.p9sync.specs.Lines.{is_word}
 use Rattle.p9sync.specs.declared.args.TheConstants.{FAULT}
-use Rattle.p9sync.specs.Args.{command_line, command_named, script_asked, task_asked, task_named, threads_asked, threads_named, EndsTask, EndsThreads}
+use Rattle.p9sync.specs.Args.{command_line, command_named, number_asked, script_asked, task_asked, task_named, threads_asked, threads_named, EndsTask, EndsThreads}
 use Rattle.sync_base.specs.declared.fault.Fault.TheVariants.{Memory}
 use Rattle.p9sync.proofs.DeviceLemmas.{appends_nothing}
 
@@ -477,7 +483,41 @@ module _ {Z : Type 0} where
       → option_map (λ p. p.1) (subcommand_rows found) ≡ Some rows
       → subcommand_rows found ≡ Some (name, rows)
   met_of_parts None name rows is_name is_rows = absurd (cc)
-  met_of_parts (Some b) name rows is_name is_rows = ?
+  met_of_parts (Some b) name rows is_name is_rows =
+      let named : (out-SubCommand (box_value b)).name.now ≡ name = cc in
+      let given : rows_of (found_of (out-SubCommand (box_value b)).matches) ≡ rows = cc in
+      ap₂ (λ n r. Some (n, r)) named given
+
+-- the greatest number that an option may spell
+abbrev top_number : ℕ
+top_number = 2 ^ 64 - 1
+
+-- a text that was read as a number is one
+module _ {E : Type 0} where
+  number_read : (text : Text) (r : Option ℕ)
+      → ReadsOne {ℕ} {E} (λ t v. ParsesUnsigned 64 10 t v) text r → r ≡ number_asked text
+  number_read text (Some v) (numeral, is) =
+      let passes : is_unsigned_in 0 top_number text ≡ true =
+      Accepts-accepts false (vp.Unsigned 0 top_number) text
+      (numeral.0, numeral.1, omega arith, omega (arith, numeral.1)) in
+      rw passes (ap Some is)
+  number_read text None (e, refused) = by_test (is_unsigned_in 0 top_number text) refl
+    where
+      by_test : (passes : Bool) → is_unsigned_in 0 top_number text ≡ passes
+          → None ≡ number_asked text
+      by_test true is =
+          let accepted = accepts-Accepts false (vp.Unsigned 0 top_number) text is in
+          absurd (refused (accepted.0, accepted.1))
+      by_test false is = rw is refl
+
+  -- so what an option was given is read as the definition says
+  pub option_read : (given : Option Text) (r : Option ℕ)
+      → (given ≡ None → r ≡ None)
+      → ((text : Text) → given ≡ Some text
+          → ReadsOne {ℕ} {E} (λ t v. ParsesUnsigned 64 10 t v) text r)
+      → r ≡ option_and_then number_asked given
+  option_read None r none read = none refl
+  option_read (Some text) r none read = number_read text r (read text refl)
 
 -- a run that was found is asked for, and where none was none is
 pub found_is : (asked found : Option Task) (r : Result Task NoTask) → asked ≡ found

@@ -9,7 +9,8 @@ use Rattle.clap.specs.Simple.{App, Shape, new_app, new_rule, new_shape, on_top, 
 use Rattle.clap.specs.Simple.{with_subcommand}
 use Rattle.clap.specs.Faults.{fault_of}
 use Rattle.clap.specs.ValueTests.{is_unsigned_in}
-use Rattle.clap.specs.Walk.{Row, Rule, is_empty, one_of}
+use Rattle.clap.specs.Kinds.{Kinds}
+use Rattle.clap.specs.Walk.{Row, Rule, one_of}
 use Rattle.clap.specs.declared.builder.action.ArgAction.TheVariants.{Set}
 use Rattle.clap.specs.declared.builder.value_parser.ValueParser.TheVariants as vp
 use Rattle.sync_base.specs.declared.fault.Fault.{Fault}
@@ -123,13 +124,16 @@ threads_named word rows =
 abbrev pub command_named : List ℕ → List Row → Option Task
 command_named word rows = option_or (task_named word) (threads_named word rows)
 
+-- what is asked for where no kind of error is found
+abbrev pub if_faultless : Kinds → Option Task → Option Task
+if_faultless [] asked = asked
+if_faultless (kind ∷ kinds) asked = None
+
 -- The run on threads that the words ask for: `clap` finds no fault in them, and what it finds for the
 -- options are numbers.
 abbrev pub threads_asked : List (List ℕ) → Option Task
-threads_asked words =
-    if is_empty (fault_of command_line words)
-    then option_and_then (λ met. threads_named met.0 met.1) (subcommand_of command_line words)
-    else None
+threads_asked words = if_faultless (fault_of command_line words)
+    (option_and_then (λ met. threads_named met.0 met.1) (subcommand_of command_line words))
 
 -- the run that the words ask for
 abbrev pub task_asked : List (List ℕ) → Option Task

@@ -1,9 +1,10 @@
 //! The program on its words: what the command line asks for, and how it ends. Before this:
 //! `run`.
-ghost use Rattle.std.specs.Prelude.{◌≡◌, ◌≤◌, ◌<◌, ◌+◌, ◌↔◌, Some, None, map, IfOk, IfErr, IfSome, IsOk, OnErr};
+ghost use Rattle.std.specs.Prelude.{◌≡◌, ◌≤◌, ◌<◌, ◌+◌, ◌↔◌, Some, None, map, IfOk, IfErr, IfSome, IsOk, OnErr, false};
 ghost use Rattle.std.specs.Io.KnownBytes.{Keeps};
 ghost use Rattle.clap.specs.Simple.{app_of, shape_of};
 ghost use Rattle.clap.specs.Walk.{rows_of, rule_of};
+ghost use Rattle.clap.specs.Facts.{fields_of};
 ghost use Rattle.clap.specs.Words.{found_of, kind_of};
 ghost use Rattle.clap.specs.declared.error.kind.ErrorKind.TheVariants as kind;
 ghost use Rattle.p9sync.specs.declared.script.TheConstants.{MAX_SCRIPT};
@@ -218,6 +219,7 @@ fn parse_number(given: &ArgMatches<'_>, name: &str) -> Option<u64>
 fn command<'a>(alloc: Global) -> Result<Command<'a>, AllocError>
     ensures { IfOk result (λ command. app_of command ≡ command_line) }
 {
+    let threads = threads_command(alloc)?;
     Command::new(alloc, "p9sync")
         .disable_help_flag(true)
         .disable_help_subcommand(true)
@@ -225,23 +227,28 @@ fn command<'a>(alloc: Global) -> Result<Command<'a>, AllocError>
         .subcommand_required(true)
         .subcommand(Command::new(alloc, "pipe").disable_help_flag(true))?
         .subcommand(Command::new(alloc, "replay").disable_help_flag(true))?
-        .subcommand(threads_command(alloc)?)
+        .subcommand(threads)
 }
 
 /// The command `threads` with its options.
 fn threads_command<'a>(alloc: Global) -> Result<Command<'a>, AllocError>
     ensures shape { IfOk result (λ command. shape_of command ≡ threads_command) }
+    ensures local { IfOk result (λ command. (fields_of command).has_globals ≡ false) }
 {
+    let writers = number_option(alloc, WRITERS, 1, MAX_WRITERS);
+    let writes = number_option(alloc, WRITES, 1, MAX_WRITES);
+    let size = number_option(alloc, SIZE, LEAST_SIZE, ATOMIC_SIZE as u64);
     Command::new(alloc, "threads")
         .disable_help_flag(true)
-        .arg(number_option(alloc, WRITERS, 1, MAX_WRITERS))?
-        .arg(number_option(alloc, WRITES, 1, MAX_WRITES))?
-        .arg(number_option(alloc, SIZE, LEAST_SIZE, ATOMIC_SIZE as u64))
+        .arg(writers)?
+        .arg(writes)?
+        .arg(size)
 }
 
 /// An option that has to be given once, with a number within these bounds.
 fn number_option<'a>(alloc: Global, name: &'a str, least: u64, most: u64) -> Arg<'a>
-    ensures { rule_of result ≡ number_between least most name.entry.now }
+    ensures rule { rule_of result ≡ number_between least most name.entry.now }
+    ensures local { result.global ≡ false }
 {
     Arg::new(alloc, name)
         .long(name)

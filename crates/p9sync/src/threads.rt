@@ -1,6 +1,6 @@
 //! Many writers and one reader, each on a thread of its own, on one direction of a pipe. Before this:
 //! `crew`. After it: `report_text`.
-ghost use Rattle.std.specs.Prelude.{◌≡◌, ¬◌, IfOk, Err};
+ghost use Rattle.std.specs.Prelude.{◌≡◌, IfOk, Err};
 ghost use Rattle.sync_base.specs.declared.fault.Fault.TheVariants.{BadArg};
 ghost use Rattle.p9sync.specs.Threads.{AreWithin, IsReportOf};
 ghost use Rattle.p9sync.specs.Tally.{IsTallyOf};
