@@ -1,5 +1,12 @@
 //! What no clause says: that calls succeed where there is memory, and worked runs of a pipe.
 //! Every test ends by itself, whatever the schedule.
+mod both_ways;
+mod crowds;
+mod hands;
+mod hangups;
+mod noted;
+mod worked;
+
 use crate::{Ends, Held, Opened, Parts, Pipe, ReadAnswer, TryAnswer};
 use sleep_wakeup::Kernel;
 use std::test::Fail;

@@ -1,0 +1,14 @@
+-- What `get_one` reads of the text that was found.
+use Rattle.std.proofs.Common.{◌≡◌, ◌∙◌, ap, sym}
+use Rattle.clap.specs.Matches.{found_of}
+use Rattle.clap.proofs.WalkLemmas.{one_text-rows}
+use Rattle.std.specs.Prelude.{option_and_then}
+use Rattle.p9sync.specs.Args.{number_asked}
+use Rattle.p9sync.proofs.ArgsLemmas.{option_read}
+use Rattle.p9sync.proofs.args.parse_number.Goals as goal
+
+pub returns : goal.returns
+returns c =
+    option_read _ c.get_one.result c.get_one.ensures.none
+    (λ text is. ?)
+    ∙ ap (option_and_then number_asked) (one_text-rows (found_of c.args.given.now) c.args.name.now)

@@ -1,0 +1,159 @@
+//! What each thread of a run does. Before this: `tally`. After it: `threads`.
+ghost use Rattle.std.specs.Prelude.{◌≡◌, IfOk};
+ghost use Rattle.p9sync.specs.declared.opts.ThreadsOpts.{ThreadsOpts};
+ghost use Rattle.p9sync.specs.Tally.{IsTallyOf};
+ghost use Rattle.p9sync.specs.Threads.{AreWithin, IsReportOf};
+
+use crate::gate::Gate;
+use crate::message::fill;
+use crate::opts::{Report, ThreadsOpts};
+use crate::tally::Tally;
+use pipe_dev::{Ends, Parts, ReadAnswer, ReadEnd, WriteEnd};
+use sleep_wakeup::{Proc, Roster};
+use std::alloc::Global;
+use std::sync::Wait;
+use sync_base::{Fault, Flags};
+
+/// A writer, before and after it writes.
+#[derive(Drop)]
+pub struct Writer<'k, 'p> {
+    proc: Proc<'k>,
+    end: WriteEnd<'p>,
+    number: u64,
+    writes: u64,
+    message: Vec<u8>,
+    wrote: Result<(), Fault>,
+}
+
+impl<'k, 'p> Writer<'k, 'p> {
+    /// Writes its messages, one after the other, as far as the gate lets it.
+    pub fn write_all<R: Wait, G: Gate>(
+        mut self,
+        rt: &R,
+        alloc: Global,
+        gate: &G,
+    ) -> Writer<'k, 'p> {
+        for write in 0..self.writes {
+            if !gate.pass(self.number, write) {
+                break;
+            }
+            fill(&mut self.message, self.number, write);
+            if let Err(fault) = self.end.write(alloc, rt, &mut self.proc, &self.message) {
+                self.wrote = Err(fault);
+                break;
+            }
+        }
+        self
+    }
+
+    /// Why it wrote no more, if a write was refused.
+    pub fn wrote(&self) -> Result<(), Fault> {
+        self.wrote
+    }
+
+    /// Hangs the pipe up.
+    pub fn hangup(&mut self) {
+        self.end.hangup(&mut self.proc);
+    }
+}
+
+/// The reader.
+#[derive(Drop)]
+pub struct Reader<'k, 'p> {
+    proc: Proc<'k>,
+    end: ReadEnd<'p>,
+    buffer: Vec<u8>,
+    pub(crate) tally: Tally,
+}
+
+/// What a reader has counted, and why it read no more, if it did not come to the end.
+#[derive(Drop)]
+pub struct Counted {
+    pub(crate) tally: Tally,
+    read: Result<(), Fault>,
+}
+
+impl<'k, 'p> Reader<'k, 'p> {
+    /// Reads and counts until the end. Where it can read no more it hangs the pipe up.
+    pub fn read_all<R: Wait>(mut self, rt: &R) -> Counted
+        ensures { (opts : ThreadsOpts) → IsTallyOf opts self.tally → IsTallyOf opts result.tally }
+    {
+        let mut read = Ok(());
+        for _ in rt.forever() {
+            match self.end.read(rt, &mut self.proc, &mut self.buffer) {
+                Ok(ReadAnswer::Got(count)) => self.tally.count(&self.buffer[..count]),
+                Ok(ReadAnswer::End) => break,
+                Err(fault) => {
+                    self.end.hangup(&mut self.proc);
+                    read = Err(fault);
+                    break;
+                }
+            }
+        }
+        let Reader {
+            proc: _,
+            end: _,
+            buffer: _,
+            tally,
+        } = self;
+        Counted { tally, read }
+    }
+}
+
+impl Counted {
+    /// What was read up to the end, or why it did not come to the end.
+    pub fn report(&self, opts: &ThreadsOpts) -> Result<Report, Fault>
+        requires { IsTallyOf opts.now self.now.tally }
+        ensures { IfOk result (IsReportOf opts.now) }
+    {
+        self.read?;
+        Ok(self.tally.report(opts.writers))
+    }
+}
+
+/// Who takes part in a run.
+#[derive(Drop)]
+pub struct Crew<'k, 'p> {
+    pub reader: Reader<'k, 'p>,
+    pub writers: Vec<Writer<'k, 'p>>,
+}
+
+impl<'k, 'p> Crew<'k, 'p> {
+    /// A reader at one end, and as many writers as there are at the other, each a process. All
+    /// memory but that of the writes is taken here.
+    pub fn new(
+        alloc: Global,
+        opts: &ThreadsOpts,
+        roster: &mut Roster<'k>,
+        proc: Proc<'k>,
+        ends: Ends<'p>,
+    ) -> Result<Crew<'k, 'p>, Fault>
+        requires { AreWithin opts.now }
+        ensures { IfOk result (λ crew. IsTallyOf opts.now crew.reader.tally) }
+    {
+        let Parts { read, writes: _ } = ends.first.parts();
+        let Parts { read: _, writes } = ends.second.parts();
+        let mut proc = proc;
+        let mut writers = Vec::with_capacity(alloc, writes.len())?;
+        for (number, end) in writes.into_iter().enumerate() {
+            let Some(child) = roster.rfork(&mut proc, Flags::RFPROC)? else {
+                return Err(Fault::NoProc);
+            };
+            writers.push(Writer {
+                proc: child,
+                end,
+                number: number as u64,
+                writes: opts.writes,
+                message: vec![in alloc; 0; opts.size as usize]?,
+                wrote: Ok(()),
+            })?;
+        }
+        let reader = Reader {
+            proc,
+            end: read,
+            buffer: vec![in alloc; 0; opts.size as usize]?,
+            tally: Tally::new(alloc, opts)?,
+        };
+        Ok(Crew { reader, writers })
+    }
+}
