@@ -105,9 +105,25 @@ fn a_wakeup_before_the_post_is_seen(rt: HostRuntime) -> Result<(), Fail> {
         panic!(rt; "the Rendez exists")
     };
     assert_eq!(rt; (done.rendez, done.level), (FIRST, 1));
-    let Ok(Cleared { seat: _, notes }) = sleep(&rt, &words, seat, FIRST, 0) else {
+    let Ok(posted) = words.post(seat, FIRST, 0) else {
         panic!(rt; "nobody is posted")
     };
+    let leaving = match words.test(posted) {
+        TestAnswer::Leaving(leaving) => leaving,
+        TestAnswer::Asleep(asleep) => {
+            receipts::woken(&rt, &words, asleep);
+            panic!(rt; "the level is above 0")
+        }
+    };
+    let out = match words.withdraw(leaving) {
+        WithdrawAnswer::Out(out) => out,
+        WithdrawAnswer::Awaiting(awaiting) => {
+            let woken = words.look_mark(&rt, awaiting);
+            words.clear_woken(woken);
+            panic!(rt; "no wakeup took the process")
+        }
+    };
+    let Cleared { seat: _, notes } = words.clear_out(out);
     assert!(rt; notes.is_empty());
     Ok(())
 }

@@ -149,6 +149,31 @@ fn a_kernel_gives_each_pid_and_rendez_once(rt: HostRuntime) -> Result<(), Fail> 
 }
 
 #[test]
+fn the_smallest_kernel_of_two_has_one_of_each_left(rt: HostRuntime) -> Result<(), Fail> {
+    let Opened { kernel, start } = open(&rt, rt.alloc(), 2, 1);
+    let Started {
+        mut roster,
+        mut proc,
+    } = kernel.start(start);
+    assert_eq!(rt; roster.left(), Left { pids: 1, rendez: 1 });
+    assert_eq!(rt; roster.row(2), Err(Fault::NoRendez));
+    let Ok(Some(child)) = roster.rfork(&mut proc, Flags::RFPROC) else {
+        panic!(rt; "a pid is left")
+    };
+    assert_eq!(rt; child.pid(), Pid(1));
+    assert!(rt; matches!(roster.rfork(&mut proc, Flags::RFPROC), Err(Fault::NoProc)));
+    assert!(rt; matches!(roster.rfork(&mut proc, Flags::RFREND), Err(Fault::BadFlags)));
+    assert!(rt; matches!(roster.rfork(&mut proc, Flags::NONE), Ok(None)));
+    assert_eq!(rt; roster.rendez(), Ok(INPUT));
+    assert_eq!(rt; roster.rendez(), Err(Fault::NoRendez));
+    assert_eq!(rt;
+        proc.postnote(Pid(2), NoteSet::of(Note::Alarm)),
+        Err(Fault::NoProc)
+    );
+    Ok(())
+}
+
+#[test]
 fn calls_refuse_what_is_not_there(rt: HostRuntime) -> Result<(), Fail> {
     assert!(rt; matches!(Kernel::new(rt.alloc(), 0, 0), Err(Fault::NoProc)));
     assert!(rt; matches!(Kernel::new(rt.alloc(), 1_025, 1), Err(Fault::NoProc)));

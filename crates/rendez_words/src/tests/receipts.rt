@@ -29,7 +29,7 @@ fn fall_asleep<R: Wait + Abort>(rt: &R, words: &Words, seat: Seat, rendez: Rende
 }
 
 // The rest of a sleep that a mark ends.
-fn woken<R: Wait + Abort>(rt: &R, words: &Words, asleep: Asleep) -> Cleared
+pub fn woken<R: Wait + Abort>(rt: &R, words: &Words, asleep: Asleep) -> Cleared
     requires { IsProcessOf words.now asleep }
     ensures { IsProcessOf words.now result.seat }
 {

@@ -1,9 +1,10 @@
 //! Eight sleepers on a Rendez each, three wakers, and notes between.
 use crate::tests::{forked, open};
 use crate::{Opened, Proc};
+use std::alloc::{AllocError, Global};
+use std::process::Abort;
 use std::sync::Wait;
-use std::test::Fail;
-use std::thread;
+use std::thread::{self, Threads};
 use sync_base::{Fault, Note, NoteSet, Pid, RendezId};
 
 const SLEEPERS: u64 = 8;
@@ -89,17 +90,16 @@ fn make_work<R: Wait>(rt: &R, job: Job) -> Work {
     }
 }
 
-#[test]
-fn a_crowd_is_woken_to_the_last(rt: HostRuntime) -> Result<(), Fail> {
+fn gather<R: Threads + Wait + Sync + Abort>(rt: &R, alloc: Global) -> Result<(), AllocError> {
     let all = SLEEPERS + WAKERS;
-    let Opened { kernel, start } = open(&rt, rt.alloc(), all + 1, SLEEPERS);
+    let Opened { kernel, start } = open(rt, alloc, all + 1, SLEEPERS);
     let mut started = kernel.start(start);
-    let mut jobs = Vec::new(rt.alloc());
+    let mut jobs = Vec::new(alloc);
     for number in 0..all {
-        let proc = forked(&rt, &mut started);
+        let proc = forked(rt, &mut started);
         jobs.push(Job { proc, number })?;
     }
-    let done = thread::map_vec(&rt, jobs, &|job: Job| -> Work { make_work(&rt, job) })?;
+    let done = thread::map_vec(rt, jobs, &|job: Job| -> Work { make_work(rt, job) })?;
     for (number, work) in done.iter().enumerate() {
         assert_eq!(rt; work.refused, 0, "process {number}");
         if (number as u64) < SLEEPERS {
@@ -109,4 +109,12 @@ fn a_crowd_is_woken_to_the_last(rt: HostRuntime) -> Result<(), Fail> {
         }
     }
     Ok(())
+}
+
+// Where a test makes an allocation fail, the crowd gathers once more.
+#[test]
+fn a_crowd_is_woken_to_the_last(rt: HostRuntime) {
+    if gather(&rt, rt.alloc()).is_err() {
+        assert!(rt; gather(&rt, rt.alloc()).is_ok());
+    }
 }

@@ -1,6 +1,7 @@
 //! The examples of the manual pages, line for line. `tests/pages` compares them with the pages.
 use crate::tests::{forked, open};
 use crate::{Kernel, Left, Opened, Started};
+use std::process::Abort;
 use std::test::Fail;
 use std::thread::join;
 use sync_base::{Fault, Flags, Note, NoteSet, Pid, RendezId};
@@ -38,8 +39,7 @@ fn postnote_page(rt: HostRuntime) -> Result<(), Fail> {
     Ok(())
 }
 
-#[test]
-fn rfork_page(rt: HostRuntime) -> Result<(), Fail> {
+fn rfork_example<R: AllocGlobal + Abort>(rt: &R) -> Result<(), Fault> {
     let Opened { kernel, start } = Kernel::new(rt.alloc(), 2, 1)?;
     let Started {
         mut roster,
@@ -52,4 +52,13 @@ fn rfork_page(rt: HostRuntime) -> Result<(), Fail> {
     assert_eq!(rt; (parent.pid(), child.pid()), (Pid(0), Pid(1)));
     assert_eq!(rt; roster.left(), Left { pids: 0, rendez: 0 });
     Ok(())
+}
+
+// Where a test makes an allocation fail the example ends as `Memory`, and with memory it goes on.
+#[test]
+fn rfork_page(rt: HostRuntime) {
+    if let Err(fault) = rfork_example(&rt) {
+        assert_eq!(rt; fault, Fault::Memory);
+        assert_eq!(rt; rfork_example(&rt), Ok(()));
+    }
 }
