@@ -1,6 +1,6 @@
 -- Which command lines `clap` takes, and that it refuses every other.
 use Rattle.std.proofs.Common.{◌≡◌, ℕ, Bool, true, false, ◌⊎◌, inl, inr, zero, suc, List, [], ◌∷◌, ◌++◌, length, fold, append_assoc, Option, None, Some, refl, sym, ◌∙◌, ap, ap₂, subst, codes, rules}
-use Rattle.std.proofs.Common.{slice_get, option_map}
+use Rattle.std.proofs.Common.{arith, slice_get, option_map}
 use Rattle.std.specs.Str.{bytes_eq, chars}
 use Rattle.std.specs.Bool.{Decides}
 use Rattle.std.proofs.lemmas.Bool.Decides.{same_from_decides}
@@ -493,9 +493,9 @@ abbrev top_number : ℕ
 top_number = 2 ^ 64 - 1
 
 -- a text that was read as a number is one
-module _ {E : Type 0} where
+module _ (E : Type 0) where
   number_read : (text : Text) (r : Option ℕ)
-      → ReadsOne {ℕ} {E} (λ t v. ParsesUnsigned 64 10 t v) text r → r ≡ number_asked text
+      → ReadsOne {T = ℕ} {E = E} (λ t v. ParsesUnsigned 64 10 t v) text r → r ≡ number_asked text
   number_read text (Some v) (numeral, is) =
       let passes : is_unsigned_in 0 top_number text ≡ true =
       Accepts-accepts false (vp.Unsigned 0 top_number) text
@@ -514,7 +514,7 @@ module _ {E : Type 0} where
   pub option_read : (given : Option Text) (r : Option ℕ)
       → (given ≡ None → r ≡ None)
       → ((text : Text) → given ≡ Some text
-          → ReadsOne {ℕ} {E} (λ t v. ParsesUnsigned 64 10 t v) text r)
+          → ReadsOne {T = ℕ} {E = E} (λ t v. ParsesUnsigned 64 10 t v) text r)
       → r ≡ option_and_then number_asked given
   option_read None r none read = none refl
   option_read (Some text) r none read = number_read text r (read text refl)

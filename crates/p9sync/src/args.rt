@@ -4,8 +4,8 @@ ghost use Rattle.std.specs.Prelude.{◌≡◌, ◌≤◌, ◌<◌, ◌+◌, ◌�
 ghost use Rattle.std.specs.Io.KnownBytes.{Keeps};
 ghost use Rattle.clap.specs.Simple.{app_of, shape_of};
 ghost use Rattle.clap.specs.Walk.{rows_of, rule_of};
-ghost use Rattle.clap.specs.Facts.{fields_of};
 ghost use Rattle.clap.specs.Words.{found_of, kind_of};
+ghost use Rattle.clap.specs.declared.builder.command.Command.TheViews.{out-Command};
 ghost use Rattle.clap.specs.declared.error.kind.ErrorKind.TheVariants as kind;
 ghost use Rattle.p9sync.specs.declared.script.TheConstants.{MAX_SCRIPT};
 ghost use Rattle.p9sync.specs.Args.{command_line, command_named, number_between, opts_asked};
@@ -233,7 +233,7 @@ fn command<'a>(alloc: Global) -> Result<Command<'a>, AllocError>
 /// The command `threads` with its options.
 fn threads_command<'a>(alloc: Global) -> Result<Command<'a>, AllocError>
     ensures shape { IfOk result (λ command. shape_of command ≡ threads_command) }
-    ensures local { IfOk result (λ command. (fields_of command).has_globals ≡ false) }
+    ensures local { IfOk result (λ command. (out-Command command).has_globals ≡ false) }
 {
     let writers = number_option(alloc, WRITERS, 1, MAX_WRITERS);
     let writes = number_option(alloc, WRITES, 1, MAX_WRITES);

@@ -5,6 +5,7 @@ mod crowds;
 mod hands;
 mod hangups;
 mod noted;
+mod pages;
 mod worked;
 
 use crate::{Ends, Held, Opened, Parts, Pipe, ReadAnswer, TryAnswer};

@@ -9,6 +9,6 @@ use Rattle.p9sync.proofs.args.parse_number.Goals as goal
 
 pub returns : goal.returns
 returns c =
-    option_read _ c.get_one.result c.get_one.ensures.none
+    option_read _ _ c.get_one.result c.get_one.ensures.none
     (λ text is. ?)
     ∙ ap (option_and_then number_asked) (one_text-rows (found_of c.args.given.now) c.args.name.now)

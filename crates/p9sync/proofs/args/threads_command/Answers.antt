@@ -2,7 +2,7 @@
 use Rattle.std.proofs.Common.{◌≡◌, ◌∙◌, rules, ap, ap₂, codes, true, false}
 use Rattle.std.proofs.lemmas.Result.{IfOk-weaker}
 use Rattle.clap.specs.Simple.{App, app_of, new_app, on_top, with_rule}
-use Rattle.clap.specs.Facts.{fields_of}
+
 use Rattle.clap.specs.Walk.{rule_of}
 use Rattle.sync_base.specs.declared.limits.TheConstants.{ATOMIC_SIZE, MAX_WRITERS}
 use Rattle.p9sync.specs.declared.opts.TheConstants.{LEAST_SIZE, MAX_WRITES}
