@@ -194,10 +194,11 @@ each_write : (pieces : List Part) (writes : List WriteSide)
     → AllByRecursion (IsAllOfWriter pieces) (shares_of writes)
     → AllByRecursion (IsAllWritten pieces) writes
 each_write pieces [] all = tt
-each_write pieces (write ∷ writes) all =
-    (λ blocks written. one_write pieces write.writer blocks write.account.shares
-    (all_since (IsAllOfWriter pieces) write.account.shares (shares_of writes) all) written.are written.own,
-    each_write pieces writes (all_past (IsAllOfWriter pieces) write.account.shares (shares_of writes) all))
+each_write pieces (write ∷ writes) all = (
+  λ blocks written. one_write pieces write.writer blocks write.account.shares
+      (all_since (IsAllOfWriter pieces) write.account.shares (shares_of writes) all) written.are written.own,
+  each_write pieces writes (all_past (IsAllOfWriter pieces) write.account.shares (shares_of writes) all),
+)
 
 pub each_write_is_read_whole_and_once : EachWriteIsReadWholeAndOnce
 each_write_is_read_whole_and_once read parts writes held made gives =

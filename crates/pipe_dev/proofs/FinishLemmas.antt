@@ -60,7 +60,6 @@ module _ (queue : Queue) (row : Row) (hand : ReadHand) (read : ReadSide)
   their_sides ends again same is =
       is ∙ (ap (map (side_of queue row)) same ∙ sides_back (read_side queue row hand) writes seats all_of_hand.one are)
 
-
   pub gives_held : (gathered : Gathered) (rest : List ℕ)
       → Gathers (key_of queue) hand.seat seats gathered → rest ≡ rest_bytes read.rest
       → GivesHeld read writes (record { rest = rest; writes = gathered.blocks; hung = gathered.hung })

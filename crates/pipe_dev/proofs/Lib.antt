@@ -9,3 +9,4 @@ pub mod ReadingLemmas
 pub mod WrittenLemmas
 pub mod ChainLemmas
 pub mod WaitLemmas
+pub mod WorkedPipes

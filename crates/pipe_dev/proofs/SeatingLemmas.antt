@@ -75,10 +75,11 @@ pub all_to_give : (queue : Queue) (row : Row) (first : ℕ) (seats : List PutSea
     → ((place : ℕ) (seat : PutSeat) → slice_get seats place ≡ Some seat → IsNewPutSeat queue (first + place) seat)
     → AllByRecursion (IsSeatToGive queue row) seats
 all_to_give queue row first [] row_is each = tt
-all_to_give queue row first (seat ∷ seats) row_is each =
-    (seat_to_give queue row (first + 0) seat row_is (each 0 seat refl),
-    all_to_give queue row (first + 1) seats row_is
-    (λ place other there. subst (λ (n : ℕ). IsNewPutSeat queue n other) (omega arith) (each (suc place) other there)))
+all_to_give queue row first (seat ∷ seats) row_is each = (
+  seat_to_give queue row (first + 0) seat row_is (each 0 seat refl),
+  all_to_give queue row (first + 1) seats row_is
+      (λ place other there. subst (λ (n : ℕ). IsNewPutSeat queue n other) (omega arith) (each (suc place) other there)),
+)
 
 pub writers_in_order : (queue : Queue) (first : ℕ) (seats : List PutSeat)
     → ((place : ℕ) (seat : PutSeat) → slice_get seats place ≡ Some seat → IsNewPutSeat queue (first + place) seat)
@@ -119,11 +120,12 @@ pub seats_back : (read : ReadSide) (writes : List WriteSide) (seats : List PutSe
 seats_back read [] [] one are = tt
 seats_back read [] (seat ∷ seats) one are = absurd are
 seats_back read (write ∷ writes) [] one are = absurd are
-seats_back read (write ∷ writes) (seat ∷ seats) one are =
-    (subst (λ (q : Queue). IsWriteHand q read.row seat.writer seat) one.0.queue
-    (subst (λ (r : Row). IsWriteHand write.queue r seat.writer seat) one.0.row
-    (subst (λ (n : ℕ). IsWriteHand write.queue write.row n seat) (sym are.0.hand.writer_is) are.0.hand)),
-    seats_back read writes seats one.1 are.1)
+seats_back read (write ∷ writes) (seat ∷ seats) one are = (
+  subst (λ (q : Queue). IsWriteHand q read.row seat.writer seat) one.0.queue
+      (subst (λ (r : Row). IsWriteHand write.queue r seat.writer seat) one.0.row
+      (subst (λ (n : ℕ). IsWriteHand write.queue write.row n seat) (sym are.0.hand.writer_is) are.0.hand)),
+  seats_back read writes seats one.1 are.1,
+)
 
 pub hands_put : (queue : Queue) (row : Row) (seats : List PutSeat)
     → AllByRecursion (IsHandOf queue row) seats → AllByRecursion (IsPutSeatOf queue) seats

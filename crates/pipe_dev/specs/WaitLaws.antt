@@ -45,7 +45,7 @@ ReadsWakeEachWriter =
     → TakesOut key row old left new → HasGoneOn s.views new.process
     → (writer : ℕ) → writer < row.writers
     → ReleasesBelow (world_of sizes.procs sizes.rendez shows.run) (writer_rendez row writer)
-        (left.place + 1)
+    (left.place + 1)
 
 -- a hangup releases everybody on these Rendez
 pub record ReleasesAll (state : State) (row : Row) : Type 0 where

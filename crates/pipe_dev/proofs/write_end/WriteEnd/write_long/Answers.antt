@@ -12,9 +12,12 @@ returns-in-Err-clause-wrote g c =
       between = writer_of c.writing.self c.writing.proc;
       written = written.1;
       taken = written.2;
-      ended = (c.split_at.result.0.now, atomic_writes c.split_at.result.1.now,
-          cut_next c.args.bytes.now c.writing.left.now _ _ written.0 c.writing-test.true c.split_at.ensures.front c.split_at.ensures.back written.3,
-          wrote_at c.args.self.now c.writing.self _ _ (Err c.in-Err.fault) _ c.writing.invariant.end c.in-Err.ensures.wrote);
+      ended = (
+        c.split_at.result.0.now,
+        atomic_writes c.split_at.result.1.now,
+        cut_next c.args.bytes.now c.writing.left.now _ _ written.0 c.writing-test.true c.split_at.ensures.front c.split_at.ensures.back written.3,
+        wrote_at c.args.self.now c.writing.self _ _ (Err c.in-Err.fault) _ c.writing.invariant.end c.in-Err.ensures.wrote,
+      );
     }
 
 pub writing-preserved : goal.writing-preserved
@@ -31,18 +34,20 @@ writing-preserved g c =
         writer = c.write.ensures.end.writer ∙ c.writing.invariant.end.writer;
       };
       words = c.write.ensures.words ∙ c.writing.invariant.words;
-      written = (c.split_at.result.0.now ∷ written.0,
-          record {
-            between = writer_of c.writing.self c.writing.proc;
-            others = written.1;
-            last = record {
-              number = c.in_default.field-0;
-              accepted = wrote_at c.args.self.now c.writing.self _ _ (Ok c.in_default.field-0) _ c.writing.invariant.end c.in_default.ensures.wrote;
-            };
-          },
-          omega (arith, taken, front_len),
-          one_done written.0 c.split_at.result.0.now (atomic_writes c.split_at.result.1.now) _
-          (cut_next c.args.bytes.now c.writing.left.now _ _ written.0 c.writing-test.true c.split_at.ensures.front c.split_at.ensures.back written.3));
+      written = (
+        c.split_at.result.0.now ∷ written.0,
+        record {
+          between = writer_of c.writing.self c.writing.proc;
+          others = written.1;
+          last = record {
+            number = c.in_default.field-0;
+            accepted = wrote_at c.args.self.now c.writing.self _ _ (Ok c.in_default.field-0) _ c.writing.invariant.end c.in_default.ensures.wrote;
+          };
+        },
+        omega (arith, taken, front_len),
+        one_done written.0 c.split_at.result.0.now (atomic_writes c.split_at.result.1.now) _
+            (cut_next c.args.bytes.now c.writing.left.now _ _ written.0 c.writing-test.true c.split_at.ensures.front c.split_at.ensures.back written.3),
+      );
       count = omega (arith, count, back_len);
     }
 
@@ -75,6 +80,10 @@ returns-in-Err-write-clause-wrote g c =
       between = writer_of c.writing.self c.writing.proc;
       written = written.1;
       taken = written.2;
-      ended = (c.writing.left.now, [], cut_last c.args.bytes.now c.writing.left.now written.0 (omega (arith, short)) written.3,
-          wrote_at c.args.self.now c.writing.self _ _ (Err c.in-Err-write.fault) _ c.writing.invariant.end c.in-Err-write.ensures.wrote);
+      ended = (
+        c.writing.left.now,
+        [],
+        cut_last c.args.bytes.now c.writing.left.now written.0 (omega (arith, short)) written.3,
+        wrote_at c.args.self.now c.writing.self _ _ (Err c.in-Err-write.fault) _ c.writing.invariant.end c.in-Err-write.ensures.wrote,
+      );
     }
