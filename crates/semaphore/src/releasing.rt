@@ -1,0 +1,46 @@
+//! How a process adds units, and wakes who was granted one. Before this: `acquiring`.
+//! After it: `timers`.
+use crate::sema::{Sema, SemaSeat};
+use sleep_wakeup::Proc;
+use std::sync::Wait;
+use sync_base::{Fault, RendezId};
+
+impl Sema {
+    /// Adds so many units, and answers the value after the addition, before units pass to those
+    /// who wait, the first to come first. Each who was granted a unit is woken. After semrelease
+    /// in semacquire(2); what it answers is the library's own.
+    ///
+    /// Refuses as `BadArg`, and adds nothing, where the value would be above 2,147,483,647.
+    /// It waits for the semaphore's lock. Takes no memory.
+    pub fn semrelease<R: Wait>(
+        &self,
+        rt: &R,
+        proc: &mut Proc<'_>,
+        seat: &mut SemaSeat,
+        count: u32,
+    ) -> Result<u32, Fault> {
+        match self.release(rt, seat, count) {
+            None => Err(Fault::BadArg),
+            Some(sum) => {
+                self.wake_granted(rt, proc, seat);
+                Ok(sum)
+            }
+        }
+    }
+
+    // Wakes each seat that was granted a unit and was not woken since.
+    fn wake_granted<R: Wait>(&self, rt: &R, proc: &mut Proc<'_>, seat: &mut SemaSeat) {
+        for _ in rt.forever() {
+            match self.next_wake(rt, seat) {
+                None => return,
+                Some(grant) => {
+                    match proc.wakeup(RendezId(self.first + grant.seat), grant.grants) {
+                        Ok(_) => {}
+                        Err(_) => unreachable!(),
+                    }
+                }
+            }
+        }
+        unreachable!()
+    }
+}

@@ -1,0 +1,132 @@
+//! Units that processes acquire and release, and notes that come before each step of a wait.
+use crate::tests::member::{Act, ActAt, Member};
+use crate::{OpenedSema, OpenedTimers, Sema, Semacquired, Timers};
+use sleep_wakeup::{Kernel, Opened, Started};
+use std::alloc::Global;
+use std::process::Abort;
+use std::sync::Wait;
+use std::test::Fail;
+use std::thread::join;
+use sync_base::{Fault, Note, NoteSet};
+
+#[test]
+fn units_are_acquired_and_released(rt: HostRuntime) -> Result<(), Fail> {
+    let Opened { kernel, start } = Kernel::new(rt.alloc(), 1, 1)?;
+    let Started { mut roster, proc } = kernel.start(start);
+    let OpenedTimers { timers, seat: timer } = Timers::new(rt.alloc(), 1)?;
+    let OpenedSema { sema, seat } = Sema::new(rt.alloc(), &mut roster, 0, 1)?;
+    let mut member = Member {
+        sema: &sema,
+        seat,
+        timers: &timers,
+        timer,
+        proc,
+    };
+    assert_eq!(rt; member.acquire(&rt, false), Ok(Semacquired::NotNow));
+    assert_eq!(rt; member.release(&rt, 3), Ok(3));
+    for _ in 0..3 {
+        assert_eq!(rt; member.acquire(&rt, true), Ok(Semacquired::Acquired));
+    }
+    assert_eq!(rt; member.acquire(&rt, false), Ok(Semacquired::NotNow));
+    assert_eq!(rt; member.release(&rt, 2_147_483_647), Ok(2_147_483_647));
+    assert_eq!(rt; member.release(&rt, 1), Err(Fault::BadArg));
+    assert_eq!(rt; member.acquire(&rt, true), Ok(Semacquired::Acquired));
+    assert_eq!(rt; member.release(&rt, 1), Ok(2_147_483_647));
+    assert_eq!(rt; member.release(&rt, 0), Ok(2_147_483_647));
+    Ok(())
+}
+
+/// What a wait on a value of 0 came to.
+#[derive(Debug, Drop, PartialEq, Eq)]
+struct Outcome {
+    answer: Result<Semacquired, Fault>,
+    /// The notes that were pending behind it.
+    pending: NoteSet,
+    /// What the release answered, if there was one.
+    released: u64,
+    /// Whether a unit was left.
+    left: Result<Semacquired, Fault>,
+}
+
+// Acquires a unit while another process acts at a point.
+fn acquired_while<R: Wait + Abort>(
+    rt: &R,
+    alloc: Global,
+    point: u64,
+    act: Act,
+) -> Result<Outcome, Fail> {
+    let Opened { kernel, start } = Kernel::new(alloc, 2, 2)?;
+    let Started { mut roster, proc } = kernel.start(start);
+    let OpenedTimers { timers, seat: timer } = Timers::new(alloc, 2)?;
+    let OpenedSema { sema, seat } = Sema::new(alloc, &mut roster, 0, 2)?;
+    let mut member = Member {
+        sema: &sema,
+        seat,
+        timers: &timers,
+        timer,
+        proc,
+    };
+    let Some(other) = member.fork(rt, &mut roster)? else {
+        panic!(rt; "RFPROC makes a child")
+    };
+    let mut probe = ActAt {
+        rt,
+        other,
+        to: member.proc.pid(),
+        point,
+        act,
+        visits: [0; 4],
+        answer: 0,
+    };
+    let answer = member.acquire_probed(rt, true, &mut probe);
+    assert_eq!(rt; (probe.visits[0], probe.visits[3]), (1, 1));
+    assert!(rt; probe.visits[1] > 0 && probe.visits[1] == probe.visits[2]);
+    Ok(Outcome {
+        answer,
+        pending: member.proc.notes(),
+        released: probe.answer,
+        left: member.acquire(rt, false),
+    })
+}
+
+#[test]
+fn an_interrupted_wait_gets_no_unit(rt: HostRuntime) -> Result<(), Fail> {
+    let interrupt = NoteSet::of(Note::Interrupt);
+    for point in [1, 2] {
+        assert_eq!(rt;
+            acquired_while(&rt, rt.alloc(), point, Act::Interrupt)?,
+            Outcome {
+                answer: Err(Fault::Interrupted(interrupt)),
+                pending: NoteSet::empty(),
+                released: 0,
+                left: Ok(Semacquired::NotNow),
+            },
+            "point {point}"
+        );
+    }
+    Ok(())
+}
+
+#[test]
+fn a_unit_that_was_granted_is_kept_and_the_notes_are_put_back(rt: HostRuntime) -> Result<(), Fail> {
+    let interrupt = NoteSet::of(Note::Interrupt);
+    assert_eq!(rt;
+        acquired_while(&rt, rt.alloc(), 2, Act::Both)?,
+        Outcome {
+            answer: Ok(Semacquired::Acquired),
+            pending: interrupt,
+            released: 1,
+            left: Ok(Semacquired::NotNow),
+        }
+    );
+    assert_eq!(rt;
+        acquired_while(&rt, rt.alloc(), 2, Act::Release)?,
+        Outcome {
+            answer: Ok(Semacquired::Acquired),
+            pending: NoteSet::empty(),
+            released: 1,
+            left: Ok(Semacquired::NotNow),
+        }
+    );
+    Ok(())
+}

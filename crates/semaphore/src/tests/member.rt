@@ -1,0 +1,188 @@
+//! A process with its seats at a semaphore and at timers, and probes that act between its steps.
+use crate::{Sema, SemaSeat, Semacquired, TimerSeat, Timers};
+use sleep_wakeup::{Kernel, Opened, Proc, Roster, Started};
+use std::alloc::Global;
+use std::process::Abort;
+use std::sync::Wait;
+use sync_base::{Fault, Flags, Note, NoteSet, Pid, Probe, RendezId};
+
+/// The note that a tick posts.
+pub const EXPIRED: Note = Note::Alarm;
+
+/// A process with its seats.
+#[derive(Drop)]
+pub struct Member<'s, 'k> {
+    pub sema: &'s Sema,
+    pub seat: SemaSeat,
+    pub timers: &'s Timers,
+    pub timer: TimerSeat,
+    pub proc: Proc<'k>,
+}
+
+impl<'s, 'k> Member<'s, 'k> {
+    pub fn acquire<R: Wait>(&mut self, rt: &R, block: bool) -> Result<Semacquired, Fault> {
+        let sema = self.sema;
+        sema.semacquire(rt, &mut self.proc, &mut self.seat, block)
+    }
+
+    pub fn acquire_probed<R: Wait, P: Probe>(
+        &mut self,
+        rt: &R,
+        block: bool,
+        probe: &mut P,
+    ) -> Result<Semacquired, Fault> {
+        let sema = self.sema;
+        sema.semacquire_probed(rt, &mut self.proc, &mut self.seat, block, probe)
+    }
+
+    pub fn acquire_by<R: Wait>(&mut self, rt: &R, now: u64, ms: u32) -> Result<(), Fault> {
+        let sema = self.sema;
+        let timers = self.timers;
+        sema.tsemacquire(
+            rt,
+            &mut self.proc,
+            &mut self.seat,
+            timers,
+            &mut self.timer,
+            now,
+            ms,
+        )
+    }
+
+    pub fn acquire_by_probed<R: Wait, P: Probe>(
+        &mut self,
+        rt: &R,
+        deadline: u64,
+        probe: &mut P,
+    ) -> Result<(), Fault> {
+        let sema = self.sema;
+        let timers = self.timers;
+        sema.tsemacquire_probed(
+            rt,
+            &mut self.proc,
+            &mut self.seat,
+            timers,
+            &mut self.timer,
+            deadline,
+            probe,
+        )
+    }
+
+    pub fn release<R: Wait>(&mut self, rt: &R, count: u32) -> Result<u32, Fault> {
+        let sema = self.sema;
+        sema.semrelease(rt, &mut self.proc, &mut self.seat, count)
+    }
+
+    pub fn tick<R: Wait>(&mut self, rt: &R, now: u64) -> u64 {
+        let timers = self.timers;
+        timers.tick(rt, &mut self.proc, &mut self.timer, now)
+    }
+
+    pub fn post(&mut self, pid: Pid, note: Note) -> bool {
+        self.proc.postnote(pid, NoteSet::of(note)).is_ok()
+    }
+
+    pub fn rendez(&self) -> RendezId {
+        self.sema.rendez(&self.seat)
+    }
+
+    /// The next process, with seats of its own.
+    pub fn fork<R: Wait>(
+        &mut self,
+        rt: &R,
+        roster: &mut Roster<'k>,
+    ) -> Result<Option<Member<'s, 'k>>, Fault> {
+        let Some(proc) = roster.rfork(&mut self.proc, Flags::RFPROC)? else {
+            return Ok(None);
+        };
+        let sema = self.sema;
+        let timers = self.timers;
+        let seat = sema.split(rt, &mut self.seat)?;
+        let timer = timers.split(rt, &mut self.timer)?;
+        Ok(Some(Member {
+            sema,
+            seat,
+            timers,
+            timer,
+            proc,
+        }))
+    }
+}
+
+/// What a probe does where it acts.
+#[derive(Clone, Copy)]
+pub enum Act {
+    Interrupt,
+    Release,
+    Both,
+    /// A tick at this moment.
+    Tick(u64),
+    ReleaseAndTick(u64),
+    InterruptAndTick(u64),
+}
+
+/// Acts on another process the first time that it passes a point.
+#[derive(Drop)]
+pub struct ActAt<'r, 's, 'k, R: Wait> {
+    pub rt: &'r R,
+    pub other: Member<'s, 'k>,
+    pub to: Pid,
+    pub point: u64,
+    pub act: Act,
+    /// How often it was at each of the points 1 to 4.
+    pub visits: [u32; 4],
+    /// What the release answered, or how many timers expired.
+    pub answer: u64,
+}
+
+impl<'r, 's, 'k, R: Wait> ActAt<'r, 's, 'k, R> {
+    fn interrupt(&mut self) {
+        if !self.other.post(self.to, Note::Interrupt) {
+            self.answer = u64::MAX;
+        }
+    }
+
+    fn release(&mut self) {
+        match self.other.release(self.rt, 1) {
+            Ok(value) => self.answer = value as u64,
+            Err(_) => self.answer = u64::MAX,
+        }
+    }
+
+    fn tick(&mut self, now: u64) {
+        self.answer = self.other.tick(self.rt, now);
+    }
+
+    fn act(&mut self) {
+        match self.act {
+            Act::Interrupt => self.interrupt(),
+            Act::Release => self.release(),
+            Act::Both => {
+                self.interrupt();
+                self.release();
+            }
+            Act::Tick(now) => self.tick(now),
+            Act::ReleaseAndTick(now) => {
+                self.release();
+                self.tick(now);
+            }
+            Act::InterruptAndTick(now) => {
+                self.interrupt();
+                self.tick(now);
+            }
+        }
+    }
+}
+
+impl<R: Wait> Probe for ActAt<'_, '_, '_, R> {
+    fn at(&mut self, point: u64) {
+        if !(1..=4).contains(&point) {
+            return;
+        }
+        let place = (point - 1) as usize;
+        if self.visits[place] == 0 && point == self.point {
+            self.act();
+        }
+        self.visits[place] = self.visits[place].saturating_add(1);
+    }
+}
