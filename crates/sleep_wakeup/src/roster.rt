@@ -42,7 +42,7 @@ pub struct Left {
 }
 
 impl<'k> Roster<'k> {
-    ghost use Rattle.std.specs.Prelude.{◌≡◌, ◌+◌, ◌≤◌, ◌⊎◌, IfOk, IfErr, OnOk, OnErr};
+    ghost use Rattle.std.specs.Prelude.{◌≡◌, ◌+◌, ◌^◌, ◌<◌, ◌≤◌, ◌⊎◌, IfOk, IfErr, OnOk, OnErr};
     ghost use Rattle.sync_base.specs.declared.fault.Fault.TheVariants.{NoRendez};
     ghost use Rattle.rendez_words.specs.Words.{ArePidsOf, procs_of, rendez_of};
     ghost use Rattle.sleep_wakeup.specs.Forks.{MayFork, WhyNotForked, Forks};
@@ -122,6 +122,7 @@ impl<'k> Roster<'k> {
 
         // Otherwise they are the next ones, and so many less are left.
         ensures next { IfOk result (λ rendez. rendez.0 ≡ self.old.rendez) }
+        ensures fits { IfOk result (λ rendez. rendez.0 + count < 2 ^ 64) }
         ensures given { OnOk result (self.new ≡ rendez_less count self.old) }
     {
         let first = self.next_rendez;

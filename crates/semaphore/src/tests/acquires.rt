@@ -6,7 +6,6 @@ use std::alloc::Global;
 use std::process::Abort;
 use std::sync::Wait;
 use std::test::Fail;
-use std::thread::join;
 use sync_base::{Fault, Note, NoteSet};
 
 #[test]
@@ -48,12 +47,11 @@ struct Outcome {
     left: Result<Semacquired, Fault>,
 }
 
-// Acquires a unit while another process acts at a point.
+// Acquires a unit while another process acts between the steps.
 fn acquired_while<R: Wait + Abort>(
     rt: &R,
     alloc: Global,
-    point: u64,
-    act: Act,
+    acts: [Act; 4],
 ) -> Result<Outcome, Fail> {
     let Opened { kernel, start } = Kernel::new(alloc, 2, 2)?;
     let Started { mut roster, proc } = kernel.start(start);
@@ -73,8 +71,7 @@ fn acquired_while<R: Wait + Abort>(
         rt,
         other,
         to: member.proc.pid(),
-        point,
-        act,
+        acts,
         visits: [0; 4],
         answer: 0,
     };
@@ -91,42 +88,48 @@ fn acquired_while<R: Wait + Abort>(
 
 #[test]
 fn an_interrupted_wait_gets_no_unit(rt: HostRuntime) -> Result<(), Fail> {
-    let interrupt = NoteSet::of(Note::Interrupt);
-    for point in [1, 2] {
-        assert_eq!(rt;
-            acquired_while(&rt, rt.alloc(), point, Act::Interrupt)?,
-            Outcome {
-                answer: Err(Fault::Interrupted(interrupt)),
-                pending: NoteSet::empty(),
-                released: 0,
-                left: Ok(Semacquired::NotNow),
-            },
-            "point {point}"
-        );
-    }
+    let interrupted = Outcome {
+        answer: Err(Fault::Interrupted(NoteSet::of(Note::Interrupt))),
+        pending: NoteSet::empty(),
+        released: 0,
+        left: Ok(Semacquired::NotNow),
+    };
+    let first = [Act::Interrupt, Act::Nothing, Act::Nothing, Act::Nothing];
+    assert_eq!(rt; acquired_while(&rt, rt.alloc(), first)?, interrupted);
+    let second = [Act::Nothing, Act::Interrupt, Act::Nothing, Act::Nothing];
+    assert_eq!(rt; acquired_while(&rt, rt.alloc(), second)?, interrupted);
     Ok(())
 }
 
 #[test]
 fn a_unit_that_was_granted_is_kept_and_the_notes_are_put_back(rt: HostRuntime) -> Result<(), Fail> {
-    let interrupt = NoteSet::of(Note::Interrupt);
-    assert_eq!(rt;
-        acquired_while(&rt, rt.alloc(), 2, Act::Both)?,
-        Outcome {
-            answer: Ok(Semacquired::Acquired),
-            pending: interrupt,
-            released: 1,
-            left: Ok(Semacquired::NotNow),
-        }
-    );
-    assert_eq!(rt;
-        acquired_while(&rt, rt.alloc(), 2, Act::Release)?,
-        Outcome {
-            answer: Ok(Semacquired::Acquired),
-            pending: NoteSet::empty(),
-            released: 1,
-            left: Ok(Semacquired::NotNow),
-        }
-    );
+    let granted = Outcome {
+        answer: Ok(Semacquired::Acquired),
+        pending: NoteSet::of(Note::Interrupt),
+        released: 1,
+        left: Ok(Semacquired::NotNow),
+    };
+    let at_once = [
+        Act::Nothing,
+        Act::InterruptAndRelease,
+        Act::Nothing,
+        Act::Nothing,
+    ];
+    assert_eq!(rt; acquired_while(&rt, rt.alloc(), at_once)?, granted);
+    let behind_it = [Act::Nothing, Act::Interrupt, Act::Release, Act::Nothing];
+    assert_eq!(rt; acquired_while(&rt, rt.alloc(), behind_it)?, granted);
+    Ok(())
+}
+
+#[test]
+fn a_release_ends_a_wait(rt: HostRuntime) -> Result<(), Fail> {
+    let granted = Outcome {
+        answer: Ok(Semacquired::Acquired),
+        pending: NoteSet::empty(),
+        released: 1,
+        left: Ok(Semacquired::NotNow),
+    };
+    let before_it = [Act::Nothing, Act::Release, Act::Nothing, Act::Nothing];
+    assert_eq!(rt; acquired_while(&rt, rt.alloc(), before_it)?, granted);
     Ok(())
 }

@@ -1,8 +1,6 @@
 //! A process with its seats at a semaphore and at timers, and probes that act between its steps.
 use crate::{Sema, SemaSeat, Semacquired, TimerSeat, Timers};
-use sleep_wakeup::{Kernel, Opened, Proc, Roster, Started};
-use std::alloc::Global;
-use std::process::Abort;
+use sleep_wakeup::{Proc, Roster};
 use std::sync::Wait;
 use sync_base::{Fault, Flags, Note, NoteSet, Pid, Probe, RendezId};
 
@@ -109,26 +107,30 @@ impl<'s, 'k> Member<'s, 'k> {
     }
 }
 
-/// What a probe does where it acts.
+/// What a probe does at a point.
 #[derive(Clone, Copy)]
 pub enum Act {
+    Nothing,
     Interrupt,
     Release,
-    Both,
+    /// An interrupt, and then a release.
+    InterruptAndRelease,
     /// A tick at this moment.
     Tick(u64),
+    /// A release, and then a tick at this moment.
     ReleaseAndTick(u64),
+    /// An interrupt, and then a tick at this moment.
     InterruptAndTick(u64),
 }
 
-/// Acts on another process the first time that it passes a point.
+/// Another process, which acts the first time that it passes a point.
 #[derive(Drop)]
 pub struct ActAt<'r, 's, 'k, R: Wait> {
     pub rt: &'r R,
     pub other: Member<'s, 'k>,
     pub to: Pid,
-    pub point: u64,
-    pub act: Act,
+    /// What it does at each of the points 1 to 4.
+    pub acts: [Act; 4],
     /// How often it was at each of the points 1 to 4.
     pub visits: [u32; 4],
     /// What the release answered, or how many timers expired.
@@ -153,11 +155,12 @@ impl<'r, 's, 'k, R: Wait> ActAt<'r, 's, 'k, R> {
         self.answer = self.other.tick(self.rt, now);
     }
 
-    fn act(&mut self) {
-        match self.act {
+    fn act(&mut self, act: Act) {
+        match act {
+            Act::Nothing => {}
             Act::Interrupt => self.interrupt(),
             Act::Release => self.release(),
-            Act::Both => {
+            Act::InterruptAndRelease => {
                 self.interrupt();
                 self.release();
             }
@@ -180,8 +183,8 @@ impl<R: Wait> Probe for ActAt<'_, '_, '_, R> {
             return;
         }
         let place = (point - 1) as usize;
-        if self.visits[place] == 0 && point == self.point {
-            self.act();
+        if self.visits[place] == 0 {
+            self.act(self.acts[place]);
         }
         self.visits[place] = self.visits[place].saturating_add(1);
     }
