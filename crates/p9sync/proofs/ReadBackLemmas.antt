@@ -18,32 +18,55 @@ use Rattle.p9sync.specs.Schedule.{kinds_of}
 use Rattle.p9sync.specs.TextLaws.{NumbersAreReadBack, BytesAreReadBack, KindsAreReadBack}
 use Rattle.p9sync.proofs.NumberLemmas.{decimal_from, value_of-small}
 
--- each of the sixteen sets of kinds
-by_kinds : (interrupt hangup alarm closed_pipe : Bool)
+-- each of the 32 sets of kinds
+by_kinds : (interrupt hangup alarm closed_pipe expired : Bool)
     → let set : NoteSet =
-    record { interrupt = interrupt; hangup = hangup; alarm = alarm; closed_pipe = closed_pipe }
+    record {
+      interrupt = interrupt;
+      hangup = hangup;
+      alarm = alarm;
+      closed_pipe = closed_pipe;
+      expired = expired;
+    }
     in
     kinds_of (kinds_text set) ≡ Some set
-by_kinds true true true true = refl
-by_kinds true true true false = refl
-by_kinds true true false true = refl
-by_kinds true true false false = refl
-by_kinds true false true true = refl
-by_kinds true false true false = refl
-by_kinds true false false true = refl
-by_kinds true false false false = refl
-by_kinds false true true true = refl
-by_kinds false true true false = refl
-by_kinds false true false true = refl
-by_kinds false true false false = refl
-by_kinds false false true true = refl
-by_kinds false false true false = refl
-by_kinds false false false true = refl
-by_kinds false false false false = refl
+by_kinds true true true true true = refl
+by_kinds true true true true false = refl
+by_kinds true true true false true = refl
+by_kinds true true true false false = refl
+by_kinds true true false true true = refl
+by_kinds true true false true false = refl
+by_kinds true true false false true = refl
+by_kinds true true false false false = refl
+by_kinds true false true true true = refl
+by_kinds true false true true false = refl
+by_kinds true false true false true = refl
+by_kinds true false true false false = refl
+by_kinds true false false true true = refl
+by_kinds true false false true false = refl
+by_kinds true false false false true = refl
+by_kinds true false false false false = refl
+by_kinds false true true true true = refl
+by_kinds false true true true false = refl
+by_kinds false true true false true = refl
+by_kinds false true true false false = refl
+by_kinds false true false true true = refl
+by_kinds false true false true false = refl
+by_kinds false true false false true = refl
+by_kinds false true false false false = refl
+by_kinds false false true true true = refl
+by_kinds false false true true false = refl
+by_kinds false false true false true = refl
+by_kinds false false true false false = refl
+by_kinds false false false true true = refl
+by_kinds false false false true false = refl
+by_kinds false false false false true = refl
+by_kinds false false false false false = refl
 
 -- so every set of kinds is read back
 pub kinds_read_back : KindsAreReadBack
-kinds_read_back set = by_kinds set.interrupt set.hangup set.alarm set.closed_pipe
+kinds_read_back set =
+    by_kinds set.interrupt set.hangup set.alarm set.closed_pipe set.expired
 
 -- the grammar's digits and their number are those of the library
 grammar_digits : IsNumeralModel (λ digits. list_all is_ascii_digit digits ≡ true) decimal_value

@@ -106,6 +106,14 @@ a_world_alone_has_lost_nothing : schedule_told (text (codes "world 1 1" ∷ []))
 unfolding digits
 a_world_alone_has_lost_nothing = refl
 
+kinds_are_told_in_one_order : schedule_told
+    (text (codes "world 1 1" ∷ codes "note 0 expired,alarm" ∷ codes "drain 0" ∷ [])) ≡ record {
+      output = text (codes "noted" ∷ codes "notes alarm,expired" ∷ codes "lost no" ∷ []);
+      fault = None;
+    }
+unfolding digits
+kinds_are_told_in_one_order = refl
+
 a_kind_twice_is_a_fault : schedule_told (text (codes "world 1 1" ∷ codes "note 0 alarm,alarm" ∷ []))
     ≡ record { output = []; fault = Some 2 }
 unfolding digits

@@ -2,7 +2,7 @@
 use Rattle.std.specs.Prelude.{ℕ, List, [], ◌∷◌, ◌++◌, codes, if◌then◌else◌}
 use Rattle.std.specs.Fmt.{decimal}
 use Rattle.sync_base.specs.declared.note.Note.{Note}
-use Rattle.sync_base.specs.declared.note.Note.TheVariants.{Interrupt, Hangup, Alarm, ClosedPipe}
+use Rattle.sync_base.specs.declared.note.Note.TheVariants.{Interrupt, Hangup, Alarm, ClosedPipe, Expired}
 use Rattle.sync_base.specs.declared.note.NoteSet.{NoteSet}
 use Rattle.sync_base.specs.NoteSet.{holds}
 use Rattle.sleep_core.specs.declared.answer.Answer.{Answer}
@@ -15,6 +15,7 @@ kind_text Interrupt = codes "interrupt"
 kind_text Hangup = codes "hangup"
 kind_text Alarm = codes "alarm"
 kind_text ClosedPipe = codes "closed"
+kind_text Expired = codes "expired"
 
 -- a kind behind those before it, with a comma between
 abbrev pub behind_comma : List ℕ → List ℕ → List ℕ
@@ -28,7 +29,9 @@ listed set text note = if holds set note then behind_comma text (kind_text note)
 -- the kinds in the set, in the order in which they are printed
 abbrev pub kinds_listed : NoteSet → List ℕ
 kinds_listed set =
-    listed set (listed set (listed set (listed set [] Interrupt) Hangup) Alarm) ClosedPipe
+    listed set
+    (listed set (listed set (listed set (listed set [] Interrupt) Hangup) Alarm) ClosedPipe)
+    Expired
 
 -- or a dash for none
 abbrev pub or_dash : List ℕ → List ℕ

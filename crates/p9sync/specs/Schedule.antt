@@ -3,7 +3,7 @@ use Rattle.std.specs.Prelude.{ℕ, if◌then◌else◌, List, [], ◌∷◌, ◌
 use Rattle.std.specs.Option.{option_map}
 use Rattle.sync_base.specs.declared.limits.TheConstants.{MAX_PROCS, MAX_RENDEZ}
 use Rattle.sync_base.specs.declared.note.Note.{Note}
-use Rattle.sync_base.specs.declared.note.Note.TheVariants.{Interrupt, Hangup, Alarm, ClosedPipe}
+use Rattle.sync_base.specs.declared.note.Note.TheVariants.{Interrupt, Hangup, Alarm, ClosedPipe, Expired}
 use Rattle.sync_base.specs.declared.note.NoteSet.{NoteSet}
 use Rattle.sync_base.specs.declared.ids.Pid.{Pid}
 use Rattle.sync_base.specs.NoteSet.{holds, joined, no_notes, only}
@@ -58,6 +58,7 @@ note_named word =
     else if is_word word (codes "hangup") then Some Hangup
     else if is_word word (codes "alarm") then Some Alarm
     else if is_word word (codes "closed") then Some ClosedPipe
+    else if is_word word (codes "expired") then Some Expired
     else None
 
 -- the set with this kind too, which is not there yet

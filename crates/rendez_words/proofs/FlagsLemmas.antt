@@ -2,7 +2,7 @@
 use Rattle.std.proofs.Common.{◌≡◌, ◌==◌, ℕ, ◌+◌, ◌*◌, ◌/◌, ◌%◌, ◌<◌, Bool, true, false, ◌||◌, if◌then◌else◌, List, [], ◌∷◌, length, bit_or, refl, sym, ◌∙◌, ap, subst, arith}
 use Rattle.std.proofs.lemmas.Nat.{or_block, div-mul-add, mod-mul-add}
 use Rattle.sync_base.specs.declared.note.Note.{Note}
-use Rattle.sync_base.specs.declared.note.Note.TheVariants.{Interrupt, Hangup, Alarm, ClosedPipe}
+use Rattle.sync_base.specs.declared.note.Note.TheVariants.{Interrupt, Hangup, Alarm, ClosedPipe, Expired}
 use Rattle.sync_base.specs.declared.note.NoteSet.{NoteSet}
 use Rattle.sync_base.specs.NoteSet.{holds, joined, only, no_notes}
 use Rattle.sleep_core.specs.declared.phase.ProcFlags.{ProcFlags}
@@ -60,6 +60,7 @@ or_mark flags =
     ∷ or_false (holds flags.notes Hangup) k
     ∷ or_false (holds flags.notes Alarm) k
     ∷ or_false (holds flags.notes ClosedPipe) k
+    ∷ or_false (holds flags.notes Expired) k
     ∷ []))
 
 -- the notes are joined, and the mark stays
@@ -72,6 +73,7 @@ or_notes flags new =
     ∷ (holds flags.notes Hangup || holds new Hangup)
     ∷ (holds flags.notes Alarm || holds new Alarm)
     ∷ (holds flags.notes ClosedPipe || holds new ClosedPipe)
+    ∷ (holds flags.notes Expired || holds new Expired)
     ∷ [])) (or_false flags.wake)
 
 -- the lowest bit is read, and the others are left
@@ -91,40 +93,77 @@ others bit rest word is =
 abbrev with_note : NoteSet → Note → Bool → NoteSet
 with_note notes note is_set = if is_set then joined notes (only note) else notes
 
-abbrev notes_from : Bool → Bool → Bool → Bool → NoteSet
-notes_from interrupt hangup alarm closed_pipe =
-    with_note (with_note (with_note (with_note no_notes Interrupt interrupt) Hangup hangup) Alarm alarm) ClosedPipe closed_pipe
+abbrev notes_from : (interrupt hangup alarm closed_pipe expired : Bool) → NoteSet
+notes_from interrupt hangup alarm closed_pipe expired =
+    let first = with_note no_notes Interrupt interrupt in
+    let second = with_note first Hangup hangup in
+    let third = with_note second Alarm alarm in
+    let fourth = with_note third ClosedPipe closed_pipe in
+    with_note fourth Expired expired
 
-notes_again : (interrupt hangup alarm closed_pipe : Bool) → notes_from interrupt hangup alarm closed_pipe
-    ≡ record { interrupt = interrupt; hangup = hangup; alarm = alarm; closed_pipe = closed_pipe }
-notes_again true true true true = refl
-notes_again true true true false = refl
-notes_again true true false true = refl
-notes_again true true false false = refl
-notes_again true false true true = refl
-notes_again true false true false = refl
-notes_again true false false true = refl
-notes_again true false false false = refl
-notes_again false true true true = refl
-notes_again false true true false = refl
-notes_again false true false true = refl
-notes_again false true false false = refl
-notes_again false false true true = refl
-notes_again false false true false = refl
-notes_again false false false true = refl
-notes_again false false false false = refl
+notes_again : (interrupt hangup alarm closed_pipe expired : Bool)
+    → notes_from interrupt hangup alarm closed_pipe expired ≡ record {
+      interrupt = interrupt;
+      hangup = hangup;
+      alarm = alarm;
+      closed_pipe = closed_pipe;
+      expired = expired;
+    }
+notes_again true true true true true = refl
+notes_again true true true true false = refl
+notes_again true true true false true = refl
+notes_again true true true false false = refl
+notes_again true true false true true = refl
+notes_again true true false true false = refl
+notes_again true true false false true = refl
+notes_again true true false false false = refl
+notes_again true false true true true = refl
+notes_again true false true true false = refl
+notes_again true false true false true = refl
+notes_again true false true false false = refl
+notes_again true false false true true = refl
+notes_again true false false true false = refl
+notes_again true false false false true = refl
+notes_again true false false false false = refl
+notes_again false true true true true = refl
+notes_again false true true true false = refl
+notes_again false true true false true = refl
+notes_again false true true false false = refl
+notes_again false true false true true = refl
+notes_again false true false true false = refl
+notes_again false true false false true = refl
+notes_again false true false false false = refl
+notes_again false false true true true = refl
+notes_again false false true true false = refl
+notes_again false false true false true = refl
+notes_again false false true false false = refl
+notes_again false false false true true = refl
+notes_again false false false true false = refl
+notes_again false false false false true = refl
+notes_again false false false false false = refl
 
 -- notes that were joined one by one
-pub notes_read : (empty first second third fourth : NoteSet) (interrupt hangup alarm closed_pipe : Bool) → empty ≡ no_notes
-    → first ≡ with_note empty Interrupt interrupt → second ≡ with_note first Hangup hangup → third ≡ with_note second Alarm alarm → fourth ≡ with_note third ClosedPipe closed_pipe
-    → fourth ≡ notes_from interrupt hangup alarm closed_pipe
-notes_read empty first second third fourth interrupt hangup alarm closed_pipe e i h a c =
-    c ∙ ap (λ n. with_note n ClosedPipe closed_pipe) (a ∙ ap (λ n. with_note n Alarm alarm) (h ∙ ap (λ n. with_note n Hangup hangup) (i ∙ ap (λ n. with_note n Interrupt interrupt) e)))
+pub notes_read : (empty first second third fourth fifth : NoteSet)
+    (interrupt hangup alarm closed_pipe expired : Bool) → empty ≡ no_notes
+    → first ≡ with_note empty Interrupt interrupt → second ≡ with_note first Hangup hangup
+    → third ≡ with_note second Alarm alarm → fourth ≡ with_note third ClosedPipe closed_pipe
+    → fifth ≡ with_note fourth Expired expired
+    → fifth ≡ notes_from interrupt hangup alarm closed_pipe expired
+notes_read empty first second third fourth fifth interrupt hangup alarm closed_pipe expired e i h a c x =
+    let one = i ∙ ap (λ n. with_note n Interrupt interrupt) e in
+    let two = h ∙ ap (λ n. with_note n Hangup hangup) one in
+    let three = a ∙ ap (λ n. with_note n Alarm alarm) two in
+    let four = c ∙ ap (λ n. with_note n ClosedPipe closed_pipe) three in
+    x ∙ ap (λ n. with_note n Expired expired) four
 
 -- flags whose bits were read are the flags
-pub flags_again : (flags : ProcFlags) (wake interrupt hangup alarm closed_pipe : Bool) → wake ≡ flags.wake → interrupt ≡ holds flags.notes Interrupt → hangup ≡ holds flags.notes Hangup
-    → alarm ≡ holds flags.notes Alarm → closed_pipe ≡ holds flags.notes ClosedPipe
-    → record { wake = wake; notes = notes_from interrupt hangup alarm closed_pipe } ≡ flags
-flags_again flags wake interrupt hangup alarm closed_pipe w i h a c =
-    (λ k. record { wake = w k; notes = notes_from (i k) (h k) (a k) (c k) })
-    ∙ (λ k. record { wake = flags.wake; notes = notes_again (holds flags.notes Interrupt) (holds flags.notes Hangup) (holds flags.notes Alarm) (holds flags.notes ClosedPipe) k })
+pub flags_again : (flags : ProcFlags) (wake interrupt hangup alarm closed_pipe expired : Bool)
+    → wake ≡ flags.wake → interrupt ≡ holds flags.notes Interrupt
+    → hangup ≡ holds flags.notes Hangup → alarm ≡ holds flags.notes Alarm
+    → closed_pipe ≡ holds flags.notes ClosedPipe → expired ≡ holds flags.notes Expired
+    → record { wake = wake; notes = notes_from interrupt hangup alarm closed_pipe expired } ≡ flags
+flags_again flags wake interrupt hangup alarm closed_pipe expired w i h a c x =
+    (λ k. record { wake = w k; notes = notes_from (i k) (h k) (a k) (c k) (x k) })
+    ∙ ap (λ notes. record { wake = flags.wake; notes = notes })
+    (notes_again (holds flags.notes Interrupt) (holds flags.notes Hangup) (holds flags.notes Alarm)
+    (holds flags.notes ClosedPipe) (holds flags.notes Expired))

@@ -1,6 +1,6 @@
 -- Words computed by hand: which bit is whose, and which word lies where.
 use Rattle.std.proofs.Common.{◌≡◌, List, [], ◌∷◌, true, false, refl}
-use Rattle.sync_base.specs.declared.note.Note.TheVariants.{Interrupt, Hangup, Alarm, ClosedPipe}
+use Rattle.sync_base.specs.declared.note.Note.TheVariants.{Interrupt, Hangup, Alarm, ClosedPipe, Expired}
 use Rattle.sync_base.specs.NoteSet.{no_notes, only, joined}
 use Rattle.sleep_core.specs.State.{opening}
 use Rattle.sleep_core.specs.Table.Cell.{PostedOf, LevelOf, FlagsOf}
@@ -21,6 +21,9 @@ then_alarm = refl
 
 then_closed_pipe : flags_word (record { wake = true; notes = joined (only Alarm) (only ClosedPipe) }) ≡ 25
 then_closed_pipe = refl
+
+then_expired : flags_word (record { wake = false; notes = joined (only Expired) (only Hangup) }) ≡ 36
+then_expired = refl
 
 -- of three processes and two Rendez
 a_posted_word : place (record { procs = 3; rendez = 2 }) (PostedOf 1) ≡ 1

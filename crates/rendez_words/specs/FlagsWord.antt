@@ -1,7 +1,7 @@
 -- The flags of a process as one word. Own: the lowest bit is the mark of a wakeup, and above it
 -- stands a bit for each kind of note. A further kind of note comes at the end of `bits_of`.
 use Rattle.std.specs.Prelude.{ℕ, ◌+◌, ◌*◌, Bool, List, [], ◌∷◌, if◌then◌else◌}
-use Rattle.sync_base.specs.declared.note.Note.TheVariants.{Interrupt, Hangup, Alarm, ClosedPipe}
+use Rattle.sync_base.specs.declared.note.Note.TheVariants.{Interrupt, Hangup, Alarm, ClosedPipe, Expired}
 use Rattle.sync_base.specs.NoteSet.{holds}
 use Rattle.sleep_core.specs.declared.phase.ProcFlags.{ProcFlags}
 
@@ -13,6 +13,7 @@ bits_of flags =
     ∷ holds flags.notes Hangup
     ∷ holds flags.notes Alarm
     ∷ holds flags.notes ClosedPipe
+    ∷ holds flags.notes Expired
     ∷ []
 
 -- the number with these binary digits, the lowest first

@@ -13,7 +13,8 @@ pub(crate) fn word_from(flags: ProcFlags) -> u64
     ensures { result ≡ flags_word flags }
 {
     let ProcFlags { wake, notes } = flags;
-    let mut word = notes.has(Note::ClosedPipe) as u64;
+    let mut word = notes.has(Note::Expired) as u64;
+    word = word * 2 + notes.has(Note::ClosedPipe) as u64;
     word = word * 2 + notes.has(Note::Alarm) as u64;
     word = word * 2 + notes.has(Note::Hangup) as u64;
     word = word * 2 + notes.has(Note::Interrupt) as u64;
@@ -30,10 +31,12 @@ pub(crate) fn flags_in(word: u64) -> ProcFlags
     let hangup = lowest_bit(&mut bits);
     let alarm = lowest_bit(&mut bits);
     let closed_pipe = lowest_bit(&mut bits);
+    let expired = lowest_bit(&mut bits);
     let notes = joined_if(NoteSet::empty(), Note::Interrupt, interrupt);
     let notes = joined_if(notes, Note::Hangup, hangup);
     let notes = joined_if(notes, Note::Alarm, alarm);
     let notes = joined_if(notes, Note::ClosedPipe, closed_pipe);
+    let notes = joined_if(notes, Note::Expired, expired);
     ProcFlags { wake, notes }
 }
 

@@ -164,7 +164,8 @@ leaving_takes_anothers_note =
 
 -- Right notes: two notes come to one process among others of another, and its sleep ends with both.
 abbrev pub both_notes : NoteSet
-both_notes = record { interrupt = true; hangup = false; alarm = true; closed_pipe = false }
+both_notes =
+    record { interrupt = true; hangup = false; alarm = true; closed_pipe = false; expired = false }
 
 abbrev pub tells_both_notes : List Deed
 tells_both_notes =

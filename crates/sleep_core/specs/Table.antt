@@ -4,7 +4,7 @@ use Rattle.std.specs.Prelude.{ℕ, max, Bool, true, ◌||◌, ◌==◌, nat_lt, 
 use Rattle.std.specs.Prelude.{Option, Some, None}
 use Rattle.sync_base.specs.declared.ids.Pid.{Pid}
 use Rattle.sync_base.specs.declared.limits.TheConstants.{TOP_LEVEL}
-use Rattle.sync_base.specs.declared.note.Note.TheVariants.{Interrupt, Hangup, Alarm, ClosedPipe}
+use Rattle.sync_base.specs.declared.note.Note.TheVariants.{Interrupt, Hangup, Alarm, ClosedPipe, Expired}
 use Rattle.sync_base.specs.declared.note.NoteSet.{NoteSet}
 use Rattle.sync_base.specs.NoteSet.{holds, joined}
 use Rattle.sleep_core.specs.declared.event.Event.{Event}
@@ -56,6 +56,7 @@ flags_in word = no_flags
 abbrev pub has_notes : NoteSet → Bool
 has_notes notes =
     holds notes Interrupt || holds notes Hangup || holds notes Alarm || holds notes ClosedPipe
+    || holds notes Expired
 
 -- the one word that the event reads and may change
 abbrev pub cell_of : Event → Phase → Cell

@@ -3,7 +3,7 @@ ghost use Rattle.std.specs.Prelude.{◌≡◌, ◌↔◌, ◌||◌, ◌&&◌, no
 ghost use Rattle.sync_base.specs.Note.{note_text};
 ghost use Rattle.sync_base.specs.NoteSet.{holds, is_same_note, joined, no_notes, only};
 
-/// A kind of note. notify(2) has texts of any kind; these four are the library's own choice.
+/// A kind of note. notify(2) has texts of any kind; these five are the library's own choice.
 #[derive(Clone, Copy, Debug, PartialEq, Eq)]
 pub enum Note {
     /// `interrupt`: the user asks the process to stop what it does.
@@ -14,6 +14,8 @@ pub enum Note {
     Alarm,
     /// `sys: write on closed pipe`: the process wrote where nobody will read.
     ClosedPipe,
+    /// `expired`: the time that a wait was given is over. The library's timers post it.
+    Expired,
 }
 
 impl Note {
@@ -26,6 +28,7 @@ impl Note {
             Note::Hangup => "hangup",
             Note::Alarm => "alarm",
             Note::ClosedPipe => "sys: write on closed pipe",
+            Note::Expired => "expired",
         }
     }
 }
@@ -37,6 +40,7 @@ pub struct NoteSet {
     hangup: bool,
     alarm: bool,
     closed_pipe: bool,
+    expired: bool,
 }
 
 impl NoteSet {
@@ -50,6 +54,7 @@ impl NoteSet {
             hangup: false,
             alarm: false,
             closed_pipe: false,
+            expired: false,
         }
     }
 
@@ -63,6 +68,7 @@ impl NoteSet {
             hangup: note == Note::Hangup,
             alarm: note == Note::Alarm,
             closed_pipe: note == Note::ClosedPipe,
+            expired: note == Note::Expired,
         }
     }
 
@@ -75,6 +81,7 @@ impl NoteSet {
             Note::Hangup => self.hangup,
             Note::Alarm => self.alarm,
             Note::ClosedPipe => self.closed_pipe,
+            Note::Expired => self.expired,
         }
     }
 
@@ -88,6 +95,7 @@ impl NoteSet {
             hangup: self.hangup || other.hangup,
             alarm: self.alarm || other.alarm,
             closed_pipe: self.closed_pipe || other.closed_pipe,
+            expired: self.expired || other.expired,
         }
     }
 
@@ -100,6 +108,7 @@ impl NoteSet {
             hangup: self.hangup && !other.hangup,
             alarm: self.alarm && !other.alarm,
             closed_pipe: self.closed_pipe && !other.closed_pipe,
+            expired: self.expired && !other.expired,
         }
     }
 

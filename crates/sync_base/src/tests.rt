@@ -39,6 +39,7 @@ fn note_sets_answer_as_sets(rt: HostRuntime) {
         (Note::Hangup, "hangup"),
         (Note::Alarm, "alarm"),
         (Note::ClosedPipe, "sys: write on closed pipe"),
+        (Note::Expired, "expired"),
     ];
     let mut all = NoteSet::empty();
     assert!(rt; all.is_empty());

@@ -288,7 +288,7 @@ fn schedules_are_answered(rt: HostRuntime) -> Result<(), Fail> {
 
 #[test]
 fn each_set_of_notes_has_its_text(rt: HostRuntime) -> Result<(), Fail> {
-    let rows: [Row<'_>; 5] = [
+    let rows: [Row<'_>; 8] = [
         (
             b"world 1 1\nnote 0 -\ndrain 0\n",
             b"noted\nnotes -\nlost no\n",
@@ -312,6 +312,21 @@ fn each_set_of_notes_has_its_text(rt: HostRuntime) -> Result<(), Fail> {
         (
             b"world 1 1\nnote 0 closed,alarm,hangup,interrupt\ndrain 0\n",
             b"noted\nnotes interrupt,hangup,alarm,closed\nlost no\n",
+            Ends::Well,
+        ),
+        (
+            b"world 1 1\nnote 0 expired\ndrain 0\n",
+            b"noted\nnotes expired\nlost no\n",
+            Ends::Well,
+        ),
+        (
+            b"world 1 1\nnote 0 expired,alarm\ndrain 0\n",
+            b"noted\nnotes alarm,expired\nlost no\n",
+            Ends::Well,
+        ),
+        (
+            b"world 1 1\nnote 0 expired,closed,alarm,hangup,interrupt\ndrain 0\n",
+            b"noted\nnotes interrupt,hangup,alarm,closed,expired\nlost no\n",
             Ends::Well,
         ),
     ];
@@ -351,7 +366,7 @@ fn a_schedule_ends_at_its_first_bad_line(rt: HostRuntime) -> Result<(), Fail> {
         (b"world 1 1\nnote 0 alarm,alarm\n", b"", Ends::AtLine(2)),
         (b"world 1 1\nnote 0 alarm,\n", b"", Ends::AtLine(2)),
         (b"world 1 1\nnote 0 -,alarm\n", b"", Ends::AtLine(2)),
-        (b"world 1 1\nnote 0 expired\n", b"", Ends::AtLine(2)),
+        (b"world 1 1\nnote 0 Expired\n", b"", Ends::AtLine(2)),
         (
             b"world 1 1\ndrain 0\nnote 0 bell\n",
             b"notes -\n",
