@@ -1,6 +1,8 @@
+mod AskLemmas
 mod Cases
 mod EarlierLemmas
 mod LineLemmas
+mod OwnSemaLemmas
 mod SemaLawLemmas
 mod SemaLemmas
 mod TimerLemmas

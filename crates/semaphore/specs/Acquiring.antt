@@ -6,6 +6,7 @@ use Rattle.std.specs.List.{AllByRecursion}
 use Rattle.sync_base.specs.declared.fault.Fault.{Fault}
 use Rattle.sync_base.specs.declared.fault.Fault.TheVariants as fault
 use Rattle.sync_base.specs.declared.ids.Pid.{Pid}
+use Rattle.sync_base.specs.declared.note.Note.TheVariants.{Expired}
 use Rattle.sync_base.specs.declared.note.NoteSet.{NoteSet}
 use Rattle.sync_base.specs.NoteSet.{no_notes, joined, holds}
 use Rattle.semaphore.specs.declared.acquiring.Semacquired.{Semacquired}
@@ -23,7 +24,6 @@ use Rattle.semaphore.specs.Deeds.{Deed, Ending, Caller}
 use Rattle.semaphore.specs.Deeds.Deed.{Asks, Times, Rests, Rouses, Posts, Drains}
 use Rattle.semaphore.specs.Deeds.Ending.{Well, Noted, Double}
 use Rattle.semaphore.specs.SemaHistory.{taken_by}
-use Rattle.semaphore.specs.TickNote.{tick_note, without_expired}
 use Rattle.semaphore.specs.TimerHistory.{TimerEntry, WasTaken}
 
 -- ---- what a call got and took
@@ -119,7 +119,7 @@ IsOfAcquire caller (Drains set) = ⊤
 -- a tick has taken its timer, and the note of that tick did not come yet
 pub record AwaitsTick (deeds : List Deed) : Type 0 where
   pub expired : was_expired deeds ≡ true
-  pub to_come : holds (notes_taken deeds) tick_note ≡ false
+  pub to_come : holds (notes_taken deeds) Expired ≡ false
 
 -- a sleep has the count that the last answer told it to wait for; it may be any while the note of a
 -- tick is awaited
@@ -241,6 +241,10 @@ Semacquires false = AcquiresNow
 
 -- ---- in time
 
+-- all of these notes but the one that a tick posts
+abbrev pub without_expired : NoteSet → NoteSet
+without_expired set = record set { expired = false }
+
 -- what the seat at the timers has seen, and what the timers were at first
 pub record TimersSeen : Type 0 where
   pub opening : List Timer
@@ -272,4 +276,4 @@ pub record AcquiresInTime (caller : Caller) (seen : TimersSeen) (deadline : ℕ)
   pub between : SleepsBetween deeds
   pub notes : KeepsNotes (without_expired (notes_taken deeds)) (posts_in deeds) answer
   -- where a tick had taken its timer, it took that tick's note
-  pub told : was_expired deeds ≡ true → holds (notes_taken deeds) tick_note ≡ true
+  pub told : was_expired deeds ≡ true → holds (notes_taken deeds) Expired ≡ true

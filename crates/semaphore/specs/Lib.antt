@@ -11,7 +11,6 @@ pub mod SeatLine
 pub mod Seats
 pub mod SemaHistory
 pub mod SemaLaws
-pub mod TickNote
 pub mod Ticking
 pub mod TimerHistory
 pub mod Timers

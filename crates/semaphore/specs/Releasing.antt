@@ -22,10 +22,6 @@ pub record Wakeup : Type 0 where
   pub level : ℕ
 
 -- the releases of a call
-abbrev pub release_of : SemaCall → SemaReply → List Released
-release_of (Release count) answer = record { count = count; reply = answer } ∷ []
-release_of call answer = []
-
 abbrev pub releases_in : List Deed → List Released
 releases_in [] = []
 releases_in (Asks (Release count) answer ∷ past) =
@@ -73,3 +69,14 @@ pub record Releases (first count : ℕ) (answer : Result ℕ Fault) (deeds : Lis
   pub answers : Answers count answer reply deeds
   pub woken : wakeups_in deeds ≡ wakeups_owed first deeds
   pub own : AllByRecursion IsOfRelease deeds
+
+-- a call that has released, and woken each that was named since
+pub record IsWaking (first : ℕ) (released : Released) (deeds : List Deed) : Type 0 where
+  pub once : releases_in deeds ≡ released ∷ []
+  pub woken : wakeups_in deeds ≡ wakeups_owed first deeds
+  pub own : AllByRecursion IsOfRelease deeds
+
+-- and then nobody is left to be woken
+pub record HasWoken (first : ℕ) (released : Released) (deeds : List Deed) : Type 0 where
+  pub waking : IsWaking first released deeds
+  pub last : AsksToTheLast deeds

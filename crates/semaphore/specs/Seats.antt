@@ -87,6 +87,18 @@ abbrev pub stands : Running → SemaSeat → Standing
 stands running seat =
     record { process = running.process; seat = view_of seat.seat; timer = spent_view }
 
+-- it makes its steps for this caller
+pub record IsCallerAt (sema : Sema) (running : Running) (seat : SemaSeat) (caller : Caller) :
+    Type 0 where
+  pub pid_is : caller.pid ≡ pid_in running.process
+  pub rendez_is : caller.rendez ≡ rendez_at sema seat
+  pub number_is : caller.number ≡ number_of seat.seat
+
+-- where it stands then; its seat at the timers, if it has one, is as before
+abbrev pub goes_on : Running → SemaSeat → Standing → Standing
+goes_on running seat standing =
+    record standing { process = running.process; seat = view_of seat.seat }
+
 -- ---- timers
 
 -- the seat is one of the timers' and has one number; it has seen a legal history, with its own calls

@@ -2,12 +2,12 @@
 use Rattle.std.specs.Prelude.{◌≡◌, ◌⊎◌, ⊤, ℕ, nat_lt, List, [], ◌∷◌, length}
 use Rattle.std.specs.List.{filter, AllByRecursion}
 use Rattle.sync_base.specs.declared.ids.Pid.{Pid}
+use Rattle.sync_base.specs.declared.note.Note.TheVariants.{Expired}
 use Rattle.sync_base.specs.NoteSet.{only}
 use Rattle.semaphore.specs.declared.timer_object.TimerCall.TheVariants.{Expire}
 use Rattle.semaphore.specs.declared.timer_object.TimerReply.TheVariants as told
 use Rattle.semaphore.specs.Deeds.{Deed}
 use Rattle.semaphore.specs.Deeds.Deed.{Asks, Times, Rests, Rouses, Posts, Drains}
-use Rattle.semaphore.specs.TickNote.{tick_note}
 
 -- the processes whose timers expired
 abbrev pub ended_in : List Deed → List Pid
@@ -24,7 +24,7 @@ posted_to (deed ∷ past) = posted_to past
 -- it expires timers at this moment, and posts the note of a tick alone
 abbrev pub IsOfTick : ℕ → Deed → Type 0
 IsOfTick now (Times (Expire moment) answer) = moment ≡ now
-IsOfTick now (Posts pid set) = set ≡ only tick_note
+IsOfTick now (Posts pid set) = set ≡ only Expired
 IsOfTick now deed = ⊥
 
 -- no deed was told that nothing is due

@@ -1,4 +1,20 @@
 //! How a process takes a unit. Before this: `sema_asks`. After it: `releasing`.
+ghost use Rattle.std.specs.Prelude.{◌≡◌, ◌≤◌, Bool, true, List, Some};
+ghost use Rattle.kernel_lock.specs.Seats.{number_of, view_of};
+ghost use Rattle.semaphore.specs.declared.limits.TheConstants.{LAST_GRANT};
+ghost use Rattle.semaphore.specs.Acquiring.{Acquires, AcquiresNow, Semacquires};
+ghost use Rattle.semaphore.specs.Asking.{HasWaited, WaitsFor, is_some};
+ghost use Rattle.semaphore.specs.Deeds.{Calls, Caller, Deed, Did, Standing};
+ghost use Rattle.semaphore.specs.Seats.{
+  HasRow,
+  IsCallerAt,
+  IsSeatAt,
+  IsSemaSeatOf,
+  caller_at,
+  goes_on,
+  stands,
+};
+
 use crate::sema::{Sema, SemaSeat};
 use crate::sema_asks::Begun;
 use sleep_wakeup::Proc;
@@ -38,7 +54,16 @@ impl Sema {
         proc: &mut Proc<'_>,
         seat: &mut SemaSeat,
         block: bool,
-    ) -> Result<Semacquired, Fault> {
+    ) -> Result<Semacquired, Fault>
+        requires seat { IsSemaSeatOf self.now seat.old }
+        requires row { HasRow self.now proc.old.words }
+        ensures seat { IsSemaSeatOf self.now seat.new }
+        ensures number { number_of seat.new.seat ≡ number_of seat.old.seat }
+        ensures words { proc.new.words ≡ proc.old.words }
+        ensures called { Calls (caller_at self.now proc.old seat.old)
+            (stands proc.old seat.old) (stands proc.new seat.new)
+            (Semacquires block (caller_at self.now proc.old seat.old) result) }
+    {
         self.semacquire_probed(rt, proc, seat, block, &mut NoProbe)
     }
 
@@ -51,7 +76,16 @@ impl Sema {
         seat: &mut SemaSeat,
         block: bool,
         probe: &mut P,
-    ) -> Result<Semacquired, Fault> {
+    ) -> Result<Semacquired, Fault>
+        requires seat { IsSemaSeatOf self.now seat.old }
+        requires row { HasRow self.now proc.old.words }
+        ensures seat { IsSemaSeatOf self.now seat.new }
+        ensures number { number_of seat.new.seat ≡ number_of seat.old.seat }
+        ensures words { proc.new.words ≡ proc.old.words }
+        ensures called { Calls (caller_at self.now proc.old seat.old)
+            (stands proc.old seat.old) (stands proc.new seat.new)
+            (Semacquires block (caller_at self.now proc.old seat.old) result) }
+    {
         probe.at(1);
         let answer = if block {
             self.acquire_or_wait(rt, proc, seat, probe)
@@ -62,11 +96,20 @@ impl Sema {
         answer
     }
 
+    // Asks once.
     fn acquire_at_once<R: Wait>(
         &self,
         rt: &R,
         seat: &mut SemaSeat,
-    ) -> Result<Semacquired, Fault> {
+    ) -> Result<Semacquired, Fault>
+        requires { IsSemaSeatOf self.now seat.old }
+        ensures seat { IsSemaSeatOf self.now seat.new }
+        ensures number { number_of seat.new.seat ≡ number_of seat.old.seat }
+        ensures called { (caller : Caller) (start : Standing) →
+            start.seat ≡ view_of seat.old.seat → caller.number ≡ number_of seat.old.seat →
+            Calls caller start (record start { seat = view_of seat.new.seat })
+            (AcquiresNow caller result) }
+    {
         if self.acquire_now(rt, seat) {
             Ok(Semacquired::Acquired)
         } else {
@@ -80,7 +123,16 @@ impl Sema {
         proc: &mut Proc<'_>,
         seat: &mut SemaSeat,
         probe: &mut P,
-    ) -> Result<Semacquired, Fault> {
+    ) -> Result<Semacquired, Fault>
+        requires seat { IsSemaSeatOf self.now seat.old }
+        requires row { HasRow self.now proc.old.words }
+        ensures seat { IsSemaSeatOf self.now seat.new }
+        ensures number { number_of seat.new.seat ≡ number_of seat.old.seat }
+        ensures words { proc.new.words ≡ proc.old.words }
+        ensures called { Calls (caller_at self.now proc.old seat.old)
+            (stands proc.old seat.old) (stands proc.new seat.new)
+            (Acquires (caller_at self.now proc.old seat.old) result) }
+    {
         match self.acquire(rt, seat) {
             Begun::Acquired => Ok(Semacquired::Acquired),
             Begun::Worn => Err(Fault::Worn),
@@ -100,7 +152,22 @@ impl Sema {
         seat: &mut SemaSeat,
         count: u64,
         probe: &mut P,
-    ) -> Option<Stop> {
+    ) -> Option<Stop>
+        requires seat { IsSeatAt self.now true seat.old }
+        requires row { HasRow self.now proc.old.words }
+        requires can { count ≤ LAST_GRANT }
+        ensures seat { IsSeatAt self.now (is_some result) seat.new }
+        ensures number { number_of seat.new.seat ≡ number_of seat.old.seat }
+        ensures words { proc.new.words ≡ proc.old.words }
+        ensures pid { proc.new.process.pid ≡ proc.old.process.pid }
+
+        // Whatever the call did before, it goes on so.
+        ensures waited { (caller : Caller) (start : Standing) (past : List Deed) →
+            IsCallerAt self.now proc.old seat.old caller →
+            Did caller past start (goes_on proc.old seat.old start) →
+            WaitsFor caller count past →
+            Calls caller start (goes_on proc.new seat.new start) (HasWaited caller result) }
+    {
         let rendez = self.rendez(seat);
         let mut count = count;
         for _ in rt.forever() {
@@ -127,7 +194,16 @@ impl Sema {
         proc: &mut Proc<'_>,
         seat: &mut SemaSeat,
         stop: Stop,
-    ) -> Result<Semacquired, Fault> {
+    ) -> Result<Semacquired, Fault>
+        requires seat { IsSeatAt self.now true seat.old }
+        ensures seat { IsSemaSeatOf self.now seat.new }
+        ensures number { number_of seat.new.seat ≡ number_of seat.old.seat }
+        ensures words { proc.new.words ≡ proc.old.words }
+        ensures left { (caller : Caller) (start : Standing) →
+            IsCallerAt self.now proc.old seat.old caller →
+            Calls caller start (goes_on proc.old seat.old start) (HasWaited caller (Some stop)) →
+            Calls caller start (goes_on proc.new seat.new start) (Acquires caller result) }
+    {
         let granted = self.leave(rt, seat);
         match stop {
             Stop::Refused => {

@@ -1,10 +1,15 @@
 //! How a moment is told, and timers expire. Before this: `timing`. After it: `laws`.
+ghost use Rattle.std.specs.Prelude.{◌≡◌};
+ghost use Rattle.rendez_words.specs.Words.{procs_of};
+ghost use Rattle.kernel_lock.specs.Seats.{number_of};
+ghost use Rattle.semaphore.specs.Deeds.{Calls};
+ghost use Rattle.semaphore.specs.Seats.{IsTimerSeatOf, stands_ticking, ticker};
+ghost use Rattle.semaphore.specs.Ticking.{Ticks};
+
 use crate::timers::{TimerSeat, Timers};
 use sleep_wakeup::Proc;
 use std::sync::Wait;
 use sync_base::{Note, NoteSet};
-
-const EXPIRED: Note = Note::Alarm;
 
 impl Timers {
     /// Tells that it is now this moment: each timer whose deadline is come expires, and its process
@@ -17,13 +22,21 @@ impl Timers {
         proc: &mut Proc<'_>,
         timer: &mut TimerSeat,
         now: u64,
-    ) -> u64 {
+    ) -> u64
+        requires { IsTimerSeatOf self.now timer.old }
+        ensures seat { IsTimerSeatOf self.now timer.new }
+        ensures number { number_of timer.new.seat ≡ number_of timer.old.seat }
+        ensures words { proc.new.words ≡ proc.old.words }
+        ensures called { Calls (ticker proc.old timer.old)
+            (stands_ticking proc.old timer.old) (stands_ticking proc.new timer.new)
+            (Ticks self.now.procs (procs_of proc.old.words) now result) }
+    {
         for expired in 0..self.procs {
             let Some(pid) = self.expire(rt, timer, now) else {
                 return expired;
             };
             // A process of another kernel is not told.
-            match proc.postnote(pid, NoteSet::of(EXPIRED)) {
+            match proc.postnote(pid, NoteSet::of(Note::Expired)) {
                 Ok(()) | Err(_) => {}
             }
         }

@@ -1,4 +1,29 @@
 //! How a process takes a unit by a moment. Before this: `timer_asks`. After it: `ticking`.
+ghost use Rattle.std.specs.Prelude.{◌≡◌, Bool, true, List, Option, Some, IsTrue};
+ghost use Rattle.sync_base.specs.declared.ids.RendezId.{RendezId};
+ghost use Rattle.sync_base.specs.declared.note.Note.TheVariants.{Expired};
+ghost use Rattle.sync_base.specs.declared.note.NoteSet.{NoteSet};
+ghost use Rattle.sync_base.specs.NoteSet.{holds, no_notes};
+ghost use Rattle.kernel_lock.specs.Seats.{number_of, view_of};
+ghost use Rattle.rendez_words.specs.Words.{rendez_of};
+ghost use Rattle.semaphore.specs.declared.acquiring.Stop.{Stop};
+ghost use Rattle.semaphore.specs.Acquiring.{AcquiresInTime, AwaitsTick, without_expired};
+ghost use Rattle.semaphore.specs.Asking.{HasWaited, is_some, stopped_notes, timed_answer};
+ghost use Rattle.semaphore.specs.Deeds.{Calls, Caller, Deed, Did, Standing};
+ghost use Rattle.semaphore.specs.Timers.{deadline_of};
+ghost use Rattle.semaphore.specs.Seats.{
+  HasRow,
+  IsCallerAt,
+  IsSeatAt,
+  IsSeatAtTimers,
+  IsSemaSeatOf,
+  IsTimerSeatOf,
+  goes_on,
+  stands_timed,
+  timed_caller,
+  timers_seen,
+};
+
 use crate::acquiring::Stop;
 use crate::sema::{Sema, SemaSeat};
 use crate::sema_asks::Begun;
@@ -11,8 +36,6 @@ use sync_base::{Fault, NoProbe, Note, NoteSet, Probe, RendezId};
 
 /// No grant has a higher number.
 const LAST_THRESHOLD: u64 = u64::MAX - 1;
-
-const EXPIRED: Note = Note::Alarm;
 
 impl Sema {
     /// Takes a unit. Where there is none it waits until a tick at the moment `now` + `ms` or later;
@@ -33,7 +56,24 @@ impl Sema {
         timer: &mut TimerSeat,
         now: u64,
         ms: u32,
-    ) -> Result<(), Fault> {
+    ) -> Result<(), Fault>
+        requires seat { IsSemaSeatOf self.now seat.old }
+        requires row { HasRow self.now proc.old.words }
+        requires timer { IsTimerSeatOf timers.now timer.old }
+        ensures seat { IsSemaSeatOf self.now seat.new }
+        ensures number { number_of seat.new.seat ≡ number_of seat.old.seat }
+        ensures words { proc.new.words ≡ proc.old.words }
+
+        // When it returns, its timer is cancelled.
+        ensures timer { IsTimerSeatOf timers.now timer.new }
+        ensures timer_number { number_of timer.new.seat ≡ number_of timer.old.seat }
+        ensures called {
+            let moment = deadline_of now ms in
+            let caller = timed_caller self.now proc.old seat.old timer.old moment in
+            Calls caller (stands_timed proc.old seat.old timer.old)
+            (stands_timed proc.new seat.new timer.new)
+            (AcquiresInTime caller (timers_seen timers.now timer.new) moment result) }
+    {
         self.tsemacquire_probed(rt, proc, seat, timers, timer, deadline(now, ms), &mut NoProbe)
     }
 
@@ -48,7 +88,24 @@ impl Sema {
         timer: &mut TimerSeat,
         deadline: u64,
         probe: &mut P,
-    ) -> Result<(), Fault> {
+    ) -> Result<(), Fault>
+        requires seat { IsSemaSeatOf self.now seat.old }
+        requires row { HasRow self.now proc.old.words }
+        requires timer { IsTimerSeatOf timers.now timer.old }
+        ensures seat { IsSemaSeatOf self.now seat.new }
+        ensures number { number_of seat.new.seat ≡ number_of seat.old.seat }
+        ensures words { proc.new.words ≡ proc.old.words }
+
+        // When it returns, its timer is cancelled.
+        ensures timer { IsTimerSeatOf timers.now timer.new }
+        ensures timer_number { number_of timer.new.seat ≡ number_of timer.old.seat }
+        ensures called {
+            let moment = deadline in
+            let caller = timed_caller self.now proc.old seat.old timer.old moment in
+            Calls caller (stands_timed proc.old seat.old timer.old)
+            (stands_timed proc.new seat.new timer.new)
+            (AcquiresInTime caller (timers_seen timers.now timer.new) moment result) }
+    {
         match self.acquire(rt, seat) {
             Begun::Acquired => Ok(()),
             Begun::Worn => Err(Fault::Worn),
@@ -70,7 +127,16 @@ impl Sema {
         timers: &Timers,
         timer: &mut TimerSeat,
         stop: Option<Stop>,
-    ) -> Result<(), Fault> {
+    ) -> Result<(), Fault>
+        requires seat { IsSeatAt self.now (is_some stop) seat.old }
+        requires row { HasRow self.now proc.old.words }
+        requires timer { IsSeatAtTimers timers.now true timer.old }
+        ensures seat { IsSemaSeatOf self.now seat.new }
+        ensures number { number_of seat.new.seat ≡ number_of seat.old.seat }
+        ensures words { proc.new.words ≡ proc.old.words }
+        ensures timer { IsTimerSeatOf timers.now timer.new }
+        ensures timer_number { number_of timer.new.seat ≡ number_of timer.old.seat }
+    {
         let granted = match stop {
             None => true,
             Some(_) => self.leave(rt, seat),
@@ -80,7 +146,7 @@ impl Sema {
         if expired {
             notes = await_tick(rt, proc, self.rendez(seat), notes);
         }
-        let others = notes.without(NoteSet::of(EXPIRED));
+        let others = notes.without(NoteSet::of(Note::Expired));
         match answer_of(granted, stop, expired, others) {
             Err(Fault::Interrupted(set)) => Err(Fault::Interrupted(set)),
             answer => {
@@ -106,7 +172,7 @@ fn notes_of(stop: Option<Stop>) -> NoteSet {
 fn await_tick<R: Wait>(rt: &R, proc: &mut Proc<'_>, rendez: RendezId, taken: NoteSet) -> NoteSet {
     let mut notes = taken;
     for _ in rt.forever() {
-        if notes.has(EXPIRED) {
+        if notes.has(Note::Expired) {
             return notes;
         }
         match proc.sleep(rt, rendez, LAST_THRESHOLD) {

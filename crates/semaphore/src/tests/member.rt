@@ -4,9 +4,6 @@ use sleep_wakeup::{Proc, Roster};
 use std::sync::Wait;
 use sync_base::{Fault, Flags, Note, NoteSet, Pid, Probe, RendezId};
 
-/// The note that a tick posts.
-pub const EXPIRED: Note = Note::Alarm;
-
 /// A process with its seats.
 #[derive(Drop)]
 pub struct Member<'s, 'k> {
