@@ -1,5 +1,5 @@
 -- What a request of a seat finds, and what the typed answers leave out.
-use Rattle.std.proofs.Common.{◌≡◌, ◌≢◌, ◌⊎◌, inl, inr, ℕ, ◌<◌, ◌≤◌, ◌||◌, eqb, Bool, true, false, not, IsTrue, List, [], ◌∷◌, Option, Some, None, IfSome, unwrap_or, refl, sym, ap, ◌∙◌, subst, arith}
+use Rattle.std.proofs.Common.{◌≡◌, ◌≢◌, ◌⊎◌, inl, inr, ℕ, ◌<◌, ◌≤◌, ◌||◌, eqb, Bool, true, false, not, IsTrue, List, [], ◌∷◌, replicate, Option, Some, None, IfSome, unwrap_or, refl, sym, ap, ◌∙◌, subst, arith}
 use Rattle.std.proofs.lemmas.Bool.Decides.{eqb_tells}
 use Rattle.std.specs.List.{AllByRecursion}
 use Rattle.histories.specs.declared.account.Share.{Share}
@@ -10,12 +10,18 @@ use Rattle.kernel_lock.specs.Definition.{server}
 use Rattle.semaphore.specs.declared.limits.TheConstants.{MAX_VALUE}
 use Rattle.semaphore.specs.declared.sema_object.SemaCall.{SemaCall}
 use Rattle.semaphore.specs.declared.sema_object.SemaReply.{SemaReply}
-use Rattle.semaphore.specs.Asking.{IsTold}
-use Rattle.semaphore.specs.Deeds.{SemaView}
+use Rattle.semaphore.specs.declared.timer_object.Timer.{Timer}
+use Rattle.semaphore.specs.declared.timer_object.Timer.TheVariants.{Unset}
+use Rattle.semaphore.specs.declared.timer_object.TimerCall.{TimerCall}
+use Rattle.semaphore.specs.declared.timer_object.TimerReply.{TimerReply}
+use Rattle.semaphore.specs.Asking.{IsTold, IsTimed}
+use Rattle.semaphore.specs.Deeds.{SemaView, TimerView}
 use Rattle.semaphore.specs.Seats.{is_waiting}
 use Rattle.semaphore.specs.SemaHistory.{SemaEntry, sema_meaning}
+use Rattle.semaphore.specs.TimerHistory.{TimerEntry, timer_meaning, has_timer}
 use Rattle.semaphore.specs.Units.{SemaState, opening, is_idle, stage_of}
 use Rattle.semaphore.proofs.OwnSemaLemmas.{own_stage}
+use Rattle.semaphore.proofs.OwnTimerLemmas.{own_timer}
 use Rattle.semaphore.proofs.SemaLawLemmas.{history_keeps}
 
 -- a request that names a seat names the one number of its own
@@ -67,5 +73,39 @@ is_told at_first procs number waits call answer old new h =
       size = shows.size;
       within = (subst (AllByRecursion (λ share. share.number < procs)) h.shares_are h.knew.numbers).0;
       idle = shows.is ∙ ap not (ap is_waiting mine ∙ h.waits_is);
+      answer_is = legal.0.reply;
+    }
+
+-- the same of a seat at timers
+pub record HasTimed (at_first : List Timer) (procs number : ℕ) (set : Bool) (call : TimerCall)
+    (answer : TimerReply) (old new : TimerView) : Type 0 where
+  pub opening_is : at_first ≡ replicate procs Unset
+  pub mine : List TimerEntry
+  pub shares_are : old.account.shares ≡ record { number = number; mine = mine } ∷ []
+  pub set_is : has_timer mine ≡ set
+  pub knew : KnowsHistory timer_meaning at_first procs old.account
+  pub knows : KnowsHistory timer_meaning at_first procs new.account
+  pub served : Serves (record { by = number; request = call; reply = answer }) old new
+
+pub is_timed : (at_first : List Timer) (procs number : ℕ) (set : Bool) (call : TimerCall)
+    (answer : TimerReply) (old new : TimerView)
+    → HasTimed at_first procs number set call answer old new
+    → IsTimed procs number set call answer
+is_timed at_first procs number set call answer old new h =
+    let past = h.served.account.past in
+    let legal : IsLegal timer_meaning (replicate procs Unset)
+    (record { by = number; request = call; reply = answer } ∷ past) =
+    subst (λ s. IsLegal timer_meaning s (record { by = number; request = call; reply = answer } ∷ past))
+    h.opening_is
+    (subst (λ seen. IsLegal timer_meaning at_first seen) (ap (λ a. a.seen) h.served.account.new_is)
+    h.knows.history.legal) in
+    let mine : entries_by server number past ≡ h.mine =
+    (subst (AllByRecursion (HasItsEntries server past)) h.shares_are h.served.account.looked.mine).0.entries in
+    let keeps = own_timer procs number past legal.1 in
+    record {
+      state = state_after timer_meaning (replicate procs Unset) past;
+      size = keeps.size;
+      within = (subst (AllByRecursion (λ share. share.number < procs)) h.shares_are h.knew.numbers).0;
+      free = keeps.is ∙ ap not (ap has_timer mine ∙ h.set_is);
       answer_is = legal.0.reply;
     }

@@ -3,8 +3,10 @@ mod Cases
 mod EarlierLemmas
 mod LineLemmas
 mod OwnSemaLemmas
+mod OwnTimerLemmas
 mod SemaLawLemmas
 mod SemaLemmas
+mod TellLemmas
 mod TimerLemmas
 mod TournamentLemmas
 mod WorkedUnits
