@@ -1,3 +1,4 @@
+mod AcquireLemmas
 mod AskLemmas
 mod Cases
 mod EarlierLemmas

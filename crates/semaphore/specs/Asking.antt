@@ -16,14 +16,16 @@ use Rattle.semaphore.specs.declared.sema_object.SemaReply.{SemaReply}
 use Rattle.semaphore.specs.declared.sema_object.SemaReply.TheVariants as reply
 use Rattle.semaphore.specs.declared.timer_object.Timer.{Timer}
 use Rattle.semaphore.specs.declared.timer_object.TimerCall.{TimerCall}
+use Rattle.semaphore.specs.declared.timer_object.TimerCall.TheVariants.{Add}
 use Rattle.semaphore.specs.declared.timer_object.TimerReply.{TimerReply}
 use Rattle.semaphore.specs.declared.timer_object.TimerReply.TheVariants as told
-use Rattle.semaphore.specs.Deeds.{Deed, Ending, Caller}
+use Rattle.semaphore.specs.Deeds.{Deed, Ending, Caller, TimerView}
+use Rattle.semaphore.specs.TimerHistory.{TimerEntry}
 use Rattle.semaphore.specs.Deeds.Deed.{Asks, Rests}
 use Rattle.semaphore.specs.Timers.{may_add, timer_of}
 use Rattle.semaphore.specs.Timers as timing
 use Rattle.semaphore.specs.Units.{SemaState, IsSound, is_idle, stage_of, answer_to}
-use Rattle.semaphore.specs.Acquiring.{IsOfAcquire, RestsInTurn, SleepsBetween, last_wait, units_in, notes_taken, posts_in, was_expired}
+use Rattle.semaphore.specs.Acquiring.{IsOfAcquire, RestsInTurn, SleepsBetween, HasEnded, IsNoted, IsDouble, last_wait, units_in, notes_taken, posts_in, was_expired}
 
 -- how an acquire begins
 abbrev pub begun_reply : Begun → SemaReply
@@ -103,6 +105,51 @@ pub record IsTimed (procs number : ℕ) (set : Bool) (call : TimerCall) (answer 
   pub within : number < procs
   pub free : may_add (timer_of state number) ≡ not set
   pub answer_is : answer ≡ timing.answer_to state call
+
+-- the notes that ended the wait
+abbrev pub stopped_notes : Option Stop → NoteSet
+stopped_notes None = no_notes
+stopped_notes (Some stop.Refused) = no_notes
+stopped_notes (Some (stop.Noted set)) = set
+
+-- one unit, where it was granted
+abbrev pub granted_units : Bool → ℕ
+granted_units true = 1
+granted_units false = 0
+
+-- why a wait ended without a unit
+abbrev pub HasStopped : Option Stop → List Deed → Type 0
+HasStopped None deeds = ⊥
+HasStopped (Some stop.Refused) deeds = HasEnded IsDouble deeds
+HasStopped (Some (stop.Noted set)) deeds = HasEnded IsNoted deeds
+
+-- how a wait was left: whether with a unit, which notes were taken, and whether a tick took the timer
+pub record Left : Type 0 where
+  pub granted : Bool
+  pub notes : NoteSet
+  pub expired : Bool
+  pub stop : Option Stop
+
+-- a call that waited, and has left the line
+pub record HasLeft (caller : Caller) (left : Left) (deeds : List Deed) : Type 0 where
+  pub own : AllByRecursion (IsOfAcquire caller) deeds
+  pub rests : RestsInTurn deeds
+  pub between : SleepsBetween deeds
+  pub units : units_in deeds ≡ granted_units left.granted
+  pub notes : notes_taken deeds ≡ left.notes
+  pub posts : posts_in deeds ≡ []
+  pub expired : was_expired deeds ≡ left.expired
+  pub why : left.granted ≡ false → HasStopped left.stop deeds
+
+-- the seat at the timers has set its timer, and called nothing since
+pub record HasAdded (caller : Caller) (deadline : ℕ) (view : TimerView) : Type 0 where
+  pub pid : Pid
+  pub past : List TimerEntry
+  pub seen_is : view.account.seen ≡ record {
+        by = caller.timer;
+        request = Add caller.timer pid deadline;
+        reply = told.Added;
+      } ∷ past
 
 -- a call that waits for this grant: it was told so, and has got and taken nothing
 pub record WaitsFor (caller : Caller) (count : ℕ) (deeds : List Deed) : Type 0 where

@@ -99,6 +99,17 @@ abbrev pub goes_on : Running → SemaSeat → Standing → Standing
 goes_on running seat standing =
     record standing { process = running.process; seat = view_of seat.seat }
 
+-- its process has made more steps, and all else is as before
+abbrev pub stepped : Running → Standing → Standing
+stepped running standing = record standing { process = running.process }
+
+-- it has asked the semaphore, or the timers
+abbrev pub asked : SemaSeat → Standing → Standing
+asked seat standing = record standing { seat = view_of seat.seat }
+
+abbrev pub timed : TimerSeat → Standing → Standing
+timed seat standing = record standing { timer = view_of seat.seat }
+
 -- ---- timers
 
 -- the seat is one of the timers' and has one number; it has seen a legal history, with its own calls

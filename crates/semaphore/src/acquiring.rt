@@ -1,18 +1,27 @@
 //! How a process takes a unit. Before this: `sema_asks`. After it: `releasing`.
-ghost use Rattle.std.specs.Prelude.{◌≡◌, ◌≤◌, Bool, true, List, Some};
+ghost use Rattle.std.specs.Prelude.{◌≡◌, ◌≤◌, true, false, List, IsSome};
+ghost use Rattle.rendez_words.specs.Process.{pid_in};
 ghost use Rattle.kernel_lock.specs.Seats.{number_of, view_of};
 ghost use Rattle.semaphore.specs.declared.limits.TheConstants.{LAST_GRANT};
 ghost use Rattle.semaphore.specs.Acquiring.{Acquires, AcquiresNow, Semacquires};
-ghost use Rattle.semaphore.specs.Asking.{HasWaited, WaitsFor, is_some};
+ghost use Rattle.semaphore.specs.Asking.{
+  HasLeft,
+  HasWaited,
+  WaitsFor,
+  is_some,
+  stopped_notes,
+};
 ghost use Rattle.semaphore.specs.Deeds.{Calls, Caller, Deed, Did, Standing};
 ghost use Rattle.semaphore.specs.Seats.{
   HasRow,
   IsCallerAt,
   IsSeatAt,
   IsSemaSeatOf,
+  asked,
   caller_at,
   goes_on,
   stands,
+  stepped,
 };
 
 use crate::sema::{Sema, SemaSeat};
@@ -136,10 +145,11 @@ impl Sema {
         match self.acquire(rt, seat) {
             Begun::Acquired => Ok(Semacquired::Acquired),
             Begun::Worn => Err(Fault::Worn),
-            Begun::Waits(count) => match self.sleep_for_unit(rt, proc, seat, count, probe) {
-                None => Ok(Semacquired::Acquired),
-                Some(stop) => self.stop_waiting(rt, proc, seat, stop),
-            },
+            Begun::Waits(count) => {
+                let stop = self.sleep_for_unit(rt, proc, seat, count, probe);
+                let granted = self.leave_line(rt, seat, stop);
+                answer_wait(proc, stop, granted)
+            }
         }
     }
 
@@ -187,40 +197,58 @@ impl Sema {
         unreachable!()
     }
 
-    // Leaves the line. The unit may have been granted before.
-    fn stop_waiting<R: Wait>(
+    /// Leaves the line, if it stands there still, and says whether it was granted a unit.
+    pub(crate) fn leave_line<R: Wait>(
         &self,
         rt: &R,
-        proc: &mut Proc<'_>,
         seat: &mut SemaSeat,
-        stop: Stop,
-    ) -> Result<Semacquired, Fault>
-        requires seat { IsSeatAt self.now true seat.old }
+        stop: Option<Stop>,
+    ) -> bool
+        requires { IsSeatAt self.now (is_some stop) seat.old }
         ensures seat { IsSemaSeatOf self.now seat.new }
         ensures number { number_of seat.new.seat ≡ number_of seat.old.seat }
-        ensures words { proc.new.words ≡ proc.old.words }
-        ensures left { (caller : Caller) (start : Standing) →
-            IsCallerAt self.now proc.old seat.old caller →
-            Calls caller start (goes_on proc.old seat.old start) (HasWaited caller (Some stop)) →
-            Calls caller start (goes_on proc.new seat.new start) (Acquires caller result) }
+        ensures left { (caller : Caller) (start now : Standing) →
+            caller.number ≡ number_of seat.old.seat → now.seat ≡ view_of seat.old.seat →
+            Calls caller start now (HasWaited caller stop) →
+            Calls caller start (asked seat.new now) (HasLeft caller (record {
+              granted = result;
+              notes = stopped_notes stop;
+              expired = false;
+              stop = stop;
+            })) }
     {
-        let granted = self.leave(rt, seat);
         match stop {
-            Stop::Refused => {
-                if granted {
-                    Ok(Semacquired::Acquired)
-                } else {
-                    Err(Fault::DoubleSleep)
-                }
-            }
-            Stop::Noted(notes) => {
-                if granted {
-                    proc.put_back(notes);
-                    Ok(Semacquired::Acquired)
-                } else {
-                    Err(Fault::Interrupted(notes))
-                }
-            }
+            None => true,
+            Some(_) => self.leave(rt, seat),
         }
+    }
+}
+
+// What a wait came to. Notes that came with a unit are pending again.
+fn answer_wait(
+    proc: &mut Proc<'_>,
+    stop: Option<Stop>,
+    granted: bool,
+) -> Result<Semacquired, Fault>
+    requires { granted ≡ false → IsSome stop }
+    ensures words { proc.new.words ≡ proc.old.words }
+    ensures answered { (caller : Caller) (start now : Standing) →
+        caller.pid ≡ pid_in proc.old.process → now.process ≡ proc.old.process →
+        Calls caller start now (HasLeft caller (record {
+          granted = granted;
+          notes = stopped_notes stop;
+          expired = false;
+          stop = stop;
+        })) → Calls caller start (stepped proc.new now) (Acquires caller result) }
+{
+    match (granted, stop) {
+        (true, Some(Stop::Noted(notes))) => {
+            proc.put_back(notes);
+            Ok(Semacquired::Acquired)
+        }
+        (true, _) => Ok(Semacquired::Acquired),
+        (false, Some(Stop::Noted(notes))) => Err(Fault::Interrupted(notes)),
+        (false, Some(Stop::Refused)) => Err(Fault::DoubleSleep),
+        (false, None) => unreachable!(),
     }
 }
