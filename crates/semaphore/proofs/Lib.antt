@@ -5,9 +5,11 @@ mod EarlierLemmas
 mod LineLemmas
 mod OwnSemaLemmas
 mod OwnTimerLemmas
+mod ReleaseLemmas
 mod SemaLawLemmas
 mod SemaLemmas
 mod TellLemmas
 mod TimerLemmas
 mod TournamentLemmas
+mod WaitLemmas
 mod WorkedUnits

@@ -16,16 +16,14 @@ use Rattle.semaphore.specs.declared.sema_object.SemaReply.{SemaReply}
 use Rattle.semaphore.specs.declared.sema_object.SemaReply.TheVariants as reply
 use Rattle.semaphore.specs.declared.timer_object.Timer.{Timer}
 use Rattle.semaphore.specs.declared.timer_object.TimerCall.{TimerCall}
-use Rattle.semaphore.specs.declared.timer_object.TimerCall.TheVariants.{Add}
 use Rattle.semaphore.specs.declared.timer_object.TimerReply.{TimerReply}
 use Rattle.semaphore.specs.declared.timer_object.TimerReply.TheVariants as told
-use Rattle.semaphore.specs.Deeds.{Deed, Ending, Caller, TimerView}
-use Rattle.semaphore.specs.TimerHistory.{TimerEntry}
+use Rattle.semaphore.specs.Deeds.{Deed, Ending, Caller}
 use Rattle.semaphore.specs.Deeds.Deed.{Asks, Rests}
 use Rattle.semaphore.specs.Timers.{may_add, timer_of}
 use Rattle.semaphore.specs.Timers as timing
 use Rattle.semaphore.specs.Units.{SemaState, IsSound, is_idle, stage_of, answer_to}
-use Rattle.semaphore.specs.Acquiring.{IsOfAcquire, RestsInTurn, SleepsBetween, HasEnded, IsNoted, IsDouble, last_wait, units_in, notes_taken, posts_in, was_expired}
+use Rattle.semaphore.specs.Acquiring.{IsOfAcquire, RestsInTurn, SleepsBetween, HasEnded, IsNoted, IsDouble, IsPutBack, without_expired, last_wait, units_in, notes_taken, posts_in, was_expired}
 
 -- how an acquire begins
 abbrev pub begun_reply : Begun → SemaReply
@@ -106,6 +104,11 @@ pub record IsTimed (procs number : ℕ) (set : Bool) (call : TimerCall) (answer 
   pub free : may_add (timer_of state number) ≡ not set
   pub answer_is : answer ≡ timing.answer_to state call
 
+-- how a sleep ended
+abbrev pub rest_ending : Option Stop → Ending
+rest_ending None = Ending.Well
+rest_ending (Some how) = ending_of how
+
 -- the notes that ended the wait
 abbrev pub stopped_notes : Option Stop → NoteSet
 stopped_notes None = no_notes
@@ -141,15 +144,16 @@ pub record HasLeft (caller : Caller) (left : Left) (deeds : List Deed) : Type 0 
   pub expired : was_expired deeds ≡ left.expired
   pub why : left.granted ≡ false → HasStopped left.stop deeds
 
--- the seat at the timers has set its timer, and called nothing since
-pub record HasAdded (caller : Caller) (deadline : ℕ) (view : TimerView) : Type 0 where
-  pub pid : Pid
-  pub past : List TimerEntry
-  pub seen_is : view.account.seen ≡ record {
-        by = caller.timer;
-        request = Add caller.timer pid deadline;
-        reply = told.Added;
-      } ∷ past
+-- and has put back the notes that it keeps
+pub record HasKept (caller : Caller) (left : Left) (deeds : List Deed) : Type 0 where
+  pub own : AllByRecursion (IsOfAcquire caller) deeds
+  pub rests : RestsInTurn deeds
+  pub between : SleepsBetween deeds
+  pub units : units_in deeds ≡ granted_units left.granted
+  pub notes : notes_taken deeds ≡ left.notes
+  pub posts : IsPutBack (without_expired left.notes) (posts_in deeds)
+  pub expired : was_expired deeds ≡ left.expired
+  pub why : left.granted ≡ false → HasStopped left.stop deeds
 
 -- a call that waits for this grant: it was told so, and has got and taken nothing
 pub record WaitsFor (caller : Caller) (count : ℕ) (deeds : List Deed) : Type 0 where

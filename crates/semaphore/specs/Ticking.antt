@@ -44,3 +44,10 @@ pub record Ticks (procs kernel now count : ℕ) (deeds : List Deed) : Type 0 whe
   pub count_is : count ≡ length (ended_in deeds)
   pub until : GoesOn procs deeds
   pub told : posted_to deeds ≡ filter (λ pid. nat_lt pid.0 kernel) (ended_in deeds)
+
+-- a tick that goes on: so many timers expired, and their processes were told
+pub record IsTicking (kernel now count : ℕ) (deeds : List Deed) : Type 0 where
+  pub own : AllByRecursion (IsOfTick now) deeds
+  pub count_is : count ≡ length (ended_in deeds)
+  pub told : posted_to deeds ≡ filter (λ pid. nat_lt pid.0 kernel) (ended_in deeds)
+  pub due : FindsDue deeds

@@ -1,6 +1,7 @@
 //! How a process takes a unit. Before this: `sema_asks`. After it: `releasing`.
-ghost use Rattle.std.specs.Prelude.{◌≡◌, ◌≤◌, true, false, List, IsSome};
+ghost use Rattle.std.specs.Prelude.{◌≡◌, ◌≤◌, ◌<◌, true, false, List, IsSome};
 ghost use Rattle.rendez_words.specs.Process.{pid_in};
+ghost use Rattle.rendez_words.specs.Words.{rendez_of};
 ghost use Rattle.kernel_lock.specs.Seats.{number_of, view_of};
 ghost use Rattle.semaphore.specs.declared.limits.TheConstants.{LAST_GRANT};
 ghost use Rattle.semaphore.specs.Acquiring.{Acquires, AcquiresNow, Semacquires};
@@ -9,9 +10,10 @@ ghost use Rattle.semaphore.specs.Asking.{
   HasWaited,
   WaitsFor,
   is_some,
+  rest_ending,
   stopped_notes,
 };
-ghost use Rattle.semaphore.specs.Deeds.{Calls, Caller, Deed, Did, Standing};
+ghost use Rattle.semaphore.specs.Deeds.{Calls, Caller, Deed, Did, Slept, Standing};
 ghost use Rattle.semaphore.specs.Seats.{
   HasRow,
   IsCallerAt,
@@ -28,7 +30,7 @@ use crate::sema::{Sema, SemaSeat};
 use crate::sema_asks::Begun;
 use sleep_wakeup::Proc;
 use std::sync::Wait;
-use sync_base::{Fault, NoProbe, NoteSet, Probe};
+use sync_base::{Fault, NoProbe, NoteSet, Probe, RendezId};
 
 /// What `semacquire` answers.
 #[derive(Clone, Copy, Debug, PartialEq, Eq)]
@@ -160,12 +162,12 @@ impl Sema {
         rt: &R,
         proc: &mut Proc<'_>,
         seat: &mut SemaSeat,
-        count: u64,
+        first: u64,
         probe: &mut P,
     ) -> Option<Stop>
         requires seat { IsSeatAt self.now true seat.old }
         requires row { HasRow self.now proc.old.words }
-        requires can { count ≤ LAST_GRANT }
+        requires can { first ≤ LAST_GRANT }
         ensures seat { IsSeatAt self.now (is_some result) seat.new }
         ensures number { number_of seat.new.seat ≡ number_of seat.old.seat }
         ensures words { proc.new.words ≡ proc.old.words }
@@ -175,19 +177,18 @@ impl Sema {
         ensures waited { (caller : Caller) (start : Standing) (past : List Deed) →
             IsCallerAt self.now proc.old seat.old caller →
             Did caller past start (goes_on proc.old seat.old start) →
-            WaitsFor caller count past →
+            WaitsFor caller first past →
             Calls caller start (goes_on proc.new seat.new start) (HasWaited caller result) }
     {
         let rendez = self.rendez(seat);
-        let mut count = count;
+        let mut count = first;
         for _ in rt.forever() {
             probe.at(2);
-            let slept = proc.sleep(rt, rendez, count);
+            let stop = rest(rt, proc, rendez, count);
             probe.at(3);
-            match slept {
-                Ok(()) => {}
-                Err(Fault::Interrupted(notes)) => return Some(Stop::Noted(notes)),
-                Err(_) => return Some(Stop::Refused),
+            match stop {
+                None => {}
+                Some(_) => return stop,
             }
             match self.collect(rt, seat) {
                 None => return None,
@@ -221,6 +222,27 @@ impl Sema {
             None => true,
             Some(_) => self.leave(rt, seat),
         }
+    }
+}
+
+// Sleeps once. Answers what ended the sleep, where it didn't answer well.
+pub(crate) fn rest<R: Wait>(
+    rt: &R,
+    proc: &mut Proc<'_>,
+    rendez: RendezId,
+    threshold: u64,
+) -> Option<Stop>
+    requires rendez { rendez.0 < rendez_of proc.old.words }
+    requires can { threshold ≤ LAST_GRANT }
+    ensures slept { Slept rendez threshold (rest_ending result)
+        proc.old.process proc.new.process }
+    ensures words { proc.new.words ≡ proc.old.words }
+    ensures pid { proc.new.process.pid ≡ proc.old.process.pid }
+{
+    match proc.sleep(rt, rendez, threshold) {
+        Ok(()) => None,
+        Err(Fault::Interrupted(notes)) => Some(Stop::Noted(notes)),
+        Err(_) => Some(Stop::Refused),
     }
 }
 

@@ -1,30 +1,27 @@
 //! How a process takes a unit by a moment. Before this: `timer_asks`. After it: `ticking`.
-ghost use Rattle.std.specs.Prelude.{◌≡◌, Bool, true, List, Option, Some, IsTrue};
-ghost use Rattle.sync_base.specs.declared.ids.RendezId.{RendezId};
+ghost use Rattle.std.specs.Prelude.{◌≡◌, ◌<◌, true, false, ℕ, IsSome};
 ghost use Rattle.sync_base.specs.declared.note.Note.TheVariants.{Expired};
-ghost use Rattle.sync_base.specs.declared.note.NoteSet.{NoteSet};
-ghost use Rattle.sync_base.specs.NoteSet.{holds, no_notes};
-ghost use Rattle.kernel_lock.specs.Seats.{number_of, view_of};
+ghost use Rattle.sync_base.specs.NoteSet.{holds};
+ghost use Rattle.rendez_words.specs.Process.{pid_in};
 ghost use Rattle.rendez_words.specs.Words.{rendez_of};
-ghost use Rattle.semaphore.specs.declared.acquiring.Stop.{Stop};
-ghost use Rattle.semaphore.specs.Acquiring.{AcquiresInTime, AwaitsTick, without_expired};
-ghost use Rattle.semaphore.specs.Asking.{HasWaited, is_some, stopped_notes, timed_answer};
-ghost use Rattle.semaphore.specs.Deeds.{Calls, Caller, Deed, Did, Standing};
+ghost use Rattle.kernel_lock.specs.Seats.{number_of};
+ghost use Rattle.semaphore.specs.Acquiring.{AcquiresInTime, TimersSeen, without_expired};
+ghost use Rattle.semaphore.specs.Asking.{HasKept, HasLeft, Left, stopped_notes};
+ghost use Rattle.semaphore.specs.Deeds.{Calls, Caller, Standing};
+ghost use Rattle.semaphore.specs.TimerHistory.{WasTaken};
 ghost use Rattle.semaphore.specs.Timers.{deadline_of};
 ghost use Rattle.semaphore.specs.Seats.{
   HasRow,
-  IsCallerAt,
-  IsSeatAt,
-  IsSeatAtTimers,
   IsSemaSeatOf,
   IsTimerSeatOf,
-  goes_on,
   stands_timed,
+  stepped,
   timed_caller,
   timers_seen,
 };
 
-use crate::acquiring::Stop;
+use crate::acquiring::{Stop, rest};
+use crate::limits::LAST_GRANT;
 use crate::sema::{Sema, SemaSeat};
 use crate::sema_asks::Begun;
 use crate::timer_object::deadline;
@@ -33,9 +30,6 @@ use sleep_wakeup::Proc;
 use std::sync::Wait;
 use std::thread::yield_now;
 use sync_base::{Fault, NoProbe, Note, NoteSet, Probe, RendezId};
-
-/// No grant has a higher number.
-const LAST_THRESHOLD: u64 = u64::MAX - 1;
 
 impl Sema {
     /// Takes a unit. Where there is none it waits until a tick at the moment `now` + `ms` or later;
@@ -110,75 +104,56 @@ impl Sema {
             Begun::Acquired => Ok(()),
             Begun::Worn => Err(Fault::Worn),
             Begun::Waits(count) => {
-                let pid = proc.pid();
-                timers.add(rt, timer, pid, deadline);
+                timers.add(rt, timer, proc.pid(), deadline);
                 let stop = self.sleep_for_unit(rt, proc, seat, count, probe);
-                self.end_timed(rt, proc, seat, timers, timer, stop)
-            }
-        }
-    }
-
-    // Leaves the line, and takes the timer away. Where a tick has taken it, waits for its note.
-    fn end_timed<R: Wait>(
-        &self,
-        rt: &R,
-        proc: &mut Proc<'_>,
-        seat: &mut SemaSeat,
-        timers: &Timers,
-        timer: &mut TimerSeat,
-        stop: Option<Stop>,
-    ) -> Result<(), Fault>
-        requires seat { IsSeatAt self.now (is_some stop) seat.old }
-        requires row { HasRow self.now proc.old.words }
-        requires timer { IsSeatAtTimers timers.now true timer.old }
-        ensures seat { IsSemaSeatOf self.now seat.new }
-        ensures number { number_of seat.new.seat ≡ number_of seat.old.seat }
-        ensures words { proc.new.words ≡ proc.old.words }
-        ensures timer { IsTimerSeatOf timers.now timer.new }
-        ensures timer_number { number_of timer.new.seat ≡ number_of timer.old.seat }
-    {
-        let granted = match stop {
-            None => true,
-            Some(_) => self.leave(rt, seat),
-        };
-        let expired = timers.cancel(rt, timer);
-        let mut notes = notes_of(stop);
-        if expired {
-            notes = await_tick(rt, proc, self.rendez(seat), notes);
-        }
-        let others = notes.without(NoteSet::of(Note::Expired));
-        match answer_of(granted, stop, expired, others) {
-            Err(Fault::Interrupted(set)) => Err(Fault::Interrupted(set)),
-            answer => {
-                if !others.is_empty() {
-                    proc.put_back(others);
-                }
-                answer
+                let granted = self.leave_line(rt, seat, stop);
+                let expired = timers.cancel(rt, timer);
+                let rendez = self.rendez(seat);
+                let notes = await_tick(rt, proc, rendez, expired, notes_of(stop));
+                answer_timed(proc, stop, granted, expired, notes)
             }
         }
     }
 }
 
 // The notes that ended the wait.
-fn notes_of(stop: Option<Stop>) -> NoteSet {
+fn notes_of(stop: Option<Stop>) -> NoteSet
+    ensures { result ≡ stopped_notes stop }
+{
     match stop {
         Some(Stop::Noted(notes)) => notes,
         Some(Stop::Refused) | None => NoteSet::empty(),
     }
 }
 
-// Sleeps until the note of the tick has come, and says which notes came. Another process may sleep
-// in the Rendez: then it takes the notes without a sleep.
-fn await_tick<R: Wait>(rt: &R, proc: &mut Proc<'_>, rendez: RendezId, taken: NoteSet) -> NoteSet {
+// Where a tick has taken the timer, sleeps until the note of that tick has come. Answers which notes
+// came in all. Where another process sleeps in the Rendez, it takes notes without a sleep.
+fn await_tick<R: Wait>(
+    rt: &R,
+    proc: &mut Proc<'_>,
+    rendez: RendezId,
+    expired: bool,
+    taken: NoteSet,
+) -> NoteSet
+    requires { rendez.0 < rendez_of proc.old.words }
+    ensures words { proc.new.words ≡ proc.old.words }
+    ensures pid { proc.new.process.pid ≡ proc.old.process.pid }
+    ensures came { expired ≡ true → holds result Expired ≡ true }
+    ensures awaited { (caller : Caller) (start now : Standing) (left : Left) →
+        caller.rendez ≡ rendez → left.expired ≡ expired → left.notes ≡ taken →
+        now.process ≡ proc.old.process → Calls caller start now (HasLeft caller left) →
+        Calls caller start (stepped proc.new now)
+        (HasLeft caller (record left { notes = result })) }
+{
     let mut notes = taken;
     for _ in rt.forever() {
-        if notes.has(Note::Expired) {
+        if !expired || notes.has(Note::Expired) {
             return notes;
         }
-        match proc.sleep(rt, rendez, LAST_THRESHOLD) {
-            Ok(()) => {}
-            Err(Fault::Interrupted(set)) => notes = notes.join(set),
-            Err(_) => {
+        match rest(rt, proc, rendez, LAST_GRANT) {
+            None => {}
+            Some(Stop::Noted(set)) => notes = notes.join(set),
+            Some(Stop::Refused) => {
                 notes = notes.join(proc.notes());
                 yield_now();
             }
@@ -187,25 +162,64 @@ fn await_tick<R: Wait>(rt: &R, proc: &mut Proc<'_>, rendez: RendezId, taken: Not
     unreachable!()
 }
 
-// What the call answers: how its wait ended, whether its timer expired, and which other notes came.
-fn answer_of(
-    granted: bool,
-    stop: Option<Stop>,
-    expired: bool,
-    others: NoteSet,
-) -> Result<(), Fault> {
-    if granted {
-        return Ok(());
+// Puts notes back, if there are any.
+fn keep(proc: &mut Proc<'_>, set: NoteSet)
+    ensures words { proc.new.words ≡ proc.old.words }
+    ensures kept { (caller : Caller) (start now : Standing) (left : Left) →
+        caller.pid ≡ pid_in proc.old.process → now.process ≡ proc.old.process →
+        set ≡ without_expired left.notes → Calls caller start now (HasLeft caller left) →
+        Calls caller start (stepped proc.new now) (HasKept caller left) }
+{
+    if !set.is_empty() {
+        proc.put_back(set);
     }
-    match stop {
-        None => Ok(()),
-        Some(Stop::Refused) => Err(Fault::DoubleSleep),
-        Some(Stop::Noted(_)) => {
+}
+
+// All of these notes but the one that a tick posts.
+fn others(notes: NoteSet) -> NoteSet
+    ensures { result ≡ without_expired notes }
+{
+    notes.without(NoteSet::of(Note::Expired))
+}
+
+// What the call answers: how its wait ended, whether a tick took its timer, and which notes came.
+fn answer_timed(
+    proc: &mut Proc<'_>,
+    stop: Option<Stop>,
+    granted: bool,
+    expired: bool,
+    notes: NoteSet,
+) -> Result<(), Fault>
+    requires stopped { granted ≡ false → IsSome stop }
+    requires came { expired ≡ true → holds notes Expired ≡ true }
+    ensures words { proc.new.words ≡ proc.old.words }
+    ensures answered { (caller : Caller) (start now : Standing) (seen : TimersSeen) (moment : ℕ) →
+        caller.pid ≡ pid_in proc.old.process → now.process ≡ proc.old.process →
+        (expired ≡ true → WasTaken seen.opening caller.timer moment seen.history) →
+        Calls caller start now (HasLeft caller (record {
+          granted = granted;
+          notes = notes;
+          expired = expired;
+          stop = stop;
+        })) → Calls caller start (stepped proc.new now) (AcquiresInTime caller seen moment result) }
+{
+    let others = others(notes);
+    match (granted, stop) {
+        (true, _) => {
+            keep(proc, others);
+            Ok(())
+        }
+        (false, Some(Stop::Refused)) => {
+            keep(proc, others);
+            Err(Fault::DoubleSleep)
+        }
+        (false, Some(Stop::Noted(_))) => {
             if expired && others.is_empty() {
                 Err(Fault::TimedOut)
             } else {
                 Err(Fault::Interrupted(others))
             }
         }
+        (false, None) => unreachable!(),
     }
 }
