@@ -206,6 +206,7 @@ impl Sema {
         stop: Option<Stop>,
     ) -> bool
         requires { IsSeatAt self.now (is_some stop) seat.old }
+        ensures some { result ≡ false → IsSome stop }
         ensures seat { IsSemaSeatOf self.now seat.new }
         ensures number { number_of seat.new.seat ≡ number_of seat.old.seat }
         ensures left { (caller : Caller) (start now : Standing) →

@@ -17,4 +17,18 @@ returns-in-None-next_wake-clause-woken g c caller start past released number did
     (c.loop.invariant.wakes caller start past released number did waking)
 
 pub loop-preserved : goal.loop-preserved
-loop-preserved g c = ?
+loop-preserved g c =
+    record {
+      seat = c.in-Some-next_wake.ensures.seat;
+      words = c.in-Ok.ensures.words ∙ c.loop.invariant.words;
+      number = c.in-Some-next_wake.ensures.number ∙ c.loop.invariant.number;
+      wakes = λ caller start past released number did waking.
+          wakes_one caller start (goes_on c.loop.proc c.loop.seat start)
+          c.wakeup.new.self.process (view_of c.next_wake.new.seat.seat) c.args.self.now.first
+          c.in-Some-next_wake.grant.seat c.in-Some-next_wake.grant.grants released c.in-Ok.field-0
+          (served_as (λ _. NextWake) _ _ _ (view_of c.loop.seat.seat) _ _
+          (number ∙ sym c.loop.invariant.number) (λ _. view_of c.loop.seat.seat)
+          c.in-Some-next_wake.ensures.served)
+          c.in-Ok.ensures.woken
+          (c.loop.invariant.wakes caller start past released number did waking);
+    }
