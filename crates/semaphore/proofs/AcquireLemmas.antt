@@ -8,7 +8,9 @@ use Rattle.sync_base.specs.declared.note.NoteSet.{NoteSet}
 use Rattle.sync_base.specs.NoteSet.{no_notes, joined, holds}
 use Rattle.rendez_words.specs.Process.{Process}
 use Rattle.rendez_words.specs.Steps as steps
+use Rattle.sleep_wakeup.specs.Kernel.{Running}
 use Rattle.kernel_lock.specs.Calls.{Serves}
+use Rattle.semaphore.specs.declared.sema.SemaSeat.{SemaSeat}
 use Rattle.semaphore.specs.declared.acquiring.Semacquired.{Semacquired}
 use Rattle.semaphore.specs.declared.acquiring.Semacquired.TheVariants as sema
 use Rattle.semaphore.specs.declared.acquiring.Stop.{Stop}
@@ -17,10 +19,11 @@ use Rattle.semaphore.specs.declared.sema_object.SemaCall.{SemaCall}
 use Rattle.semaphore.specs.declared.sema_object.SemaCall.TheVariants.{Acquire, AcquireNow, Collect, Leave}
 use Rattle.semaphore.specs.declared.sema_object.SemaReply.{SemaReply}
 use Rattle.semaphore.specs.declared.sema_object.SemaReply.TheVariants as reply
-use Rattle.semaphore.specs.Acquiring.{IsOfAcquire, RestsInTurn, SleepsBetween, HasSlept, Acquires, AcquiresNow, now_reply, last_wait, units_in, notes_taken, posts_in, was_expired}
+use Rattle.semaphore.specs.Acquiring.{IsOfAcquire, RestsInTurn, SleepsBetween, HasSlept, Acquires, AcquiresNow, Semacquires, now_reply, last_wait, units_in, notes_taken, posts_in, was_expired}
 use Rattle.semaphore.specs.Asking.{WaitsFor, HasWaited, HasLeft, Left, ending_of, leave_reply, granted_units, stopped_notes, now_told}
 use Rattle.semaphore.specs.Deeds.{Deed, Ending, Caller, Standing, SemaView, Slept, Steps, Asked, Timed, Chain, Did, Calls}
 use Rattle.semaphore.specs.Deeds.Deed.{Asks, Rests, Posts}
+use Rattle.semaphore.specs.Seats.{goes_on}
 
 -- ---- one deed more
 
@@ -193,3 +196,16 @@ served_as call answer number its now old new number_is now_is served =
     subst (λ n. Serves (record { by = n; request = call n; reply = answer }) now new) (sym number_is)
     (subst (λ v. Serves (record { by = its; request = call its; reply = answer }) v new) (sym now_is)
     served)
+
+-- by whether it is to wait
+pub semacquires_so : (caller : Caller) (start : Standing) (block is_block : Bool) (proc its_proc : Running)
+    (seat its_seat : SemaSeat) (answer its_answer : Result Semacquired Fault) → block ≡ is_block
+    → proc ≡ its_proc → seat ≡ its_seat → answer ≡ its_answer
+    → Calls caller start (goes_on its_proc its_seat start) (Semacquires is_block caller its_answer)
+    → Calls caller start (goes_on proc seat start) (Semacquires block caller answer)
+semacquires_so caller start block is_block proc its_proc seat its_seat answer its_answer b p s a calls =
+    subst (λ x. Calls caller start (goes_on proc seat start) (Semacquires x caller answer)) (sym b)
+    (subst (λ x. Calls caller start (goes_on x seat start) (Semacquires is_block caller answer)) (sym p)
+    (subst (λ x. Calls caller start (goes_on its_proc x start) (Semacquires is_block caller answer)) (sym s)
+    (subst (λ x. Calls caller start (goes_on its_proc its_seat start) (Semacquires is_block caller x)) (sym a)
+    calls)))

@@ -1,5 +1,5 @@
 -- What each step of a release and of a tick adds to what the call did.
-use Rattle.std.proofs.Common.{◌≡◌, ◌≢◌, ℕ, ◌+◌, nat_lt, Bool, true, false, if◌then◌else◌, List, [], ◌∷◌, length, Result, Ok, Err, refl, sym, ap, ◌∙◌, subst, arith}
+use Rattle.std.proofs.Common.{◌≡◌, ◌≢◌, ℕ, ◌+◌, nat_lt, IsTrue, Bool, true, false, if◌then◌else◌, List, [], ◌∷◌, length, Result, Ok, Err, refl, sym, ap, ◌∙◌, subst, arith}
 use Rattle.std.specs.List.{AllByRecursion, filter}
 use Rattle.sync_base.specs.declared.fault.Fault.TheVariants as fault
 use Rattle.sync_base.specs.declared.ids.Pid.{Pid}
@@ -216,3 +216,22 @@ ticks_all caller start here procs kernel now calls =
         told = had.told;
       };
     }
+
+-- whether its process is of this kernel or not
+pub ticks_more : (caller : Caller) (start here : Standing) (process : Process) (timer : TimerView)
+    (kernel now count : ℕ) (pid : Pid)
+    → Serves (record { by = caller.timer; request = Expire now; reply = told.Ended pid }) here.timer timer
+    → (IsTrue (nat_lt pid.0 kernel) → process ≡ steps.notes here.process pid (only Expired))
+    → (nat_lt pid.0 kernel ≡ false → process ≡ here.process)
+    → Calls caller start here (IsTicking kernel now count)
+    → Calls caller start (record here { process = process; timer = timer }) (IsTicking kernel now (count + 1))
+ticks_more caller start here process timer kernel now count pid served below above calls =
+    by (nat_lt pid.0 kernel) refl
+  where
+    by : (b : Bool) → nat_lt pid.0 kernel ≡ b
+        → Calls caller start (record here { process = process; timer = timer }) (IsTicking kernel now (count + 1))
+    by true is = ticks_one caller start here process timer kernel now count pid served is (below is) calls
+    by false is =
+        subst
+        (λ p. Calls caller start (record here { process = p; timer = timer }) (IsTicking kernel now (count + 1)))
+        (sym (above is)) (ticks_other caller start here timer kernel now count pid served is calls)

@@ -651,3 +651,13 @@ tick_took opening procs number moment pid before set after h =
         ap (λ s. length (state_after timer_meaning s past)) h.opening_is
         ∙ (own_timer procs number past
         (subst (λ s. IsLegal timer_meaning s past) h.opening_is (behind since (added ∷ past) legal.1).1)).size
+
+-- the call of a seat at timers, as that of its caller
+pub timed_as : (call : ℕ → TimerCall) (answered : TimerReply) (number its : ℕ)
+    (now old new : TimerView) → number ≡ its → now ≡ old
+    → Serves (record { by = its; request = call its; reply = answered }) old new
+    → Serves (record { by = number; request = call number; reply = answered }) now new
+timed_as call answered number its now old new number_is now_is served =
+    subst (λ n. Serves (record { by = n; request = call n; reply = answered }) now new) (sym number_is)
+    (subst (λ v. Serves (record { by = its; request = call its; reply = answered }) v new) (sym now_is)
+    served)

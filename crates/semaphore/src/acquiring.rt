@@ -174,11 +174,11 @@ impl Sema {
         ensures pid { proc.new.process.pid ≡ proc.old.process.pid }
 
         // Whatever the call did before, it goes on so.
-        ensures waited { (caller : Caller) (start : Standing) (past : List Deed) →
+        ensures waited { (caller : Caller) (start base : Standing) (past : List Deed) →
             IsCallerAt self.now proc.old seat.old caller →
-            Did caller past start (goes_on proc.old seat.old start) →
+            Did caller past start (goes_on proc.old seat.old base) →
             WaitsFor caller first past →
-            Calls caller start (goes_on proc.new seat.new start) (HasWaited caller result) }
+            Calls caller start (goes_on proc.new seat.new base) (HasWaited caller result) }
     {
         let rendez = self.rendez(seat);
         let mut count = first;

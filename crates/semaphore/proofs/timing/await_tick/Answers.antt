@@ -12,8 +12,8 @@ use Rattle.semaphore.proofs.timing.await_tick.Goals as goal
 
 pub loop-preserved-in-None-rest : goal.loop-preserved-in-None-rest
 loop-preserved-in-None-rest g c =
-    let asked : c.args.expired ≡ true = ? in
-    let to_come : holds c.loop.notes Expired ≡ false = ? in
+    let asked : c.args.expired ≡ true = c.if-not-expired.false in
+    let to_come : holds c.loop.notes Expired ≡ false = sym c.has.ensures ∙ c.if-has.false in
     record {
       words = c.rest.ensures.words ∙ c.loop.invariant.words;
       pid = c.rest.ensures.pid ∙ c.loop.invariant.pid;
@@ -30,8 +30,8 @@ loop-preserved-in-None-rest g c =
 pub loop-preserved-in-Some-Noted : goal.loop-preserved-in-Some-Noted
 loop-preserved-in-Some-Noted g c =
     let set = c.in-Some-Noted.set in
-    let asked : c.args.expired ≡ true = ? in
-    let to_come : holds c.loop.notes Expired ≡ false = ? in
+    let asked : c.args.expired ≡ true = c.if-not-expired.false in
+    let to_come : holds c.loop.notes Expired ≡ false = sym c.has.ensures ∙ c.if-has.false in
     let came : c.rest.result ≡ Some (Noted set) = cc in
     record {
       words = c.rest.ensures.words ∙ c.loop.invariant.words;
@@ -56,8 +56,8 @@ loop-preserved-in-Some-Noted g c =
 
 pub loop-preserved : goal.loop-preserved
 loop-preserved g c =
-    let asked : c.args.expired ≡ true = ? in
-    let to_come : holds c.loop.notes Expired ≡ false = ? in
+    let asked : c.args.expired ≡ true = c.if-not-expired.false in
+    let to_come : holds c.loop.notes Expired ≡ false = sym c.has.ensures ∙ c.if-has.false in
     let came : c.rest.result ≡ Some Refused = cc in
     record {
       words = c.notes.ensures.words ∙ (c.rest.ensures.words ∙ c.loop.invariant.words);

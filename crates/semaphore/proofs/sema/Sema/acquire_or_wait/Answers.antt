@@ -29,7 +29,7 @@ returns-in-Waits-clause-called g c =
     (ap (λ n. record { 0 = n }) (sym slept.ensures.pid)) refl
     (c.leave_line-granted.ensures.left caller start (goes_on slept.new.proc slept.new.seat start)
     (sym (slept.ensures.number ∙ c.in-Waits.ensures.number)) refl
-    (slept.ensures.waited caller start (Asks (Acquire caller.number) (Wait count) ∷ [])
+    (slept.ensures.waited caller start start (Asks (Acquire caller.number) (Wait count) ∷ [])
     (record {
       pid_is = refl;
       rendez_is = ap (λ n. record { 0 = c.args.self.now.first + n }) (sym c.in-Waits.ensures.number);
