@@ -108,11 +108,7 @@ impl Sema {
     }
 
     // Asks once.
-    fn acquire_at_once<R: Wait>(
-        &self,
-        rt: &R,
-        seat: &mut SemaSeat,
-    ) -> Result<Semacquired, Fault>
+    fn acquire_at_once<R: Wait>(&self, rt: &R, seat: &mut SemaSeat) -> Result<Semacquired, Fault>
         requires { IsSemaSeatOf self.now seat.old }
         ensures seat { IsSemaSeatOf self.now seat.new }
         ensures number { number_of seat.new.seat ≡ number_of seat.old.seat }
@@ -248,11 +244,7 @@ pub(crate) fn rest<R: Wait>(
 }
 
 // What a wait came to. Notes that came with a unit are pending again.
-fn answer_wait(
-    proc: &mut Proc<'_>,
-    stop: Option<Stop>,
-    granted: bool,
-) -> Result<Semacquired, Fault>
+fn answer_wait(proc: &mut Proc<'_>, stop: Option<Stop>, granted: bool) -> Result<Semacquired, Fault>
     requires { granted ≡ false → IsSome stop }
     ensures words { proc.new.words ≡ proc.old.words }
     ensures answered { (caller : Caller) (start now : Standing) →

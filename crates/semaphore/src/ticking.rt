@@ -19,13 +19,7 @@ impl Timers {
     /// is posted the note `expired`. Answers how many expired: at most as many as there are
     /// processes. Own; tsemacquire in semacquire(2) has a clock of its own.
     /// It waits for the timers' lock. Takes no memory.
-    pub fn tick<R: Wait>(
-        &self,
-        rt: &R,
-        proc: &mut Proc<'_>,
-        timer: &mut TimerSeat,
-        now: u64,
-    ) -> u64
+    pub fn tick<R: Wait>(&self, rt: &R, proc: &mut Proc<'_>, timer: &mut TimerSeat, now: u64) -> u64
         requires { IsTimerSeatOf self.now timer.old }
         ensures seat { IsTimerSeatOf self.now timer.new }
         ensures number { number_of timer.new.seat ≡ number_of timer.old.seat }

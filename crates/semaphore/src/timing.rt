@@ -61,14 +61,21 @@ impl Sema {
         // When it returns, its timer is cancelled.
         ensures timer { IsTimerSeatOf timers.now timer.new }
         ensures timer_number { number_of timer.new.seat ≡ number_of timer.old.seat }
-        ensures called {
-            let moment = deadline_of now ms in
+        ensures called { let moment = deadline_of now ms in
             let caller = timed_caller self.now proc.old seat.old timer.old moment in
             Calls caller (stands_timed proc.old seat.old timer.old)
             (stands_timed proc.new seat.new timer.new)
             (AcquiresInTime caller (timers_seen timers.now timer.new) moment result) }
     {
-        self.tsemacquire_probed(rt, proc, seat, timers, timer, deadline(now, ms), &mut NoProbe)
+        self.tsemacquire_probed(
+            rt,
+            proc,
+            seat,
+            timers,
+            timer,
+            deadline(now, ms),
+            &mut NoProbe,
+        )
     }
 
     /// As `tsemacquire`, until a tick at this moment. The probe is told of point 2 before and 3
@@ -93,8 +100,7 @@ impl Sema {
         // When it returns, its timer is cancelled.
         ensures timer { IsTimerSeatOf timers.now timer.new }
         ensures timer_number { number_of timer.new.seat ≡ number_of timer.old.seat }
-        ensures called {
-            let moment = deadline in
+        ensures called { let moment = deadline in
             let caller = timed_caller self.now proc.old seat.old timer.old moment in
             Calls caller (stands_timed proc.old seat.old timer.old)
             (stands_timed proc.new seat.new timer.new)

@@ -1,26 +1,23 @@
 //! Units that processes acquire and release, and notes that come before each step of a wait.
-use crate::tests::member::{Act, ActAt, Member};
+use crate::tests::member::{Act, ActAt, First, Member};
 use crate::{OpenedSema, OpenedTimers, Sema, Semacquired, Timers};
 use sleep_wakeup::{Kernel, Opened, Started};
 use std::alloc::Global;
 use std::process::Abort;
 use std::sync::Wait;
 use std::test::Fail;
-use sync_base::{Fault, Note, NoteSet};
+use sync_base::{Fault, Flags, Note, NoteSet};
 
 #[test]
 fn units_are_acquired_and_released(rt: HostRuntime) -> Result<(), Fail> {
     let Opened { kernel, start } = Kernel::new(rt.alloc(), 1, 1)?;
     let Started { mut roster, proc } = kernel.start(start);
-    let OpenedTimers { timers, seat: timer } = Timers::new(rt.alloc(), 1)?;
+    let OpenedTimers {
+        timers,
+        seat: timer,
+    } = Timers::new(rt.alloc(), 1)?;
     let OpenedSema { sema, seat } = Sema::new(rt.alloc(), &mut roster, 0, 1)?;
-    let mut member = Member {
-        sema: &sema,
-        seat,
-        timers: &timers,
-        timer,
-        proc,
-    };
+    let mut member = Member::new(&sema, &timers, First { seat, timer, proc });
     assert_eq!(rt; member.acquire(&rt, false), Ok(Semacquired::NotNow));
     assert_eq!(rt; member.release(&rt, 3), Ok(3));
     for _ in 0..3 {
@@ -48,29 +45,24 @@ struct Outcome {
 }
 
 // Acquires a unit while another process acts between the steps.
-fn acquired_while<R: Wait + Abort>(
-    rt: &R,
-    alloc: Global,
-    acts: [Act; 4],
-) -> Result<Outcome, Fail> {
+fn acquired_while<R: Wait + Abort>(rt: &R, alloc: Global, acts: [Act; 4]) -> Result<Outcome, Fail> {
     let Opened { kernel, start } = Kernel::new(alloc, 2, 2)?;
     let Started { mut roster, proc } = kernel.start(start);
-    let OpenedTimers { timers, seat: timer } = Timers::new(alloc, 2)?;
+    let OpenedTimers {
+        timers,
+        seat: timer,
+    } = Timers::new(alloc, 2)?;
     let OpenedSema { sema, seat } = Sema::new(alloc, &mut roster, 0, 2)?;
-    let mut member = Member {
-        sema: &sema,
-        seat,
-        timers: &timers,
-        timer,
-        proc,
-    };
-    let Some(other) = member.fork(rt, &mut roster)? else {
+    let mut proc = proc;
+    let Some(child) = roster.rfork(&mut proc, Flags::RFPROC)? else {
         panic!(rt; "RFPROC makes a child")
     };
+    let mut member = Member::new(&sema, &timers, First { seat, timer, proc });
+    let other = member.seat(rt, child)?;
     let mut probe = ActAt {
         rt,
         other,
-        to: member.proc.pid(),
+        to: member.pid(),
         acts,
         visits: [0; 4],
         answer: 0,
@@ -80,7 +72,7 @@ fn acquired_while<R: Wait + Abort>(
     assert!(rt; probe.visits[1] > 0 && probe.visits[1] == probe.visits[2]);
     Ok(Outcome {
         answer,
-        pending: member.proc.notes(),
+        pending: member.notes(),
         released: probe.answer,
         left: member.acquire(rt, false),
     })

@@ -1,20 +1,84 @@
 //! A process with its seats at a semaphore and at timers, and probes that act between its steps.
+ghost use Rattle.std.specs.Prelude.{◌≡◌};
+
 use crate::{Sema, SemaSeat, Semacquired, TimerSeat, Timers};
-use sleep_wakeup::{Proc, Roster};
+use sleep_wakeup::Proc;
+use std::marker::Model;
 use std::sync::Wait;
-use sync_base::{Fault, Flags, Note, NoteSet, Pid, Probe, RendezId};
+use sync_base::{Fault, Note, NoteSet, Pid, Probe, RendezId};
 
 /// A process with its seats.
 #[derive(Drop)]
 pub struct Member<'s, 'k> {
-    pub sema: &'s Sema,
+    sema: &'s Sema,
+    seat: SemaSeat,
+    timers: &'s Timers,
+    timer: TimerSeat,
+    proc: Proc<'k>,
+}
+
+impl<'s, 'k> Model for Member<'s, 'k> {
+    ghost use Rattle.semaphore.specs.Seats.{HasRow, IsSemaSeatOf, IsTimerSeatOf};
+    ghost use Rattle.sleep_wakeup.specs.Kernel.{Running};
+
+    ghost Value = { Running };
+
+    ghost view = { λ member. member.proc };
+
+    // Its seats are those of its semaphore and of its timers, whose Rendez are of its kernel.
+    ghost invariant = { λ member. record {
+      seat : IsSemaSeatOf member.sema.now member.seat;
+      row : HasRow member.sema.now member.proc.words;
+      timer : IsTimerSeatOf member.timers.now member.timer;
+    } };
+}
+
+/// The first process of a semaphore and of timers.
+#[derive(Drop)]
+pub struct First<'k> {
     pub seat: SemaSeat,
-    pub timers: &'s Timers,
     pub timer: TimerSeat,
     pub proc: Proc<'k>,
 }
 
 impl<'s, 'k> Member<'s, 'k> {
+    ghost use Rattle.semaphore.specs.Seats.{HasRow, IsSemaSeatOf, IsTimerSeatOf};
+
+    pub fn new(sema: &'s Sema, timers: &'s Timers, first: First<'k>) -> Member<'s, 'k>
+        requires seat { IsSemaSeatOf sema.now first.seat }
+        requires row { HasRow sema.now first.proc.words }
+        requires timer { IsTimerSeatOf timers.now first.timer }
+    {
+        let First { seat, timer, proc } = first;
+        Member {
+            sema,
+            seat,
+            timers,
+            timer,
+            proc,
+        }
+    }
+
+    pub fn pid(&self) -> Pid {
+        self.proc.pid()
+    }
+
+    pub fn notes(&mut self) -> NoteSet {
+        self.proc.notes()
+    }
+
+    /// Wakes whoever sleeps in its own Rendez.
+    pub fn wake_own(&mut self, level: u64) -> bool {
+        let rendez = self.rendez();
+        self.proc.wakeup(rendez, level).is_ok()
+    }
+
+    /// Sleeps in its own Rendez.
+    pub fn sleep_own<R: Wait>(&mut self, rt: &R, threshold: u64) -> Result<(), Fault> {
+        let rendez = self.rendez();
+        self.proc.sleep(rt, rendez, threshold)
+    }
+
     pub fn acquire<R: Wait>(&mut self, rt: &R, block: bool) -> Result<Semacquired, Fault> {
         let sema = self.sema;
         sema.semacquire(rt, &mut self.proc, &mut self.seat, block)
@@ -81,26 +145,21 @@ impl<'s, 'k> Member<'s, 'k> {
         self.sema.rendez(&self.seat)
     }
 
-    /// The next process, with seats of its own.
-    pub fn fork<R: Wait>(
-        &mut self,
-        rt: &R,
-        roster: &mut Roster<'k>,
-    ) -> Result<Option<Member<'s, 'k>>, Fault> {
-        let Some(proc) = roster.rfork(&mut self.proc, Flags::RFPROC)? else {
-            return Ok(None);
-        };
+    /// Makes a member of a process of the same kernel.
+    pub fn seat<R: Wait>(&mut self, rt: &R, proc: Proc<'k>) -> Result<Member<'s, 'k>, Fault>
+        requires { proc.words ≡ self.old.words }
+    {
         let sema = self.sema;
         let timers = self.timers;
         let seat = sema.split(rt, &mut self.seat)?;
         let timer = timers.split(rt, &mut self.timer)?;
-        Ok(Some(Member {
+        Ok(Member {
             sema,
             seat,
             timers,
             timer,
             proc,
-        }))
+        })
     }
 }
 
@@ -114,6 +173,8 @@ pub enum Act {
     InterruptAndRelease,
     /// A tick at this moment.
     Tick(u64),
+    /// A tick at the moment before this one, and then one at this.
+    TickTwice(u64),
     /// A release, and then a tick at this moment.
     ReleaseAndTick(u64),
     /// An interrupt, and then a tick at this moment.
@@ -162,6 +223,12 @@ impl<'r, 's, 'k, R: Wait> ActAt<'r, 's, 'k, R> {
                 self.release();
             }
             Act::Tick(now) => self.tick(now),
+            Act::TickTwice(now) => {
+                self.tick(now.saturating_sub(1));
+                if self.answer == 0 {
+                    self.tick(now);
+                }
+            }
             Act::ReleaseAndTick(now) => {
                 self.release();
                 self.tick(now);
