@@ -1,8 +1,15 @@
+mod AcquireLemmas
+mod AskLemmas
 mod Cases
 mod EarlierLemmas
 mod LineLemmas
+mod OwnSemaLemmas
+mod OwnTimerLemmas
+mod ReleaseLemmas
 mod SemaLawLemmas
 mod SemaLemmas
+mod TellLemmas
 mod TimerLemmas
 mod TournamentLemmas
+mod WaitLemmas
 mod WorkedUnits

@@ -23,10 +23,10 @@ test_of : (r x : SemaReply) (b : Bool) → r ≢ reply.Busy → r ≡ (if b then
 test_of r x true apart is = (refl, is)
 test_of r x false apart is = absurd (apart is)
 
-below_of : (a b : ℕ) → nat_lt a b ≡ true → a < b
+pub below_of : (a b : ℕ) → nat_lt a b ≡ true → a < b
 below_of a b is = grind (arith, nat_tests)
 
-above_of : (a b : ℕ) → nat_lt a b ≡ false → b ≤ a
+pub above_of : (a b : ℕ) → nat_lt a b ≡ false → b ≤ a
 above_of a b is = grind (arith, nat_tests)
 
 seat_of : (s : SemaState) (seat : ℕ) (r x : SemaReply) → r ≢ reply.Busy → r ≡ (if is_seat s seat then x else reply.Busy) → (seat < length s.stages) × (r ≡ x)
@@ -40,11 +40,11 @@ idle_of Waiting is = cc
 idle_of Granted is = cc
 
 -- a seat that may acquire is idle
-record MayAcquire (s : SemaState) (seat : ℕ) : Type 0 where
+pub record MayAcquire (s : SemaState) (seat : ℕ) : Type 0 where
   pub within : seat < length s.stages
   pub idle : stage_of s seat ≡ Idle
 
-may_of : (s : SemaState) (seat : ℕ) (r x : SemaReply) → r ≢ reply.Busy → r ≡ (if may_acquire s seat then x else reply.Busy) → MayAcquire s seat × (r ≡ x)
+pub may_of : (s : SemaState) (seat : ℕ) (r x : SemaReply) → r ≢ reply.Busy → r ≡ (if may_acquire s seat then x else reply.Busy) → MayAcquire s seat × (r ≡ x)
 may_of s seat r x apart is =
     let both = test_of r x (may_acquire s seat) apart is in
     (seats (is_seat s seat) refl both.0, both.1)
@@ -67,13 +67,13 @@ acquired_of s seat is =
         not_worn true e = cc
         not_worn false e = cc
 
-record Waits (s : SemaState) (seat : ℕ) : Type 0 where
+pub record Waits (s : SemaState) (seat : ℕ) : Type 0 where
   pub within : seat < length s.stages
   pub idle : stage_of s seat ≡ Idle
   pub none : s.value ≡ 0
   pub more : grants_of s seat ≢ LAST_GRANT
 
-waits_of : (s : SemaState) (seat count : ℕ) → reply.Wait count ≡ answer_to s (Acquire seat) → Waits s seat
+pub waits_of : (s : SemaState) (seat count : ℕ) → reply.Wait count ≡ answer_to s (Acquire seat) → Waits s seat
 waits_of s seat count is =
     let both = may_of s seat (reply.Wait count) (answer_acquire s seat) (λ e. cc) is in
     by_test both.0 (nat_lt 0 s.value) refl (same_or_not (grants_of s seat) LAST_GRANT) both.1
@@ -96,7 +96,7 @@ taken_now_of s seat is =
     by_test true there told = below_of 0 s.value there
     by_test false there told = cc
 
-released_of : (s : SemaState) (count sum : ℕ) → reply.Value sum ≡ answer_to s (Release count) → (sum ≡ s.value + count) × (sum ≤ MAX_VALUE)
+pub released_of : (s : SemaState) (count sum : ℕ) → reply.Value sum ≡ answer_to s (Release count) → (sum ≡ s.value + count) × (sum ≤ MAX_VALUE)
 released_of s count sum is = by_test (nat_lt MAX_VALUE (s.value + count)) refl is
   where
     by_test : (b : Bool) → nat_lt MAX_VALUE (s.value + count) ≡ b → reply.Value sum ≡ (if b then reply.BadArg else reply.Value (s.value + count)) → (sum ≡ s.value + count) × (sum ≤ MAX_VALUE)
@@ -106,7 +106,7 @@ released_of s count sum is = by_test (nat_lt MAX_VALUE (s.value + count)) refl i
         let fits = above_of MAX_VALUE (s.value + count) there in
         (same, omega arith)
 
-collected_of : (s : SemaState) (seat : ℕ) → reply.Granted ≡ answer_to s (Collect seat) → (seat < length s.stages) × (stage_of s seat ≡ Granted)
+pub collected_of : (s : SemaState) (seat : ℕ) → reply.Granted ≡ answer_to s (Collect seat) → (seat < length s.stages) × (stage_of s seat ≡ Granted)
 collected_of s seat is =
     let both = seat_of s seat reply.Granted (answer_collect s seat (stage_of s seat)) (λ e. cc) is in
     (both.0, by_stage (stage_of s seat) both.1)
@@ -116,7 +116,7 @@ collected_of s seat is =
     by_stage Waiting told = cc
     by_stage Idle told = cc
 
-left_with_of : (s : SemaState) (seat : ℕ) → reply.Granted ≡ answer_to s (Leave seat) → (seat < length s.stages) × (stage_of s seat ≡ Granted)
+pub left_with_of : (s : SemaState) (seat : ℕ) → reply.Granted ≡ answer_to s (Leave seat) → (seat < length s.stages) × (stage_of s seat ≡ Granted)
 left_with_of s seat is =
     let both = seat_of s seat reply.Granted (answer_leave (stage_of s seat)) (λ e. cc) is in
     (both.0, by_stage (stage_of s seat) both.1)
@@ -318,7 +318,7 @@ kept_step s (Leave seat) reply.Gone sum got count own is kept free =
 kept_step s request r sum got count own is kept free = (same_keeps sum got count own s kept, free)
 
 -- a new semaphore
-idle_at : (n i : ℕ) → get_or (replicate n Idle) i Idle ≡ Idle
+pub idle_at : (n i : ℕ) → get_or (replicate n Idle) i Idle ≡ Idle
 idle_at zero i = refl
 idle_at (suc n) zero = refl
 idle_at (suc n) (suc i) = idle_at n i

@@ -1,0 +1,211 @@
+-- What each step of an acquire adds to what the call did, and keeps of it.
+use Rattle.std.proofs.Common.{◌≡◌, ◌≢◌, ◌⊎◌, inl, inr, ℕ, ◌+◌, ◌≤◌, Bool, true, false, ◌||◌, List, [], ◌∷◌, Option, Some, None, Result, Ok, Err, refl, sym, ap, ◌∙◌, subst, arith}
+use Rattle.std.specs.List.{AllByRecursion}
+use Rattle.sync_base.specs.declared.fault.Fault.{Fault}
+use Rattle.sync_base.specs.declared.ids.Pid.{Pid}
+use Rattle.sync_base.specs.declared.note.Note.TheVariants.{Expired}
+use Rattle.sync_base.specs.declared.note.NoteSet.{NoteSet}
+use Rattle.sync_base.specs.NoteSet.{no_notes, joined, holds}
+use Rattle.rendez_words.specs.Process.{Process}
+use Rattle.rendez_words.specs.Steps as steps
+use Rattle.sleep_wakeup.specs.Kernel.{Running}
+use Rattle.kernel_lock.specs.Calls.{Serves}
+use Rattle.semaphore.specs.declared.sema.SemaSeat.{SemaSeat}
+use Rattle.semaphore.specs.declared.acquiring.Semacquired.{Semacquired}
+use Rattle.semaphore.specs.declared.acquiring.Semacquired.TheVariants as sema
+use Rattle.semaphore.specs.declared.acquiring.Stop.{Stop}
+use Rattle.semaphore.specs.declared.acquiring.Stop.TheVariants as stop
+use Rattle.semaphore.specs.declared.sema_object.SemaCall.{SemaCall}
+use Rattle.semaphore.specs.declared.sema_object.SemaCall.TheVariants.{Acquire, AcquireNow, Collect, Leave}
+use Rattle.semaphore.specs.declared.sema_object.SemaReply.{SemaReply}
+use Rattle.semaphore.specs.declared.sema_object.SemaReply.TheVariants as reply
+use Rattle.semaphore.specs.Acquiring.{IsOfAcquire, RestsInTurn, SleepsBetween, HasSlept, Acquires, AcquiresNow, Semacquires, now_reply, last_wait, units_in, notes_taken, posts_in, was_expired}
+use Rattle.semaphore.specs.Asking.{WaitsFor, HasWaited, HasLeft, Left, ending_of, leave_reply, granted_units, stopped_notes, now_told}
+use Rattle.semaphore.specs.Deeds.{Deed, Ending, Caller, Standing, SemaView, Slept, Steps, Asked, Timed, Chain, Did, Calls}
+use Rattle.semaphore.specs.Deeds.Deed.{Asks, Rests, Posts}
+use Rattle.semaphore.specs.Seats.{goes_on}
+
+-- ---- one deed more
+
+pub then_asks : (caller : Caller) (start now : Standing) (seat : SemaView) (deeds : List Deed)
+    (call : SemaCall) (answer : SemaReply) → Did caller deeds start now
+    → Serves (record { by = caller.number; request = call; reply = answer }) now.seat seat
+    → Did caller (Asks call answer ∷ deeds) start (record now { seat = seat })
+then_asks caller start now seat deeds call answer did served =
+    record {
+      process = (now.process, (did.process, refl));
+      seat = (now.seat, (did.seat, served));
+      timer = (now.timer, (did.timer, refl));
+    }
+
+pub then_rests : (caller : Caller) (start now : Standing) (process : Process) (deeds : List Deed)
+    (threshold : ℕ) (ending : Ending) → Did caller deeds start now
+    → Slept caller.rendez threshold ending now.process process
+    → Did caller (Rests threshold ending ∷ deeds) start (record now { process = process })
+then_rests caller start now process deeds threshold ending did slept =
+    record {
+      process = (now.process, (did.process, slept));
+      seat = (now.seat, (did.seat, refl));
+      timer = (now.timer, (did.timer, refl));
+    }
+
+pub then_posts : (caller : Caller) (start now : Standing) (process : Process) (deeds : List Deed)
+    (pid : Pid) (set : NoteSet) → Did caller deeds start now
+    → process ≡ steps.notes now.process pid set
+    → Did caller (Posts pid set ∷ deeds) start (record now { process = process })
+then_posts caller start now process deeds pid set did noted =
+    record {
+      process = (now.process, (did.process, noted));
+      seat = (now.seat, (did.seat, refl));
+      timer = (now.timer, (did.timer, refl));
+    }
+
+-- ---- what a wait came to
+
+-- the unit came with notes, which are put back
+pub puts_back : (caller : Caller) (start now : Standing) (process : Process) (set : NoteSet)
+    (left : Left) → left.granted ≡ true → left.notes ≡ set
+    → process ≡ steps.notes now.process caller.pid set → Calls caller start now (HasLeft caller left)
+    → Calls caller start (record now { process = process }) (Acquires caller (Ok sema.Acquired))
+puts_back caller start now process set left granted notes noted calls =
+    let had = calls.promise in
+    record {
+      deeds = Posts caller.pid set ∷ calls.deeds;
+      did = then_posts caller start now process calls.deeds caller.pid set calls.did noted;
+      promise = record {
+        units = had.units ∙ ap granted_units granted;
+        reason = tt;
+        own = (refl, had.own);
+        rests = had.rests;
+        between = had.between;
+        notes = inr (ap (λ l. set ∷ l) had.posts ∙ ap (λ s. s ∷ []) (sym (had.notes ∙ notes)));
+      };
+    }
+
+-- it asks once
+pub asks_now : (caller : Caller) (start : Standing) (seat : SemaView) (taken : Bool)
+    (answer : Result Semacquired Fault) → now_reply answer ≡ Some (now_told taken)
+    → Serves (record { by = caller.number; request = AcquireNow caller.number; reply = now_told taken }) start.seat seat
+    → Calls caller start (record start { seat = seat }) (AcquiresNow caller answer)
+asks_now caller start seat taken answer told served =
+    record {
+      deeds = Asks (AcquireNow caller.number) (now_told taken) ∷ [];
+      did = then_asks caller start start seat [] (AcquireNow caller.number) (now_told taken)
+          (record { process = refl; seat = refl; timer = refl }) served;
+      promise = record { told = now_told taken; told_is = told; deeds_are = refl };
+    }
+
+-- it had its unit when it left, or leaves
+left_granted : (caller : Caller) (count : ℕ) (past : List Deed) → WaitsFor caller count past
+    → HasLeft caller (record { granted = true; notes = no_notes; expired = false; stop = None })
+    (Asks (Collect caller.number) reply.Granted ∷ Rests count Ending.Well ∷ past)
+left_granted caller count past waits =
+    record {
+      own = (refl, (tt, waits.own));
+      rests = (inl waits.told, waits.rests);
+      between = waits.between;
+      units = ap (λ n. 1 + n) waits.units;
+      notes = waits.notes;
+      posts = waits.posts;
+      expired = waits.not_expired;
+      why = λ e. cc;
+    }
+
+pub leaves_with : (caller : Caller) (start now : Standing) → Calls caller start now (HasWaited caller None)
+    → Calls caller start now (HasLeft caller (record { granted = true; notes = no_notes; expired = false; stop = None }))
+leaves_with caller start now calls =
+    let had = calls.promise in
+    record {
+      deeds = calls.deeds;
+      did = calls.did;
+      promise = subst (HasLeft caller (record { granted = true; notes = no_notes; expired = false; stop = None }))
+          (sym had.deeds_are) (left_granted caller had.count had.past had.waited);
+    }
+
+left_stopped : (caller : Caller) (count : ℕ) (past : List Deed) (how : Stop) (granted : Bool)
+    → WaitsFor caller count past
+    → HasLeft caller (record { granted = granted; notes = stopped_notes (Some how); expired = false; stop = Some how })
+    (Asks (Leave caller.number) (leave_reply granted) ∷ Rests count (ending_of how) ∷ past)
+left_stopped caller count past stop.Refused true waits =
+    record {
+      own = (refl, (tt, waits.own));
+      rests = (inl waits.told, waits.rests);
+      between = waits.between;
+      units = ap (λ n. 1 + n) waits.units;
+      notes = waits.notes;
+      posts = waits.posts;
+      expired = waits.not_expired;
+      why = λ e. inl tt;
+    }
+left_stopped caller count past stop.Refused false waits =
+    record {
+      own = (refl, (tt, waits.own));
+      rests = (inl waits.told, waits.rests);
+      between = waits.between;
+      units = ap (λ n. 0 + n) waits.units;
+      notes = waits.notes;
+      posts = waits.posts;
+      expired = waits.not_expired;
+      why = λ e. inl tt;
+    }
+left_stopped caller count past (stop.Noted set) true waits =
+    record {
+      own = (refl, (tt, waits.own));
+      rests = (inl waits.told, waits.rests);
+      between = waits.between;
+      units = ap (λ n. 1 + n) waits.units;
+      notes = ap (λ s. joined s set) waits.notes;
+      posts = waits.posts;
+      expired = waits.not_expired;
+      why = λ e. inl tt;
+    }
+left_stopped caller count past (stop.Noted set) false waits =
+    record {
+      own = (refl, (tt, waits.own));
+      rests = (inl waits.told, waits.rests);
+      between = waits.between;
+      units = ap (λ n. 0 + n) waits.units;
+      notes = ap (λ s. joined s set) waits.notes;
+      posts = waits.posts;
+      expired = waits.not_expired;
+      why = λ e. inl tt;
+    }
+
+pub leaves_so : (caller : Caller) (start now : Standing) (seat : SemaView) (how : Stop) (granted : Bool)
+    → Serves (record { by = caller.number; request = Leave caller.number; reply = leave_reply granted }) now.seat seat
+    → Calls caller start now (HasWaited caller (Some how))
+    → Calls caller start (record now { seat = seat })
+    (HasLeft caller (record { granted = granted; notes = stopped_notes (Some how); expired = false; stop = Some how }))
+leaves_so caller start now seat how granted served calls =
+    let had = calls.promise in
+    record {
+      deeds = Asks (Leave caller.number) (leave_reply granted) ∷ calls.deeds;
+      did = then_asks caller start now seat calls.deeds (Leave caller.number) (leave_reply granted) calls.did served;
+      promise = subst
+          (λ deeds. HasLeft caller (record { granted = granted; notes = stopped_notes (Some how); expired = false; stop = Some how })
+          (Asks (Leave caller.number) (leave_reply granted) ∷ deeds))
+          (sym had.deeds_are) (left_stopped caller had.count had.past how granted had.waited);
+    }
+
+-- the call of a seat, as that of its caller
+pub served_as : (call : ℕ → SemaCall) (answer : SemaReply) (number its : ℕ) (now old new : SemaView)
+    → number ≡ its → now ≡ old
+    → Serves (record { by = its; request = call its; reply = answer }) old new
+    → Serves (record { by = number; request = call number; reply = answer }) now new
+served_as call answer number its now old new number_is now_is served =
+    subst (λ n. Serves (record { by = n; request = call n; reply = answer }) now new) (sym number_is)
+    (subst (λ v. Serves (record { by = its; request = call its; reply = answer }) v new) (sym now_is)
+    served)
+
+-- by whether it is to wait
+pub semacquires_so : (caller : Caller) (start : Standing) (block is_block : Bool) (proc its_proc : Running)
+    (seat its_seat : SemaSeat) (answer its_answer : Result Semacquired Fault) → block ≡ is_block
+    → proc ≡ its_proc → seat ≡ its_seat → answer ≡ its_answer
+    → Calls caller start (goes_on its_proc its_seat start) (Semacquires is_block caller its_answer)
+    → Calls caller start (goes_on proc seat start) (Semacquires block caller answer)
+semacquires_so caller start block is_block proc its_proc seat its_seat answer its_answer b p s a calls =
+    subst (λ x. Calls caller start (goes_on proc seat start) (Semacquires x caller answer)) (sym b)
+    (subst (λ x. Calls caller start (goes_on x seat start) (Semacquires is_block caller answer)) (sym p)
+    (subst (λ x. Calls caller start (goes_on its_proc x start) (Semacquires is_block caller answer)) (sym s)
+    (subst (λ x. Calls caller start (goes_on its_proc its_seat start) (Semacquires is_block caller x)) (sym a)
+    calls)))

@@ -1,0 +1,663 @@
+-- Sleeps of a wait, and what a wait in time does beyond them.
+use Rattle.std.proofs.Common.{◌≡◌, ◌≢◌, ◌⊎◌, inl, inr, ℕ, ◌+◌, ◌<◌, ◌≤◌, Bool, true, false, ◌||◌, ◌&&◌, not, eqb, List, [], ◌∷◌, ◌++◌, length, replicate, Option, Some, None, Result, Ok, Err, IfErr, OnOk, refl, sym, ap, ◌∙◌, subst, arith}
+use Rattle.std.proofs.lemmas.Bool.Decides.{eqb_tells}
+use Rattle.std.specs.List.{AllByRecursion}
+use Rattle.histories.specs.declared.account.Share.{Share}
+use Rattle.histories.specs.Account.{AreByOthers, KnowsHistory, has_number}
+use Rattle.histories.specs.History.{state_after, IsLegal}
+use Rattle.kernel_lock.specs.Calls.{Serves}
+use Rattle.kernel_lock.specs.Definition.{server}
+use Rattle.sync_base.specs.declared.fault.Fault.{Fault}
+use Rattle.sync_base.specs.declared.fault.Fault.TheVariants as fault
+use Rattle.sync_base.specs.declared.ids.Pid.{Pid}
+use Rattle.sync_base.specs.declared.ids.RendezId.{RendezId}
+use Rattle.sync_base.specs.declared.note.Note.{Note}
+use Rattle.sync_base.specs.declared.note.Note.TheVariants.{Interrupt, Hangup, Alarm, ClosedPipe, Expired}
+use Rattle.sync_base.specs.declared.note.NoteSet.{NoteSet}
+use Rattle.sync_base.specs.NoteSet.{no_notes, joined, holds, only}
+use Rattle.sleep_core.specs.declared.answer.Answer.TheVariants as answer
+use Rattle.rendez_words.specs.declared.words.Words.{Words}
+use Rattle.rendez_words.specs.Process.{Process}
+use Rattle.rendez_words.specs.Steps as steps
+use Rattle.rendez_words.specs.Words.{rendez_of, WhyNotPosted}
+use Rattle.sleep_wakeup.specs.Calls.{Sleeps, WhyNotSlept}
+use Rattle.semaphore.specs.declared.acquiring.Semacquired.{Semacquired}
+use Rattle.semaphore.specs.declared.acquiring.Semacquired.TheVariants as sema
+use Rattle.semaphore.specs.declared.acquiring.Stop.{Stop}
+use Rattle.semaphore.specs.declared.acquiring.Stop.TheVariants as stop
+use Rattle.semaphore.specs.declared.limits.TheConstants.{LAST_GRANT}
+use Rattle.semaphore.specs.declared.sema_object.SemaCall.{SemaCall}
+use Rattle.semaphore.specs.declared.sema_object.SemaCall.TheVariants.{Acquire, Collect}
+use Rattle.semaphore.specs.declared.sema_object.SemaReply.{SemaReply}
+use Rattle.semaphore.specs.declared.sema_object.SemaReply.TheVariants as reply
+use Rattle.semaphore.specs.declared.timer_object.Timer.{Timer}
+use Rattle.semaphore.specs.declared.timer_object.Timer.TheVariants.{Unset}
+use Rattle.semaphore.specs.declared.timer_object.TimerCall.{TimerCall}
+use Rattle.semaphore.specs.declared.timer_object.TimerCall.TheVariants.{Add, Cancel}
+use Rattle.semaphore.specs.declared.timer_object.TimerReply.{TimerReply}
+use Rattle.semaphore.specs.declared.timer_object.TimerReply.TheVariants as told
+use Rattle.semaphore.specs.Acquiring.{IsOfAcquire, TimesIts, RestsInTurn, SleepsBetween, HasEnded, IsDouble, IsNoted, Acquires, AcquiresInTime, TimersSeen, TimedOut, AwaitsTick, IsPutBack, without_expired, last_wait, units_in, notes_taken, posts_in, was_expired}
+use Rattle.semaphore.specs.Asking.{WaitsFor, HasWaited, HasLeft, HasKept, HasStopped, Left, ending_of, rest_ending, cancel_reply, granted_units, stopped_notes}
+use Rattle.semaphore.specs.Deeds.{Deed, Ending, Caller, Standing, SemaView, TimerView, Slept, Steps, Chain, Did, Calls}
+use Rattle.semaphore.specs.Deeds.Deed.{Asks, Times, Rests, Posts, Drains}
+use Rattle.semaphore.specs.TimerHistory.{TimerEntry, timer_meaning, WasTaken, AreByOthersThan}
+use Rattle.semaphore.proofs.AcquireLemmas.{then_asks, then_rests, then_posts}
+use Rattle.semaphore.proofs.OwnTimerLemmas.{own_timer, was_taken}
+
+-- ---- one sleep
+
+-- of the refusals of a sleep only one can come
+pub refused_so : (words : Words) (before : Process) (rendez : RendezId) (threshold : ℕ)
+    (after : Process) (why : Fault) → rendez.0 < rendez_of words → threshold ≤ LAST_GRANT
+    → WhyNotSlept words before rendez threshold after why
+    → ((set : NoteSet) → why ≢ fault.Interrupted set)
+    → after ≡ steps.posts before rendez threshold answer.DoubleSleep
+refused_so words before rendez threshold after (fault.Interrupted set) within can is apart =
+    absurd (apart set refl)
+refused_so words before rendez threshold after fault.NoRendez within can is apart =
+    absurd (omega (arith, is.0))
+refused_so words before rendez threshold after fault.BadLevel within can is apart =
+    absurd (omega (arith, is.1))
+refused_so words before rendez threshold after fault.DoubleSleep within can is apart = is.1
+refused_so words before rendez threshold after why within can is apart = absurd is
+
+-- a sleep is of the process that it was
+pub slept_pid : (rendez : RendezId) (threshold : ℕ) (ending : Ending) (before after : Process)
+    → Slept rendez threshold ending before after → after.pid ≡ before.pid
+slept_pid rendez threshold Ending.Well before after slept = ap (λ p. p.pid) slept.leaves.cleared
+slept_pid rendez threshold (Ending.Noted set) before after slept =
+    ap (λ p. p.pid) slept.0.leaves.cleared
+slept_pid rendez threshold Ending.Double before after slept = ap (λ p. p.pid) slept
+
+-- ---- the wait
+
+waits_still : (caller : Caller) (count next : ℕ) (deeds : List Deed) → WaitsFor caller count deeds
+    → WaitsFor caller next (Asks (Collect caller.number) (reply.Wait next) ∷ Rests count Ending.Well ∷ deeds)
+waits_still caller count next deeds waits =
+    record {
+      own = (refl, (tt, waits.own));
+      rests = (inl waits.told, waits.rests);
+      between = (tt, waits.between);
+      told = refl;
+      units = ap (λ n. 0 + n) waits.units;
+      notes = waits.notes;
+      posts = waits.posts;
+      not_expired = waits.not_expired;
+    }
+
+-- it slept, and was told to wait on
+pub waits_on : (caller : Caller) (start now : Standing) (process : Process) (seat : SemaView)
+    (count next : ℕ) → Slept caller.rendez count Ending.Well now.process process
+    → Serves (record { by = caller.number; request = Collect caller.number; reply = reply.Wait next }) now.seat seat
+    → Calls caller start now (WaitsFor caller count)
+    → Calls caller start (record now { process = process; seat = seat }) (WaitsFor caller next)
+waits_on caller start now process seat count next slept served calls =
+    record {
+      deeds = Asks (Collect caller.number) (reply.Wait next) ∷ Rests count Ending.Well ∷ calls.deeds;
+      did = then_asks caller start (record now { process = process }) seat (Rests count Ending.Well ∷ calls.deeds)
+          (Collect caller.number) (reply.Wait next)
+          (then_rests caller start now process calls.deeds count Ending.Well calls.did slept) served;
+      promise = waits_still caller count next calls.deeds calls.promise;
+    }
+
+-- it slept, and collected its unit
+pub waits_no_more : (caller : Caller) (start now : Standing) (process : Process) (seat : SemaView)
+    (count : ℕ) → Slept caller.rendez count Ending.Well now.process process
+    → Serves (record { by = caller.number; request = Collect caller.number; reply = reply.Granted }) now.seat seat
+    → Calls caller start now (WaitsFor caller count)
+    → Calls caller start (record now { process = process; seat = seat }) (HasWaited caller None)
+waits_no_more caller start now process seat count slept served calls =
+    record {
+      deeds = Asks (Collect caller.number) reply.Granted ∷ Rests count Ending.Well ∷ calls.deeds;
+      did = then_asks caller start (record now { process = process }) seat (Rests count Ending.Well ∷ calls.deeds)
+          (Collect caller.number) reply.Granted
+          (then_rests caller start now process calls.deeds count Ending.Well calls.did slept) served;
+      promise = record { count = count; past = calls.deeds; waited = calls.promise; deeds_are = refl };
+    }
+
+-- its sleep ended otherwise
+pub stops : (caller : Caller) (start now : Standing) (process : Process) (count : ℕ) (how : Stop)
+    → Slept caller.rendez count (ending_of how) now.process process
+    → Calls caller start now (WaitsFor caller count)
+    → Calls caller start (record now { process = process }) (HasWaited caller (Some how))
+stops caller start now process count how slept calls =
+    record {
+      deeds = Rests count (ending_of how) ∷ calls.deeds;
+      did = then_rests caller start now process calls.deeds count (ending_of how) calls.did slept;
+      promise = record { count = count; past = calls.deeds; waited = calls.promise; deeds_are = refl };
+    }
+
+-- ---- how it begins
+
+pub acquires_at_once : (caller : Caller) (start : Standing) (seat : SemaView)
+    → Serves (record { by = caller.number; request = Acquire caller.number; reply = reply.Acquired }) start.seat seat
+    → Calls caller start (record start { seat = seat }) (Acquires caller (Ok sema.Acquired))
+acquires_at_once caller start seat served =
+    record {
+      deeds = Asks (Acquire caller.number) reply.Acquired ∷ [];
+      did = then_asks caller start start seat [] (Acquire caller.number) reply.Acquired
+          (record { process = refl; seat = refl; timer = refl }) served;
+      promise = record {
+        units = refl;
+        reason = tt;
+        own = (refl, tt);
+        rests = tt;
+        between = tt;
+        notes = inl (refl, refl);
+      };
+    }
+
+pub is_worn : (caller : Caller) (start : Standing) (seat : SemaView)
+    → Serves (record { by = caller.number; request = Acquire caller.number; reply = reply.Worn }) start.seat seat
+    → Calls caller start (record start { seat = seat }) (Acquires caller (Err fault.Worn))
+is_worn caller start seat served =
+    record {
+      deeds = Asks (Acquire caller.number) reply.Worn ∷ [];
+      did = then_asks caller start start seat [] (Acquire caller.number) reply.Worn
+          (record { process = refl; seat = refl; timer = refl }) served;
+      promise = record {
+        units = refl;
+        reason = refl;
+        own = (refl, tt);
+        rests = tt;
+        between = tt;
+        notes = inl (refl, refl);
+      };
+    }
+
+pub did_ask : (caller : Caller) (start : Standing) (seat : SemaView) (count : ℕ)
+    → Serves (record { by = caller.number; request = Acquire caller.number; reply = reply.Wait count }) start.seat seat
+    → Did caller (Asks (Acquire caller.number) (reply.Wait count) ∷ []) start (record start { seat = seat })
+did_ask caller start seat count served =
+    then_asks caller start start seat [] (Acquire caller.number) (reply.Wait count)
+    (record { process = refl; seat = refl; timer = refl }) served
+
+pub begins : (caller : Caller) (count : ℕ)
+    → WaitsFor caller count (Asks (Acquire caller.number) (reply.Wait count) ∷ [])
+begins caller count =
+    record {
+      own = (refl, tt);
+      rests = tt;
+      between = (tt, tt);
+      told = refl;
+      units = refl;
+      notes = refl;
+      posts = refl;
+      not_expired = refl;
+    }
+
+-- ---- in time
+
+pub then_times : (caller : Caller) (start now : Standing) (timer : TimerView) (deeds : List Deed)
+    (call : TimerCall) (answered : TimerReply) → Did caller deeds start now
+    → Serves (record { by = caller.timer; request = call; reply = answered }) now.timer timer
+    → Did caller (Times call answered ∷ deeds) start (record now { timer = timer })
+then_times caller start now timer deeds call answered did served =
+    record {
+      process = (now.process, (did.process, refl));
+      seat = (now.seat, (did.seat, refl));
+      timer = (now.timer, (did.timer, served));
+    }
+
+then_drains : (caller : Caller) (start now : Standing) (process : Process) (deeds : List Deed)
+    (set : NoteSet) → Did caller deeds start now → process ≡ steps.drains now.process set
+    → Did caller (Drains set ∷ deeds) start (record now { process = process })
+then_drains caller start now process deeds set did drained =
+    record {
+      process = (now.process, (did.process, drained));
+      seat = (now.seat, (did.seat, refl));
+      timer = (now.timer, (did.timer, refl));
+    }
+
+-- it set its timer
+pub sets_timer : (caller : Caller) (start now : Standing) (timer : TimerView) (count moment : ℕ)
+    → caller.deadline ≡ Some moment
+    → Serves (record { by = caller.timer; request = Add caller.timer caller.pid moment; reply = told.Added }) now.timer timer
+    → Did caller (Asks (Acquire caller.number) (reply.Wait count) ∷ []) start now
+    → Did caller (Times (Add caller.timer caller.pid moment) told.Added ∷ Asks (Acquire caller.number) (reply.Wait count) ∷ []) start (record now { timer = timer })
+sets_timer caller start now timer count moment has served did =
+    then_times caller start now timer _ (Add caller.timer caller.pid moment) told.Added did served
+
+pub waits_timed : (caller : Caller) (count moment : ℕ) → caller.deadline ≡ Some moment
+    → WaitsFor caller count (Times (Add caller.timer caller.pid moment) told.Added ∷ Asks (Acquire caller.number) (reply.Wait count) ∷ [])
+waits_timed caller count moment has =
+    record {
+      own = (subst (TimesIts caller (Add caller.timer caller.pid moment)) (sym has) (refl, refl, refl), (refl, tt));
+      rests = tt;
+      between = (tt, tt);
+      told = refl;
+      units = refl;
+      notes = refl;
+      posts = refl;
+      not_expired = refl;
+    }
+
+-- it cancelled its timer
+stopped_timed : (how : Option Stop) (deeds : List Deed) (call : TimerCall) (answered : TimerReply) → HasStopped how deeds
+    → HasStopped how (Times call answered ∷ deeds)
+stopped_timed None deeds call answered stopped = absurd stopped
+stopped_timed (Some stop.Refused) deeds call answered stopped = stopped
+stopped_timed (Some (stop.Noted set)) deeds call answered stopped = stopped
+
+told_expiry : (expired : Bool) (deeds : List Deed) (caller : Caller) → was_expired deeds ≡ false
+    → was_expired (Times (Cancel caller.timer) (cancel_reply expired) ∷ deeds) ≡ expired
+told_expiry true deeds caller before = refl
+told_expiry false deeds caller before = before
+
+pub cancels : (caller : Caller) (start now : Standing) (timer : TimerView) (moment : ℕ)
+    (expired granted : Bool) (notes : NoteSet) (how : Option Stop) → caller.deadline ≡ Some moment
+    → Serves (record { by = caller.timer; request = Cancel caller.timer; reply = cancel_reply expired }) now.timer timer
+    → Calls caller start now (HasLeft caller (record { granted = granted; notes = notes; expired = false; stop = how }))
+    → Calls caller start (record now { timer = timer })
+    (HasLeft caller (record { granted = granted; notes = notes; expired = expired; stop = how }))
+cancels caller start now timer moment expired granted notes how has served calls =
+    let had = calls.promise in
+    record {
+      deeds = Times (Cancel caller.timer) (cancel_reply expired) ∷ calls.deeds;
+      did = then_times caller start now timer calls.deeds (Cancel caller.timer) (cancel_reply expired) calls.did served;
+      promise = record {
+        own = (subst (TimesIts caller (Cancel caller.timer)) (sym has) refl, had.own);
+        rests = had.rests;
+        between = had.between;
+        units = had.units;
+        notes = had.notes;
+        posts = had.posts;
+        expired = told_expiry expired calls.deeds caller had.expired;
+        why = λ e. stopped_timed how calls.deeds (Cancel caller.timer) (cancel_reply expired) (had.why e);
+      };
+    }
+
+-- it sleeps for the note of a tick
+stopped_rests : (how : Option Stop) (deeds : List Deed) (threshold : ℕ) (ending : Ending)
+    → HasStopped how deeds → HasStopped how (Rests threshold ending ∷ deeds)
+stopped_rests None deeds threshold ending stopped = absurd stopped
+stopped_rests (Some stop.Refused) deeds threshold ending stopped = inr stopped
+stopped_rests (Some (stop.Noted set)) deeds threshold ending stopped = inr stopped
+
+stopped_drains : (how : Option Stop) (deeds : List Deed) (set : NoteSet)
+    → HasStopped how deeds → HasStopped how (Drains set ∷ deeds)
+stopped_drains None deeds set stopped = absurd stopped
+stopped_drains (Some stop.Refused) deeds set stopped = stopped
+stopped_drains (Some (stop.Noted other)) deeds set stopped = stopped
+
+-- the note of a tick is still to come
+pub record StillAwaits (left : Left) : Type 0 where
+  pub expired : left.expired ≡ true
+  pub to_come : holds left.notes Expired ≡ false
+
+awaits : (caller : Caller) (left : Left) (deeds : List Deed) → StillAwaits left
+    → HasLeft caller left deeds → AwaitsTick deeds
+awaits caller left deeds still had =
+    record {
+      expired = had.expired ∙ still.expired;
+      to_come = ap (λ s. holds s Expired) had.notes ∙ still.to_come;
+    }
+
+pub awaits_well : (caller : Caller) (start now : Standing) (process : Process) (left : Left)
+    (threshold : ℕ) → StillAwaits left → Slept caller.rendez threshold Ending.Well now.process process
+    → Calls caller start now (HasLeft caller left)
+    → Calls caller start (record now { process = process }) (HasLeft caller left)
+awaits_well caller start now process left threshold still slept calls =
+    let had = calls.promise in
+    record {
+      deeds = Rests threshold Ending.Well ∷ calls.deeds;
+      did = then_rests caller start now process calls.deeds threshold Ending.Well calls.did slept;
+      promise = record {
+        own = (tt, had.own);
+        rests = (inr (awaits caller left calls.deeds still had), had.rests);
+        between = had.between;
+        units = had.units;
+        notes = had.notes;
+        posts = had.posts;
+        expired = had.expired;
+        why = λ e. stopped_rests left.stop calls.deeds threshold Ending.Well (had.why e);
+      };
+    }
+
+pub awaits_noted : (caller : Caller) (start now : Standing) (process : Process) (left : Left)
+    (threshold : ℕ) (set : NoteSet) → StillAwaits left
+    → Slept caller.rendez threshold (Ending.Noted set) now.process process
+    → Calls caller start now (HasLeft caller left)
+    → Calls caller start (record now { process = process })
+    (HasLeft caller (record left { notes = joined left.notes set }))
+awaits_noted caller start now process left threshold set still slept calls =
+    let had = calls.promise in
+    record {
+      deeds = Rests threshold (Ending.Noted set) ∷ calls.deeds;
+      did = then_rests caller start now process calls.deeds threshold (Ending.Noted set) calls.did slept;
+      promise = record {
+        own = (tt, had.own);
+        rests = (inr (awaits caller left calls.deeds still had), had.rests);
+        between = had.between;
+        units = had.units;
+        notes = ap (λ s. joined s set) had.notes;
+        posts = had.posts;
+        expired = had.expired;
+        why = λ e. stopped_rests left.stop calls.deeds threshold (Ending.Noted set) (had.why e);
+      };
+    }
+
+-- another process sleeps there, so it takes its notes without a sleep
+pub awaits_refused : (caller : Caller) (start now : Standing) (between process : Process)
+    (left : Left) (threshold : ℕ) (set : NoteSet) → StillAwaits left
+    → Slept caller.rendez threshold Ending.Double now.process between
+    → process ≡ steps.drains between set → Calls caller start now (HasLeft caller left)
+    → Calls caller start (record now { process = process })
+    (HasLeft caller (record left { notes = joined left.notes set }))
+awaits_refused caller start now between process left threshold set still slept drained calls =
+    let had = calls.promise in
+    record {
+      deeds = Drains set ∷ Rests threshold Ending.Double ∷ calls.deeds;
+      did = then_drains caller start (record now { process = between }) process (Rests threshold Ending.Double ∷ calls.deeds) set
+          (then_rests caller start now between calls.deeds threshold Ending.Double calls.did slept) drained;
+      promise = record {
+        own = (tt, (tt, had.own));
+        rests = (inr (awaits caller left calls.deeds still had), had.rests);
+        between = had.between;
+        units = had.units;
+        notes = ap (λ s. joined s set) had.notes;
+        posts = had.posts;
+        expired = had.expired;
+        why = λ e. stopped_drains left.stop (Rests threshold Ending.Double ∷ calls.deeds) set
+            (stopped_rests left.stop calls.deeds threshold Ending.Double (had.why e));
+      };
+    }
+
+-- ---- what it keeps
+
+and_true : (b : Bool) → (b && true) ≡ b
+and_true true = refl
+and_true false = refl
+
+and_false : (b : Bool) → (b && false) ≡ false
+and_false true = refl
+and_false false = refl
+
+pub others_are : (set notes : NoteSet)
+    → ((note : Note) → holds set note ≡ (holds notes note && not (holds (only Expired) note)))
+    → set ≡ without_expired notes
+others_are set notes kinds =
+    let interrupt = kinds Interrupt ∙ and_true notes.interrupt in
+    let hangup = kinds Hangup ∙ and_true notes.hangup in
+    let alarm = kinds Alarm ∙ and_true notes.alarm in
+    let closed = kinds ClosedPipe ∙ and_true notes.closed_pipe in
+    let expired = kinds Expired ∙ and_false notes.expired in
+    λ k. record {
+      interrupt = interrupt k;
+      hangup = hangup k;
+      alarm = alarm k;
+      closed_pipe = closed k;
+      expired = expired k;
+    }
+
+pub keeps_none : (caller : Caller) (start now : Standing) (process : Process) (left : Left) (set : NoteSet)
+    → set ≡ no_notes → set ≡ without_expired left.notes → process ≡ now.process
+    → Calls caller start now (HasLeft caller left)
+    → Calls caller start (record now { process = process }) (HasKept caller left)
+keeps_none caller start now process left set none set_is same calls =
+    let had = calls.promise in
+    record {
+      deeds = calls.deeds;
+      did = record { process = subst (λ p. Chain (Steps caller) calls.deeds start.process p) (sym same) calls.did.process; seat = calls.did.seat; timer = calls.did.timer };
+      promise = record {
+        own = had.own;
+        rests = had.rests;
+        between = had.between;
+        units = had.units;
+        notes = had.notes;
+        posts = inl (sym set_is ∙ none, had.posts);
+        expired = had.expired;
+        why = had.why;
+      };
+    }
+
+stopped_posts : (how : Option Stop) (deeds : List Deed) (pid : Pid) (set : NoteSet)
+    → HasStopped how deeds → HasStopped how (Posts pid set ∷ deeds)
+stopped_posts None deeds pid set stopped = absurd stopped
+stopped_posts (Some stop.Refused) deeds pid set stopped = stopped
+stopped_posts (Some (stop.Noted other)) deeds pid set stopped = stopped
+
+pub keeps_some : (caller : Caller) (start now : Standing) (process : Process) (left : Left)
+    (set : NoteSet) → set ≡ without_expired left.notes
+    → process ≡ steps.notes now.process caller.pid set → Calls caller start now (HasLeft caller left)
+    → Calls caller start (record now { process = process }) (HasKept caller left)
+keeps_some caller start now process left set set_is noted calls =
+    let had = calls.promise in
+    record {
+      deeds = Posts caller.pid set ∷ calls.deeds;
+      did = then_posts caller start now process calls.deeds caller.pid set calls.did noted;
+      promise = record {
+        own = (refl, had.own);
+        rests = had.rests;
+        between = had.between;
+        units = had.units;
+        notes = had.notes;
+        posts = inr (ap (λ l. set ∷ l) had.posts ∙ ap (λ s. s ∷ []) set_is);
+        expired = had.expired;
+        why = λ e. stopped_posts left.stop calls.deeds caller.pid set (had.why e);
+      };
+    }
+
+-- ---- what it answers
+
+told_of : (left : Left) (deeds : List Deed) → was_expired deeds ≡ left.expired
+    → notes_taken deeds ≡ left.notes → (left.expired ≡ true → holds left.notes Expired ≡ true)
+    → was_expired deeds ≡ true → holds (notes_taken deeds) Expired ≡ true
+told_of left deeds expired notes came is = ap (λ s. holds s Expired) notes ∙ came (sym expired ∙ is)
+
+-- with its unit
+pub acquired_in_time : (caller : Caller) (start now : Standing) (seen : TimersSeen) (moment : ℕ)
+    (left : Left) → left.granted ≡ true → (left.expired ≡ true → holds left.notes Expired ≡ true)
+    → Calls caller start now (HasKept caller left)
+    → Calls caller start now (AcquiresInTime caller seen moment (Ok tt))
+acquired_in_time caller start now seen moment left granted came calls =
+    let had = calls.promise in
+    record {
+      deeds = calls.deeds;
+      did = calls.did;
+      promise = record {
+        units = had.units ∙ ap granted_units granted;
+        reason = tt;
+        own = had.own;
+        rests = had.rests;
+        between = had.between;
+        notes = subst (λ s. IsPutBack (without_expired s) (posts_in calls.deeds)) (sym had.notes) had.posts;
+        told = told_of left calls.deeds had.expired had.notes came;
+      };
+    }
+
+-- without one, since another process sleeps in its Rendez
+pub refused_in_time : (caller : Caller) (start now : Standing) (seen : TimersSeen) (moment : ℕ)
+    (left : Left) → left.granted ≡ false → left.stop ≡ Some stop.Refused
+    → (left.expired ≡ true → holds left.notes Expired ≡ true)
+    → Calls caller start now (HasKept caller left)
+    → Calls caller start now (AcquiresInTime caller seen moment (Err fault.DoubleSleep))
+refused_in_time caller start now seen moment left granted how came calls =
+    let had = calls.promise in
+    record {
+      deeds = calls.deeds;
+      did = calls.did;
+      promise = record {
+        units = had.units ∙ ap granted_units granted;
+        reason = subst (λ s. HasStopped s calls.deeds) how (had.why granted);
+        own = had.own;
+        rests = had.rests;
+        between = had.between;
+        notes = subst (λ s. IsPutBack (without_expired s) (posts_in calls.deeds)) (sym had.notes) had.posts;
+        told = told_of left calls.deeds had.expired had.notes came;
+      };
+    }
+
+-- without one, by a tick
+pub timed_out : (caller : Caller) (start now : Standing) (seen : TimersSeen) (moment : ℕ) (left : Left)
+    → left.granted ≡ false → left.expired ≡ true → without_expired left.notes ≡ no_notes
+    → (left.expired ≡ true → holds left.notes Expired ≡ true)
+    → WasTaken seen.opening caller.timer moment seen.history
+    → Calls caller start now (HasLeft caller left)
+    → Calls caller start now (AcquiresInTime caller seen moment (Err fault.TimedOut))
+timed_out caller start now seen moment left granted expired alone came taken calls =
+    let had = calls.promise in
+    record {
+      deeds = calls.deeds;
+      did = calls.did;
+      promise = record {
+        units = had.units ∙ ap granted_units granted;
+        reason = record {
+          taken = taken;
+          told = had.expired ∙ expired;
+          alone = ap without_expired had.notes ∙ alone;
+        };
+        own = had.own;
+        rests = had.rests;
+        between = had.between;
+        notes = inl (ap without_expired had.notes ∙ alone, had.posts);
+        told = told_of left calls.deeds had.expired had.notes came;
+      };
+    }
+
+-- without one, by notes
+pub interrupted_in_time : (caller : Caller) (start now : Standing) (seen : TimersSeen) (moment : ℕ)
+    (left : Left) (set its : NoteSet) → left.granted ≡ false → left.stop ≡ Some (stop.Noted its)
+    → set ≡ without_expired left.notes → (left.expired ≡ true → holds left.notes Expired ≡ true)
+    → Calls caller start now (HasLeft caller left)
+    → Calls caller start now (AcquiresInTime caller seen moment (Err (fault.Interrupted set)))
+interrupted_in_time caller start now seen moment left set its granted how set_is came calls =
+    let had = calls.promise in
+    record {
+      deeds = calls.deeds;
+      did = calls.did;
+      promise = record {
+        units = had.units ∙ ap granted_units granted;
+        reason = subst (λ s. HasStopped s calls.deeds) how (had.why granted);
+        own = had.own;
+        rests = had.rests;
+        between = had.between;
+        notes = (set_is ∙ sym (ap without_expired had.notes), had.posts);
+        told = told_of left calls.deeds had.expired had.notes came;
+      };
+    }
+
+pub in_time_at_once : (caller : Caller) (start : Standing) (seat : SemaView) (seen : TimersSeen) (moment : ℕ)
+    → Serves (record { by = caller.number; request = Acquire caller.number; reply = reply.Acquired }) start.seat seat
+    → Calls caller start (record start { seat = seat }) (AcquiresInTime caller seen moment (Ok tt))
+in_time_at_once caller start seat seen moment served =
+    record {
+      deeds = Asks (Acquire caller.number) reply.Acquired ∷ [];
+      did = then_asks caller start start seat [] (Acquire caller.number) reply.Acquired
+          (record { process = refl; seat = refl; timer = refl }) served;
+      promise = record {
+        units = refl;
+        reason = tt;
+        own = (refl, tt);
+        rests = tt;
+        between = tt;
+        notes = inl (refl, refl);
+        told = λ e. cc;
+      };
+    }
+
+pub in_time_worn : (caller : Caller) (start : Standing) (seat : SemaView) (seen : TimersSeen) (moment : ℕ)
+    → Serves (record { by = caller.number; request = Acquire caller.number; reply = reply.Worn }) start.seat seat
+    → Calls caller start (record start { seat = seat }) (AcquiresInTime caller seen moment (Err fault.Worn))
+in_time_worn caller start seat seen moment served =
+    record {
+      deeds = Asks (Acquire caller.number) reply.Worn ∷ [];
+      did = then_asks caller start start seat [] (Acquire caller.number) reply.Worn
+          (record { process = refl; seat = refl; timer = refl }) served;
+      promise = record {
+        units = refl;
+        reason = refl;
+        own = (refl, tt);
+        rests = tt;
+        between = tt;
+        notes = inl (refl, refl);
+        told = λ e. cc;
+      };
+    }
+
+-- ---- which tick took its timer
+
+by_others : (number : ℕ) (mine : List TimerEntry) (entries : List TimerEntry)
+    → AreByOthers server (record { number = number; mine = mine } ∷ []) entries
+    → AreByOthersThan number entries
+by_others number mine [] others = tt
+by_others number mine (entry ∷ entries) others =
+    (apart others.0, by_others number mine entries others.1)
+  where
+    yes_is : eqb number number ≡ true → (eqb number number || false) ≡ false → ⊥
+    yes_is e is = let clash : true ≡ false = sym (ap (λ b. b || false) e) ∙ is in cc
+
+    by_test : ((eqb number number ≡ true) × (number ≡ number)) ⊎ ((eqb number number ≡ false) × (number ≢ number))
+        → (eqb number number || false) ≡ false → ⊥
+    by_test (inl here) is = yes_is here.0 is
+    by_test (inr there) is = there.1 refl
+
+    apart : (eqb number entry.by || false) ≡ false → entry.by ≢ number
+    apart is same = by_test (eqb_tells number number) (ap (λ n. eqb number n || false) (sym same) ∙ is)
+
+pub record Cancels (opening : List Timer) (procs number moment : ℕ) (pid : Pid)
+    (before set after : TimerView) : Type 0 where
+  pub opening_is : opening ≡ replicate procs Unset
+  pub within : number < procs
+  pub mine : List TimerEntry
+  pub shares_are : set.account.shares ≡ record { number = number; mine = mine } ∷ []
+  pub added : Serves (record { by = number; request = Add number pid moment; reply = told.Added }) before set
+  pub cancelled : Serves (record { by = number; request = Cancel number; reply = told.Expired }) set after
+  pub knows : KnowsHistory timer_meaning opening procs after.account
+
+pub tick_took : (opening : List Timer) (procs number moment : ℕ) (pid : Pid)
+    (before set after : TimerView) → Cancels opening procs number moment pid before set after
+    → WasTaken opening number moment after.account.seen
+tick_took opening procs number moment pid before set after h =
+    subst (WasTaken opening number moment) (sym seen_is)
+    (was_taken opening number moment pid since past added cancelled (record {
+      legal = legal;
+      within = subst (λ n. number < n) (sym size) h.within;
+      added_is = refl;
+      added_told = refl;
+      cancelled_is = refl;
+      cancelled_told = refl;
+      others = by_others number h.mine since
+          (subst (λ shares. AreByOthers server shares since) h.shares_are h.cancelled.account.looked.by_others);
+    }))
+  where
+    since : List TimerEntry
+    since = h.cancelled.account.looked.since
+
+    past : List TimerEntry
+    past = h.added.account.past
+
+    added : TimerEntry
+    added = record { by = number; request = Add number pid moment; reply = told.Added }
+
+    cancelled : TimerEntry
+    cancelled = record { by = number; request = Cancel number; reply = told.Expired }
+
+    seen_is : after.account.seen ≡ cancelled ∷ (since ++ (added ∷ past))
+    seen_is =
+        ap (λ a. a.seen) h.cancelled.account.new_is
+        ∙ ap (λ l. cancelled ∷ l)
+        (h.cancelled.account.looked.history_is ∙ ap (λ l. since ++ l) (ap (λ a. a.seen) h.added.account.new_is))
+
+    legal : IsLegal timer_meaning opening (cancelled ∷ (since ++ (added ∷ past)))
+    legal = subst (IsLegal timer_meaning opening) seen_is h.knows.history.legal
+
+    behind : (entries base : List TimerEntry) → IsLegal timer_meaning opening (entries ++ base) → IsLegal timer_meaning opening base
+    behind [] base is = is
+    behind (entry ∷ entries) base is = behind entries base is.1
+
+    size : length (state_after timer_meaning opening past) ≡ procs
+    size =
+        ap (λ s. length (state_after timer_meaning s past)) h.opening_is
+        ∙ (own_timer procs number past
+        (subst (λ s. IsLegal timer_meaning s past) h.opening_is (behind since (added ∷ past) legal.1).1)).size
+
+-- the call of a seat at timers, as that of its caller
+pub timed_as : (call : ℕ → TimerCall) (answered : TimerReply) (number its : ℕ)
+    (now old new : TimerView) → number ≡ its → now ≡ old
+    → Serves (record { by = its; request = call its; reply = answered }) old new
+    → Serves (record { by = number; request = call number; reply = answered }) now new
+timed_as call answered number its now old new number_is now_is served =
+    subst (λ n. Serves (record { by = n; request = call n; reply = answered }) now new) (sym number_is)
+    (subst (λ v. Serves (record { by = its; request = call its; reply = answered }) v new) (sym now_is)
+    served)

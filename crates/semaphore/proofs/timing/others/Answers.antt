@@ -1,0 +1,11 @@
+use Rattle.std.proofs.Common.{◌≡◌, Bool, ◌&&◌, not, ap, ◌∙◌}
+use Rattle.sync_base.specs.declared.note.Note.TheVariants.{Expired}
+use Rattle.sync_base.specs.NoteSet.{holds, only}
+use Rattle.semaphore.proofs.WaitLemmas.{others_are}
+use Rattle.semaphore.proofs.timing.others.Goals as goal
+
+pub returns : goal.returns
+returns c =
+    others_are c.without.result c.args.notes (λ note.
+    c.without.ensures note
+    ∙ ap (λ set. holds c.args.notes note && not (holds set note)) c.of.ensures.value)

@@ -1,0 +1,73 @@
+//! How a process adds units, and wakes who was granted one. Before this: `acquiring`.
+//! After it: `timers`.
+ghost use Rattle.std.specs.Prelude.{◌≡◌, List};
+ghost use Rattle.kernel_lock.specs.Seats.{number_of};
+ghost use Rattle.semaphore.specs.Deeds.{Calls, Caller, Deed, Did, Standing};
+ghost use Rattle.semaphore.specs.Releasing.{HasWoken, IsWaking, Released, Releases};
+ghost use Rattle.semaphore.specs.Seats.{HasRow, IsSemaSeatOf, caller_at, goes_on, stands};
+
+use crate::sema::{Sema, SemaSeat};
+use sleep_wakeup::Proc;
+use std::sync::Wait;
+use sync_base::{Fault, RendezId};
+
+impl Sema {
+    /// Adds so many units, and answers the value after the addition, before units pass to those
+    /// who wait, the first to come first. Each who was granted a unit is woken. After semrelease
+    /// in semacquire(2); what it answers is the library's own.
+    ///
+    /// Refuses as `BadArg`, and adds nothing, where the value would be above 2,147,483,647.
+    /// It waits for the semaphore's lock. Takes no memory.
+    pub fn semrelease<R: Wait>(
+        &self,
+        rt: &R,
+        proc: &mut Proc<'_>,
+        seat: &mut SemaSeat,
+        count: u32,
+    ) -> Result<u32, Fault>
+        requires seat { IsSemaSeatOf self.now seat.old }
+        requires row { HasRow self.now proc.old.words }
+        ensures seat { IsSemaSeatOf self.now seat.new }
+        ensures number { number_of seat.new.seat ≡ number_of seat.old.seat }
+        ensures words { proc.new.words ≡ proc.old.words }
+        ensures called { Calls (caller_at self.now proc.old seat.old)
+            (stands proc.old seat.old) (stands proc.new seat.new)
+            (Releases self.now.first count result) }
+    {
+        match self.release(rt, seat, count) {
+            None => Err(Fault::BadArg),
+            Some(sum) => {
+                self.wake_granted(rt, proc, seat);
+                Ok(sum)
+            }
+        }
+    }
+
+    // Wakes each seat that was granted a unit and was not woken since.
+    fn wake_granted<R: Wait>(&self, rt: &R, proc: &mut Proc<'_>, seat: &mut SemaSeat)
+        requires seat { IsSemaSeatOf self.now seat.old }
+        requires row { HasRow self.now proc.old.words }
+        ensures seat { IsSemaSeatOf self.now seat.new }
+        ensures number { number_of seat.new.seat ≡ number_of seat.old.seat }
+        ensures words { proc.new.words ≡ proc.old.words }
+        ensures woken { (caller : Caller) (start : Standing) (past : List Deed) (released : Released) →
+            caller.number ≡ number_of seat.old.seat →
+            Did caller past start (goes_on proc.old seat.old start) →
+            IsWaking self.now.first released past →
+            Calls caller start (goes_on proc.new seat.new start)
+            (HasWoken self.now.first released) }
+    {
+        for _ in rt.forever() {
+            match self.next_wake(rt, seat) {
+                None => return,
+                Some(grant) => {
+                    match proc.wakeup(RendezId(self.first + grant.seat), grant.grants) {
+                        Ok(_) => {}
+                        Err(_) => unreachable!(),
+                    }
+                }
+            }
+        }
+        unreachable!()
+    }
+}
