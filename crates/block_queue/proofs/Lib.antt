@@ -16,3 +16,4 @@ pub mod GatherLemmas
 pub mod ObjectLemmas
 pub mod CrowdLemmas
 pub mod WorkedQueue
+pub mod WorkedObject

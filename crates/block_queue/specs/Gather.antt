@@ -37,8 +37,8 @@ with_blocks number (write ∷ writes) history =
 -- the entries of these seats in the history are all theirs
 abbrev pub AreTheirs : List Entry → List PutSeat → Type 0
 AreTheirs history puts =
-    AllByRecursion (λ seat. AllByRecursion (HasItsEntries seat_of history) (put_account seat).shares)
-    puts
+    AllByRecursion
+    (λ seat. AllByRecursion (HasItsEntries seat_of history) (put_account seat).shares) puts
 
 -- what these seats have seen are pasts of the history
 abbrev pub AreTheirPasts : List Entry → List PutSeat → Type 0
@@ -109,7 +109,8 @@ pub record Empties (key : Key) (left : ℕ) (old new : Account Entry) (blocks : 
 pub record Gathers (key : Key) (take : TakeSeat) (puts : List PutSeat) (gathered : Gathered) :
     Type 0 where
   pub history : List Entry
-  pub legal : IsHistory (queue_meaning key.first) (opening_state key.limit) (key.writers + 1) history
+  pub legal : IsHistory (queue_meaning key.first) (opening_state key.limit) (key.writers + 1)
+      history
   pub past : IsPast (take_account take).seen history
   pub mine : AllByRecursion (HasItsEntries seat_of history) (take_account take).shares
   pub puts_past : AreTheirPasts history puts

@@ -73,7 +73,7 @@ pub record IsBlock (first : ℕ) (s : QueueState) (write : Write) (number : ℕ)
   pub next : next_write s.pipe ≡ Some write
   pub number_is : number ≡ begun_number first s.pipe + 1
 
--- Own. The write with this number was accepted, and its put has not returned: it does not stand yet.
+-- Own. The write with this number was accepted, and its put has not returned: it does not stand.
 pub record IsUnready (s : QueueState) (number : ℕ) : Type 0 where
   pub write : Write
   pub next : next_write s.pipe ≡ Some write

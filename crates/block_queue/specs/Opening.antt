@@ -1,8 +1,9 @@
 -- What a new queue is, and its seats.
-use Rattle.std.specs.Prelude.{◌≡◌, ◌⊎◌, ℕ, ◌+◌, ◌-◌, ◌<◌, List, [], ◌∷◌, map, length, slice_get, Some}
+use Rattle.std.specs.Prelude.{◌≡◌, ◌⊎◌, ℕ, ◌+◌, ◌-◌, ◌<◌, Some}
+use Rattle.std.specs.Prelude.{List, [], ◌∷◌, map, length, slice_get}
 use Rattle.histories.specs.declared.account.Account.{Account}
 use Rattle.histories.specs.Account.{unused_share, numbers_from}
-use Rattle.sync_base.specs.declared.limits.TheConstants.{MAX_PIPE_LIMIT, MAX_WRITERS}
+use Rattle.sync_base.specs.declared.limits.TheConstants.{LAST_WRITE, MAX_PIPE_LIMIT, MAX_WRITERS}
 use Rattle.block_queue.specs.declared.entry.Entry.{Entry}
 use Rattle.block_queue.specs.declared.opening.Opened.{Opened}
 use Rattle.block_queue.specs.declared.queue.Queue.{Queue}
@@ -16,6 +17,11 @@ use Rattle.block_queue.specs.Seats.{IsPutSeatOf, IsTakeSeatOf, key_of, put_accou
 abbrev pub IsBadQueue : ℕ → ℕ → Type 0
 IsBadQueue limit writers =
     ((limit ≡ 0) ⊎ (MAX_PIPE_LIMIT < limit)) ⊎ ((writers ≡ 0) ⊎ (MAX_WRITERS < writers))
+
+-- the sizes may be, and there is no first number above this one
+pub record IsBadFirst (limit writers first : ℕ) : Type 0 where
+  pub sizes : IsBadQueue limit writers → ⊥
+  pub above : LAST_WRITE < first
 
 -- a seat with this number that has made no call and seen nothing
 abbrev pub new_account : ℕ → Account Entry

@@ -2,7 +2,8 @@
 -- Writes are counted from 0: write c is the one with the number first + c + 1. Own; like the ring
 -- of Vyukov's bounded queue, but for its numbering, which tells stored and free apart at one place.
 use Rattle.std.specs.Prelude.{◌≡◌, ◌≢◌, ◌⊎◌, ◌+◌, ◌*◌, ◌/◌, ◌%◌, ◌<◌, ◌≤◌, ℕ, Bool, false}
-use Rattle.std.specs.Prelude.{if◌then◌else◌, List, length, slice_get, slice_index, Option, Some, None}
+use Rattle.std.specs.Prelude.{if◌then◌else◌, Option, Some, None}
+use Rattle.std.specs.Prelude.{List, length, slice_get, slice_index}
 use mathlib.Core.Option.{some}
 use mathlib.Core.Option as maybe
 use lib.ListN.{get_elem?}

@@ -39,7 +39,8 @@ abbrev pub saw_hangup : Key → Account Entry → Bool
 saw_hangup key account = (queue_after key account.seen).pipe.hung
 
 -- the seat made this entry, and stands so now
-pub record HasEntered (key : Key) (made : Entry) (stage : Stage) (before after : View) : Type 0 where
+pub record HasEntered (key : Key) (made : Entry) (stage : Stage) (before after : View) :
+    Type 0 where
   pub enters : Enters key made before.account after.account
   pub stage_is : after.stage ≡ stage
   pub taken_is : after.taken ≡ before.taken

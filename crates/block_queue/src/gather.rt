@@ -100,7 +100,8 @@ impl Queue {
 
     /// Makes one seat of the reader's and a writer's.
     // Step Join: join of two seats, a load of the tail.
-    // Seat: Free, with the numbers of both and the longer of what they had seen. The other is spent.
+    // Seat: Free, with the numbers of both and the longer of what they had seen, and it keeps both.
+    // The other is spent.
     // Keeps the rule: both had seen a past of one history, and no put of either was under way.
     fn join(&self, place: &mut Place, other: Place)
         requires place { IsFreePlaceOf self.now place.old 0 }

@@ -1,8 +1,8 @@
 //! A bounded queue of blocks with hangup, which many writers and one reader share: as a sequential
 //! object, and as a ring without a lock.
-//! Read `entry`, `answers`, `queue_object`; then `places`, `view`, `rule`, `plays`, `seats`, `queue`,
-//! `opening`, `put_steps`, `put`, `take_steps`, `take`, and `gather`. What holds of every sequential
-//! queue stands in `laws`.
+//! Read `entry`, `answers`, `queue_object` with `laws`, what holds of it; then `places`, `view`,
+//! `rule`, `plays`, `seats`, `queue`, `opening`, `put_steps`, `put`, `take_steps`, `take`, and
+//! `gather`.
 #![tactic(auto)]
 
 pub mod answers;

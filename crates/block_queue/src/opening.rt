@@ -1,5 +1,6 @@
 //! How a queue is made, with its seats. Before this: `queue`. After it: `put_steps`.
-ghost use Rattle.std.specs.Prelude.{◌≡◌, ◌⊎◌, ◌↔◌, ◌+◌, ◌<◌, ◌≤◌, [], replicate, IfOk, IfErr, IsErrOf};
+ghost use Rattle.std.specs.Prelude.{◌≡◌, ◌⊎◌, ◌↔◌, ◌+◌, ◌<◌, ◌≤◌, [], replicate};
+ghost use Rattle.std.specs.Prelude.{IfOk, IfErr, IsErrOf};
 ghost use Rattle.std.specs.Vec.{vec_capacity};
 ghost use Rattle.sync_base.specs.declared.fault.Fault.TheVariants.{BadSize, BadArg, Memory};
 ghost use Rattle.sync_base.specs.declared.limits.TheConstants.{
@@ -8,7 +9,13 @@ ghost use Rattle.sync_base.specs.declared.limits.TheConstants.{
   MAX_WRITERS,
 };
 ghost use Rattle.block_queue.specs.Gather.{AreAllSeats};
-ghost use Rattle.block_queue.specs.Opening.{Opens, AreNewPutSeats, IsBadQueue, handing_view};
+ghost use Rattle.block_queue.specs.Opening.{
+  Opens,
+  AreNewPutSeats,
+  IsBadQueue,
+  IsBadFirst,
+  handing_view,
+};
 ghost use Rattle.block_queue.specs.Seats.{IsSamePlace};
 ghost use Rattle.block_queue.specs.Steps.{HasToHand, keeper_view, handed_view};
 
@@ -48,7 +55,8 @@ impl Queue {
         ensures faults { IfErr result (λ fault. (fault ≡ BadSize) ⊎ (fault ≡ Memory)) }
 
         // Otherwise a queue in which nothing was called.
-        ensures opened { IfOk result (Opens (record { limit = limit; first = 0; writers = writers })) }
+        ensures opened { IfOk result
+            (Opens (record { limit = limit; first = 0; writers = writers })) }
         ensures all { IfOk result (λ opened. AreAllSeats opened.take opened.puts.items) }
     {
         Queue::new_from(alloc, limit, writers, 0)
@@ -62,7 +70,7 @@ impl Queue {
     pub fn new_from(alloc: Global, limit: u64, writers: u64, first: u64) -> Result<Opened, Fault>
         // Refused first, in this order.
         ensures bad_size { IsErrOf result BadSize ↔ IsBadQueue limit writers }
-        ensures bad_arg { IsErrOf result BadArg → LAST_WRITE < first }
+        ensures bad_arg { IsErrOf result BadArg ↔ IsBadFirst limit writers first }
         ensures faults { IfErr result (λ fault.
             (fault ≡ BadSize) ⊎ ((fault ≡ BadArg) ⊎ (fault ≡ Memory))) }
 

@@ -30,7 +30,8 @@ impl Queue {
     // Keeps the rule: the history gains at most a refusal, which changes no word.
     pub(crate) fn put_tail<M: Asks>(&self, seat: &mut Place, _writer: u64, _block: &Piece) -> u64
         requires seat { IsPlaceOf self.now seat.old (_writer + 1) }
-        requires asked { M.asked ≡ asks self.now 0 (record { writer = _writer; bytes = _block.now }) }
+        requires asked { M.asked ≡ asks self.now 0
+            (record { writer = _writer; bytes = _block.now }) }
         requires stage { seat.old.me.0.stage ≡ Free }
         ensures seat { IsSamePlace seat.old seat.new }
         ensures told { HasPutTail M.asked seat.old.me result seat.new.me }
@@ -50,7 +51,8 @@ impl Queue {
         count: u64,
     ) -> u64
         requires seat { IsPlaceOf self.now seat.old (_writer + 1) }
-        requires asked { M.asked ≡ asks self.now count (record { writer = _writer; bytes = _block.now }) }
+        requires asked { M.asked ≡ asks self.now count
+            (record { writer = _writer; bytes = _block.now }) }
         requires stage { seat.old.me.0.stage ≡ Counted count }
         ensures seat { IsSamePlace seat.old seat.new }
         ensures told { HasPutSequence M.asked seat.old.me result seat.new.me }
@@ -72,7 +74,8 @@ impl Queue {
         count: u64,
     ) -> u64
         requires seat { IsPlaceOf self.now seat.old (_writer + 1) }
-        requires asked { M.asked ≡ asks self.now count (record { writer = _writer; bytes = _block.now }) }
+        requires asked { M.asked ≡ asks self.now count
+            (record { writer = _writer; bytes = _block.now }) }
         requires stage { seat.old.me.0.stage ≡ Placed count }
         requires small { count < LAST_WRITE }
         ensures seat { IsSamePlace seat.old seat.new }
@@ -89,7 +92,8 @@ impl Queue {
         requires seat { seat.old.table_id ≡ self.now.table.shared.table_id }
         requires empty { seat.old.me.1 ≡ (place_of self.now.key.limit count, None) ∷ [] }
         ensures seat { IsSamePlace seat.old seat.new }
-        ensures moved { seat.new.me ≡ (seat.old.me.0, (place_of self.now.key.limit count, Some block) ∷ []) }
+        ensures moved { seat.new.me ≡
+            (seat.old.me.0, (place_of self.now.key.limit count, Some block) ∷ []) }
     {
         let slot = place(self.key.limit, count);
         match self.table.shared.exchange(seat, slot, Some(block)) {
@@ -110,10 +114,14 @@ impl Queue {
         count: u64,
     )
         requires seat { IsPlaceOf self.now seat.old (_writer + 1) }
-        requires asked { M.asked ≡ asks self.now count (record { writer = _writer; bytes = _block.now.value }) }
+        requires asked { M.asked ≡ asks self.now count
+            (record { writer = _writer; bytes = _block.now.value }) }
         requires stage { seat.old.me.0.stage ≡ Storing count _writer _block.now.value }
         requires small { count < LAST_WRITE }
-        requires slot { seat.old.me.1 ≡ (place_of self.now.key.limit count, Some (record { writer = _writer; bytes = _block.now.value })) ∷ [] }
+        requires slot { seat.old.me.1 ≡ (
+          place_of self.now.key.limit count,
+          Some (record { writer = _writer; bytes = _block.now.value }),
+        ) ∷ [] }
         ensures seat { IsSamePlace seat.old seat.new }
         ensures told { HasStored M.asked seat.old.me seat.new.me }
     {

@@ -45,8 +45,10 @@ impl Queue {
         ensures same { IsSameSeat (take_account seat.old) (take_account seat.new) }
 
         // Its entry ends what the seat has seen, and stands in one legal history.
-        ensures answer { Takes (key_of self.now) (take_account seat.old) (take_account seat.new) result }
-        ensures fresh { IsFreshTake (key_of self.now) (take_account seat.old) (take_account seat.new) result }
+        ensures answer { Takes (key_of self.now)
+            (take_account seat.old) (take_account seat.new) result }
+        ensures fresh { IsFreshTake (key_of self.now)
+            (take_account seat.old) (take_account seat.new) result }
     {
         self.take_probed(seat, &mut NoProbe)
     }
@@ -58,8 +60,10 @@ impl Queue {
         ensures same { IsSameSeat (take_account seat.old) (take_account seat.new) }
 
         // Its entry ends what the seat has seen, and stands in one legal history.
-        ensures answer { Takes (key_of self.now) (take_account seat.old) (take_account seat.new) result }
-        ensures fresh { IsFreshTake (key_of self.now) (take_account seat.old) (take_account seat.new) result }
+        ensures answer { Takes (key_of self.now)
+            (take_account seat.old) (take_account seat.new) result }
+        ensures fresh { IsFreshTake (key_of self.now)
+            (take_account seat.old) (take_account seat.new) result }
     {
         let mut place = seat.stand();
         let answer = self.take_next(&mut place, seat.taken, probe);
@@ -78,8 +82,10 @@ impl Queue {
         requires place { IsFreePlaceOf self.now place.old 0 }
         requires taken { taken ≡ place.old.me.0.taken }
         ensures place { IsFreePlaceOf self.now place.new 0 }
-        ensures answer { Takes (key_of self.now) place.old.me.0.account place.new.me.0.account result }
-        ensures fresh { IsFreshTake (key_of self.now) place.old.me.0.account place.new.me.0.account result }
+        ensures answer { Takes (key_of self.now)
+            place.old.me.0.account place.new.me.0.account result }
+        ensures fresh { IsFreshTake (key_of self.now)
+            place.old.me.0.account place.new.me.0.account result }
         ensures counted { place.new.me.0.taken ≡ taken + blocks_in result }
         ensures small { taken < 4611686018427387904 }
     {

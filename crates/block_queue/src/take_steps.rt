@@ -49,10 +49,12 @@ impl Queue {
     // Exchange of the slot, which is the seat's, as plain memory. Seat: as it was.
     pub(crate) fn move_out(&self, seat: &mut Place, taken: u64) -> StoredBlock
         requires seat { seat.old.table_id ≡ self.now.table.shared.table_id }
-        requires full { (write : _) × (seat.old.me.1 ≡ (place_of self.now.key.limit taken, Some write) ∷ []) }
+        requires full { (write : _) ×
+            (seat.old.me.1 ≡ (place_of self.now.key.limit taken, Some write) ∷ []) }
         ensures seat { IsSamePlace seat.old seat.new }
         ensures value { seat.old.me.1 ≡ (place_of self.now.key.limit taken, Some result) ∷ [] }
-        ensures moved { seat.new.me ≡ (seat.old.me.0, (place_of self.now.key.limit taken, None) ∷ []) }
+        ensures moved { seat.new.me ≡
+            (seat.old.me.0, (place_of self.now.key.limit taken, None) ∷ []) }
     {
         let slot = place(self.key.limit, taken);
         self.table.shared.exchange(seat, slot, None).unwrap()

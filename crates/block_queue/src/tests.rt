@@ -7,6 +7,7 @@ ghost use Rattle.sync_base.specs.declared.limits.TheConstants.{LAST_WRITE};
 
 use crate::{Gathered, Opened, PutAnswer, Queue, StoredBlock, TakeAnswer};
 use std::alloc::Global;
+use std::sync::Wait;
 use std::test::Fail;
 use sync_base::limits::LAST_WRITE;
 use sync_base::{Fault, Piece};
@@ -147,10 +148,10 @@ fn the_largest_sizes_are_taken(rt: HostRuntime) -> Result<(), Fail> {
     Ok(())
 }
 
-// A put into an empty queue of limit 2, with a hangup of the reader at a point. Answers the put, and
-// the two takes behind it.
+// A put into an empty queue of limit 2, with a hangup of the reader at a point. What it and the two
+// takes behind it were answered.
 fn put_with_hangup(
-    rt: &impl std::sync::Wait,
+    rt: &impl Wait,
     alloc: Global,
     point: u64,
 ) -> Result<(PutAnswer, TakeAnswer, TakeAnswer), Fault> {

@@ -13,7 +13,8 @@ use sync_base::{Fault, Piece};
 // A new queue, with what it takes to gather its seats again.
 fn opened_once(alloc: Global, limit: u64, writers: u64, first: u64) -> Result<Opened, Fault>
     ensures take { IfOk result (λ opened. IsTakeSeatOf opened.queue opened.take) }
-    ensures gave { IfOk result (λ opened. (take_account opened.take).gave ≡ numbers_from 1 writers) }
+    ensures gave { IfOk result (λ opened.
+        (take_account opened.take).gave ≡ numbers_from 1 writers) }
     ensures puts { IfOk result (λ opened.
         AllByRecursion (IsPutSeatOf opened.queue) opened.puts.items) }
     ensures none { IfOk result (λ opened.
@@ -30,7 +31,8 @@ fn opened_once(alloc: Global, limit: u64, writers: u64, first: u64) -> Result<Op
 /// The same. Where memory is refused the queue is asked for again.
 pub fn opened(alloc: Global, limit: u64, writers: u64, first: u64) -> Result<Opened, Fault>
     ensures take { IfOk result (λ opened. IsTakeSeatOf opened.queue opened.take) }
-    ensures gave { IfOk result (λ opened. (take_account opened.take).gave ≡ numbers_from 1 writers) }
+    ensures gave { IfOk result (λ opened.
+        (take_account opened.take).gave ≡ numbers_from 1 writers) }
     ensures puts { IfOk result (λ opened.
         AllByRecursion (IsPutSeatOf opened.queue) opened.puts.items) }
     ensures none { IfOk result (λ opened.
