@@ -72,7 +72,7 @@ fn wakes(mut proc: Proc, number: u64) -> Work {
         // A scattered choice, the same in each run.
         let noted = level.wrapping_mul(2_654_435_761).wrapping_add(number) % 64;
         if noted < SLEEPERS {
-            match proc.postnote(Pid(noted + 1), NoteSet::of(Note::Alarm)) {
+            match proc.postnote(Pid(WAKERS + noted + 1), NoteSet::of(Note::Alarm)) {
                 Ok(()) => work.notes = work.notes.saturating_add(1),
                 Err(_) => work.refused = work.refused.saturating_add(1),
             }
@@ -83,10 +83,10 @@ fn wakes(mut proc: Proc, number: u64) -> Work {
 
 fn make_work<R: Wait>(rt: &R, job: Job) -> Work {
     let Job { proc, number } = job;
-    if number < SLEEPERS {
-        sleeps(rt, proc, RendezId(number))
-    } else {
+    if number < WAKERS {
         wakes(proc, number)
+    } else {
+        sleeps(rt, proc, RendezId(number - WAKERS))
     }
 }
 
@@ -94,6 +94,7 @@ fn gather<R: Threads + Wait + Sync + Abort>(rt: &R, alloc: Global) -> Result<(),
     let all = SLEEPERS + WAKERS;
     let Opened { kernel, start } = open(rt, alloc, all + 1, SLEEPERS);
     let mut started = kernel.start(start);
+    // The wakers begin first: where a thread can't be started, those that run still end.
     let mut jobs = Vec::new(alloc);
     for number in 0..all {
         let proc = forked(rt, &mut started);
@@ -102,10 +103,10 @@ fn gather<R: Threads + Wait + Sync + Abort>(rt: &R, alloc: Global) -> Result<(),
     let done = thread::map_vec(rt, jobs, &|job: Job| -> Work { make_work(rt, job) })?;
     for (number, work) in done.iter().enumerate() {
         assert_eq!(rt; work.refused, 0, "process {number}");
-        if (number as u64) < SLEEPERS {
-            assert_eq!(rt; work.good, LEVELS, "sleeper {number}");
-        } else {
+        if (number as u64) < WAKERS {
             assert_eq!(rt; work.good, LEVELS * SLEEPERS, "waker {number}");
+        } else {
+            assert_eq!(rt; work.good, LEVELS, "sleeper {number}");
         }
     }
     Ok(())
