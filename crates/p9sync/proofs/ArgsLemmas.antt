@@ -35,6 +35,8 @@ use Rattle.p9sync.specs.declared.args.Task.{Task}
 use Rattle.p9sync.specs.declared.args.Task.TheVariants.{Pipe, Replay, Threads}
 use Rattle.p9sync.specs.declared.opts.ThreadsOpts.{ThreadsOpts}
 use Rattle.p9sync.specs.declared.opts.Report.{Report}
+use Rattle.p9sync.specs.Device.{AppendsFront}
+use Rattle.p9sync.specs.ReportText.{report_line}
 use Rattle.p9sync.specs.Threads.{IsReportOf}
 use Rattle.p9sync.specs.Lines.{is_word}
 use Rattle.p9sync.specs.declared.args.TheConstants.{FAULT}
@@ -493,28 +495,29 @@ abbrev top_number : ℕ
 top_number = 2 ^ 64 - 1
 
 -- a text that was read as a number is one
-module _ (E : Type 0) where
-  number_read : (text : Text) (r : Option ℕ)
-      → ReadsOne {T = ℕ} {E = E} (λ t v. ParsesUnsigned 64 10 t v) text r → r ≡ number_asked text
-  number_read text (Some v) (numeral, is) =
+module _ (E : Type 0) (gives : Text → Result ℕ E → Type 0)
+    (parses : (text : Text) (r : Result ℕ E) → gives text r → ParsesUnsigned 64 10 text r) where
+  number_read : (text : Text) (r : Option ℕ) → ReadsOne {T = ℕ} {E = E} gives text r
+      → r ≡ number_asked text
+  number_read text (Some v) given =
+      let numeral = parses text (Ok v) given in
       let passes : is_unsigned_in 0 top_number text ≡ true =
       Accepts-accepts false (vp.Unsigned 0 top_number) text
-      (numeral.0, numeral.1, omega arith, omega (arith, numeral.1)) in
-      rw passes (ap Some is)
-  number_read text None (e, refused) = by_test (is_unsigned_in 0 top_number text) refl
+      (numeral.0.0, numeral.0.1, omega arith, omega (arith, numeral.0.1)) in
+      rw passes (ap Some numeral.1)
+  number_read text None given = by_test (is_unsigned_in 0 top_number text) refl
     where
       by_test : (passes : Bool) → is_unsigned_in 0 top_number text ≡ passes
           → None ≡ number_asked text
       by_test true is =
           let accepted = accepts-Accepts false (vp.Unsigned 0 top_number) text is in
-          absurd (refused (accepted.0, accepted.1))
+          absurd (parses text (Err given.0) given.1 (accepted.0, accepted.1))
       by_test false is = rw is refl
 
   -- so what an option was given is read as the definition says
   pub option_read : (given : Option Text) (r : Option ℕ)
       → (given ≡ None → r ≡ None)
-      → ((text : Text) → given ≡ Some text
-          → ReadsOne {T = ℕ} {E = E} (λ t v. ParsesUnsigned 64 10 t v) text r)
+      → ((text : Text) → given ≡ Some text → ReadsOne {T = ℕ} {E = E} gives text r)
       → r ≡ option_and_then number_asked given
   option_read None r none read = none refl
   option_read (Some text) r none read = number_read text r (read text refl)
@@ -555,3 +558,8 @@ ends_for_memory (Some (Threads opts)) input held status is = record {
   is_report = no_report opts;
   ended = inr (is, (0, appends_nothing held));
 }
+
+-- before a report is written nothing is
+pub unreported : (opts : ThreadsOpts) (held : Option (List ℕ))
+    → (report : Report) × IsReportOf opts report × AppendsFront held held (report_line report)
+unreported opts held = (nothing_read opts, no_report opts, (0, appends_nothing held))
