@@ -5,6 +5,7 @@ use Rattle.std.specs.Str.{bytes_eq, chars}
 use Rattle.std.specs.Bool.{Decides}
 use Rattle.std.proofs.lemmas.Bool.Decides.{same_from_decides}
 use Rattle.std.proofs.lemmas.List.{append-nil}
+use Rattle.std.proofs.Math.Seq.{take-length}
 use Rattle.std.proofs.lemmas.Slice.Eq.{bytes_eq-Decides}
 use Rattle.clap.specs.Lexer.{long_of, short_of}
 use Rattle.clap.specs.Walk.{Names, Row, rows_of, Rule, Text, Walk, idle, walk, walk_from, walked, nothing_held, bundle_met, subcommand_met}
@@ -35,12 +36,15 @@ use Rattle.p9sync.specs.declared.args.Task.{Task}
 use Rattle.p9sync.specs.declared.args.Task.TheVariants.{Pipe, Replay, Threads}
 use Rattle.p9sync.specs.declared.opts.ThreadsOpts.{ThreadsOpts}
 use Rattle.p9sync.specs.declared.opts.Report.{Report}
-use Rattle.p9sync.specs.Device.{AppendsFront}
+use Rattle.std.specs.Io.KnownBytes.{Appends}
+use Rattle.sync_base.specs.declared.fault.Fault.{Fault}
+use Rattle.p9sync.specs.Device.{AppendsFront, WritesTold}
+use Rattle.p9sync.specs.Script.{Told}
 use Rattle.p9sync.specs.ReportText.{report_line}
 use Rattle.p9sync.specs.Threads.{IsReportOf}
 use Rattle.p9sync.specs.Lines.{is_word}
 use Rattle.p9sync.specs.declared.args.TheConstants.{FAULT}
-use Rattle.p9sync.specs.Args.{command_line, command_named, number_asked, script_asked, task_asked, task_named, threads_asked, threads_named, EndsTask, EndsThreads}
+use Rattle.p9sync.specs.Args.{command_line, command_named, number_asked, script_asked, task_asked, task_named, threads_asked, threads_named, status_of, EndsRun, EndsTask, EndsThreads}
 use Rattle.sync_base.specs.declared.fault.Fault.TheVariants.{Memory}
 use Rattle.p9sync.proofs.DeviceLemmas.{appends_nothing}
 
@@ -563,3 +567,25 @@ ends_for_memory (Some (Threads opts)) input held status is = record {
 pub unreported : (opts : ThreadsOpts) (held : Option (List ℕ))
     → (report : Report) × IsReportOf opts report × AppendsFront held held (report_line report)
 unreported opts held = (nothing_read opts, no_report opts, (0, appends_nothing held))
+
+-- what was written whole is a front of itself
+pub whole_is_front : (old new : Option (List ℕ)) (bytes : List ℕ) → Appends old new bytes
+    → AppendsFront old new bytes
+whole_is_front old new bytes whole =
+    (length bytes, subst (λ b. Appends old new b) (sym (take-length bytes)) whole)
+
+-- a run of a script ends so, where it was asked for
+pub ends_script : (told : List ℕ → Told) (unread held written : Option (List ℕ))
+    (outcome : Result (Unit {0}) Fault) (status : ℕ)
+    → IfSome unread (λ input. WritesTold (told input) held written outcome)
+    → status ≡ status_of outcome
+    → IfSome unread (λ input. EndsRun (told input) held written status)
+ends_script told None held written outcome status runs is = tt
+ends_script told (Some input) held written outcome status runs is =
+    record { outcome = outcome; written = runs; status_is = is }
+
+pub ends_as : (asked : Option Task) (task : Task) (unread held written : Option (List ℕ))
+    (status : ℕ)
+    → asked ≡ Some task → EndsTask task unread held written status
+    → IfSome asked (λ t. EndsTask t unread held written status)
+ends_as asked task unread held written status is ends = rw is ends
