@@ -20,7 +20,7 @@ use Rattle.block_queue.specs.Meaning.{queue_meaning}
 use Rattle.pipe_dev.specs.Parts.{Part, whole_at, whole_from, bytes_by}
 use Rattle.pipe_dev.specs.Reading.{Reading, IsReading}
 use Rattle.pipe_dev.specs.Finishing.{Holdings, Finishes, accepted_in, left_state}
-use Rattle.pipe_dev.specs.Laws.{read_and_held, IsAllOfWriter, EachWriteIsReadWholeAndOnce}
+use Rattle.pipe_dev.specs.Laws.{read_and_held, IsAllOfWriter, EachShareIsReadWholeAndOnce}
 use Rattle.pipe_dev.specs.Laws.{IsNeverHung, NoWriteAfterHangup, NoneIsAcceptedAfterHangup}
 use Rattle.pipe_dev.proofs.PartLemmas.{whole_from-append, bytes_by-append}
 
@@ -28,7 +28,7 @@ abbrev LegalFor : Key → List Entry → Type 0
 LegalFor key history = IsLegal (queue_meaning key.first) (opening_state key.limit) history
 
 -- no more writes are read than were accepted
-read_within : (key : Key) (history : List Entry) → LegalFor key history
+pub read_within : (key : Key) (history : List Entry) → LegalFor key history
     → (left_state key history).read_whole ≤ length (left_state key history).accepted
 read_within key [] legal = omega arith
 read_within key (Taken writer block number ∷ past) legal =
@@ -49,10 +49,10 @@ read_within key (End ∷ past) legal = read_within key past legal.1
 read_within key (Hung seat ∷ past) legal = read_within key past legal.1
 
 -- what others did since: they read nothing, and accepted writes came behind the others
-record OnlyAccepts (before after : PipeState) : Type 0 where
-  read : after.read_whole ≡ before.read_whole
-  more : List Write
-  accepted : after.accepted ≡ before.accepted ++ more
+pub record OnlyAccepts (before after : PipeState) : Type 0 where
+  pub read : after.read_whole ≡ before.read_whole
+  pub more : List Write
+  pub accepted : after.accepted ≡ before.accepted ++ more
 
 -- of entries of which none is by the number, none of the older ones is
 none_older : (number : ℕ) (entry : Entry) (past : List Entry)
@@ -65,7 +65,7 @@ none_older number entry past none = by (eqb (seat_of entry) number) none
     by false absent = absent
 
 -- entries of which none is the reader's
-only_accepts : (key : Key) (since seen : List Entry) → entries_by seat_of 0 since ≡ []
+pub only_accepts : (key : Key) (since seen : List Entry) → entries_by seat_of 0 since ≡ []
     → OnlyAccepts (left_state key seen) (left_state key (since ++ seen))
 only_accepts key [] seen none =
     record { read = refl; more = []; accepted = sym (append-nil (left_state key seen).accepted) }
@@ -97,7 +97,7 @@ only_accepts key (Hung seat ∷ since) seen none =
     record { read = before.read; more = before.more; accepted = before.accepted }
 
 -- what stands in front of a past by whom nothing is missing is not by it
-none_since : (number : ℕ) (since seen : List Entry)
+pub none_since : (number : ℕ) (since seen : List Entry)
     → entries_by seat_of number (since ++ seen) ≡ entries_by seat_of number seen
     → entries_by seat_of number since ≡ []
 none_since number since seen same =
@@ -240,8 +240,8 @@ all_accepted key reading writers held right finishes = by finishes.seen.since fi
         ∙ whole_from-cut (left_state key seen).read_whole (left_state key finishes.history).accepted
         within_all))
 
-pub each_write_is_read_whole_and_once : EachWriteIsReadWholeAndOnce
-each_write_is_read_whole_and_once key reading writers held right finishes =
+pub each_share_is_read_whole_and_once : EachShareIsReadWholeAndOnce
+each_share_is_read_whole_and_once key reading writers held right finishes =
     all writers finishes.shares
   where
     one : (share : Share Entry) → HasItsEntries seat_of finishes.history share

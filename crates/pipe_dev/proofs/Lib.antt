@@ -2,3 +2,11 @@ pub mod PartLemmas
 pub mod LawLemmas
 pub mod RoundLemmas
 pub mod CallLemmas
+pub mod LongLemmas
+pub mod SeatingLemmas
+pub mod FinishLemmas
+pub mod ReadingLemmas
+pub mod WrittenLemmas
+pub mod ChainLemmas
+pub mod WaitLemmas
+pub mod WorkedPipes

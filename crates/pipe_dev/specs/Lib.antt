@@ -11,4 +11,7 @@ pub mod WriteSteps
 pub mod Ways
 pub mod Seating
 pub mod Finishing
+pub mod Chain
+pub mod CallLaws
+pub mod WaitLaws
 pub mod Laws

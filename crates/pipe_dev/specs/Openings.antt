@@ -3,6 +3,7 @@ use Rattle.std.specs.Prelude.{◌≡◌, ◌≤◌, ℕ, ◌+◌, ◌*◌, [], L
 use Rattle.std.specs.List.{AllByRecursion}
 use Rattle.std.specs.Vec.{vec_capacity}
 use Rattle.histories.specs.Account.{numbers_from}
+use Rattle.rendez_words.specs.declared.words.Words.{Words}
 use Rattle.block_queue.specs.declared.queue.Queue.{Queue}
 use Rattle.block_queue.specs.declared.seats.PutSeat.{PutSeat}
 use Rattle.block_queue.specs.declared.view.Key.{Key}
@@ -15,6 +16,7 @@ use Rattle.pipe_dev.specs.declared.pipe.PipeStart.{PipeStart}
 use Rattle.pipe_dev.specs.declared.row.Row.{Row}
 use Rattle.pipe_dev.specs.Ends.{ReadSide, WriteSide, IsRowOf, IsReadHand, IsWriteHand}
 use Rattle.pipe_dev.specs.Ends.{AreAllEnds}
+use Rattle.pipe_dev.specs.Rendezes.{HasRow}
 
 -- so many writes may stand in each direction, and each has so many writers
 abbrev pub key_for : ℕ → ℕ → Key
@@ -52,6 +54,11 @@ pub record Opens (limit writers first : ℕ) (opened : Opened) : Type 0 where
   pub back_key : key_of opened.pipe.back ≡ key_for limit writers
   pub there : IsLaneOf opened.pipe.there first opened.start.there
   pub back : IsLaneOf opened.pipe.back (first + 1 + writers) opened.start.back
+
+-- its Rendez are the kernel's
+pub record HasRows (words : Words) (opened : Opened) : Type 0 where
+  pub there : HasRow words opened.start.there.row
+  pub back : HasRow words opened.start.back.row
 
 -- a write end of a new direction
 pub record IsNewWriteEnd (queue : Queue) (row : Row) (write : WriteSide) : Type 0 where

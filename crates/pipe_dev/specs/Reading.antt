@@ -1,7 +1,8 @@
 -- What a read end has read of its direction, and what its calls add to it.
-use Rattle.std.specs.Prelude.{◌≡◌, ◌≢◌, List, [], take}
+use Rattle.std.specs.Prelude.{◌≡◌, ◌≢◌, List, [], take, IsTrue}
 use Rattle.std.specs.Prelude.{Option, Some, None, ⊤, reverse}
 use Rattle.histories.specs.declared.account.Account.{Account}
+use Rattle.histories.specs.Account.{has_number}
 use Rattle.sync_base.specs.Pipe.{PipeState}
 use Rattle.block_queue.specs.declared.entry.Entry.{Entry}
 use Rattle.block_queue.specs.declared.view.Key.{Key}
@@ -29,8 +30,10 @@ pub record IsRight (s : PipeState) (parts : List Part) (rest : Option Part) : Ty
 abbrev pub seen_state : Key → Reading → PipeState
 seen_state key reading = (queue_after key reading.account.seen).pipe
 
--- what the read end has seen is a legal history, of which it has read just what it took out
+-- the seat is the reader's, what it has seen is a legal history, and it has read just what it took
+-- out of that
 pub record IsReading (key : Key) (reading : Reading) : Type 0 where
+  pub own : IsTrue (has_number reading.account.shares 0)
   pub knows : KnowsQueue key reading.account
   pub right : IsRight (seen_state key reading) reading.parts reading.rest
 

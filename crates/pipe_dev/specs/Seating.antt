@@ -1,5 +1,5 @@
 -- How seats become write ends, and write ends seats.
-use Rattle.std.specs.Prelude.{◌≡◌, ⊤, List, [], ◌∷◌}
+use Rattle.std.specs.Prelude.{◌≡◌, ⊤, List, [], ◌∷◌, map}
 use Rattle.block_queue.specs.declared.queue.Queue.{Queue}
 use Rattle.block_queue.specs.declared.seats.PutSeat.{PutSeat}
 use Rattle.block_queue.specs.Seats.{put_account}
@@ -17,10 +17,7 @@ side_of queue row seat =
 
 -- these are the write ends of these seats, in their order
 abbrev pub AreSeated : Queue → Row → List PutSeat → List WriteSide → Type 0
-AreSeated queue row [] [] = ⊤
-AreSeated queue row (seat ∷ seats) (write ∷ writes) =
-    (write ≡ side_of queue row seat) × AreSeated queue row seats writes
-AreSeated queue row seats writes = ⊥
+AreSeated queue row seats writes = writes ≡ map (side_of queue row) seats
 
 -- the seat was that of this write end
 pub record IsSeatOf (write : WriteSide) (seat : PutSeat) : Type 0 where

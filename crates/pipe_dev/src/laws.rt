@@ -1,8 +1,51 @@
-//! What holds of every direction. Each law is a function with an empty body, whose contract says it.
-ghost use Rattle.pipe_dev.specs.Laws.{EachWriteIsReadWholeAndOnce, NoneIsAcceptedAfterHangup};
+//! What holds of every direction of a pipe. Each law is a function with an empty body, whose
+//! contract says it. Before this: `closing`.
+ghost use Rattle.pipe_dev.specs.CallLaws.{
+  ReadsAreSteps,
+  TriesAreSteps,
+  HangupsAreSteps,
+  WhatIsReadIsRight,
+  NewEndsHaveWrittenNothing,
+  WritesAddWhatWasAccepted,
+  HangupsWriteNothing,
+};
+ghost use Rattle.pipe_dev.specs.Laws.{
+  EachShareIsReadWholeAndOnce,
+  EachWriteIsReadWholeAndOnce,
+  NoneIsAcceptedAfterHangup,
+};
+ghost use Rattle.pipe_dev.specs.WaitLaws.{
+  WritesWakeTheReader,
+  ReadsWakeEachWriter,
+  HangupsWakeAll,
+};
 
-/// The headline.
+/// Each call of a read end adds one part for the bytes that it got and nothing else, and what was
+/// read stays right.
+pub fn calls_read_what_they_answer()
+    ensures reads { ReadsAreSteps }
+    ensures tries { TriesAreSteps }
+    ensures hangups { HangupsAreSteps }
+    ensures right { WhatIsReadIsRight }
+{}
+
+/// Each call of a write end adds one accepted write exactly where it answers a number.
+pub fn calls_write_what_they_answer()
+    ensures new { NewEndsHaveWrittenNothing }
+    ensures writes { WritesAddWhatWasAccepted }
+    ensures hangups { HangupsWriteNothing }
+{}
+
+/// The headline. Whatever calls were made of the ends of a direction, from any threads: what was
+/// read from it, followed by what it still holds, is for each writer the bytes of its accepted
+/// writes, in its order, each write whole, contiguous and once; no write is accepted after a hangup;
+/// and no process that fell asleep before its condition was made true stays posted once the wakeup
+/// that followed has returned.
 pub fn each_write_is_read_whole_and_once()
+    ensures shares { EachShareIsReadWholeAndOnce }
     ensures whole { EachWriteIsReadWholeAndOnce }
     ensures accepted { NoneIsAcceptedAfterHangup }
+    ensures reader_woken { WritesWakeTheReader }
+    ensures writers_woken { ReadsWakeEachWriter }
+    ensures all_woken { HangupsWakeAll }
 {}

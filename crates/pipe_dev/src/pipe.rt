@@ -50,7 +50,7 @@ impl Pipe {
     ghost use Rattle.sync_base.specs.declared.fault.Fault.TheVariants.{BadSize, NoRendez, Memory};
     ghost use Rattle.block_queue.specs.Opening.{IsBadQueue};
     ghost use Rattle.sleep_wakeup.specs.Kernel.{HasRendez, rendez_less};
-    ghost use Rattle.pipe_dev.specs.Openings.{Opens, rendez_for};
+    ghost use Rattle.pipe_dev.specs.Openings.{Opens, HasRows, rendez_for};
 
     /// A new pipe, each of whose directions holds at most `limit` writes that no read has begun and
     /// has so many writers. It takes `2 * (1 + writers)` Rendez of the kernel. Doesn't wait.
@@ -72,6 +72,7 @@ impl Pipe {
         // Otherwise a pipe on which nothing was called, with Rendez that nobody was given.
         ensures allowed { OnOk result (HasRendez roster.old (rendez_for writers)) }
         ensures opened { IfOk result (Opens limit writers roster.old.rendez) }
+        ensures rows { IfOk result (HasRows roster.old.words) }
         ensures given { OnOk result (roster.new ≡ rendez_less (rendez_for writers) roster.old) }
     {
         if limit == 0 || limit > MAX_PIPE_LIMIT || writers == 0 || writers > MAX_WRITERS {

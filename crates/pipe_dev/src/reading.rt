@@ -147,8 +147,9 @@ fn read_with<R: Wait>(
     'reading: for _ in rt.forever() {
         let Round { hand: now, over } = read_round(queue, row, rt, hand, proc, buffer);
         hand = now;
-        if let Some(answer) = over {
-            return Done { hand, answer };
+        match over {
+            Some(answer) => return Done { hand, answer },
+            None => {}
         }
     }
     unreachable!()

@@ -20,9 +20,11 @@ returns-in-Full-clause-over g c =
     c.in-Err.ensures.fault
 
 pub returns-in-Hungup-clause-over : goal.returns-in-Hungup-clause-over
-returns-in-Hungup-clause-over g c =
-    (record {
-      entered = c.in-Hungup.ensures.answer.refused;
-      knew = hungup_knew (key_of c.args.queue.now) c.args.seat.writer c.args.block (put_account c.args.seat) (put_account c.put.new.seat) c.in-Hungup.ensures.answer.refused;
-      noted = c.put_back.ensures.noted ∙ ap (notes c.args.proc.now.process (pid_in c.args.proc.now.process)) c.of.ensures.value;
-    }, tt)
+returns-in-Hungup-clause-over g c = (
+  record {
+    entered = c.in-Hungup.ensures.answer.refused;
+    knew = hungup_knew (key_of c.args.queue.now) c.args.seat.writer c.args.block (put_account c.args.seat) (put_account c.put.new.seat) c.in-Hungup.ensures.answer.refused;
+    noted = c.put_back.ensures.noted ∙ ap (notes c.args.proc.now.process (pid_in c.args.proc.now.process)) c.of.ensures.value;
+  },
+  tt,
+)

@@ -1,0 +1,87 @@
+-- What the ends of a direction were, and what a finish gives.
+use Rattle.std.proofs.Common.{◌≡◌, ℕ, ◌+◌, ◌≤◌, List, [], ◌∷◌, length, map, Option, Some, refl, sym, ◌∙◌, ap, subst, arith}
+use Rattle.std.specs.List.{AllByRecursion}
+use Rattle.histories.specs.Account.{numbers_from}
+use Rattle.block_queue.specs.declared.gather.Gathered.{Gathered}
+use Rattle.block_queue.specs.declared.queue.Queue.{Queue}
+use Rattle.block_queue.specs.declared.seats.PutSeat.{PutSeat}
+use Rattle.block_queue.specs.Gather.{AreAllSeats, Gathers}
+use Rattle.block_queue.specs.Seats.{IsPutSeatOf, key_of, put_account, take_account}
+use Rattle.pipe_dev.specs.declared.closing.Held.{Held}
+use Rattle.pipe_dev.specs.declared.hand.ReadHand.{ReadHand}
+use Rattle.pipe_dev.specs.declared.row.Row.{Row}
+use Rattle.pipe_dev.specs.Ends.{ReadSide, WriteSide, AreAllEnds, IsReadHand, HasReadHand, account_in, rest_in}
+use Rattle.pipe_dev.specs.Finishing.{GivesHeld, rest_bytes}
+use Rattle.pipe_dev.specs.Seating.{IsHandOf, AreSeatsOf, side_of}
+use Rattle.pipe_dev.proofs.SeatingLemmas.{seats_back, hands_put, hands_none, sides_back, numbers_back, shares_back, same_entries}
+
+-- the read end of this hand
+abbrev pub read_side : Queue → Row → ReadHand → ReadSide
+read_side queue row hand =
+    record { queue = queue; row = row; account = take_account hand.seat; rest = hand.rest }
+
+-- an end that was taken apart
+pub record IsApart (queue : Queue) (row : Row) (hand : ReadHand) (read : ReadSide) : Type 0 where
+  pub side : read ≡ read_side queue row hand
+  pub holds : IsReadHand queue row hand
+
+pub taken_apart : (queue : Queue) (row : Row) (hands : Option ReadHand) (hand : ReadHand)
+    (read : ReadSide)
+    → record { queue = queue; row = row; account = account_in hands; rest = rest_in hands } ≡ read
+    → HasReadHand queue row hands → hands ≡ Some hand → IsApart queue row hand read
+taken_apart queue row hands hand read view holds some =
+    record {
+      side = sym view ∙ ap (λ (h : Option ReadHand).
+          record { queue = queue; row = row; account = account_in h; rest = rest_in h }) some;
+      holds = subst (HasReadHand queue row) some holds;
+    }
+
+module _ (queue : Queue) (row : Row) (hand : ReadHand) (read : ReadSide)
+    (apart : IsApart queue row hand read) (writes : List WriteSide) (all : AreAllEnds read writes)
+    (seats : List PutSeat) (are : AreSeatsOf writes seats) where
+  all_of_hand : AreAllEnds (read_side queue row hand) writes
+  all_of_hand = subst (λ (r : ReadSide). AreAllEnds r writes) apart.side all
+
+  pub their_hands : AllByRecursion (IsHandOf queue row) seats
+  their_hands = seats_back (read_side queue row hand) writes seats all_of_hand.one are
+
+  pub their_seats : AllByRecursion (IsPutSeatOf queue) seats
+  their_seats = hands_put queue row seats their_hands
+
+  pub all_seats : AreAllSeats hand.seat seats
+  all_seats =
+      record {
+        order = apart.holds.gave ∙ numbers_back row.writers writes seats all_of_hand.order are;
+        none = hands_none queue row seats their_hands;
+      }
+
+  pub their_sides : (ends : List WriteSide) (again : List PutSeat) → again ≡ seats
+      → ends ≡ map (side_of queue row) again → ends ≡ writes
+  their_sides ends again same is =
+      is ∙ (ap (map (side_of queue row)) same ∙ sides_back (read_side queue row hand) writes seats all_of_hand.one are)
+
+  pub gives_held : (gathered : Gathered) (rest : List ℕ)
+      → Gathers (key_of queue) hand.seat seats gathered → rest ≡ rest_bytes read.rest
+      → GivesHeld read writes (record { rest = rest; writes = gathered.blocks; hung = gathered.hung })
+  gives_held gathered rest gathers rest_is =
+      subst (λ (r : ReadSide). GivesHeld r writes held) (sym apart.side) (λ parts. record {
+        history = gathers.history;
+        legal = gathers.legal;
+        seen = gathers.past;
+        no_more_read = same_entries (take_account hand.seat).seen gathers.history 0
+            (take_account hand.seat).shares apart.holds.knows.mine gathers.mine apart.holds.seat.own;
+        shares = shares_back gathers.history writes seats are gathers.puts_mine;
+        rest = rest_is ∙ ap (λ (r : ReadSide). rest_bytes r.rest) apart.side;
+        writes = gathers.blocks_are;
+        hung = gathers.hung;
+      })
+    where
+      held : Held
+      held = record { rest = rest; writes = gathered.blocks; hung = gathered.hung }
+
+pub as_many : (writes : List WriteSide) (seats : List PutSeat) → AreSeatsOf writes seats
+    → length seats ≡ length writes
+as_many [] [] are = refl
+as_many [] (seat ∷ seats) are = absurd are
+as_many (write ∷ writes) [] are = absurd are
+as_many (write ∷ writes) (seat ∷ seats) are = let rest = as_many writes seats are.1 in omega (arith, rest)

@@ -1,0 +1,106 @@
+-- How a long write is cut into writes.
+use Rattle.std.proofs.Common.{◌≡◌, ℕ, zero, suc, ◌+◌, ◌-◌, ◌<◌, ◌≤◌, Bool, true, false, if◌then◌else◌, List, [], ◌∷◌, ◌++◌, length, take, drop, reverse, refl, sym, ◌∙◌, ap, subst, arith}
+use Rattle.std.specs.Prelude.{nat_le, Result}
+use Rattle.std.proofs.lemmas.Bool.Decides.{nat_tests}
+use Rattle.std.proofs.lemmas.List.{append_assoc, append-nil, reverse-append, length-drop}
+use Rattle.sync_base.specs.declared.fault.Fault.{Fault}
+use Rattle.sync_base.specs.declared.limits.TheConstants.{ATOMIC_SIZE}
+use Rattle.block_queue.specs.declared.queue.Queue.{Queue}
+use Rattle.block_queue.specs.Seats.{key_of}
+use Rattle.pipe_dev.specs.declared.row.Row.{Row}
+use Rattle.pipe_dev.specs.Ends.{WriteSide, IsSameWriteEnd}
+use Rattle.pipe_dev.specs.WriteCalls.{Writer, Writes, atomic_writes, atomic_writes_in}
+
+le-true : (a b : ℕ) → a ≤ b → nat_le a b ≡ true
+le-true a b low = grind (arith, nat_tests)
+
+le-false : (a b : ℕ) → b < a → nat_le a b ≡ false
+le-false a b high = grind (arith, nat_tests)
+
+le-said : (a b : ℕ) → nat_le a b ≡ false → b < a
+le-said a b said = grind (arith, nat_tests)
+
+-- bytes that fit are one write, whatever the fuel
+one_write : (fuel : ℕ) (bytes : List ℕ) → length bytes ≤ ATOMIC_SIZE
+    → atomic_writes_in fuel bytes ≡ bytes ∷ []
+one_write zero bytes fits = refl
+one_write (suc fuel) bytes fits =
+    ap (λ b. if b then bytes ∷ [] else take ATOMIC_SIZE bytes ∷ atomic_writes_in fuel (drop ATOMIC_SIZE bytes))
+    (le-true (length bytes) ATOMIC_SIZE fits)
+
+-- enough fuel is enough
+enough_fuel : (fuel more : ℕ) (bytes : List ℕ) → length bytes ≤ fuel → length bytes ≤ more
+    → atomic_writes_in fuel bytes ≡ atomic_writes_in more bytes
+enough_fuel zero more bytes low low' = sym (one_write more bytes (omega (arith, low)))
+enough_fuel (suc fuel) zero bytes low low' = one_write (suc fuel) bytes (omega (arith, low'))
+enough_fuel (suc fuel) (suc more) bytes low low' =
+    by (nat_le (length bytes) ATOMIC_SIZE) refl
+    (λ short short'. enough_fuel fuel more (drop ATOMIC_SIZE bytes) short short')
+  where
+    by : (b : Bool) → nat_le (length bytes) ATOMIC_SIZE ≡ b
+        → (length (drop ATOMIC_SIZE bytes) ≤ fuel → length (drop ATOMIC_SIZE bytes) ≤ more
+        → atomic_writes_in fuel (drop ATOMIC_SIZE bytes) ≡ atomic_writes_in more (drop ATOMIC_SIZE bytes))
+        → (if b then bytes ∷ [] else take ATOMIC_SIZE bytes ∷ atomic_writes_in fuel (drop ATOMIC_SIZE bytes))
+        ≡ (if b then bytes ∷ [] else take ATOMIC_SIZE bytes ∷ atomic_writes_in more (drop ATOMIC_SIZE bytes))
+    by true is rest = refl
+    by false is rest =
+        let long = le-said (length bytes) ATOMIC_SIZE is in
+        let dropped = length-drop ATOMIC_SIZE bytes in
+        ap (λ blocks. take ATOMIC_SIZE bytes ∷ blocks)
+        (rest (omega (arith, low, long, dropped)) (omega (arith, low', long, dropped)))
+
+pub last_write : (bytes : List ℕ) → length bytes ≤ ATOMIC_SIZE → atomic_writes bytes ≡ bytes ∷ []
+last_write bytes fits = one_write (length bytes) bytes fits
+
+pub next_atomic : (bytes : List ℕ) → ATOMIC_SIZE < length bytes
+    → atomic_writes bytes ≡ take ATOMIC_SIZE bytes ∷ atomic_writes (drop ATOMIC_SIZE bytes)
+next_atomic bytes long = by (length bytes) refl
+  where
+    by : (n : ℕ) → length bytes ≡ n
+        → atomic_writes_in n bytes ≡ take ATOMIC_SIZE bytes ∷ atomic_writes (drop ATOMIC_SIZE bytes)
+    by zero is = absurd (omega (arith, long, is))
+    by (suc n) is =
+        let dropped = length-drop ATOMIC_SIZE bytes in
+        ap (λ b. if b then bytes ∷ [] else take ATOMIC_SIZE bytes ∷ atomic_writes_in n (drop ATOMIC_SIZE bytes))
+        (le-false (length bytes) ATOMIC_SIZE long)
+        ∙ ap (λ blocks. take ATOMIC_SIZE bytes ∷ blocks)
+        (enough_fuel n (length (drop ATOMIC_SIZE bytes)) (drop ATOMIC_SIZE bytes) (omega (arith, long, is, dropped)) (omega arith))
+
+-- one more is done
+pub one_done : (done : List (List ℕ)) (block : List ℕ) (others blocks : List (List ℕ))
+    → blocks ≡ reverse done ++ block ∷ others → blocks ≡ reverse (block ∷ done) ++ others
+one_done done block others blocks is =
+    is ∙ (sym (append_assoc (reverse done) (block ∷ []) others)
+    ∙ ap (λ front. front ++ others) (sym (reverse-append (block ∷ []) done)))
+
+-- the end stays where it is
+pub wrote_at : (old now : WriteSide) (block : List ℕ) (before : Writer) (answer : Result ℕ Fault)
+    (after : Writer) → IsSameWriteEnd old now
+    → Writes (key_of now.queue) now.row now.writer block before answer after
+    → Writes (key_of old.queue) old.row old.writer block before answer after
+wrote_at old now block before answer after same wrote =
+    subst (λ (q : Queue). Writes (key_of q) old.row old.writer block before answer after) same.queue
+    (subst (λ (r : Row). Writes (key_of now.queue) r old.writer block before answer after) same.row
+    (subst (λ (n : ℕ). Writes (key_of now.queue) now.row n block before answer after) same.writer wrote))
+
+-- the next write is cut off
+pub cut_next : (bytes left front back : List ℕ) (done : List (List ℕ)) → ATOMIC_SIZE < length left
+    → front ≡ take ATOMIC_SIZE left → back ≡ drop ATOMIC_SIZE left
+    → atomic_writes bytes ≡ reverse done ++ atomic_writes left
+    → atomic_writes bytes ≡ reverse done ++ front ∷ atomic_writes back
+cut_next bytes left front back done long front_is back_is cut =
+    cut ∙ (ap (λ blocks. reverse done ++ blocks) (next_atomic left long)
+    ∙ (ap (λ (x : List ℕ). reverse done ++ x ∷ atomic_writes (drop ATOMIC_SIZE left)) (sym front_is)
+    ∙ ap (λ (x : List ℕ). reverse done ++ front ∷ atomic_writes x) (sym back_is)))
+
+pub cut_last : (bytes left : List ℕ) (done : List (List ℕ)) → length left ≤ ATOMIC_SIZE
+    → atomic_writes bytes ≡ reverse done ++ atomic_writes left
+    → atomic_writes bytes ≡ reverse done ++ left ∷ []
+cut_last bytes left done fits cut = cut ∙ ap (λ blocks. reverse done ++ blocks) (last_write left fits)
+
+pub all_done : (bytes left : List ℕ) (done : List (List ℕ)) → length left ≤ ATOMIC_SIZE
+    → atomic_writes bytes ≡ reverse done ++ atomic_writes left
+    → reverse (left ∷ done) ≡ atomic_writes bytes
+all_done bytes left done fits cut =
+    sym (one_done done left [] (atomic_writes bytes) (cut_last bytes left done fits cut)
+    ∙ append-nil (reverse (left ∷ done)))

@@ -1,0 +1,208 @@
+-- Seats and the write ends that hold them.
+use Rattle.std.proofs.Common.{◌≡◌, ◌≢◌, ◌⊎◌, inl, inr, eqb, ℕ, zero, suc, ◌+◌, ◌<◌, ◌≤◌, Bool, true, false, List, [], ◌∷◌, ◌++◌, length, map, refl, sym, ◌∙◌, ap, subst, arith}
+use Rattle.std.specs.Prelude.{IsTrue, ◌||◌, slice_get, Some}
+use Rattle.std.specs.List.{AllByRecursion, list_any}
+use Rattle.std.proofs.lemmas.Bool.Decides.{eqb_tells}
+use Rattle.histories.specs.declared.account.Account.{Account}
+use Rattle.histories.specs.declared.account.Share.{Share}
+use Rattle.histories.specs.Account.{numbers_from, has_number, HasItsEntries}
+use Rattle.histories.specs.History.{entries_by}
+use Rattle.histories.proofs.ListLemmas.{all_append, all_weaker}
+use Rattle.block_queue.specs.declared.entry.Entry.{Entry}
+use Rattle.block_queue.specs.declared.queue.Queue.{Queue}
+use Rattle.block_queue.specs.declared.seats.PutSeat.{PutSeat}
+use Rattle.block_queue.specs.declared.view.Key.{Key}
+use Rattle.block_queue.specs.Gather.{AreTheirs, numbers_of}
+use Rattle.block_queue.specs.History.{seat_of, opening_state}
+use Rattle.block_queue.specs.Meaning.{KnowsQueue, queue_meaning}
+use Rattle.block_queue.specs.Opening.{IsNewPutSeat, AreNewPutSeats, new_account, reader_account}
+use Rattle.block_queue.specs.Seats.{IsPutSeatOf, key_of, put_account}
+use Rattle.pipe_dev.specs.declared.row.Row.{Row}
+use Rattle.pipe_dev.specs.Ends.{ReadSide, WriteSide, AreOfOne, AreAllEnds, IsRowOf, IsWriteHand}
+use Rattle.pipe_dev.specs.Finishing.{shares_of}
+use Rattle.pipe_dev.specs.Openings.{IsSeatToGive, IsNewWriteEnd}
+use Rattle.pipe_dev.specs.Seating.{IsHandOf, IsSeatOf, AreSeatsOf, side_of}
+
+-- ---- what a new seat knows
+
+numbers_below : (first count bound : ℕ) → first + count ≤ bound
+    → AllByRecursion (λ number. number < bound) (numbers_from first count)
+numbers_below first zero bound low = tt
+numbers_below first (suc count) bound low =
+    (omega (arith, low), numbers_below (first + 1) count bound (omega (arith, low)))
+
+pub reader_knows : (key : Key) → KnowsQueue key (reader_account key.writers)
+reader_knows key =
+    record {
+      history = record { legal = tt; within = tt };
+      mine = (record { entries = refl }, tt);
+      different = (tt, tt);
+      numbers = (omega arith, tt);
+      gave = numbers_below 1 key.writers (key.writers + 1) (omega arith);
+    }
+
+pub writer_knows : (key : Key) (writer : ℕ) → writer < key.writers
+    → KnowsQueue key (new_account (writer + 1))
+writer_knows key writer low =
+    record {
+      history = record { legal = tt; within = tt };
+      mine = (record { entries = refl }, tt);
+      different = (tt, tt);
+      numbers = (omega (arith, low), tt);
+      gave = tt;
+    }
+
+seat_to_give : (queue : Queue) (row : Row) (writer : ℕ) (seat : PutSeat) → IsRowOf queue row
+    → IsNewPutSeat queue writer seat → IsSeatToGive queue row seat
+seat_to_give queue row writer seat row_is new =
+    let account : put_account seat ≡ new_account (seat.writer + 1)
+    = new.account_is ∙ ap (λ (n : ℕ). new_account (n + 1)) (sym new.writer_is) in
+    record {
+      hand = record {
+        row_is = row_is;
+        seat_is = new.seat_is;
+        writer_is = refl;
+        knows = subst (λ (a : Account Entry). KnowsQueue (key_of queue) a) (sym account)
+            (writer_knows (key_of queue) seat.writer new.seat_is.writer_is);
+        gave = ap (λ (a : Account Entry). a.gave) account;
+      };
+      unused = account;
+    }
+
+-- these are the writers' seats, from this writer on
+pub all_to_give : (queue : Queue) (row : Row) (first : ℕ) (seats : List PutSeat)
+    → IsRowOf queue row
+    → ((place : ℕ) (seat : PutSeat) → slice_get seats place ≡ Some seat → IsNewPutSeat queue (first + place) seat)
+    → AllByRecursion (IsSeatToGive queue row) seats
+all_to_give queue row first [] row_is each = tt
+all_to_give queue row first (seat ∷ seats) row_is each = (
+  seat_to_give queue row (first + 0) seat row_is (each 0 seat refl),
+  all_to_give queue row (first + 1) seats row_is
+      (λ place other there. subst (λ (n : ℕ). IsNewPutSeat queue n other) (omega arith) (each (suc place) other there)),
+)
+
+pub writers_in_order : (queue : Queue) (first : ℕ) (seats : List PutSeat)
+    → ((place : ℕ) (seat : PutSeat) → slice_get seats place ≡ Some seat → IsNewPutSeat queue (first + place) seat)
+    → map (λ seat. seat.writer) seats ≡ numbers_from first (length seats)
+writers_in_order queue first [] each = refl
+writers_in_order queue first (seat ∷ seats) each =
+    let here : seat.writer ≡ first = (each 0 seat refl).writer_is ∙ omega arith in
+    let rest : map (λ seat. seat.writer) seats ≡ numbers_from (first + 1) (length seats)
+    = writers_in_order queue (first + 1) seats
+    (λ place other there. subst (λ (n : ℕ). IsNewPutSeat queue n other) (omega arith) (each (suc place) other there)) in
+    ap (λ (n : ℕ). n ∷ map (λ seat. seat.writer) seats) here ∙ ap (λ numbers. first ∷ numbers) rest
+
+-- ---- the ends of a new direction
+
+pub new_writes : (queue : Queue) (row : Row) (seats : List PutSeat)
+    → AllByRecursion (IsSeatToGive queue row) seats
+    → AllByRecursion (IsNewWriteEnd queue row) (map (side_of queue row) seats)
+new_writes queue row [] all = tt
+new_writes queue row (seat ∷ seats) all =
+    (record { queue_is = refl; row_is = refl; unused = all.0.unused }, new_writes queue row seats all.1)
+
+pub new_one : (read : ReadSide) (seats : List PutSeat)
+    → AllByRecursion (AreOfOne read) (map (side_of read.queue read.row) seats)
+new_one read [] = tt
+new_one read (seat ∷ seats) = (record { queue = refl; row = refl }, new_one read seats)
+
+pub new_order : (queue : Queue) (row : Row) (seats : List PutSeat)
+    → map (λ write. write.writer) (map (side_of queue row) seats) ≡ map (λ seat. seat.writer) seats
+new_order queue row [] = refl
+new_order queue row (seat ∷ seats) =
+    ap (λ (numbers : List ℕ). seat.writer ∷ numbers) (new_order queue row seats)
+
+-- ---- all ends of a direction that are given back
+
+pub seats_back : (read : ReadSide) (writes : List WriteSide) (seats : List PutSeat)
+    → AllByRecursion (AreOfOne read) writes → AreSeatsOf writes seats
+    → AllByRecursion (IsHandOf read.queue read.row) seats
+seats_back read [] [] one are = tt
+seats_back read [] (seat ∷ seats) one are = absurd are
+seats_back read (write ∷ writes) [] one are = absurd are
+seats_back read (write ∷ writes) (seat ∷ seats) one are = (
+  subst (λ (q : Queue). IsWriteHand q read.row seat.writer seat) one.0.queue
+      (subst (λ (r : Row). IsWriteHand write.queue r seat.writer seat) one.0.row
+      (subst (λ (n : ℕ). IsWriteHand write.queue write.row n seat) (sym are.0.hand.writer_is) are.0.hand)),
+  seats_back read writes seats one.1 are.1,
+)
+
+pub hands_put : (queue : Queue) (row : Row) (seats : List PutSeat)
+    → AllByRecursion (IsHandOf queue row) seats → AllByRecursion (IsPutSeatOf queue) seats
+hands_put queue row = all_weaker (IsHandOf queue row) (IsPutSeatOf queue) (λ seat hand. hand.seat_is)
+
+pub hands_none : (queue : Queue) (row : Row) (seats : List PutSeat)
+    → AllByRecursion (IsHandOf queue row) seats
+    → AllByRecursion (λ seat. (put_account seat).gave ≡ []) seats
+hands_none queue row =
+    all_weaker (IsHandOf queue row) (λ seat. (put_account seat).gave ≡ []) (λ seat hand. hand.gave)
+
+-- the ends are made of their seats again
+pub sides_back : (read : ReadSide) (writes : List WriteSide) (seats : List PutSeat)
+    → AllByRecursion (AreOfOne read) writes → AreSeatsOf writes seats
+    → map (side_of read.queue read.row) seats ≡ writes
+sides_back read [] [] one are = refl
+sides_back read [] (seat ∷ seats) one are = absurd are
+sides_back read (write ∷ writes) [] one are = absurd are
+sides_back read (write ∷ writes) (seat ∷ seats) one are =
+    ap (λ (w : WriteSide). w ∷ map (side_of read.queue read.row) seats)
+    (ap (λ (q : Queue). record { queue = q; row = read.row; writer = seat.writer; account = put_account seat }) (sym one.0.queue)
+    ∙ (ap (λ (r : Row). record { queue = write.queue; row = r; writer = seat.writer; account = put_account seat }) (sym one.0.row)
+    ∙ (ap (λ (n : ℕ). record { queue = write.queue; row = write.row; writer = n; account = put_account seat }) are.0.hand.writer_is
+    ∙ ap (λ (a : Account Entry). record { queue = write.queue; row = write.row; writer = write.writer; account = a }) are.0.account)))
+    ∙ ap (λ (ws : List WriteSide). write ∷ ws) (sides_back read writes seats one.1 are.1)
+
+one_above : (first count : ℕ) → map (λ n. n + 1) (numbers_from first count) ≡ numbers_from (first + 1) count
+one_above first zero = refl
+one_above first (suc count) = ap (λ (ns : List ℕ). (first + 1) ∷ ns) (one_above (first + 1) count)
+
+numbers_are : (writes : List WriteSide) (seats : List PutSeat) → AreSeatsOf writes seats
+    → numbers_of seats ≡ map (λ n. n + 1) (map (λ write. write.writer) writes)
+numbers_are [] [] are = refl
+numbers_are [] (seat ∷ seats) are = absurd are
+numbers_are (write ∷ writes) [] are = absurd are
+numbers_are (write ∷ writes) (seat ∷ seats) are =
+    ap (λ (n : ℕ). (n + 1) ∷ numbers_of seats) are.0.hand.writer_is
+    ∙ ap (λ (ns : List ℕ). (write.writer + 1) ∷ ns) (numbers_are writes seats are.1)
+
+pub numbers_back : (writers : ℕ) (writes : List WriteSide) (seats : List PutSeat)
+    → map (λ write. write.writer) writes ≡ numbers_from 0 writers → AreSeatsOf writes seats
+    → numbers_from 1 writers ≡ numbers_of seats
+numbers_back writers writes seats order are =
+    sym (numbers_are writes seats are ∙ (ap (map (λ n. n + 1)) order ∙ one_above 0 writers))
+
+-- what a history has of the seats it has of the write ends
+pub shares_back : (history : List Entry) (writes : List WriteSide) (seats : List PutSeat)
+    → AreSeatsOf writes seats → AreTheirs history seats
+    → AllByRecursion (HasItsEntries seat_of history) (shares_of writes)
+shares_back history [] [] are theirs = tt
+shares_back history [] (seat ∷ seats) are theirs = absurd are
+shares_back history (write ∷ writes) [] are theirs = absurd are
+shares_back history (write ∷ writes) (seat ∷ seats) are theirs =
+    all_append (HasItsEntries seat_of history) write.account.shares (shares_of writes)
+    (subst (λ (a : Account Entry). AllByRecursion (HasItsEntries seat_of history) a.shares) are.0.account theirs.0)
+    (shares_back history writes seats are.1 theirs.1)
+
+-- a number that has the same entries in both histories
+pub same_entries : (older history : List Entry) (number : ℕ) (shares : List (Share Entry))
+    → AllByRecursion (HasItsEntries seat_of older) shares
+    → AllByRecursion (HasItsEntries seat_of history) shares
+    → has_number shares number ≡ true
+    → entries_by seat_of number history ≡ entries_by seat_of number older
+same_entries older history number [] own own' has = cc
+same_entries older history number (share ∷ shares) own own' has =
+    by (eqb_tells share.number number)
+    (λ rest. same_entries older history number shares own.1 own'.1 rest)
+  where
+    either : (b : Bool) → b ≡ false → (b || has_number shares number) ≡ true
+        → has_number shares number ≡ true
+    either true is told = cc
+    either false is told = told
+
+    by : ((eqb share.number number ≡ true) × (share.number ≡ number)) ⊎ ((eqb share.number number ≡ false) × (share.number ≢ number))
+        → (has_number shares number ≡ true → entries_by seat_of number history ≡ entries_by seat_of number older)
+        → entries_by seat_of number history ≡ entries_by seat_of number older
+    by (inl same) rest =
+        subst (λ (n : ℕ). entries_by seat_of n history ≡ entries_by seat_of n older) same.1
+        (own'.0.entries ∙ sym own.0.entries)
+    by (inr differ) rest = rest (either (eqb share.number number) differ.0 has)

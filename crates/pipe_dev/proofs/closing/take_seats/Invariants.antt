@@ -1,0 +1,17 @@
+-- the seats of the last write ends are there, the last one first
+use Rattle.std.proofs.Common.{◌≡◌, ◌≤◌, ◌+◌, ◌++◌, List, length, reverse}
+use Rattle.std.specs.Vec.{vec_capacity}
+use Rattle.pipe_dev.specs.Ends.{WriteSide}
+use Rattle.pipe_dev.specs.Seating.{AreSeatsOf}
+use Rattle.pipe_dev.proofs.closing.take_seats.Given as goal
+
+abbrev pub invariant-taking : goal.invariant-taking
+invariant-taking l =
+    record {
+      seats : (done : List WriteSide) × (l.initial.room.items ≡ l.room.items ++ done) × AreSeatsOf done (reverse l.puts.items);
+      room : length l.room.items + length l.puts.items ≤ vec_capacity l.puts;
+      capacity : vec_capacity l.room ≡ vec_capacity l.initial.room;
+    }
+
+abbrev pub decreases-taking : goal.decreases-taking
+decreases-taking l = length l.room.items

@@ -1,0 +1,44 @@
+-- a new queue, its seats and the Rendez
+use Rattle.std.proofs.Common.{sym, ap, subst, ◌∙◌, refl, ℕ, arith}
+use Rattle.histories.specs.declared.account.Account.{Account}
+use Rattle.histories.specs.Account.{numbers_from}
+use Rattle.block_queue.specs.declared.entry.Entry.{Entry}
+use Rattle.block_queue.specs.declared.view.Key.{Key}
+use Rattle.block_queue.specs.Meaning.{KnowsQueue}
+use Rattle.block_queue.specs.Opening.{IsNewPutSeat, reader_account}
+use Rattle.block_queue.specs.Seats.{key_of}
+use Rattle.pipe_dev.specs.Ends.{IsRowOf}
+use Rattle.pipe_dev.proofs.SeatingLemmas.{reader_knows, all_to_give, writers_in_order}
+use Rattle.pipe_dev.proofs.pipe.Way.laid.Goals as goal
+
+pub returns-clause-lane : goal.returns-clause-lane
+returns-clause-lane c =
+    let way = c.requires.way in
+    let queue = c.args.self.queue in
+    let row_is : IsRowOf queue c.args.row = record {
+      writers = sym (ap (λ (key : Key). key.writers) way.key_is);
+      first = ap (λ (key : Key). key.first) way.key_is;
+    } in
+    let seats = way.puts_are.each in
+    let count = way.puts_are.count_is in
+    let room = way.room in
+    record {
+      row_is = row_is;
+      first_is = refl;
+      read = record {
+        row_is = row_is;
+        seat = way.take_is;
+        knows = subst (λ (a : Account Entry). KnowsQueue (key_of queue) a)
+            (sym (way.account_is ∙ ap reader_account row_is.writers)) (reader_knows (key_of queue));
+        gave = ap (λ (a : Account Entry). a.gave) way.account_is;
+        some_left = tt;
+      };
+      unread = way.account_is;
+      writes = all_to_give queue c.args.row 0 c.args.self.puts.items row_is
+          (λ place seat there. subst (λ (n : ℕ). IsNewPutSeat queue n seat) (omega arith) (seats place seat there));
+      order = writers_in_order queue 0 c.args.self.puts.items
+          (λ place seat there. subst (λ (n : ℕ). IsNewPutSeat queue n seat) (omega arith) (seats place seat there))
+          ∙ ap (numbers_from 0) count;
+      none = way.none;
+      room = omega (arith, count, room);
+    }

@@ -1,0 +1,60 @@
+-- No wakeup of a pipe is lost: who waits for a write or for room is taken out of the Rendez by the
+-- wakeup of the call that made its condition true, once that call has returned.
+use Rattle.std.specs.Prelude.{◌≡◌, ◌+◌, ◌<◌, ℕ, List}
+use mathlib.Core.Option.{some}
+use lib.ListN.{get_elem?}
+use Rattle.histories.specs.History.{IsPast}
+use Rattle.sync_base.specs.declared.limits.TheConstants.{TOP_LEVEL}
+use Rattle.sleep_core.specs.Laws.{ReleasesBelow}
+use Rattle.sleep_core.specs.Runs.{world_of}
+use Rattle.sleep_core.specs.State.{State}
+use Rattle.rendez_words.specs.declared.view.Sizes.{Sizes}
+use Rattle.rendez_words.specs.declared.view.View.{View}
+use Rattle.rendez_words.specs.declared.view.View.TheVariants as view
+use Rattle.rendez_words.specs.declared.view.Part as seated
+use Rattle.rendez_words.specs.Process.{Process}
+use Rattle.rendez_words.specs.Rule.{ShowsCore}
+use Rattle.block_queue.specs.declared.view.Key.{Key}
+use Rattle.pipe_dev.specs.declared.row.Row.{Row}
+use Rattle.pipe_dev.specs.Parts.{Part}
+use Rattle.pipe_dev.specs.ReadCalls.{Reader, TakesOut}
+use Rattle.pipe_dev.specs.Rendezes.{WakesAll, reader_rendez, writer_rendez}
+use Rattle.pipe_dev.specs.WriteCalls.{Writer, Accepts}
+
+-- between any two steps of running threads, the process of these steps has a seat and has gone on
+pub record HasGoneOn (views : List View) (process : Process) : Type 0 where
+  pub seat : ℕ
+  pub part : seated.Part
+  pub there : get_elem? views seat ≡ some (view.Process part)
+  pub since : IsPast process.trace part.trace
+
+-- Whoever fell asleep on the reader's Rendez below the number of a write that was accepted is no
+-- longer posted there, once that write has returned.
+abbrev pub WritesWakeTheReader : Type 0
+WritesWakeTheReader =
+    (sizes : Sizes) (s : _) (shows : ShowsCore sizes s)
+    → (key : Key) (row : Row) (writer : ℕ) (block : List ℕ) (number : ℕ) (old new : Writer)
+    → Accepts key row writer block number old new → HasGoneOn s.views new.process
+    → ReleasesBelow (world_of sizes.procs sizes.rendez shows.run) (reader_rendez row) number
+
+-- So with each writer's Rendez, once a read that took a write out has returned.
+abbrev pub ReadsWakeEachWriter : Type 0
+ReadsWakeEachWriter =
+    (sizes : Sizes) (s : _) (shows : ShowsCore sizes s)
+    → (key : Key) (row : Row) (old new : Reader) (left : Part)
+    → TakesOut key row old left new → HasGoneOn s.views new.process
+    → (writer : ℕ) → writer < row.writers
+    → ReleasesBelow (world_of sizes.procs sizes.rendez shows.run) (writer_rendez row writer)
+    (left.place + 1)
+
+-- a hangup releases everybody on these Rendez
+pub record ReleasesAll (state : State) (row : Row) : Type 0 where
+  pub reader : ReleasesBelow state (reader_rendez row) TOP_LEVEL
+  pub writers : (writer : ℕ) → writer < row.writers →
+      ReleasesBelow state (writer_rendez row writer) TOP_LEVEL
+
+abbrev pub HangupsWakeAll : Type 0
+HangupsWakeAll =
+    (sizes : Sizes) (s : _) (shows : ShowsCore sizes s)
+    → (row : Row) (before after : Process) → WakesAll row before after → HasGoneOn s.views after
+    → ReleasesAll (world_of sizes.procs sizes.rendez shows.run) row
