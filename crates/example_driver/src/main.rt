@@ -5,7 +5,8 @@
 //! is a block. A user ends the transfer by a note, before all blocks that were wanted are there.
 #![tactic(auto)]
 
-use sleep_wakeup::{Kernel, Opened, Proc, Started};
+use sleep_wakeup::{Kernel, Proc};
+use std::alloc::Global;
 use std::io;
 use std::sync::Wait;
 use std::sync::atomic::AtomicU64;
@@ -13,21 +14,29 @@ use std::sync::atomic::Ordering::SeqCst;
 use std::thread::{Threads, join};
 use sync_base::{Fault, Flags, Note, NoteSet, Pid, RendezId};
 
-/// How many blocks are wanted, and how many the device makes.
+/// How many blocks are wanted.
 const WANTED: u64 = 5;
 
+/// How many the device makes.
 const MADE: u64 = 3;
 
-/// A number that rises, and the Rendez where others wait for it. The level of the Rendez is the
-/// number, or less for a moment.
+/// A number that rises, and the Rendez where others wait for it.
 #[derive(Drop)]
 struct Counter {
     count: AtomicU64,
     risen: RendezId,
 }
 
-/// Sets the number, and then wakes whoever waits. It has no handle `Wait`, so it can't wait, and
-/// that is checked: an interrupt may call it.
+/// A number that is 0 yet.
+fn at_zero(risen: RendezId) -> Counter {
+    Counter {
+        count: AtomicU64::new(0),
+        risen,
+    }
+}
+
+/// Sets the number and wakes whoever waits. It has no handle `Wait`, so it is checked that it can't
+/// wait: an interrupt may call it.
 fn set(proc: &mut Proc<'_>, counter: &Counter, count: u64) -> Result<(), Fault> {
     counter.count.store(count, SeqCst);
     proc.wakeup(counter.risen, count)?;
@@ -61,34 +70,22 @@ fn interrupts(mut device: Proc<'_>, ready: &Counter) -> Result<(), Fault> {
     Ok(())
 }
 
-/// What the driver made of a transfer.
-#[derive(Drop)]
-struct Transfer {
-    copied: u64,
-    ended: Result<(), Fault>,
-}
-
-/// The driver waits for each block, copies it and says so.
+/// The driver waits for each block, copies it and says so. A note cancels what is left. It answers how
+/// many were copied.
 fn copy_blocks<R: Wait>(
     rt: &R,
     mut driver: Proc<'_>,
     ready: &Counter,
     copied: &Counter,
-) -> Transfer {
-    let mut done = 0;
-    let mut ended = Ok(());
+) -> Result<u64, Fault> {
     for block in 0..WANTED {
-        ended = wait_for(rt, &mut driver, ready, block + 1);
-        if ended.is_err() {
-            break;
+        match wait_for(rt, &mut driver, ready, block + 1) {
+            Ok(()) => set(&mut driver, copied, block + 1)?,
+            Err(Fault::Interrupted(_)) => return Ok(block),
+            Err(fault) => return Err(fault),
         }
-        done = block + 1;
-        ended = set(&mut driver, copied, done);
     }
-    Transfer {
-        copied: done,
-        ended,
-    }
+    Ok(WANTED)
 }
 
 /// The user waits until all that the device makes was copied, and then cancels the rest: it posts a
@@ -99,24 +96,18 @@ fn cancel<R: Wait>(rt: &R, mut user: Proc<'_>, copied: &Counter, driver: Pid) ->
 }
 
 /// A kernel starts with one process, and `rfork` makes the others. Each has a thread of its own.
-fn run<R: Threads + Wait + Sync>(rt: &R, started: Started<'_>) -> Result<Transfer, Fault> {
-    let Started { mut roster, proc } = started;
-    let mut user = proc;
+fn run<R: Threads + Wait + Sync>(rt: &R, alloc: Global) -> Result<u64, Fault> {
+    let opened = Kernel::new(alloc, 3, 2)?;
+    let mut started = opened.kernel.start(opened.start);
     let (Some(device), Some(driver)) = (
-        roster.rfork(&mut user, Flags::RFPROC)?,
-        roster.rfork(&mut user, Flags::RFPROC)?,
+        started.roster.rfork(&mut started.proc, Flags::RFPROC)?,
+        started.roster.rfork(&mut started.proc, Flags::RFPROC)?,
     ) else {
         return Err(Fault::NoProc);
     };
-    let ready = Counter {
-        count: AtomicU64::new(0),
-        risen: roster.rendez()?,
-    };
-    let copied = Counter {
-        count: AtomicU64::new(0),
-        risen: roster.rendez()?,
-    };
-    let pid = driver.pid();
+    let ready = at_zero(started.roster.rendez()?);
+    let copied = at_zero(started.roster.rendez()?);
+    let (user, pid) = (started.proc, driver.pid());
     let (transfer, (made, cancelled)) = join(
         rt,
         || copy_blocks(rt, driver, &ready, &copied),
@@ -128,26 +119,12 @@ fn run<R: Threads + Wait + Sync>(rt: &R, started: Started<'_>) -> Result<Transfe
     );
     made?;
     cancelled?;
-    Ok(transfer)
+    transfer
 }
 
 fn main(rt: HostRuntime) -> io::Result<()> {
-    let outcome = match Kernel::new(rt.alloc(), 3, 2) {
-        Ok(Opened { kernel, start }) => run(&rt, kernel.start(start)),
-        Err(fault) => Err(fault),
-    };
-    match outcome {
-        Ok(
-            Transfer {
-                copied,
-                ended: Err(Fault::Interrupted(notes)),
-            },
-        ) if notes.has(Note::Interrupt) => {
-            println!(rt;
-                "{copied} of {WANTED} blocks were copied, and then the transfer was cancelled"
-            )
-        }
-        Ok(Transfer { copied, ended: _ }) => println!(rt; "{copied} blocks were copied"),
+    match run(&rt, rt.alloc()) {
+        Ok(copied) => println!(rt; "{copied} of {WANTED} blocks were copied"),
         Err(fault) => println!(rt; "the driver failed: {fault}"),
     }
 }

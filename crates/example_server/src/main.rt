@@ -5,8 +5,8 @@
 //! requests is hung up, and that ends the server.
 #![tactic(auto)]
 
-use pipe_dev::{Ends, Opened, Parts, Pipe, PipeStart, ReadAnswer, ReadEnd, WriteEnd};
-use sleep_wakeup::{Kernel, Proc, Started};
+use pipe_dev::{Ends, Opened, Pipe, ReadAnswer, ReadEnd, WriteEnd};
+use sleep_wakeup::{Kernel, Proc};
 use std::alloc::Global;
 use std::io;
 use std::sync::Wait;
@@ -32,22 +32,21 @@ struct Client<'k, 'p> {
 
 /// A request is the client's number and the number whose square it wants, in one write. A write is
 /// read whole and never joined with another's, so requests need no lock.
-fn ask<R: Wait>(rt: &R, alloc: Global, client: &mut Client<'_, '_>) -> Result<(), Fault> {
-    let mut answer = [0; 2];
+fn ask<'k, 'p, R: Wait>(rt: &R, alloc: Global, mut client: Client<'k, 'p>) -> Client<'k, 'p> {
     for number in 1..=ASKED {
-        client
-            .requests
-            .write(alloc, rt, &mut client.proc, &[client.number, number])?;
-        match client.answers.read(rt, &mut client.proc, &mut answer)? {
-            ReadAnswer::Got(_) => {
-                client.sum = client
-                    .sum
-                    .saturating_add(u64::from(u16::from_be_bytes(answer)));
-            }
-            ReadAnswer::End => return Err(Fault::Hungup),
+        match ask_one(rt, alloc, &mut client, number) {
+            Ok(square) => client.sum = client.sum.wrapping_add(square),
+            Err(fault) => client.ended = Err(fault),
         }
     }
-    Ok(())
+    client
+}
+
+fn ask_one<R: Wait>(rt: &R, alloc: Global, me: &mut Client<'_, '_>, n: u8) -> Result<u64, Fault> {
+    let mut square = [0; 8];
+    me.requests.write(alloc, rt, &mut me.proc, &[me.number, n])?;
+    me.answers.read(rt, &mut me.proc, &mut square)?;
+    Ok(u64::from_be_bytes(square))
 }
 
 /// Runs each client on a thread of its own, and then hangs the pipe of requests up: it is closed for
@@ -57,15 +56,8 @@ fn ask_all<'k, 'p, R: Threads + Wait + Sync>(
     alloc: Global,
     clients: Vec<Client<'k, 'p>>,
 ) -> Result<Vec<Client<'k, 'p>>, Fault> {
-    let mut done = map_vec(
-        rt,
-        clients,
-        &|client: Client| -> Client {
-            let mut client = client;
-            client.ended = ask(rt, alloc, &mut client);
-            client
-        },
-    )?;
+    let asks = |client: Client| -> Client { ask(rt, alloc, client) };
+    let mut done = map_vec(rt, clients, &asks)?;
     if let Some(last) = done.last_mut() {
         last.requests.hangup(&mut last.proc);
     }
@@ -84,61 +76,45 @@ fn serve<R: Wait>(rt: &R, alloc: Global, mut server: Server<'_, '_>) -> Result<u
     let mut request = [0; 2];
     let mut served = 0u64;
     for _ in rt.forever() {
-        match server.requests.read(rt, &mut server.proc, &mut request)? {
-            ReadAnswer::Got(_) => {
-                let [client, number] = request;
-                let square = u16::from(number) * u16::from(number);
-                let Some(answers) = server.answers.get_mut(usize::from(client)) else {
-                    continue;
-                };
-                answers.write(alloc, rt, &mut server.proc, &square.to_be_bytes())?;
-                served = served.wrapping_add(1);
-            }
-            ReadAnswer::End => break,
+        if server.requests.read(rt, &mut server.proc, &mut request)? == ReadAnswer::End {
+            break;
+        }
+        let [client, number] = request;
+        let square = u64::from(number) * u64::from(number);
+        if let Some(answers) = server.answers.get_mut(usize::from(client)) {
+            answers.write(alloc, rt, &mut server.proc, &square.to_be_bytes())?;
+            served = served.wrapping_add(1);
         }
     }
     Ok(served)
 }
 
 /// The pipes: that of the requests, with a writer for each client, and one back to each client. A
-/// pipe goes both ways, and here one way of each is used.
-fn run<R: Threads + Wait + Sync>(
-    rt: &R,
-    alloc: Global,
-    started: Started<'_>,
-) -> Result<(u64, Vec<u64>), Fault> {
-    let Started {
-        mut roster,
-        mut proc,
-    } = started;
-    let Opened {
-        pipe: asking,
-        start,
-    } = Pipe::new(alloc, &mut roster, 2, CLIENTS)?;
-    let Ends { first, second } = asking.ends(start);
+/// pipe goes both ways; here one way of each is used. The kernel has a process for each of them.
+fn run<R: Threads + Wait + Sync>(rt: &R, alloc: Global) -> Result<(u64, Vec<u64>), Fault> {
+    let opened = Kernel::new(alloc, 1 + CLIENTS, 2 * (1 + CLIENTS) + 4 * CLIENTS)?;
+    let mut started = opened.kernel.start(opened.start);
+    let asking = Pipe::new(alloc, &mut started.roster, 2, CLIENTS)?;
+    let Ends { first, second } = asking.pipe.ends(asking.start);
     let mut pipes = Vec::new(alloc);
     let mut starts = Vec::new(alloc);
     for _ in 0..CLIENTS {
-        let Opened { pipe, start } = Pipe::new(alloc, &mut roster, 1, 1)?;
+        let Opened { pipe, start } = Pipe::new(alloc, &mut started.roster, 1, 1)?;
         pipes.push(pipe)?;
         starts.push(start)?;
     }
     let mut answers = Vec::new(alloc);
     let mut clients = Vec::new(alloc);
-    let each = first
-        .parts()
-        .writes
-        .into_iter()
-        .zip(pipes.iter().zip(starts));
-    for (number, (requests, (pipe, start))) in each.enumerate() {
+    let back = pipes.iter().zip(starts);
+    for (requests, (pipe, start)) in first.parts().writes.into_iter().zip(back) {
         let Ends { first, second } = pipe.ends(start);
         answers.extend(first.parts().writes)?;
-        let Some(child) = roster.rfork(&mut proc, Flags::RFPROC)? else {
+        let Some(proc) = started.roster.rfork(&mut started.proc, Flags::RFPROC)? else {
             return Err(Fault::NoProc);
         };
         clients.push(Client {
-            number: number as u8,
-            proc: child,
+            number: requests.writer() as u8,
+            proc,
             requests,
             answers: second.parts().read,
             sum: 0,
@@ -146,7 +122,7 @@ fn run<R: Threads + Wait + Sync>(
         })?;
     }
     let server = Server {
-        proc,
+        proc: started.proc,
         requests: second.parts().read,
         answers,
     };
@@ -164,15 +140,8 @@ fn run<R: Threads + Wait + Sync>(
 }
 
 fn main(rt: HostRuntime) -> io::Result<()> {
-    // A process for the server and for each client, and the Rendez of all pipes.
-    let outcome = match Kernel::new(rt.alloc(), 1 + CLIENTS, 2 * (1 + CLIENTS) + 4 * CLIENTS) {
-        Ok(opened) => run(&rt, rt.alloc(), opened.kernel.start(opened.start)),
-        Err(fault) => Err(fault),
-    };
-    match outcome {
-        Ok((served, sums)) => println!(rt;
-            "{served} requests were served, and the sums are {sums:?}"
-        ),
+    match run(&rt, rt.alloc()) {
+        Ok((served, sums)) => println!(rt; "{served} requests served, the sums are {sums:?}"),
         Err(fault) => println!(rt; "the server failed: {fault}"),
     }
 }

@@ -6,8 +6,8 @@
 //! comes the end.
 #![tactic(auto)]
 
-use pipe_dev::{Ends, Opened, Parts, Pipe, ReadAnswer, ReadEnd, WriteEnd};
-use sleep_wakeup::{Kernel, Proc, Started};
+use pipe_dev::{Ends, Pipe, ReadAnswer, ReadEnd, WriteEnd};
+use sleep_wakeup::{Kernel, Proc};
 use std::alloc::Global;
 use std::io;
 use std::sync::Wait;
@@ -31,28 +31,23 @@ struct Device<'k, 'p> {
 }
 
 /// A device writes its events in order, and waits where the pipe is full.
-fn send<R: Wait>(rt: &R, alloc: Global, device: &mut Device<'_, '_>) -> Result<(), Fault> {
+fn send<'k, 'p, R: Wait>(rt: &R, alloc: Global, mut device: Device<'k, 'p>) -> Device<'k, 'p> {
     for event in device.events {
-        device.out.write(alloc, rt, &mut device.proc, event)?;
+        if let Err(fault) = device.out.write(alloc, rt, &mut device.proc, event) {
+            device.ended = Err(fault);
+        }
     }
-    Ok(())
+    device
 }
 
 /// All devices at once, each on a thread of its own. Then the window is closed.
-fn send_all<'k, 'p, R: Threads + Wait + Sync>(
+fn send_all<R: Threads + Wait + Sync>(
     rt: &R,
     alloc: Global,
-    devices: Vec<Device<'k, 'p>>,
+    devices: Vec<Device<'_, '_>>,
 ) -> Result<(), Fault> {
-    let mut done = map_vec(
-        rt,
-        devices,
-        &|device: Device| -> Device {
-            let mut device = device;
-            device.ended = send(rt, alloc, &mut device);
-            device
-        },
-    )?;
+    let sends = |device: Device| -> Device { send(rt, alloc, device) };
+    let mut done = map_vec(rt, devices, &sends)?;
     if let Some(last) = done.last_mut() {
         last.out.hangup(&mut last.proc);
     }
@@ -111,36 +106,26 @@ fn show<R: Wait>(
     Ok(window)
 }
 
-fn run<R: Threads + Wait + Sync>(
-    rt: &R,
-    alloc: Global,
-    started: Started<'_>,
-) -> Result<Window, Fault> {
-    let Started {
-        mut roster,
-        mut proc,
-    } = started;
-    // Room for two events that nobody has read, and a writer for each device.
-    let Opened { pipe, start } = Pipe::new(alloc, &mut roster, 2, 3)?;
-    let Ends { first, second } = pipe.ends(start);
+/// A pipe with room for two events that nobody has read, and a writer for each device.
+fn run<R: Threads + Wait + Sync>(rt: &R, alloc: Global) -> Result<Window, Fault> {
+    let opened = Kernel::new(alloc, 4, 8)?;
+    let mut started = opened.kernel.start(opened.start);
+    let made = Pipe::new(alloc, &mut started.roster, 2, 3)?;
+    let Ends { first, second } = made.pipe.ends(made.start);
     let mut devices = Vec::new(alloc);
-    for (out, events) in first
-        .parts()
-        .writes
-        .into_iter()
-        .zip([KEYBOARD, MOUSE, FRAME])
-    {
-        let Some(child) = roster.rfork(&mut proc, Flags::RFPROC)? else {
+    let outs = first.parts().writes;
+    for (out, events) in outs.into_iter().zip([KEYBOARD, MOUSE, FRAME]) {
+        let Some(proc) = started.roster.rfork(&mut started.proc, Flags::RFPROC)? else {
             return Err(Fault::NoProc);
         };
         devices.push(Device {
-            proc: child,
+            proc,
             out,
             events,
             ended: Ok(()),
         })?;
     }
-    let events = second.parts().read;
+    let (proc, events) = (started.proc, second.parts().read);
     let (window, sent) = join(
         rt,
         || show(rt, alloc, proc, events),
@@ -151,21 +136,11 @@ fn run<R: Threads + Wait + Sync>(
 }
 
 fn main(rt: HostRuntime) -> io::Result<()> {
-    let outcome = match Kernel::new(rt.alloc(), 4, 8) {
-        Ok(opened) => run(&rt, rt.alloc(), opened.kernel.start(opened.start)),
-        Err(fault) => Err(fault),
-    };
-    match outcome {
-        Ok(
-            Window {
-                typed,
-                mouse: (x, y),
-                moves,
-                size: (wide, high),
-            },
-        ) => {
-            let text = str::from_utf8(&typed).unwrap_or("?");
-            println!(rt; "typed '{text}', mouse at {x},{y} after {moves} moves, {wide} by {high}")
+    match run(&rt, rt.alloc()) {
+        Ok(window) => {
+            let typed = str::from_utf8(&window.typed).unwrap_or("?");
+            let (moves, (x, y), (wide, high)) = (window.moves, window.mouse, window.size);
+            println!(rt; "typed '{typed}', mouse at {x},{y} after {moves} moves, {wide} by {high}")
         }
         Err(fault) => println!(rt; "the window failed: {fault}"),
     }

@@ -5,6 +5,7 @@ use Rattle.std.specs.Str.{bytes_eq, chars}
 use Rattle.std.specs.Bool.{Decides}
 use Rattle.std.proofs.lemmas.Bool.Decides.{same_from_decides}
 use Rattle.std.proofs.lemmas.List.{append-nil}
+use Rattle.std.proofs.Math.Seq.{take-length}
 use Rattle.std.proofs.lemmas.Slice.Eq.{bytes_eq-Decides}
 use Rattle.clap.specs.Lexer.{long_of, short_of}
 use Rattle.clap.specs.Walk.{Names, Row, rows_of, Rule, Text, Walk, idle, walk, walk_from, walked, nothing_held, bundle_met, subcommand_met}
@@ -35,10 +36,15 @@ use Rattle.p9sync.specs.declared.args.Task.{Task}
 use Rattle.p9sync.specs.declared.args.Task.TheVariants.{Pipe, Replay, Threads}
 use Rattle.p9sync.specs.declared.opts.ThreadsOpts.{ThreadsOpts}
 use Rattle.p9sync.specs.declared.opts.Report.{Report}
+use Rattle.std.specs.Io.KnownBytes.{Appends}
+use Rattle.sync_base.specs.declared.fault.Fault.{Fault}
+use Rattle.p9sync.specs.Device.{AppendsFront, WritesTold}
+use Rattle.p9sync.specs.Script.{Told}
+use Rattle.p9sync.specs.ReportText.{report_line}
 use Rattle.p9sync.specs.Threads.{IsReportOf}
 use Rattle.p9sync.specs.Lines.{is_word}
 use Rattle.p9sync.specs.declared.args.TheConstants.{FAULT}
-use Rattle.p9sync.specs.Args.{command_line, command_named, number_asked, script_asked, task_asked, task_named, threads_asked, threads_named, EndsTask, EndsThreads}
+use Rattle.p9sync.specs.Args.{command_line, command_named, number_asked, script_asked, task_asked, task_named, threads_asked, threads_named, status_of, EndsRun, EndsTask, EndsThreads}
 use Rattle.sync_base.specs.declared.fault.Fault.TheVariants.{Memory}
 use Rattle.p9sync.proofs.DeviceLemmas.{appends_nothing}
 
@@ -493,28 +499,29 @@ abbrev top_number : ℕ
 top_number = 2 ^ 64 - 1
 
 -- a text that was read as a number is one
-module _ (E : Type 0) where
-  number_read : (text : Text) (r : Option ℕ)
-      → ReadsOne {T = ℕ} {E = E} (λ t v. ParsesUnsigned 64 10 t v) text r → r ≡ number_asked text
-  number_read text (Some v) (numeral, is) =
+module _ (E : Type 0) (gives : Text → Result ℕ E → Type 0)
+    (parses : (text : Text) (r : Result ℕ E) → gives text r → ParsesUnsigned 64 10 text r) where
+  number_read : (text : Text) (r : Option ℕ) → ReadsOne {T = ℕ} {E = E} gives text r
+      → r ≡ number_asked text
+  number_read text (Some v) given =
+      let numeral = parses text (Ok v) given in
       let passes : is_unsigned_in 0 top_number text ≡ true =
       Accepts-accepts false (vp.Unsigned 0 top_number) text
-      (numeral.0, numeral.1, omega arith, omega (arith, numeral.1)) in
-      rw passes (ap Some is)
-  number_read text None (e, refused) = by_test (is_unsigned_in 0 top_number text) refl
+      (numeral.0.0, numeral.0.1, omega arith, omega (arith, numeral.0.1)) in
+      rw passes (ap Some numeral.1)
+  number_read text None given = by_test (is_unsigned_in 0 top_number text) refl
     where
       by_test : (passes : Bool) → is_unsigned_in 0 top_number text ≡ passes
           → None ≡ number_asked text
       by_test true is =
           let accepted = accepts-Accepts false (vp.Unsigned 0 top_number) text is in
-          absurd (refused (accepted.0, accepted.1))
+          absurd (parses text (Err given.0) given.1 (accepted.0, accepted.1))
       by_test false is = rw is refl
 
   -- so what an option was given is read as the definition says
   pub option_read : (given : Option Text) (r : Option ℕ)
       → (given ≡ None → r ≡ None)
-      → ((text : Text) → given ≡ Some text
-          → ReadsOne {T = ℕ} {E = E} (λ t v. ParsesUnsigned 64 10 t v) text r)
+      → ((text : Text) → given ≡ Some text → ReadsOne {T = ℕ} {E = E} gives text r)
       → r ≡ option_and_then number_asked given
   option_read None r none read = none refl
   option_read (Some text) r none read = number_read text r (read text refl)
@@ -555,3 +562,30 @@ ends_for_memory (Some (Threads opts)) input held status is = record {
   is_report = no_report opts;
   ended = inr (is, (0, appends_nothing held));
 }
+
+-- before a report is written nothing is
+pub unreported : (opts : ThreadsOpts) (held : Option (List ℕ))
+    → (report : Report) × IsReportOf opts report × AppendsFront held held (report_line report)
+unreported opts held = (nothing_read opts, no_report opts, (0, appends_nothing held))
+
+-- what was written whole is a front of itself
+pub whole_is_front : (old new : Option (List ℕ)) (bytes : List ℕ) → Appends old new bytes
+    → AppendsFront old new bytes
+whole_is_front old new bytes whole =
+    (length bytes, subst (λ b. Appends old new b) (sym (take-length bytes)) whole)
+
+-- a run of a script ends so, where it was asked for
+pub ends_script : (told : List ℕ → Told) (unread held written : Option (List ℕ))
+    (outcome : Result (Unit {0}) Fault) (status : ℕ)
+    → IfSome unread (λ input. WritesTold (told input) held written outcome)
+    → status ≡ status_of outcome
+    → IfSome unread (λ input. EndsRun (told input) held written status)
+ends_script told None held written outcome status runs is = tt
+ends_script told (Some input) held written outcome status runs is =
+    record { outcome = outcome; written = runs; status_is = is }
+
+pub ends_as : (asked : Option Task) (task : Task) (unread held written : Option (List ℕ))
+    (status : ℕ)
+    → asked ≡ Some task → EndsTask task unread held written status
+    → IfSome asked (λ t. EndsTask t unread held written status)
+ends_as asked task unread held written status is ends = rw is ends

@@ -20,7 +20,7 @@ returns-in_err-matches-clause-refused g c =
     failed.2.1 (c.in_err-matches.ensures.passes
     (ap (λ (a : App). takes a words) c.in_ok-command.ensures ∙ taken)) in absurd (cc))
     (λ none. let memory =
-    failed.2.1 (only_memory _ _
+    failed.2.1 (only_memory _ c.in_err-matches.field-0.0
     (c.in_err-matches.ensures.kinds
     (ap is_simple_and_free c.in_ok-command.ensures ∙ line_is_simple))
     (ap (λ (a : App). fault_of a words) c.in_ok-command.ensures ∙ none)) in absurd (cc)))
