@@ -12,3 +12,5 @@ mod CountLemmas
 mod WalkLemmas
 mod OutcomeLemmas
 mod EndLemmas
+mod ValueLemmas
+mod WorkedCalls

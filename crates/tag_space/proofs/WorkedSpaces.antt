@@ -16,30 +16,30 @@ use Rattle.tag_space.specs.Promises.{AreMeetings, MeetsOnce, WaitApart, IsAlone}
 use Rattle.tag_space.proofs.SpaceLemmas.{groups_are_spaces}
 
 -- a member's own call, answered so
-abbrev told : GroupCall → GroupReply → Entry
+abbrev pub told : GroupCall → GroupReply → Entry
 told call reply = record { by = member_of call; request = call; reply = reply }
 
-abbrev gives : ℕ → ℕ → ℕ → GroupCall
+abbrev pub gives : ℕ → ℕ → ℕ → GroupCall
 gives member tag value = Call member (record { 0 = tag }) value
 
-abbrev offer : ℕ → ℕ → ℕ → ℕ → Offer
+abbrev pub offer : ℕ → ℕ → ℕ → ℕ → Offer
 offer number member tag value =
     record { number = number; member = member; tag = tag; value = value }
 
-abbrev two : Space
+abbrev pub two : Space
 two = record { members = 2; count = 0 }
 
 -- 0 waits, 1 finds it, 0 is told
-abbrev one_waits : List Entry
+abbrev pub one_waits : List Entry
 one_waits = told (gives 0 7 5) (Wait 0) ∷ []
 
-abbrev one_is_found : List Entry
+abbrev pub one_is_found : List Entry
 one_is_found = told (gives 1 7 9) (Met 5 0 1) ∷ one_waits
 
-abbrev one_is_told : List Entry
+abbrev pub one_is_told : List Entry
 one_is_told = told (Collect 0) (WasMet 9) ∷ one_is_found
 
-abbrev the_pair : Pair
+abbrev pub the_pair : Pair
 the_pair = record { waiting = offer 0 0 7 5; finding = offer 1 1 7 9 }
 
 a_call_waits : stage_of one_waits 0 ≡ Waits (offer 0 0 7 5)

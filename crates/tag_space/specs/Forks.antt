@@ -1,6 +1,6 @@
 -- What rfork does to tag spaces, after fork(2): a child is in its parent's space, but with RFREND
 -- the child is the first in a new space, or, where there is no child, the caller is.
-use Rattle.std.specs.Prelude.{◌≡◌, ◌⊎◌, ◌<◌, ◌==◌, ◌||◌, Bool, true, if◌then◌else◌, IsTrue}
+use Rattle.std.specs.Prelude.{◌≡◌, ◌⊎◌, ⊤, ◌<◌, ◌==◌, ◌||◌, Bool, true, if◌then◌else◌, IsTrue}
 use Rattle.std.specs.Prelude.{Option, Some, None}
 use Rattle.kernel_lock.specs.Seats.{KnowsAllGiven}
 use Rattle.sleep_wakeup.specs.Forks.{HasPid}
@@ -12,8 +12,8 @@ use Rattle.sync_base.specs.Flags.{bits_of}
 use Rattle.tag_space.specs.declared.forking.Child.{Child}
 use Rattle.tag_space.specs.declared.member.Member.{Member}
 use Rattle.tag_space.specs.declared.space.TagSpace.{TagSpace}
-use Rattle.tag_space.specs.Members.{IsMemberOf}
-use Rattle.tag_space.specs.Spaces.{IsNewSpace}
+use Rattle.tag_space.specs.Members.{IsMemberOf, IsSameMember}
+use Rattle.tag_space.specs.Spaces.{IsNewSpace, IsFirstMember}
 
 -- RFPROC and RFREND alone are known here
 abbrev pub AreKnown : Flags → Type 0
@@ -94,6 +94,20 @@ abbrev pub left_by : Unused → TagSpace → Flags → Unused
 left_by unused space flags =
     let rows = if asks_space flags then rendez_less space.procs unused else unused in
     if asks_child flags then one_pid_less rows else rows
+
+-- with RFREND alone the caller moves to the new space
+abbrev pub MovesCaller : Flags → Type 0
+MovesCaller flags = bits_of flags ≡ 2
+
+-- the caller has the member that it had, unless it moves
+abbrev pub KeepsMember : Flags → Member → Member → Type 0
+KeepsMember flags before after = ¬ MovesCaller flags → IsSameMember before after
+
+-- who is in the new space is its first member: the child, or where there is none the caller
+abbrev pub IsFirstThere : Option TagSpace → Member → Option Child → Type 0
+IsFirstThere None member child = ⊤
+IsFirstThere (Some new) member None = IsFirstMember new member
+IsFirstThere (Some new) member (Some child) = IsFirstMember new child.member
 
 -- ---- of the parts of rfork
 

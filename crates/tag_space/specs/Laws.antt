@@ -6,11 +6,13 @@ use Rattle.sync_base.specs.declared.ids.Tag.{Tag}
 use Rattle.tag_space.specs.declared.calls.GroupCall.{GroupCall}
 use Rattle.tag_space.specs.declared.calls.GroupCall.TheVariants.{Call, Leave}
 use Rattle.tag_space.specs.declared.calls.GroupReply.{GroupReply}
-use Rattle.tag_space.specs.declared.calls.GroupReply.TheVariants.{Worn, Gone}
+use Rattle.tag_space.specs.declared.calls.GroupReply.TheVariants.{Met, Worn, Gone}
 use Rattle.tag_space.specs.declared.place.TheConstants.{LAST_MEETING}
+use Rattle.tag_space.specs.declared.meeting.TheConstants.{INTERRUPTED}
 use Rattle.tag_space.specs.Group.{opening, group}
+use Rattle.tag_space.specs.Outcome.{IsInPair}
 use Rattle.tag_space.specs.Rendezvous.{Entry, Space, rendezvous}
-use Rattle.tag_space.specs.Rendezvous.{Offer, stage_of, IsAnswered}
+use Rattle.tag_space.specs.Rendezvous.{Offer, stage_of, IsAnswered, IsMet}
 use Rattle.tag_space.specs.Rendezvous.Stage.{Waits}
 use Rattle.tag_space.specs.Promises.{AreMeetings, MeetsOnce, WaitApart, IsAlone}
 
@@ -65,3 +67,29 @@ EachCallHasOneAnswer =
     (space : Space) (past : List Entry) (call : GroupCall) (first second : GroupReply)
     → IsLegal (rendezvous space) [] past → IsAnswered space past call first
     → IsAnswered space past call second → first ≡ second
+
+-- a call that finds a partner is in a pair, and is given the partner's value
+abbrev pub FoundIsInPair : Type 0
+FoundIsInPair =
+    (space : Space) (past : List Entry) (by member : ℕ) (tag : Tag) (value given other count : ℕ)
+    → IsLegal (rendezvous space) []
+    (record { by = by; request = Call member tag value; reply = Met given other count } ∷ past)
+    → IsInPair
+    (record { by = by; request = Call member tag value; reply = Met given other count } ∷ past)
+    (record { number = length past; member = member; tag = tag.0; value = value }) given
+
+-- the member is told of this value: a call of its own is in a pair, whose partner gives it
+pub record IsToldOf (past : List Entry) (member given : ℕ) : Type 0 where
+  pub offer : Offer
+  pub mine : offer.member ≡ member
+  pub in_pair : IsInPair past offer given
+
+-- a member that may be told of a meeting is in that pair
+abbrev pub ToldIsInPair : Type 0
+ToldIsInPair =
+    (space : Space) (past : List Entry) (member given : ℕ) → IsLegal (rendezvous space) [] past
+    → IsMet past member given → IsToldOf past member given
+
+-- after rendezvous(2): the word for an interruption is ~0
+abbrev pub InterruptedIs : Type 0
+InterruptedIs = INTERRUPTED ≡ 18446744073709551615

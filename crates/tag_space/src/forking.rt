@@ -13,7 +13,9 @@ ghost use Rattle.tag_space.specs.Forks.{
   childs_space,
   left_by,
   IsChild,
+  IsFirstThere,
   IsGroup,
+  KeepsMember,
   WhyNotInside,
   WhyNotOutside,
 };
@@ -84,6 +86,9 @@ pub fn rfork<'k, R: Wait>(
         HasChild roster.old (childs_space space.now forked.space) flags forked.child) }
     ensures member { IfOk result (λ forked.
         IsMemberOf (callers_space flags space.now forked.space) forked.member) }
+    ensures kept { IfOk result (λ forked. KeepsMember flags member forked.member) }
+    ensures first { IfOk result (λ forked.
+        IsFirstThere forked.space forked.member forked.child) }
     ensures left { OnOk result (roster.new ≡ left_by roster.old space.now flags) }
 
     // The parent is as it was.
@@ -127,6 +132,7 @@ fn fork_inside<'k, R: Wait>(
     ensures space { IfOk result (λ forked. forked.space ≡ None) }
     ensures child { IfOk result (λ forked. IsChild roster.old space.now forked.child) }
     ensures member { IfOk result (λ forked. IsMemberOf space.now forked.member) }
+    ensures kept { IfOk result (λ forked. IsSameMember member forked.member) }
     ensures left { OnOk result (roster.new ≡ one_pid_less roster.old) }
     ensures parent { parent.new ≡ parent.old }
 {
@@ -165,6 +171,8 @@ fn regroup<'k>(
     ensures child { IfOk result (λ forked. forked.child ≡ None) }
     ensures member { IfOk result (λ forked.
         IsMemberOf (childs_space space.now forked.space) forked.member) }
+    ensures first { IfOk result (λ forked.
+        IsFirstThere forked.space forked.member forked.child) }
     ensures left { OnOk result (roster.new ≡ rendez_less space.now.procs roster.old) }
 {
     match space.new_group(alloc, roster) {
@@ -193,6 +201,8 @@ fn fork_outside<'k>(
     ensures child { IfOk result (λ forked.
         IsChild roster.old (childs_space space.now forked.space) forked.child) }
     ensures member { IfOk result (λ forked. forked.member ≡ member) }
+    ensures first { IfOk result (λ forked.
+        IsFirstThere forked.space forked.member forked.child) }
     ensures left { OnOk result
         (roster.new ≡ one_pid_less (rendez_less space.now.procs roster.old)) }
     ensures parent { parent.new ≡ parent.old }

@@ -4,6 +4,7 @@
 ghost use Rattle.tag_space.specs.Laws.{GroupsAreSpaces, EachCallHasOneAnswer, LastMeetingIs};
 ghost use Rattle.tag_space.specs.Laws.{PairsAreMeetings, EachCallMeetsOnce, WaitingTagsDiffer};
 ghost use Rattle.tag_space.specs.Laws.{WhoLeftMeetsNobody, WhoIsWornMeetsNobody};
+ghost use Rattle.tag_space.specs.Laws.{FoundIsInPair, ToldIsInPair, InterruptedIs};
 
 /// Each history of a space as an object is a history of rendezvous: calls meet by their tags, each
 /// gets the other's value, and whoever left meets nobody.
@@ -24,6 +25,13 @@ pub fn calls_meet_in_pairs()
     ensures apart { WaitingTagsDiffer }
 {}
 
+/// Whoever is told of a meeting is in that pair, and is told the value that its partner gave: a
+/// call that finds a partner, and a member that asks or leaves.
+pub fn who_is_told_is_in_a_pair()
+    ensures found { FoundIsInPair }
+    ensures told { ToldIsInPair }
+{}
+
 /// A call that ended without a meeting is in no pair, now and later: its member left, or it was
 /// worn out.
 pub fn who_is_out_meets_nobody()
@@ -34,4 +42,9 @@ pub fn who_is_out_meets_nobody()
 /// The last count of meetings.
 pub fn last_meeting()
     ensures { LastMeetingIs }
+{}
+
+/// The word for an interruption.
+pub fn interrupted_word()
+    ensures { InterruptedIs }
 {}

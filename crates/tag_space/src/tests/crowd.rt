@@ -1,12 +1,14 @@
 //! Eight processes that meet at random tags, while a ninth posts notes at random. Each exchange is
 //! told by both sides, each once, with the other's value.
+ghost use Rattle.std.specs.Prelude.{◌≡◌};
 ghost use Rattle.tag_space.specs.Members.{IsMemberOf, HasRow};
 
 use crate::tests::scene::{Scene, forked, opened};
 use crate::{Child, TagSpace};
-use sleep_wakeup::{Kernel, Proc};
+use sleep_wakeup::{Kernel, Proc, Roster};
 use std::alloc::{AllocError, Global};
 use std::marker::Model;
+use std::process::Abort;
 use std::sync::Wait;
 use std::sync::atomic::AtomicU64;
 use std::sync::atomic::Ordering::SeqCst;
@@ -116,7 +118,7 @@ fn call_in_turn<R: Wait>(
     alloc: Global,
     board: &Board,
     space: &TagSpace,
-    mut child: Child,
+    child: Child,
     number: u64,
 ) -> Result<Work, AllocError>
     requires member { IsMemberOf space.now child.member }
@@ -128,13 +130,17 @@ fn call_in_turn<R: Wait>(
         refused: 0,
     };
     let mut dice = Dice { state: number };
+    let Child {
+        mut proc,
+        mut member,
+    } = child;
     for call in 0..u64::MAX {
         if board.told.load(SeqCst) >= 2 * MEETINGS {
             break;
         }
         let tag = dice.roll(TAGS);
         let given = value_of(number, call, tag);
-        match space.rendezvous(rt, &mut child.proc, &mut child.member, Tag(tag), given) {
+        match space.rendezvous(rt, &mut proc, &mut member, Tag(tag), given) {
             Ok(got) => {
                 board.told.fetch_add(1, SeqCst);
                 work.exchanges.push(Exchange { given, got })?;
@@ -174,6 +180,30 @@ fn make_work<R: Wait>(rt: &R, alloc: Global, board: &Board, job: Job) -> Result<
     }
 }
 
+// Eight processes with a member each.
+fn callers<'s, 'k, R: Wait + Abort>(
+    rt: &R,
+    alloc: Global,
+    space: &'s TagSpace,
+    roster: &mut Roster<'k>,
+    first: &mut Child<'k>,
+) -> Result<Vec<Job<'s, 'k>>, AllocError>
+    requires member { IsMemberOf space.now first.old.member }
+    requires row { HasRow space.now first.old.proc.words }
+    requires words { roster.old.words ≡ first.old.proc.words }
+{
+    let mut jobs = Vec::new(alloc);
+    for number in 0..CALLERS {
+        let child = forked(rt, space, roster, first);
+        jobs.push(Job::Calls(Calls {
+            space,
+            child,
+            number,
+        }))?;
+    }
+    Ok(jobs)
+}
+
 #[test]
 fn a_crowd_meets_in_pairs(rt: HostRuntime) -> Result<(), Fail> {
     let sleep_wakeup::Opened { kernel, start } = Kernel::new(rt.alloc(), CALLERS + 2, CALLERS + 1)?;
@@ -186,15 +216,7 @@ fn a_crowd_meets_in_pairs(rt: HostRuntime) -> Result<(), Fail> {
         told: AtomicU64::new(0),
         ended: AtomicU64::new(0),
     };
-    let mut jobs = Vec::new(rt.alloc());
-    for number in 0..CALLERS {
-        let child = forked(&rt, &space, &mut roster, &mut first);
-        jobs.push(Job::Calls(Calls {
-            space: &space,
-            child,
-            number,
-        }))?;
-    }
+    let mut jobs = callers(&rt, rt.alloc(), &space, &mut roster, &mut first)?;
     jobs.push(Job::Posts(first.proc))?;
     let alloc = rt.alloc();
     let done = thread::map_vec(

@@ -1,4 +1,5 @@
 //! The example of the manual page, line for line. `tests/pages` compares it with the page.
+use crate::Child;
 use crate::tests::scene::{Scene, forked, opened};
 use sleep_wakeup::{Kernel, Opened};
 use std::test::Fail;
@@ -11,13 +12,21 @@ fn rendezvous_page(rt: HostRuntime) -> Result<(), Fail> {
     let Scene {
         mut roster,
         space,
-        first: mut reader,
+        mut first,
     } = opened(&rt, rt.alloc(), &kernel, start, 2)?;
-    let mut writer = forked(&rt, &space, &mut roster, &mut reader);
+    let second = forked(&rt, &space, &mut roster, &mut first);
+    let Child {
+        proc: mut reader,
+        member: mut readers,
+    } = first;
+    let Child {
+        proc: mut writer,
+        member: mut writers,
+    } = second;
     let (got, given) = join(
         &rt,
-        || space.rendezvous(&rt, &mut reader.proc, &mut reader.member, Tag(7), 5),
-        || space.rendezvous(&rt, &mut writer.proc, &mut writer.member, Tag(7), 9),
+        || space.rendezvous(&rt, &mut reader, &mut readers, Tag(7), 5),
+        || space.rendezvous(&rt, &mut writer, &mut writers, Tag(7), 9),
     );
     assert_eq!(rt; (got, given), (Ok(9), Ok(5)));
     Ok(())

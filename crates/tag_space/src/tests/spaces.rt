@@ -60,11 +60,19 @@ fn a_call_in_another_space_meets_nobody(rt: HostRuntime) -> Result<(), Fail> {
     );
     assert_eq!(rt; meddler.answer, Err(Fault::Interrupted(interrupt)));
     // Another doesn't meet it either, and in words its interruption is a number.
-    third.proc.put_back(interrupt);
+    let Child {
+        proc: mut its,
+        member: mut place,
+    } = third;
+    its.put_back(interrupt);
     assert_eq!(rt;
-        other.rendezvous_word(&rt, &mut third.proc, &mut third.member, TAG, 9),
+        other.rendezvous_word(&rt, &mut its, &mut place, TAG, 9),
         Ok(18_446_744_073_709_551_615)
     );
+    let mut third = Child {
+        proc: its,
+        member: place,
+    };
     assert_eq!(rt; INTERRUPTED, 18_446_744_073_709_551_615);
     // Both left, so a later call waits for a further caller.
     let (six, eight) = join(
