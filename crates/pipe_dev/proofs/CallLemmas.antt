@@ -1,22 +1,18 @@
 -- What the rounds of a read and of a write come to.
-use Rattle.std.proofs.Common.{◌≡◌, ℕ, ◌+◌, ◌<◌, ◌≤◌, List, refl, subst, arith}
+use Rattle.std.proofs.Common.{◌≡◌, ℕ, ◌<◌, List, refl, subst, arith}
 use Rattle.std.specs.Prelude.{Err}
 use Rattle.sync_base.specs.declared.fault.Fault.{Fault}
 use Rattle.sync_base.specs.declared.fault.Fault.TheVariants as fault
 use Rattle.sync_base.specs.declared.ids.RendezId.{RendezId}
-use Rattle.sync_base.specs.declared.limits.TheConstants.{TOP_LEVEL}
 use Rattle.rendez_words.specs.declared.words.Words.{Words}
 use Rattle.rendez_words.specs.Process.{Process}
-use Rattle.rendez_words.specs.Words.{rendez_of}
 use Rattle.sleep_wakeup.specs.Calls.{WhyNotSlept}
 use Rattle.histories.specs.declared.account.Account.{Account}
-use Rattle.block_queue.specs.declared.entry.Entry.TheVariants as entry
 use Rattle.block_queue.specs.declared.entry.Entry.{Entry}
 use Rattle.block_queue.specs.declared.view.Key.{Key}
 use Rattle.pipe_dev.specs.declared.row.Row.{Row}
-use Rattle.pipe_dev.specs.ReadCalls.{Reader, FindsNone, FindsNotYet, FailsForWrite}
+use Rattle.pipe_dev.specs.ReadCalls.{Reader, FindsNotYet, FailsForWrite}
 use Rattle.pipe_dev.specs.Rendezes.{HasRow, reader_rendez, writer_rendez}
-use Rattle.pipe_dev.specs.Rounds.{FailsAsleep}
 use Rattle.pipe_dev.specs.WriteCalls.{Writer, FindsFull, FailsForRoom, EndsWrite, IsAsked}
 use Rattle.pipe_dev.proofs.RoundLemmas.{fails_asleep, not_yet_low, full_low}
 

@@ -1,13 +1,12 @@
 -- The calls of a read end are steps, and what all steps and a finish come to.
-use Rattle.std.proofs.Common.{◌≡◌, ◌≢◌, ◌⊎◌, inl, inr, eqb, ℕ, zero, suc, ◌+◌, Bool, true, false, List, [], ◌∷◌, ◌++◌, length, drop, refl, sym, ◌∙◌, ap, subst}
-use Rattle.std.specs.Prelude.{◌||◌, Result, Ok, Err, None, take}
+use Rattle.std.proofs.Common.{◌≡◌, ◌≢◌, ◌⊎◌, inl, inr, eqb, ℕ, zero, suc, ◌+◌, Bool, true, false, List, [], ◌∷◌, length, drop, refl, sym, ◌∙◌, ap}
+use Rattle.std.specs.Prelude.{◌||◌, Ok, Err, take}
 use Rattle.std.specs.List.{AllByRecursion}
 use Rattle.std.proofs.lemmas.Bool.Decides.{eqb_tells}
 use Rattle.std.proofs.lemmas.List.{take_at}
 use Rattle.histories.specs.declared.account.Share.{Share}
 use Rattle.histories.specs.Account.{has_number}
 use Rattle.histories.proofs.ListLemmas.{all_past, all_since}
-use Rattle.sync_base.specs.declared.fault.Fault.{Fault}
 use Rattle.block_queue.specs.declared.entry.Entry.{Entry}
 use Rattle.block_queue.specs.declared.entry.Entry.TheVariants.{NotYet, End, Hung}
 use Rattle.block_queue.specs.declared.view.Key.{Key}
@@ -16,13 +15,12 @@ use Rattle.pipe_dev.specs.declared.answers.ReadAnswer.TheVariants as read
 use Rattle.pipe_dev.specs.declared.answers.TryAnswer.TheVariants as try
 use Rattle.pipe_dev.specs.declared.row.Row.{Row}
 use Rattle.pipe_dev.specs.CallLaws.{ReadsAreSteps, TriesAreSteps, HangupsAreSteps}
-use Rattle.pipe_dev.specs.Chain.{AddsPart, AddsNothing, ReadStep, AddsOne, HasWritten, IsNoBlock, reading_at}
-use Rattle.pipe_dev.specs.Ends.{ReadSide, WriteSide, reading_of}
+use Rattle.pipe_dev.specs.Chain.{AddsPart, AddsNothing, ReadStep, AddsOne, IsNoBlock, reading_at}
+use Rattle.pipe_dev.specs.Ends.{WriteSide, reading_of}
 use Rattle.pipe_dev.specs.Finishing.{accepted_in, shares_of, holdings_of}
 use Rattle.pipe_dev.specs.Laws.{EachWriteIsReadWholeAndOnce, IsAllOfWriter, IsAllWritten, found_at}
 use Rattle.pipe_dev.specs.Parts.{Part, bytes_by}
 use Rattle.pipe_dev.specs.ReadCalls.{Reader, Gets, FindsNone, IsFilled, SleepsForWrite, part_of}
-use Rattle.pipe_dev.specs.Reading.{Reading}
 use Rattle.pipe_dev.specs.Rounds.{Rounds}
 use Rattle.pipe_dev.proofs.LawLemmas.{each_share_is_read_whole_and_once}
 use Rattle.pipe_dev.proofs.ReadingLemmas.{what_is_read_is_right}

@@ -1,12 +1,11 @@
 -- What the ends of a direction were, and what a finish gives.
-use Rattle.std.proofs.Common.{◌≡◌, ℕ, ◌+◌, ◌≤◌, List, [], ◌∷◌, length, map, Option, Some, refl, sym, ◌∙◌, ap, subst, arith}
+use Rattle.std.proofs.Common.{◌≡◌, ℕ, List, [], ◌∷◌, length, map, Option, Some, refl, sym, ◌∙◌, ap, subst, arith}
 use Rattle.std.specs.List.{AllByRecursion}
-use Rattle.histories.specs.Account.{numbers_from}
 use Rattle.block_queue.specs.declared.gather.Gathered.{Gathered}
 use Rattle.block_queue.specs.declared.queue.Queue.{Queue}
 use Rattle.block_queue.specs.declared.seats.PutSeat.{PutSeat}
 use Rattle.block_queue.specs.Gather.{AreAllSeats, Gathers}
-use Rattle.block_queue.specs.Seats.{IsPutSeatOf, key_of, put_account, take_account}
+use Rattle.block_queue.specs.Seats.{IsPutSeatOf, key_of, take_account}
 use Rattle.pipe_dev.specs.declared.closing.Held.{Held}
 use Rattle.pipe_dev.specs.declared.hand.ReadHand.{ReadHand}
 use Rattle.pipe_dev.specs.declared.row.Row.{Row}

@@ -1,12 +1,11 @@
 -- What steps make of a read end has read just what it took out.
-use Rattle.std.proofs.Common.{◌≡◌, ◌≢◌, ◌⊎◌, inl, inr, ℕ, zero, suc, ◌+◌, ◌<◌, ◌≤◌, Bool, true, false, if◌then◌else◌, List, [], ◌∷◌, ◌++◌, length, reverse, take, drop, Option, None, Some, refl, sym, ◌∙◌, ap, subst, arith, length-append, zero-add}
+use Rattle.std.proofs.Common.{◌≡◌, ◌≢◌, ◌⊎◌, inl, inr, ℕ, zero, suc, ◌+◌, ◌<◌, ◌≤◌, Bool, true, false, if◌then◌else◌, List, [], ◌∷◌, ◌++◌, length, reverse, take, drop, Option, None, Some, refl, sym, ◌∙◌, ap, subst, arith, zero-add}
 use Rattle.std.specs.Prelude.{IsTrue, nat_le, slice_get}
-use Rattle.std.specs.List.{AllByRecursion}
 use Rattle.std.proofs.lemmas.Bool.Decides.{nat_tests}
 use Rattle.std.proofs.lemmas.List.{take_all, take-append-le, take-append-drop, length-drop, length-take-le, append-nil}
 use Rattle.std.proofs.lemmas.Option.{slice_get_within}
 use Rattle.histories.specs.declared.account.Account.{Account}
-use Rattle.histories.specs.Account.{has_number, HasItsEntries}
+use Rattle.histories.specs.Account.{has_number}
 use Rattle.histories.specs.History.{entries_by}
 use Rattle.sync_base.specs.Pipe.{PipeState}
 use Rattle.sync_base.specs.Write.{Write}
@@ -22,14 +21,14 @@ use Rattle.block_queue.proofs.SeatLemmas.{entered_own}
 use Rattle.block_queue.proofs.StateLemmas.{begun_is}
 use Rattle.pipe_dev.specs.declared.row.Row.{Row}
 use Rattle.pipe_dev.specs.CallLaws.{WhatIsReadIsRight}
-use Rattle.pipe_dev.specs.Chain.{AddsPart, AddsNothing, ReadStep, IsMade, IsNoBlock, reader_in}
+use Rattle.pipe_dev.specs.Chain.{AddsPart, AddsNothing, ReadStep, IsNoBlock, reader_in}
 use Rattle.pipe_dev.specs.Finishing.{left_state}
-use Rattle.pipe_dev.specs.Parts.{Part, pieces_of, continued, with_part, longer_by, whole_from, whole_at, is_empty}
-use Rattle.pipe_dev.specs.ReadCalls.{Gets, GoesOn, TakesOut, part_of, rest_of}
+use Rattle.pipe_dev.specs.Parts.{Part, pieces_of, continued, with_part, whole_from, whole_at}
+use Rattle.pipe_dev.specs.ReadCalls.{GoesOn, TakesOut, part_of, rest_of}
 use Rattle.pipe_dev.specs.Reading.{Reading, IsReading, IsRight, IsRest, seen_state, first_reading}
 use Rattle.pipe_dev.specs.Rounds.{Rounds}
 use Rattle.pipe_dev.proofs.LawLemmas.{OnlyAccepts, only_accepts, none_since, read_within}
-use Rattle.pipe_dev.proofs.PartLemmas.{AreOfOneWrite, with_part-twice, with_part-next, whole_from-append, reverse-cons, is_empty_not}
+use Rattle.pipe_dev.proofs.PartLemmas.{with_part-twice, with_part-next, whole_from-append, reverse-cons, is_empty_not}
 use Rattle.pipe_dev.proofs.RoundLemmas.{entered_right, entered_legal}
 use Rattle.pipe_dev.proofs.SeatingLemmas.{same_entries, reader_knows}
 

@@ -1,10 +1,10 @@
 -- What a sleep between two tries tells, and which numbers it may have.
-use Rattle.std.proofs.Common.{◌≡◌, ◌≢◌, ℕ, ◌+◌, ◌<◌, ◌≤◌, true, false, List, [], ◌∷◌, length, refl, sym, ◌∙◌, ap, subst, arith, inl, inr, ◌⊎◌}
+use Rattle.std.proofs.Common.{◌≡◌, ℕ, ◌<◌, true, List, [], ◌∷◌, sym, subst, arith}
 use Rattle.sync_base.specs.declared.fault.Fault.{Fault}
 use Rattle.sync_base.specs.declared.fault.Fault.TheVariants as fault
 use Rattle.sync_base.specs.declared.ids.RendezId.{RendezId}
-use Rattle.sync_base.specs.declared.limits.TheConstants.{TOP_LEVEL, LAST_WRITE}
-use Rattle.sync_base.specs.Pipe.{begun_number, begun_of}
+use Rattle.sync_base.specs.declared.limits.TheConstants.{TOP_LEVEL}
+use Rattle.sync_base.specs.Pipe.{begun_number}
 use Rattle.rendez_words.specs.declared.words.Words.{Words}
 use Rattle.rendez_words.specs.Process.{Process}
 use Rattle.rendez_words.specs.Words.{rendez_of}

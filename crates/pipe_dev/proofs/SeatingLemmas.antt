@@ -1,7 +1,7 @@
 -- Seats and the write ends that hold them.
-use Rattle.std.proofs.Common.{◌≡◌, ◌≢◌, ◌⊎◌, inl, inr, eqb, ℕ, zero, suc, ◌+◌, ◌<◌, ◌≤◌, Bool, true, false, List, [], ◌∷◌, ◌++◌, length, map, refl, sym, ◌∙◌, ap, subst, arith}
-use Rattle.std.specs.Prelude.{IsTrue, ◌||◌, slice_get, Some}
-use Rattle.std.specs.List.{AllByRecursion, list_any}
+use Rattle.std.proofs.Common.{◌≡◌, ◌≢◌, ◌⊎◌, inl, inr, eqb, ℕ, zero, suc, ◌+◌, ◌<◌, ◌≤◌, Bool, true, false, List, [], ◌∷◌, length, map, refl, sym, ◌∙◌, ap, subst, arith}
+use Rattle.std.specs.Prelude.{◌||◌, slice_get, Some}
+use Rattle.std.specs.List.{AllByRecursion}
 use Rattle.std.proofs.lemmas.Bool.Decides.{eqb_tells}
 use Rattle.histories.specs.declared.account.Account.{Account}
 use Rattle.histories.specs.declared.account.Share.{Share}
@@ -13,15 +13,15 @@ use Rattle.block_queue.specs.declared.queue.Queue.{Queue}
 use Rattle.block_queue.specs.declared.seats.PutSeat.{PutSeat}
 use Rattle.block_queue.specs.declared.view.Key.{Key}
 use Rattle.block_queue.specs.Gather.{AreTheirs, numbers_of}
-use Rattle.block_queue.specs.History.{seat_of, opening_state}
-use Rattle.block_queue.specs.Meaning.{KnowsQueue, queue_meaning}
-use Rattle.block_queue.specs.Opening.{IsNewPutSeat, AreNewPutSeats, new_account, reader_account}
+use Rattle.block_queue.specs.History.{seat_of}
+use Rattle.block_queue.specs.Meaning.{KnowsQueue}
+use Rattle.block_queue.specs.Opening.{IsNewPutSeat, new_account, reader_account}
 use Rattle.block_queue.specs.Seats.{IsPutSeatOf, key_of, put_account}
 use Rattle.pipe_dev.specs.declared.row.Row.{Row}
-use Rattle.pipe_dev.specs.Ends.{ReadSide, WriteSide, AreOfOne, AreAllEnds, IsRowOf, IsWriteHand}
+use Rattle.pipe_dev.specs.Ends.{ReadSide, WriteSide, AreOfOne, IsRowOf, IsWriteHand}
 use Rattle.pipe_dev.specs.Finishing.{shares_of}
 use Rattle.pipe_dev.specs.Openings.{IsSeatToGive, IsNewWriteEnd}
-use Rattle.pipe_dev.specs.Seating.{IsHandOf, IsSeatOf, AreSeatsOf, side_of}
+use Rattle.pipe_dev.specs.Seating.{IsHandOf, AreSeatsOf, side_of}
 
 -- ---- what a new seat knows
 

@@ -1,9 +1,7 @@
 -- A wakeup that has returned stands in the steps of whoever made it, and releases its sleeper.
-use Rattle.std.proofs.Common.{◌≡◌, ◌≢◌, ◌⊎◌, inl, inr, eqb, true, false, ℕ, zero, suc, ◌+◌, ◌<◌, List, [], ◌∷◌, ◌++◌, Option, None, Some, refl, sym, ◌∙◌, ap, subst, arith}
+use Rattle.std.proofs.Common.{◌≡◌, ◌≢◌, ◌⊎◌, inl, inr, eqb, true, false, ℕ, zero, suc, ◌+◌, ◌<◌, List, [], ◌∷◌, ◌++◌, Option, None, Some, sym, subst, arith}
 use Rattle.std.specs.List.{cons_option}
 use Rattle.std.proofs.lemmas.Bool.Decides.{eqb_tells}
-use Rattle.histories.specs.History.{IsPast}
-use Rattle.sync_base.specs.declared.ids.Pid.{Pid}
 use Rattle.sync_base.specs.declared.ids.RendezId.{RendezId}
 use Rattle.sync_base.specs.declared.limits.TheConstants.{TOP_LEVEL}
 use Rattle.sleep_core.specs.declared.answer.Answer.TheVariants as answer
@@ -15,7 +13,7 @@ use Rattle.sleep_core.specs.Runs.{Entry, world_of}
 use Rattle.rendez_words.specs.declared.view.Sizes.{Sizes}
 use Rattle.rendez_words.specs.Process.{Process, pid_in, sleeper_of}
 use Rattle.rendez_words.specs.Rule.{ShowsCore}
-use Rattle.rendez_words.specs.Steps.{raises, finds_nobody, takes, marks}
+use Rattle.rendez_words.specs.Steps.{raises, takes}
 use Rattle.rendez_words.proofs.LawLemmas.{receipts_release}
 use Rattle.sleep_wakeup.specs.Calls.{Ends}
 use Rattle.pipe_dev.specs.declared.row.Row.{Row}

@@ -1,8 +1,7 @@
 -- Directions of a pipe worked out by the definitions alone, and what they refuse.
-use Rattle.std.proofs.Common.{◌≡◌, ℕ, true, false, List, [], ◌∷◌, Option, Some, None, refl, inl, inr, sym, ap, arith, length, ◌⊎◌}
-use Rattle.std.specs.Prelude.{Ok, Err, reverse}
+use Rattle.std.proofs.Common.{◌≡◌, ℕ, false, List, [], ◌∷◌, Option, Some, None, refl, inl, inr, sym, ap, arith, length, ◌⊎◌}
+use Rattle.std.specs.Prelude.{Err, reverse}
 use Rattle.histories.specs.declared.account.Account.{Account}
-use Rattle.histories.specs.declared.account.Share.{Share}
 use Rattle.sync_base.specs.declared.ids.RendezId.{RendezId}
 use Rattle.sync_base.specs.declared.fault.Fault.TheVariants as fault
 use Rattle.sync_base.specs.Pipe.{PipeState}
@@ -12,16 +11,15 @@ use Rattle.rendez_words.specs.Steps.{raises, finds_nobody}
 use Rattle.block_queue.specs.declared.entry.Entry.{Entry}
 use Rattle.block_queue.specs.declared.entry.Entry.TheVariants.{Taken, Stood, Block, Hung}
 use Rattle.block_queue.specs.declared.view.Key.{Key}
-use Rattle.block_queue.specs.Opening.{reader_account, new_account}
+use Rattle.block_queue.specs.Opening.{new_account}
 use Rattle.pipe_dev.specs.declared.row.Row.{Row}
 use Rattle.pipe_dev.specs.Chain.{HasWritten, AddsOne, written_by, IsNoBlock}
-use Rattle.pipe_dev.specs.Ends.{ReadSide, WriteSide}
 use Rattle.pipe_dev.specs.Finishing.{Finishes, Holdings}
 use Rattle.pipe_dev.specs.Laws.{NoWriteAfterHangup, read_and_held}
 use Rattle.pipe_dev.specs.Parts.{Part, pieces_of, bytes_by}
 use Rattle.pipe_dev.specs.ReadCalls.{Reader, Gets, GoesOn, TakesOut, IsFilled, part_of, rest_of}
-use Rattle.pipe_dev.specs.Reading.{IsRight, first_reading}
-use Rattle.pipe_dev.specs.Rendezes.{WakesOne, WakesWriters, reader_rendez, writer_rendez}
+use Rattle.pipe_dev.specs.Reading.{IsRight}
+use Rattle.pipe_dev.specs.Rendezes.{WakesOne, WakesWriters, reader_rendez}
 use Rattle.pipe_dev.specs.Rounds.{FailsAsleep}
 use Rattle.pipe_dev.specs.WriteCalls.{HasHang, atomic_writes, bytes_in}
 
@@ -261,11 +259,19 @@ finished =
     record {
       history = both;
       legal = record {
-        legal = (record { may = record { next = refl; number_is = refl }; in_turn = refl },
-            (record { may = tt; in_turn = refl },
-            (record { may = record { may = (refl, omega arith); number_is = refl; given = omega arith }; in_turn = refl },
-            (record { may = tt; in_turn = refl },
-            (record { may = record { may = (refl, omega arith); number_is = refl; given = omega arith }; in_turn = refl }, tt)))));
+        legal = (
+          record { may = record { next = refl; number_is = refl }; in_turn = refl },
+          (
+            record { may = tt; in_turn = refl },
+            (
+              record { may = record { may = (refl, omega arith); number_is = refl; given = omega arith }; in_turn = refl },
+              (
+                record { may = tt; in_turn = refl },
+                (record { may = record { may = (refl, omega arith); number_is = refl; given = omega arith }; in_turn = refl }, tt),
+              ),
+            ),
+          ),
+        );
         within = (omega arith, (omega arith, (omega arith, (omega arith, (omega arith, tt)))));
       };
       seen = record { since = []; new_is = refl };

@@ -1,16 +1,16 @@
 -- What the calls of a write end add to what its seat knows as accepted.
-use Rattle.std.proofs.Common.{◌≡◌, ◌≢◌, ◌⊎◌, inl, inr, eqb, ◌==◌, ℕ, zero, suc, ◌+◌, Bool, true, false, if◌then◌else◌, List, [], ◌∷◌, ◌++◌, map, refl, sym, ◌∙◌, ap, subst}
+use Rattle.std.proofs.Common.{◌≡◌, ◌≢◌, ◌⊎◌, inl, inr, eqb, ℕ, zero, suc, ◌+◌, true, false, if◌then◌else◌, List, [], ◌∷◌, ◌++◌, map, refl, sym, ◌∙◌, ap, subst}
 use Rattle.std.specs.Prelude.{IsTrue, ◌||◌, Result, Ok, Err}
 use Rattle.std.specs.List.{AllByRecursion}
 use Rattle.std.proofs.lemmas.Bool.Decides.{eqb_tells}
-use Rattle.std.proofs.lemmas.List.{append-nil, append_assoc}
+use Rattle.std.proofs.lemmas.List.{append-nil}
 use Rattle.histories.specs.declared.account.Account.{Account}
 use Rattle.histories.specs.declared.account.Share.{Share}
 use Rattle.histories.specs.Account.{has_number, share_after}
 use Rattle.sync_base.specs.declared.fault.Fault.{Fault}
 use Rattle.sync_base.specs.declared.fault.Fault.TheVariants as fault
 use Rattle.block_queue.specs.declared.entry.Entry.{Entry}
-use Rattle.block_queue.specs.declared.entry.Entry.TheVariants.{Taken, Stood, Full, Hungup, Worn, Block, NotYet, End, Hung}
+use Rattle.block_queue.specs.declared.entry.Entry.TheVariants.{Taken, Stood, Full, Hungup, Worn, Hung}
 use Rattle.block_queue.specs.declared.view.Key.{Key}
 use Rattle.block_queue.specs.History.{seat_of}
 use Rattle.block_queue.specs.Meaning.{Enters}
@@ -21,7 +21,7 @@ use Rattle.pipe_dev.specs.CallLaws.{NewEndsHaveWrittenNothing, WritesAddWhatWasA
 use Rattle.pipe_dev.specs.Chain.{HasWritten, written_by}
 use Rattle.pipe_dev.specs.Finishing.{accepted_in}
 use Rattle.pipe_dev.specs.Rounds.{Rounds}
-use Rattle.pipe_dev.specs.WriteCalls.{Writer, Writes, Asks, EndsWrite, SleepsForRoom}
+use Rattle.pipe_dev.specs.WriteCalls.{Writer, Asks, EndsWrite, SleepsForRoom}
 
 -- the seat knows these of the shares of this writer
 abbrev Are : ℕ → List (List ℕ) → List (Share Entry) → Type 0

@@ -1,12 +1,11 @@
 -- What clauses see of the ends of a direction.
-use Rattle.std.specs.Prelude.{◌≡◌, ℕ, ◌+◌, ⊤, List, [], map, Option, Some, None}
+use Rattle.std.specs.Prelude.{◌≡◌, ℕ, List, [], map, Option, Some, None}
 use Rattle.std.specs.List.{AllByRecursion}
 use Rattle.histories.specs.declared.account.Account.{Account}
 use Rattle.histories.specs.Account.{numbers_from, spent_account}
 use Rattle.block_queue.specs.declared.entry.Entry.{Entry}
 use Rattle.block_queue.specs.declared.queue.Queue.{Queue}
 use Rattle.block_queue.specs.declared.seats.PutSeat.{PutSeat}
-use Rattle.block_queue.specs.declared.seats.TakeSeat.{TakeSeat}
 use Rattle.block_queue.specs.Meaning.{KnowsQueue}
 use Rattle.block_queue.specs.Seats.{IsPutSeatOf, IsTakeSeatOf, key_of, put_account, take_account}
 use Rattle.pipe_dev.specs.declared.row.Row.{Row}

@@ -53,12 +53,14 @@ left_state key history = (queue_after key history).pipe
 pub record Finishes (key : Key) (reading : Reading) (writers : List (Share Entry))
     (held : Holdings) : Type 0 where
   pub history : List Entry
-  pub legal : IsHistory (queue_meaning key.first) (opening_state key.limit) (key.writers + 1) history
+  pub legal : IsHistory (queue_meaning key.first) (opening_state key.limit) (key.writers + 1)
+      history
   pub seen : IsPast reading.account.seen history
   pub no_more_read : entries_by seat_of 0 history ≡ entries_by seat_of 0 reading.account.seen
   pub shares : AllByRecursion (HasItsEntries seat_of history) writers
   pub rest : held.rest ≡ rest_bytes reading.rest
-  pub writes : held.writes ≡ drop (left_state key history).read_whole (left_state key history).accepted
+  pub writes : held.writes ≡
+      drop (left_state key history).read_whole (left_state key history).accepted
   pub hung : held.hung ≡ (left_state key history).hung
 
 -- what a finish gave is what such ends hold, whatever parts the read end has read

@@ -31,10 +31,9 @@ pub record IsSeatToGive (queue : Queue) (row : Row) (seat : PutSeat) : Type 0 wh
   pub hand : IsWriteHand queue row seat.writer seat
   pub unused : put_account seat ≡ new_account (seat.writer + 1)
 
--- what the ends of this direction are made of, with its Rendez from this number on
-pub record IsLaneOf (queue : Queue) (first : ℕ) (lane : Lane) : Type 0 where
+-- what the ends of this direction are made of
+pub record IsLaneOf (queue : Queue) (lane : Lane) : Type 0 where
   pub row_is : IsRowOf queue lane.row
-  pub first_is : lane.row.first ≡ first
   pub read : IsReadHand queue lane.row (record { seat = lane.take; rest = None })
   pub unread : take_account lane.take ≡ reader_account lane.row.writers
   pub writes : AllByRecursion (IsSeatToGive queue lane.row) lane.puts.items
@@ -42,18 +41,18 @@ pub record IsLaneOf (queue : Queue) (first : ℕ) (lane : Lane) : Type 0 where
   pub none : lane.room.items ≡ []
   pub room : length lane.puts.items ≤ vec_capacity lane.room
 
--- the start was made with the pipe, whose Rendez are these from the first on
+-- the start was made with the pipe
 pub record IsStartOf (pipe : Pipe) (start : PipeStart) : Type 0 where
-  pub there : IsLaneOf pipe.there start.there.row.first start.there
-  pub back : IsLaneOf pipe.back start.back.row.first start.back
+  pub there : IsLaneOf pipe.there start.there
+  pub back : IsLaneOf pipe.back start.back
 
 -- a new pipe of this size, with its Rendez in a row from this number on: first those of the one
 -- direction, and then those of the other
 pub record Opens (limit writers first : ℕ) (opened : Opened) : Type 0 where
   pub there_key : key_of opened.pipe.there ≡ key_for limit writers
   pub back_key : key_of opened.pipe.back ≡ key_for limit writers
-  pub there : IsLaneOf opened.pipe.there first opened.start.there
-  pub back : IsLaneOf opened.pipe.back (first + 1 + writers) opened.start.back
+  pub there_first : opened.start.there.row.first ≡ first
+  pub back_first : opened.start.back.row.first ≡ first + 1 + writers
 
 -- its Rendez are the kernel's
 pub record HasRows (words : Words) (opened : Opened) : Type 0 where

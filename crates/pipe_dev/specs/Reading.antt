@@ -23,7 +23,8 @@ IsRest (Some rest) = rest.bytes ≢ []
 -- After pipe(3). What was read, continued by the rest that is held, is just the writes that were
 -- taken out: each whole, once, at its place and in their order, with no byte of another between.
 pub record IsRight (s : PipeState) (parts : List Part) (rest : Option Part) : Type 0 where
-  pub whole : reverse (pieces_of (continued rest parts)) ≡ whole_from 0 (take s.read_whole s.accepted)
+  pub whole : reverse (pieces_of (continued rest parts)) ≡
+      whole_from 0 (take s.read_whole s.accepted)
   pub some_left : IsRest rest
 
 -- the state of the direction, as far as the read end has seen it

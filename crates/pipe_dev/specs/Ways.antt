@@ -1,7 +1,6 @@
 -- What a direction is before it has its Rendez.
-use Rattle.std.specs.Prelude.{◌≡◌, ◌≤◌, ℕ, [], length}
+use Rattle.std.specs.Prelude.{◌≡◌, ◌≤◌, ℕ, []}
 use Rattle.std.specs.Vec.{vec_capacity}
-use Rattle.block_queue.specs.Gather.{AreAllSeats}
 use Rattle.block_queue.specs.Opening.{AreNewPutSeats, reader_account}
 use Rattle.block_queue.specs.Seats.{IsTakeSeatOf, key_of, take_account}
 use Rattle.pipe_dev.specs.declared.pipe.Way.{Way}

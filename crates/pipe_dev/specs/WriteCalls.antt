@@ -1,5 +1,5 @@
 -- What the calls of a write end do, after pipe(2), pipe(3) and write(2).
-use Rattle.std.specs.Prelude.{◌≡◌, ◌+◌, ◌++◌, ◌<◌, ℕ, zero, suc, nat_le, false, true, ⊤}
+use Rattle.std.specs.Prelude.{◌≡◌, ◌+◌, ◌++◌, ℕ, zero, suc, nat_le, false, ⊤}
 use Rattle.std.specs.Prelude.{List, [], ◌∷◌, length, take, drop, reverse}
 use Rattle.std.specs.Prelude.{Option, Some, None, Result, Ok, Err, if◌then◌else◌}
 use Rattle.histories.specs.declared.account.Account.{Account}

@@ -1,4 +1,5 @@
-//! What is left of a write that was taken out of the queue. Before this: `waking`. After it: `hand`.
+//! What is left of a write that was taken out of the queue. Before this: `waking`.
+//! After it: `hand`.
 use std::alloc::{AllocError, Global};
 use std::marker::Model;
 use sync_base::Piece;
@@ -54,7 +55,8 @@ impl Begun {
 
     /// Gives the buffer what it has room for. Each byte is copied once.
     pub(crate) fn give(self, buffer: &mut [u8]) -> Given
-        ensures filled { IsFilled (part_of (length buffer.old) self) buffer.old buffer.new result.count }
+        ensures filled { IsFilled (part_of (length buffer.old) self) buffer.old buffer.new
+            result.count }
         ensures left { result.left ≡ rest_of (length buffer.old) self }
     {
         let Begun {

@@ -84,7 +84,7 @@ struct Sides<'p> {
 }
 
 fn lay_out<'p>(queue: &'p Queue, lane: Lane<'p>) -> Sides<'p>
-    requires lane { IsLaneOf queue.now lane.row.first lane }
+    requires lane { IsLaneOf queue.now lane }
     ensures ends { AreNewEnds queue.entry.now lane.entry.row result.read result.writes.items }
 {
     let Lane {

@@ -22,8 +22,9 @@ impl<'p> ReadEnd<'p> {
     ghost use Rattle.pipe_dev.specs.Ends.{IsSameReadEnd};
     ghost use Rattle.pipe_dev.specs.Rendezes.{HasRow, WakesAll};
 
-    /// Hangs its direction up, for all writers and for good, and wakes both sides. What was accepted
-    /// stays readable. A second hangup wakes again. Takes no memory and doesn't wait. After pipe(2).
+    /// Hangs its direction up, for all writers and for good, and wakes both sides. What was
+    /// accepted stays readable. A second hangup wakes again. Takes no memory and doesn't wait.
+    /// After pipe(2).
     pub fn hangup(&mut self, proc: &mut Proc<'_>)
         // The process is of the kernel that the pipe was made with.
         requires kernel { HasRow proc.old.words self.old.row }
@@ -48,8 +49,9 @@ impl<'p> WriteEnd<'p> {
     ghost use Rattle.pipe_dev.specs.Ends.{IsSameWriteEnd};
     ghost use Rattle.pipe_dev.specs.Rendezes.{HasRow, WakesAll};
 
-    /// Hangs its direction up, for all writers and for good, and wakes both sides. What was accepted
-    /// stays readable. A second hangup wakes again. Takes no memory and doesn't wait. After pipe(2).
+    /// Hangs its direction up, for all writers and for good, and wakes both sides. What was
+    /// accepted stays readable. A second hangup wakes again. Takes no memory and doesn't wait.
+    /// After pipe(2).
     pub fn hangup(&mut self, proc: &mut Proc<'_>)
         // The process is of the kernel that the pipe was made with.
         requires kernel { HasRow proc.old.words self.old.row }
@@ -71,7 +73,8 @@ fn hang_read(queue: &Queue, row: &Row, hand: ReadHand, proc: &mut Proc<'_>) -> R
     requires kernel { HasRow proc.old.words row.now }
     ensures hand { IsReadHand queue.now row.now result }
     ensures rest { result.rest ≡ hand.rest }
-    ensures hung { Enters (key_of queue.now) (Hung 0) (take_account hand.seat) (take_account result.seat) }
+    ensures hung { Enters (key_of queue.now) (Hung 0)
+        (take_account hand.seat) (take_account result.seat) }
     ensures woken { WakesAll row.now proc.old.process proc.new.process }
     ensures words { proc.new.words ≡ proc.old.words }
 {
@@ -85,7 +88,8 @@ fn hang_write(queue: &Queue, row: &Row, seat: PutSeat, proc: &mut Proc<'_>) -> P
     requires seat { IsWriteHand queue.now row.now seat.writer seat }
     requires kernel { HasRow proc.old.words row.now }
     ensures seat { IsWriteHand queue.now row.now seat.writer result }
-    ensures hung { Enters (key_of queue.now) (Hung (seat.writer + 1)) (put_account seat) (put_account result) }
+    ensures hung { Enters (key_of queue.now) (Hung (seat.writer + 1))
+        (put_account seat) (put_account result) }
     ensures woken { WakesAll row.now proc.old.process proc.new.process }
     ensures words { proc.new.words ≡ proc.old.words }
 {

@@ -50,7 +50,7 @@ impl Pipe {
     ghost use Rattle.sync_base.specs.declared.fault.Fault.TheVariants.{BadSize, NoRendez, Memory};
     ghost use Rattle.block_queue.specs.Opening.{IsBadQueue};
     ghost use Rattle.sleep_wakeup.specs.Kernel.{HasRendez, rendez_less};
-    ghost use Rattle.pipe_dev.specs.Openings.{Opens, HasRows, rendez_for};
+    ghost use Rattle.pipe_dev.specs.Openings.{Opens, HasRows, IsStartOf, rendez_for};
 
     /// A new pipe, each of whose directions holds at most `limit` writes that no read has begun and
     /// has so many writers. It takes `2 * (1 + writers)` Rendez of the kernel. Doesn't wait.
@@ -72,6 +72,7 @@ impl Pipe {
         // Otherwise a pipe on which nothing was called, with Rendez that nobody was given.
         ensures allowed { OnOk result (HasRendez roster.old (rendez_for writers)) }
         ensures opened { IfOk result (Opens limit writers roster.old.rendez) }
+        ensures start { IfOk result (λ opened. IsStartOf opened.pipe opened.start) }
         ensures rows { IfOk result (HasRows roster.old.words) }
         ensures given { OnOk result (roster.new ≡ rendez_less (rendez_for writers) roster.old) }
     {
@@ -140,7 +141,8 @@ impl<'p> Way<'p> {
     fn laid(self, row: Row) -> Laid<'p>
         requires way { IsNewWay (key_of self.queue).limit row.writers self }
         ensures queue { result.queue ≡ self.entry.queue }
-        ensures lane { IsLaneOf result.queue row.first result.lane }
+        ensures lane { IsLaneOf result.queue result.lane }
+        ensures row { result.lane.row ≡ row }
     {
         let Way {
             queue,

@@ -47,7 +47,8 @@ impl<'p> ReadEnd<'p> {
 
         // Otherwise it read, slept and woke so.
         ensures read { buffer.old ≢ [] → Reads (key_of self.old.queue) self.old.row
-            (reader_of self.old proc.old) buffer.old result (reader_of self.new proc.new) buffer.new }
+            (reader_of self.old proc.old) buffer.old result
+            (reader_of self.new proc.new) buffer.new }
 
         ensures end { IsSameReadEnd self.old self.new }
         ensures words { proc.new.words ≡ proc.old.words }
@@ -78,7 +79,8 @@ impl<'p> ReadEnd<'p> {
 
         // Otherwise it read and woke so.
         ensures tried { IfOk result (λ answer. Tries (key_of self.old.queue) self.old.row
-            (reader_of self.old proc.old) buffer.old answer (reader_of self.new proc.new) buffer.new) }
+            (reader_of self.old proc.old) buffer.old answer
+            (reader_of self.new proc.new) buffer.new) }
 
         ensures end { IsSameReadEnd self.old self.new }
         ensures words { proc.new.words ≡ proc.old.words }
@@ -140,7 +142,8 @@ fn read_with<R: Wait>(
     requires kernel { HasRow proc.old.words row.now }
     ensures hand { IsReadHand queue.now row.now result.hand }
     ensures words { proc.new.words ≡ proc.old.words }
-    ensures read { Reads (key_of queue.now) row.now (reader_with hand proc.old) buffer.old result.answer
+    ensures read { Reads (key_of queue.now) row.now
+        (reader_with hand proc.old) buffer.old result.answer
         (reader_with result.hand proc.new) buffer.new }
 {
     let mut hand = hand;
@@ -168,9 +171,11 @@ fn read_round<R: Wait>(
     requires kernel { HasRow proc.old.words row.now }
     ensures hand { IsReadHand queue.now row.now result.hand }
     ensures words { proc.new.words ≡ proc.old.words }
-    ensures over { IfOver result.over (key_of queue.now) row.now (reader_with hand proc.old) buffer.old
+    ensures over { IfOver result.over (key_of queue.now) row.now
+        (reader_with hand proc.old) buffer.old
         (reader_with result.hand proc.new) buffer.new }
-    ensures slept { IfSlept result.over (key_of queue.now) row.now (reader_with hand proc.old) buffer.old
+    ensures slept { IfSlept result.over (key_of queue.now) row.now
+        (reader_with hand proc.old) buffer.old
         (reader_with result.hand proc.new) buffer.new }
 {
     let Tried { hand, found } = try_with(queue, row, hand, proc, buffer);
@@ -205,7 +210,8 @@ fn try_with(
     requires kernel { HasRow proc.old.words row.now }
     ensures hand { IsReadHand queue.now row.now result.hand }
     ensures words { proc.new.words ≡ proc.old.words }
-    ensures tried { TriesOnce (key_of queue.now) row.now (reader_with hand proc.old) buffer.old result.found
+    ensures tried { TriesOnce (key_of queue.now) row.now
+        (reader_with hand proc.old) buffer.old result.found
         (reader_with result.hand proc.new) buffer.new }
 {
     let ReadHand { seat, rest } = hand;

@@ -4,7 +4,8 @@ use block_queue::{PutSeat, Queue};
 use std::marker::Model;
 use sync_base::RendezId;
 
-/// An end at which a direction is written. One process has it at a time, and may hand it to another.
+/// An end at which a direction is written. One process has it at a time, and may hand it to
+/// another.
 #[derive(Drop)]
 pub struct WriteEnd<'p> {
     pub(crate) queue: &'p Queue,

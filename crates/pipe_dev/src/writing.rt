@@ -28,9 +28,9 @@ impl<'p> WriteEnd<'p> {
     /// Writes these bytes as one write, which is read whole and in one piece, and answers its
     /// number. Where there is no room it waits. Memory is taken for the bytes.
     ///
-    /// Refuses, in this order, as `TooBig` above the atomic size, as `Memory`, as `Hungup` where the
-    /// direction is hung up, and then the note of a write on a closed pipe is posted to the process;
-    /// as `Worn` where the last number is given, and where it would wait as `DoubleSleep` and
+    /// Refuses, in this order, as `TooBig` above the atomic size, as `Memory`, as `Hungup` where
+    /// the direction is hung up, and then the note of a write on a closed pipe is posted to the
+    /// process; as `Worn` where the last number is given, and where it would wait as `DoubleSleep` and
     /// `Interrupted`. A write that was accepted wakes the reader with its number. After pipe(3) and
     /// write(2).
     pub fn write<R: Wait>(
@@ -99,7 +99,8 @@ fn write_with<R: Wait>(
     requires kernel { HasRow proc.old.words row.now }
     ensures seat { IsWriteHand queue.now row.now seat.writer result.seat }
     ensures words { proc.new.words ≡ proc.old.words }
-    ensures asked { Asks (key_of queue.now) row.now seat.writer block (writer_with seat proc.old) result.answer
+    ensures asked { Asks (key_of queue.now) row.now seat.writer block
+        (writer_with seat proc.old) result.answer
         (writer_with result.seat proc.new) }
     ensures answer { IsAsked result.answer }
 {

@@ -1,6 +1,6 @@
 -- so many writers were woken
 use Rattle.std.proofs.Common.{◌≡◌, ◌≤◌}
-use Rattle.pipe_dev.specs.Rendezes.{HasRow, WakesWriters}
+use Rattle.pipe_dev.specs.Rendezes.{WakesWriters}
 use Rattle.pipe_dev.proofs.waking.wake_writers.Given as goal
 
 abbrev pub invariant-waking : goal.invariant-waking

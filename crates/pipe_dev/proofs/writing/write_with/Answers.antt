@@ -1,5 +1,5 @@
 -- one round more
-use Rattle.std.proofs.Common.{suc, ◌∙◌, ap, subst, ℕ, List}
+use Rattle.std.proofs.Common.{suc, ◌∙◌, subst, ℕ, List}
 use Rattle.block_queue.specs.Seats.{key_of}
 use Rattle.pipe_dev.specs.Ends.{IsWriteHand}
 use Rattle.pipe_dev.specs.WriteCalls.{SleepsForRoom, writer_with}

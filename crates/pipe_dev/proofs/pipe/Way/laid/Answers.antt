@@ -1,5 +1,5 @@
 -- a new queue, its seats and the Rendez
-use Rattle.std.proofs.Common.{sym, ap, subst, ◌∙◌, refl, ℕ, arith}
+use Rattle.std.proofs.Common.{sym, ap, subst, ◌∙◌, ℕ, arith}
 use Rattle.histories.specs.declared.account.Account.{Account}
 use Rattle.histories.specs.Account.{numbers_from}
 use Rattle.block_queue.specs.declared.entry.Entry.{Entry}
@@ -24,7 +24,6 @@ returns-clause-lane c =
     let room = way.room in
     record {
       row_is = row_is;
-      first_is = refl;
       read = record {
         row_is = row_is;
         seat = way.take_is;
