@@ -155,15 +155,16 @@ fn a_child_is_in_its_parents_space(rt: HostRuntime) -> Result<(), Fail> {
         panic!(rt; "a pid and a member are left")
     };
     let Parted {
-        roster: _,
+        roster: _rest,
         proc,
         space,
-        forked: Forked {
-            member,
-            space: new,
-            child,
-        },
+        forked,
     } = parted;
+    let Forked {
+        member,
+        space: new,
+        child,
+    } = forked;
     assert!(rt; new.is_none());
     let Some(mut child) = child else {
         panic!(rt; "RFPROC makes a child")
@@ -199,14 +200,18 @@ fn a_child_with_rfrend_does_not_meet_its_parent(rt: HostRuntime) -> Result<(), F
         mut roster,
         proc: mut parent,
         space,
-        forked: Forked {
-            member: _,
-            space: new,
-            child,
-        },
+        forked,
     } = parted;
-    let (Some(new), Some(child)) = (new, child) else {
-        panic!(rt; "both flags make a child and a space")
+    let Forked {
+        member: _parents,
+        space: new,
+        child,
+    } = forked;
+    let Some(new) = new else {
+        panic!(rt; "RFREND makes a space")
+    };
+    let Some(child) = child else {
+        panic!(rt; "RFPROC makes a child")
     };
     let poster = next(&rt, &mut roster, &mut parent);
     let interrupt = NoteSet::of(Note::Interrupt);
