@@ -4,7 +4,7 @@ ghost use Rattle.tag_space.specs.Forks.{childs_space, callers_space};
 ghost use Rattle.tag_space.specs.Members.{IsMemberOf, HasRow};
 
 use crate::tests::meddler::Meddler;
-use crate::tests::scene::{Scene, TAG, forked, meets, next, opened};
+use crate::tests::scene::{Scene, TAG, forked, grouped, meets, next, opened};
 use crate::{Child, Forked, NotForked, Opened, TagSpace, rfork};
 use sleep_wakeup::{Kernel, Left, Proc, Roster};
 use std::alloc::Global;
@@ -37,18 +37,10 @@ fn each_member_has_its_own_rendez(rt: HostRuntime) -> Result<(), Fail> {
             Err(Fault::NoProc)
         )
     );
-    let left = roster.left();
     let Opened {
         space: group,
         member,
-    } = match space.new_group(rt.alloc(), &mut roster) {
-        Ok(group) => group,
-        Err(fault) => {
-            assert_eq!(rt; fault, Fault::Memory);
-            assert_eq!(rt; roster.left(), left);
-            space.new_group(rt.alloc(), &mut roster)?
-        }
-    };
+    } = grouped(&rt, rt.alloc(), &space, &mut roster)?;
     assert_eq!(rt; member.rendez(), RendezId(2));
     // One Rendez is left, and a group would need two.
     assert!(rt;
@@ -104,6 +96,8 @@ fn forked_once<'k, R: Wait + Abort>(
     requires member { IsMemberOf scene.space scene.first.member }
     requires row { HasRow scene.space scene.first.proc.words }
     requires words { scene.roster.words ≡ scene.first.proc.words }
+    ensures space { IfOk result (λ parted. parted.space ≡ scene.space) }
+    ensures words { IfOk result (λ parted. parted.proc.words ≡ scene.first.proc.words) }
     ensures row { IfOk result (λ parted. HasRow parted.space parted.proc.words) }
     ensures new { IfOk result (λ parted. IfSome parted.forked.space (λ new.
         HasRow new parted.proc.words)) }
@@ -161,15 +155,16 @@ fn a_child_is_in_its_parents_space(rt: HostRuntime) -> Result<(), Fail> {
         panic!(rt; "a pid and a member are left")
     };
     let Parted {
-        roster: _,
+        roster: _rest,
         proc,
         space,
-        forked: Forked {
-            member,
-            space: new,
-            child,
-        },
+        forked,
     } = parted;
+    let Forked {
+        member,
+        space: new,
+        child,
+    } = forked;
     assert!(rt; new.is_none());
     let Some(mut child) = child else {
         panic!(rt; "RFPROC makes a child")
@@ -186,31 +181,47 @@ fn a_child_is_in_its_parents_space(rt: HostRuntime) -> Result<(), Fail> {
 
 #[test]
 fn a_child_with_rfrend_does_not_meet_its_parent(rt: HostRuntime) -> Result<(), Fail> {
-    let sleep_wakeup::Opened { kernel, start } = Kernel::new(rt.alloc(), 3, 4)?;
-    let scene = opened(&rt, rt.alloc(), &kernel, start, 2)?;
+    let sleep_wakeup::Opened { kernel, start } = Kernel::new(rt.alloc(), 4, 4)?;
+    let Scene {
+        mut roster,
+        space,
+        mut first,
+    } = opened(&rt, rt.alloc(), &kernel, start, 2)?;
+    let sibling = forked(&rt, &space, &mut roster, &mut first);
+    let scene = Scene {
+        roster,
+        space,
+        first,
+    };
     let Ok(parted) = forked_once(&rt, scene, rt.alloc(), both()) else {
         panic!(rt; "a pid and a row are left")
     };
     let Parted {
         mut roster,
-        mut proc,
+        proc: mut parent,
         space,
-        forked: Forked {
-            mut member,
-            space: new,
-            child,
-        },
+        forked,
     } = parted;
-    let (Some(new), Some(child)) = (new, child) else {
-        panic!(rt; "both flags make a child and a space")
+    let Forked {
+        member: _parents,
+        space: new,
+        child,
+    } = forked;
+    let Some(new) = new else {
+        panic!(rt; "RFREND makes a space")
     };
-    let poster = next(&rt, &mut roster, &mut proc);
-    assert_eq!(rt;
-        proc.postnote(child.proc.pid(), NoteSet::of(Note::Interrupt)),
-        Ok(())
-    );
-    // The parent waits with the tag, the child calls with it and meets nobody, and then a note
-    // ends the parent's wait.
+    let Some(child) = child else {
+        panic!(rt; "RFPROC makes a child")
+    };
+    let poster = next(&rt, &mut roster, &mut parent);
+    let interrupt = NoteSet::of(Note::Interrupt);
+    assert_eq!(rt; parent.postnote(child.proc.pid(), interrupt), Ok(()));
+    // One waits in the old space, the child calls with the same tag and meets nobody, and then a
+    // note ends the wait.
+    let Child {
+        mut proc,
+        mut member,
+    } = sibling;
     let mut meddler = Meddler {
         rt: &rt,
         space: &new,
@@ -225,12 +236,9 @@ fn a_child_with_rfrend_does_not_meet_its_parent(rt: HostRuntime) -> Result<(), F
     };
     assert_eq!(rt;
         space.rendezvous_probed(&rt, &mut proc, &mut member, TAG, 5, &mut meddler),
-        Err(Fault::Interrupted(NoteSet::of(Note::Interrupt)))
+        Err(Fault::Interrupted(interrupt))
     );
-    assert_eq!(rt;
-        meddler.answer,
-        Err(Fault::Interrupted(NoteSet::of(Note::Interrupt)))
-    );
+    assert_eq!(rt; meddler.answer, Err(Fault::Interrupted(interrupt)));
     Ok(())
 }
 
@@ -241,19 +249,10 @@ fn a_caller_with_rfrend_is_alone(rt: HostRuntime) -> Result<(), Fail> {
     let Ok(parted) = forked_once(&rt, scene, rt.alloc(), Flags::RFREND) else {
         panic!(rt; "a row is left")
     };
-    let Parted {
-        roster,
-        proc: _,
-        space: _,
-        forked: Forked {
-            member,
-            space,
-            child,
-        },
-    } = parted;
-    assert!(rt; space.is_some() && child.is_none());
-    assert_eq!(rt; member.rendez(), RendezId(2));
-    assert_eq!(rt; roster.left(), Left { pids: 0, rendez: 0 });
+    assert_eq!(rt; parted.roster.left(), Left { pids: 0, rendez: 0 });
+    assert_eq!(rt; parted.forked.member.rendez(), RendezId(2));
+    assert!(rt; parted.forked.space.is_some());
+    assert!(rt; parted.forked.child.is_none());
     Ok(())
 }
 

@@ -54,6 +54,28 @@ pub fn opened<'k>(
     })
 }
 
+/// A further space of the same size, as `opened` asks for one.
+pub fn grouped(
+    rt: &impl Abort,
+    alloc: Global,
+    space: &TagSpace,
+    roster: &mut Roster,
+) -> Result<Opened, Fail>
+    ensures member { IfOk result (λ opened. IsMemberOf opened.space opened.member) }
+    ensures row { IfOk result (λ opened. HasRow opened.space roster.old.words) }
+    ensures words { roster.new.words ≡ roster.old.words }
+{
+    let left = roster.left();
+    match space.new_group(alloc, roster) {
+        Ok(opened) => Ok(opened),
+        Err(fault) => {
+            assert_eq!(rt; fault, Fault::Memory);
+            assert_eq!(rt; roster.left(), left);
+            Ok(space.new_group(alloc, roster)?)
+        }
+    }
+}
+
 /// The next process of a kernel.
 pub fn next<'k>(rt: &impl Abort, roster: &mut Roster<'k>, parent: &mut Proc<'k>) -> Proc<'k>
     ensures words { result.words ≡ roster.old.words }

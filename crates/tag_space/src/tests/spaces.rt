@@ -1,7 +1,7 @@
 //! That calls of two spaces never meet, whatever their tags.
 use crate::meeting::INTERRUPTED;
 use crate::tests::meddler::Meddler;
-use crate::tests::scene::{Scene, TAG, forked, meets, next, opened};
+use crate::tests::scene::{Scene, TAG, forked, grouped, meets, next, opened};
 use crate::{Child, Opened};
 use sleep_wakeup::Kernel;
 use std::test::Fail;
@@ -20,18 +20,10 @@ fn a_call_in_another_space_meets_nobody(rt: HostRuntime) -> Result<(), Fail> {
         mut proc,
         mut member,
     } = first;
-    let left = roster.left();
     let Opened {
         space: other,
         member: others,
-    } = match space.new_group(rt.alloc(), &mut roster) {
-        Ok(group) => group,
-        Err(fault) => {
-            assert_eq!(rt; fault, Fault::Memory);
-            assert_eq!(rt; roster.left(), left);
-            space.new_group(rt.alloc(), &mut roster)?
-        }
-    };
+    } = grouped(&rt, rt.alloc(), &space, &mut roster)?;
     let mut away = Child {
         proc: next(&rt, &mut roster, &mut proc),
         member: others,
