@@ -5,6 +5,7 @@ use Rattle.std.specs.List.{AllByRecursion}
 use Rattle.histories.specs.History.{state_after, IsLegal}
 use Rattle.kernel_lock.specs.declared.view.Served.{Served}
 use Rattle.sync_base.specs.declared.fault.Fault.TheVariants as fault
+use Rattle.sync_base.specs.declared.ids.Pid.{Pid}
 use Rattle.sync_base.specs.declared.note.Note.TheVariants.{Interrupt, Alarm, Expired}
 use Rattle.sync_base.specs.declared.note.NoteSet.{NoteSet}
 use Rattle.sync_base.specs.NoteSet.{no_notes, joined, only, holds}
@@ -15,14 +16,14 @@ use Rattle.semaphore.specs.declared.timer_object.Timer.{Timer}
 use Rattle.semaphore.specs.declared.timer_object.Timer.TheVariants.{Unset}
 use Rattle.semaphore.specs.declared.timer_object.TimerCall.TheVariants.{Add, Expire, Cancel}
 use Rattle.semaphore.specs.declared.timer_object.TimerReply.TheVariants as told
-use Rattle.semaphore.specs.Acquiring.{Acquires, AcquiresNow, AcquiresInTime, TimersSeen, TimesIts, IsOfAcquire, RestsInTurn, SleepsBetween, KeepsNotes, IsPutBack, WhyWaited, units_in, units_of, notes_taken, posts_in, last_wait, was_expired, without_expired}
+use Rattle.semaphore.specs.Acquiring.{Acquires, AcquiresNow, AcquiresInTime, TimersSeen, TimesIts, IsOfAcquire, MayRest, RestsInTurn, SleepsBetween, KeepsNotes, IsPutBack, WhyWaited, units_in, units_of, notes_taken, posts_in, last_wait, was_expired, without_expired}
 use Rattle.semaphore.specs.BrokenCalls as broken
 use Rattle.semaphore.specs.BrokenTimers as timers
 use Rattle.semaphore.specs.BrokenCalls.{waiter, timed_waiter, interrupt, pid, begun}
 use Rattle.semaphore.specs.Deeds.{Deed, Ending}
 use Rattle.semaphore.specs.Deeds.Deed.{Asks, Times, Rests, Rouses, Posts, Drains}
 use Rattle.semaphore.specs.Deeds.Ending.{Well, Noted, Double}
-use Rattle.semaphore.specs.Releasing.{Releases, AsksToTheLast, wakeups_in, wakeups_owed, releases_in}
+use Rattle.semaphore.specs.Releasing.{Releases, Wakeup, AsksToTheLast, wakeups_in, wakeups_owed, releases_in}
 use Rattle.semaphore.specs.Ticking.{Ticks, GoesOn, IsOfTick, ended_in, posted_to}
 use Rattle.semaphore.specs.TimerHistory.{TimerEntry, timer_meaning, WasTaken, has_timer}
 use Rattle.semaphore.specs.Seats.{is_waiting}
@@ -194,6 +195,15 @@ timers_tell = (refl, refl, refl)
 
 -- ---- calls that break them
 
+pids_apart : (a b : ℕ) → pid a ≡ pid b → a ≡ b
+pids_apart a b e = ap (λ (p : Pid). p.0) e
+
+one_of : (a b : ℕ) → Some a ≡ Some b → a ≡ b
+one_of a b e = cc
+
+ended_for : (a b : ℕ) → told.Ended (pid a) ≡ told.Ended (pid b) → a ≡ b
+ended_for a b e = let same : pid a ≡ pid b = cc in pids_apart a b same
+
 no_unit_is_lost : Acquires waiter (Err (fault.Interrupted interrupt)) broken.loses_its_unit → ⊥
 no_unit_is_lost acquires = let clash : 1 ≡ 0 = acquires.units in omega arith
 
@@ -207,11 +217,8 @@ no_notes_are_dropped acquires = by acquires.notes
 no_sleep_is_too_high : Acquires waiter (Ok sema.Acquired) broken.sleeps_too_high → ⊥
 no_sleep_is_too_high acquires = by acquires.rests.0
   where
-    same : Some 0 ≡ Some 1 → 0 ≡ 1
-    same e = cc
-
-    by : (Some 0 ≡ Some 1) ⊎ Rattle.semaphore.specs.Acquiring.AwaitsTick begun → ⊥
-    by (inl is) = let clash = same is in omega arith
+    by : MayRest begun 1 → ⊥
+    by (inl is) = absurd (omega (arith, one_of 0 1 is))
     by (inr tick) = let clash : false ≡ true = tick.expired in cc
 
 no_question_without_a_sleep : SleepsBetween broken.asks_without_a_sleep → ⊥
@@ -221,7 +228,7 @@ nobody_is_woken : AllByRecursion (IsOfAcquire waiter) broken.wakes_somebody → 
 nobody_is_woken own = own.0
 
 nobody_else_is_noted : AllByRecursion (IsOfAcquire waiter) broken.posts_to_another → ⊥
-nobody_else_is_noted own = let clash : 6 ≡ 5 = ap (λ p. p.0) own.0 in omega arith
+nobody_else_is_noted own = absurd (omega (arith, pids_apart 6 5 own.0))
 
 no_other_seat_is_asked_for : AllByRecursion (IsOfAcquire waiter) broken.asks_for_another → ⊥
 no_other_seat_is_asked_for own = let clash : 1 ≡ 0 = own.0 in omega arith
@@ -238,7 +245,7 @@ no_note_is_left_behind seen acquires = let clash : false ≡ true = acquires.tol
 no_sleep_behind_the_tick : RestsInTurn broken.sleeps_behind_the_tick → ⊥
 no_sleep_behind_the_tick rests = by rests.0
   where
-    by : (None ≡ Some 7) ⊎ Rattle.semaphore.specs.Acquiring.AwaitsTick (Rests 7 (Noted (only Expired)) ∷ broken.leaves_a_note_behind) → ⊥
+    by : MayRest (Rests 7 (Noted (only Expired)) ∷ broken.leaves_a_note_behind) 7 → ⊥
     by (inl is) = cc
     by (inr tick) = let clash : true ≡ false = tick.to_come in cc
 
@@ -246,10 +253,10 @@ no_seat_is_forgotten : Releases 3 2 (Ok 2) broken.forgets_a_seat → ⊥
 no_seat_is_forgotten releases = cc releases.woken
 
 no_other_count : Releases 3 2 (Ok 2) broken.wakes_with_another_count → ⊥
-no_other_count releases = let clash : 3 ≡ 4 = level_of releases.woken in omega arith
+no_other_count releases = absurd (omega (arith, level_of _ _ releases.woken))
   where
-    level_of : {a b c d : ℕ} → record { rendez = a; level = b } ∷ [] ≡ record { rendez = c; level = d } ∷ [] → b ≡ d
-    level_of e = cc
+    level_of : (a b : Wakeup) → a ∷ [] ≡ b ∷ [] → a.level ≡ b.level
+    level_of a b e = let same : a ≡ b = cc in ap (λ (w : Wakeup). w.level) same
 
 it_asks_to_the_last : AsksToTheLast broken.does_not_ask_on → ⊥
 it_asks_to_the_last last = last
@@ -286,10 +293,7 @@ no_timer_expires_twice legal = let clash : told.Ended (pid 4) ≡ told.NoneDue =
 no_other_process_is_told : IsLegal timer_meaning two timers.tells_another → ⊥
 unfolding two
 no_other_process_is_told legal =
-    let clash : told.Ended (pid 5) ≡ told.Ended (pid 4) = legal.0.reply in
-    let same : pid 5 ≡ pid 4 = cc in
-    let number : 5 ≡ 4 = ap (λ p. p.0) same in
-    omega arith
+    absurd (omega (arith, ended_for 5 4 legal.0.reply))
 
 no_expiry_is_hidden : IsLegal timer_meaning two timers.hides_an_expiry → ⊥
 unfolding two
@@ -298,7 +302,4 @@ no_expiry_is_hidden legal = let clash : told.Removed ≡ told.Expired = legal.0.
 no_later_deadline_expires_first : IsLegal timer_meaning two timers.expires_out_of_order → ⊥
 unfolding two
 no_later_deadline_expires_first legal =
-    let clash : told.Ended (pid 6) ≡ told.Ended (pid 4) = legal.0.reply in
-    let same : pid 6 ≡ pid 4 = cc in
-    let number : 6 ≡ 4 = ap (λ p. p.0) same in
-    omega arith
+    absurd (omega (arith, ended_for 6 4 legal.0.reply))
