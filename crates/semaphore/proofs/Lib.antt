@@ -3,6 +3,7 @@ mod AskLemmas
 mod Cases
 mod EarlierLemmas
 mod LineLemmas
+mod NamedLemmas
 mod OwnSemaLemmas
 mod OwnTimerLemmas
 mod ReleaseLemmas
@@ -12,4 +13,5 @@ mod TellLemmas
 mod TimerLemmas
 mod TournamentLemmas
 mod WaitLemmas
+mod WorkedCalls
 mod WorkedUnits

@@ -16,6 +16,7 @@ use Rattle.semaphore.specs.declared.timer_object.TimerReply.TheVariants as told
 use Rattle.semaphore.specs.Due.{earliest}
 use Rattle.semaphore.specs.Timers.{timer_of, dues_from, if_come, first_due, may_add, is_seat, answer_cancelled, answer_expired, answer_first, answer_to, after_first, timers_after, seat_named}
 use Rattle.semaphore.specs.TimerHistory.{TimerEntry, timer_meaning, sets_after, has_timer, AreByOthersThan, WasTaken}
+use Rattle.semaphore.specs.TimerLaws.{IsTaken}
 use Rattle.semaphore.proofs.Cases.{same_or_not}
 use Rattle.semaphore.proofs.TimerLemmas.{first_of_all, earliest_is_set, IsSet}
 
@@ -235,17 +236,6 @@ since_set opening seat deadline pid (entry ∷ since) base legal others set_so =
           earlier_others = found.earlier_others;
           takes = found.takes;
         })
-
--- the seat set its timer, others called, and the seat was told that it had expired
-pub record IsTaken (opening : List Timer) (seat deadline : ℕ) (pid : Pid) (since past : List TimerEntry)
-    (added cancelled : TimerEntry) : Type 0 where
-  pub legal : IsLegal timer_meaning opening (cancelled ∷ (since ++ (added ∷ past)))
-  pub within : seat < length (state_after timer_meaning opening past)
-  pub added_is : added.request ≡ Add seat pid deadline
-  pub added_told : added.reply ≡ told.Added
-  pub cancelled_is : cancelled.request ≡ Cancel seat
-  pub cancelled_told : cancelled.reply ≡ told.Expired
-  pub others : AreByOthersThan seat since
 
 legal_past : (opening : List Timer) (since base : List TimerEntry) → IsLegal timer_meaning opening (since ++ base) → IsLegal timer_meaning opening base
 legal_past opening [] base legal = legal

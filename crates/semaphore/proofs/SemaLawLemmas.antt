@@ -328,7 +328,7 @@ count_at zero i count = omega arith
 count_at (suc n) zero count = omega arith
 count_at (suc n) (suc i) count = count_at n i count
 
-count_is : (n i count : ℕ) → i < length (replicate n Idle) → get_or (replicate n count) i 0 ≡ count
+pub count_is : (n i count : ℕ) → i < length (replicate n Idle) → get_or (replicate n count) i 0 ≡ count
 count_is zero i count within = absurd (omega arith)
 count_is (suc n) zero count within = refl
 count_is (suc n) (suc i) count within = count_is n i count (omega arith)

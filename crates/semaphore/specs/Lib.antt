@@ -1,6 +1,8 @@
 pub mod Acquiring
 pub mod Asking
 pub mod Broken
+pub mod BrokenCalls
+pub mod BrokenTimers
 pub mod Deeds
 pub mod Definitions
 pub mod Due
@@ -13,6 +15,7 @@ pub mod SemaHistory
 pub mod SemaLaws
 pub mod Ticking
 pub mod TimerHistory
+pub mod TimerLaws
 pub mod Timers
 pub mod Tournament
 pub mod Units

@@ -4,7 +4,7 @@ use Rattle.histories.specs.History.{Meaning}
 use Rattle.semaphore.specs.declared.sema_object.Stage.{Stage}
 use Rattle.semaphore.specs.declared.sema_object.Stage.TheVariants.{Idle, Waiting, Granted}
 use Rattle.semaphore.specs.declared.sema_object.SemaCall.{SemaCall}
-use Rattle.semaphore.specs.declared.sema_object.SemaCall.TheVariants.{Acquire, AcquireNow, Release, Collect, Leave}
+use Rattle.semaphore.specs.declared.sema_object.SemaCall.TheVariants.{Acquire, AcquireNow, Release, NextWake, Collect, Leave}
 use Rattle.semaphore.specs.declared.sema_object.SemaReply.{SemaReply}
 use Rattle.semaphore.specs.declared.sema_object.SemaReply.TheVariants as reply
 use Rattle.kernel_lock.specs.declared.view.Served.{Served}
@@ -59,3 +59,14 @@ collected_by seat call other = 0
 abbrev pub collected : ℕ → List SemaEntry → ℕ
 collected seat [] = 0
 collected seat (entry ∷ past) = collected_by seat entry.request entry.reply + collected seat past
+
+-- the count with which the seat was named to be woken, where this call named it
+abbrev pub named_by : ℕ → SemaCall → SemaReply → ℕ → ℕ
+named_by seat NextWake (reply.Wake other grants) before = if other == seat then grants else before
+named_by seat call answer before = before
+
+-- the count with which it was named last, or where the counts began
+abbrev pub last_named : ℕ → ℕ → List SemaEntry → ℕ
+last_named count seat [] = count
+last_named count seat (entry ∷ past) =
+    named_by seat entry.request entry.reply (last_named count seat past)

@@ -1,9 +1,10 @@
 -- What holds of a semaphore after every legal history, said of the definitions alone.
-use Rattle.std.specs.Prelude.{◌≡◌, ◌⊎◌, ℕ, ◌+◌, ◌≤◌, ◌<◌, List, [], length}
+use Rattle.std.specs.Prelude.{◌≡◌, ◌⊎◌, ℕ, ◌+◌, ◌≤◌, ◌<◌, false, List, [], length}
 use Rattle.histories.specs.History.{state_after, IsLegal}
 use Rattle.semaphore.specs.declared.limits.TheConstants.{MAX_VALUE, LAST_GRANT}
+use Rattle.semaphore.specs.SeatLine.{stands_in}
 use Rattle.semaphore.specs.Units.{SemaState, IsSound, opening, stage_of, grants_of}
-use Rattle.semaphore.specs.SemaHistory.{SemaEntry, sema_meaning, released, taken, held_in, uncollected, collected}
+use Rattle.semaphore.specs.SemaHistory.{SemaEntry, sema_meaning, released, taken, held_in, uncollected, collected, last_named}
 
 -- a law of the state that each legal history leaves
 abbrev pub AlwaysHolds : ((opening_value count : ℕ) → List SemaEntry → SemaState → Type 0) → Type 0
@@ -32,3 +33,9 @@ NobodyWaitsForNothing = AlwaysHolds (λ value count past s. (s.value ≡ 0) ⊎ 
 -- the value is within its limits, and each seat that waits stands in line, once
 abbrev pub StatesAreSound : Type 0
 StatesAreSound = AlwaysHolds (λ value count past s. IsSound s)
+
+-- a seat that is not to be named any more was named with its latest count
+abbrev pub EachGrantIsNamed : Type 0
+EachGrantIsNamed = AlwaysHolds (λ value count past s.
+    (seat : ℕ) → seat < length s.stages → stands_in s.unnamed seat ≡ false →
+    grants_of s seat ≡ last_named count seat past)

@@ -1,6 +1,13 @@
-//! What holds of a semaphore after every legal history. Each law is a function that does nothing:
+//! What holds of a semaphore and of timers after every legal history. Each law is a function that does nothing:
 //! its contract is the law.
-ghost use Rattle.semaphore.specs.SemaLaws.{UnitsAddUp, CountsAreGrants, NobodyWaitsForNothing, StatesAreSound};
+ghost use Rattle.semaphore.specs.SemaLaws.{
+  UnitsAddUp,
+  CountsAreGrants,
+  NobodyWaitsForNothing,
+  StatesAreSound,
+  EachGrantIsNamed,
+};
+ghost use Rattle.semaphore.specs.TimerLaws.{ExpiredWasTaken};
 
 /// No unit is lost and none is given twice.
 pub fn units_add_up()
@@ -20,4 +27,15 @@ pub fn nobody_waits_for_nothing()
 /// The value stays within its limits, and each seat that waits stands in line, once.
 pub fn states_are_sound()
     ensures { StatesAreSound }
+{}
+
+/// Each grant is named to be woken: a seat that is not to be named any more was named with its
+/// latest count.
+pub fn each_grant_is_named()
+    ensures { EachGrantIsNamed }
+{}
+
+/// A timer that expired was taken by a tick at its deadline or later.
+pub fn an_expired_timer_was_taken()
+    ensures { ExpiredWasTaken }
 {}

@@ -14,6 +14,8 @@ use sync_base::{Fault, Pid};
 mod acquires;
 mod crowd;
 mod member;
+mod opens;
+mod pages;
 mod plain_sema;
 mod plain_timers;
 mod random;

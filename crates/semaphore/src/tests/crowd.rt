@@ -17,8 +17,8 @@ const OPENING: u32 = 3;
 
 /// What a process of the crowd does.
 #[derive(Drop)]
-struct Job<'s, 'k> {
-    member: Member<'s, 'k>,
+struct Job<'s, 't, 'k> {
+    member: Member<'s, 't, 'k>,
     number: u64,
 }
 

@@ -9,15 +9,15 @@ use sync_base::{Fault, Note, NoteSet, Pid, Probe, RendezId};
 
 /// A process with its seats.
 #[derive(Drop)]
-pub struct Member<'s, 'k> {
+pub struct Member<'s, 't, 'k> {
     sema: &'s Sema,
     seat: SemaSeat,
-    timers: &'s Timers,
+    timers: &'t Timers,
     timer: TimerSeat,
     proc: Proc<'k>,
 }
 
-impl<'s, 'k> Model for Member<'s, 'k> {
+impl<'s, 't, 'k> Model for Member<'s, 't, 'k> {
     ghost use Rattle.semaphore.specs.Seats.{HasRow, IsSemaSeatOf, IsTimerSeatOf};
     ghost use Rattle.sleep_wakeup.specs.Kernel.{Running};
 
@@ -41,10 +41,10 @@ pub struct First<'k> {
     pub proc: Proc<'k>,
 }
 
-impl<'s, 'k> Member<'s, 'k> {
+impl<'s, 't, 'k> Member<'s, 't, 'k> {
     ghost use Rattle.semaphore.specs.Seats.{HasRow, IsSemaSeatOf, IsTimerSeatOf};
 
-    pub fn new(sema: &'s Sema, timers: &'s Timers, first: First<'k>) -> Member<'s, 'k>
+    pub fn new(sema: &'s Sema, timers: &'t Timers, first: First<'k>) -> Member<'s, 't, 'k>
         requires seat { IsSemaSeatOf sema.now first.seat }
         requires row { HasRow sema.now first.proc.words }
         requires timer { IsTimerSeatOf timers.now first.timer }
@@ -146,7 +146,7 @@ impl<'s, 'k> Member<'s, 'k> {
     }
 
     /// Makes a member of a process of the same kernel.
-    pub fn seat<R: Wait>(&mut self, rt: &R, proc: Proc<'k>) -> Result<Member<'s, 'k>, Fault>
+    pub fn seat<R: Wait>(&mut self, rt: &R, proc: Proc<'k>) -> Result<Member<'s, 't, 'k>, Fault>
         requires { proc.words ≡ self.old.words }
     {
         let sema = self.sema;
@@ -183,9 +183,9 @@ pub enum Act {
 
 /// Another process, which acts the first time that it passes a point.
 #[derive(Drop)]
-pub struct ActAt<'r, 's, 'k, R: Wait> {
+pub struct ActAt<'r, 's, 't, 'k, R: Wait> {
     pub rt: &'r R,
-    pub other: Member<'s, 'k>,
+    pub other: Member<'s, 't, 'k>,
     pub to: Pid,
     /// What it does at each of the points 1 to 4.
     pub acts: [Act; 4],
@@ -195,7 +195,7 @@ pub struct ActAt<'r, 's, 'k, R: Wait> {
     pub answer: u64,
 }
 
-impl<'r, 's, 'k, R: Wait> ActAt<'r, 's, 'k, R> {
+impl<'r, 's, 't, 'k, R: Wait> ActAt<'r, 's, 't, 'k, R> {
     fn interrupt(&mut self) {
         if !self.other.post(self.to, Note::Interrupt) {
             self.answer = u64::MAX;
@@ -241,7 +241,7 @@ impl<'r, 's, 'k, R: Wait> ActAt<'r, 's, 'k, R> {
     }
 }
 
-impl<R: Wait> Probe for ActAt<'_, '_, '_, R> {
+impl<R: Wait> Probe for ActAt<'_, '_, '_, '_, R> {
     fn at(&mut self, point: u64) {
         if !(1..=4).contains(&point) {
             return;

@@ -175,14 +175,14 @@ fn notes_that_came_with_a_unit_are_pending_again(rt: HostRuntime) -> Result<(), 
 /// Has the member acquire a unit in time while another process is posted in its Rendez, and then
 /// wakes that one.
 #[derive(Drop)]
-struct AcquireAt<'r, 's, 'k, R: Wait> {
+struct AcquireAt<'r, 's, 't, 'k, R: Wait> {
     rt: &'r R,
-    member: Member<'s, 'k>,
-    ticker: ActAt<'r, 's, 'k, R>,
+    member: Member<'s, 't, 'k>,
+    ticker: ActAt<'r, 's, 't, 'k, R>,
     answer: Result<(), Fault>,
 }
 
-impl<R: Wait> Probe for AcquireAt<'_, '_, '_, R> {
+impl<R: Wait> Probe for AcquireAt<'_, '_, '_, '_, R> {
     fn at(&mut self, point: u64) {
         if point == 2 {
             let rt = self.rt;

@@ -1,0 +1,116 @@
+-- What calls must not have done: each breaks one promise by one row. Deeds are newest first; the
+-- caller's seat has the number 0 at the semaphore and at the timers, and its pid is 5.
+use Rattle.std.specs.Prelude.{ℕ, List, [], ◌∷◌, Some, None, true, false}
+use Rattle.sync_base.specs.declared.ids.Pid.{Pid}
+use Rattle.sync_base.specs.declared.note.Note.TheVariants.{Interrupt, Expired}
+use Rattle.sync_base.specs.declared.note.NoteSet.{NoteSet}
+use Rattle.sync_base.specs.NoteSet.{only}
+use Rattle.semaphore.specs.declared.sema_object.SemaCall.TheVariants.{Acquire, AcquireNow, Release, NextWake, Collect, Leave}
+use Rattle.semaphore.specs.declared.sema_object.SemaReply.TheVariants as reply
+use Rattle.semaphore.specs.declared.timer_object.TimerCall.TheVariants.{Add, Expire, Cancel}
+use Rattle.semaphore.specs.declared.timer_object.TimerReply.TheVariants as told
+use Rattle.semaphore.specs.Deeds.{Caller, Deed, Ending}
+use Rattle.semaphore.specs.Deeds.Deed.{Asks, Times, Rests, Rouses, Posts, Drains}
+use Rattle.semaphore.specs.Deeds.Ending.{Well, Noted, Double}
+
+abbrev pub pid : ℕ → Pid
+pid n = record { 0 = n }
+
+-- a caller without a deadline, and one with the deadline 150
+abbrev pub waiter : Caller
+waiter =
+    record { pid = pid 5; rendez = record { 0 = 3 }; number = 0; timer = 0; deadline = None }
+
+abbrev pub timed_waiter : Caller
+timed_waiter = record waiter { deadline = Some 150 }
+
+abbrev pub interrupt : NoteSet
+interrupt = only Interrupt
+
+-- the first of each acquire here: it waits for its first grant
+abbrev pub begun : List Deed
+begun = Asks (Acquire 0) (reply.Wait 0) ∷ []
+
+-- it was granted a unit, and answers that it was interrupted
+abbrev pub loses_its_unit : List Deed
+loses_its_unit = Asks (Leave 0) reply.Granted ∷ Rests 0 (Noted interrupt) ∷ begun
+
+-- its notes are gone, and it answers with a unit
+abbrev pub drops_its_notes : List Deed
+drops_its_notes = loses_its_unit
+
+-- it sleeps at a threshold above the count that it was told
+abbrev pub sleeps_too_high : List Deed
+sleeps_too_high = Asks (Collect 0) reply.Granted ∷ Rests 1 Well ∷ begun
+
+-- it asks again without a sleep that answered well
+abbrev pub asks_without_a_sleep : List Deed
+asks_without_a_sleep = Asks (Collect 0) (reply.Wait 0) ∷ Rests 0 Double ∷ begun
+
+-- it wakes somebody, posts to another, or asks for another seat
+abbrev pub wakes_somebody : List Deed
+wakes_somebody = Rouses 3 1 ∷ begun
+
+abbrev pub posts_to_another : List Deed
+posts_to_another = Posts (pid 6) interrupt ∷ begun
+
+abbrev pub asks_for_another : List Deed
+asks_for_another = Asks (Leave 1) reply.Gone ∷ begun
+
+-- it sets a timer without a deadline, or with another one
+abbrev pub sets_a_timer : List Deed
+sets_a_timer = Times (Add 0 (pid 5) 150) told.Added ∷ begun
+
+abbrev pub sets_it_too_early : List Deed
+sets_it_too_early = Times (Add 0 (pid 5) 149) told.Added ∷ begun
+
+-- a tick took its timer, and it does not wait for the note of that tick
+abbrev pub leaves_a_note_behind : List Deed
+leaves_a_note_behind =
+    Times (Cancel 0) told.Expired
+    ∷ Asks (Collect 0) reply.Granted
+    ∷ Rests 0 Well
+    ∷ Times (Add 0 (pid 5) 150) told.Added
+    ∷ begun
+
+-- it sleeps on, though the note of the tick has come
+abbrev pub sleeps_behind_the_tick : List Deed
+sleeps_behind_the_tick = Rests 7 Well ∷ Rests 7 (Noted (only Expired)) ∷ leaves_a_note_behind
+
+-- a release that forgets a seat, wakes it with another count, or does not ask to the last
+abbrev pub forgets_a_seat : List Deed
+forgets_a_seat =
+    Asks NextWake reply.NoWake
+    ∷ Asks NextWake (reply.Wake 1 4)
+    ∷ Asks (Release 2) (reply.Value 2)
+    ∷ []
+
+abbrev pub wakes_with_another_count : List Deed
+wakes_with_another_count =
+    Asks NextWake reply.NoWake
+    ∷ Rouses 4 3
+    ∷ Asks NextWake (reply.Wake 1 4)
+    ∷ Asks (Release 2) (reply.Value 2)
+    ∷ []
+
+abbrev pub does_not_ask_on : List Deed
+does_not_ask_on =
+    Rouses 4 4 ∷ Asks NextWake (reply.Wake 1 4) ∷ Asks (Release 2) (reply.Value 2) ∷ []
+
+-- a tick that tells another process, tells nobody, or stops while a timer may be due
+abbrev pub tells_another : List Deed
+tells_another =
+    Times (Expire 150) told.NoneDue
+    ∷ Posts (pid 6) (only Expired)
+    ∷ Times (Expire 150) (told.Ended (pid 5))
+    ∷ []
+
+abbrev pub tells_nobody : List Deed
+tells_nobody =
+    Times (Expire 150) told.NoneDue ∷ Times (Expire 150) (told.Ended (pid 5)) ∷ []
+
+abbrev pub stops_early : List Deed
+stops_early = Posts (pid 5) (only Expired) ∷ Times (Expire 150) (told.Ended (pid 5)) ∷ []
+
+abbrev pub ticks_at_another_moment : List Deed
+ticks_at_another_moment = Times (Expire 151) told.NoneDue ∷ []
