@@ -1,8 +1,7 @@
 //! A server's request loop. It shows a pipe with many writers, and a pipe back to each of them.
 //!
-//! Four clients write requests into one pipe, and one server reads them, in whatever order they
-//! come. It answers each on a pipe of its client's own. When all clients are done the pipe of
-//! requests is hung up, and that ends the server.
+//! Four clients write requests into one pipe, and one server reads them in the order in which they
+//! come. It answers each on a pipe of its client's own. A hangup of the pipe of requests ends it.
 #![tactic(auto)]
 
 use pipe_dev::{Ends, Opened, Pipe, ReadAnswer, ReadEnd, WriteEnd};
