@@ -1,5 +1,6 @@
 -- What some command lines ask for, and what is said of some reports, computed from the definitions.
 use Rattle.std.proofs.Common.{◌≡◌, List, ℕ, [], ◌∷◌, ◌++◌, refl, codes, true, false, Some, None}
+use Rattle.std.specs.Fmt.{digits}
 use Rattle.clap.proofs.OnLiterals.{clap_on_literals}
 use Rattle.p9sync.specs.declared.args.Task.TheVariants.{Pipe, Threads}
 use Rattle.p9sync.specs.Args.{task_asked}
@@ -57,8 +58,10 @@ a_script = refl
 
 in_order : report_line (record { writers = 4; writes = 4000; bytes = 64000; in_order = true })
     ≡ codes "writers 4 writes 4000 bytes 64000 in order" ++ 10 ∷ []
+unfolding digits
 in_order = refl
 
 out_of_order : report_line (record { writers = 1; writes = 0; bytes = 7; in_order = false })
     ≡ codes "writers 1 writes 0 bytes 7 out of order" ++ 10 ∷ []
+unfolding digits
 out_of_order = refl
