@@ -63,11 +63,12 @@ impl<'k, 'p> Writer<'k, 'p> {
         alloc: Global,
         gate: &G,
     ) -> Writer<'k, 'p> {
+        let number = self.number;
         for write in 0..self.writes {
-            if !gate.pass(self.number, write) {
+            if !gate.pass(number, write) {
                 break;
             }
-            fill(&mut self.message, self.number, write);
+            fill(&mut self.message, number, write);
             if let Err(fault) = self.end.write(alloc, rt, &mut self.proc, &self.message) {
                 self.wrote = Err(fault);
                 break;
