@@ -57,24 +57,33 @@ impl<'k, 'p> Writer<'k, 'p> {
     }
 
     /// Writes its messages, one after the other, as far as the gate lets it.
-    pub fn write_all<R: Wait, G: Gate>(
-        mut self,
-        rt: &R,
-        alloc: Global,
-        gate: &G,
-    ) -> Writer<'k, 'p> {
-        let number = self.number;
-        for write in 0..self.writes {
+    pub fn write_all<R: Wait, G: Gate>(self, rt: &R, alloc: Global, gate: &G) -> Writer<'k, 'p> {
+        let Writer {
+            mut proc,
+            mut end,
+            number,
+            writes,
+            mut message,
+            mut wrote,
+        } = self;
+        for write in 0..writes {
             if !gate.pass(number, write) {
                 break;
             }
-            fill(&mut self.message, number, write);
-            if let Err(fault) = self.end.write(alloc, rt, &mut self.proc, &self.message) {
-                self.wrote = Err(fault);
+            fill(&mut message, number, write);
+            if let Err(fault) = end.write(alloc, rt, &mut proc, &message) {
+                wrote = Err(fault);
                 break;
             }
         }
-        self
+        Writer {
+            proc,
+            end,
+            number,
+            writes,
+            message,
+            wrote,
+        }
     }
 
     /// Why it wrote no more, if a write was refused.
