@@ -1,8 +1,8 @@
 //! A device driver. It shows `sleep`, `wakeup` and notes.
 //!
-//! A driver copies the blocks that a device makes. The device interrupts whenever a block is ready,
-//! and an interrupt may not wait: it calls `wakeup`, which never does. The driver sleeps until there
-//! is a block. A user ends the transfer by a note, before all blocks that were wanted are there.
+//! A driver copies the blocks that a device makes. The device interrupts whenever a block is
+//! ready, and an interrupt may not wait: it calls `wakeup`, which never does. The driver sleeps
+//! until there is a block. A user ends the transfer by a note, before all blocks that were wanted are there.
 #![tactic(auto)]
 
 use sleep_wakeup::{Kernel, Proc};
@@ -70,8 +70,8 @@ fn interrupts(mut device: Proc<'_>, ready: &Counter) -> Result<(), Fault> {
     Ok(())
 }
 
-/// The driver waits for each block, copies it and says so. A note cancels what is left. It answers how
-/// many were copied.
+/// The driver waits for each block, copies it and says so. A note cancels what is left. It answers
+/// how many were copied.
 fn copy_blocks<R: Wait>(
     rt: &R,
     mut driver: Proc<'_>,

@@ -1,8 +1,7 @@
 //! A server's request loop. It shows a pipe with many writers, and a pipe back to each of them.
 //!
-//! Four clients write requests into one pipe, and one server reads them, in whatever order they
-//! come. It answers each on a pipe of its client's own. When all clients are done the pipe of
-//! requests is hung up, and that ends the server.
+//! Four clients write requests into one pipe, and one server reads them in the order in which they
+//! come. It answers each on a pipe of its client's own. A hangup of the pipe of requests ends it.
 #![tactic(auto)]
 
 use pipe_dev::{Ends, Opened, Pipe, ReadAnswer, ReadEnd, WriteEnd};
@@ -13,9 +12,9 @@ use std::sync::Wait;
 use std::thread::{Threads, join, map_vec};
 use sync_base::{Fault, Flags};
 
+/// How many clients there are, each of which asks for the squares of 1 to 5.
 const CLIENTS: u64 = 4;
 
-/// Each client asks for the squares of 1 to 5.
 const ASKED: u8 = 5;
 
 /// A client asks at one pipe and is answered at another.
@@ -49,15 +48,18 @@ fn ask_one<R: Wait>(rt: &R, alloc: Global, me: &mut Client<'_, '_>, n: u8) -> Re
     Ok(u64::from_be_bytes(square))
 }
 
-/// Runs each client on a thread of its own, and then hangs the pipe of requests up: it is closed for
-/// all writers, so this comes when nobody writes any more.
+/// Runs each client on a thread of its own, and then hangs the pipe of requests up: that closes it
+/// for all writers, so it comes when nobody writes any more.
 fn ask_all<'k, 'p, R: Threads + Wait + Sync>(
     rt: &R,
     alloc: Global,
     clients: Vec<Client<'k, 'p>>,
 ) -> Result<Vec<Client<'k, 'p>>, Fault> {
-    let asks = |client: Client| -> Client { ask(rt, alloc, client) };
-    let mut done = map_vec(rt, clients, &asks)?;
+    let mut done = map_vec(
+        rt,
+        clients,
+        &|client: Client| -> Client { ask(rt, alloc, client) },
+    )?;
     if let Some(last) = done.last_mut() {
         last.requests.hangup(&mut last.proc);
     }

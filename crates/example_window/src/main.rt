@@ -2,8 +2,7 @@
 //!
 //! A keyboard, a mouse and the frame of a window each write events into one pipe, and one reader
 //! takes them as they come, whichever device they are from: it waits at one place for all of them.
-//! When the window is closed the pipe is hung up. What was written before is still read, and then
-//! comes the end.
+//! When the window is closed the pipe is hung up: what was written is still read, and then it ends.
 #![tactic(auto)]
 
 use pipe_dev::{Ends, Pipe, ReadAnswer, ReadEnd, WriteEnd};
@@ -46,8 +45,11 @@ fn send_all<R: Threads + Wait + Sync>(
     alloc: Global,
     devices: Vec<Device<'_, '_>>,
 ) -> Result<(), Fault> {
-    let sends = |device: Device| -> Device { send(rt, alloc, device) };
-    let mut done = map_vec(rt, devices, &sends)?;
+    let mut done = map_vec(
+        rt,
+        devices,
+        &|device: Device| -> Device { send(rt, alloc, device) },
+    )?;
     if let Some(last) = done.last_mut() {
         last.out.hangup(&mut last.proc);
     }

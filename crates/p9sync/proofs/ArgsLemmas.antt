@@ -331,7 +331,8 @@ names_replay_end name = refl
 -- words whose first is `threads` name that command
 names_threads : (name : Text) (rest : List Text)
     → name_met (name ∷ codes "threads" ∷ rest) ≡ Some (codes "threads")
-names_threads name rest = ap (λ stop. option_map (λ p. p.0) (entered (built command_line) stop)) (threads_stops rest)
+names_threads name rest =
+    ap (λ stop. option_map (λ p. p.0) (entered (built command_line) stop)) (threads_stops rest)
 
 -- and ask for the run of no script
 no_script : (name : Text) (rest : List Text) → script_asked (name ∷ codes "threads" ∷ rest) ≡ None

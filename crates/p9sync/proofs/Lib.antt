@@ -14,3 +14,4 @@ mod TextLemmas
 mod ToldLemmas
 mod WorkedSchedules
 mod WorkedScripts
+mod WorkedWords

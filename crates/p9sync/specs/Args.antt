@@ -36,8 +36,8 @@ task_named word =
     else if is_word word (codes "replay") then Some Replay
     else None
 
--- the run of a script that the words ask for, the program's name first; `--` may end them, as in any
--- command
+-- the run of a script that the words ask for, the program's name first; `--` may end them, as in
+-- any command
 abbrev pub script_asked : List (List ℕ) → Option Task
 script_asked (name ∷ word ∷ []) = task_named word
 script_asked (name ∷ word ∷ end ∷ []) =
@@ -129,8 +129,8 @@ abbrev pub if_faultless : Kinds → Option Task → Option Task
 if_faultless [] asked = asked
 if_faultless (kind ∷ kinds) asked = None
 
--- The run on threads that the words ask for: `clap` finds no fault in them, and what it finds for the
--- options are numbers.
+-- The run on threads that the words ask for: `clap` finds no fault in them, and what it finds for
+-- the options are numbers.
 abbrev pub threads_asked : List (List ℕ) → Option Task
 threads_asked words = if_faultless (fault_of command_line words)
     (option_and_then (λ met. threads_named met.0 met.1) (subcommand_of command_line words))
@@ -139,8 +139,8 @@ threads_asked words = if_faultless (fault_of command_line words)
 abbrev pub task_asked : List (List ℕ) → Option Task
 task_asked words = option_or (script_asked words) (threads_asked words)
 
--- A run on threads ended with this status. With the status of a good run its report was in order and
--- was written whole; with the status of a fault a front of a report was written, or all of one.
+-- A run on threads ended with this status. With the status of a good run its report was in order
+-- and was written whole; with the status of a fault a front of a report was written, or all of one.
 pub record EndsThreads (opts : ThreadsOpts) (old new : Option (List ℕ)) (status : ℕ) : Type 0 where
   pub report : Report
   pub is_report : IsReportOf opts report

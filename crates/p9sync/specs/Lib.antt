@@ -1,5 +1,6 @@
 pub mod AnswerText
 pub mod Args
+pub mod Crew
 pub mod Device
 pub mod EventText
 pub mod Lines

@@ -16,8 +16,8 @@ pub record AreWithin (opts : ThreadsOpts) : Type 0 where
   pub writes : IsBetween 1 MAX_WRITES opts.writes
   pub size : IsBetween LEAST_SIZE ATOMIC_SIZE opts.size
 
--- What a run with these options may report: how many writers there were, and where all was in order,
--- just the bytes of so many messages, no more than the writers have together.
+-- What a run with these options may report: how many writers there were, and where all was in
+-- order just the bytes of so many messages, no more than the writers have together.
 pub record IsReportOf (opts : ThreadsOpts) (report : Report) : Type 0 where
   pub writers : report.writers ≡ opts.writers
   pub whole : report.in_order ≡ true → report.bytes ≡ report.writes * opts.size

@@ -1,6 +1,7 @@
 //! The program on its words: what the command line asks for, and how it ends. Before this:
 //! `run`.
-ghost use Rattle.std.specs.Prelude.{◌≡◌, ◌≤◌, ◌<◌, ◌+◌, ◌↔◌, Some, None, map, IfOk, IfErr, IfSome, IsOk, OnErr, false};
+ghost use Rattle.std.specs.Prelude.{◌≡◌, ◌≤◌, ◌<◌, ◌+◌, ◌↔◌, Some, None, map, false};
+ghost use Rattle.std.specs.Prelude.{IfOk, IfErr, IfSome, IsOk, OnErr};
 ghost use Rattle.std.specs.Io.KnownBytes.{Keeps};
 ghost use Rattle.clap.specs.Simple.{app_of, shape_of};
 ghost use Rattle.clap.specs.Walk.{rows_of, rule_of};
@@ -160,7 +161,8 @@ fn write_threads<T: Threads + Wait + Sync, O: Write>(
     out: &mut O,
 ) -> Result<bool, Fault>
     ensures good { IfOk result (λ good. (report : Report) × IsReportOf opts report
-        × (report.in_order ≡ good) × Appends (O.contents out.old) (O.contents out.new) (report_line report)) }
+        × (report.in_order ≡ good)
+        × Appends (O.contents out.old) (O.contents out.new) (report_line report)) }
     ensures failed { OnErr result ((report : Report) × IsReportOf opts report
         × AppendsFront (O.contents out.old) (O.contents out.new) (report_line report)) }
 {

@@ -1,5 +1,5 @@
-//! What a writer writes, so that a reader can tell whose it is and which. Before this: `gate`. After
-//! it: `tally`.
+//! What a writer writes, so that a reader can tell whose it is and which. Before this: `gate`.
+//! After it: `opts`.
 
 ghost use Rattle.std.specs.Prelude.{◌≡◌, ◌≤◌, length};
 ghost use Rattle.p9sync.specs.Message.{message_of};

@@ -1,4 +1,5 @@
-//! What a run on threads is asked for, and what it answers. Before this: `message`. After it: `tally`.
+//! What a run on threads is asked for, and what it answers. Before this: `message`. After it:
+//! `tally`.
 ghost use Rattle.std.specs.Prelude.{◌≡◌, ◌≤◌, ◌*◌, ◌↔◌, true};
 ghost use Rattle.p9sync.specs.Threads.{AreWithin, IsBetween};
 

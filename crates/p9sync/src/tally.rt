@@ -111,7 +111,8 @@ impl Tally {
 
     /// What was read, of so many writers.
     pub fn report(&self, writers: u64) -> Report
-        ensures { (opts : ThreadsOpts) → opts.writers ≡ writers → IsTallyOf opts self.now → IsReportOf opts result }
+        ensures { (opts : ThreadsOpts) → opts.writers ≡ writers → IsTallyOf opts self.now
+            → IsReportOf opts result }
     {
         Report {
             writers,

@@ -1,5 +1,5 @@
-//! Many writers and one reader, each on a thread of its own, on one direction of a pipe. Before this:
-//! `crew`. After it: `report_text`.
+//! Many writers and one reader, each on a thread of its own, on one direction of a pipe. Before
+//! this: `crew`. After it: `report_text`.
 ghost use Rattle.std.specs.Prelude.{◌≡◌, IfOk, Err};
 ghost use Rattle.sync_base.specs.declared.fault.Fault.TheVariants.{BadArg};
 ghost use Rattle.p9sync.specs.Threads.{AreWithin, IsReportOf};
@@ -8,7 +8,7 @@ ghost use Rattle.p9sync.specs.Tally.{IsTallyOf};
 use crate::crew::{Counted, Crew, Writer};
 use crate::gate::Gate;
 use crate::opts::{Report, ThreadsOpts};
-use pipe_dev::Pipe;
+use pipe_dev::{Ends, Pipe};
 use sleep_wakeup::{Kernel, Started};
 use std::alloc::Global;
 use std::sync::Wait;
@@ -46,7 +46,9 @@ pub fn run_threads<R: Threads + Wait + Sync, G: Gate + Sync>(
     let sleep_wakeup::Opened { kernel, start } = Kernel::new(alloc, opts.writers + 1, rendez)?;
     let Started { mut roster, proc } = kernel.start(start);
     let pipe_dev::Opened { pipe, start } = Pipe::new(alloc, &mut roster, LIMIT, opts.writers)?;
-    let crew = Crew::new(alloc, &opts, &mut roster, proc, pipe.ends(start))?;
+    let Ends { first, second } = pipe.ends(start);
+    let (read, writes) = (first.parts().read, second.parts().writes);
+    let crew = Crew::new(alloc, &opts, &mut roster, proc, read, writes)?;
     run_crew(rt, alloc, opts, gate, crew)
 }
 

@@ -33,10 +33,10 @@ returns c =
     ∙ ap₂ (λ a b. a || b) one_local c.number_option-writes.ensures.local in
     record {
       shape = IfOk-weaker c.arg-3.result _ _
-      (λ command adds. ap (λ (a : App). a.top)
-      (adds.shape c.number_option-size.ensures.local ∙ ap₂ with_rule two_are size_is))
-      c.arg-3.ensures;
+          (λ command adds. ap (λ (a : App). a.top)
+          (adds.shape c.number_option-size.ensures.local ∙ ap₂ with_rule two_are size_is))
+          c.arg-3.ensures;
       local = IfOk-weaker c.arg-3.result _ _ (λ command adds. adds.globals
-      ∙ ap₂ (λ a b. a || b) two_local c.number_option-size.ensures.local)
-      c.arg-3.ensures;
+          ∙ ap₂ (λ a b. a || b) two_local c.number_option-size.ensures.local)
+          c.arg-3.ensures;
     }
