@@ -49,40 +49,37 @@ impl Dice {
     }
 }
 
-/// What a process of the crowd does: it calls, or posts notes.
+/// A process of the crowd. The last one posts notes, each other one calls.
 #[derive(Drop)]
-enum Job<'s, 'k> {
-    Calls(Calls<'s, 'k>),
-    Posts(Proc<'k>),
-}
-
-#[derive(Drop)]
-struct Calls<'s, 'k> {
+struct Job<'s, 'k> {
     space: &'s TagSpace,
     child: Child<'k>,
     number: u64,
 }
 
-impl<'s, 'k> Model for Calls<'s, 'k> {
+impl<'s, 'k> Model for Job<'s, 'k> {
     ghost use Rattle.std.specs.Prelude.{ℕ};
     ghost use Rattle.tag_space.specs.Members.{IsMemberOf, HasRow};
 
     ghost Value = { ℕ };
 
-    ghost view = { λ calls. calls.number };
+    ghost view = { λ job. job.number };
 
-    ghost invariant = { λ calls.
-        IsMemberOf calls.space.now calls.child.member
-        × HasRow calls.space.now calls.child.proc.words };
+    ghost invariant = { λ job.
+        IsMemberOf job.space.now job.child.member
+        × HasRow job.space.now job.child.proc.words };
 }
 
-impl<'s, 'k> Calls<'s, 'k> {
+impl<'s, 'k> Job<'s, 'k> {
     fn make<R: Wait>(self, rt: &R, alloc: Global, board: &Board) -> Work {
-        let Calls {
+        let Job {
             space,
             child,
             number,
         } = self;
+        if number >= CALLERS {
+            return posts(rt, alloc, board, child.proc);
+        }
         let work = call_in_turn(rt, alloc, board, space, child, number);
         board.ended.fetch_add(1, SeqCst);
         work
@@ -179,13 +176,6 @@ fn posts<R: Wait>(rt: &R, alloc: Global, board: &Board, mut proc: Proc) -> Work 
     work
 }
 
-fn make_work<R: Wait>(rt: &R, alloc: Global, board: &Board, job: Job) -> Work {
-    match job {
-        Job::Calls(calls) => calls.make(rt, alloc, board),
-        Job::Posts(proc) => posts(rt, alloc, board, proc),
-    }
-}
-
 // Eight processes with a member each.
 fn callers<'s, 'k, R: Wait + Abort>(
     rt: &R,
@@ -197,15 +187,17 @@ fn callers<'s, 'k, R: Wait + Abort>(
     requires member { IsMemberOf space.now first.old.member }
     requires row { HasRow space.now first.old.proc.words }
     requires words { roster.old.words ≡ first.old.proc.words }
+    ensures member { IsMemberOf space.now first.new.member }
+    ensures row { HasRow space.now first.new.proc.words }
 {
     let mut jobs = Vec::new(alloc);
     for number in 0..CALLERS {
         let child = forked(rt, space, roster, first);
-        jobs.push(Job::Calls(Calls {
+        jobs.push(Job {
             space,
             child,
             number,
-        }))?;
+        })?;
     }
     Ok(jobs)
 }
@@ -223,12 +215,16 @@ fn a_crowd_meets_in_pairs(rt: HostRuntime) -> Result<(), Fail> {
         ended: AtomicU64::new(0),
     };
     let mut jobs = callers(&rt, rt.alloc(), &space, &mut roster, &mut first)?;
-    jobs.push(Job::Posts(first.proc))?;
+    jobs.push(Job {
+        space: &space,
+        child: first,
+        number: CALLERS,
+    })?;
     let alloc = rt.alloc();
     let done = thread::map_vec(
         &rt,
         jobs,
-        &|job: Job| -> Work { make_work(&rt, alloc, &board, job) },
+        &|job: Job| -> Work { job.make(&rt, alloc, &board) },
     )?;
     let mut all = Vec::new(rt.alloc());
     let mut interrupted = 0u64;
