@@ -14,4 +14,3 @@ mod TextLemmas
 mod ToldLemmas
 mod WorkedSchedules
 mod WorkedScripts
-mod WorkedWords

@@ -1,13 +1,5 @@
 //! What no clause says: that calls succeed where there is memory, and worked runs of a pipe.
 //! Every test ends by itself, whatever the schedule.
-mod both_ways;
-mod crowds;
-mod hands;
-mod hangups;
-mod noted;
-mod pages;
-mod worked;
-
 use crate::{Ends, Held, Opened, Parts, Pipe, ReadAnswer, TryAnswer};
 use sleep_wakeup::Kernel;
 use std::test::Fail;
