@@ -1,10 +1,12 @@
 mod ArgsLemmas
 mod DeviceLemmas
+mod DigitLemmas
 mod EventLineLemmas
 mod EventTextLemmas
 mod HexTextLemmas
 mod LineLemmas
 mod NumberLemmas
+mod OnePassLemmas
 mod PipeLineLemmas
 mod ReadBackLemmas
 mod ScheduleLemmas
