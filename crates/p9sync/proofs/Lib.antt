@@ -8,6 +8,7 @@ mod LineLemmas
 mod NumberLemmas
 mod OnePassLemmas
 mod PipeLineLemmas
+mod PlaceLemmas
 mod ReadBackLemmas
 mod ScheduleLemmas
 mod ScriptLawLemmas

@@ -3,6 +3,8 @@ ghost use Rattle.std.specs.Prelude.{◌≡◌, false, ◌==◌, ◌∷◌, ◌+�
 ghost use Rattle.std.specs.Char.{is_ascii_digit};
 ghost use Rattle.p9sync.specs.Lines.{BeginsWithNumber, LeadingDigits, lines_of, cut_line_of, parts_of, parts_behind, words_of, words_behind, number_of, number_within, value_of};
 
+use memchr::memchr;
+
 /// The byte that ends a line.
 pub const LINE_FEED: u8 = b'\n';
 
@@ -15,11 +17,11 @@ pub const COMMA: u8 = b',';
 /// The digit 0.
 pub const ZERO: u8 = b'0';
 
-/// Where the byte first stands.
+/// Where the byte first stands. The crate looks at 32 bytes at once.
 fn place_of(byte: u8, text: &[u8]) -> Option<usize>
     ensures { result ≡ position (λ b. b == byte) text.now }
 {
-    text.iter().position(|b| *b == byte)
+    memchr(byte, text)
 }
 
 /// The first line, without its line feed, and what follows; `None` where there is no line feed.
