@@ -1,5 +1,5 @@
 -- What several reads took and several writes gave, one behind the other.
-use Rattle.std.proofs.Common.{◌≡◌, ◌⊎◌, inl, inr, IfSome, nat_lt, ℕ, ◌+◌, ◌-◌, ◌≤◌, List, [], ◌++◌, length, take, drop, Option, Some, None, refl, sym, ◌∙◌, ap, subst, append_assoc, arith, length-append, length-take, Result, Ok, Err, OnErr}
+use Rattle.std.proofs.Common.{◌≡◌, ◌⊎◌, inl, inr, IfSome, nat_lt, ℕ, suc, ◌+◌, ◌-◌, ◌≤◌, List, [], ◌∷◌, ◌++◌, length, take, drop, Option, Some, None, refl, sym, ◌∙◌, ap, subst, append_assoc, arith, length-append, length-take, Result, Ok, Err, OnErr, unwrap_or}
 use Rattle.std.proofs.lemmas.List.{append-nil}
 use Rattle.std.specs.Io.KnownBytes.{Keeps, Appends, Consumes}
 use Rattle.std.proofs.Math.Seq.{take-append_seam}
@@ -9,7 +9,7 @@ use Rattle.std.proofs.lemmas.Bool.Decides.{nat_tests}
 use Rattle.sync_base.specs.declared.fault.Fault.{Fault}
 use Rattle.p9sync.specs.declared.script.TheConstants.{MAX_SCRIPT}
 use Rattle.p9sync.specs.Script.{Language, Told, told}
-use Rattle.p9sync.specs.Device.{AppendsFront, TakesUpTo, WritesTold, IsOutside}
+use Rattle.p9sync.specs.Device.{AppendsFront, GivesSome, GivesBehind, TakesUpTo, WritesTold, Tells, IsOutside}
 
 -- what two reads took, the second behind the first
 pub consumes_then : (old mid new : Option (List ℕ)) (a b : List ℕ) → Consumes old mid a
@@ -177,3 +177,39 @@ pub told_of_none : {S : Type 0} (language : Language S) (old held : Option (List
 told_of_none language None held r fault is outside = tt
 told_of_none language (Some all) held r fault is outside =
     told_unwritten (told language all) held r fault is outside
+
+-- what a read put into the room behind other bytes, where the rest of the room is cut off
+pub gives_behind : (most : ℕ) (old new : Option (List ℕ)) (count : Option ℕ) (start : ℕ)
+    (before room after : List ℕ)
+    → IfSome count (λ n. GivesSome most old new n room) → length room ≡ most
+    → start ≡ length before → after ≡ take (start + unwrap_or count 0) (before ++ room)
+    → IfSome count (λ n. GivesBehind most old new n before after)
+gives_behind most old new None start before room after gives len is cut = tt
+gives_behind most old new (Some n) start before room after gives len is cut =
+    record {
+      bytes = take n room;
+      taken = gives.taken;
+      behind = cut ∙ (ap (λ k. take (k + n) (before ++ room)) is
+          ∙ take_past before room n);
+      counted = omega (arith, length-take n room, gives.within, len);
+      within = gives.within;
+      end = gives.end;
+    }
+  where
+    take_past : (a b : List ℕ) (n : ℕ) → take (length a + n) (a ++ b) ≡ a ++ take n b
+    take_past [] b n = let none : 0 + n ≡ n = omega arith in rw none refl
+    take_past (x ∷ a) b n =
+        let one : length (x ∷ a) + n ≡ suc (length a + n) = omega arith in
+        rw one (ap (λ t. x ∷ t) (take_past a b n))
+
+-- what is told where that failed
+pub tells_err : (said : Told) (old now : Option (List ℕ)) (r : Result (Option ℕ) Fault)
+    (fault : Fault) → r ≡ Err fault → AppendsFront old now said.output → Tells said old now r
+tells_err said old now r fault is front =
+    subst (Tells said old now) (sym is) front
+
+-- where nothing is left all is written
+pub all_written : (old now : Option (List ℕ)) (bytes : List ℕ) → IsWriting old now bytes []
+    → Appends old now bytes
+all_written old now bytes so_far =
+    subst (Appends old now) (sym (append-nil so_far.written) ∙ so_far.whole) so_far.appended

@@ -1,7 +1,12 @@
 -- Lines of a schedule with a word too many are not in the grammar.
-use Rattle.std.proofs.Common.{◌≡◌, ℕ, ◌<◌, List, [], ◌∷◌, length, ◌+◌, Option, None, Some, Bor, refl, arith}
-use Rattle.p9sync.specs.Lines.{is_space, words_of}
-use Rattle.p9sync.specs.Schedule.{size_of, lone_pid, operands_of, note_of}
+use Rattle.std.proofs.Common.{◌≡◌, ℕ, ◌<◌, List, [], ◌∷◌, ◌++◌, length, ◌+◌, option_and_then, ap, sym, subst, ◌∙◌, Option, None, Some, Bor, refl, arith}
+use Rattle.p9sync.specs.Lines.{is_space, words_of, BeginsWithLine}
+use Rattle.sleep_core.specs.declared.event.Event.{Event}
+use Rattle.p9sync.specs.declared.event_line.Verb.{Verb}
+use Rattle.p9sync.specs.declared.event_line.Verb.TheVariants as verb
+use Rattle.p9sync.specs.declared.lines.TheConstants.{SPACE}
+use Rattle.p9sync.proofs.OnePassLemmas.{IsWord, line_behind_word}
+use Rattle.p9sync.specs.Schedule.{verb_of, verb_word, event_with, BeginsWithEvent, size_of, lone_pid, operands_of, note_of}
 use Rattle.p9sync.proofs.LineLemmas.{parts_of-some}
 
 -- a process and a word more is no process alone
@@ -48,3 +53,47 @@ size_of-long verb procs rendez rest =
 abbrev pub left_behind : Option (Bor (List ℕ)) → ℕ
 left_behind None = 0
 left_behind (Some rest) = length rest.now + 1
+
+-- the word of a verb is read as that verb
+verb_is_read : (v : Verb) → verb_of (verb_word v) ≡ Some v
+verb_is_read verb.Post = refl
+verb_is_read verb.Test = refl
+verb_is_read verb.Look = refl
+verb_is_read verb.Withdraw = refl
+verb_is_read verb.Clear = refl
+verb_is_read verb.Raise = refl
+verb_is_read verb.Take = refl
+verb_is_read verb.Mark = refl
+verb_is_read verb.Note = refl
+verb_is_read verb.Drain = refl
+verb_is_read verb.Check = refl
+
+-- and is one word
+verb_is_word : (v : Verb) → IsWord (verb_word v)
+verb_is_word verb.Post = record { no_space = refl; no_line_feed = refl }
+verb_is_word verb.Test = record { no_space = refl; no_line_feed = refl }
+verb_is_word verb.Look = record { no_space = refl; no_line_feed = refl }
+verb_is_word verb.Withdraw = record { no_space = refl; no_line_feed = refl }
+verb_is_word verb.Clear = record { no_space = refl; no_line_feed = refl }
+verb_is_word verb.Raise = record { no_space = refl; no_line_feed = refl }
+verb_is_word verb.Take = record { no_space = refl; no_line_feed = refl }
+verb_is_word verb.Mark = record { no_space = refl; no_line_feed = refl }
+verb_is_word verb.Note = record { no_space = refl; no_line_feed = refl }
+verb_is_word verb.Drain = record { no_space = refl; no_line_feed = refl }
+verb_is_word verb.Check = record { no_space = refl; no_line_feed = refl }
+
+-- a verb before the words that it asks for
+pub event_begins : (text : List ℕ) (v : Verb) (mid : List ℕ) (words : List (List ℕ))
+    (rest : List ℕ) (event : Event) → text ≡ verb_word v ++ SPACE ∷ mid
+    → BeginsWithLine mid words rest → event_with v words ≡ Some event
+    → BeginsWithEvent text event rest
+event_begins text v mid words rest event split line asks =
+    record {
+      words = verb_word v ∷ words;
+      begins = subst
+          (λ (t : List ℕ). BeginsWithLine t (verb_word v ∷ words) rest) (sym split)
+          (line_behind_word (verb_word v) mid words rest (verb_is_word v) line);
+      asks = ap
+          (λ (o : Option Verb). option_and_then (λ v. event_with v words) o) (verb_is_read v)
+          ∙ asks;
+    }

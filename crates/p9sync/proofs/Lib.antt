@@ -1,11 +1,14 @@
 mod ArgsLemmas
 mod DeviceLemmas
+mod DigitLemmas
 mod EventLineLemmas
 mod EventTextLemmas
 mod HexTextLemmas
 mod LineLemmas
 mod NumberLemmas
+mod OnePassLemmas
 mod PipeLineLemmas
+mod PlaceLemmas
 mod ReadBackLemmas
 mod ScheduleLemmas
 mod ScriptLawLemmas

@@ -1,8 +1,8 @@
 -- The definitions of lines and words read a text from its end, and the code reads it from its
 -- front: the first part joins
 -- the two.
-use Rattle.std.proofs.Common.{◌≡◌, ℕ, suc, ◌+◌, ◌-◌, ◌<◌, ◌≤◌, Bool, true, false, cond, not, List, [], ◌∷◌, length, take, drop, position, Some, None, refl, ap, subst, ◌∙◌, arith}
-use Rattle.std.specs.List.{position_or_len}
+use Rattle.std.proofs.Common.{◌≡◌, ℕ, suc, ◌+◌, ◌-◌, ◌<◌, ◌≤◌, Bool, true, false, cond, not, List, [], ◌∷◌, ◌++◌, length, take, drop, position, Some, None, refl, ap, subst, ◌∙◌, arith}
+use Rattle.std.specs.List.{position_or_len, list_all}
 use Rattle.std.proofs.lemmas.Grind.{common_steps}
 use Rattle.std.proofs.lemmas.Bool.Decides.{nat_tests}
 use Rattle.p9sync.specs.Lines.{is_line_feed, parts_of, onto_first, all_but_last, last_of, lines_of, cut_line_of}
@@ -112,3 +112,31 @@ lines_of-missing text none = ap all_but_last (parts_of-missing is_line_feed text
 pub cut_line_of-missing : (text : List ℕ) → position is_line_feed text ≡ None
     → cut_line_of text ≡ text
 cut_line_of-missing text none = ap last_of (parts_of-missing is_line_feed text none)
+
+-- a byte in front of plain ones is plain, and so are they
+plain_first : (p : ℕ → Bool) (x : ℕ) (bs : List ℕ)
+    → list_all (λ b. not (p b)) (x ∷ bs) ≡ true → p x ≡ false
+plain_first p x bs plain = grind (arith, nat_tests)
+
+plain_rest : (p : ℕ → Bool) (x : ℕ) (bs : List ℕ)
+    → list_all (λ b. not (p b)) (x ∷ bs) ≡ true → list_all (λ b. not (p b)) bs ≡ true
+plain_rest p x bs plain = grind (arith, nat_tests)
+
+-- a part and the parting byte behind it stand before the other parts
+pub parts_of-part : (p : ℕ → Bool) (part : List ℕ) (b : ℕ) (rest : List ℕ)
+    → list_all (λ b. not (p b)) part ≡ true → p b ≡ true
+    → parts_of p (part ++ b ∷ rest) ≡ part ∷ parts_of p rest
+parts_of-part p [] b rest plain parting =
+    ap (λ v. cond v ([] ∷ parts_of p rest) (onto_first b (parts_of p rest))) parting
+parts_of-part p (x ∷ part) b rest plain parting =
+    ap (λ v. cond v ([] ∷ parts_of p (part ++ b ∷ rest))
+    (onto_first x (parts_of p (part ++ b ∷ rest)))) (plain_first p x part plain)
+    ∙ ap (onto_first x) (parts_of-part p part b rest (plain_rest p x part plain) parting)
+
+-- a text without a parting byte is one part
+pub parts_of-plain : (p : ℕ → Bool) (bs : List ℕ) → list_all (λ b. not (p b)) bs ≡ true
+    → parts_of p bs ≡ bs ∷ []
+parts_of-plain p [] plain = refl
+parts_of-plain p (x ∷ bs) plain =
+    ap (λ v. cond v ([] ∷ parts_of p bs) (onto_first x (parts_of p bs))) (plain_first p x bs plain)
+    ∙ ap (onto_first x) (parts_of-plain p bs (plain_rest p x bs plain))

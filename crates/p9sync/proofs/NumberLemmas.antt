@@ -3,6 +3,7 @@ use Rattle.std.proofs.Common.{◌≡◌, ℕ, suc, ◌+◌, ◌-◌, ◌*◌, �
 use Rattle.std.specs.List.{list_all}
 use Rattle.std.specs.Char.{is_ascii_digit}
 use Rattle.std.proofs.Math.Seq.{drop-cons}
+use Rattle.std.proofs.Math.Nat.{pow-le-pow_right}
 use Rattle.std.proofs.lemmas.Bool.Decides.{nat_tests}
 use Rattle.p9sync.specs.Lines.{decimal_value, value_of}
 
@@ -33,3 +34,9 @@ value_of-overflow digits i n within is large =
     (drop (suc i) digits) = ap (decimal_from n) (drop-cons digits i 0 within) in
     value_of-large digits
     (omega (arith, grows (10 * n + (get_or digits i 0 - 48)) (drop (suc i) digits)))
+
+-- nineteen digits fit, so one may come behind eighteen
+pub one_more_fits : (n count : ℕ) → n < 10 ^ count → count < 19 → 10 * n + 9 < 2 ^ 64
+one_more_fits n count below few =
+    let most : 10 ^ count ≤ 10 ^ 18 = pow-le-pow_right {n = 10} (omega arith) {i = count} {j = 18} (omega arith) in
+    omega (arith, most)

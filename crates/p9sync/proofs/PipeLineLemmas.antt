@@ -1,14 +1,23 @@
 -- Lines with a word too many are not in the grammar.
-use Rattle.std.proofs.Common.{◌≡◌, ℕ, ◌<◌, List, [], ◌∷◌, ◌++◌, length, true, is_some, Bor, Option, None, Some, refl, subst, arith}
+use Rattle.std.proofs.Common.{◌≡◌, ℕ, ◌<◌, List, [], ◌∷◌, ◌++◌, length, Bool, true, false, not, cond, codes, is_some, Bor, Option, None, Some, Result, Ok, Err, refl, sym, subst, arith}
 use Rattle.std.specs.Option.{option_map}
+use Rattle.std.specs.List.{list_all}
+use Rattle.std.specs.Result.{result_ok}
+use Rattle.std.proofs.lemmas.Slice.Eq.{bytes_eq-Decides}
+use Rattle.std.proofs.lemmas.List.Sums.{list_all-from_AllPass}
+use Rattle.std.proofs.lemmas.Bool.Decides.{nat_tests}
+use Rattle.hex.specs.Hex.{decode_of, is_hex_digit}
+use Rattle.hex.specs.declared.error.FromHexError.{FromHexError}
+use Rattle.hex.proofs.HexLemmas.{decode_of-ok}
 use Rattle.sync_base.specs.Pipe.{PipeState}
-use Rattle.p9sync.specs.declared.lines.TheConstants.{LINE_FEED}
+use Rattle.p9sync.specs.declared.lines.TheConstants.{LINE_FEED, SPACE}
 use Rattle.p9sync.specs.declared.pipe_line.PipeOp.{PipeOp}
 use Rattle.p9sync.specs.Script.{Answers}
-use Rattle.p9sync.specs.Lines.{is_space, words_of, words_behind}
-use Rattle.p9sync.specs.PipeScript.{Op, answered, limit_of, hangup_of, read_of, write_of}
-use Rattle.p9sync.specs.PipeLine.{IsOp, asked_by}
-use Rattle.p9sync.proofs.LineLemmas.{parts_of-some}
+use Rattle.p9sync.specs.Lines.{is_space, is_word, lines_of, cut_line_of, words_of, words_behind, number_of, number_within, BeginsWithLine}
+use Rattle.p9sync.specs.PipeScript.{Op, Writes, Hangs_up, answered, pipe_language, bytes_of, op_of, limit_of, hangup_of, read_of, write_of}
+use Rattle.p9sync.specs.PipeLine.{IsOp, BeginsWithOp, asked_by}
+use Rattle.p9sync.proofs.LineLemmas.{parts_of-some, parts_of-plain}
+use Rattle.p9sync.proofs.OnePassLemmas.{IsWord, passes_too, line_begins, line_of_word, line_behind_word}
 
 -- `hangup` and a word more is not in the grammar
 hangup_of-more : (words : List (List ℕ)) → 0 < length words → hangup_of words ≡ None
@@ -65,3 +74,68 @@ answers_op stands s (Some asked) op t old new is stands_after written = (
   subst
       (λ (o : Op). new ≡ old ++ (answered s o).text ++ LINE_FEED ∷ []) is written,
 )
+
+-- the digits of bytes have no space between them
+no_space_in_bytes : (word bytes : List ℕ) → bytes_of word ≡ Some bytes
+    → list_all (λ b. not (is_space b)) word ≡ true
+no_space_in_bytes [] bytes is = cc
+no_space_in_bytes (d ∷ ds) bytes is =
+    step (is_word (d ∷ ds) (codes "-")) refl (decode_of (d ∷ ds)) refl is
+  where
+    step : (v : Bool) → is_word (d ∷ ds) (codes "-") ≡ v → (r : Result (List ℕ) FromHexError)
+        → decode_of (d ∷ ds) ≡ r → cond v (Some []) (result_ok r) ≡ Some bytes
+        → list_all (λ b. not (is_space b)) (d ∷ ds) ≡ true
+    step true dash r decoded is =
+        subst (λ (w : List ℕ). list_all (λ b. not (is_space b)) w ≡ true)
+        (sym ((bytes_eq-Decides (d ∷ ds) (codes "-")).0 dash)) refl
+    step false dash (Ok decoded_bytes) decoded is =
+        passes_too is_hex_digit (λ b. not (is_space b)) (λ b is. grind (arith, nat_tests))
+        (d ∷ ds)
+        (list_all-from_AllPass is_hex_digit (d ∷ ds)
+        (decode_of-ok (d ∷ ds) decoded_bytes decoded).1)
+    step false dash (Err e) decoded is = cc
+
+-- a line of one word of bytes
+pub bytes_line : (text word rest bytes : List ℕ) → lines_of text ≡ word ∷ lines_of rest
+    → cut_line_of text ≡ cut_line_of rest → bytes_of word ≡ Some bytes
+    → BeginsWithLine text (word ∷ []) rest
+bytes_line text word rest bytes lines cut is =
+    subst (λ (ws : List (List ℕ)). BeginsWithLine text ws rest)
+    (parts_of-plain is_space word (no_space_in_bytes word bytes is))
+    (line_begins text word rest lines cut)
+
+-- a writer and bytes
+pub writes_of : (writer bytes word : List ℕ) (n : ℕ) → number_of writer ≡ Some n → n < 64
+    → bytes_of word ≡ Some bytes → write_of (writer ∷ word ∷ []) ≡ Some (Writes n bytes)
+writes_of writer bytes word n is small read =
+    let within : number_within 0 63 writer ≡ Some n = grind (arith, nat_tests) in
+    rw (within, read) refl
+
+-- a verb before the words that it asks for
+pub op_begins : (text verb mid : List ℕ) (words : List (List ℕ)) (rest : List ℕ) (op : Op)
+    → text ≡ verb ++ SPACE ∷ mid → IsWord verb → BeginsWithLine mid words rest
+    → op_of (verb ∷ words) ≡ Some op → BeginsWithOp text op rest
+op_begins text verb mid words rest op split is line asks =
+    record {
+      words = verb ∷ words;
+      begins = subst (λ (t : List ℕ). BeginsWithLine t (verb ∷ words) rest) (sym split)
+          (line_behind_word verb mid words rest is line);
+      asks = asks;
+    }
+
+-- `hangup` alone
+pub hangup_begins : (text rest : List ℕ) → text ≡ codes "hangup" ++ LINE_FEED ∷ rest
+    → BeginsWithOp text Hangs_up rest
+hangup_begins text rest split =
+    record {
+      words = codes "hangup" ∷ [];
+      begins = subst (λ (t : List ℕ). BeginsWithLine t (codes "hangup" ∷ []) rest) (sym split)
+          (line_of_word (codes "hangup") rest (record { no_space = refl; no_line_feed = refl }));
+      asks = refl;
+    }
+
+-- a line whose words ask for an operation is answered as that operation
+pub op_answered : (s : PipeState) (line : List ℕ) (words : List (List ℕ)) (op : Op)
+    → words_of line ≡ words → op_of words ≡ Some op
+    → pipe_language.answer_to s line ≡ Some (answered s op)
+op_answered s line words op is asks = rw (is, asks) refl

@@ -3,7 +3,7 @@
 use Rattle.std.proofs.Common.{◌≡◌, ℕ, Bool, true, false, List, [], ◌∷◌, ◌++◌, codes, Option, None, Some, refl, ap, sym, subst, ◌∙◌}
 use Rattle.sleep_core.specs.declared.event.Event.{Event}
 use Rattle.sleep_core.specs.State.{State, opening}
-use Rattle.sleep_core.specs.Step.{world_after}
+use Rattle.sleep_core.specs.Step.{answer_to, world_after}
 use Rattle.sleep_core.specs.Runs.{world_after_all}
 use Rattle.sleep_core.specs.Oversleep.{HasLostWakeup, has_lost_wakeup}
 use Rattle.sleep_core.proofs.OversleepLemmas.{decides_lost}
@@ -12,6 +12,7 @@ use Rattle.p9sync.specs.declared.lines.TheConstants.{LINE_FEED}
 use Rattle.p9sync.specs.Lines.{words_of}
 use Rattle.p9sync.specs.Script.{Answered}
 use Rattle.p9sync.specs.Schedule.{schedule_language, size_of, event_of}
+use Rattle.p9sync.specs.EventText.{event_text}
 use Rattle.p9sync.specs.ScriptLaws.{answers_of, NoScheduleSaysLost}
 use Rattle.p9sync.proofs.ToldLemmas.{Stays}
 use Rattle.p9sync.proofs.ScriptLawLemmas.{farewell_kept}
@@ -87,3 +88,10 @@ says_none_lost none_lost input none =
             (world_after_all (opening reached.procs reached.rendez) reached.events) =
             subst HasLostWakeup reached.is ((decides_lost state).0 is) in
             absurd (none_lost reached.procs reached.rendez reached.events here)
+
+-- a line whose words ask for an event is answered as that event
+pub event_answered : (s : State) (line : List ℕ) (words : List (List ℕ)) (event : Event)
+    → words_of line ≡ words → event_of words ≡ Some event
+    → schedule_language.answer_to s line
+    ≡ Some (record { text = event_text (answer_to s event); after = world_after s event })
+event_answered s line words event is asks = rw (is, asks) refl

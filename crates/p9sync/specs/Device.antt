@@ -1,5 +1,5 @@
 -- What a run takes from its reader and gives to its writer, where these tell their bytes.
-use Rattle.std.specs.Prelude.{◌≡◌, ◌≤◌, ◌<◌, ◌+◌, ◌⊎◌, ℕ, List, length, take, Option, None, Some, Result, Ok, Err}
+use Rattle.std.specs.Prelude.{◌≡◌, ◌≤◌, ◌<◌, ◌+◌, ◌++◌, ◌⊎◌, ℕ, List, length, take, Option, None, Some, Result, Ok, Err}
 use Rattle.std.specs.Prelude.{IfSome, IfErr}
 use Rattle.std.specs.Io.KnownBytes.{Appends, Consumes, IsAtEnd, Keeps}
 use Rattle.sync_base.specs.declared.fault.Fault.{Fault}
@@ -28,9 +28,25 @@ pub record GivesSome (most : ℕ) (old new : Option (List ℕ)) (n : ℕ) (room 
   pub within : n ≤ most
   pub end : n ≡ 0 → 0 < most → IsAtEnd new
 
+-- a read of at most so many bytes put n of them behind what was there before, and none only at the
+-- end or where none were asked for
+pub record GivesBehind (most : ℕ) (old new : Option (List ℕ)) (n : ℕ) (before after : List ℕ)
+    : Type 0 where
+  pub bytes : List ℕ
+  pub taken : Consumes old new bytes
+  pub behind : after ≡ before ++ bytes
+  pub counted : length bytes ≡ n
+  pub within : n ≤ most
+  pub end : n ≡ 0 → 0 < most → IsAtEnd new
+
 -- a front of these bytes was written
 abbrev pub AppendsFront : Option (List ℕ) → Option (List ℕ) → List ℕ → Type 0
 AppendsFront old new bytes = (n : ℕ) × Appends old new (take n bytes)
+
+-- What is told was written, and this is its fault. Where that failed, a front of it was written.
+abbrev pub Tells : Told → Option (List ℕ) → Option (List ℕ) → Result (Option ℕ) Fault → Type 0
+Tells told old new (Ok faulty_line) = (faulty_line ≡ told.fault) × Appends old new told.output
+Tells told old new (Err fault) = AppendsFront old new told.output
 
 -- a run that ended so wrote this of what a script says
 abbrev pub WritesTold : Told → Option (List ℕ) → Option (List ℕ) → Result (Unit {0}) Fault → Type 0

@@ -1,6 +1,7 @@
 pub mod AnswerText
 pub mod Args
 pub mod Device
+pub mod Digits
 pub mod EventText
 pub mod Lines
 pub mod PipeLine

@@ -1,5 +1,5 @@
 -- The lines, words and numbers of a script, as docs/SCRIPTS.md describes them.
-use Rattle.std.specs.Prelude.{◌==◌, ◌&&◌, ℕ, ◌+◌, ◌-◌, ◌*◌, ◌^◌, nat_lt, nat_le, Bool, if◌then◌else◌, List, [], ◌∷◌, fold, Option, None, Some, option_and_then}
+use Rattle.std.specs.Prelude.{◌≡◌, ◌<◌, ◌≤◌, true, length, take, ◌++◌, ◌==◌, ◌&&◌, ℕ, ◌+◌, ◌-◌, ◌*◌, ◌^◌, nat_lt, nat_le, Bool, not, if◌then◌else◌, List, [], ◌∷◌, fold, Option, None, Some, option_and_then}
 use Rattle.std.specs.List.{list_all}
 use Rattle.std.specs.Borrow.{Bor}
 use Rattle.std.specs.Str.{bytes_eq}
@@ -88,3 +88,24 @@ number_of (digit ∷ next ∷ digits) = if digit == ZERO then None else value_of
 abbrev pub number_within : ℕ → ℕ → List ℕ → Option ℕ
 number_within least most word =
     option_and_then (λ n. if nat_le least n && nat_le n most then Some n else None) (number_of word)
+
+-- the first bytes of the text are so many digits, which spell this number
+pub record LeadingDigits (text : List ℕ) (number count : ℕ) : Type 0 where
+  pub within : count ≤ length text
+  pub digits : list_all is_ascii_digit (take count text) ≡ true
+  pub value : number ≡ decimal_value (take count text)
+  pub small : number < 2 ^ 64
+
+-- the text begins with a word that spells this number, and then this byte, before the rest
+pub record BeginsWithNumber (end : ℕ) (text : List ℕ) (number : ℕ) (rest : List ℕ) : Type 0 where
+  pub word : List ℕ
+  pub split : text ≡ word ++ end ∷ rest
+  pub digits : list_all is_ascii_digit word ≡ true
+  pub spells : number_of word ≡ Some number
+
+-- the text begins with a line of these words, before the rest
+pub record BeginsWithLine (text : List ℕ) (words : List (List ℕ)) (rest : List ℕ) : Type 0 where
+  pub line : List ℕ
+  pub split : text ≡ line ++ LINE_FEED ∷ rest
+  pub plain : list_all (λ b. not (is_line_feed b)) line ≡ true
+  pub words_are : words_of line ≡ words

@@ -1,12 +1,15 @@
 -- What the code reads off a line, beside what the grammar says of it.
-use Rattle.std.specs.Prelude.{◌≡◌, ℕ, Bool, true, false, List, [], ◌∷◌, ◌++◌, Option, None, Some}
+use Rattle.std.specs.Prelude.{◌≡◌, ℕ, Bool, true, false, List, [], ◌∷◌, ◌++◌, codes, Option, None, Some}
 use Rattle.sync_base.specs.Pipe.{PipeState}
 use Rattle.sync_base.specs.PlainPipe.{Kept, Shows}
-use Rattle.p9sync.specs.declared.lines.TheConstants.{LINE_FEED}
+use Rattle.p9sync.specs.declared.lines.TheConstants.{LINE_FEED, SPACE}
+use Rattle.p9sync.specs.declared.pipe_line.OpVerb.{OpVerb}
+use Rattle.p9sync.specs.declared.pipe_line.OpVerb.TheVariants as verb
 use Rattle.p9sync.specs.Script.{Answered}
 use Rattle.p9sync.specs.declared.pipe_line.PipeOp.{PipeOp}
 use Rattle.p9sync.specs.declared.pipe_line.PipeOp.TheVariants.{Write, Read, Hangup}
-use Rattle.p9sync.specs.PipeScript.{Op, Writes, Reads, Hangs_up}
+use Rattle.p9sync.specs.Lines.{BeginsWithLine}
+use Rattle.p9sync.specs.PipeScript.{Op, Writes, Reads, Hangs_up, op_of}
 
 -- the word has these bytes, or it has none
 abbrev pub IsBytes : Option (List ℕ) → Bool → List ℕ → Type 0
@@ -33,3 +36,21 @@ pub record IsAnswered (answered : Answered PipeState) (kept : Kept) (old new : L
   where
     pub state : Shows kept answered.after
     pub text : new ≡ old ++ answered.text ++ LINE_FEED ∷ []
+
+-- the word of a verb
+abbrev pub op_word : OpVerb → List ℕ
+op_word verb.Write = codes "write"
+op_word verb.Read = codes "read"
+op_word verb.Hangup = codes "hangup"
+
+-- the byte behind it
+abbrev pub op_end : OpVerb → ℕ
+op_end verb.Write = SPACE
+op_end verb.Read = SPACE
+op_end verb.Hangup = LINE_FEED
+
+-- the text begins with a line that asks for this, before the rest
+pub record BeginsWithOp (text : List ℕ) (op : Op) (rest : List ℕ) : Type 0 where
+  pub words : List (List ℕ)
+  pub begins : BeginsWithLine text words rest
+  pub asks : op_of words ≡ Some op

@@ -1,5 +1,5 @@
 -- The language of schedules: its lines are events, each an atomic step of one process.
-use Rattle.std.specs.Prelude.{ℕ, if◌then◌else◌, List, [], ◌∷◌, ◌++◌, codes, Option, None, Some, option_and_then}
+use Rattle.std.specs.Prelude.{◌≡◌, ℕ, if◌then◌else◌, List, [], ◌∷◌, ◌++◌, codes, Option, None, Some, option_and_then}
 use Rattle.std.specs.Option.{option_map}
 use Rattle.sync_base.specs.declared.limits.TheConstants.{MAX_PROCS, MAX_RENDEZ}
 use Rattle.sync_base.specs.declared.note.Note.{Note}
@@ -18,7 +18,7 @@ use Rattle.p9sync.specs.declared.event_line.Operands.{Operands}
 use Rattle.p9sync.specs.declared.event_line.Verb.{Verb}
 use Rattle.p9sync.specs.declared.event_line.Verb.TheVariants as verb
 use Rattle.p9sync.specs.declared.lines.TheConstants.{LINE_FEED}
-use Rattle.p9sync.specs.Lines.{parts_of, is_comma, is_word, words_of, number_of, number_within}
+use Rattle.p9sync.specs.Lines.{parts_of, is_comma, is_word, words_of, number_of, number_within, BeginsWithLine}
 use Rattle.p9sync.specs.Script.{Language, Told, told}
 use Rattle.p9sync.specs.EventText.{event_text}
 
@@ -125,6 +125,26 @@ event_with verb.Check words = option_map event.Check (lone_pid words)
 abbrev pub event_of : List (List ℕ) → Option Event
 event_of [] = None
 event_of (word ∷ words) = option_and_then (λ v. event_with v words) (verb_of word)
+
+-- the word of a verb
+abbrev pub verb_word : Verb → List ℕ
+verb_word verb.Post = codes "post"
+verb_word verb.Test = codes "test"
+verb_word verb.Look = codes "look"
+verb_word verb.Withdraw = codes "withdraw"
+verb_word verb.Clear = codes "clear"
+verb_word verb.Raise = codes "raise"
+verb_word verb.Take = codes "take"
+verb_word verb.Mark = codes "mark"
+verb_word verb.Note = codes "note"
+verb_word verb.Drain = codes "drain"
+verb_word verb.Check = codes "check"
+
+-- the text begins with a line that asks for this event, before the rest
+pub record BeginsWithEvent (text : List ℕ) (event : Event) (rest : List ℕ) : Type 0 where
+  pub words : List (List ℕ)
+  pub begins : BeginsWithLine text words rest
+  pub asks : event_of words ≡ Some event
 
 -- the last line
 abbrev pub lost_text : State → List ℕ

@@ -1,7 +1,8 @@
 -- What a script says, whichever its language: its lines are answered in order, up to the first
 -- that is not in the grammar.
-use Rattle.std.specs.Prelude.{◌≡◌, ◌||◌, ℕ, ◌+◌, nat_lt, nat_le, Bool, true, false, if◌then◌else◌, List, [], ◌∷◌, ◌++◌, length, take, Option, None, Some}
+use Rattle.std.specs.Prelude.{◌≡◌, ◌⊎◌, ◌||◌, ◌<◌, ℕ, ◌+◌, nat_lt, nat_le, Bool, true, false, if◌then◌else◌, List, [], ◌∷◌, ◌++◌, length, take, Option, None, Some}
 use Rattle.std.specs.Option.{option_map_or}
+use Rattle.std.specs.Borrow.{Bor}
 use Rattle.p9sync.specs.declared.lines.TheConstants.{LINE_FEED}
 use Rattle.p9sync.specs.declared.script.TheConstants.{MAX_LINE, MAX_SCRIPT}
 use Rattle.p9sync.specs.Lines.{lines_of, cut_line_of}
@@ -83,7 +84,42 @@ Answers stands None old false t new = new ≡ old
 Answers stands (Some answered) old false t new = ⊥
 Answers stands None old true t new = ⊥
 
--- what is told was written behind what was there, and this is its fault
-pub record Says (told : Told) (old new : List ℕ) (faulty_line : Option ℕ) : Type 0 where
-  pub output : new ≡ old ++ told.output
-  pub fault : faulty_line ≡ told.fault
+-- The text begins with a line that was answered behind what was written before, and goes on with
+-- the rest.
+pub record FirstAnswered {T S : Type 0} (stands : T → S → Type 0) (language : Language S) (s : S)
+    (text old : List ℕ) (t : T) (rest new : List ℕ) : Type 0 where
+  pub line : List ℕ
+  pub answered : Answered S
+  pub lines : lines_of text ≡ line ∷ lines_of rest
+  pub cut : cut_line_of text ≡ cut_line_of rest
+  pub shorter : length rest < length text
+  pub in_grammar : if_fits (language.answer_to s) line ≡ Some answered
+  pub stands_after : stands t answered.after
+  pub written : new ≡ old ++ answered.text ++ LINE_FEED ∷ []
+
+-- the first line of the text was answered, or nothing was done
+abbrev pub AnswersFirst : {T S : Type 0} → (T → S → Type 0) → Language S → S → List ℕ → List ℕ
+    → Option (Bor (List ℕ)) → T → List ℕ → Type 0
+AnswersFirst stands language s text old (Some rest) t new =
+    FirstAnswered stands language s text old t rest.now new
+AnswersFirst stands language s text old None t new = stands t s × (new ≡ old)
+
+-- the text has no whole line, or its first one is not in the grammar
+abbrev pub IsStuck : {T S : Type 0} → (T → S → Type 0) → Language S → S → List ℕ → T → Type 0
+IsStuck stands language s text t =
+    ((lines_of text ≡ []) × stands t s)
+    ⊎ ((line : List ℕ) × (lines : List (List ℕ)) × (lines_of text ≡ line ∷ lines)
+    × (if_fits (language.answer_to s) line ≡ None))
+
+-- the first line of the text was answered, or there is none that could be
+abbrev pub AnswersNext : {T S : Type 0} → (T → S → Type 0) → Language S → S → List ℕ → List ℕ
+    → Option (Bor (List ℕ)) → T → List ℕ → Type 0
+AnswersNext stands language s text old (Some rest) t new =
+    FirstAnswered stands language s text old t rest.now new
+AnswersNext stands language s text old None t new =
+    IsStuck stands language s text t × (new ≡ old)
+
+-- what follows a line is shorter than the text
+abbrev pub IsShorter : Option (Bor (List ℕ)) → List ℕ → Type 0
+IsShorter (Some rest) text = length rest.now < length text
+IsShorter None text = Unit {0}

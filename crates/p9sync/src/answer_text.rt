@@ -1,15 +1,12 @@
 //! The answers of a pipe script in words, each with its line feed.
-ghost use Rattle.std.specs.Prelude.{◌≡◌, ◌≤◌, ◌∷◌, [], ◌++◌, length, OnOk};
+ghost use Rattle.std.specs.Prelude.{◌≡◌, ◌∷◌, [], ◌++◌, OnOk};
 ghost use Rattle.p9sync.specs.AnswerText.{write_text, read_text, hex_text};
-ghost use Rattle.hex.specs.Hex.{encode_lower};
+ghost use Rattle.sync_base.specs.PlainPipe.{lent_answer};
 ghost use Rattle.p9sync.specs.declared.lines.TheConstants.{LINE_FEED};
 
 use crate::lines::LINE_FEED;
 use std::alloc::AllocError;
-use sync_base::{ReadAnswer, WriteAnswer};
-
-/// How many bytes are put into digits at once.
-const PART: usize = 64;
+use sync_base::{Lent, WriteAnswer};
 
 /// The answer to a write.
 pub fn push_write_answer(output: &mut Vec<u8>, answer: WriteAnswer) -> Result<(), AllocError>
@@ -25,19 +22,19 @@ pub fn push_write_answer(output: &mut Vec<u8>, answer: WriteAnswer) -> Result<()
 }
 
 /// The answer to a read.
-pub fn push_read_answer(output: &mut Vec<u8>, answer: &ReadAnswer) -> Result<(), AllocError>
+pub fn push_read_answer(output: &mut Vec<u8>, answer: Lent<'_>) -> Result<(), AllocError>
     ensures { OnOk result (output.new.items
-        ≡ output.old.items ++ read_text answer.now ++ LINE_FEED ∷ []) }
+        ≡ output.old.items ++ read_text (lent_answer answer.entry) ++ LINE_FEED ∷ []) }
 {
     match answer {
-        ReadAnswer::Got(piece) => {
+        Lent::Got(piece) => {
             output.extend_from_slice(b"got ")?;
-            push_hex(output, piece.as_slice())?;
+            push_hex(output, piece)?;
             output.push(LINE_FEED)?;
             Ok(())
         }
-        ReadAnswer::Empty => output.extend_from_slice(b"empty\n"),
-        ReadAnswer::End => output.extend_from_slice(b"end\n"),
+        Lent::Empty => output.extend_from_slice(b"empty\n"),
+        Lent::End => output.extend_from_slice(b"end\n"),
     }
 }
 
@@ -48,23 +45,12 @@ fn push_hex(output: &mut Vec<u8>, bytes: &[u8]) -> Result<(), AllocError>
     if bytes.is_empty() {
         return output.extend_from_slice(b"-");
     }
-    let mut rest = bytes;
-    while !rest.is_empty() {
-        let (part, after) = rest.split_at(rest.len().min(PART));
-        push_digits(output, part)?;
-        rest = after;
-    }
+    let start = output.len();
+    let Some(end) = start.checked_add(2 * bytes.len()) else {
+        return Err(AllocError);
+    };
+    // The digits are written where they stay.
+    output.resize(end, 0)?;
+    let _ = hex::encode_to_slice(bytes, output.slice_mut(start..));
     Ok(())
-}
-
-/// A part of the bytes as hexadecimal digits.
-fn push_digits(output: &mut Vec<u8>, part: &[u8]) -> Result<(), AllocError>
-    requires { length part.now ≤ PART }
-    ensures { OnOk result (output.new.items
-        ≡ output.old.items ++ encode_lower part.now) }
-{
-    let mut digits = [0u8; 2 * PART];
-    let room = &mut digits[..2 * part.len()];
-    let _ = hex::encode_to_slice(part, room);
-    output.extend_from_slice(room)
 }

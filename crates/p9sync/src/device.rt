@@ -3,10 +3,10 @@ ghost use Rattle.std.specs.Prelude.{◌≡◌, ◌<◌, ◌≤◌, ◌+◌, leng
 ghost use Rattle.std.specs.Prelude.{IfOk, IfErr, OnOk, OnErr, IfSome, IfNone};
 ghost use Rattle.std.specs.Io.KnownBytes.{Appends, Keeps};
 ghost use Rattle.p9sync.specs.declared.script.TheConstants.{MAX_SCRIPT};
-ghost use Rattle.p9sync.specs.Device.{TakesAtMost, TakesUpTo, GivesSome, AppendsFront, IsOutside};
+ghost use Rattle.p9sync.specs.Device.{TakesAtMost, TakesUpTo, GivesSome, GivesBehind, AppendsFront, IsOutside};
 
 use crate::script::MAX_SCRIPT;
-use std::alloc::{AllocError, Global};
+use std::alloc::Global;
 use std::io::{ErrorKind, Read, Write};
 use sync_base::Fault;
 
@@ -24,60 +24,57 @@ pub fn read_script<R: Read>(alloc: Global, reader: &mut R) -> Result<Vec<u8>, Fa
         (R.remaining reader.old) (R.remaining reader.new) }
     ensures faults { IfErr result IsOutside }
 {
-    let mut chunk = room_for(alloc, CHUNK)?;
-    read_by_chunks(alloc, reader, &mut chunk)
-}
-
-/// Reads a script by way of this room.
-fn read_by_chunks<R: Read>(
-    alloc: Global,
-    reader: &mut R,
-    chunk: &mut [u8],
-) -> Result<Vec<u8>, Fault>
-    requires { 0 < length chunk.old }
-    ensures read { IfOk result (λ input.
-        TakesUpTo (MAX_SCRIPT + 1) (R.remaining reader.old) (R.remaining reader.new) input.items) }
-    ensures at_most { TakesAtMost (MAX_SCRIPT + 1)
-        (R.remaining reader.old) (R.remaining reader.new) }
-    ensures faults { IfErr result IsOutside }
-{
-    let mut input = Vec::new(alloc);
+    // Room for the longest script at once, so that what was read is never moved.
+    let mut input = Vec::with_capacity(alloc, MAX_SCRIPT + 1)?;
     for _ in 0..u64::MAX {
-        let free = chunk.len().min(MAX_SCRIPT + 1 - input.len());
-        if free == 0 {
+        let most = CHUNK.min(MAX_SCRIPT + 1 - input.len());
+        if most == 0 {
             return Ok(input);
         }
-        let Some(count) = read_some(reader, chunk, free)? else {
+        let Some(count) = read_behind(reader, &mut input, most)? else {
             continue;
         };
         if count == 0 {
             return Ok(input);
         }
-        input.extend_from_slice(&chunk[..count])?;
     }
     Err(Fault::Device)
 }
 
-/// Room for this many bytes.
-fn room_for(alloc: Global, count: usize) -> Result<Vec<u8>, AllocError>
-    ensures { IfOk result (λ room. vec_len room ≡ count) }
+/// One read of at most so many bytes behind what is there: how many it gave, or nothing where a
+/// signal interrupted it. They are read in place, and copied nowhere.
+fn read_behind<R: Read>(
+    reader: &mut R,
+    input: &mut Vec<u8>,
+    most: usize,
+) -> Result<Option<usize>, Fault>
+    requires { vec_len input.old + most ≤ MAX_SCRIPT + 1 }
+    ensures some { IfOk result (λ count. IfSome count (λ n. GivesBehind most
+        (R.remaining reader.old) (R.remaining reader.new) n input.old.items input.new.items)) }
+    ensures none { IfOk result (λ count. IfNone count
+        (Keeps (R.remaining reader.old) (R.remaining reader.new))) }
+    ensures same { IfOk result (λ count. IfNone count (input.new.items ≡ input.old.items)) }
+    ensures err { OnErr result (Keeps (R.remaining reader.old) (R.remaining reader.new)) }
+    ensures faults { IfErr result IsOutside }
 {
-    vec![in alloc; 0u8; count]
+    let start = input.len();
+    input.resize(start + most, 0)?;
+    let count = read_some(reader, input.slice_mut(start..))?;
+    input.truncate(start + count.unwrap_or(0));
+    Ok(count)
 }
 
-/// One read of at most so many bytes to the front of this room: how many it gave, or nothing where
-/// a signal interrupted it.
-fn read_some<R: Read>(reader: &mut R, room: &mut [u8], most: usize) -> Result<Option<usize>, Fault>
-    requires { most ≤ length room.old }
-    ensures some { IfOk result (λ count. IfSome count (λ n.
-        GivesSome most (R.remaining reader.old) (R.remaining reader.new) n room.new)) }
+/// One read to the front of this room: how many bytes it gave, or nothing where a signal
+/// interrupted it.
+fn read_some<R: Read>(reader: &mut R, room: &mut [u8]) -> Result<Option<usize>, Fault>
+    ensures some { IfOk result (λ count. IfSome count (λ n. GivesSome (length room.old)
+        (R.remaining reader.old) (R.remaining reader.new) n room.new)) }
     ensures none { IfOk result (λ count. IfNone count
         (Keeps (R.remaining reader.old) (R.remaining reader.new))) }
     ensures err { OnErr result (Keeps (R.remaining reader.old) (R.remaining reader.new)) }
     ensures device { IfErr result (λ fault. fault ≡ Fault.Device) }
 {
-    let free = &mut room[..most];
-    match reader.read(free) {
+    match reader.read(room) {
         Ok(count) => Ok(Some(count)),
         Err(error) => {
             if error.kind() != ErrorKind::Interrupted {

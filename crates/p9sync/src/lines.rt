@@ -1,6 +1,9 @@
 //! The lines, words and numbers of a script. After this: `script`, which answers the lines.
-ghost use Rattle.std.specs.Prelude.{◌≡◌, ◌==◌, ◌∷◌, ◌+◌, ◌<◌, [], length, position, MatchOption, IfSome};
-ghost use Rattle.p9sync.specs.Lines.{lines_of, cut_line_of, parts_of, parts_behind, words_of, words_behind, number_of, number_within, value_of};
+ghost use Rattle.std.specs.Prelude.{◌≡◌, false, ◌==◌, ◌∷◌, ◌+◌, ◌<◌, [], length, position, MatchOption, IfSome};
+ghost use Rattle.std.specs.Char.{is_ascii_digit};
+ghost use Rattle.p9sync.specs.Lines.{BeginsWithNumber, LeadingDigits, lines_of, cut_line_of, parts_of, parts_behind, words_of, words_behind, number_of, number_within, value_of};
+
+use memchr::memchr;
 
 /// The byte that ends a line.
 pub const LINE_FEED: u8 = b'\n';
@@ -14,11 +17,11 @@ pub const COMMA: u8 = b',';
 /// The digit 0.
 pub const ZERO: u8 = b'0';
 
-/// Where the byte first stands.
+/// Where the byte first stands. The crate looks at 32 bytes at once.
 fn place_of(byte: u8, text: &[u8]) -> Option<usize>
     ensures { result ≡ position (λ b. b == byte) text.now }
 {
-    text.iter().position(|b| *b == byte)
+    memchr(byte, text)
 }
 
 /// The first line, without its line feed, and what follows; `None` where there is no line feed.
@@ -83,4 +86,45 @@ fn value(digits: &[u8]) -> Option<u64>
         n = n.checked_mul(10)?.checked_add(u64::from(digit - ZERO))?;
     }
     Some(n)
+}
+
+/// The number that a text begins with, before this byte, and what follows that byte. One pass over
+/// the digits finds their end too, where `next_word` and then `number` read each digit twice.
+#[inline(always)]
+pub fn number_before(end: u8, text: &[u8]) -> Option<(u64, &[u8])>
+    requires { is_ascii_digit end ≡ false }
+    ensures { IfSome result (λ found.
+        BeginsWithNumber end text.now found.0 found.1.now) }
+{
+    let (n, count) = leading_number(text)?;
+    match &text[..count] {
+        [] | [ZERO, _, ..] => return None,
+        _ => {}
+    }
+    if count == text.len() || text[count] != end {
+        return None;
+    }
+    Some((n, &text[count + 1..]))
+}
+
+/// The number that the first digits of a text spell, and how many they are.
+#[inline(always)]
+fn leading_number(text: &[u8]) -> Option<(u64, usize)>
+    ensures { IfSome result (λ found. LeadingDigits text.now found.0 found.1) }
+{
+    let mut n = 0u64;
+    let mut count = 0;
+    // Nineteen digits fit, whichever they are, so that they are not tested one by one.
+    let short = text.len().min(19);
+    'short: while count < short && text[count].is_ascii_digit() {
+        n = 10 * n + u64::from(text[count] - ZERO);
+        count += 1;
+    }
+    'long: while count < text.len() && text[count].is_ascii_digit() {
+        n = n
+            .checked_mul(10)?
+            .checked_add(u64::from(text[count] - ZERO))?;
+        count += 1;
+    }
+    Some((n, count))
 }

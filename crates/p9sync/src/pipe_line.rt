@@ -1,14 +1,17 @@
 //! The lines of a pipe script. Before this: `lines`. After it: `pipe_script`, which answers them.
-ghost use Rattle.std.specs.Prelude.{◌≡◌, IfOk};
-ghost use Rattle.p9sync.specs.Lines.{words_of, words_behind};
+ghost use Rattle.std.specs.Prelude.{◌≡◌, ◌∷◌, ◌++◌, ℕ, List, Some, IfOk, IfSome};
+ghost use Rattle.p9sync.specs.Lines.{words_of, words_behind, BeginsWithLine};
 ghost use Rattle.p9sync.specs.PipeScript.{bytes_of, limit_of, op_of, hangup_of, read_of, write_of};
-ghost use Rattle.p9sync.specs.PipeLine.{IsBytes, IsOp};
+ghost use Rattle.p9sync.specs.PipeLine.{IsBytes, IsOp, BeginsWithOp, asked_by, op_word, op_end};
 
-use crate::lines::{bounded_number, next_word, number};
+use crate::digits::decode;
+use crate::lines::{LINE_FEED, SPACE, bounded_number, next_line, next_word, number, number_before};
+use crate::script::MAX_LINE;
 use std::alloc::AllocError;
 use sync_base::limits::{MAX_PIPE_LIMIT, MAX_WRITERS};
 
 /// What a line asks for.
+#[derive(Drop)]
 pub enum PipeOp<'a> {
     /// A writer offers bytes.
     Write { writer: u64, bytes: &'a [u8] },
@@ -110,4 +113,81 @@ impl<'a> PipeOp<'a> {
             bytes: room.as_slice(),
         }))
     }
+}
+
+/// What the first line of a text asks for, and what follows that line, in one pass; nothing where
+/// it finds no such line on the way. Bytes are put into this room.
+pub fn op_at<'a, 't>(text: &'t [u8], room: &'a mut [u8]) -> Option<(PipeOp<'a>, &'t [u8])>
+    ensures { IfSome result (λ found. BeginsWithOp text.now (asked_by found.0) found.1.now) }
+{
+    let (verb, rest) = verb_at(text)?;
+    match verb {
+        OpVerb::Write => {
+            let (op, rest) = write_at(rest, room)?;
+            Some((op, rest))
+        }
+        OpVerb::Read => {
+            let (most, rest) = number_before(LINE_FEED, rest)?;
+            Some((PipeOp::Read { most }, rest))
+        }
+        OpVerb::Hangup => Some((PipeOp::Hangup, rest)),
+    }
+}
+
+/// The first word of an operation.
+#[derive(Clone, Copy)]
+pub enum OpVerb {
+    Write,
+    Read,
+    Hangup,
+}
+
+/// The verb that a text begins with, and what follows the byte behind it. The bytes are compared
+/// one by one, where they lie.
+#[inline(always)]
+fn verb_at(text: &[u8]) -> Option<(OpVerb, &[u8])>
+    ensures { IfSome result (λ found.
+        text.now ≡ op_word found.0 ++ op_end found.0 ∷ found.1.now) }
+{
+    match text {
+        [b'w', b'r', b'i', b't', b'e', SPACE, rest @ ..] => Some((OpVerb::Write, rest)),
+        [b'r', b'e', b'a', b'd', SPACE, rest @ ..] => Some((OpVerb::Read, rest)),
+        [b'h', b'a', b'n', b'g', b'u', b'p', LINE_FEED, rest @ ..] => Some((OpVerb::Hangup, rest)),
+        _ => None,
+    }
+}
+
+/// A write with the words that follow its verb, and what follows the line. No byte is looked for
+/// before the digits are decoded but the line feed: a space is no digit.
+fn write_at<'a, 't>(text: &'t [u8], room: &'a mut [u8]) -> Option<(PipeOp<'a>, &'t [u8])>
+    ensures { IfSome result (λ found. (words : List (List ℕ))
+        × BeginsWithLine text.now words found.1.now
+        × (write_of words ≡ Some (asked_by found.0))) }
+{
+    let (writer, rest) = number_before(SPACE, text)?;
+    let (word, rest) = next_line(rest)?;
+    if writer >= MAX_WRITERS || word.len() > MAX_LINE {
+        return None;
+    }
+    let bytes = bytes_at(word, room)?;
+    Some((PipeOp::Write { writer, bytes }, rest))
+}
+
+/// The bytes of a word in hexadecimal, put into this room; nothing where the room is too small or the
+/// word is none.
+fn bytes_at<'a>(word: &[u8], room: &'a mut [u8]) -> Option<&'a [u8]>
+    ensures { IfSome result (λ bytes. bytes_of word.now ≡ Some bytes.now) }
+{
+    if word == b"-".as_slice() {
+        return Some(&room[..0]);
+    }
+    let count = word.len() / 2;
+    if word.is_empty() || word.len() % 2 != 0 || count > room.len() {
+        return None;
+    }
+    let room = &mut room[..count];
+    if !decode(word, room) {
+        return None;
+    }
+    Some(room)
 }

@@ -7,8 +7,8 @@ ghost use Rattle.p9sync.specs.PipeScript.{pipe_language, answered, Writes, Reads
 ghost use Rattle.p9sync.specs.PipeLine.{IsAnswered, asked_by};
 
 use crate::answer_text::{push_read_answer, push_write_answer};
-use crate::pipe_line::{PipeOp, limit};
-use crate::script::Script;
+use crate::pipe_line::{PipeOp, limit, op_at};
+use crate::script::{MAX_LINE, Script};
 use std::alloc::{AllocError, Global};
 use sync_base::{Fault, PlainPipe};
 
@@ -18,6 +18,8 @@ pub struct PipeScript {
     pipe: PlainPipe,
     /// Room for the bytes of a write.
     room: Vec<u8>,
+    /// Room for the bytes of the longest line, for the quick way: it is zeroed once.
+    decoded: Vec<u8>,
 }
 
 impl Script for PipeScript {
@@ -35,7 +37,12 @@ impl Script for PipeScript {
             return Err(AllocError);
         };
         let room = Vec::new(alloc);
-        Ok(Some(PipeScript { pipe, room }))
+        let decoded = vec![in alloc; 0u8; MAX_LINE / 2]?;
+        Ok(Some(PipeScript {
+            pipe,
+            room,
+            decoded,
+        }))
     }
 
     fn answer(&mut self, line: &[u8], output: &mut Vec<u8>) -> Result<bool, AllocError> {
@@ -44,6 +51,21 @@ impl Script for PipeScript {
         };
         answer_op(&mut self.pipe, op, output)?;
         Ok(true)
+    }
+
+    fn answer_first<'t>(
+        &mut self,
+        text: &'t [u8],
+        output: &mut Vec<u8>,
+    ) -> Result<Option<&'t [u8]>, AllocError> {
+        let Some((op, rest)) = op_at(text, self.decoded.as_mut_slice()) else {
+            return Ok(None);
+        };
+        if text.len() - rest.len() > MAX_LINE {
+            return Ok(None);
+        }
+        answer_op(&mut self.pipe, op, output)?;
+        Ok(Some(rest))
     }
 
     fn farewell(&self, _output: &mut Vec<u8>) -> Result<(), AllocError> {
@@ -87,9 +109,10 @@ fn answer_read(pipe: &mut PlainPipe, most: u64, output: &mut Vec<u8>) -> Result<
     ensures { (s : PipeState) → Shows pipe.old s → OnOk result
         (IsAnswered (answered s (Reads most)) pipe.new output.old.items output.new.items) }
 {
-    match pipe.read(most) {
-        Ok(answer) => push_read_answer(output, &answer),
-        Err(Fault::BadCount) => output.extend_from_slice(b"bad count\n"),
-        Err(_) => Err(AllocError),
+    match pipe.peek(most) {
+        Ok(answer) => push_read_answer(output, answer)?,
+        Err(_) => return output.extend_from_slice(b"bad count\n"),
     }
+    pipe.pass(most);
+    Ok(())
 }

@@ -6,7 +6,7 @@ ghost use Rattle.p9sync.specs.PipeScript.{pipe_told};
 ghost use Rattle.p9sync.specs.Schedule.{schedule_told};
 ghost use Rattle.p9sync.specs.Script.{told};
 
-use crate::device::{read_script, write_whole};
+use crate::device::read_script;
 use crate::pipe_script::PipeScript;
 use crate::schedule::Schedule;
 use crate::script::{Script, tell};
@@ -75,9 +75,7 @@ fn write_answers<S: Script, W: Write>(
         (W.contents writer.old) (W.contents writer.new) result }
     ensures faults { IfErr result IsRunFault }
 {
-    let said = tell::<S>(alloc, input)?;
-    write_whole(writer, &said.output)?;
-    match said.fault {
+    match tell::<S, W>(alloc, input, writer)? {
         None => Ok(()),
         Some(line) => Err(Fault::Script(line)),
     }

@@ -4,9 +4,9 @@ ghost use Rattle.std.specs.Prelude.{◌≡◌};
 ghost use Rattle.sleep_core.specs.State.{State};
 ghost use Rattle.p9sync.specs.Schedule.{schedule_language};
 
-use crate::event_line::{parse_event, parse_size};
+use crate::event_line::{event_at, parse_event, parse_size};
 use crate::event_text::push_event_answer;
-use crate::script::Script;
+use crate::script::{MAX_LINE, Script};
 use sleep_core::World;
 use std::alloc::{AllocError, Global};
 
@@ -39,6 +39,21 @@ impl Script for Schedule {
         };
         push_event_answer(output, self.world.step(event))?;
         Ok(true)
+    }
+
+    fn answer_first<'t>(
+        &mut self,
+        text: &'t [u8],
+        output: &mut Vec<u8>,
+    ) -> Result<Option<&'t [u8]>, AllocError> {
+        let Some((event, rest)) = event_at(text) else {
+            return Ok(None);
+        };
+        if text.len() - rest.len() > MAX_LINE {
+            return Ok(None);
+        }
+        push_event_answer(output, self.world.step(event))?;
+        Ok(Some(rest))
     }
 
     fn farewell(&self, output: &mut Vec<u8>) -> Result<(), AllocError> {

@@ -3,6 +3,10 @@ use Rattle.std.specs.Prelude.{◌≡◌, ℕ, ◌-◌, ◌<◌, ◌≤◌, nat_l
 use Rattle.sync_base.specs.Write.{Write}
 use Rattle.sync_base.specs.Pipe.{PipeState}
 use Rattle.sync_base.specs.declared.limits.TheConstants.{MAX_PIPE_LIMIT}
+use Rattle.sync_base.specs.declared.answers.ReadAnswer.{ReadAnswer}
+use Rattle.sync_base.specs.declared.answers.ReadAnswer.TheVariants.{Got, Empty, End}
+use Rattle.sync_base.specs.declared.answers.Lent.{Lent}
+use Rattle.sync_base.specs.declared.answers.Lent.TheVariants as lent
 
 -- what is kept
 pub record Kept : Type 0 where
@@ -31,3 +35,9 @@ kept_waiting kept = length kept.unread - (if nat_lt 0 kept.offset then 1 else 0)
 -- no direction has this limit
 abbrev pub IsBadLimit : ℕ → Type 0
 IsBadLimit limit = (limit ≡ 0) ⊎ (MAX_PIPE_LIMIT < limit)
+
+-- what a read is answered whose bytes are lent
+abbrev pub lent_answer : Lent → ReadAnswer
+lent_answer (lent.Got bytes) = Got bytes.now
+lent_answer lent.Empty = Empty
+lent_answer lent.End = End

@@ -22,3 +22,14 @@ pub enum ReadAnswer {
     /// All that was accepted is read, and the direction is hung up, so no more will come.
     End,
 }
+
+/// What a read is answered where its bytes are lent and not given.
+#[derive(Clone, Copy)]
+pub enum Lent<'a> {
+    /// The next bytes of one write. An empty write lends none.
+    Got(&'a [u8]),
+    /// All that was accepted is read.
+    Empty,
+    /// All that was accepted is read, and the direction is hung up, so no more will come.
+    End,
+}

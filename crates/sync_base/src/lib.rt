@@ -15,7 +15,7 @@ pub mod piece;
 pub mod plain_pipe;
 pub mod probe;
 
-pub use answers::{ReadAnswer, WriteAnswer};
+pub use answers::{Lent, ReadAnswer, WriteAnswer};
 pub use fault::Fault;
 pub use flags::Flags;
 pub use ids::{Pid, RendezId, Tag};

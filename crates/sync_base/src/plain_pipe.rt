@@ -2,14 +2,14 @@
 //! not read whole, so what it holds is bounded by its limit.
 ghost use Rattle.std.specs.Prelude.{◌≡◌, ◌⊎◌, ◌↔◌, ◌<◌, ℕ, length, drop, Ok, IfOk, IfErr, OnOk, OnErr, IsErrOf};
 ghost use Rattle.sync_base.specs.Pipe.{PipeState, opening, write_answer, after_write, read_answer, after_read, after_hangup, IsGot};
-ghost use Rattle.sync_base.specs.PlainPipe.{Shows, IsBadLimit, kept_waiting, first_bytes};
+ghost use Rattle.sync_base.specs.PlainPipe.{Shows, IsBadLimit, kept_waiting, first_bytes, lent_answer};
 ghost use Rattle.sync_base.specs.declared.limits.TheConstants.{ATOMIC_SIZE};
 
-use crate::answers::{ReadAnswer, WriteAnswer};
+use crate::answers::{Lent, ReadAnswer, WriteAnswer};
 use crate::fault::Fault;
 use crate::limits::{ATOMIC_SIZE, MAX_PIPE_LIMIT};
 use crate::piece::Piece;
-use std::alloc::Global;
+use std::alloc::{AllocError, Global};
 use std::collections::VecDeque;
 use std::marker::Model;
 
@@ -37,6 +37,8 @@ pub struct PlainPipe {
     /// How many bytes of the first write held are read.
     offset: usize,
     hung: bool,
+    /// Blocks of writes that were passed whole, for writes to come: each has its memory already.
+    spare: Vec<Vec<u8>>,
 }
 
 impl Model for PlainPipe {
@@ -77,6 +79,7 @@ impl PlainPipe {
             held,
             offset: 0,
             hung: false,
+            spare: Vec::new(alloc),
         })
     }
 
@@ -107,13 +110,16 @@ impl PlainPipe {
         if self.waiting() == self.limit {
             return Ok(WriteAnswer::Full);
         }
-        let bytes = Vec::from_slice(*self.held.allocator(), bytes)?;
-        self.held.push_back(HeldWrite { writer, bytes })?;
+        let block = self.block_of(bytes)?;
+        self.held.push_back(HeldWrite {
+            writer,
+            bytes: block,
+        })?;
         Ok(WriteAnswer::Taken)
     }
 
     /// Reads at most `most` bytes of the next write. It never waits, and takes memory for the bytes
-    /// that it gives, but not where it gives a whole write that no read had begun.
+    /// that it gives; `peek` and `pass` are the same in two calls, and take none.
     ///
     /// BadCount: `most` is 0. Memory: in place of `Got`. Neither changes anything.
     pub fn read(&mut self, most: u64) -> Result<ReadAnswer, Fault>
@@ -131,23 +137,54 @@ impl PlainPipe {
         ensures memory { (s : PipeState) → Shows self.old s → IsErrOf result Fault.Memory →
             IsGot (read_answer most s) }
     {
+        let answer = match self.peek(most)? {
+            Lent::Got(bytes) => {
+                ReadAnswer::Got(Piece::of(Vec::from_slice(*self.held.allocator(), bytes)?))
+            }
+            Lent::Empty => ReadAnswer::Empty,
+            Lent::End => ReadAnswer::End,
+        };
+        self.pass(most);
+        Ok(answer)
+    }
+
+    /// What a read of at most so many bytes would be answered, its bytes lent. It takes no memory, and
+    /// nothing changes.
+    ///
+    /// BadCount: `most` is 0.
+    pub fn peek(&self, most: u64) -> Result<Lent<'_>, Fault>
+        ensures bad_count { IsErrOf result Fault.BadCount ↔ (most ≡ 0) }
+        ensures faults { IfErr result (λ fault. fault ≡ Fault.BadCount) }
+        ensures answer { (s : PipeState) → Shows self.now s →
+            IfOk result (λ lent. lent_answer lent ≡ read_answer most s) }
+    {
         if most == 0 {
             return Err(Fault::BadCount);
         }
         let Some(first) = self.held.front() else {
-            return Ok(if self.hung {
-                ReadAnswer::End
-            } else {
-                ReadAnswer::Empty
-            });
+            return Ok(if self.hung { Lent::End } else { Lent::Empty });
         };
         let rest = &first.bytes[self.offset..];
         if rest.len() as u64 > most {
-            let piece = Vec::from_slice(*self.held.allocator(), &rest[..most as usize])?;
-            self.offset += most as usize;
-            return Ok(ReadAnswer::Got(Piece::of(piece)));
+            return Ok(Lent::Got(&rest[..most as usize]));
         }
-        Ok(ReadAnswer::Got(self.take_rest()?))
+        Ok(Lent::Got(rest))
+    }
+
+    /// Moves the position as a read of at most so many bytes does, and gives none of them. The block
+    /// of a write that is used up is kept for a write to come. It takes no memory but for the place
+    /// of that block.
+    pub fn pass(&mut self, most: u64)
+        ensures { (s : PipeState) → Shows self.old s → Shows self.new (after_read most s) }
+    {
+        let Some(first) = self.held.front() else {
+            return;
+        };
+        if (first.bytes.len() - self.offset) as u64 > most {
+            self.offset += most as usize;
+            return;
+        }
+        self.pass_first();
     }
 
     /// Closes the direction for writes, for good. What was accepted stays readable.
@@ -155,6 +192,19 @@ impl PlainPipe {
         ensures { (s : PipeState) → Shows self.old s → Shows self.new (after_hangup s) }
     {
         self.hung = true;
+    }
+
+    /// A block of these bytes, in one that is spare where there is one.
+    fn block_of(&mut self, bytes: &[u8]) -> Result<Vec<u8>, AllocError>
+        ensures model { self.new ≡ self.old }
+        ensures block { IfOk result (λ block. block.items ≡ bytes.now) }
+    {
+        let Some(mut block) = self.spare.pop() else {
+            return Vec::from_slice(*self.held.allocator(), bytes);
+        };
+        block.clear();
+        block.extend_from_slice(bytes)?;
+        Ok(block)
     }
 
     /// How many writes stand that no read has begun.
@@ -165,24 +215,14 @@ impl PlainPipe {
         (self.held.len() - begun) as u64
     }
 
-    /// Takes the first write out, and gives what is unread of it.
-    fn take_rest(&mut self) -> Result<Piece, Fault>
+    /// Takes the first write out, and keeps its block. Where no room is left for one more block,
+    /// this one is given back to the system.
+    fn pass_first(&mut self)
         requires { 0 < length self.old.unread }
-        ensures rest { IfOk result (λ piece.
-            piece ≡ drop self.old.offset (first_bytes self.old.unread)) }
-        ensures after { OnOk result
-            (self.new ≡ record self.old { unread = drop 1 self.old.unread; offset = 0 }) }
-        ensures err { OnErr result (self.new ≡ self.old) }
-        ensures memory { IfErr result (λ fault. fault ≡ Fault.Memory) }
+        ensures { self.new ≡ record self.old { unread = drop 1 self.old.unread; offset = 0 } }
     {
-        if self.offset == 0 {
-            let HeldWrite { writer: _, bytes } = self.held.pop_front().unwrap();
-            return Ok(Piece::of(bytes));
-        }
-        let first = &self.held[0];
-        let rest = Vec::from_slice(*self.held.allocator(), &first.bytes[self.offset..])?;
-        let _ = self.held.pop_front();
+        let HeldWrite { writer: _, bytes } = self.held.pop_front().unwrap();
         self.offset = 0;
-        Ok(Piece::of(rest))
+        let _ = self.spare.push(bytes);
     }
 }

@@ -1,7 +1,7 @@
 use Rattle.std.proofs.Common.{◌+◌, ◌≤◌, vec_len}
 use Rattle.std.specs.Io.KnownBytes.{Consumes}
 use Rattle.p9sync.specs.declared.script.TheConstants.{MAX_SCRIPT}
-use Rattle.p9sync.proofs.device.read_by_chunks.Given as goal
+use Rattle.p9sync.proofs.device.read_script.Given as goal
 
 -- the input is what was taken so far
 abbrev pub invariant-loop : goal.invariant-loop
