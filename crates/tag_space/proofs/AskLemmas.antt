@@ -1,6 +1,6 @@
 -- What a member knows once its request was served: the reply is one that a tag space gives.
-use Rattle.std.proofs.Common.{◌≡◌, ◌≢◌, ◌⊎◌, ℕ, ◌+◌, ◌<◌, ◌≤◌, true, false, List, [], ◌∷◌, ◌++◌, length}
-use Rattle.std.proofs.Common.{refl, sym, ap, ◌∙◌, subst, arith, inl, inr, IsTrue}
+use Rattle.std.proofs.Common.{◌≡◌, ℕ, ◌<◌, ◌≤◌, true, List, [], ◌∷◌}
+use Rattle.std.proofs.Common.{sym, ap, subst, arith}
 use Rattle.std.specs.Prelude.{⊤}
 use Rattle.histories.specs.Account.{KnowsHistory, has_number}
 use Rattle.histories.specs.History.{IsLegal}
@@ -19,8 +19,8 @@ use Rattle.tag_space.specs.declared.calls.GroupReply.TheVariants.{Met, WasMet, W
 use Rattle.tag_space.specs.declared.member.Member.{Member}
 use Rattle.tag_space.specs.declared.place.Place.{Place}
 use Rattle.tag_space.specs.declared.space.TagSpace.{TagSpace}
-use Rattle.tag_space.specs.Group.{group, opening, member_of}
-use Rattle.tag_space.specs.Members.{space_of, account_of, number_of, seen_of, IsOneOf, IsMemberOf}
+use Rattle.tag_space.specs.Group.{group, member_of}
+use Rattle.tag_space.specs.Members.{space_of, account_of, number_of, seen_of, IsOneOf}
 use Rattle.tag_space.specs.Rendezvous.{Entry, Space, rendezvous, IsAnswered, IsRight, stage_of}
 use Rattle.tag_space.specs.Rendezvous.Stage.{Over}
 use Rattle.tag_space.specs.Walk.{Asks}

@@ -1,6 +1,6 @@
 -- The whole of a call: from its steps to what came of it.
-use Rattle.std.proofs.Common.{◌≡◌, ◌⊎◌, ℕ, true, List, [], ◌∷◌, length, Result, Ok, Err, inl, inr}
-use Rattle.std.proofs.Common.{refl, sym, ap, ◌∙◌, subst}
+use Rattle.std.proofs.Common.{◌≡◌, ℕ, List, [], ◌∷◌, Result, Ok, Err, inl, inr}
+use Rattle.std.proofs.Common.{sym, subst}
 use Rattle.histories.specs.History.{IsLegal}
 use Rattle.sync_base.specs.declared.fault.Fault.{Fault}
 use Rattle.sync_base.specs.declared.fault.Fault.TheVariants as fault

@@ -1,7 +1,7 @@
 -- What comes of a call, read off its steps: it is in a pair, or in none for good; and then its
 -- member rests.
-use Rattle.std.proofs.Common.{◌≡◌, ◌≢◌, ◌⊎◌, ℕ, ◌<◌, eqb, if◌then◌else◌, true, false, List, [], ◌∷◌, ◌++◌}
-use Rattle.std.proofs.Common.{Option, length, Result, Ok, Err, refl, sym, ap, ◌∙◌, subst, arith, inl, inr}
+use Rattle.std.proofs.Common.{◌≡◌, ℕ, eqb, true, List, [], ◌∷◌, ◌++◌}
+use Rattle.std.proofs.Common.{Option, length, Result, Ok, Err, refl, sym, ap, ◌∙◌, subst, inl, inr}
 use Rattle.std.proofs.lemmas.Bool.{cases_Bool}
 use Rattle.histories.specs.Account.{has_number}
 use Rattle.histories.specs.History.{IsLegal}
@@ -16,14 +16,14 @@ use Rattle.tag_space.specs.declared.calls.GroupCall.TheVariants.{Call, Collect, 
 use Rattle.tag_space.specs.declared.calls.GroupReply.{GroupReply}
 use Rattle.tag_space.specs.declared.calls.GroupReply.TheVariants.{Met, WasMet, Wait, Worn, Gone}
 use Rattle.tag_space.specs.Group.{member_of}
-use Rattle.tag_space.specs.Outcome.{calls_by, IsOneOfPairs, IsInPair, IsOutForGood, ComesOf, Exchange}
+use Rattle.tag_space.specs.Outcome.{calls_by, IsOneOfPairs, IsInPair, IsOutForGood, ComesOf}
 use Rattle.tag_space.specs.Rendezvous.{Entry, Space, Offer, Pair, stage_of, pairs_of, pair_with}
 use Rattle.tag_space.specs.Rendezvous.{rendezvous, found_by, IsAnswered, IsMet, IsUnmet}
 use Rattle.tag_space.specs.Rendezvous.Stage.{Over, Waits, Paired}
 use Rattle.tag_space.specs.Walk.{Asks}
-use Rattle.tag_space.proofs.AskLemmas.{answered_so, past_is_legal, legal_before, none_since}
+use Rattle.tag_space.proofs.AskLemmas.{answered_so, past_is_legal, none_since}
 use Rattle.tag_space.proofs.AskLemmas.{rests_still}
-use Rattle.tag_space.proofs.OtherLemmas.{IsUnder, under_same, under_still, calls_still, yes, no}
+use Rattle.tag_space.proofs.OtherLemmas.{IsUnder, under_same, under_still, calls_still, yes}
 use Rattle.tag_space.proofs.OtherLemmas.IsUnder.{Alone, Found}
 use Rattle.tag_space.proofs.PromiseLemmas.{stays_out, left_is_out, refused_is_out}
 use Rattle.tag_space.proofs.WaitLemmas.{waits_last}

@@ -1,17 +1,15 @@
 -- Whoever is told of a meeting is in that pair, and is told the partner's value.
-use Rattle.std.proofs.Common.{◌≡◌, ◌≢◌, ◌⊎◌, ℕ, List, [], ◌∷◌, ◌++◌, length, Option}
+use Rattle.std.proofs.Common.{◌≡◌, ℕ, List, [], ◌∷◌, ◌++◌, length, Option}
 use Rattle.std.proofs.Common.{refl, sym, ap, ◌∙◌, subst, inl, inr}
 use Rattle.std.proofs.lemmas.Bool.{cases_eq}
 use Rattle.histories.specs.History.{IsLegal}
-use Rattle.sync_base.specs.declared.ids.Tag.{Tag}
-use Rattle.tag_space.specs.declared.calls.GroupCall.{GroupCall}
 use Rattle.tag_space.specs.declared.calls.GroupCall.TheVariants.{Call}
 use Rattle.tag_space.specs.declared.calls.GroupReply.TheVariants.{Met}
-use Rattle.tag_space.specs.Laws.{FoundIsInPair, IsToldOf, ToldIsInPair}
-use Rattle.tag_space.specs.Outcome.{IsOneOfPairs, IsInPair}
+use Rattle.tag_space.specs.Laws.{FoundIsInPair, ToldIsInPair}
+use Rattle.tag_space.specs.Outcome.{IsOneOfPairs}
 use Rattle.tag_space.specs.Rendezvous.{Entry, Space, Offer, Pair, stage_of, pairs_of, pair_with}
 use Rattle.tag_space.specs.Rendezvous.{rendezvous, IsRight}
-use Rattle.tag_space.specs.Rendezvous.Stage.{Over, Waits, Paired}
+use Rattle.tag_space.specs.Rendezvous.Stage.{Paired}
 use Rattle.tag_space.proofs.OtherLemmas.{one_of_more}
 use Rattle.tag_space.proofs.PromiseLemmas.{Change, change_of, is_space, state_is_past}
 use Rattle.tag_space.proofs.PromiseLemmas.Change.{Nothing, Ends, Begins, Meets}

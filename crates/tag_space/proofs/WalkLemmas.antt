@@ -1,21 +1,19 @@
 -- What the steps of a wait add up to.
-use Rattle.std.proofs.Common.{◌≡◌, ◌⊎◌, ℕ, ◌+◌, ◌<◌, ◌≤◌, [], ◌∷◌, Result, Ok, Err, inl, inr}
+use Rattle.std.proofs.Common.{◌≡◌, ℕ, ◌+◌, ◌<◌, ◌≤◌, [], ◌∷◌, Result, Ok, Err, inr}
 use Rattle.std.proofs.Common.{refl, sym, ap, ◌∙◌, subst, arith}
 use Rattle.rendez_words.specs.Words.{rendez_of}
-use Rattle.sleep_wakeup.specs.Calls.{WhyNotSlept, Sleeps}
-use Rattle.sync_base.specs.NoteSet.{no_notes}
+use Rattle.sleep_wakeup.specs.Calls.{WhyNotSlept}
 use Rattle.sync_base.specs.declared.fault.Fault.{Fault}
 use Rattle.sync_base.specs.declared.fault.Fault.TheVariants as fault
 use Rattle.sync_base.specs.declared.ids.RendezId.{RendezId}
-use Rattle.sync_base.specs.declared.limits.TheConstants.{TOP_LEVEL}
-use Rattle.tag_space.specs.declared.calls.GroupCall.TheVariants.{Collect, Leave}
-use Rattle.tag_space.specs.declared.calls.GroupReply.TheVariants.{WasMet, Wait, Gone}
+use Rattle.tag_space.specs.declared.calls.GroupCall.TheVariants.{Collect}
+use Rattle.tag_space.specs.declared.calls.GroupReply.TheVariants.{Wait}
 use Rattle.tag_space.specs.declared.member.Member.{Member}
 use Rattle.tag_space.specs.declared.place.TheConstants.{LAST_MEETING}
 use Rattle.tag_space.specs.declared.space.TagSpace.{TagSpace}
-use Rattle.tag_space.specs.Members.{IsOneOf, IsSameMember, HasRow, number_of, rendez_of_member}
+use Rattle.tag_space.specs.Members.{IsOneOf, IsSameMember, number_of, rendez_of_member}
 use Rattle.tag_space.specs.Walk.{Point, Caller, own_rendez, SleptWell, SleptBadly, Asked, HasWaited}
-use Rattle.tag_space.specs.Walk.{Leaves, GivesUp, EndsFor, EndsWait, last_point, last_count}
+use Rattle.tag_space.specs.Walk.{Leaves, GivesUp, EndsFor, EndsWait, last_count}
 
 abbrev rendez_at : ℕ → RendezId
 rendez_at n = record { 0 = n }

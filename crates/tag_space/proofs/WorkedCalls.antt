@@ -1,25 +1,22 @@
 -- What comes of calls in the worked histories, and what rfork does by its flags, computed. Each
 -- definition has an example that would come out otherwise without a row of it.
-use Rattle.std.proofs.Common.{◌≡◌, ◌≢◌, ◌⊎◌, ℕ, true, false, List, [], ◌∷◌, refl, inl, inr, arith, Some, None}
-use Rattle.std.proofs.Common.{Ok, Err, length, ap, sym, ◌∙◌}
-use Rattle.histories.specs.History.{IsLegal}
-use Rattle.rendez_words.specs.Process.{Process, PidsLeft}
+use Rattle.std.proofs.Common.{◌≡◌, ◌⊎◌, ℕ, true, false, List, [], ◌∷◌, refl, inl, inr, arith, Some, None}
+use Rattle.std.proofs.Common.{Ok, Err, ap, sym, ◌∙◌}
+use Rattle.rendez_words.specs.Process.{Process}
 use Rattle.rendez_words.specs.Steps.{notes}
 use Rattle.rendez_words.specs.Process.{pid_in}
-use Rattle.sleep_wakeup.specs.Kernel.{Unused}
 use Rattle.sync_base.specs.NoteSet.{no_notes}
 use Rattle.sync_base.specs.declared.fault.Fault.TheVariants as fault
 use Rattle.sync_base.specs.declared.flags.Flags.{Flags}
 use Rattle.sync_base.specs.declared.note.NoteSet.{NoteSet}
-use Rattle.tag_space.specs.declared.calls.GroupCall.TheVariants.{Collect, Leave}
-use Rattle.tag_space.specs.declared.calls.GroupReply.TheVariants.{Met, WasMet, Wait, Worn, Gone}
+use Rattle.tag_space.specs.declared.calls.GroupReply.TheVariants.{Wait}
 use Rattle.tag_space.specs.declared.space.TagSpace.{TagSpace}
-use Rattle.tag_space.specs.Forks.{AreKnown, asks_child, asks_space, left_by, callers_space, childs_space}
-use Rattle.tag_space.specs.Outcome.{calls_by, IsOneOfPairs, IsInPair, IsOutForGood, ComesOf, word_of}
-use Rattle.tag_space.specs.Rendezvous.{Entry, Space, Offer, Pair, pairs_of, rendezvous}
-use Rattle.tag_space.specs.Walk.{Point, Caller, Turn, last_point, last_count, PutsBack, EndsFor, IsWorn}
-use Rattle.tag_space.specs.Walk.{IsFound, EndsWait}
-use Rattle.tag_space.proofs.WorkedSpaces.{told, gives, offer, two, one_waits, one_is_found, one_is_told, the_pair}
+use Rattle.tag_space.specs.Forks.{AreKnown, asks_child, asks_space, callers_space, childs_space}
+use Rattle.tag_space.specs.Outcome.{calls_by, IsOneOfPairs, IsInPair, word_of}
+use Rattle.tag_space.specs.Rendezvous.{Pair, pairs_of}
+use Rattle.tag_space.specs.Walk.{Point, Caller, Turn, last_count, PutsBack}
+use Rattle.tag_space.specs.Walk.{EndsWait}
+use Rattle.tag_space.proofs.WorkedSpaces.{told, gives, offer, one_waits, one_is_found, one_is_told, the_pair}
 
 -- ---- a member's calls
 

@@ -1,6 +1,6 @@
 -- What rfork does to tag spaces, after fork(2): a child is in its parent's space, but with RFREND
 -- the child is the first in a new space, or, where there is no child, the caller is.
-use Rattle.std.specs.Prelude.{◌≡◌, ◌⊎◌, ⊤, ◌<◌, ◌==◌, ◌||◌, Bool, true, if◌then◌else◌, IsTrue}
+use Rattle.std.specs.Prelude.{◌≡◌, ◌⊎◌, ⊤, ◌<◌, ◌==◌, ◌||◌, Bool, if◌then◌else◌, IsTrue}
 use Rattle.std.specs.Prelude.{Option, Some, None}
 use Rattle.kernel_lock.specs.Seats.{KnowsAllGiven}
 use Rattle.sleep_wakeup.specs.Forks.{HasPid}

@@ -1,5 +1,5 @@
 -- What a tag space begins with, and why none is made.
-use Rattle.std.specs.Prelude.{◌≡◌, ◌≤◌, ℕ, []}
+use Rattle.std.specs.Prelude.{◌≡◌, ℕ}
 use Rattle.sleep_core.specs.Limits.{IsProcCount}
 use Rattle.kernel_lock.specs.Seats.{IsFirstSeat}
 use Rattle.sleep_wakeup.specs.Kernel.{Unused, HasRendez}
@@ -7,7 +7,7 @@ use Rattle.sync_base.specs.declared.fault.Fault.{Fault}
 use Rattle.sync_base.specs.declared.fault.Fault.TheVariants as fault
 use Rattle.tag_space.specs.declared.member.Member.{Member}
 use Rattle.tag_space.specs.declared.space.TagSpace.{TagSpace}
-use Rattle.tag_space.specs.Members.{IsMemberOf, seen_of, number_of, HasRow}
+use Rattle.tag_space.specs.Members.{IsMemberOf, HasRow}
 
 -- a space of so many members, whose row of Rendez are the next ones
 pub record IsNewSpace (before : Unused) (procs : ℕ) (space : TagSpace) : Type 0 where

@@ -96,8 +96,8 @@ fn forked_once<'k, R: Wait + Abort>(
     requires member { IsMemberOf scene.space scene.first.member }
     requires row { HasRow scene.space scene.first.proc.words }
     requires words { scene.roster.words ≡ scene.first.proc.words }
-    ensures space { IfOk result (λ parted. parted.space ≡ scene.space) }
-    ensures words { IfOk result (λ parted. parted.proc.words ≡ scene.first.proc.words) }
+    ensures space { IfOk result (λ parted. parted.space ≡ scene.entry.space) }
+    ensures words { IfOk result (λ parted. parted.proc.words ≡ scene.entry.first.proc.words) }
     ensures row { IfOk result (λ parted. HasRow parted.space parted.proc.words) }
     ensures new { IfOk result (λ parted. IfSome parted.forked.space (λ new.
         HasRow new parted.proc.words)) }
@@ -165,7 +165,9 @@ fn a_child_is_in_its_parents_space(rt: HostRuntime) -> Result<(), Fail> {
         space: new,
         child,
     } = forked;
-    assert!(rt; new.is_none());
+    let None = new else {
+        panic!(rt; "no space was asked for")
+    };
     let Some(mut child) = child else {
         panic!(rt; "RFPROC makes a child")
     };

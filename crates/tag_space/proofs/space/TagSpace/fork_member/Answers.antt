@@ -1,5 +1,5 @@
 -- The child has the next number, by which nothing was asked.
-use Rattle.std.proofs.Common.{sym, ap, ◌∙◌, ◌+◌, ◌≡◌, subst}
+use Rattle.std.proofs.Common.{sym, ap, ◌+◌, ◌≡◌, subst}
 use Rattle.histories.specs.History.{AreByBelow}
 use Rattle.kernel_lock.specs.Definition.{server}
 use Rattle.kernel_lock.specs.Seats.{account_of, seen_of}

@@ -1,5 +1,5 @@
 -- It was met, and what its sleep took is put back.
-use Rattle.std.proofs.Common.{◌≡◌, refl, subst}
+use Rattle.std.proofs.Common.{refl, subst}
 use Rattle.tag_space.specs.declared.calls.GroupCall.TheVariants.{Leave}
 use Rattle.tag_space.specs.Asking.{left_reply}
 use Rattle.tag_space.specs.Members.{account_of, number_of}

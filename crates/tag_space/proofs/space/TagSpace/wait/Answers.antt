@@ -1,5 +1,5 @@
 -- Each sleep is in the member's own Rendez, above the count that it was told last.
-use Rattle.std.proofs.Common.{◌≡◌, ◌+◌, ◌<◌, refl, sym, ap, ◌∙◌, subst, arith, inl}
+use Rattle.std.proofs.Common.{◌+◌, ◌<◌, refl, ◌∙◌, subst, arith, inl}
 use Rattle.rendez_words.specs.Words.{rendez_of}
 use Rattle.sleep_wakeup.specs.Calls.{Sleeps, WhyNotSlept}
 use Rattle.sync_base.specs.NoteSet.{no_notes}
@@ -7,7 +7,7 @@ use Rattle.tag_space.specs.declared.asking.Told.TheVariants.{Met, Wait}
 use Rattle.tag_space.specs.declared.calls.GroupCall.TheVariants.{Collect}
 use Rattle.tag_space.specs.Asking.{told_reply}
 use Rattle.tag_space.specs.Members.{account_of, number_of, rendez_of_member}
-use Rattle.tag_space.specs.Walk.{Asks, at_point, GivesUp, SleptWell, Asked, caller_of}
+use Rattle.tag_space.specs.Walk.{Asks, at_point, GivesUp, caller_of}
 use Rattle.tag_space.proofs.AskLemmas.{is_below}
 use Rattle.tag_space.proofs.WalkLemmas.{own_is, waits_on, ends_badly}
 use Rattle.tag_space.proofs.space.TagSpace.wait.Goals as goal
