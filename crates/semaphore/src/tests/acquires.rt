@@ -45,20 +45,12 @@ struct Outcome {
 }
 
 // Acquires a unit while another process acts between the steps.
-fn acquired_while<R: Wait + Abort>(rt: &R, alloc: Global, acts: [Act; 4]) -> Result<Outcome, Fail> {
-    let Opened { kernel, start } = Kernel::new(alloc, 2, 2)?;
-    let Started { mut roster, proc } = kernel.start(start);
-    let OpenedTimers {
-        timers,
-        seat: timer,
-    } = Timers::new(alloc, 2)?;
-    let OpenedSema { sema, seat } = Sema::new(alloc, &mut roster, 0, 2)?;
-    let mut proc = proc;
-    let Some(child) = roster.rfork(&mut proc, Flags::RFPROC)? else {
-        panic!(rt; "RFPROC makes a child")
-    };
-    let mut member = Member::new(&sema, &timers, First { seat, timer, proc });
-    let other = member.seat(rt, child)?;
+fn acquired_beside<'s, 't, 'k, R: Wait + Abort>(
+    rt: &R,
+    mut member: Member<'s, 't, 'k>,
+    other: Member<'s, 't, 'k>,
+    acts: [Act; 4],
+) -> Outcome {
     let mut probe = ActAt {
         rt,
         other,
@@ -70,12 +62,33 @@ fn acquired_while<R: Wait + Abort>(rt: &R, alloc: Global, acts: [Act; 4]) -> Res
     let answer = member.acquire_probed(rt, true, &mut probe);
     assert_eq!(rt; (probe.visits[0], probe.visits[3]), (1, 1));
     assert!(rt; probe.visits[1] > 0 && probe.visits[1] == probe.visits[2]);
-    Ok(Outcome {
+    Outcome {
         answer,
         pending: member.notes(),
         released: probe.answer,
         left: member.acquire(rt, false),
-    })
+    }
+}
+
+// The same, of a new semaphore without units.
+fn acquired_while<R: Wait + Abort>(
+    rt: &R,
+    alloc: Global,
+    acts: [Act; 4],
+) -> Result<Outcome, Fail> {
+    let Opened { kernel, start } = Kernel::new(alloc, 2, 2)?;
+    let Started {
+        mut roster,
+        mut proc,
+    } = kernel.start(start);
+    let OpenedTimers { timers, seat: timer } = Timers::new(alloc, 2)?;
+    let OpenedSema { sema, seat } = Sema::new(alloc, &mut roster, 0, 2)?;
+    let Some(child) = roster.rfork(&mut proc, Flags::RFPROC)? else {
+        panic!(rt; "RFPROC makes a child")
+    };
+    let mut member = Member::new(&sema, &timers, First { seat, timer, proc });
+    let other = member.seat(rt, child)?;
+    Ok(acquired_beside(rt, member, other, acts))
 }
 
 #[test]

@@ -139,10 +139,10 @@ fn no_unit_is_lost_and_none_is_given_twice(rt: HostRuntime) -> Result<(), Fail> 
             .saturating_add(work.released)
             .saturating_sub(work.acquired);
     }
-    let mut left = 0;
+    let mut left = 0u64;
     for _ in 0..=expected {
         if first.acquire(&rt, false) == Ok(Semacquired::Acquired) {
-            left += 1;
+            left = left.saturating_add(1);
         }
     }
     assert_eq!(rt; left, expected);

@@ -1,8 +1,43 @@
 //! How semaphores and timers are made, what is refused, and that a refusal uses nothing up.
+ghost use Rattle.std.specs.Prelude.{IfOk};
+ghost use Rattle.semaphore.specs.Seats.{HasRow, IsSemaSeatOf, IsTimerSeatOf};
+
 use crate::{OpenedSema, OpenedTimers, Sema, Semacquired, Timers};
-use sleep_wakeup::{Kernel, Left, Opened, Started};
+use sleep_wakeup::{Kernel, Left, Opened, Roster, Started};
+use std::alloc::Global;
+use std::process::Abort;
 use std::test::Fail;
 use sync_base::{Fault, RendezId};
+
+// A semaphore. Where memory is refused, nothing was used up, and it is made once more.
+fn sema_of<'k>(
+    rt: &impl Abort,
+    alloc: Global,
+    roster: &mut Roster<'k>,
+    value: u32,
+    procs: u64,
+) -> Result<OpenedSema, Fault>
+    ensures seat { IfOk result (λ opened. IsSemaSeatOf opened.sema opened.seat) }
+    ensures row { IfOk result (λ opened. HasRow opened.sema roster.old.words) }
+{
+    let before = roster.left();
+    match Sema::new(alloc, roster, value, procs) {
+        Err(Fault::Memory) => {
+            assert_eq!(rt; roster.left(), before);
+            Sema::new(alloc, roster, value, procs)
+        }
+        made => made,
+    }
+}
+
+fn timers_of(alloc: Global, procs: u64) -> Result<OpenedTimers, Fault>
+    ensures { IfOk result (λ opened. IsTimerSeatOf opened.timers opened.seat) }
+{
+    match Timers::new(alloc, procs) {
+        Err(Fault::Memory) => Timers::new(alloc, procs),
+        made => made,
+    }
+}
 
 #[test]
 fn a_constructor_that_is_refused_memory_uses_nothing_up(rt: HostRuntime) -> Result<(), Fail> {
@@ -11,27 +46,18 @@ fn a_constructor_that_is_refused_memory_uses_nothing_up(rt: HostRuntime) -> Resu
         mut roster,
         mut proc,
     } = kernel.start(start);
-    let whole = Left { pids: 0, rendez: 3 };
-    let made = match Sema::new(rt.alloc(), &mut roster, 1, 2) {
-        Err(Fault::Memory) => {
-            assert_eq!(rt; roster.left(), whole);
-            Sema::new(rt.alloc(), &mut roster, 1, 2)
-        }
-        made => made,
-    };
-    let OpenedSema { sema, mut seat } = made?;
+    let OpenedSema { sema, mut seat } = sema_of(&rt, rt.alloc(), &mut roster, 1, 2)?;
     assert_eq!(rt; roster.left(), Left { pids: 0, rendez: 1 });
     assert_eq!(rt; sema.rendez(&seat), RendezId(0));
     assert_eq!(rt;
         sema.semacquire(&rt, &mut proc, &mut seat, true),
         Ok(Semacquired::Acquired)
     );
-    let made = match Timers::new(rt.alloc(), 2) {
-        Err(Fault::Memory) => Timers::new(rt.alloc(), 2),
-        made => made,
-    };
-    let OpenedTimers { timers, mut seat } = made?;
-    assert_eq!(rt; timers.tick(&rt, &mut proc, &mut seat, u64::MAX), 0);
+    let OpenedTimers {
+        timers,
+        seat: mut timer,
+    } = timers_of(rt.alloc(), 2)?;
+    assert_eq!(rt; timers.tick(&rt, &mut proc, &mut timer, u64::MAX), 0);
     Ok(())
 }
 

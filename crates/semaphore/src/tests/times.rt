@@ -1,12 +1,12 @@
 //! Waits in time: the note of a tick comes where it is awaited, and nowhere else.
 use crate::tests::member::{Act, ActAt, First, Member};
 use crate::{OpenedSema, OpenedTimers, Sema, Semacquired, Timers};
-use sleep_wakeup::{Kernel, Opened, Started};
+use sleep_wakeup::{Kernel, Opened, Proc, Started};
 use std::alloc::Global;
 use std::process::Abort;
 use std::sync::Wait;
 use std::test::Fail;
-use std::thread::join;
+use std::thread::{Threads, join};
 use sync_base::{Fault, Flags, Note, NoteSet, Probe};
 
 /// The deadline of each wait.
@@ -30,22 +30,12 @@ struct Outcome {
 }
 
 // Acquires a unit in time while another process acts between the steps.
-fn acquired_while<R: Wait + Abort>(rt: &R, alloc: Global, acts: [Act; 4]) -> Result<Outcome, Fail> {
-    let Opened { kernel, start } = Kernel::new(alloc, 2, 2)?;
-    let Started {
-        mut roster,
-        mut proc,
-    } = kernel.start(start);
-    let OpenedTimers {
-        timers,
-        seat: timer,
-    } = Timers::new(alloc, 2)?;
-    let OpenedSema { sema, seat } = Sema::new(alloc, &mut roster, 0, 2)?;
-    let Some(child) = roster.rfork(&mut proc, Flags::RFPROC)? else {
-        panic!(rt; "RFPROC makes a child")
-    };
-    let mut member = Member::new(&sema, &timers, First { seat, timer, proc });
-    let other = member.seat(rt, child)?;
+fn acquired_beside<'s, 't, 'k, R: Wait + Abort>(
+    rt: &R,
+    mut member: Member<'s, 't, 'k>,
+    other: Member<'s, 't, 'k>,
+    acts: [Act; 4],
+) -> Outcome {
     let mut probe = ActAt {
         rt,
         other,
@@ -58,13 +48,34 @@ fn acquired_while<R: Wait + Abort>(rt: &R, alloc: Global, acts: [Act; 4]) -> Res
     let left = member.acquire(rt, false);
     let ended_later = probe.other.tick(rt, u64::MAX);
     assert!(rt; member.wake_own(9));
-    Ok(Outcome {
+    Outcome {
         answer,
         ended: probe.answer,
         left,
         ended_later,
         later: member.sleep_own(rt, 0),
-    })
+    }
+}
+
+// The same, of a new semaphore without units.
+fn acquired_while<R: Wait + Abort>(
+    rt: &R,
+    alloc: Global,
+    acts: [Act; 4],
+) -> Result<Outcome, Fail> {
+    let Opened { kernel, start } = Kernel::new(alloc, 2, 2)?;
+    let Started {
+        mut roster,
+        mut proc,
+    } = kernel.start(start);
+    let OpenedTimers { timers, seat: timer } = Timers::new(alloc, 2)?;
+    let OpenedSema { sema, seat } = Sema::new(alloc, &mut roster, 0, 2)?;
+    let Some(child) = roster.rfork(&mut proc, Flags::RFPROC)? else {
+        panic!(rt; "RFPROC makes a child")
+    };
+    let mut member = Member::new(&sema, &timers, First { seat, timer, proc });
+    let other = member.seat(rt, child)?;
+    Ok(acquired_beside(rt, member, other, acts))
 }
 
 #[test]
@@ -196,6 +207,39 @@ impl<R: Wait> Probe for AcquireAt<'_, '_, '_, '_, R> {
     }
 }
 
+// A guest sleeps in the member's Rendez, and meanwhile the member acquires a unit in time. Says how
+// the guest slept, what the member was answered, and how many timers the tick ended.
+fn awaited_beside<'s, 't, 'k, R: Wait + Abort>(
+    rt: &R,
+    mut guest: Proc<'k>,
+    member: Member<'s, 't, 'k>,
+    other: Member<'s, 't, 'k>,
+) -> (Result<(), Fault>, Result<(), Fault>, u64) {
+    let rendez = member.rendez();
+    let ticker = ActAt {
+        rt,
+        other,
+        to: member.pid(),
+        acts: [
+            Act::Nothing,
+            Act::Tick(DEADLINE),
+            Act::Nothing,
+            Act::Nothing,
+        ],
+        visits: [0; 4],
+        answer: 0,
+    };
+    let mut probe = AcquireAt {
+        rt,
+        member,
+        ticker,
+        answer: Ok(()),
+    };
+    let slept = guest.sleep_probed(rt, rendez, 0, &mut probe);
+    assert_eq!(rt; probe.member.notes(), NoteSet::empty());
+    (slept, probe.answer, probe.ticker.answer)
+}
+
 // A tick has taken the timer, and each sleep for its note is refused, since another process is
 // posted in the Rendez for as long as the call lasts.
 #[test]
@@ -213,35 +257,13 @@ fn a_tick_is_awaited_where_another_process_sleeps(rt: HostRuntime) -> Result<(),
     let Some(child) = roster.rfork(&mut proc, Flags::RFPROC)? else {
         panic!(rt; "RFPROC makes a child")
     };
-    let Some(mut guest) = roster.rfork(&mut proc, Flags::RFPROC)? else {
+    let Some(guest) = roster.rfork(&mut proc, Flags::RFPROC)? else {
         panic!(rt; "RFPROC makes a child")
     };
     let mut member = Member::new(&sema, &timers, First { seat, timer, proc });
     let other = member.seat(&rt, child)?;
-    let rendez = member.rendez();
-    let ticker = ActAt {
-        rt: &rt,
-        other,
-        to: member.pid(),
-        acts: [
-            Act::Nothing,
-            Act::Tick(DEADLINE),
-            Act::Nothing,
-            Act::Nothing,
-        ],
-        visits: [0; 4],
-        answer: 0,
-    };
-    let mut probe = AcquireAt {
-        rt: &rt,
-        member,
-        ticker,
-        answer: Ok(()),
-    };
-    assert_eq!(rt; guest.sleep_probed(&rt, rendez, 0, &mut probe), Ok(()));
-    assert_eq!(rt; probe.answer, Err(Fault::DoubleSleep));
-    assert_eq!(rt; probe.ticker.answer, 1);
-    assert_eq!(rt; probe.member.notes(), NoteSet::empty());
+    let (slept, answer, ended) = awaited_beside(&rt, guest, member, other);
+    assert_eq!(rt; (slept, answer, ended), (Ok(()), Err(Fault::DoubleSleep), 1));
     Ok(())
 }
 
@@ -257,6 +279,20 @@ fn ticks<R: Wait>(rt: &R, mut member: Member) -> (u64, u64) {
     match member.release(rt, 1) {
         Ok(_) | Err(_) => (early, 0),
     }
+}
+
+// Waits on one thread, and ticks on another. Says which notes were pending then.
+fn waits_and_ticks<'s, 't, 'k, R: Threads + Wait + Sync>(
+    rt: &R,
+    mut member: Member<'s, 't, 'k>,
+    other: Member<'s, 't, 'k>,
+) -> (Result<(), Fault>, (u64, u64), NoteSet) {
+    let (answer, told) = join(
+        rt,
+        || member.acquire_by(rt, 100, 50),
+        || ticks(rt, other),
+    );
+    (answer, told, member.notes())
 }
 
 #[test]
@@ -276,12 +312,8 @@ fn a_tick_ends_a_wait_of_another_thread(rt: HostRuntime) -> Result<(), Fail> {
     };
     let mut member = Member::new(&sema, &timers, First { seat, timer, proc });
     let other = member.seat(&rt, child)?;
-    let (answer, told) = join(
-        &rt,
-        || member.acquire_by(&rt, 100, 50),
-        || ticks(&rt, other),
-    );
+    let (answer, told, pending) = waits_and_ticks(&rt, member, other);
     assert_eq!(rt; (answer, told), (Err(Fault::TimedOut), (0, 1)));
-    assert_eq!(rt; member.notes(), NoteSet::empty());
+    assert_eq!(rt; pending, NoteSet::empty());
     Ok(())
 }
