@@ -1,7 +1,7 @@
 /* A plain C program that does the work of `p9sync replay`. Built with -O3. What it shares with others is in plain.h. */
 #include "../plain.h"
 
-enum { MAX_PROCS = 1024, MAX_RENDEZ = 8192, KINDS = 4, WAKE = 16 };
+enum { MAX_PROCS = 1024, MAX_RENDEZ = 8192, KINDS = 5, WAKE = 32 };
 enum stage { IDLE, POSTED, ASLEEP, LEAVING, AWAITING, WOKEN, OUT, OWING, HOLDING };
 
 /* What a process is doing, and its flags: a bit for each kind of note, and WAKE. */
@@ -14,9 +14,9 @@ static struct rendez rendezes[MAX_RENDEZ];
 
 /* A process's number with its line feed, and each set of notes with its own. */
 static struct { char at[7]; byte len; } pid_text[MAX_PROCS];
-static struct { char at[31]; byte len; } notes_text[1 << KINDS];
+static struct { char at[39]; byte len; } notes_text[1 << KINDS];
 
-static const char *const kind_names[KINDS] = {"interrupt", "hangup", "alarm", "closed"};
+static const char *const kind_names[KINDS] = {"interrupt", "hangup", "alarm", "closed", "expired"};
 
 static void fill_tables(void) {
     for (int pid = 0; pid < MAX_PROCS; pid++) pid_text[pid].len = sprintf(pid_text[pid].at, "%d\n", pid);
@@ -51,6 +51,7 @@ static const byte *notes(const byte *at, unsigned *flags) {
         else if (BEGINS(at, "hangup")) { flag = 2; at += 6; }
         else if (BEGINS(at, "alarm")) { flag = 4; at += 5; }
         else if (BEGINS(at, "closed")) { flag = 8; at += 6; }
+        else if (BEGINS(at, "expired")) { flag = 16; at += 7; }
         else return NULL;
         if (*flags & flag) return NULL;
         *flags |= flag;
