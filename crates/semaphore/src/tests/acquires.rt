@@ -6,7 +6,7 @@ use std::alloc::Global;
 use std::process::Abort;
 use std::sync::Wait;
 use std::test::Fail;
-use sync_base::{Fault, Flags, Note, NoteSet};
+use sync_base::{Fault, Note, NoteSet};
 
 #[test]
 fn units_are_acquired_and_released(rt: HostRuntime) -> Result<(), Fail> {
@@ -71,23 +71,18 @@ fn acquired_beside<'s, 't, 'k, R: Wait + Abort>(
 }
 
 // The same, of a new semaphore without units.
-fn acquired_while<R: Wait + Abort>(
-    rt: &R,
-    alloc: Global,
-    acts: [Act; 4],
-) -> Result<Outcome, Fail> {
+fn acquired_while<R: Wait + Abort>(rt: &R, alloc: Global, acts: [Act; 4]) -> Result<Outcome, Fail> {
     let Opened { kernel, start } = Kernel::new(alloc, 2, 2)?;
-    let Started {
-        mut roster,
-        mut proc,
-    } = kernel.start(start);
-    let OpenedTimers { timers, seat: timer } = Timers::new(alloc, 2)?;
+    let Started { mut roster, proc } = kernel.start(start);
+    let OpenedTimers {
+        timers,
+        seat: timer,
+    } = Timers::new(alloc, 2)?;
     let OpenedSema { sema, seat } = Sema::new(alloc, &mut roster, 0, 2)?;
-    let Some(child) = roster.rfork(&mut proc, Flags::RFPROC)? else {
+    let mut member = Member::new(&sema, &timers, First { seat, timer, proc });
+    let Some(other) = member.fork(rt, &mut roster)? else {
         panic!(rt; "RFPROC makes a child")
     };
-    let mut member = Member::new(&sema, &timers, First { seat, timer, proc });
-    let other = member.seat(rt, child)?;
     Ok(acquired_beside(rt, member, other, acts))
 }
 

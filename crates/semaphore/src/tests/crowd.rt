@@ -5,7 +5,7 @@ use sleep_wakeup::{Kernel, Opened, Started};
 use std::sync::Wait;
 use std::test::Fail;
 use std::thread;
-use sync_base::{Fault, Flags, Note, Pid};
+use sync_base::{Fault, Note, Pid};
 
 const PROCESSES: u64 = 8;
 
@@ -106,30 +106,19 @@ fn make_work<R: Wait>(rt: &R, job: Job) -> Work {
 fn no_unit_is_lost_and_none_is_given_twice(rt: HostRuntime) -> Result<(), Fail> {
     let all = PROCESSES + 1;
     let Opened { kernel, start } = Kernel::new(rt.alloc(), all, all)?;
-    let Started {
-        mut roster,
-        mut proc,
-    } = kernel.start(start);
+    let Started { mut roster, proc } = kernel.start(start);
     let OpenedTimers {
         timers,
         seat: timer,
     } = Timers::new(rt.alloc(), all)?;
     let OpenedSema { sema, seat } = Sema::new(rt.alloc(), &mut roster, OPENING, all)?;
-    let mut children = Vec::new(rt.alloc());
-    for _ in 0..PROCESSES {
-        let Some(child) = roster.rfork(&mut proc, Flags::RFPROC)? else {
-            panic!(rt; "RFPROC makes a child")
-        };
-        children.push(child)?;
-    }
     let mut first = Member::new(&sema, &timers, First { seat, timer, proc });
     let mut jobs = Vec::new(rt.alloc());
-    for (number, child) in children.into_iter().enumerate() {
-        let member = first.seat(&rt, child)?;
-        jobs.push(Job {
-            member,
-            number: number as u64,
-        })?;
+    for number in 0..PROCESSES {
+        let Some(member) = first.fork(&rt, &mut roster)? else {
+            panic!(rt; "RFPROC makes a child")
+        };
+        jobs.push(Job { member, number })?;
     }
     let done = thread::map_vec(&rt, jobs, &|job: Job| -> Work { make_work(&rt, job) })?;
     let mut expected = OPENING as u64;

@@ -2,10 +2,10 @@
 ghost use Rattle.std.specs.Prelude.{◌≡◌};
 
 use crate::{Sema, SemaSeat, Semacquired, TimerSeat, Timers};
-use sleep_wakeup::Proc;
+use sleep_wakeup::{Proc, Roster};
 use std::marker::Model;
 use std::sync::Wait;
-use sync_base::{Fault, Note, NoteSet, Pid, Probe, RendezId};
+use sync_base::{Fault, Flags, Note, NoteSet, Pid, Probe, RendezId};
 
 /// A process with its seats.
 #[derive(Drop)]
@@ -48,6 +48,7 @@ impl<'s, 't, 'k> Member<'s, 't, 'k> {
         requires seat { IsSemaSeatOf sema.now first.seat }
         requires row { HasRow sema.now first.proc.words }
         requires timer { IsTimerSeatOf timers.now first.timer }
+        ensures { result ≡ first.proc }
     {
         let First { seat, timer, proc } = first;
         Member {
@@ -145,21 +146,30 @@ impl<'s, 't, 'k> Member<'s, 't, 'k> {
         self.sema.rendez(&self.seat)
     }
 
-    /// Makes a member of a process of the same kernel.
-    pub fn seat<R: Wait>(&mut self, rt: &R, proc: Proc<'k>) -> Result<Member<'s, 't, 'k>, Fault>
-        requires { proc.words ≡ self.old.words }
+    /// The next process of its kernel, with seats of its own.
+    pub fn fork<R: Wait>(
+        &mut self,
+        rt: &R,
+        roster: &mut Roster<'k>,
+    ) -> Result<Option<Member<'s, 't, 'k>>, Fault>
+        requires { roster.old.words ≡ self.old.words }
+        ensures words { self.new.words ≡ self.old.words }
+        ensures roster { roster.new.words ≡ roster.old.words }
     {
+        let Some(proc) = roster.rfork(&mut self.proc, Flags::RFPROC)? else {
+            return Ok(None);
+        };
         let sema = self.sema;
         let timers = self.timers;
         let seat = sema.split(rt, &mut self.seat)?;
         let timer = timers.split(rt, &mut self.timer)?;
-        Ok(Member {
+        Ok(Some(Member {
             sema,
             seat,
             timers,
             timer,
             proc,
-        })
+        }))
     }
 }
 

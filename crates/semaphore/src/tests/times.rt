@@ -58,23 +58,18 @@ fn acquired_beside<'s, 't, 'k, R: Wait + Abort>(
 }
 
 // The same, of a new semaphore without units.
-fn acquired_while<R: Wait + Abort>(
-    rt: &R,
-    alloc: Global,
-    acts: [Act; 4],
-) -> Result<Outcome, Fail> {
+fn acquired_while<R: Wait + Abort>(rt: &R, alloc: Global, acts: [Act; 4]) -> Result<Outcome, Fail> {
     let Opened { kernel, start } = Kernel::new(alloc, 2, 2)?;
-    let Started {
-        mut roster,
-        mut proc,
-    } = kernel.start(start);
-    let OpenedTimers { timers, seat: timer } = Timers::new(alloc, 2)?;
+    let Started { mut roster, proc } = kernel.start(start);
+    let OpenedTimers {
+        timers,
+        seat: timer,
+    } = Timers::new(alloc, 2)?;
     let OpenedSema { sema, seat } = Sema::new(alloc, &mut roster, 0, 2)?;
-    let Some(child) = roster.rfork(&mut proc, Flags::RFPROC)? else {
+    let mut member = Member::new(&sema, &timers, First { seat, timer, proc });
+    let Some(other) = member.fork(rt, &mut roster)? else {
         panic!(rt; "RFPROC makes a child")
     };
-    let mut member = Member::new(&sema, &timers, First { seat, timer, proc });
-    let other = member.seat(rt, child)?;
     Ok(acquired_beside(rt, member, other, acts))
 }
 
@@ -254,16 +249,18 @@ fn a_tick_is_awaited_where_another_process_sleeps(rt: HostRuntime) -> Result<(),
         seat: timer,
     } = Timers::new(rt.alloc(), 2)?;
     let OpenedSema { sema, seat } = Sema::new(rt.alloc(), &mut roster, 0, 2)?;
-    let Some(child) = roster.rfork(&mut proc, Flags::RFPROC)? else {
-        panic!(rt; "RFPROC makes a child")
-    };
     let Some(guest) = roster.rfork(&mut proc, Flags::RFPROC)? else {
         panic!(rt; "RFPROC makes a child")
     };
     let mut member = Member::new(&sema, &timers, First { seat, timer, proc });
-    let other = member.seat(&rt, child)?;
+    let Some(other) = member.fork(&rt, &mut roster)? else {
+        panic!(rt; "RFPROC makes a child")
+    };
     let (slept, answer, ended) = awaited_beside(&rt, guest, member, other);
-    assert_eq!(rt; (slept, answer, ended), (Ok(()), Err(Fault::DoubleSleep), 1));
+    assert_eq!(rt;
+        (slept, answer, ended),
+        (Ok(()), Err(Fault::DoubleSleep), 1)
+    );
     Ok(())
 }
 
@@ -287,31 +284,23 @@ fn waits_and_ticks<'s, 't, 'k, R: Threads + Wait + Sync>(
     mut member: Member<'s, 't, 'k>,
     other: Member<'s, 't, 'k>,
 ) -> (Result<(), Fault>, (u64, u64), NoteSet) {
-    let (answer, told) = join(
-        rt,
-        || member.acquire_by(rt, 100, 50),
-        || ticks(rt, other),
-    );
+    let (answer, told) = join(rt, || member.acquire_by(rt, 100, 50), || ticks(rt, other));
     (answer, told, member.notes())
 }
 
 #[test]
 fn a_tick_ends_a_wait_of_another_thread(rt: HostRuntime) -> Result<(), Fail> {
     let Opened { kernel, start } = Kernel::new(rt.alloc(), 2, 2)?;
-    let Started {
-        mut roster,
-        mut proc,
-    } = kernel.start(start);
+    let Started { mut roster, proc } = kernel.start(start);
     let OpenedTimers {
         timers,
         seat: timer,
     } = Timers::new(rt.alloc(), 2)?;
     let OpenedSema { sema, seat } = Sema::new(rt.alloc(), &mut roster, 0, 2)?;
-    let Some(child) = roster.rfork(&mut proc, Flags::RFPROC)? else {
+    let mut member = Member::new(&sema, &timers, First { seat, timer, proc });
+    let Some(other) = member.fork(&rt, &mut roster)? else {
         panic!(rt; "RFPROC makes a child")
     };
-    let mut member = Member::new(&sema, &timers, First { seat, timer, proc });
-    let other = member.seat(&rt, child)?;
     let (answer, told, pending) = waits_and_ticks(&rt, member, other);
     assert_eq!(rt; (answer, told), (Err(Fault::TimedOut), (0, 1)));
     assert_eq!(rt; pending, NoteSet::empty());
