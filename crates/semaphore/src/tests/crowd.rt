@@ -129,7 +129,7 @@ fn no_unit_is_lost_and_none_is_given_twice(rt: HostRuntime) -> Result<(), Fail> 
             .saturating_sub(work.acquired);
     }
     let mut left = 0u64;
-    for _ in 0..=expected {
+    for _ in 0..2 * PROCESSES {
         if first.acquire(&rt, false) == Ok(Semacquired::Acquired) {
             left = left.saturating_add(1);
         }

@@ -48,7 +48,7 @@ impl<'s, 't, 'k> Member<'s, 't, 'k> {
         requires seat { IsSemaSeatOf sema.now first.seat }
         requires row { HasRow sema.now first.proc.words }
         requires timer { IsTimerSeatOf timers.now first.timer }
-        ensures { result ≡ first.proc }
+        ensures { result ≡ first.entry.proc }
     {
         let First { seat, timer, proc } = first;
         Member {
