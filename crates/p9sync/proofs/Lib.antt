@@ -17,3 +17,4 @@ mod TextLemmas
 mod ToldLemmas
 mod WorkedSchedules
 mod WorkedScripts
+mod WorkedWords

@@ -1,0 +1,209 @@
+//! What each thread of a run does. Before this: `tally`. After it: `threads`.
+ghost use Rattle.std.specs.Prelude.{◌≡◌, ◌≤◌, vec_len};
+ghost use Rattle.pipe_dev.specs.Rendezes.{HasRow};
+ghost use Rattle.p9sync.specs.declared.message.TheConstants.{HEAD};
+
+use crate::gate::Gate;
+use crate::message::fill;
+use crate::opts::{Report, ThreadsOpts};
+use crate::tally::Tally;
+use pipe_dev::{ReadAnswer, ReadEnd, WriteEnd};
+use sleep_wakeup::{Proc, Roster};
+use std::alloc::Global;
+use std::sync::Wait;
+use sync_base::{Fault, Flags};
+
+/// A writer, before and after it writes.
+#[derive(Drop)]
+pub struct Writer<'k, 'p> {
+    proc: Proc<'k>,
+    end: WriteEnd<'p>,
+    number: u64,
+    writes: u64,
+    message: Vec<u8>,
+    wrote: Result<(), Fault>,
+    ghost there: { HasRow proc.words end.row },
+    ghost head: { HEAD ≤ vec_len message },
+}
+
+impl<'k, 'p> Writer<'k, 'p> {
+    ghost use Rattle.std.specs.Prelude.{◌≡◌};
+    ghost use Rattle.pipe_dev.specs.Rendezes.{HasRow};
+    ghost use Rattle.p9sync.specs.Threads.{AreWithin};
+
+    // A new process with this end.
+    fn new(
+        alloc: Global,
+        opts: &ThreadsOpts,
+        roster: &mut Roster<'k>,
+        parent: &mut Proc<'k>,
+        end: WriteEnd<'p>,
+    ) -> Result<Writer<'k, 'p>, Fault>
+        requires within { AreWithin opts.now }
+        requires there { HasRow roster.old.words end.row }
+        ensures words { roster.new.words ≡ roster.old.words }
+    {
+        let Some(proc) = roster.rfork(parent, Flags::RFPROC)? else {
+            return Err(Fault::NoProc);
+        };
+        Ok(Writer {
+            proc,
+            number: end.writer(),
+            end,
+            writes: opts.writes,
+            message: vec![in alloc; 0; opts.size as usize]?,
+            wrote: Ok(()),
+        })
+    }
+
+    /// Writes its messages, one after the other, as far as the gate lets it.
+    pub fn write_all<R: Wait, G: Gate>(self, rt: &R, alloc: Global, gate: &G) -> Writer<'k, 'p> {
+        let Writer {
+            mut proc,
+            mut end,
+            number,
+            writes,
+            mut message,
+            mut wrote,
+        } = self;
+        for write in 0..writes {
+            if !gate.pass(number, write) {
+                break;
+            }
+            fill(&mut message, number, write);
+            if let Err(fault) = end.write(alloc, rt, &mut proc, &message) {
+                wrote = Err(fault);
+                break;
+            }
+        }
+        Writer {
+            proc,
+            end,
+            number,
+            writes,
+            message,
+            wrote,
+        }
+    }
+
+    /// Why it wrote no more, if a write was refused.
+    pub fn wrote(&self) -> Result<(), Fault> {
+        self.wrote
+    }
+
+    /// Hangs the pipe up.
+    pub fn hangup(&mut self) {
+        self.end.hangup(&mut self.proc);
+    }
+}
+
+/// The reader.
+#[derive(Drop)]
+pub struct Reader<'k, 'p> {
+    proc: Proc<'k>,
+    end: ReadEnd<'p>,
+    buffer: Vec<u8>,
+    pub(crate) tally: Tally,
+    ghost there: { HasRow proc.words end.row },
+}
+
+/// What a reader has counted, and why it read no more, if it did not come to the end.
+#[derive(Drop)]
+pub struct Counted {
+    pub(crate) tally: Tally,
+    read: Result<(), Fault>,
+}
+
+impl<'k, 'p> Reader<'k, 'p> {
+    ghost use Rattle.std.specs.Prelude.{◌≡◌, IfOk};
+    ghost use Rattle.p9sync.specs.declared.opts.ThreadsOpts.{ThreadsOpts};
+    ghost use Rattle.p9sync.specs.Tally.{IsTallyOf};
+    ghost use Rattle.p9sync.specs.Threads.{AreWithin, IsReportOf};
+
+    /// Reads and counts until the end. Where it can read no more it hangs the pipe up.
+    pub fn read_all<R: Wait>(mut self, rt: &R) -> Counted
+        ensures { (opts : ThreadsOpts) → IsTallyOf opts self.tally → IsTallyOf opts result.tally }
+    {
+        let mut read = Ok(());
+        for _ in rt.forever() {
+            match self.end.read(rt, &mut self.proc, &mut self.buffer) {
+                Ok(ReadAnswer::Got(count)) => self.tally.count(&self.buffer[..count]),
+                Ok(ReadAnswer::End) => break,
+                Err(fault) => {
+                    self.end.hangup(&mut self.proc);
+                    read = Err(fault);
+                    break;
+                }
+            }
+        }
+        let Reader {
+            proc: _,
+            end: _,
+            buffer: _,
+            tally,
+        } = self;
+        Counted { tally, read }
+    }
+}
+
+impl Counted {
+    ghost use Rattle.std.specs.Prelude.{◌≡◌, IfOk};
+    ghost use Rattle.p9sync.specs.declared.opts.ThreadsOpts.{ThreadsOpts};
+    ghost use Rattle.p9sync.specs.Tally.{IsTallyOf};
+    ghost use Rattle.p9sync.specs.Threads.{AreWithin, IsReportOf};
+
+    /// What was read up to the end, or why it did not come to the end.
+    pub fn report(&self, opts: &ThreadsOpts) -> Result<Report, Fault>
+        requires { IsTallyOf opts.now self.now.tally }
+        ensures { IfOk result (IsReportOf opts.now) }
+    {
+        self.read?;
+        Ok(self.tally.report(opts.writers))
+    }
+}
+
+/// Who takes part in a run.
+#[derive(Drop)]
+pub struct Crew<'k, 'p> {
+    pub reader: Reader<'k, 'p>,
+    pub writers: Vec<Writer<'k, 'p>>,
+}
+
+impl<'k, 'p> Crew<'k, 'p> {
+    ghost use Rattle.std.specs.Prelude.{◌≡◌, IfOk};
+    ghost use Rattle.p9sync.specs.declared.opts.ThreadsOpts.{ThreadsOpts};
+    ghost use Rattle.p9sync.specs.Tally.{IsTallyOf};
+    ghost use Rattle.p9sync.specs.Threads.{AreWithin, IsReportOf};
+    ghost use Rattle.pipe_dev.specs.Rendezes.{HasRow};
+    ghost use Rattle.p9sync.specs.Crew.{AreThere};
+
+    /// A reader at one end, and as many writers as there are at the other, each a process. All
+    /// memory but that of the writes is taken here.
+    pub fn new(
+        alloc: Global,
+        opts: &ThreadsOpts,
+        roster: &mut Roster<'k>,
+        proc: Proc<'k>,
+        read: ReadEnd<'p>,
+        writes: Vec<WriteEnd<'p>>,
+    ) -> Result<Crew<'k, 'p>, Fault>
+        requires within { AreWithin opts.now }
+        requires kernel { proc.words ≡ roster.old.words }
+        requires read { HasRow roster.old.words read.row }
+        requires writes { AreThere roster.old.words writes.items }
+        ensures { IfOk result (λ crew. IsTallyOf opts.now crew.reader.tally) }
+    {
+        let mut proc = proc;
+        let mut writers = Vec::with_capacity(alloc, writes.len())?;
+        'seating: for end in writes {
+            writers.push(Writer::new(alloc, opts, roster, &mut proc, end)?)?;
+        }
+        let reader = Reader {
+            proc,
+            end: read,
+            buffer: vec![in alloc; 0; opts.size as usize]?,
+            tally: Tally::new(alloc, opts)?,
+        };
+        Ok(Crew { reader, writers })
+    }
+}
