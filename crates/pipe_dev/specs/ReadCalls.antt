@@ -1,8 +1,9 @@
 -- What the calls of a read end do, after pipe(2), pipe(3) and read(2).
-use Rattle.std.specs.Prelude.{◌≡◌, ◌⊎◌, ◌+◌, ◌++◌, ℕ, nat_le, List, length, take, drop}
+use Rattle.std.specs.Prelude.{◌≡◌, ◌⊎◌, ◌+◌, ◌++◌, ℕ, ⊤, nat_le, List, length, take, drop}
 use Rattle.std.specs.Prelude.{Option, Some, None, Result, Ok, Err, if◌then◌else◌}
 use Rattle.histories.specs.declared.account.Account.{Account}
 use Rattle.sync_base.specs.declared.fault.Fault.{Fault}
+use Rattle.sync_base.specs.declared.fault.Fault.TheVariants as fault
 use Rattle.sync_base.specs.NoteSet.{no_notes}
 use Rattle.rendez_words.specs.Process.{Process}
 use Rattle.sleep_wakeup.specs.Calls.{Sleeps}
@@ -137,6 +138,12 @@ pub record Reads (key : Key) (row : Row) (old : Reader) (buffer : List ℕ)
   pub between : Reader
   pub slept : Rounds (SleepsForWrite key row) times old between
   pub ended : EndsRead key row between buffer answer new buffer'
+
+-- what a read is refused as before anything is tried
+abbrev pub IsRefusedRead : Result ReadAnswer Fault → Type 0
+IsRefusedRead (Err fault.BadCount) = ⊤
+IsRefusedRead (Err fault.NoRendez) = ⊤
+IsRefusedRead answer = ⊥
 
 -- a read that was refused at once did nothing
 pub record IsUntouchedRead (old : Reader) (buffer : List ℕ) (new : Reader) (buffer' : List ℕ) :

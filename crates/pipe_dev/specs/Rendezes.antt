@@ -7,6 +7,7 @@ use Rattle.rendez_words.specs.declared.words.Words.{Words}
 use Rattle.rendez_words.specs.Process.{Process}
 use Rattle.rendez_words.specs.Words.{rendez_of}
 use Rattle.sleep_wakeup.specs.Calls.{Wakes}
+use Rattle.sleep_wakeup.specs.Kernel.{Running}
 use Rattle.pipe_dev.specs.declared.row.Row.{Row}
 
 -- where the reader waits for a write
@@ -45,3 +46,8 @@ pub record WakesAll (row : Row) (before after : Process) : Type 0 where
   pub between : Process
   pub reader : WakesOne before (reader_rendez row) TOP_LEVEL between
   pub writers : WakesWriters row row.writers TOP_LEVEL between after
+
+-- Own: a process of another kernel, which has not all these Rendez, wakes nobody.
+pub record WakesIfKnown (row : Row) (before : Running) (after : Process) : Type 0 where
+  pub known : HasRow before.words row → WakesAll row before.process after
+  pub foreign : ¬ HasRow before.words row → after ≡ before.process

@@ -95,10 +95,12 @@ pub record Asks (key : Key) (row : Row) (writer : ℕ) (block : List ℕ) (old :
   pub slept : Rounds (SleepsForRoom key row writer block) times old between
   pub ended : EndsWrite key row writer block between answer new
 
--- What a write did, by its answer. Own: a write above the atomic size is refused first; it and a
--- write for whose block there is no memory do nothing.
+-- What a write did, by its answer. Own: a write above the atomic size is refused first, and then
+-- one by a process of another kernel; they and a write for whose block there is no memory do
+-- nothing.
 abbrev pub Writes : Key → Row → ℕ → List ℕ → Writer → Result ℕ Fault → Writer → Type 0
 Writes key row writer block old (Err fault.TooBig) new = new ≡ old
+Writes key row writer block old (Err fault.NoRendez) new = new ≡ old
 Writes key row writer block old (Err fault.Memory) new = new ≡ old
 Writes key row writer block old answer new = Asks key row writer block old answer new
 
@@ -165,5 +167,6 @@ writer_with seat proc = record { account = put_account seat; process = proc.proc
 -- an answer that comes only from a put or a sleep
 abbrev pub IsAsked : Result ℕ Fault → Type 0
 IsAsked (Err fault.TooBig) = ⊥
+IsAsked (Err fault.NoRendez) = ⊥
 IsAsked (Err fault.Memory) = ⊥
 IsAsked answer = ⊤

@@ -4,7 +4,7 @@ ghost use Rattle.block_queue.specs.declared.entry.Entry.TheVariants.{Hung};
 ghost use Rattle.block_queue.specs.Meaning.{Enters};
 ghost use Rattle.block_queue.specs.Seats.{key_of, put_account, take_account};
 ghost use Rattle.pipe_dev.specs.Ends.{IsReadHand, IsWriteHand};
-ghost use Rattle.pipe_dev.specs.Rendezes.{HasRow, WakesAll};
+ghost use Rattle.pipe_dev.specs.Rendezes.{WakesIfKnown};
 
 use crate::hand::ReadHand;
 use crate::read_end::ReadEnd;
@@ -20,17 +20,16 @@ impl<'p> ReadEnd<'p> {
     ghost use Rattle.block_queue.specs.Meaning.{Enters};
     ghost use Rattle.block_queue.specs.Seats.{key_of};
     ghost use Rattle.pipe_dev.specs.Ends.{IsSameReadEnd};
-    ghost use Rattle.pipe_dev.specs.Rendezes.{HasRow, WakesAll};
+    ghost use Rattle.pipe_dev.specs.Rendezes.{WakesIfKnown};
 
     /// Hangs its direction up, for all writers and for good, and wakes both sides. What was
-    /// accepted stays readable. A second hangup wakes again. Takes no memory and doesn't wait.
-    /// After pipe(2).
+    /// accepted stays readable. A second hangup wakes again. A process of another kernel, which has
+    /// not all Rendez of the direction, hangs it up and wakes nobody. Takes no memory and doesn't
+    /// wait. After pipe(2).
     pub fn hangup(&mut self, proc: &mut Proc<'_>)
-        // The process is of the kernel that the pipe was made with.
-        requires kernel { HasRow proc.old.words self.old.row }
         ensures hung { Enters (key_of self.old.queue) (Hung 0) self.old.account self.new.account }
         ensures rest { self.new.rest ≡ self.old.rest }
-        ensures woken { WakesAll self.old.row proc.old.process proc.new.process }
+        ensures woken { WakesIfKnown self.old.row proc.old proc.new.process }
         ensures end { IsSameReadEnd self.old self.new }
         ensures words { proc.new.words ≡ proc.old.words }
     {
@@ -47,17 +46,16 @@ impl<'p> WriteEnd<'p> {
     ghost use Rattle.block_queue.specs.Meaning.{Enters};
     ghost use Rattle.block_queue.specs.Seats.{key_of};
     ghost use Rattle.pipe_dev.specs.Ends.{IsSameWriteEnd};
-    ghost use Rattle.pipe_dev.specs.Rendezes.{HasRow, WakesAll};
+    ghost use Rattle.pipe_dev.specs.Rendezes.{WakesIfKnown};
 
     /// Hangs its direction up, for all writers and for good, and wakes both sides. What was
-    /// accepted stays readable. A second hangup wakes again. Takes no memory and doesn't wait.
-    /// After pipe(2).
+    /// accepted stays readable. A second hangup wakes again. A process of another kernel, which has
+    /// not all Rendez of the direction, hangs it up and wakes nobody. Takes no memory and doesn't
+    /// wait. After pipe(2).
     pub fn hangup(&mut self, proc: &mut Proc<'_>)
-        // The process is of the kernel that the pipe was made with.
-        requires kernel { HasRow proc.old.words self.old.row }
         ensures hung { Enters (key_of self.old.queue) (Hung (self.old.writer + 1))
             self.old.account self.new.account }
-        ensures woken { WakesAll self.old.row proc.old.process proc.new.process }
+        ensures woken { WakesIfKnown self.old.row proc.old proc.new.process }
         ensures end { IsSameWriteEnd self.old self.new }
         ensures words { proc.new.words ≡ proc.old.words }
     {
@@ -70,12 +68,11 @@ impl<'p> WriteEnd<'p> {
 
 fn hang_read(queue: &Queue, row: &Row, hand: ReadHand, proc: &mut Proc<'_>) -> ReadHand
     requires hand { IsReadHand queue.now row.now hand }
-    requires kernel { HasRow proc.old.words row.now }
     ensures hand { IsReadHand queue.now row.now result }
     ensures rest { result.rest ≡ hand.rest }
     ensures hung { Enters (key_of queue.now) (Hung 0)
         (take_account hand.seat) (take_account result.seat) }
-    ensures woken { WakesAll row.now proc.old.process proc.new.process }
+    ensures woken { WakesIfKnown row.now proc.old proc.new.process }
     ensures words { proc.new.words ≡ proc.old.words }
 {
     let ReadHand { mut seat, rest } = hand;
@@ -86,11 +83,10 @@ fn hang_read(queue: &Queue, row: &Row, hand: ReadHand, proc: &mut Proc<'_>) -> R
 
 fn hang_write(queue: &Queue, row: &Row, seat: PutSeat, proc: &mut Proc<'_>) -> PutSeat
     requires seat { IsWriteHand queue.now row.now seat.writer seat }
-    requires kernel { HasRow proc.old.words row.now }
     ensures seat { IsWriteHand queue.now row.now seat.writer result }
     ensures hung { Enters (key_of queue.now) (Hung (seat.writer + 1))
         (put_account seat) (put_account result) }
-    ensures woken { WakesAll row.now proc.old.process proc.new.process }
+    ensures woken { WakesIfKnown row.now proc.old proc.new.process }
     ensures words { proc.new.words ≡ proc.old.words }
 {
     let mut seat = seat;

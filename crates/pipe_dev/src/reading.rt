@@ -18,35 +18,36 @@ use std::sync::Wait;
 use sync_base::Fault;
 
 impl<'p> ReadEnd<'p> {
-    ghost use Rattle.std.specs.Prelude.{◌≡◌, ◌≢◌, ◌↔◌, [], IsErrOf, IfOk, IfErr, OnErr};
-    ghost use Rattle.sync_base.specs.declared.fault.Fault.TheVariants.{BadCount};
+    ghost use Rattle.std.specs.Prelude.{◌≡◌, ◌≢◌, ◌↔◌, ◌⊎◌, [], IsErrOf, IfOk, IfErr, OnErr};
+    ghost use Rattle.sync_base.specs.declared.fault.Fault.TheVariants.{BadCount, NoRendez};
     ghost use Rattle.block_queue.specs.Seats.{key_of};
     ghost use Rattle.pipe_dev.specs.Ends.{IsSameReadEnd};
-    ghost use Rattle.pipe_dev.specs.ReadCalls.{Reads, Tries, IsUntouchedRead, reader_of};
+    ghost use Rattle.pipe_dev.specs.ReadCalls.{Reads, Tries, IsRefusedRead, IsUntouchedRead, reader_of};
     ghost use Rattle.pipe_dev.specs.Rendezes.{HasRow};
 
     /// Reads what is next: fills the buffer, up to its end or to the end of one write, whichever
     /// comes first. Where nothing is there yet it waits. Takes no memory.
     ///
     /// `End` where the direction is hung up and all is read. Refuses, in this order, as `BadCount`
-    /// for a buffer of no bytes, and where it would wait as `DoubleSleep` and `Interrupted`. A read
-    /// that took a write out wakes each writer with its number. After pipe(3) and read(2).
+    /// for a buffer of no bytes, as `NoRendez` where the process is of another kernel, which has not
+    /// all Rendez of the direction, and where it would wait as `DoubleSleep` and `Interrupted`. A
+    /// read that took a write out wakes each writer with its number. After pipe(3) and read(2).
     pub fn read<R: Wait>(
         &mut self,
         rt: &R,
         proc: &mut Proc<'_>,
         buffer: &mut [u8],
     ) -> Result<ReadAnswer, Fault>
-        // The process is of the kernel that the pipe was made with.
-        requires kernel { HasRow proc.old.words self.old.row }
-
-        // A buffer of no bytes is refused first, and then nothing is done.
+        // A buffer of no bytes is refused first, and then a process of a kernel that has not all
+        // Rendez of the direction; nothing is done then.
         ensures bad_count { IsErrOf result BadCount ↔ (buffer.old ≡ []) }
-        ensures refused { IsErrOf result BadCount → IsUntouchedRead
+        ensures no_rendez { buffer.old ≢ []
+            → (IsErrOf result NoRendez ↔ ¬ HasRow proc.old.words self.old.row) }
+        ensures refused { IsRefusedRead result → IsUntouchedRead
             (reader_of self.old proc.old) buffer.old (reader_of self.new proc.new) buffer.new }
 
         // Otherwise it read, slept and woke so.
-        ensures read { buffer.old ≢ [] → Reads (key_of self.old.queue) self.old.row
+        ensures read { ¬ IsRefusedRead result → Reads (key_of self.old.queue) self.old.row
             (reader_of self.old proc.old) buffer.old result
             (reader_of self.new proc.new) buffer.new }
 
@@ -55,6 +56,9 @@ impl<'p> ReadEnd<'p> {
     {
         if buffer.is_empty() {
             return Err(Fault::BadCount);
+        }
+        if !self.row.is_known_to(proc) {
+            return Err(Fault::NoRendez);
         }
         let Some(hand) = self.hand.take() else {
             unreachable!()
@@ -66,14 +70,15 @@ impl<'p> ReadEnd<'p> {
 
     /// A `read` that does not wait: `NotYet` where nothing is there yet. Takes no memory.
     ///
-    /// Refuses as `BadCount` for a buffer of no bytes.
+    /// Refuses, in this order, as `BadCount` for a buffer of no bytes and as `NoRendez` where the
+    /// process is of another kernel, which has not all Rendez of the direction.
     pub fn try_read(&mut self, proc: &mut Proc<'_>, buffer: &mut [u8]) -> Result<TryAnswer, Fault>
-        // The process is of the kernel that the pipe was made with.
-        requires kernel { HasRow proc.old.words self.old.row }
-
-        // A buffer of no bytes is refused first, and then nothing is done.
+        // A buffer of no bytes is refused first, and then a process of a kernel that has not all
+        // Rendez of the direction; nothing is done then.
         ensures bad_count { IsErrOf result BadCount ↔ (buffer.old ≡ []) }
-        ensures fault { IfErr result (λ fault. fault ≡ BadCount) }
+        ensures no_rendez { buffer.old ≢ []
+            → (IsErrOf result NoRendez ↔ ¬ HasRow proc.old.words self.old.row) }
+        ensures fault { IfErr result (λ fault. (fault ≡ BadCount) ⊎ (fault ≡ NoRendez)) }
         ensures refused { OnErr result (IsUntouchedRead
             (reader_of self.old proc.old) buffer.old (reader_of self.new proc.new) buffer.new) }
 
@@ -87,6 +92,9 @@ impl<'p> ReadEnd<'p> {
     {
         if buffer.is_empty() {
             return Err(Fault::BadCount);
+        }
+        if !self.row.is_known_to(proc) {
+            return Err(Fault::NoRendez);
         }
         let Some(hand) = self.hand.take() else {
             unreachable!()

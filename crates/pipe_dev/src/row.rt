@@ -1,6 +1,7 @@
 //! The Rendez of a direction. After this: `waking`.
 ghost use Rattle.std.specs.Prelude.{◌≡◌, ◌+◌, ◌<◌, ◌^◌};
 
+use sleep_wakeup::Proc;
 use sync_base::RendezId;
 
 /// The Rendez of a direction: the reader's, and behind it one for each writer, in order.
@@ -12,8 +13,15 @@ pub struct Row {
 }
 
 impl Row {
-    ghost use Rattle.std.specs.Prelude.{◌≡◌, ◌+◌, ◌<◌};
-    ghost use Rattle.pipe_dev.specs.Rendezes.{reader_rendez, writer_rendez};
+    ghost use Rattle.std.specs.Prelude.{◌≡◌, ◌+◌, ◌<◌, ◌↔◌, true};
+    ghost use Rattle.pipe_dev.specs.Rendezes.{reader_rendez, writer_rendez, HasRow};
+
+    /// These Rendez are among those of the process's kernel.
+    pub(crate) fn is_known_to(&self, proc: &Proc<'_>) -> bool
+        ensures { (result ≡ true) ↔ HasRow proc.now.words self.now }
+    {
+        self.first + 1 + self.writers <= proc.rendez_count()
+    }
 
     /// Where the reader waits for a write.
     pub(crate) fn reader(&self) -> RendezId

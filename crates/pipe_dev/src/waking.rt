@@ -1,7 +1,7 @@
 //! Who wakes whom on the Rendez of a direction. Before this: `row`. After it: `begun`.
 ghost use Rattle.std.specs.Prelude.{◌≡◌, ◌<◌};
 ghost use Rattle.rendez_words.specs.Words.{rendez_of};
-ghost use Rattle.pipe_dev.specs.Rendezes.{HasRow, WakesOne, WakesWriters, WakesAll};
+ghost use Rattle.pipe_dev.specs.Rendezes.{HasRow, WakesOne, WakesWriters, WakesIfKnown};
 
 use crate::row::Row;
 use sleep_wakeup::Proc;
@@ -31,12 +31,14 @@ pub(crate) fn wake_writers(proc: &mut Proc<'_>, row: &Row, level: u64)
     }
 }
 
-/// Wakes both sides after a hangup.
+/// Wakes both sides after a hangup, where the process is of their kernel.
 pub(crate) fn wake_all(proc: &mut Proc<'_>, row: &Row)
-    requires row { HasRow proc.old.words row.now }
-    ensures woken { WakesAll row.now proc.old.process proc.new.process }
+    ensures woken { WakesIfKnown row.now proc.old proc.new.process }
     ensures words { proc.new.words ≡ proc.old.words }
 {
+    if !row.is_known_to(proc) {
+        return;
+    }
     wake(proc, row.reader(), TOP_LEVEL);
     wake_writers(proc, row, TOP_LEVEL);
 }

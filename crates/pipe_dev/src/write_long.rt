@@ -10,7 +10,6 @@ impl<'p> WriteEnd<'p> {
     ghost use Rattle.std.specs.Prelude.{◌≡◌};
     ghost use Rattle.block_queue.specs.Seats.{key_of};
     ghost use Rattle.pipe_dev.specs.Ends.{IsSameWriteEnd};
-    ghost use Rattle.pipe_dev.specs.Rendezes.{HasRow};
     ghost use Rattle.pipe_dev.specs.WriteCalls.{WritesLong, writer_of};
 
     /// Writes these bytes as writes of the atomic size, and one of the rest; no bytes are one empty
@@ -22,8 +21,6 @@ impl<'p> WriteEnd<'p> {
         proc: &mut Proc<'_>,
         bytes: &[u8],
     ) -> Long
-        // The process is of the kernel that the pipe was made with.
-        requires kernel { HasRow proc.old.words self.old.row }
         ensures wrote { WritesLong (key_of self.old.queue) self.old.row self.old.writer bytes.now
             (writer_of self.old proc.old) result (writer_of self.new proc.new) }
         ensures end { IsSameWriteEnd self.old self.new }

@@ -17,8 +17,8 @@ use sync_base::limits::ATOMIC_SIZE;
 use sync_base::{Fault, Note, NoteSet, Piece};
 
 impl<'p> WriteEnd<'p> {
-    ghost use Rattle.std.specs.Prelude.{◌≡◌, ◌<◌, ◌↔◌, length, IsErrOf, OnErr};
-    ghost use Rattle.sync_base.specs.declared.fault.Fault.TheVariants.{TooBig};
+    ghost use Rattle.std.specs.Prelude.{◌≡◌, ◌<◌, ◌≤◌, ◌↔◌, length, IsErrOf};
+    ghost use Rattle.sync_base.specs.declared.fault.Fault.TheVariants.{TooBig, NoRendez};
     ghost use Rattle.sync_base.specs.declared.limits.TheConstants.{ATOMIC_SIZE};
     ghost use Rattle.block_queue.specs.Seats.{key_of};
     ghost use Rattle.pipe_dev.specs.Ends.{IsSameWriteEnd};
@@ -28,7 +28,8 @@ impl<'p> WriteEnd<'p> {
     /// Writes these bytes as one write, which is read whole and in one piece, and answers its
     /// number. Where there is no room it waits. Memory is taken for the bytes.
     ///
-    /// Refuses, in this order, as `TooBig` above the atomic size, as `Memory`, as `Hungup` where
+    /// Refuses, in this order, as `TooBig` above the atomic size, as `NoRendez` where the process
+    /// is of another kernel, which has not all Rendez of the direction, as `Memory`, as `Hungup` where
     /// the direction is hung up, and then the note of a write on a closed pipe is posted to the
     /// process; as `Worn` where the last number is given, and where it would wait as `DoubleSleep` and
     /// `Interrupted`. A write that was accepted wakes the reader with its number. After pipe(3) and
@@ -40,11 +41,11 @@ impl<'p> WriteEnd<'p> {
         proc: &mut Proc<'_>,
         bytes: &[u8],
     ) -> Result<u64, Fault>
-        // The process is of the kernel that the pipe was made with.
-        requires kernel { HasRow proc.old.words self.old.row }
-
-        // A write above the atomic size is refused first.
+        // A write above the atomic size is refused first, and then a process of a kernel that has
+        // not all Rendez of the direction.
         ensures too_big { IsErrOf result TooBig ↔ (ATOMIC_SIZE < length bytes.now) }
+        ensures no_rendez { length bytes.now ≤ ATOMIC_SIZE
+            → (IsErrOf result NoRendez ↔ ¬ HasRow proc.old.words self.old.row) }
 
         // It wrote, slept and woke so, or did nothing.
         ensures wrote { Writes (key_of self.old.queue) self.old.row self.old.writer bytes.now
@@ -54,6 +55,9 @@ impl<'p> WriteEnd<'p> {
     {
         if bytes.len() > ATOMIC_SIZE {
             return Err(Fault::TooBig);
+        }
+        if !self.row.is_known_to(proc) {
+            return Err(Fault::NoRendez);
         }
         let block = Piece::of(Vec::from_slice(alloc, bytes)?);
         let Some(seat) = self.seat.take() else {

@@ -108,6 +108,13 @@ impl Words {
         Ok(self.give(pids))
     }
 
+    /// How many Rendez there are. Takes no memory and doesn't wait.
+    pub fn rendez_count(&self) -> u64
+        ensures { result ≡ rendez_of self.now }
+    {
+        self.sizes.rendez
+    }
+
     // Step GivePid: split of the seat of the pids, a load of word 0.
     // Seat of the pids: one pid less. The new seat is Idle, and no step was made by its pid.
     // Keeps the rule: the run has no step by a pid that was not given.

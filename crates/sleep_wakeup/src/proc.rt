@@ -27,7 +27,7 @@ impl<'k> Model for Proc<'k> {
 
 impl<'k> Proc<'k> {
     ghost use Rattle.std.specs.Prelude.{◌≡◌};
-    ghost use Rattle.rendez_words.specs.Words.{IsProcessOf};
+    ghost use Rattle.rendez_words.specs.Words.{IsProcessOf, rendez_of};
 
     pub(crate) fn new(words: &'k Words, seat: Seat, pid: Pid) -> Proc<'k>
         requires seat { IsProcessOf words.now seat }
@@ -47,6 +47,14 @@ impl<'k> Proc<'k> {
         ensures { result.0 ≡ self.now.process.pid }
     {
         self.pid
+    }
+
+    /// How many Rendez its kernel has: their numbers are those below. Takes no memory and doesn't
+    /// wait.
+    pub fn rendez_count(&self) -> u64
+        ensures { result ≡ rendez_of self.now.words }
+    {
+        self.words.rendez_count()
     }
 
     /// Its steps are those of a process in a run of the core, so the laws of the core hold of them.
