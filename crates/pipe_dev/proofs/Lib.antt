@@ -10,3 +10,4 @@ pub mod WrittenLemmas
 pub mod ChainLemmas
 pub mod WaitLemmas
 pub mod WorkedPipes
+pub mod WorkedCalls
