@@ -179,14 +179,20 @@ run_3 =
 run_4 : IsRun tight seen_4
 run_4 =
     record {
-      legal = (record { may = record { may = refl; number_is = refl }; in_turn = refl }, run_3.legal);
+      legal = (
+        record { may = record { may = refl; number_is = refl }; in_turn = refl },
+        run_3.legal,
+      );
       within = (omega arith, run_3.within);
     }
 
 run_5 : IsRun tight seen_5
 run_5 =
     record {
-      legal = (record { may = record { next = refl; number_is = refl }; in_turn = refl }, run_4.legal);
+      legal = (
+        record { may = record { next = refl; number_is = refl }; in_turn = refl },
+        run_4.legal,
+      );
       within = (omega arith, run_4.within);
     }
 
@@ -537,7 +543,12 @@ module _ (table : TableId) where
           stands = record { between = is_taken; taken = is_accepted; stood = then_stands };
           woken = record {
             receipt = record { rendez = at_rendez 3; level = 2 };
-            woken = record { ends = inl refl; rendez_is = refl; level_is = refl; receipt = inl refl };
+            woken = record {
+              ends = inl refl;
+              rendez_is = refl;
+              level_is = refl;
+              receipt = inl refl;
+            };
           };
         };
       }
@@ -685,7 +696,12 @@ module _ (table : TableId) where
           others = refl;
           last = record {
             receipt = record { rendez = at_rendez 4; level = TOP_LEVEL };
-            woken = record { ends = inl refl; rendez_is = refl; level_is = refl; receipt = inl refl };
+            woken = record {
+              ends = inl refl;
+              rendez_is = refl;
+              level_is = refl;
+              receipt = inl refl;
+            };
           };
         };
       }

@@ -29,9 +29,9 @@ impl<'p> ReadEnd<'p> {
     /// comes first. Where nothing is there yet it waits. Takes no memory.
     ///
     /// `End` where the direction is hung up and all is read. Refuses, in this order, as `BadCount`
-    /// for a buffer of no bytes, as `NoRendez` where the process is of another kernel, which has not
-    /// all Rendez of the direction, and where it would wait as `DoubleSleep` and `Interrupted`. A
-    /// read that took a write out wakes each writer with its number. After pipe(3) and read(2).
+    /// for a buffer of no bytes, as `NoRendez` where the process is of another kernel, which has
+    /// not all Rendez of the direction, and where it would wait as `DoubleSleep` and `Interrupted`.
+    /// A read that took a write out wakes each writer with its number. After pipe(3) and read(2).
     pub fn read<R: Wait>(
         &mut self,
         rt: &R,
@@ -51,6 +51,7 @@ impl<'p> ReadEnd<'p> {
         ensures end { IsSameReadEnd self.old self.new }
         ensures words { proc.new.words ≡ proc.old.words }
     {
+        // The refusals come before the hand is taken, so they leave the end as it was.
         if buffer.is_empty() {
             return Err(Fault::BadCount);
         }
