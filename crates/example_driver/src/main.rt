@@ -1,86 +1,87 @@
 //! A device driver. It shows `sleep`, `wakeup` and notes.
 //!
-//! A driver copies the blocks that a device makes. The device interrupts whenever a block is
-//! ready, and an interrupt may not wait: it calls `wakeup`, which never does. The driver sleeps
-//! until there is a block. A user ends the transfer by a note, before all blocks that were wanted are there.
+//! A user wants five blocks of a device, and a driver copies them. The device interrupts when a
+//! block is ready. An interrupt may not wait: it calls `wakeup`, which never does. The driver may:
+//! it sleeps until there is a block. Only three blocks come, so the user posts a note to the driver,
+//! which ends its sleep and with it the transfer.
 #![tactic(auto)]
 
-use sleep_wakeup::{Kernel, Proc};
+use sleep_wakeup::{Kernel, Opened, Proc, Roster, Started};
 use std::alloc::Global;
 use std::io;
 use std::sync::Wait;
 use std::sync::atomic::AtomicU64;
 use std::sync::atomic::Ordering::SeqCst;
-use std::thread::{Threads, join};
+use std::thread::{self, Threads};
 use sync_base::{Fault, Flags, Note, NoteSet, Pid, RendezId};
 
-/// How many blocks are wanted.
+/// How many blocks the user wants.
 const WANTED: u64 = 5;
 
 /// How many the device makes.
 const MADE: u64 = 3;
 
-/// A number that rises, and the Rendez where others wait for it.
+/// A number that rises, and the Rendez where others sleep until it has.
 #[derive(Drop)]
 struct Counter {
     count: AtomicU64,
     risen: RendezId,
 }
 
-/// A number that is 0 yet.
-fn at_zero(risen: RendezId) -> Counter {
-    Counter {
-        count: AtomicU64::new(0),
-        risen,
-    }
-}
-
-/// Sets the number and wakes whoever waits. It has no handle `Wait`, so it is checked that it can't
-/// wait: an interrupt may call it.
-fn set(proc: &mut Proc<'_>, counter: &Counter, count: u64) -> Result<(), Fault> {
-    counter.count.store(count, SeqCst);
-    proc.wakeup(counter.risen, count)?;
-    Ok(())
-}
-
-/// Waits until the number is so high. A sleep ends when the level is above what was seen, so no
-/// wakeup is lost between the look and the sleep. It may also end for a wakeup that was under way,
-/// so the number is looked at again. A note ends it with `Interrupted`.
-fn wait_for<R: Wait>(
-    rt: &R,
-    proc: &mut Proc<'_>,
-    counter: &Counter,
-    count: u64,
-) -> Result<(), Fault> {
-    for _ in rt.forever() {
-        let seen = counter.count.load(SeqCst);
-        if seen >= count {
-            break;
+impl Counter {
+    fn new(risen: RendezId) -> Counter {
+        Counter {
+            count: AtomicU64::new(0),
+            risen,
         }
-        proc.sleep(rt, counter.risen, seen)?;
     }
-    Ok(())
+
+    /// Makes the condition true, and then wakes whoever sleeps: never the other way round. There is
+    /// no `Wait` among its parameters, so it can't wait, and an interrupt may call it.
+    fn rise(&self, proc: &mut Proc<'_>, count: u64) -> Result<(), Fault> {
+        self.count.store(count, SeqCst);
+        proc.wakeup(self.risen, count)?;
+        Ok(())
+    }
+
+    /// Waits until the number is at least this one.
+    ///
+    /// A sleep ends when the Rendez was woken with more than what was seen, also where that was
+    /// between the look and the sleep: no wakeup is lost. One that is late may end a later sleep,
+    /// so the number is looked at again. A note ends a sleep too, which answers `Interrupted`.
+    fn wait_for<R: Wait>(&self, rt: &R, proc: &mut Proc<'_>, count: u64) -> Result<(), Fault> {
+        for _ in rt.forever() {
+            let seen = self.count.load(SeqCst);
+            if seen >= count {
+                break;
+            }
+            proc.sleep(rt, self.risen, seen)?;
+        }
+        Ok(())
+    }
 }
 
-/// What the device does: an interrupt for each block.
-fn interrupts(mut device: Proc<'_>, ready: &Counter) -> Result<(), Fault> {
+/// What the device and the driver share: the blocks that are ready, and those that are copied.
+#[derive(Drop)]
+struct Transfer {
+    ready: Counter,
+    copied: Counter,
+}
+
+/// The device: an interrupt for each block.
+fn make_blocks(device: &mut Proc<'_>, transfer: &Transfer) -> Result<(), Fault> {
     for block in 0..MADE {
-        set(&mut device, ready, block + 1)?;
+        transfer.ready.rise(device, block + 1)?;
     }
     Ok(())
 }
 
-/// The driver waits for each block, copies it and says so. A note cancels what is left. It answers
-/// how many were copied.
-fn copy_blocks<R: Wait>(
-    rt: &R,
-    mut driver: Proc<'_>,
-    ready: &Counter,
-    copied: &Counter,
-) -> Result<u64, Fault> {
+/// The driver: it waits for each block, copies it and says so, until all are copied or a note
+/// comes. It answers how many were copied.
+fn copy_blocks<R: Wait>(rt: &R, mut driver: Proc<'_>, transfer: &Transfer) -> Result<u64, Fault> {
     for block in 0..WANTED {
-        match wait_for(rt, &mut driver, ready, block + 1) {
-            Ok(()) => set(&mut driver, copied, block + 1)?,
+        match transfer.ready.wait_for(rt, &mut driver, block + 1) {
+            Ok(()) => transfer.copied.rise(&mut driver, block + 1)?,
             Err(Fault::Interrupted(_)) => return Ok(block),
             Err(fault) => return Err(fault),
         }
@@ -88,38 +89,51 @@ fn copy_blocks<R: Wait>(
     Ok(WANTED)
 }
 
-/// The user waits until all that the device makes was copied, and then cancels the rest: it posts a
-/// note to the driver, which ends the driver's sleep, also one that it has yet to begin.
-fn cancel<R: Wait>(rt: &R, mut user: Proc<'_>, copied: &Counter, driver: Pid) -> Result<(), Fault> {
-    wait_for(rt, &mut user, copied, MADE)?;
-    user.postnote(driver, NoteSet::of(Note::Interrupt))
+/// The user: waits until all that was made is copied, and cancels the rest. A note ends a sleep of
+/// the driver, or the next one if the driver is awake.
+fn cancel<R: Wait>(
+    rt: &R,
+    mut user: Proc<'_>,
+    driver: Pid,
+    transfer: &Transfer,
+) -> Result<(), Fault> {
+    let copied = transfer.copied.wait_for(rt, &mut user, MADE);
+    user.postnote(driver, NoteSet::of(Note::Interrupt))?;
+    copied
 }
 
-/// A kernel starts with one process, and `rfork` makes the others. Each has a thread of its own.
+/// A further process.
+fn fork<'k>(roster: &mut Roster<'k>, parent: &mut Proc<'k>) -> Result<Proc<'k>, Fault> {
+    roster.rfork(parent, Flags::RFPROC)?.ok_or(Fault::NoProc)
+}
+
+/// Three processes of a kernel. The driver, which waits for the device, has a thread of its own;
+/// where none can be started nothing is begun. The device and the user take turns on this one.
 fn run<R: Threads + Wait + Sync>(rt: &R, alloc: Global) -> Result<u64, Fault> {
-    let opened = Kernel::new(alloc, 3, 2)?;
-    let mut started = opened.kernel.start(opened.start);
-    let (Some(device), Some(driver)) = (
-        started.roster.rfork(&mut started.proc, Flags::RFPROC)?,
-        started.roster.rfork(&mut started.proc, Flags::RFPROC)?,
-    ) else {
-        return Err(Fault::NoProc);
+    let Opened { kernel, start } = Kernel::new(alloc, 3, 2)?;
+    let Started {
+        mut roster,
+        proc: mut user,
+    } = kernel.start(start);
+    let mut device = fork(&mut roster, &mut user)?;
+    let driver = fork(&mut roster, &mut user)?;
+    let pid = driver.pid();
+    let transfer = &Transfer {
+        ready: Counter::new(roster.rendez()?),
+        copied: Counter::new(roster.rendez()?),
     };
-    let ready = at_zero(started.roster.rendez()?);
-    let copied = at_zero(started.roster.rendez()?);
-    let (user, pid) = (started.proc, driver.pid());
-    let (transfer, (made, cancelled)) = join(
+    thread::scope(
+        thread::scope_env(),
         rt,
-        || copy_blocks(rt, driver, &ready, &copied),
-        || join(
-            rt,
-            || interrupts(device, &ready),
-            || cancel(rt, user, &copied, pid),
-        ),
-    );
-    made?;
-    cancelled?;
-    transfer
+        move |scope| -> Result<u64, Fault> {
+            let Ok(copying) = scope.spawn(move || copy_blocks(rt, driver, transfer)) else {
+                return Err(Fault::Device);
+            };
+            make_blocks(&mut device, transfer)?;
+            cancel(rt, user, pid, transfer)?;
+            copying.join(rt)
+        },
+    )
 }
 
 fn main(rt: HostRuntime) -> io::Result<()> {

@@ -4,146 +4,146 @@
 //! come. It answers each on a pipe of its client's own. A hangup of the pipe of requests ends it.
 #![tactic(auto)]
 
-use pipe_dev::{Ends, Opened, Pipe, ReadAnswer, ReadEnd, WriteEnd};
-use sleep_wakeup::{Kernel, Proc};
+use pipe_dev::{Ends, Pipe, ReadAnswer, ReadEnd, WriteEnd};
+use sleep_wakeup::{Kernel, Proc, Started};
 use std::alloc::Global;
 use std::io;
 use std::sync::Wait;
-use std::thread::{Threads, join, map_vec};
+use std::thread::{Threads, map_vec, scope, scope_env};
 use sync_base::{Fault, Flags};
-
-/// How many clients there are, each of which asks for the squares of 1 to 5.
-const CLIENTS: u64 = 4;
-
-const ASKED: u8 = 5;
 
 /// A client asks at one pipe and is answered at another.
 #[derive(Drop)]
-struct Client<'k, 'p> {
+struct Client<'s> {
     number: u8,
-    proc: Proc<'k>,
-    requests: WriteEnd<'p>,
-    answers: ReadEnd<'p>,
-    /// The sum of its answers.
-    sum: u64,
-    ended: Result<(), Fault>,
+    proc: Proc<'s>,
+    requests: WriteEnd<'s>,
+    answers: ReadEnd<'s>,
 }
 
-/// A request is the client's number and the number whose square it wants, in one write. A write is
-/// read whole and never joined with another's, so requests need no lock.
-fn ask<'k, 'p, R: Wait>(rt: &R, alloc: Global, mut client: Client<'k, 'p>) -> Client<'k, 'p> {
-    for number in 1..=ASKED {
-        match ask_one(rt, alloc, &mut client, number) {
-            Ok(square) => client.sum = client.sum.wrapping_add(square),
-            Err(fault) => client.ended = Err(fault),
+/// Asks for the squares of 1 to 5, and gives their sum. A request, with the client's number, is one
+/// write: it is read whole and never joined with another, so the clients need no lock.
+fn ask<R: Wait>(rt: &R, alloc: Global, mut me: Client<'_>) -> Result<u64, Fault> {
+    let mut sum = 0u64;
+    let mut square = [0];
+    for wanted in 1..=5 {
+        me.requests
+            .write(alloc, rt, &mut me.proc, &[me.number, wanted])?;
+        if me.answers.read(rt, &mut me.proc, &mut square)? == ReadAnswer::End {
+            return Err(Fault::Hungup);
         }
+        sum = sum.wrapping_add(u64::from(square[0]));
     }
-    client
+    Ok(sum)
 }
 
-fn ask_one<R: Wait>(rt: &R, alloc: Global, me: &mut Client<'_, '_>, n: u8) -> Result<u64, Fault> {
-    let mut square = [0; 8];
-    me.requests.write(alloc, rt, &mut me.proc, &[me.number, n])?;
-    me.answers.read(rt, &mut me.proc, &mut square)?;
-    Ok(u64::from_be_bytes(square))
-}
-
-/// Runs each client on a thread of its own, and then hangs the pipe of requests up: that closes it
-/// for all writers, so it comes when nobody writes any more.
-fn ask_all<'k, 'p, R: Threads + Wait + Sync>(
+/// All clients at once, each on a thread of its own, or one after the other where no thread can be
+/// started. Then the pipe of requests is hung up, at a write end that is for this alone.
+fn ask_all<'s, R: Threads + Wait + Sync>(
     rt: &R,
     alloc: Global,
-    clients: Vec<Client<'k, 'p>>,
-) -> Result<Vec<Client<'k, 'p>>, Fault> {
-    let mut done = map_vec(
-        rt,
-        clients,
-        &|client: Client| -> Client { ask(rt, alloc, client) },
-    )?;
-    if let Some(last) = done.last_mut() {
-        last.requests.hangup(&mut last.proc);
+    clients: Vec<Client<'s>>,
+    mut last: WriteEnd<'s>,
+    mut proc: Proc<'s>,
+) -> Result<Vec<u64>, Fault> {
+    let asked = map_vec(rt, clients, &|client: Client| ask(rt, alloc, client));
+    last.hangup(&mut proc);
+    let mut sums = Vec::new(alloc);
+    for sum in asked? {
+        sums.push(sum?)?;
     }
-    Ok(done)
+    Ok(sums)
 }
 
-/// The server reads requests until the end, and answers each at its client's pipe.
+/// The server reads requests at one pipe, and answers at one for each client.
 #[derive(Drop)]
-struct Server<'k, 'p> {
-    proc: Proc<'k>,
-    requests: ReadEnd<'p>,
-    answers: Vec<WriteEnd<'p>>,
+struct Server<'s> {
+    proc: Proc<'s>,
+    requests: ReadEnd<'s>,
+    answers: Vec<WriteEnd<'s>>,
 }
 
-fn serve<R: Wait>(rt: &R, alloc: Global, mut server: Server<'_, '_>) -> Result<u64, Fault> {
+/// The request loop. The pipe of a client that can't be answered is hung up, so it doesn't wait.
+fn serve<R: Wait>(rt: &R, alloc: Global, mut me: Server<'_>) -> Result<(), Fault> {
     let mut request = [0; 2];
-    let mut served = 0u64;
     for _ in rt.forever() {
-        if server.requests.read(rt, &mut server.proc, &mut request)? == ReadAnswer::End {
+        if me.requests.read(rt, &mut me.proc, &mut request)? == ReadAnswer::End {
             break;
         }
-        let [client, number] = request;
-        let square = u64::from(number) * u64::from(number);
-        if let Some(answers) = server.answers.get_mut(usize::from(client)) {
-            answers.write(alloc, rt, &mut server.proc, &square.to_be_bytes())?;
-            served = served.wrapping_add(1);
+        let [client, wanted] = request;
+        let square = [wanted.saturating_mul(wanted)];
+        if let Some(answers) = me.answers.get_mut(usize::from(client)) {
+            if answers.write(alloc, rt, &mut me.proc, &square).is_err() {
+                answers.hangup(&mut me.proc);
+            }
         }
     }
-    Ok(served)
+    Ok(())
 }
 
-/// The pipes: that of the requests, with a writer for each client, and one back to each client. A
-/// pipe goes both ways; here one way of each is used. The kernel has a process for each of them.
-fn run<R: Threads + Wait + Sync>(rt: &R, alloc: Global) -> Result<(u64, Vec<u64>), Fault> {
-    let opened = Kernel::new(alloc, 1 + CLIENTS, 2 * (1 + CLIENTS) + 4 * CLIENTS)?;
-    let mut started = opened.kernel.start(opened.start);
-    let asking = Pipe::new(alloc, &mut started.roster, 2, CLIENTS)?;
-    let Ends { first, second } = asking.pipe.ends(asking.start);
-    let mut pipes = Vec::new(alloc);
-    let mut starts = Vec::new(alloc);
-    for _ in 0..CLIENTS {
-        let Opened { pipe, start } = Pipe::new(alloc, &mut started.roster, 1, 1)?;
-        pipes.push(pipe)?;
-        starts.push(start)?;
-    }
-    let mut answers = Vec::new(alloc);
+/// A further process.
+fn fork<'k>(started: &mut Started<'k>) -> Result<Proc<'k>, Fault> {
+    let forked = started.roster.rfork(&mut started.proc, Flags::RFPROC)?;
+    forked.ok_or(Fault::NoProc)
+}
+
+/// Makes the clients and the server, and starts the server first, since the clients wait for it.
+fn run_all<'s, R: Threads + Wait + Sync>(
+    rt: &R,
+    alloc: Global,
+    mut started: Started<'s>,
+    there: Ends<'s>,
+    back: [Ends<'s>; 4],
+) -> Result<Vec<u64>, Fault> {
+    let mut writes = there.second.parts().writes;
+    let last = writes.pop().ok_or(Fault::BadSize)?;
     let mut clients = Vec::new(alloc);
-    let back = pipes.iter().zip(starts);
-    for (requests, (pipe, start)) in first.parts().writes.into_iter().zip(back) {
-        let Ends { first, second } = pipe.ends(start);
-        answers.extend(first.parts().writes)?;
-        let Some(proc) = started.roster.rfork(&mut started.proc, Flags::RFPROC)? else {
-            return Err(Fault::NoProc);
-        };
+    let mut answers = Vec::new(alloc);
+    for (number, (requests, ends)) in (0..4).zip(writes.into_iter().zip(back)) {
+        answers.extend(ends.first.parts().writes)?;
         clients.push(Client {
-            number: requests.writer() as u8,
-            proc,
+            number,
+            proc: fork(&mut started)?,
             requests,
-            answers: second.parts().read,
-            sum: 0,
-            ended: Ok(()),
+            answers: ends.second.parts().read,
         })?;
     }
     let server = Server {
-        proc: started.proc,
-        requests: second.parts().read,
+        proc: fork(&mut started)?,
+        requests: there.first.parts().read,
         answers,
     };
-    let (served, done) = join(
-        rt,
-        || serve(rt, alloc, server),
-        || ask_all(rt, alloc, clients),
-    );
-    let mut sums = Vec::new(alloc);
-    for client in done? {
-        client.ended?;
-        sums.push(client.sum)?;
-    }
-    Ok((served?, sums))
+    let proc = started.proc;
+    scope(scope_env(), rt, move |scope| {
+        let Ok(serving) = scope.spawn(move || serve(rt, alloc, server)) else {
+            return Err(Fault::Device);
+        };
+        let sums = ask_all(rt, alloc, clients, last, proc);
+        serving.join(rt).and(sums)
+    })
+}
+
+/// The pipe of requests has five writers. A pipe goes both ways; here one way of each is used.
+fn run<R: Threads + Wait + Sync>(rt: &R, alloc: Global) -> Result<Vec<u64>, Fault> {
+    let opened = Kernel::new(alloc, 6, 28)?;
+    let mut started = opened.kernel.start(opened.start);
+    let there = Pipe::new(alloc, &mut started.roster, 2, 5)?;
+    let one = Pipe::new(alloc, &mut started.roster, 1, 1)?;
+    let two = Pipe::new(alloc, &mut started.roster, 1, 1)?;
+    let three = Pipe::new(alloc, &mut started.roster, 1, 1)?;
+    let four = Pipe::new(alloc, &mut started.roster, 1, 1)?;
+    let back = [
+        one.pipe.ends(one.start),
+        two.pipe.ends(two.start),
+        three.pipe.ends(three.start),
+        four.pipe.ends(four.start),
+    ];
+    run_all(rt, alloc, started, there.pipe.ends(there.start), back)
 }
 
 fn main(rt: HostRuntime) -> io::Result<()> {
     match run(&rt, rt.alloc()) {
-        Ok((served, sums)) => println!(rt; "{served} requests served, the sums are {sums:?}"),
+        Ok(sums) => println!(rt; "the clients' sums are {sums:?}"),
         Err(fault) => println!(rt; "the server failed: {fault}"),
     }
 }

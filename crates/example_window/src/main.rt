@@ -6,11 +6,11 @@
 #![tactic(auto)]
 
 use pipe_dev::{Ends, Pipe, ReadAnswer, ReadEnd, WriteEnd};
-use sleep_wakeup::{Kernel, Proc};
+use sleep_wakeup::{Kernel, Proc, Started};
 use std::alloc::Global;
 use std::io;
 use std::sync::Wait;
-use std::thread::{Threads, join, map_vec};
+use std::thread::{Threads, map_vec, scope, scope_env};
 use sync_base::{Fault, Flags};
 
 /// The devices, each with its events. An event is one write: its kind, and what it says.
@@ -20,41 +20,35 @@ const MOUSE: &[&[u8]] = &[&[b'm', 3, 4], &[b'm', 5, 4], &[b'm', 9, 7]];
 
 const FRAME: &[&[u8]] = &[&[b'r', 80, 24], &[b'r', 100, 40]];
 
-/// A device: a process that writes events.
+/// A process that writes into the pipe: a device, or the button that closes the window, which has
+/// no events.
 #[derive(Drop)]
-struct Device<'k, 'p> {
-    proc: Proc<'k>,
-    out: WriteEnd<'p>,
+struct Writer<'w> {
+    proc: Proc<'w>,
+    out: WriteEnd<'w>,
     events: &'static [&'static [u8]],
-    ended: Result<(), Fault>,
 }
 
 /// A device writes its events in order, and waits where the pipe is full.
-fn send<'k, 'p, R: Wait>(rt: &R, alloc: Global, mut device: Device<'k, 'p>) -> Device<'k, 'p> {
+fn send<R: Wait>(rt: &R, alloc: Global, mut device: Writer<'_>) -> Result<(), Fault> {
     for event in device.events {
-        if let Err(fault) = device.out.write(alloc, rt, &mut device.proc, event) {
-            device.ended = Err(fault);
-        }
+        device.out.write(alloc, rt, &mut device.proc, event)?;
     }
-    device
+    Ok(())
 }
 
-/// All devices at once, each on a thread of its own. Then the window is closed.
-fn send_all<R: Threads + Wait + Sync>(
+/// All devices at once, each on a thread of its own, or one after the other where no thread can be
+/// started. Then the window is closed.
+fn send_all<'w, R: Threads + Wait + Sync>(
     rt: &R,
     alloc: Global,
-    devices: Vec<Device<'_, '_>>,
+    devices: Vec<Writer<'w>>,
+    mut button: Writer<'w>,
 ) -> Result<(), Fault> {
-    let mut done = map_vec(
-        rt,
-        devices,
-        &|device: Device| -> Device { send(rt, alloc, device) },
-    )?;
-    if let Some(last) = done.last_mut() {
-        last.out.hangup(&mut last.proc);
-    }
-    for device in done {
-        device.ended?;
+    let sent = map_vec(rt, devices, &|device: Writer| send(rt, alloc, device));
+    button.out.hangup(&mut button.proc);
+    for sent in sent? {
+        sent?;
     }
     Ok(())
 }
@@ -62,88 +56,94 @@ fn send_all<R: Threads + Wait + Sync>(
 /// What the window shows.
 #[derive(Drop)]
 struct Window {
-    typed: Vec<u8>,
+    typed: String,
     mouse: (u8, u8),
-    moves: u64,
     size: (u8, u8),
 }
 
-impl Window {
-    /// Events of one device come in its order, whatever those of the others do. So this ends the
-    /// same in every schedule.
-    fn take(&mut self, event: &[u8]) -> Result<(), Fault> {
-        match event {
-            [b'k', key] => self.typed.push(*key)?,
-            [b'm', x, y] => {
-                self.mouse = (*x, *y);
-                self.moves = self.moves.saturating_add(1);
-            }
-            [b'r', wide, high] => self.size = (*wide, *high),
-            _ => return Err(Fault::BadArg),
-        }
-        Ok(())
+/// Events of one device come in its order, whatever those of the others do. So the window ends the
+/// same in every schedule.
+fn take(window: &mut Window, event: &[u8]) -> Result<(), Fault> {
+    match event {
+        [b'k', key] => window.typed.push(char::from(*key))?,
+        [b'm', x, y] => window.mouse = (*x, *y),
+        [b'r', wide, high] => window.size = (*wide, *high),
+        _ => return Err(Fault::BadArg),
     }
+    Ok(())
 }
 
-/// The multiplexer: each read is one event, since a read never joins two writes.
-fn show<R: Wait>(
-    rt: &R,
-    alloc: Global,
-    mut proc: Proc<'_>,
-    mut events: ReadEnd<'_>,
-) -> Result<Window, Fault> {
+/// The process that reads the pipe.
+#[derive(Drop)]
+struct Reader<'w> {
+    proc: Proc<'w>,
+    events: ReadEnd<'w>,
+}
+
+/// The multiplexer. Each read is one event, since a read never joins two writes. Where an event
+/// can't be shown it reads on, so that no device waits for ever.
+fn show<R: Wait>(rt: &R, alloc: Global, mut reader: Reader<'_>) -> Result<Window, Fault> {
     let mut window = Window {
-        typed: Vec::new(alloc),
+        typed: String::new(alloc),
         mouse: (0, 0),
-        moves: 0,
         size: (0, 0),
     };
+    let mut shown = Ok(());
     let mut event = [0; 8];
     for _ in rt.forever() {
-        match events.read(rt, &mut proc, &mut event)? {
-            ReadAnswer::Got(count) => window.take(&event[..count])?,
+        match reader.events.read(rt, &mut reader.proc, &mut event)? {
+            ReadAnswer::Got(count) => shown = shown.and(take(&mut window, &event[..count])),
             ReadAnswer::End => break,
         }
     }
-    Ok(window)
+    shown.map(|()| window)
 }
 
-/// A pipe with room for two events that nobody has read, and a writer for each device.
-fn run<R: Threads + Wait + Sync>(rt: &R, alloc: Global) -> Result<Window, Fault> {
-    let opened = Kernel::new(alloc, 4, 8)?;
-    let mut started = opened.kernel.start(opened.start);
-    let made = Pipe::new(alloc, &mut started.roster, 2, 3)?;
-    let Ends { first, second } = made.pipe.ends(made.start);
-    let mut devices = Vec::new(alloc);
-    let outs = first.parts().writes;
-    for (out, events) in outs.into_iter().zip([KEYBOARD, MOUSE, FRAME]) {
-        let Some(proc) = started.roster.rfork(&mut started.proc, Flags::RFPROC)? else {
-            return Err(Fault::NoProc);
-        };
-        devices.push(Device {
-            proc,
-            out,
-            events,
-            ended: Ok(()),
-        })?;
+/// The writers: the devices, and behind them the button.
+fn writers<'w>(
+    alloc: Global,
+    started: &mut Started<'w>,
+    outs: Vec<WriteEnd<'w>>,
+) -> Result<Vec<Writer<'w>>, Fault> {
+    let mut writers = Vec::new(alloc);
+    for (out, events) in outs.into_iter().zip([KEYBOARD, MOUSE, FRAME, &[]]) {
+        let child = started.roster.rfork(&mut started.proc, Flags::RFPROC)?;
+        let proc = child.ok_or(Fault::NoProc)?;
+        writers.push(Writer { proc, out, events })?;
     }
-    let (proc, events) = (started.proc, second.parts().read);
-    let (window, sent) = join(
-        rt,
-        || show(rt, alloc, proc, events),
-        || send_all(rt, alloc, devices),
-    );
-    sent?;
-    window
+    Ok(writers)
+}
+
+/// A pipe with room for two events that nobody has read. The reader is started first, since the
+/// devices wait for it.
+fn run<R: Threads + Wait + Sync>(rt: &R, alloc: Global) -> Result<Window, Fault> {
+    let opened = Kernel::new(alloc, 5, 10)?;
+    let mut started = opened.kernel.start(opened.start);
+    let made = Pipe::new(alloc, &mut started.roster, 2, 4)?;
+    let Ends { first, second } = made.pipe.ends(made.start);
+    let mut writers = writers(alloc, &mut started, second.parts().writes)?;
+    let button = writers.pop().ok_or(Fault::BadSize)?;
+    let (proc, events) = (started.proc, first.parts().read);
+    let reader = Reader { proc, events };
+    scope(scope_env(), rt, move |scope| {
+        let Ok(showing) = scope.spawn(move || show(rt, alloc, reader)) else {
+            return Err(Fault::Device);
+        };
+        let sent = send_all(rt, alloc, writers, button);
+        let window = showing.join(rt);
+        sent.and(window)
+    })
 }
 
 fn main(rt: HostRuntime) -> io::Result<()> {
     match run(&rt, rt.alloc()) {
-        Ok(window) => {
-            let typed = str::from_utf8(&window.typed).unwrap_or("?");
-            let (moves, (x, y), (wide, high)) = (window.moves, window.mouse, window.size);
-            println!(rt; "typed '{typed}', mouse at {x},{y} after {moves} moves, {wide} by {high}")
-        }
+        Ok(
+            Window {
+                typed,
+                mouse: (x, y),
+                size: (wide, high),
+            },
+        ) => { println!(rt; "typed '{typed}', mouse at {x},{y}, size {wide} by {high}") }
         Err(fault) => println!(rt; "the window failed: {fault}"),
     }
 }
