@@ -1,26 +1,29 @@
 -- The calls of a read end are steps, and what all steps and a finish come to.
 use Rattle.std.proofs.Common.{◌≡◌, ◌≢◌, ◌⊎◌, inl, inr, eqb, ℕ, zero, suc, ◌+◌, Bool, true, false, List, [], ◌∷◌, length, drop, refl, sym, ◌∙◌, ap}
-use Rattle.std.specs.Prelude.{◌||◌, Ok, Err, take}
+use Rattle.std.specs.Prelude.{◌||◌, Result, Ok, Err, take}
 use Rattle.std.specs.List.{AllByRecursion}
 use Rattle.std.proofs.lemmas.Bool.Decides.{eqb_tells}
 use Rattle.std.proofs.lemmas.List.{take_at}
 use Rattle.histories.specs.declared.account.Share.{Share}
 use Rattle.histories.specs.Account.{has_number}
 use Rattle.histories.proofs.ListLemmas.{all_past, all_since}
+use Rattle.sync_base.specs.declared.fault.Fault.{Fault}
+use Rattle.sync_base.specs.declared.fault.Fault.TheVariants as fault
 use Rattle.block_queue.specs.declared.entry.Entry.{Entry}
 use Rattle.block_queue.specs.declared.entry.Entry.TheVariants.{NotYet, End, Hung}
 use Rattle.block_queue.specs.declared.view.Key.{Key}
 use Rattle.block_queue.specs.Seats.{key_of}
+use Rattle.pipe_dev.specs.declared.answers.ReadAnswer.{ReadAnswer}
 use Rattle.pipe_dev.specs.declared.answers.ReadAnswer.TheVariants as read
 use Rattle.pipe_dev.specs.declared.answers.TryAnswer.TheVariants as try
 use Rattle.pipe_dev.specs.declared.row.Row.{Row}
 use Rattle.pipe_dev.specs.CallLaws.{ReadsAreSteps, TriesAreSteps, HangupsAreSteps}
-use Rattle.pipe_dev.specs.Chain.{AddsPart, AddsNothing, ReadStep, AddsOne, IsNoBlock, reading_at}
+use Rattle.pipe_dev.specs.Chain.{AddsPart, AddsNothing, ReadStep, AddsOne, AddsRead, IsNoBlock, IsOfSteps, reading_at}
 use Rattle.pipe_dev.specs.Ends.{WriteSide, reading_of}
 use Rattle.pipe_dev.specs.Finishing.{accepted_in, shares_of, holdings_of}
 use Rattle.pipe_dev.specs.Laws.{EachWriteIsReadWholeAndOnce, IsAllOfWriter, IsAllWritten, found_at}
 use Rattle.pipe_dev.specs.Parts.{Part, bytes_by}
-use Rattle.pipe_dev.specs.ReadCalls.{Reader, Gets, FindsNone, IsFilled, SleepsForWrite, part_of}
+use Rattle.pipe_dev.specs.ReadCalls.{Reader, Gets, FindsNone, IsFilled, KeepsTrying, SleepsForWrite, part_of}
 use Rattle.pipe_dev.specs.Rounds.{Rounds}
 use Rattle.pipe_dev.proofs.LawLemmas.{each_share_is_read_whole_and_once}
 use Rattle.pipe_dev.proofs.ReadingLemmas.{what_is_read_is_right}
@@ -81,8 +84,22 @@ got_one part buffer buffer' count parts filled =
       parts_are = refl;
     }
 
-pub reads_are_steps : ReadsAreSteps
-reads_are_steps key row old buffer (Ok (read.Got count)) new buffer' room reads parts =
+-- a call that did nothing adds nothing
+no_step : (key : Key) (row : Row) (Adds : List Part → List Part → Type 0) (old new : Reader)
+    (parts : List Part) → new ≡ old → Adds parts parts → IsOfSteps key row Adds old parts new
+no_step key row Adds old new parts same adds =
+    record {
+      parts' = parts;
+      added = adds;
+      times = 0;
+      steps = ap (λ (r : Reader). reading_at r parts) same;
+    }
+
+tried_steps : (key : Key) (row : Row) (old : Reader) (buffer : List ℕ)
+    (answer : Result ReadAnswer Fault) (new : Reader) (buffer' : List ℕ) → buffer ≢ []
+    → KeepsTrying key row old buffer answer new buffer'
+    → (parts : List Part) → IsOfSteps key row (AddsRead answer buffer') old parts new
+tried_steps key row old buffer (Ok (read.Got count)) new buffer' room reads parts =
     let gets = reads.ended in
     record {
       parts' = part_of (length buffer) gets.left ∷ parts;
@@ -94,7 +111,7 @@ reads_are_steps key row old buffer (Ok (read.Got count)) new buffer' room reads 
         last = inl (got_part key row reads.between buffer count new buffer' parts room gets);
       };
     }
-reads_are_steps key row old buffer (Ok read.End) new buffer' room reads parts =
+tried_steps key row old buffer (Ok read.End) new buffer' room reads parts =
     record {
       parts' = parts;
       added = refl;
@@ -105,7 +122,7 @@ reads_are_steps key row old buffer (Ok read.End) new buffer' room reads parts =
         last = inr (found_none key End reads.between new parts tt reads.ended.0);
       };
     }
-reads_are_steps key row old buffer (Err why) new buffer' room reads parts =
+tried_steps key row old buffer (Err why) new buffer' room reads parts =
     let fails = reads.ended.0 in
     record {
       parts' = parts;
@@ -117,6 +134,16 @@ reads_are_steps key row old buffer (Err why) new buffer' room reads parts =
         last = inr (found_none key (NotYet fails.number) reads.between (record new { process = reads.between.process }) parts tt fails.found.none);
       };
     }
+
+pub reads_are_steps : ReadsAreSteps
+reads_are_steps key row old buffer (Ok answer) new buffer' room reads parts =
+    tried_steps key row old buffer (Ok answer) new buffer' room reads parts
+reads_are_steps key row old buffer (Err fault.BadCount) new buffer' room reads parts =
+    no_step key row (AddsRead (Err fault.BadCount) buffer') old new parts reads.same refl
+reads_are_steps key row old buffer (Err fault.NoRendez) new buffer' room reads parts =
+    no_step key row (AddsRead (Err fault.NoRendez) buffer') old new parts reads.same refl
+reads_are_steps key row old buffer (Err why) new buffer' room reads parts =
+    tried_steps key row old buffer (Err why) new buffer' room reads parts
 
 pub tries_are_steps : TriesAreSteps
 tries_are_steps key row old buffer (try.Got count) new buffer' room gets parts =

@@ -122,6 +122,8 @@ writes_add_what_was_accepted key row writer block old (Ok number) new wrote bloc
     asked key row writer block old (Ok number) new blocks wrote written
 writes_add_what_was_accepted key row writer block old (Err fault.TooBig) new wrote blocks written =
     untouched old new writer blocks wrote written
+writes_add_what_was_accepted key row writer block old (Err fault.NoRendez) new wrote blocks written =
+    untouched old new writer blocks wrote written
 writes_add_what_was_accepted key row writer block old (Err fault.Memory) new wrote blocks written =
     untouched old new writer blocks wrote written
 writes_add_what_was_accepted key row writer block old (Err why) new wrote blocks written =
