@@ -143,14 +143,16 @@ impl<'p> Reader<'p> {
 }
 
 impl Counted {
-    ghost use Rattle.std.specs.Prelude.{IfOk};
-    ghost use Rattle.p9sync.specs.Tally.{IsTallyOf};
+    ghost use Rattle.std.specs.Prelude.{◌≡◌, Err, IfOk, IfErr};
+    ghost use Rattle.p9sync.specs.Tally.{IsTallyOf, Tells};
     ghost use Rattle.p9sync.specs.Threads.{IsReportOf};
 
     /// What was read up to the end, or why it did not come to the end.
     pub fn report(&self, opts: &ThreadsOpts) -> Result<Report, Fault>
         requires { IsTallyOf opts.now self.now.tally }
-        ensures { IfOk result (IsReportOf opts.now) }
+        ensures fault { IfErr self.now.read (λ fault. result ≡ Err fault) }
+        ensures told { IfOk result (Tells opts.now.writers self.now.tally) }
+        ensures of { IfOk result (IsReportOf opts.now) }
     {
         self.read?;
         Ok(self.tally.report(opts.writers))

@@ -74,13 +74,16 @@ fn run_crew<'p, R: Threads + Wait + Sync, G: Gate + Sync>(
     ensures { IfOk result (IsReportOf opts) }
 {
     let Crew { reader, writers } = crew;
-    let mut running = Vec::with_capacity(alloc, writers.len())?;
     let called_off = AtomicBool::new(false);
     let off = &called_off;
     thread::scope(
         thread::scope_env(),
         rt,
-        move |scope| -> Result<Report, Fault> {
+        move |scope| -> Result<Report, Fault>
+            requires { IsTallyOf opts reader.tally }
+            ensures { IfOk result (IsReportOf opts.entry) }
+        {
+            let mut running = Vec::with_capacity(alloc, writers.len())?;
             let Ok(reading) = scope.spawn_with(
                 CountsBy(opts),
                 move || -> Counted
