@@ -10,4 +10,3 @@ pub mod WrittenLemmas
 pub mod ChainLemmas
 pub mod WaitLemmas
 pub mod WorkedPipes
-pub mod KernelLemmas
