@@ -20,6 +20,11 @@ pub record IsTallyOf (opts : ThreadsOpts) (tally : Tally) : Type 0 where
   pub most : tally.most ≡ opts.writers * opts.writes
   pub size : vec_len tally.expected.message ≡ opts.size
 
+-- both count what the same writers write
+pub record AreOfOneRun (old new : Tally) : Type 0 where
+  pub most : new.most ≡ old.most
+  pub size : vec_len new.expected.message ≡ vec_len old.expected.message
+
 -- nothing was counted, and so nothing is out of order
 pub record IsNewTally (tally : Tally) : Type 0 where
   pub writes : tally.writes ≡ 0

@@ -111,14 +111,12 @@ pub struct Counted {
 }
 
 impl<'p> Reader<'p> {
-    ghost use Rattle.std.specs.Prelude.{◌≡◌};
-    ghost use Rattle.p9sync.specs.declared.opts.ThreadsOpts.{ThreadsOpts};
-    ghost use Rattle.p9sync.specs.Tally.{IsTallyOf};
+    ghost use Rattle.p9sync.specs.Tally.{AreOfOneRun};
 
     /// Reads and counts until the end. Where it can read no more it hangs the pipe up.
+    #[tactic(auto, using(crate::proofs::CrewLemmas::answer_fits))]
     pub fn read_all<R: Wait>(self, rt: &R) -> Counted
-        ensures { (opts : ThreadsOpts) → IsTallyOf opts self.entry.tally
-            → IsTallyOf opts result.tally }
+        ensures { AreOfOneRun self.entry.tally result.tally }
     {
         let Reader {
             mut proc,
@@ -176,7 +174,7 @@ impl<'p> Crew<'p> {
     pub fn new(
         alloc: Global,
         opts: &ThreadsOpts,
-        roster: &mut Roster<'p>,
+        roster: Roster<'p>,
         proc: Proc<'p>,
         read: ReadEnd<'p>,
         writes: Vec<WriteEnd<'p>>,
@@ -184,10 +182,10 @@ impl<'p> Crew<'p> {
         requires { AreWithin opts.now }
         ensures { IfOk result (λ crew. IsTallyOf opts.now crew.reader.tally) }
     {
-        let mut proc = proc;
+        let (mut roster, mut proc) = (roster, proc);
         let mut writers = Vec::with_capacity(alloc, writes.len())?;
         for end in writes {
-            writers.push(Writer::new(alloc, opts, roster, &mut proc, end)?)?;
+            writers.push(Writer::new(alloc, opts, &mut roster, &mut proc, end)?)?;
         }
         let reader = Reader {
             proc,

@@ -74,7 +74,7 @@ pub struct Tally {
 impl Tally {
     ghost use Rattle.std.specs.Prelude.{◌≡◌, IfOk, true};
     ghost use Rattle.p9sync.specs.declared.opts.ThreadsOpts.{ThreadsOpts};
-    ghost use Rattle.p9sync.specs.Tally.{CountsNext, IsNewTally, IsTallyOf, Tells};
+    ghost use Rattle.p9sync.specs.Tally.{AreOfOneRun, CountsNext, IsNewTally, IsTallyOf, Tells};
     ghost use Rattle.p9sync.specs.Threads.{AreWithin, IsReportOf};
 
     /// Nothing was read.
@@ -98,7 +98,7 @@ impl Tally {
 
     /// Counts a piece that was read. What is out of order stays so.
     pub fn count(&mut self, piece: &[u8])
-        ensures of { (opts : ThreadsOpts) → IsTallyOf opts self.old → IsTallyOf opts self.new }
+        ensures run { AreOfOneRun self.old self.new }
         ensures counted { self.new.in_order ≡ true → CountsNext self.old self.new piece.now }
     {
         if self.in_order && self.writes < self.most && self.expected.take_next(piece) {

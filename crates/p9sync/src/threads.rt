@@ -3,12 +3,12 @@
 ghost use Rattle.std.specs.Prelude.{◌≡◌, IfOk, Err};
 ghost use Rattle.sync_base.specs.declared.fault.Fault.TheVariants.{BadArg};
 ghost use Rattle.p9sync.specs.Threads.{AreWithin, IsReportOf};
-ghost use Rattle.p9sync.specs.Tally.{IsTallyOf};
+ghost use Rattle.p9sync.specs.Tally.{AreOfOneRun, IsTallyOf};
 
 use crate::crew::{Counted, Crew, Writer};
 use crate::gate::Gate;
 use crate::opts::{Report, ThreadsOpts};
-use pipe_dev::{Ends, Pipe};
+use pipe_dev::{Ends, Parts, Pipe};
 use sleep_wakeup::{Kernel, Started};
 use std::alloc::Global;
 use std::sync::Wait;
@@ -47,8 +47,9 @@ pub fn run_threads<R: Threads + Wait + Sync, G: Gate + Sync>(
     let Started { mut roster, proc } = kernel.start(start);
     let pipe_dev::Opened { pipe, start } = Pipe::new(alloc, &mut roster, LIMIT, opts.writers)?;
     let Ends { first, second } = pipe.ends(start);
-    let (read, writes) = (first.parts().read, second.parts().writes);
-    let crew = Crew::new(alloc, &opts, &mut roster, proc, read, writes)?;
+    let Parts { read, writes: _ } = first.parts();
+    let Parts { read: _, writes } = second.parts();
+    let crew = Crew::new(alloc, &opts, roster, proc, read, writes)?;
     run_crew(rt, alloc, opts, gate, crew)
 }
 
@@ -63,6 +64,7 @@ impl Promise<Counted> for CountsBy {
 }
 
 // Runs each of the crew on a thread of its own, and joins them all.
+#[tactic(auto, using(crate::proofs::CrewLemmas::still_of))]
 fn run_crew<'p, R: Threads + Wait + Sync, G: Gate + Sync>(
     rt: &R,
     alloc: Global,
@@ -81,14 +83,13 @@ fn run_crew<'p, R: Threads + Wait + Sync, G: Gate + Sync>(
         rt,
         move |scope| -> Result<Report, Fault>
             requires { IsTallyOf opts reader.tally }
-            ensures { IfOk result (IsReportOf opts.entry) }
+            ensures { IfOk result (IsReportOf opts) }
         {
             let mut running = Vec::with_capacity(alloc, writers.len())?;
             let Ok(reading) = scope.spawn_with(
                 CountsBy(opts),
                 move || -> Counted
-                    requires { IsTallyOf opts reader.tally }
-                    ensures { IsTallyOf opts.entry result.tally }
+                    ensures { AreOfOneRun reader.entry.tally result.tally }
                 { reader.read_all(rt) },
             ) else {
                 return Err(Fault::Device);
