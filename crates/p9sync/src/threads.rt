@@ -63,12 +63,12 @@ impl Promise<Counted> for CountsBy {
 }
 
 // Runs each of the crew on a thread of its own, and joins them all.
-fn run_crew<'k, 'p, R: Threads + Wait + Sync, G: Gate + Sync>(
+fn run_crew<'p, R: Threads + Wait + Sync, G: Gate + Sync>(
     rt: &R,
     alloc: Global,
     opts: ThreadsOpts,
     gate: &G,
-    crew: Crew<'k, 'p>,
+    crew: Crew<'p>,
 ) -> Result<Report, Fault>
     requires { IsTallyOf opts crew.reader.tally }
     ensures { IfOk result (IsReportOf opts) }
@@ -113,13 +113,13 @@ fn run_crew<'k, 'p, R: Threads + Wait + Sync, G: Gate + Sync>(
 }
 
 // Writes, unless the run is called off.
-fn write_unless<'k, 'p, R: Wait, G: Gate>(
+fn write_unless<'p, R: Wait, G: Gate>(
     off: &AtomicBool,
     rt: &R,
     alloc: Global,
     gate: &G,
-    writer: Writer<'k, 'p>,
-) -> Writer<'k, 'p> {
+    writer: Writer<'p>,
+) -> Writer<'p> {
     if off.load(SeqCst) {
         return writer;
     }
@@ -127,9 +127,9 @@ fn write_unless<'k, 'p, R: Wait, G: Gate>(
 }
 
 // Waits for all writers, and then hangs the pipe up.
-fn join_writers<'k, 'p, R: Threads>(
+fn join_writers<'p, R: Threads>(
     rt: &R,
-    running: Vec<JoinHandle<Writer<'k, 'p>>>,
+    running: Vec<JoinHandle<Writer<'p>>>,
 ) -> Result<(), Fault> {
     let mut wrote = Ok(());
     let mut last = None;
@@ -138,7 +138,7 @@ fn join_writers<'k, 'p, R: Threads>(
         wrote = wrote.and(writer.wrote());
         last = Some(writer);
     }
-    if let Some(mut writer) = last {
+    if let Some(writer) = last {
         writer.hangup();
     }
     wrote
