@@ -1,4 +1,5 @@
 mod ArgsLemmas
+mod CrewLemmas
 mod DeviceLemmas
 mod DigitLemmas
 mod EventLineLemmas

@@ -1,6 +1,5 @@
 pub mod AnswerText
 pub mod Args
-pub mod Crew
 pub mod Device
 pub mod Digits
 pub mod EventText

@@ -1,5 +1,6 @@
 -- What the reader of a run on threads expects, and what it has counted.
-use Rattle.std.specs.Prelude.{◌≡◌, ◌+◌, ◌*◌, ◌<◌, ℕ, List, slice_get, slice_set, vec_len, Some}
+use Rattle.std.specs.Prelude.{◌≡◌, ◌+◌, ◌*◌, ◌<◌, ℕ, true, List, length, slice_get, slice_set, vec_len, Some}
+use Rattle.p9sync.specs.declared.opts.Report.{Report}
 use Rattle.p9sync.specs.declared.opts.ThreadsOpts.{ThreadsOpts}
 use Rattle.p9sync.specs.declared.tally.Tally.{Tally}
 use Rattle.p9sync.specs.Message.{message_of}
@@ -18,3 +19,29 @@ pub record TakesNext (each size : ℕ) (old new : List ℕ) (piece : List ℕ) :
 pub record IsTallyOf (opts : ThreadsOpts) (tally : Tally) : Type 0 where
   pub most : tally.most ≡ opts.writers * opts.writes
   pub size : vec_len tally.expected.message ≡ opts.size
+
+-- both count what the same writers write
+pub record AreOfOneRun (old new : Tally) : Type 0 where
+  pub most : new.most ≡ old.most
+  pub size : vec_len new.expected.message ≡ vec_len old.expected.message
+
+-- nothing was counted, and so nothing is out of order
+pub record IsNewTally (tally : Tally) : Type 0 where
+  pub writes : tally.writes ≡ 0
+  pub bytes : tally.bytes ≡ 0
+  pub in_order : tally.in_order ≡ true
+
+-- all was in order, and the piece is the next message of its writer, which is counted
+pub record CountsNext (old new : Tally) (piece : List ℕ) : Type 0 where
+  pub before : old.in_order ≡ true
+  pub next : TakesNext old.expected.each (vec_len old.expected.message) old.expected.next.items
+      new.expected.next.items piece
+  pub writes : new.writes ≡ old.writes + 1
+  pub bytes : new.bytes ≡ old.bytes + length piece
+
+-- the report says what was counted, of so many writers
+pub record Tells (writers : ℕ) (tally : Tally) (report : Report) : Type 0 where
+  pub writers_is : report.writers ≡ writers
+  pub writes : report.writes ≡ tally.writes
+  pub bytes : report.bytes ≡ tally.bytes
+  pub in_order : report.in_order ≡ tally.in_order

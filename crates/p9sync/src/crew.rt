@@ -1,6 +1,5 @@
 //! What each thread of a run does. Before this: `tally`. After it: `threads`.
-ghost use Rattle.std.specs.Prelude.{◌≡◌, ◌≤◌, vec_len};
-ghost use Rattle.pipe_dev.specs.Rendezes.{HasRow};
+ghost use Rattle.std.specs.Prelude.{◌≤◌, vec_len};
 ghost use Rattle.p9sync.specs.declared.message.TheConstants.{HEAD};
 
 use crate::gate::Gate;
@@ -15,33 +14,28 @@ use sync_base::{Fault, Flags};
 
 /// A writer, before and after it writes.
 #[derive(Drop)]
-pub struct Writer<'k, 'p> {
-    proc: Proc<'k>,
+pub struct Writer<'p> {
+    proc: Proc<'p>,
     end: WriteEnd<'p>,
     number: u64,
     writes: u64,
     message: Vec<u8>,
     wrote: Result<(), Fault>,
-    ghost there: { HasRow proc.words end.row },
     ghost head: { HEAD ≤ vec_len message },
 }
 
-impl<'k, 'p> Writer<'k, 'p> {
-    ghost use Rattle.std.specs.Prelude.{◌≡◌};
-    ghost use Rattle.pipe_dev.specs.Rendezes.{HasRow};
+impl<'p> Writer<'p> {
     ghost use Rattle.p9sync.specs.Threads.{AreWithin};
 
     // A new process with this end.
     fn new(
         alloc: Global,
         opts: &ThreadsOpts,
-        roster: &mut Roster<'k>,
-        parent: &mut Proc<'k>,
+        roster: &mut Roster<'p>,
+        parent: &mut Proc<'p>,
         end: WriteEnd<'p>,
-    ) -> Result<Writer<'k, 'p>, Fault>
-        requires within { AreWithin opts.now }
-        requires there { HasRow roster.old.words end.row }
-        ensures words { roster.new.words ≡ roster.old.words }
+    ) -> Result<Writer<'p>, Fault>
+        requires { AreWithin opts.now }
     {
         let Some(proc) = roster.rfork(parent, Flags::RFPROC)? else {
             return Err(Fault::NoProc);
@@ -57,7 +51,7 @@ impl<'k, 'p> Writer<'k, 'p> {
     }
 
     /// Writes its messages, one after the other, as far as the gate lets it.
-    pub fn write_all<R: Wait, G: Gate>(self, rt: &R, alloc: Global, gate: &G) -> Writer<'k, 'p> {
+    pub fn write_all<R: Wait, G: Gate>(self, rt: &R, alloc: Global, gate: &G) -> Writer<'p> {
         let Writer {
             mut proc,
             mut end,
@@ -86,25 +80,27 @@ impl<'k, 'p> Writer<'k, 'p> {
         }
     }
 
+    /// Hangs the pipe up.
+    pub fn hangup(self) {
+        let Writer {
+            mut proc, mut end, ..
+        } = self;
+        end.hangup(&mut proc);
+    }
+
     /// Why it wrote no more, if a write was refused.
     pub fn wrote(&self) -> Result<(), Fault> {
         self.wrote
-    }
-
-    /// Hangs the pipe up.
-    pub fn hangup(&mut self) {
-        self.end.hangup(&mut self.proc);
     }
 }
 
 /// The reader.
 #[derive(Drop)]
-pub struct Reader<'k, 'p> {
-    proc: Proc<'k>,
+pub struct Reader<'p> {
+    proc: Proc<'p>,
     end: ReadEnd<'p>,
     buffer: Vec<u8>,
     pub(crate) tally: Tally,
-    ghost there: { HasRow proc.words end.row },
 }
 
 /// What a reader has counted, and why it read no more, if it did not come to the end.
@@ -114,48 +110,47 @@ pub struct Counted {
     read: Result<(), Fault>,
 }
 
-impl<'k, 'p> Reader<'k, 'p> {
-    ghost use Rattle.std.specs.Prelude.{◌≡◌, IfOk};
-    ghost use Rattle.p9sync.specs.declared.opts.ThreadsOpts.{ThreadsOpts};
-    ghost use Rattle.p9sync.specs.Tally.{IsTallyOf};
-    ghost use Rattle.p9sync.specs.Threads.{AreWithin, IsReportOf};
+impl<'p> Reader<'p> {
+    ghost use Rattle.p9sync.specs.Tally.{AreOfOneRun};
 
     /// Reads and counts until the end. Where it can read no more it hangs the pipe up.
-    pub fn read_all<R: Wait>(mut self, rt: &R) -> Counted
-        ensures { (opts : ThreadsOpts) → IsTallyOf opts self.tally → IsTallyOf opts result.tally }
+    #[tactic(auto, using(crate::proofs::CrewLemmas::answer_fits))]
+    pub fn read_all<R: Wait>(self, rt: &R) -> Counted
+        ensures { AreOfOneRun self.entry.tally result.tally }
     {
+        let Reader {
+            mut proc,
+            mut end,
+            mut buffer,
+            mut tally,
+        } = self;
         let mut read = Ok(());
-        for _ in rt.forever() {
-            match self.end.read(rt, &mut self.proc, &mut self.buffer) {
-                Ok(ReadAnswer::Got(count)) => self.tally.count(&self.buffer[..count]),
+        'reading: for _ in rt.forever() {
+            match end.read(rt, &mut proc, &mut buffer) {
+                Ok(ReadAnswer::Got(count)) => tally.count(&buffer[..count]),
                 Ok(ReadAnswer::End) => break,
                 Err(fault) => {
-                    self.end.hangup(&mut self.proc);
+                    end.hangup(&mut proc);
                     read = Err(fault);
                     break;
                 }
             }
         }
-        let Reader {
-            proc: _,
-            end: _,
-            buffer: _,
-            tally,
-        } = self;
         Counted { tally, read }
     }
 }
 
 impl Counted {
-    ghost use Rattle.std.specs.Prelude.{◌≡◌, IfOk};
-    ghost use Rattle.p9sync.specs.declared.opts.ThreadsOpts.{ThreadsOpts};
-    ghost use Rattle.p9sync.specs.Tally.{IsTallyOf};
-    ghost use Rattle.p9sync.specs.Threads.{AreWithin, IsReportOf};
+    ghost use Rattle.std.specs.Prelude.{◌≡◌, Err, IfOk, IfErr};
+    ghost use Rattle.p9sync.specs.Tally.{IsTallyOf, Tells};
+    ghost use Rattle.p9sync.specs.Threads.{IsReportOf};
 
     /// What was read up to the end, or why it did not come to the end.
     pub fn report(&self, opts: &ThreadsOpts) -> Result<Report, Fault>
         requires { IsTallyOf opts.now self.now.tally }
-        ensures { IfOk result (IsReportOf opts.now) }
+        ensures fault { IfErr self.now.read (λ fault. result ≡ Err fault) }
+        ensures told { IfOk result (Tells opts.now.writers self.now.tally) }
+        ensures of { IfOk result (IsReportOf opts.now) }
     {
         self.read?;
         Ok(self.tally.report(opts.writers))
@@ -164,39 +159,33 @@ impl Counted {
 
 /// Who takes part in a run.
 #[derive(Drop)]
-pub struct Crew<'k, 'p> {
-    pub reader: Reader<'k, 'p>,
-    pub writers: Vec<Writer<'k, 'p>>,
+pub struct Crew<'p> {
+    pub reader: Reader<'p>,
+    pub writers: Vec<Writer<'p>>,
 }
 
-impl<'k, 'p> Crew<'k, 'p> {
-    ghost use Rattle.std.specs.Prelude.{◌≡◌, IfOk};
-    ghost use Rattle.p9sync.specs.declared.opts.ThreadsOpts.{ThreadsOpts};
+impl<'p> Crew<'p> {
+    ghost use Rattle.std.specs.Prelude.{IfOk};
     ghost use Rattle.p9sync.specs.Tally.{IsTallyOf};
-    ghost use Rattle.p9sync.specs.Threads.{AreWithin, IsReportOf};
-    ghost use Rattle.pipe_dev.specs.Rendezes.{HasRow};
-    ghost use Rattle.p9sync.specs.Crew.{AreThere};
+    ghost use Rattle.p9sync.specs.Threads.{AreWithin};
 
     /// A reader at one end, and as many writers as there are at the other, each a process. All
     /// memory but that of the writes is taken here.
     pub fn new(
         alloc: Global,
         opts: &ThreadsOpts,
-        roster: &mut Roster<'k>,
-        proc: Proc<'k>,
+        roster: Roster<'p>,
+        proc: Proc<'p>,
         read: ReadEnd<'p>,
         writes: Vec<WriteEnd<'p>>,
-    ) -> Result<Crew<'k, 'p>, Fault>
-        requires within { AreWithin opts.now }
-        requires kernel { proc.words ≡ roster.old.words }
-        requires read { HasRow roster.old.words read.row }
-        requires writes { AreThere roster.old.words writes.items }
+    ) -> Result<Crew<'p>, Fault>
+        requires { AreWithin opts.now }
         ensures { IfOk result (λ crew. IsTallyOf opts.now crew.reader.tally) }
     {
-        let mut proc = proc;
+        let (mut roster, mut proc) = (roster, proc);
         let mut writers = Vec::with_capacity(alloc, writes.len())?;
-        'seating: for end in writes {
-            writers.push(Writer::new(alloc, opts, roster, &mut proc, end)?)?;
+        for end in writes {
+            writers.push(Writer::new(alloc, opts, &mut roster, &mut proc, end)?)?;
         }
         let reader = Reader {
             proc,

@@ -72,15 +72,16 @@ pub struct Tally {
 }
 
 impl Tally {
-    ghost use Rattle.std.specs.Prelude.{◌≡◌, IfOk};
+    ghost use Rattle.std.specs.Prelude.{◌≡◌, IfOk, true};
     ghost use Rattle.p9sync.specs.declared.opts.ThreadsOpts.{ThreadsOpts};
-    ghost use Rattle.p9sync.specs.Tally.{IsTallyOf};
+    ghost use Rattle.p9sync.specs.Tally.{AreOfOneRun, CountsNext, IsNewTally, IsTallyOf, Tells};
     ghost use Rattle.p9sync.specs.Threads.{AreWithin, IsReportOf};
 
     /// Nothing was read.
     pub fn new(alloc: Global, opts: &ThreadsOpts) -> Result<Tally, AllocError>
         requires { AreWithin opts.now }
-        ensures { IfOk result (IsTallyOf opts.now) }
+        ensures of { IfOk result (IsTallyOf opts.now) }
+        ensures empty { IfOk result IsNewTally }
     {
         Ok(Tally {
             writes: 0,
@@ -95,9 +96,10 @@ impl Tally {
         })
     }
 
-    /// Counts a piece that was read.
+    /// Counts a piece that was read. What is out of order stays so.
     pub fn count(&mut self, piece: &[u8])
-        ensures { (opts : ThreadsOpts) → IsTallyOf opts self.old → IsTallyOf opts self.new }
+        ensures run { AreOfOneRun self.old self.new }
+        ensures counted { self.new.in_order ≡ true → CountsNext self.old self.new piece.now }
     {
         if self.in_order && self.writes < self.most && self.expected.take_next(piece) {
             self.writes += 1;
@@ -111,7 +113,8 @@ impl Tally {
 
     /// What was read, of so many writers.
     pub fn report(&self, writers: u64) -> Report
-        ensures { (opts : ThreadsOpts) → opts.writers ≡ writers → IsTallyOf opts self.now
+        ensures told { Tells writers self.now result }
+        ensures of { (opts : ThreadsOpts) → opts.writers ≡ writers → IsTallyOf opts self.now
             → IsReportOf opts result }
     {
         Report {

@@ -3,12 +3,12 @@
 ghost use Rattle.std.specs.Prelude.{◌≡◌, IfOk, Err};
 ghost use Rattle.sync_base.specs.declared.fault.Fault.TheVariants.{BadArg};
 ghost use Rattle.p9sync.specs.Threads.{AreWithin, IsReportOf};
-ghost use Rattle.p9sync.specs.Tally.{IsTallyOf};
+ghost use Rattle.p9sync.specs.Tally.{AreOfOneRun, IsTallyOf};
 
 use crate::crew::{Counted, Crew, Writer};
 use crate::gate::Gate;
 use crate::opts::{Report, ThreadsOpts};
-use pipe_dev::{Ends, Pipe};
+use pipe_dev::{Ends, Parts, Pipe};
 use sleep_wakeup::{Kernel, Started};
 use std::alloc::Global;
 use std::sync::Wait;
@@ -47,8 +47,9 @@ pub fn run_threads<R: Threads + Wait + Sync, G: Gate + Sync>(
     let Started { mut roster, proc } = kernel.start(start);
     let pipe_dev::Opened { pipe, start } = Pipe::new(alloc, &mut roster, LIMIT, opts.writers)?;
     let Ends { first, second } = pipe.ends(start);
-    let (read, writes) = (first.parts().read, second.parts().writes);
-    let crew = Crew::new(alloc, &opts, &mut roster, proc, read, writes)?;
+    let Parts { read, writes: _ } = first.parts();
+    let Parts { read: _, writes } = second.parts();
+    let crew = Crew::new(alloc, &opts, roster, proc, read, writes)?;
     run_crew(rt, alloc, opts, gate, crew)
 }
 
@@ -63,29 +64,32 @@ impl Promise<Counted> for CountsBy {
 }
 
 // Runs each of the crew on a thread of its own, and joins them all.
-fn run_crew<'k, 'p, R: Threads + Wait + Sync, G: Gate + Sync>(
+#[tactic(auto, using(crate::proofs::CrewLemmas::still_of))]
+fn run_crew<'p, R: Threads + Wait + Sync, G: Gate + Sync>(
     rt: &R,
     alloc: Global,
     opts: ThreadsOpts,
     gate: &G,
-    crew: Crew<'k, 'p>,
+    crew: Crew<'p>,
 ) -> Result<Report, Fault>
     requires { IsTallyOf opts crew.reader.tally }
     ensures { IfOk result (IsReportOf opts) }
 {
     let Crew { reader, writers } = crew;
-    let mut running = Vec::with_capacity(alloc, writers.len())?;
     let called_off = AtomicBool::new(false);
     let off = &called_off;
     thread::scope(
         thread::scope_env(),
         rt,
-        move |scope| -> Result<Report, Fault> {
+        move |scope| -> Result<Report, Fault>
+            requires { IsTallyOf opts reader.tally }
+            ensures { IfOk result (IsReportOf opts) }
+        {
+            let mut running = Vec::with_capacity(alloc, writers.len())?;
             let Ok(reading) = scope.spawn_with(
                 CountsBy(opts),
                 move || -> Counted
-                    requires { IsTallyOf opts reader.tally }
-                    ensures { IsTallyOf opts.entry result.tally }
+                    ensures { AreOfOneRun reader.entry.tally result.tally }
                 { reader.read_all(rt) },
             ) else {
                 return Err(Fault::Device);
@@ -113,13 +117,13 @@ fn run_crew<'k, 'p, R: Threads + Wait + Sync, G: Gate + Sync>(
 }
 
 // Writes, unless the run is called off.
-fn write_unless<'k, 'p, R: Wait, G: Gate>(
+fn write_unless<'p, R: Wait, G: Gate>(
     off: &AtomicBool,
     rt: &R,
     alloc: Global,
     gate: &G,
-    writer: Writer<'k, 'p>,
-) -> Writer<'k, 'p> {
+    writer: Writer<'p>,
+) -> Writer<'p> {
     if off.load(SeqCst) {
         return writer;
     }
@@ -127,9 +131,9 @@ fn write_unless<'k, 'p, R: Wait, G: Gate>(
 }
 
 // Waits for all writers, and then hangs the pipe up.
-fn join_writers<'k, 'p, R: Threads>(
+fn join_writers<'p, R: Threads>(
     rt: &R,
-    running: Vec<JoinHandle<Writer<'k, 'p>>>,
+    running: Vec<JoinHandle<Writer<'p>>>,
 ) -> Result<(), Fault> {
     let mut wrote = Ok(());
     let mut last = None;
@@ -138,7 +142,7 @@ fn join_writers<'k, 'p, R: Threads>(
         wrote = wrote.and(writer.wrote());
         last = Some(writer);
     }
-    if let Some(mut writer) = last {
+    if let Some(writer) = last {
         writer.hangup();
     }
     wrote

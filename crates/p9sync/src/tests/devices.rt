@@ -14,6 +14,19 @@ const SCRIPT: &[u8] = b"limit 2\nwrite 0 616263\nread 8\nfrob\n";
 
 const ANSWERS: &[u8] = b"taken\ngot 616263\n";
 
+const THREADS: [&str; 8] = [
+    "p9sync",
+    "threads",
+    "--writers",
+    "2",
+    "--writes",
+    "3",
+    "--size",
+    "16",
+];
+
+const REPORT: &[u8] = b"writers 2 writes 6 bytes 96 in order\n";
+
 const SCRIPT_FAULT: &[u8] = b"p9sync: script fault at line 4\n";
 
 const DEVICE_FAULT: &[u8] = b"p9sync: device fault\n";
@@ -357,6 +370,49 @@ fn a_failing_error_stream_changes_nothing(rt: HostRuntime) {
             assert_eq!(rt; from, SCRIPT);
         }
     }
+}
+
+#[test]
+fn a_report_that_is_not_written_whole_is_a_device_fault(rt: HostRuntime) {
+    let alloc = rt.alloc();
+    for call in 1..4 {
+        let mut from = reading(SCRIPT, 20, NEVER);
+        let failing = Failing::at(call, ErrorKind::StorageFull);
+        let mut out = writing(alloc, Takes::AtMost(10), failing, NEVER);
+        let mut err = Vec::new(alloc);
+        let status = run_args(&rt, alloc, &THREADS, &mut from, &mut out, &mut err);
+        assert_eq!(rt; status, 1, "write {call}");
+        assert_eq!(rt; err.as_slice(), DEVICE_FAULT);
+        assert_eq!(rt; out.held.as_slice(), &REPORT[..10 * (call - 1)]);
+        assert_eq!(rt; from.calls, 0);
+    }
+}
+
+#[test]
+fn a_report_is_flushed_and_its_write_tried_again(rt: HostRuntime) {
+    let alloc = rt.alloc();
+    let failing = Failing {
+        first: 2,
+        times: 3,
+        kind: ErrorKind::Interrupted,
+    };
+    let mut from = SCRIPT;
+    let mut out = writing(alloc, Takes::AtMost(10), failing, failing);
+    let mut err = Vec::new(alloc);
+    let status = run_args(&rt, alloc, &THREADS, &mut from, &mut out, &mut err);
+    assert_eq!(rt; status, 0);
+    assert_eq!(rt; out.held.as_slice(), REPORT);
+    assert!(rt; out.is_flushed);
+    assert!(rt; err.is_empty());
+    let mut out = writing(
+        alloc,
+        Takes::AtMost(64),
+        NEVER,
+        Failing::at(1, ErrorKind::BrokenPipe),
+    );
+    let status = run_args(&rt, alloc, &THREADS, &mut from, &mut out, &mut err);
+    assert_eq!(rt; status, 1);
+    assert_eq!(rt; err.as_slice(), DEVICE_FAULT);
 }
 
 #[test]

@@ -89,9 +89,10 @@ fn all_that_is_written_is_read_in_order(rt: HostRuntime) -> Result<(), Fail> {
         (64, 40, 16),
     ] {
         let report = run_threads(&rt, rt.alloc(), opts(writers, writes, size), &OpenGate);
+        let all = writers.wrapping_mul(writes);
         assert_eq!(rt;
             report,
-            in_order(writers, writers * writes, writers * writes * size),
+            in_order(writers, all, all.wrapping_mul(size)),
             "{writers} writers of {writes} writes of {size} bytes"
         );
     }
@@ -107,7 +108,7 @@ fn writers_run_at_once(rt: HostRuntime) -> Result<(), Fail> {
             missed: AtomicU64::new(0),
         };
         let report = run_threads(&rt, rt.alloc(), opts(writers, 1, 16), &gate);
-        assert_eq!(rt; report, in_order(writers, writers, writers * 16));
+        assert_eq!(rt; report, in_order(writers, writers, writers.wrapping_mul(16)));
         assert_eq!(rt; gate.missed.load(SeqCst), 0);
     }
     Ok(())
