@@ -25,7 +25,7 @@ use Rattle.tag_space.specs.Rendezvous.{Entry, Space, rendezvous, IsAnswered, IsR
 use Rattle.tag_space.specs.Rendezvous.Stage.{Over}
 use Rattle.tag_space.specs.Walk.{Asks}
 use Rattle.tag_space.proofs.OtherLemmas.{NoneBy, none_by, over_still}
-use Rattle.tag_space.specs.declared.place.TheConstants.{LAST_MEETING}
+use Rattle.tag_space.specs.declared.limits.TheConstants.{LAST_MEETING}
 use Rattle.tag_space.proofs.CountLemmas.{fits_counts}
 use Rattle.tag_space.proofs.PromiseLemmas.{state_is_past}
 use Rattle.tag_space.proofs.SpaceLemmas.{groups_are_spaces}

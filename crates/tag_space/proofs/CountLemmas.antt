@@ -10,7 +10,7 @@ use Rattle.tag_space.specs.declared.calls.GroupCall.{GroupCall}
 use Rattle.tag_space.specs.declared.calls.GroupCall.TheVariants.{Call, Collect, Leave}
 use Rattle.tag_space.specs.declared.calls.GroupReply.{GroupReply}
 use Rattle.tag_space.specs.declared.calls.GroupReply.TheVariants.{Met, WasMet, Wait, Gone}
-use Rattle.tag_space.specs.declared.place.TheConstants.{LAST_MEETING}
+use Rattle.tag_space.specs.declared.limits.TheConstants.{LAST_MEETING}
 use Rattle.tag_space.specs.Rendezvous.{Entry, Space, Offer, Pair, Stage, stage_of, pairs_of}
 use Rattle.tag_space.specs.Rendezvous.{count_of, found_by, pair_with, rendezvous, IsAnswered, IsRight}
 use Rattle.tag_space.specs.Rendezvous.Stage.{Over, Waits, Paired}

@@ -9,7 +9,7 @@ use Rattle.sync_base.specs.declared.ids.Tag.{Tag}
 use Rattle.tag_space.specs.declared.place.Standing.{Standing}
 use Rattle.tag_space.specs.declared.place.Standing.TheVariants.{Idle, Waiting, Met}
 use Rattle.tag_space.specs.declared.place.Place.{Place}
-use Rattle.tag_space.specs.declared.place.TheConstants.{LAST_MEETING}
+use Rattle.tag_space.specs.declared.limits.TheConstants.{LAST_MEETING}
 use Rattle.tag_space.specs.declared.calls.GroupCall.TheVariants.{Call}
 use Rattle.tag_space.specs.declared.calls.GroupReply.TheVariants as reply
 use Rattle.tag_space.specs.Group.{place_of, fresh_place, put, waiter_of, may_call}

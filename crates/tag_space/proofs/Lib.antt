@@ -1,6 +1,7 @@
 mod AnswerLemmas
 mod GroupLemmas
 mod LineLemmas
+mod RunLemmas
 mod TableLemmas
 mod SpaceLemmas
 mod PromiseLemmas

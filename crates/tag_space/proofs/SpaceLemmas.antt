@@ -23,7 +23,7 @@ use Rattle.tag_space.specs.declared.calls.GroupReply.TheVariants as reply
 use Rattle.tag_space.specs.declared.place.Standing.{Standing}
 use Rattle.tag_space.specs.declared.place.Standing.TheVariants.{Idle, Waiting, Met}
 use Rattle.tag_space.specs.declared.place.Place.{Place}
-use Rattle.tag_space.specs.declared.place.TheConstants.{LAST_MEETING}
+use Rattle.tag_space.specs.declared.limits.TheConstants.{LAST_MEETING}
 use Rattle.tag_space.specs.Group.{place_of, fresh_place, put, waits_with, waiter_of, may_call, is_idle}
 use Rattle.tag_space.specs.Group.{answer_to, places_after, answer_to_call, after_call, value_given}
 use Rattle.tag_space.specs.Group.{opening, answer_to_collect, answer_to_leave, after_collect}

@@ -9,7 +9,7 @@ use Rattle.sync_base.specs.declared.ids.RendezId.{RendezId}
 use Rattle.tag_space.specs.declared.calls.GroupCall.TheVariants.{Collect}
 use Rattle.tag_space.specs.declared.calls.GroupReply.TheVariants.{Wait}
 use Rattle.tag_space.specs.declared.member.Member.{Member}
-use Rattle.tag_space.specs.declared.place.TheConstants.{LAST_MEETING}
+use Rattle.tag_space.specs.declared.limits.TheConstants.{LAST_MEETING}
 use Rattle.tag_space.specs.declared.space.TagSpace.{TagSpace}
 use Rattle.tag_space.specs.Members.{IsOneOf, IsSameMember, number_of, rendez_of_member}
 use Rattle.tag_space.specs.Walk.{Point, Caller, own_rendez, SleptWell, SleptBadly, Asked, HasWaited}

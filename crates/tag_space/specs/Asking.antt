@@ -8,7 +8,7 @@ use Rattle.tag_space.specs.declared.asking.Left.{Left}
 use Rattle.tag_space.specs.declared.asking.Left.TheVariants as left
 use Rattle.tag_space.specs.declared.calls.GroupReply.{GroupReply}
 use Rattle.tag_space.specs.declared.calls.GroupReply.TheVariants as reply
-use Rattle.tag_space.specs.declared.place.TheConstants.{LAST_MEETING}
+use Rattle.tag_space.specs.declared.limits.TheConstants.{LAST_MEETING}
 use Rattle.tag_space.specs.declared.space.TagSpace.{TagSpace}
 
 -- the reply of the space

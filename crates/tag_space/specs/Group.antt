@@ -14,7 +14,7 @@ use Rattle.tag_space.specs.declared.calls.GroupReply.TheVariants as reply
 use Rattle.tag_space.specs.declared.place.Standing.{Standing}
 use Rattle.tag_space.specs.declared.place.Standing.TheVariants.{Idle, Waiting, Met}
 use Rattle.tag_space.specs.declared.place.Place.{Place}
-use Rattle.tag_space.specs.declared.place.TheConstants.{LAST_MEETING}
+use Rattle.tag_space.specs.declared.limits.TheConstants.{LAST_MEETING}
 
 -- a member that never called
 abbrev pub fresh_place : ℕ → Place

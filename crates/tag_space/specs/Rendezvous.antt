@@ -12,7 +12,7 @@ use Rattle.tag_space.specs.declared.calls.GroupCall.TheVariants.{Call, Collect, 
 use Rattle.tag_space.specs.declared.calls.GroupReply.{GroupReply}
 use Rattle.tag_space.specs.declared.calls.GroupReply.TheVariants.{Met, WasMet, Wait, Worn}
 use Rattle.tag_space.specs.declared.calls.GroupReply.TheVariants.{Gone, Busy}
-use Rattle.tag_space.specs.declared.place.TheConstants.{LAST_MEETING}
+use Rattle.tag_space.specs.declared.limits.TheConstants.{LAST_MEETING}
 
 -- a call with its reply, and the number of the seat that made it
 abbrev pub Entry : Type 0

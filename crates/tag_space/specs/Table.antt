@@ -5,7 +5,7 @@ use Rattle.sync_base.specs.declared.ids.Tag.{Tag}
 use Rattle.tag_space.specs.declared.place.Standing.{Standing}
 use Rattle.tag_space.specs.declared.place.Standing.TheVariants.{Idle, Waiting, Met}
 use Rattle.tag_space.specs.declared.place.Place.{Place}
-use Rattle.tag_space.specs.declared.place.TheConstants.{LAST_MEETING}
+use Rattle.tag_space.specs.declared.limits.TheConstants.{LAST_MEETING}
 use Rattle.tag_space.specs.Group.{place_of, waits_with}
 
 -- a tag, and the member that waits with it

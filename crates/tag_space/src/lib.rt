@@ -1,7 +1,7 @@
 //! Rendezvous in tag spaces, after rendezvous(2): two members of a space that call with one tag
-//! exchange their values. Read `calls`, what a member asks and is answered, `place`, what is kept
-//! of a member, `group_object`, the space as an object for one thread; then `member`, `space`,
-//! `asking`, `meeting` and `forking`, the space between threads; and then `laws`.
+//! exchange their values. Read `calls`, what a member asks and is answered, `limits`, `place`, what
+//! is kept of a member, `group_object`, the space as an object for one thread; then `member`,
+//! `space`, `asking`, `meeting` and `forking`, the space between threads; and then `laws`.
 #![tactic(auto)]
 
 mod asking;
@@ -9,6 +9,8 @@ pub mod calls;
 pub mod forking;
 pub mod group_object;
 pub mod laws;
+pub mod limits;
+mod lines;
 pub mod meeting;
 pub mod member;
 pub mod place;

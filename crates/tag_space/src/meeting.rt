@@ -2,7 +2,7 @@
 ghost use Rattle.std.specs.Prelude.{◌≡◌, ◌+◌, ◌<◌, ◌≤◌};
 ghost use Rattle.rendez_words.specs.Words.{rendez_of};
 ghost use Rattle.sleep_wakeup.specs.Calls.{WhyNotSlept, Wakes};
-ghost use Rattle.tag_space.specs.declared.place.TheConstants.{LAST_MEETING};
+ghost use Rattle.tag_space.specs.declared.limits.TheConstants.{LAST_MEETING};
 ghost use Rattle.tag_space.specs.Members.{IsMemberOf, IsOneOf, IsSameMember, HasRow};
 ghost use Rattle.tag_space.specs.Members.{space_of, account_of, number_of, seen_of};
 ghost use Rattle.tag_space.specs.Outcome.{Exchange};

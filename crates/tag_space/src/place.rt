@@ -1,11 +1,9 @@
-//! What a tag space keeps of a member. Before this: `calls`. After it: `group_object`.
+//! What a tag space keeps of a member. Before this: `limits`. After it: `group_object`.
 ghost use Rattle.std.specs.Prelude.{◌≡◌, ◌+◌, ◌<◌};
 ghost use Rattle.tag_space.specs.Group.{value_given};
 
+use crate::limits::LAST_MEETING;
 use sync_base::Tag;
-
-/// The last count of meetings. A member with this count can still find another, but waits no more.
-pub const LAST_MEETING: u64 = u64::MAX - 1;
 
 /// What became of the member's last call that had to wait.
 #[derive(Clone, Copy, Debug, PartialEq, Eq)]

@@ -2,7 +2,7 @@
 //! the program. Where memory was refused a space is asked for again, so the same tests serve with
 //! each allocation failing in turn.
 ghost use Rattle.std.specs.Prelude.{◌≤◌};
-ghost use Rattle.tag_space.specs.declared.place.TheConstants.{LAST_MEETING};
+ghost use Rattle.tag_space.specs.declared.limits.TheConstants.{LAST_MEETING};
 
 mod crowd;
 mod forks;
@@ -12,7 +12,7 @@ mod pages;
 mod scene;
 mod spaces;
 
-use crate::place::LAST_MEETING;
+use crate::limits::LAST_MEETING;
 use crate::{GroupCall, GroupObject, GroupReply};
 use std::alloc::Global;
 use std::process::Abort;

@@ -3,4 +3,4 @@ use Rattle.tag_space.proofs.group_object.GroupObject.waiting.Goals as goal
 
 -- the lines of the table are the calls that wait
 pub returns : goal.returns
-returns c = rw (← c.self.view_is, c.deref.ensures.value) (lists_waiting _ _ c.self.invariant.lines)
+returns c = rw (← c.self.view_is, c.as_slice.ensures) (lists_waiting _ _ c.self.invariant.lines)

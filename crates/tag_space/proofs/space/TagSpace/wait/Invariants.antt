@@ -1,6 +1,6 @@
 -- the member has waited since it was told its first count
 use Rattle.std.proofs.Common.{◌≡◌, ◌≤◌}
-use Rattle.tag_space.specs.declared.place.TheConstants.{LAST_MEETING}
+use Rattle.tag_space.specs.declared.limits.TheConstants.{LAST_MEETING}
 use Rattle.tag_space.specs.Members.{IsOneOf, IsSameMember}
 use Rattle.tag_space.specs.Walk.{HasWaited, at_point, caller_of}
 use Rattle.tag_space.proofs.space.TagSpace.wait.Given as goal
