@@ -11,9 +11,16 @@ use std::process::Abort;
 use std::test::Fail;
 use sync_base::{Fault, Pid};
 
+mod acquires;
+mod crowd;
+mod member;
+mod opened;
+mod opens;
+mod pages;
 mod plain_sema;
 mod plain_timers;
 mod random;
+mod times;
 
 // A semaphore. Where memory is refused it is made once more.
 fn sema_of(alloc: Global, value: u32, procs: u64, count: u64) -> Result<SemaObject, Fault>
