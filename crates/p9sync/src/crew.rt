@@ -17,7 +17,7 @@ use sync_base::{Fault, Flags};
 pub struct Writer<'p> {
     proc: Proc<'p>,
     end: WriteEnd<'p>,
-    number: u64,
+    pub(crate) number: u64,
     writes: u64,
     message: Vec<u8>,
     wrote: Result<(), Fault>,
@@ -25,6 +25,7 @@ pub struct Writer<'p> {
 }
 
 impl<'p> Writer<'p> {
+    ghost use Rattle.std.specs.Prelude.{◌≡◌};
     ghost use Rattle.p9sync.specs.Threads.{AreWithin};
 
     // A new process with this end.
@@ -51,7 +52,9 @@ impl<'p> Writer<'p> {
     }
 
     /// Writes its messages, one after the other, as far as the gate lets it.
-    pub fn write_all<R: Wait, G: Gate>(self, rt: &R, alloc: Global, gate: &G) -> Writer<'p> {
+    pub fn write_all<R: Wait, G: Gate>(self, rt: &R, alloc: Global, gate: &G) -> Writer<'p>
+        ensures { result.number ≡ self.entry.number }
+    {
         let Writer {
             mut proc,
             mut end,

@@ -96,7 +96,11 @@ fn run_crew<'p, R: Threads + Wait + Sync, G: Gate + Sync>(
             };
             let mut started = Ok(());
             for writer in writers {
-                match scope.spawn(move || write_unless(off, rt, alloc, gate, writer)) {
+                match scope.spawn(
+                    move || -> Writer
+                        ensures { result.number ≡ writer.entry.number }
+                    { write_unless(off, rt, alloc, gate, writer) },
+                ) {
                     Ok(handle) => running.push_reserved(handle),
                     Err(refused) => {
                         off.store(true, SeqCst);
@@ -123,7 +127,9 @@ fn write_unless<'p, R: Wait, G: Gate>(
     alloc: Global,
     gate: &G,
     writer: Writer<'p>,
-) -> Writer<'p> {
+) -> Writer<'p>
+    ensures { result.number ≡ writer.entry.number }
+{
     if off.load(SeqCst) {
         return writer;
     }

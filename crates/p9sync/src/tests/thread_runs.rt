@@ -81,12 +81,12 @@ fn in_order(writers: u64, writes: u64, bytes: u64) -> Result<Report, Fault> {
 fn all_that_is_written_is_read_in_order(rt: HostRuntime) -> Result<(), Fail> {
     for (writers, writes, size) in [
         (1, 1, 16),
-        (1, 2_000, 16),
-        (2, 1_000, 17),
-        (4, 1_000, 16),
-        (4, 300, 8_192),
-        (16, 100, 271),
-        (64, 40, 16),
+        (1, 500, 16),
+        (2, 250, 17),
+        (4, 250, 16),
+        (4, 50, 8_192),
+        (16, 25, 271),
+        (64, 8, 16),
     ] {
         let report = run_threads(&rt, rt.alloc(), opts(writers, writes, size), &OpenGate);
         let all = writers.wrapping_mul(writes);

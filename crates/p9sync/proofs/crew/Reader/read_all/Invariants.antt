@@ -3,4 +3,4 @@ use Rattle.p9sync.specs.Tally.{AreOfOneRun}
 use Rattle.p9sync.proofs.crew.Reader.read_all.Given as goal
 
 abbrev pub invariant-reading : goal.invariant-reading
-invariant-reading l = AreOfOneRun l.fn.self.tally l.tally
+invariant-reading g l = AreOfOneRun l.fn.self.tally l.tally
