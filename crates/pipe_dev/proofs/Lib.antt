@@ -11,3 +11,4 @@ pub mod ChainLemmas
 pub mod WaitLemmas
 pub mod WorkedPipes
 pub mod KernelLemmas
+pub mod LoneLemmas
