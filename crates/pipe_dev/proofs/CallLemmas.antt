@@ -38,15 +38,19 @@ pub read_fails : (words words' : Words) (key : Key) (row : Row) (old between : R
     → FindsNotYet key number old between
     → WhyNotSlept words' between.process rendez number after why
     → FailsForWrite key row old why (record between { process = after })
-read_fails words words' key row old between number rendez after why first has words_are is found told =
+read_fails words words' key row old between number rendez after why first has words_are is found
+    told =
     record {
       number = number;
       found = found_before key number old between after found;
       failed = fails_asleep words old.process (reader_rendez row) number after why
-          (omega (arith, has)) (not_yet_low key number old.account between.account first found.none.entered)
-          (subst (λ (w : Words). WhyNotSlept w old.process (reader_rendez row) number after why) words_are
+          (omega (arith, has))
+          (not_yet_low key number old.account between.account first found.none.entered)
+          (subst (λ (w : Words). WhyNotSlept w old.process (reader_rendez row) number after why)
+          words_are
           (subst (λ (r : RendezId). WhyNotSlept words' old.process r number after why) is
-          (subst (λ (p : Process). WhyNotSlept words' p rendez number after why) found.none.process told)));
+          (subst (λ (p : Process). WhyNotSlept words' p rendez number after why) found.none.process
+          told)));
     }
 
 -- such a fault is answered by no other step of a write
@@ -79,7 +83,8 @@ pub write_fails : (words : Words) (key : Key) (row : Row) (writer : ℕ) (block 
     → WhyNotSlept words old.process rendez number after why
     → EndsWrite key row writer block old (Err why) (record { account = account; process = after })
     × IsAsked (Err why)
-write_fails words key row writer block old account number rendez after why first has writer_in is found told =
+write_fails words key row writer block old account number rendez after why first has writer_in is
+    found told =
     failed_write key row writer block old why (record { account = account; process = after })
     record {
       number = number;

@@ -1,5 +1,6 @@
 -- What the ends of a direction were, and what a finish gives.
-use Rattle.std.proofs.Common.{◌≡◌, ℕ, List, [], ◌∷◌, length, map, Option, Some, refl, sym, ◌∙◌, ap, subst, arith}
+use Rattle.std.proofs.Common.{◌≡◌, ℕ, List, [], ◌∷◌, length, map, Option, Some, refl, sym, ◌∙◌, ap}
+use Rattle.std.proofs.Common.{subst, arith}
 use Rattle.std.specs.List.{AllByRecursion}
 use Rattle.block_queue.specs.declared.gather.Gathered.{Gathered}
 use Rattle.block_queue.specs.declared.queue.Queue.{Queue}
@@ -9,10 +10,12 @@ use Rattle.block_queue.specs.Seats.{IsPutSeatOf, key_of, take_account}
 use Rattle.pipe_dev.specs.declared.closing.Held.{Held}
 use Rattle.pipe_dev.specs.declared.hand.ReadHand.{ReadHand}
 use Rattle.pipe_dev.specs.declared.row.Row.{Row}
-use Rattle.pipe_dev.specs.Ends.{ReadSide, WriteSide, AreAllEnds, IsReadHand, HasReadHand, account_in, rest_in}
+use Rattle.pipe_dev.specs.Ends.{ReadSide, WriteSide, AreAllEnds, IsReadHand, HasReadHand}
+use Rattle.pipe_dev.specs.Ends.{account_in, rest_in}
 use Rattle.pipe_dev.specs.Finishing.{GivesHeld, rest_bytes}
 use Rattle.pipe_dev.specs.Seating.{IsHandOf, AreSeatsOf, side_of}
-use Rattle.pipe_dev.proofs.SeatingLemmas.{seats_back, hands_put, hands_none, sides_back, numbers_back, shares_back, same_entries}
+use Rattle.pipe_dev.proofs.SeatingLemmas.{seats_back, hands_put, hands_none, sides_back}
+use Rattle.pipe_dev.proofs.SeatingLemmas.{numbers_back, shares_back, same_entries}
 
 -- the read end of this hand
 abbrev pub read_side : Queue → Row → ReadHand → ReadSide
@@ -57,18 +60,21 @@ module _ (queue : Queue) (row : Row) (hand : ReadHand) (read : ReadSide)
   pub their_sides : (ends : List WriteSide) (again : List PutSeat) → again ≡ seats
       → ends ≡ map (side_of queue row) again → ends ≡ writes
   their_sides ends again same is =
-      is ∙ (ap (map (side_of queue row)) same ∙ sides_back (read_side queue row hand) writes seats all_of_hand.one are)
+      is ∙ (ap (map (side_of queue row)) same
+      ∙ sides_back (read_side queue row hand) writes seats all_of_hand.one are)
 
   pub gives_held : (gathered : Gathered) (rest : List ℕ)
       → Gathers (key_of queue) hand.seat seats gathered → rest ≡ rest_bytes read.rest
-      → GivesHeld read writes (record { rest = rest; writes = gathered.blocks; hung = gathered.hung })
+      → GivesHeld read writes
+      (record { rest = rest; writes = gathered.blocks; hung = gathered.hung })
   gives_held gathered rest gathers rest_is =
       subst (λ (r : ReadSide). GivesHeld r writes held) (sym apart.side) (λ parts. record {
         history = gathers.history;
         legal = gathers.legal;
         seen = gathers.past;
         no_more_read = same_entries (take_account hand.seat).seen gathers.history 0
-            (take_account hand.seat).shares apart.holds.knows.mine gathers.mine apart.holds.seat.own;
+            (take_account hand.seat).shares apart.holds.knows.mine gathers.mine
+            apart.holds.seat.own;
         shares = shares_back gathers.history writes seats are gathers.puts_mine;
         rest = rest_is ∙ ap (λ (r : ReadSide). rest_bytes r.rest) apart.side;
         writes = gathers.blocks_are;
@@ -83,4 +89,5 @@ pub as_many : (writes : List WriteSide) (seats : List PutSeat) → AreSeatsOf wr
 as_many [] [] are = refl
 as_many [] (seat ∷ seats) are = absurd are
 as_many (write ∷ writes) [] are = absurd are
-as_many (write ∷ writes) (seat ∷ seats) are = let rest = as_many writes seats are.1 in omega (arith, rest)
+as_many (write ∷ writes) (seat ∷ seats) are = let rest = as_many writes seats are.1 in
+    omega (arith, rest)

@@ -1,9 +1,12 @@
 -- The headline: what was read and is held is what was accepted.
-use Rattle.std.proofs.Common.{◌≡◌, ◌≢◌, ◌⊎◌, ◌==◌, ◌+◌, ◌≤◌, inl, inr, ℕ, Bool, true, false, eqb, if◌then◌else◌, List, [], ◌∷◌, ◌++◌, length, take, drop, refl, sym, ◌∙◌, ap, subst, arith}
+use Rattle.std.proofs.Common.{◌≡◌, ◌≢◌, ◌⊎◌, ◌==◌, ◌+◌, ◌≤◌, inl, inr, ℕ, Bool, true, false, eqb}
+use Rattle.std.proofs.Common.{if◌then◌else◌, List, [], ◌∷◌, ◌++◌, length, take, drop, refl, sym}
+use Rattle.std.proofs.Common.{◌∙◌, ap, subst, arith}
 use Rattle.std.specs.Prelude.{map}
 use Rattle.std.specs.List.{AllByRecursion}
 use Rattle.std.proofs.lemmas.Bool.Decides.{eqb_tells}
-use Rattle.std.proofs.lemmas.List.{append_assoc, append-nil, length-append, length-take-le, take-append-le, take-append-drop}
+use Rattle.std.proofs.lemmas.List.{append_assoc, append-nil, length-append, length-take-le}
+use Rattle.std.proofs.lemmas.List.{take-append-le, take-append-drop}
 use Rattle.std.proofs.lemmas.List.Elements.{filter-append}
 use Rattle.std.proofs.lemmas.Option.{slice_get_within}
 use Rattle.histories.specs.declared.account.Share.{Share}
@@ -224,12 +227,15 @@ all_accepted key reading writers held right finishes = by finishes.seen.since fi
         (only_accepts key since seen none) in
         let within : (left_state key seen).read_whole ≤ length (left_state key seen).accepted
         = read_within key seen right.knows.history.legal in
-        let within_all : (left_state key seen).read_whole ≤ length (left_state key finishes.history).accepted
+        let within_all : (left_state key seen).read_whole ≤ length
+        (left_state key finishes.history).accepted
         = let e = ap length grown.accepted in
         let l = length-append (left_state key seen).accepted grown.more in
         omega (arith, within, e, l) in
-        ap (λ pieces. pieces ++ whole_from (left_state key seen).read_whole held.writes) right.right.whole
-        ∙ (ap (λ writes. whole_from 0 (take (left_state key seen).read_whole (left_state key seen).accepted)
+        ap (λ pieces. pieces ++ whole_from (left_state key seen).read_whole held.writes)
+        right.right.whole
+        ∙ (ap (λ writes. whole_from 0
+        (take (left_state key seen).read_whole (left_state key seen).accepted)
         ++ whole_from (left_state key seen).read_whole writes)
         (finishes.writes ∙ ap (λ n. drop n (left_state key finishes.history).accepted) grown.read)
         ∙ (ap (λ writes. whole_from 0 writes ++ whole_from (left_state key seen).read_whole

@@ -10,5 +10,5 @@ pub mod WrittenLemmas
 pub mod ChainLemmas
 pub mod WaitLemmas
 pub mod WorkedPipes
-pub mod KernelLemmas
 pub mod LoneLemmas
+pub mod WorkedCalls

@@ -1,5 +1,7 @@
 -- How a long write is cut into writes.
-use Rattle.std.proofs.Common.{◌≡◌, ℕ, zero, suc, ◌<◌, ◌≤◌, Bool, true, false, if◌then◌else◌, List, [], ◌∷◌, ◌++◌, length, take, drop, reverse, refl, sym, ◌∙◌, ap, subst, arith}
+use Rattle.std.proofs.Common.{◌≡◌, ℕ, zero, suc, ◌<◌, ◌≤◌, Bool, true, false, if◌then◌else◌, List}
+use Rattle.std.proofs.Common.{[], ◌∷◌, ◌++◌, length, take, drop, reverse, refl, sym, ◌∙◌, ap, subst}
+use Rattle.std.proofs.Common.{arith}
 use Rattle.std.specs.Prelude.{nat_le, Result}
 use Rattle.std.proofs.lemmas.Bool.Decides.{nat_tests}
 use Rattle.std.proofs.lemmas.List.{append_assoc, append-nil, reverse-append, length-drop}
@@ -25,7 +27,8 @@ one_write : (fuel : ℕ) (bytes : List ℕ) → length bytes ≤ ATOMIC_SIZE
     → atomic_writes_in fuel bytes ≡ bytes ∷ []
 one_write zero bytes fits = refl
 one_write (suc fuel) bytes fits =
-    ap (λ b. if b then bytes ∷ [] else take ATOMIC_SIZE bytes ∷ atomic_writes_in fuel (drop ATOMIC_SIZE bytes))
+    ap (λ b. if b then bytes ∷ [] else take ATOMIC_SIZE bytes ∷ atomic_writes_in fuel
+    (drop ATOMIC_SIZE bytes))
     (le-true (length bytes) ATOMIC_SIZE fits)
 
 -- enough fuel is enough
@@ -39,9 +42,12 @@ enough_fuel (suc fuel) (suc more) bytes low low' =
   where
     by : (b : Bool) → nat_le (length bytes) ATOMIC_SIZE ≡ b
         → (length (drop ATOMIC_SIZE bytes) ≤ fuel → length (drop ATOMIC_SIZE bytes) ≤ more
-        → atomic_writes_in fuel (drop ATOMIC_SIZE bytes) ≡ atomic_writes_in more (drop ATOMIC_SIZE bytes))
-        → (if b then bytes ∷ [] else take ATOMIC_SIZE bytes ∷ atomic_writes_in fuel (drop ATOMIC_SIZE bytes))
-        ≡ (if b then bytes ∷ [] else take ATOMIC_SIZE bytes ∷ atomic_writes_in more (drop ATOMIC_SIZE bytes))
+        → atomic_writes_in fuel (drop ATOMIC_SIZE bytes)
+        ≡ atomic_writes_in more (drop ATOMIC_SIZE bytes))
+        → (if b then bytes ∷ [] else take ATOMIC_SIZE bytes ∷ atomic_writes_in fuel
+        (drop ATOMIC_SIZE bytes))
+        ≡ (if b then bytes ∷ [] else take ATOMIC_SIZE bytes ∷ atomic_writes_in more
+        (drop ATOMIC_SIZE bytes))
     by true is rest = refl
     by false is rest =
         let long = le-said (length bytes) ATOMIC_SIZE is in
@@ -61,10 +67,12 @@ next_atomic bytes long = by (length bytes) refl
     by zero is = absurd (omega (arith, long, is))
     by (suc n) is =
         let dropped = length-drop ATOMIC_SIZE bytes in
-        ap (λ b. if b then bytes ∷ [] else take ATOMIC_SIZE bytes ∷ atomic_writes_in n (drop ATOMIC_SIZE bytes))
+        ap (λ b. if b then bytes ∷ [] else take ATOMIC_SIZE bytes ∷ atomic_writes_in n
+        (drop ATOMIC_SIZE bytes))
         (le-false (length bytes) ATOMIC_SIZE long)
         ∙ ap (λ blocks. take ATOMIC_SIZE bytes ∷ blocks)
-        (enough_fuel n (length (drop ATOMIC_SIZE bytes)) (drop ATOMIC_SIZE bytes) (omega (arith, long, is, dropped)) (omega arith))
+        (enough_fuel n (length (drop ATOMIC_SIZE bytes)) (drop ATOMIC_SIZE bytes)
+        (omega (arith, long, is, dropped)) (omega arith))
 
 -- one more is done
 pub one_done : (done : List (List ℕ)) (block : List ℕ) (others blocks : List (List ℕ))
@@ -81,7 +89,8 @@ pub wrote_at : (old now : WriteSide) (block : List ℕ) (before : Writer) (answe
 wrote_at old now block before answer after same wrote =
     subst (λ (q : Queue). Writes (key_of q) old.row old.writer block before answer after) same.queue
     (subst (λ (r : Row). Writes (key_of now.queue) r old.writer block before answer after) same.row
-    (subst (λ (n : ℕ). Writes (key_of now.queue) now.row n block before answer after) same.writer wrote))
+    (subst (λ (n : ℕ). Writes (key_of now.queue) now.row n block before answer after) same.writer
+    wrote))
 
 -- the next write is cut off
 pub cut_next : (bytes left front back : List ℕ) (done : List (List ℕ)) → ATOMIC_SIZE < length left
@@ -96,7 +105,8 @@ cut_next bytes left front back done long front_is back_is cut =
 pub cut_last : (bytes left : List ℕ) (done : List (List ℕ)) → length left ≤ ATOMIC_SIZE
     → atomic_writes bytes ≡ reverse done ++ atomic_writes left
     → atomic_writes bytes ≡ reverse done ++ left ∷ []
-cut_last bytes left done fits cut = cut ∙ ap (λ blocks. reverse done ++ blocks) (last_write left fits)
+cut_last bytes left done fits cut = cut
+    ∙ ap (λ blocks. reverse done ++ blocks) (last_write left fits)
 
 pub all_done : (bytes left : List ℕ) (done : List (List ℕ)) → length left ≤ ATOMIC_SIZE
     → atomic_writes bytes ≡ reverse done ++ atomic_writes left

@@ -1,12 +1,15 @@
 -- How parts join to pieces.
-use Rattle.std.proofs.Common.{◌≡◌, ◌≢◌, ◌⊎◌, ◌==◌, ◌&&◌, ◌+◌, ◌<◌, ◌≤◌, inl, inr, ℕ, Bool, true, false, not, eqb, if◌then◌else◌, List, [], ◌∷◌, ◌++◌, length, reverse, refl, sym, ◌∙◌, ap, subst, arith}
+use Rattle.std.proofs.Common.{◌≡◌, ◌≢◌, ◌⊎◌, ◌==◌, ◌&&◌, ◌+◌, ◌<◌, ◌≤◌, inl, inr, ℕ, Bool, true}
+use Rattle.std.proofs.Common.{false, not, eqb, if◌then◌else◌, List, [], ◌∷◌, ◌++◌, length, reverse}
+use Rattle.std.proofs.Common.{refl, sym, ◌∙◌, ap, subst, arith}
 use Rattle.std.specs.List.{AllByRecursion, filter}
 use Rattle.std.proofs.lemmas.Bool.Decides.{eqb_tells}
 use Rattle.std.proofs.lemmas.List.{append_assoc, reverse-append, map-append}
 use Rattle.std.proofs.lemmas.List.Elements.{filter-append}
 use Rattle.std.specs.Prelude.{map}
 use Rattle.sync_base.specs.Write.{Write}
-use Rattle.pipe_dev.specs.Parts.{Part, is_empty, goes_on, longer_by, with_part, whole_at, whole_from, bytes_by}
+use Rattle.pipe_dev.specs.Parts.{Part, is_empty, goes_on, longer_by, with_part, whole_at}
+use Rattle.pipe_dev.specs.Parts.{whole_from, bytes_by}
 
 eqb-differ : (a b : ℕ) → a ≢ b → eqb a b ≡ false
 eqb-differ a b differ = by (eqb_tells a b)
@@ -113,7 +116,8 @@ with_part-twice first second (piece ∷ past) one = by (goes_on piece first) ref
         → with_part second (with_part first (piece ∷ past)) ≡ with_part both (piece ∷ past)
     by true is =
         let told = goes_on-told piece first is in
-        ap (λ b. with_part second (if b then longer_by piece first ∷ past else first ∷ piece ∷ past))
+        ap (λ b. with_part second
+        (if b then longer_by piece first ∷ past else first ∷ piece ∷ past))
         is
         ∙ (ap (λ b. if b then longer_by (longer_by piece first) second ∷ past
         else second ∷ longer_by piece first ∷ past)
@@ -128,7 +132,8 @@ with_part-twice first second (piece ∷ past) one = by (goes_on piece first) ref
         (eqb-same piece.writer first.writer told.writer) told.piece_some
         (is_empty-append first.bytes second.bytes one.first_some)))))
     by false is =
-        ap (λ b. with_part second (if b then longer_by piece first ∷ past else first ∷ piece ∷ past))
+        ap (λ b. with_part second
+        (if b then longer_by piece first ∷ past else first ∷ piece ∷ past))
         is
         ∙ (ap (λ b. if b then both ∷ piece ∷ past else second ∷ first ∷ piece ∷ past)
         (one_goes_on first second one)

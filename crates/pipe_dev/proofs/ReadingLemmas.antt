@@ -1,8 +1,11 @@
 -- What steps make of a read end has read just what it took out.
-use Rattle.std.proofs.Common.{◌≡◌, ◌≢◌, ◌⊎◌, inl, inr, ℕ, zero, suc, ◌+◌, ◌<◌, ◌≤◌, Bool, true, false, if◌then◌else◌, List, [], ◌∷◌, ◌++◌, length, reverse, take, drop, Option, None, Some, refl, sym, ◌∙◌, ap, subst, arith, zero-add}
+use Rattle.std.proofs.Common.{◌≡◌, ◌≢◌, ◌⊎◌, inl, inr, ℕ, zero, suc, ◌+◌, ◌<◌, ◌≤◌, Bool, true}
+use Rattle.std.proofs.Common.{false, if◌then◌else◌, List, [], ◌∷◌, ◌++◌, length, reverse, take}
+use Rattle.std.proofs.Common.{drop, Option, None, Some, refl, sym, ◌∙◌, ap, subst, arith, zero-add}
 use Rattle.std.specs.Prelude.{IsTrue, nat_le, slice_get}
 use Rattle.std.proofs.lemmas.Bool.Decides.{nat_tests}
-use Rattle.std.proofs.lemmas.List.{take_all, take-append-le, take-append-drop, length-drop, length-take-le, append-nil}
+use Rattle.std.proofs.lemmas.List.{take_all, take-append-le, take-append-drop, length-drop}
+use Rattle.std.proofs.lemmas.List.{length-take-le, append-nil}
 use Rattle.std.proofs.lemmas.Option.{slice_get_within}
 use Rattle.histories.specs.declared.account.Account.{Account}
 use Rattle.histories.specs.Account.{has_number}
@@ -10,7 +13,8 @@ use Rattle.histories.specs.History.{entries_by}
 use Rattle.sync_base.specs.Pipe.{PipeState}
 use Rattle.sync_base.specs.Write.{Write}
 use Rattle.block_queue.specs.declared.entry.Entry.{Entry}
-use Rattle.block_queue.specs.declared.entry.Entry.TheVariants.{Taken, Stood, Full, Hungup, Worn, Block, NotYet, End, Hung}
+use Rattle.block_queue.specs.declared.entry.Entry.TheVariants.{Taken, Stood, Full, Hungup, Worn}
+use Rattle.block_queue.specs.declared.entry.Entry.TheVariants.{Block, NotYet, End, Hung}
 use Rattle.block_queue.specs.declared.view.Key.{Key}
 use Rattle.block_queue.specs.History.{seat_of}
 use Rattle.block_queue.specs.Meaning.{Enters, KnowsQueue, queue_after}
@@ -28,7 +32,8 @@ use Rattle.pipe_dev.specs.ReadCalls.{GoesOn, TakesOut, part_of, rest_of}
 use Rattle.pipe_dev.specs.Reading.{Reading, IsReading, IsRight, IsRest, seen_state, first_reading}
 use Rattle.pipe_dev.specs.Rounds.{Rounds}
 use Rattle.pipe_dev.proofs.LawLemmas.{OnlyAccepts, only_accepts, none_since, read_within}
-use Rattle.pipe_dev.proofs.PartLemmas.{with_part-twice, with_part-next, whole_from-append, reverse-cons, is_empty_not}
+use Rattle.pipe_dev.proofs.PartLemmas.{with_part-twice, with_part-next, whole_from-append}
+use Rattle.pipe_dev.proofs.PartLemmas.{reverse-cons, is_empty_not}
 use Rattle.pipe_dev.proofs.RoundLemmas.{entered_right, entered_legal}
 use Rattle.pipe_dev.proofs.SeatingLemmas.{same_entries, reader_knows}
 
@@ -58,11 +63,14 @@ rest_is_some most left = by (nat_le (length left.bytes) most) refl
 
 -- a part, continued by its rest, makes the pieces that both together make
 pub part_and_rest : (most : ℕ) (left : Part) (parts : List Part) → 0 < most
-    → pieces_of (continued (rest_of most left) (part_of most left ∷ parts)) ≡ pieces_of (left ∷ parts)
+    → pieces_of (continued (rest_of most left) (part_of most left ∷ parts))
+    ≡ pieces_of (left ∷ parts)
 part_and_rest most left parts some = by (nat_le (length left.bytes) most) refl
   where
     by : (b : Bool) → nat_le (length left.bytes) most ≡ b
-        → pieces_of (continued (if b then None else Some (record left { bytes = drop most left.bytes })) (part_of most left ∷ parts))
+        → pieces_of
+        (continued (if b then None else Some (record left { bytes = drop most left.bytes }))
+        (part_of most left ∷ parts))
         ≡ pieces_of (left ∷ parts)
     by true is =
         ap (λ (bytes : List ℕ). with_part (record left { bytes = bytes }) (pieces_of parts))
@@ -71,12 +79,17 @@ part_and_rest most left parts some = by (nat_le (length left.bytes) most) refl
         let above = above-said (length left.bytes) most is in
         let dropped = length-drop most left.bytes in
         let taken = length-take-le most left.bytes (omega (arith, above)) in
-        with_part-twice (part_of most left) (record left { bytes = drop most left.bytes }) (pieces_of parts)
+        with_part-twice (part_of most left) (record left { bytes = drop most left.bytes })
+        (pieces_of parts)
         record {
           place = refl;
           writer = refl;
-          first_some = is_empty_not (take most left.bytes) (some_bytes (take most left.bytes) (omega (arith, some, taken)));
-          second_some = is_empty_not (drop most left.bytes) (some_bytes (drop most left.bytes) (omega (arith, above, dropped)));
+          first_some =
+              is_empty_not (take most left.bytes)
+              (some_bytes (take most left.bytes) (omega (arith, some, taken)));
+          second_some =
+              is_empty_not (drop most left.bytes)
+              (some_bytes (drop most left.bytes) (omega (arith, above, dropped)));
         }
         ∙ ap (λ (bytes : List ℕ). with_part (record left { bytes = bytes }) (pieces_of parts))
         (take-append-drop most left.bytes)
@@ -135,24 +148,30 @@ still_right before after parts rest accepts within right =
     }
 
 -- others did since what they did, and no block was taken out
-since_accepts : (key : Key) (entry : Entry) (old new : Account Entry) → IsTrue (has_number old.shares 0)
+since_accepts : (key : Key) (entry : Entry) (old new : Account Entry)
+    → IsTrue (has_number old.shares 0)
     → KnowsQueue key old → (enters : Enters key entry old new)
     → OnlyAccepts (left_state key old.seen) (left_state key enters.adds.past)
 since_accepts key entry old new own knows enters =
     let looked = enters.adds.looked in
     let same : entries_by seat_of 0 enters.adds.past ≡ entries_by seat_of 0 old.seen
     = same_entries old.seen enters.adds.past 0 old.shares knows.mine looked.mine own in
-    subst (λ (h : List Entry). OnlyAccepts (left_state key old.seen) (left_state key h)) (sym looked.history_is)
+    subst (λ (h : List Entry). OnlyAccepts (left_state key old.seen) (left_state key h))
+    (sym looked.history_is)
     (only_accepts key looked.since old.seen
-    (none_since 0 looked.since old.seen (subst (λ (h : List Entry). entries_by seat_of 0 h ≡ entries_by seat_of 0 old.seen) looked.history_is same)))
+    (none_since 0 looked.since old.seen
+    (subst (λ (h : List Entry). entries_by seat_of 0 h ≡ entries_by seat_of 0 old.seen)
+    looked.history_is same)))
 
 -- ---- one step
 
-right_before : (key : Key) (entry : Entry) (reading : Reading) (new : Account Entry) → IsReading key reading
+right_before : (key : Key) (entry : Entry) (reading : Reading) (new : Account Entry)
+    → IsReading key reading
     → (enters : Enters key entry reading.account new)
     → IsRight (left_state key enters.adds.past) reading.parts reading.rest
 right_before key entry reading new is enters =
-    still_right (seen_state key reading) (left_state key enters.adds.past) reading.parts reading.rest
+    still_right (seen_state key reading) (left_state key enters.adds.past) reading.parts
+    reading.rest
     (since_accepts key entry reading.account new is.own is.knows enters)
     (read_within key reading.account.seen is.knows.history.legal) is.right
 
@@ -168,8 +187,10 @@ nothing_read key old new is adds =
       knows = adds.entered.knows;
       right = subst (λ (h : List Entry). IsRight (left_state key h) new.parts new.rest)
           (sym (seen_now key adds.entry old.account new.account adds.entered))
-          (subst (λ (r : Option Part). IsRight (left_state key (adds.entry ∷ past)) new.parts r) (sym adds.rest)
-          (subst (λ (ps : List Part). IsRight (left_state key (adds.entry ∷ past)) ps old.rest) (sym adds.parts)
+          (subst (λ (r : Option Part). IsRight (left_state key (adds.entry ∷ past)) new.parts r)
+          (sym adds.rest)
+          (subst (λ (ps : List Part). IsRight (left_state key (adds.entry ∷ past)) ps old.rest)
+          (sym adds.parts)
           (still_right (left_state key past) (left_state key (adds.entry ∷ past)) old.parts old.rest
           (no_block_accepts key past adds.entry adds.no_block)
           (read_within key past (entered_legal key adds.entry old.account new.account adds.entered))
@@ -189,15 +210,20 @@ goes_on_right s left parts most some right =
     }
 
 -- so does the next write, which was taken out
-takes_right : (key : Key) (past : List Entry) (left : Part) (parts : List Part) (most : ℕ) → 0 < most
-    → slice_get (left_state key past).accepted (left_state key past).read_whole ≡ Some (record { writer = left.writer; bytes = left.bytes })
+takes_right : (key : Key) (past : List Entry) (left : Part) (parts : List Part) (most : ℕ)
+    → 0 < most
+    → slice_get (left_state key past).accepted (left_state key past).read_whole
+    ≡ Some (record { writer = left.writer; bytes = left.bytes })
     → left.place ≡ (left_state key past).read_whole
     → IsRight (left_state key past) parts None
-    → IsRight (left_state key (Block left.writer left.bytes (left.place + 1) ∷ past)) (part_of most left ∷ parts) (rest_of most left)
+    → IsRight (left_state key (Block left.writer left.bytes (left.place + 1) ∷ past))
+    (part_of most left ∷ parts) (rest_of most left)
 takes_right key past left parts most some next place right =
     record {
       whole = ap reverse (part_and_rest most left parts some)
-          ∙ (ap reverse (with_part-next left (pieces_of parts) (take k accepted) right.whole (place ∙ sym taken))
+          ∙ (ap reverse
+          (with_part-next left (pieces_of parts) (take k accepted) right.whole
+          (place ∙ sym taken))
           ∙ (reverse-cons left (pieces_of parts)
           ∙ (ap (λ ps. ps ++ left ∷ []) right.whole
           ∙ (ap (λ n. whole_from 0 (take k accepted) ++ whole_at n write ∷ [])
@@ -217,7 +243,8 @@ takes_right key past left parts most some next place right =
     write = record { writer = left.writer; bytes = left.bytes }
 
     taken : length (take k accepted) ≡ k
-    taken = length-take-le k accepted (let within = slice_get_within accepted k write next in omega (arith, within))
+    taken = length-take-le k accepted
+        (let within = slice_get_within accepted k write next in omega (arith, within))
 
 got_right : (key : Key) (row : Row) (old new : Reading) → key.first ≡ 0 → IsReading key old
     → (adds : AddsPart key row old new) → IsReading key new
@@ -236,7 +263,8 @@ got_right key row old new first is adds = by adds.got.next
         room [] empty = absurd (empty refl)
         room (byte ∷ bytes) empty = omega arith
 
-    now : (s : PipeState) → IsRight s (part_of most left ∷ old.parts) (rest_of most left) → IsRight s new.parts new.rest
+    now : (s : PipeState) → IsRight s (part_of most left ∷ old.parts) (rest_of most left)
+        → IsRight s new.parts new.rest
     now s right =
         subst (λ (r : Option Part). IsRight s new.parts r) (sym adds.got.rest)
         (subst (λ (ps : List Part). IsRight s ps (rest_of most left)) (sym adds.parts) right)
@@ -246,11 +274,14 @@ got_right key row old new first is adds = by adds.got.next
         → IsReading key new
     by (inl goes) =
         record {
-          own = subst (λ (a : Account Entry). IsTrue (has_number a.shares 0)) (sym goes.account) is.own;
+          own = subst (λ (a : Account Entry). IsTrue (has_number a.shares 0)) (sym goes.account)
+              is.own;
           knows = subst (λ (a : Account Entry). KnowsQueue key a) (sym goes.account) is.knows;
-          right = subst (λ (a : Account Entry). IsRight (left_state key a.seen) new.parts new.rest) (sym goes.account)
+          right = subst (λ (a : Account Entry). IsRight (left_state key a.seen) new.parts new.rest)
+              (sym goes.account)
               (now (seen_state key old) (goes_on_right (seen_state key old) left old.parts most some
-              (subst (λ (r : Option Part). IsRight (seen_state key old) old.parts r) goes.left_is is.right)));
+              (subst (λ (r : Option Part). IsRight (seen_state key old) old.parts r) goes.left_is
+              is.right)));
         }
     by (inr takes) =
         let enters = takes.taken in
@@ -269,7 +300,8 @@ got_right key row old new first is adds = by adds.got.next
               (now (left_state key (entry ∷ enters.adds.past))
               (takes_right key enters.adds.past left old.parts most some right.may.next
               (omega (arith, begun, number, first))
-              (subst (λ (r : Option Part). IsRight (left_state key enters.adds.past) old.parts r) takes.none_left
+              (subst (λ (r : Option Part). IsRight (left_state key enters.adds.past) old.parts r)
+              takes.none_left
               (right_before key entry old new.account is enters))));
         }
 

@@ -13,7 +13,8 @@ use Rattle.histories.specs.declared.account.Account.{Account}
 use Rattle.histories.specs.History.{IsLegal}
 use Rattle.block_queue.specs.declared.entry.Entry.{Entry}
 use Rattle.block_queue.specs.declared.entry.Entry.TheVariants as entry
-use Rattle.block_queue.specs.declared.entry.Entry.TheVariants.{Taken, Stood, Full, Hungup, Worn, Block, NotYet, End, Hung}
+use Rattle.block_queue.specs.declared.entry.Entry.TheVariants.{Taken, Stood, Full, Hungup, Worn}
+use Rattle.block_queue.specs.declared.entry.Entry.TheVariants.{Block, NotYet, End, Hung}
 use Rattle.block_queue.specs.declared.view.Key.{Key}
 use Rattle.block_queue.specs.History.{opening_state, IsRight}
 use Rattle.block_queue.specs.Meaning.{Enters, KnowsQueue, queue_meaning, queue_after}
@@ -49,15 +50,18 @@ fails_asleep words before rendez threshold after fault.Device there low told = a
 
 -- the entry is right behind what was seen before it
 pub entered_right : (key : Key) (entry : Entry) (old new : Account Entry)
-    → (enters : Enters key entry old new) → IsRight key.first (queue_after key enters.adds.past) entry
+    → (enters : Enters key entry old new)
+    → IsRight key.first (queue_after key enters.adds.past) entry
 entered_right key entry old new enters =
-    (subst (λ (account : Account Entry). KnowsQueue key account) enters.adds.new_is enters.knows).history.legal.0
+    (subst (λ (account : Account Entry). KnowsQueue key account) enters.adds.new_is
+    enters.knows).history.legal.0
 
 pub entered_legal : (key : Key) (entry : Entry) (old new : Account Entry)
     → (enters : Enters key entry old new)
     → IsLegal (queue_meaning key.first) (opening_state key.limit) enters.adds.past
 entered_legal key entry old new enters =
-    (subst (λ (account : Account Entry). KnowsQueue key account) enters.adds.new_is enters.knows).history.legal.1
+    (subst (λ (account : Account Entry). KnowsQueue key account) enters.adds.new_is
+    enters.knows).history.legal.1
 
 -- the number of the last write that was begun is below the level of a hangup
 begun_low : (key : Key) (history : List Entry) → key.first ≡ 0
@@ -74,7 +78,8 @@ begun_low key history first legal =
 pub not_yet_low : (key : Key) (number : ℕ) (old new : Account Entry) → key.first ≡ 0
     → Enters key (entry.NotYet number) old new → number < TOP_LEVEL
 not_yet_low key number old new first enters =
-    subst (λ n. n < TOP_LEVEL) (sym (entered_right key (entry.NotYet number) old new enters).may.number_is)
+    subst (λ n. n < TOP_LEVEL)
+    (sym (entered_right key (entry.NotYet number) old new enters).may.number_is)
     (begun_low key enters.adds.past first (entered_legal key (entry.NotYet number) old new enters))
 
 pub full_low : (key : Key) (writer : ℕ) (block : List ℕ) (number : ℕ) (old new : Account Entry)
@@ -103,4 +108,5 @@ pub hungup_knew : (key : Key) (writer : ℕ) (block : List ℕ) (old new : Accou
     → Enters key (entry.Hungup writer block) old new → HasHang new.seen
 hungup_knew key writer block old new enters =
     subst (λ (account : Account Entry). HasHang account.seen) (sym enters.adds.new_is)
-    (has_hang key enters.adds.past (entered_right key (entry.Hungup writer block) old new enters).may)
+    (has_hang key enters.adds.past
+    (entered_right key (entry.Hungup writer block) old new enters).may)

@@ -1,5 +1,6 @@
 -- Seats and the write ends that hold them.
-use Rattle.std.proofs.Common.{◌≡◌, ◌≢◌, ◌⊎◌, inl, inr, eqb, ℕ, zero, suc, ◌+◌, ◌<◌, ◌≤◌, Bool, true, false, List, [], ◌∷◌, length, map, refl, sym, ◌∙◌, ap, subst, arith}
+use Rattle.std.proofs.Common.{◌≡◌, ◌≢◌, ◌⊎◌, inl, inr, eqb, ℕ, zero, suc, ◌+◌, ◌<◌, ◌≤◌, Bool, true}
+use Rattle.std.proofs.Common.{false, List, [], ◌∷◌, length, map, refl, sym, ◌∙◌, ap, subst, arith}
 use Rattle.std.specs.Prelude.{◌||◌, slice_get, Some}
 use Rattle.std.specs.List.{AllByRecursion}
 use Rattle.std.proofs.lemmas.Bool.Decides.{eqb_tells}
@@ -72,24 +73,28 @@ seat_to_give queue row writer seat row_is new =
 -- these are the writers' seats, from this writer on
 pub all_to_give : (queue : Queue) (row : Row) (first : ℕ) (seats : List PutSeat)
     → IsRowOf queue row
-    → ((place : ℕ) (seat : PutSeat) → slice_get seats place ≡ Some seat → IsNewPutSeat queue (first + place) seat)
+    → ((place : ℕ) (seat : PutSeat) → slice_get seats place ≡ Some seat
+    → IsNewPutSeat queue (first + place) seat)
     → AllByRecursion (IsSeatToGive queue row) seats
 all_to_give queue row first [] row_is each = tt
 all_to_give queue row first (seat ∷ seats) row_is each = (
   seat_to_give queue row (first + 0) seat row_is (each 0 seat refl),
   all_to_give queue row (first + 1) seats row_is
-      (λ place other there. subst (λ (n : ℕ). IsNewPutSeat queue n other) (omega arith) (each (suc place) other there)),
+      (λ place other there. subst (λ (n : ℕ). IsNewPutSeat queue n other) (omega arith)
+      (each (suc place) other there)),
 )
 
 pub writers_in_order : (queue : Queue) (first : ℕ) (seats : List PutSeat)
-    → ((place : ℕ) (seat : PutSeat) → slice_get seats place ≡ Some seat → IsNewPutSeat queue (first + place) seat)
+    → ((place : ℕ) (seat : PutSeat) → slice_get seats place ≡ Some seat
+    → IsNewPutSeat queue (first + place) seat)
     → map (λ seat. seat.writer) seats ≡ numbers_from first (length seats)
 writers_in_order queue first [] each = refl
 writers_in_order queue first (seat ∷ seats) each =
     let here : seat.writer ≡ first = (each 0 seat refl).writer_is ∙ omega arith in
     let rest : map (λ seat. seat.writer) seats ≡ numbers_from (first + 1) (length seats)
     = writers_in_order queue (first + 1) seats
-    (λ place other there. subst (λ (n : ℕ). IsNewPutSeat queue n other) (omega arith) (each (suc place) other there)) in
+    (λ place other there. subst (λ (n : ℕ). IsNewPutSeat queue n other) (omega arith)
+    (each (suc place) other there)) in
     ap (λ (n : ℕ). n ∷ map (λ seat. seat.writer) seats) here ∙ ap (λ numbers. first ∷ numbers) rest
 
 -- ---- the ends of a new direction
@@ -98,8 +103,10 @@ pub new_writes : (queue : Queue) (row : Row) (seats : List PutSeat)
     → AllByRecursion (IsSeatToGive queue row) seats
     → AllByRecursion (IsNewWriteEnd queue row) (map (side_of queue row) seats)
 new_writes queue row [] all = tt
-new_writes queue row (seat ∷ seats) all =
-    (record { queue_is = refl; row_is = refl; unused = all.0.unused }, new_writes queue row seats all.1)
+new_writes queue row (seat ∷ seats) all = (
+  record { queue_is = refl; row_is = refl; unused = all.0.unused },
+  new_writes queue row seats all.1,
+)
 
 pub new_one : (read : ReadSide) (seats : List PutSeat)
     → AllByRecursion (AreOfOne read) (map (side_of read.queue read.row) seats)
@@ -123,13 +130,15 @@ seats_back read (write ∷ writes) [] one are = absurd are
 seats_back read (write ∷ writes) (seat ∷ seats) one are = (
   subst (λ (q : Queue). IsWriteHand q read.row seat.writer seat) one.0.queue
       (subst (λ (r : Row). IsWriteHand write.queue r seat.writer seat) one.0.row
-      (subst (λ (n : ℕ). IsWriteHand write.queue write.row n seat) (sym are.0.hand.writer_is) are.0.hand)),
+      (subst (λ (n : ℕ). IsWriteHand write.queue write.row n seat) (sym are.0.hand.writer_is)
+      are.0.hand)),
   seats_back read writes seats one.1 are.1,
 )
 
 pub hands_put : (queue : Queue) (row : Row) (seats : List PutSeat)
     → AllByRecursion (IsHandOf queue row) seats → AllByRecursion (IsPutSeatOf queue) seats
-hands_put queue row = all_weaker (IsHandOf queue row) (IsPutSeatOf queue) (λ seat hand. hand.seat_is)
+hands_put queue row =
+    all_weaker (IsHandOf queue row) (IsPutSeatOf queue) (λ seat hand. hand.seat_is)
 
 pub hands_none : (queue : Queue) (row : Row) (seats : List PutSeat)
     → AllByRecursion (IsHandOf queue row) seats
@@ -146,13 +155,22 @@ sides_back read [] (seat ∷ seats) one are = absurd are
 sides_back read (write ∷ writes) [] one are = absurd are
 sides_back read (write ∷ writes) (seat ∷ seats) one are =
     ap (λ (w : WriteSide). w ∷ map (side_of read.queue read.row) seats)
-    (ap (λ (q : Queue). record { queue = q; row = read.row; writer = seat.writer; account = put_account seat }) (sym one.0.queue)
-    ∙ (ap (λ (r : Row). record { queue = write.queue; row = r; writer = seat.writer; account = put_account seat }) (sym one.0.row)
-    ∙ (ap (λ (n : ℕ). record { queue = write.queue; row = write.row; writer = n; account = put_account seat }) are.0.hand.writer_is
-    ∙ ap (λ (a : Account Entry). record { queue = write.queue; row = write.row; writer = write.writer; account = a }) are.0.account)))
+    (ap (λ (q : Queue). record
+    { queue = q; row = read.row; writer = seat.writer; account = put_account seat })
+    (sym one.0.queue)
+    ∙ (ap (λ (r : Row). record
+    { queue = write.queue; row = r; writer = seat.writer; account = put_account seat })
+    (sym one.0.row)
+    ∙ (ap (λ (n : ℕ). record
+    { queue = write.queue; row = write.row; writer = n; account = put_account seat })
+    are.0.hand.writer_is
+    ∙ ap (λ (a : Account Entry). record
+    { queue = write.queue; row = write.row; writer = write.writer; account = a })
+    are.0.account)))
     ∙ ap (λ (ws : List WriteSide). write ∷ ws) (sides_back read writes seats one.1 are.1)
 
-one_above : (first count : ℕ) → map (λ n. n + 1) (numbers_from first count) ≡ numbers_from (first + 1) count
+one_above : (first count : ℕ) → map (λ n. n + 1) (numbers_from first count)
+    ≡ numbers_from (first + 1) count
 one_above first zero = refl
 one_above first (suc count) = ap (λ (ns : List ℕ). (first + 1) ∷ ns) (one_above (first + 1) count)
 
@@ -180,7 +198,8 @@ shares_back history [] (seat ∷ seats) are theirs = absurd are
 shares_back history (write ∷ writes) [] are theirs = absurd are
 shares_back history (write ∷ writes) (seat ∷ seats) are theirs =
     all_append (HasItsEntries seat_of history) write.account.shares (shares_of writes)
-    (subst (λ (a : Account Entry). AllByRecursion (HasItsEntries seat_of history) a.shares) are.0.account theirs.0)
+    (subst (λ (a : Account Entry). AllByRecursion (HasItsEntries seat_of history) a.shares)
+    are.0.account theirs.0)
     (shares_back history writes seats are.1 theirs.1)
 
 -- a number that has the same entries in both histories
@@ -199,8 +218,10 @@ same_entries older history number (share ∷ shares) own own' has =
     either true is told = cc
     either false is told = told
 
-    by : ((eqb share.number number ≡ true) × (share.number ≡ number)) ⊎ ((eqb share.number number ≡ false) × (share.number ≢ number))
-        → (has_number shares number ≡ true → entries_by seat_of number history ≡ entries_by seat_of number older)
+    by : ((eqb share.number number ≡ true) × (share.number ≡ number))
+        ⊎ ((eqb share.number number ≡ false) × (share.number ≢ number))
+        → (has_number shares number ≡ true → entries_by seat_of number history
+        ≡ entries_by seat_of number older)
         → entries_by seat_of number history ≡ entries_by seat_of number older
     by (inl same) rest =
         subst (λ (n : ℕ). entries_by seat_of n history ≡ entries_by seat_of n older) same.1

@@ -1,5 +1,6 @@
 -- A wakeup that has returned stands in the steps of whoever made it, and releases its sleeper.
-use Rattle.std.proofs.Common.{◌≡◌, ◌≢◌, ◌⊎◌, inl, inr, eqb, true, false, ℕ, zero, suc, ◌+◌, ◌<◌, List, [], ◌∷◌, ◌++◌, Option, None, Some, sym, subst, arith}
+use Rattle.std.proofs.Common.{◌≡◌, ◌≢◌, ◌⊎◌, inl, inr, eqb, true, false, ℕ, zero, suc, ◌+◌, ◌<◌}
+use Rattle.std.proofs.Common.{List, [], ◌∷◌, ◌++◌, Option, None, Some, sym, subst, arith}
 use Rattle.std.specs.List.{cons_option}
 use Rattle.std.proofs.lemmas.Bool.Decides.{eqb_tells}
 use Rattle.sync_base.specs.declared.ids.RendezId.{RendezId}
@@ -18,7 +19,8 @@ use Rattle.rendez_words.proofs.LawLemmas.{receipts_release}
 use Rattle.sleep_wakeup.specs.Calls.{Ends}
 use Rattle.pipe_dev.specs.declared.row.Row.{Row}
 use Rattle.pipe_dev.specs.Rendezes.{WakesOne, WakesWriters, reader_rendez, writer_rendez}
-use Rattle.pipe_dev.specs.WaitLaws.{HasGoneOn, WritesWakeTheReader, ReadsWakeEachWriter, HangupsWakeAll}
+use Rattle.pipe_dev.specs.WaitLaws.{HasGoneOn, WritesWakeTheReader, ReadsWakeEachWriter}
+use Rattle.pipe_dev.specs.WaitLaws.{HangupsWakeAll}
 
 -- what has returned stays so
 returned_cons : (deed : Option Deed) (past : List Deed) (rendez level : ℕ)
@@ -48,7 +50,8 @@ has_woken : (before : Process) (rendez : RendezId) (level : ℕ) (after : Proces
     → WakesOne before rendez level after → Has rendez level after.trace
 has_woken before rendez level after wakes =
     subst (λ (r : RendezId). Has r level after.trace) wakes.woken.rendez_is
-    (subst (λ (n : ℕ). Has wakes.receipt.rendez n after.trace) wakes.woken.level_is wakes.woken.receipt)
+    (subst (λ (n : ℕ). Has wakes.receipt.rendez n after.trace) wakes.woken.level_is
+    wakes.woken.receipt)
 
 -- and what had returned before has returned still
 has_still : (before : Process) (woken : RendezId) (level' : ℕ) (after : Process) (rendez : RendezId)
@@ -61,19 +64,37 @@ has_still before woken level' after rendez level wakes returned = by wakes.woken
 
     raised_has : Has rendez level raised.trace
     raised_has =
-        has_more (record { maker = before.pid; event = Raise (pid_in before) woken level'; answer = answer.Owing })
+        has_more (record {
+          maker = before.pid;
+          event = Raise (pid_in before) woken level';
+          answer =
+              answer.Owing;
+        })
         before.trace rendez level returned
 
     by : Ends raised after → Has rendez level after.trace
     by (inl nobody) =
         subst (λ (p : Process). Has rendez level p.trace) (sym nobody)
-        (has_more (record { maker = raised.pid; event = Take (pid_in raised); answer = answer.Nobody })
+        (has_more
+        (record { maker = raised.pid; event = Take (pid_in raised); answer = answer.Nobody })
         raised.trace rendez level raised_has)
     by (inr sleeper) =
         subst (λ (p : Process). Has rendez level p.trace) (sym sleeper.1)
-        (has_more (record { maker = raised.pid; event = Mark (pid_in raised); answer = answer.Marked (sleeper_of (takes raised sleeper.0)) })
+        (has_more
+        (record {
+          maker = raised.pid;
+          event = Mark (pid_in raised);
+          answer =
+              answer.Marked (sleeper_of (takes raised sleeper.0));
+        })
         (takes raised sleeper.0).trace rendez level
-        (has_more (record { maker = raised.pid; event = Take (pid_in raised); answer = answer.Holding sleeper.0 })
+        (has_more
+        (record {
+          maker = raised.pid;
+          event = Take (pid_in raised);
+          answer =
+              answer.Holding sleeper.0;
+        })
         raised.trace rendez level raised_has))
 
 -- each of the writers was woken
@@ -85,14 +106,16 @@ each_woken row (suc count) level before after wakes writer low =
     by (eqb_tells writer count)
     (λ lower. each_woken row count level before wakes.between wakes.others writer lower)
   where
-    by : ((eqb writer count ≡ true) × (writer ≡ count)) ⊎ ((eqb writer count ≡ false) × (writer ≢ count))
+    by : ((eqb writer count ≡ true) × (writer ≡ count))
+        ⊎ ((eqb writer count ≡ false) × (writer ≢ count))
         → (writer < count → Has (writer_rendez row writer) level wakes.between.trace)
         → Has (writer_rendez row writer) level after.trace
     by (inl same) others =
         subst (λ (n : ℕ). Has (writer_rendez row n) level after.trace) (sym same.1)
         (has_woken wakes.between (writer_rendez row count) level after wakes.last)
     by (inr differ) others =
-        has_still wakes.between (writer_rendez row count) level after (writer_rendez row writer) level wakes.last
+        has_still wakes.between (writer_rendez row count) level after (writer_rendez row writer)
+        level wakes.last
         (others (below writer count low differ.1))
       where
         below : (a b : ℕ) → a < suc b → a ≢ b → a < b
@@ -131,7 +154,8 @@ pub hangups_wake_all : HangupsWakeAll
 hangups_wake_all sizes s shows row before after wakes gone =
     record {
       reader = releases sizes s shows after (reader_rendez row) TOP_LEVEL gone
-          (still_has row row.writers TOP_LEVEL wakes.between after (reader_rendez row) TOP_LEVEL wakes.writers
+          (still_has row row.writers TOP_LEVEL wakes.between after (reader_rendez row) TOP_LEVEL
+          wakes.writers
           (has_woken before (reader_rendez row) TOP_LEVEL wakes.between wakes.reader));
       writers = λ writer low. releases sizes s shows after (writer_rendez row writer) TOP_LEVEL gone
           (each_woken row row.writers TOP_LEVEL wakes.between after wakes.writers writer low);

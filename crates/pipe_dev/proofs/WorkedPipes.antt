@@ -1,5 +1,6 @@
 -- Directions of a pipe worked out by the definitions alone, and what they refuse.
-use Rattle.std.proofs.Common.{◌≡◌, ℕ, false, List, [], ◌∷◌, Option, Some, None, refl, inl, inr, sym, ap, arith, length, ◌⊎◌}
+use Rattle.std.proofs.Common.{◌≡◌, ℕ, false, List, [], ◌∷◌, Option, Some, None, refl, inl, inr, sym}
+use Rattle.std.proofs.Common.{ap, arith, length, ◌⊎◌}
 use Rattle.std.specs.Prelude.{Err, reverse}
 use Rattle.histories.specs.declared.account.Account.{Account}
 use Rattle.sync_base.specs.declared.ids.RendezId.{RendezId}
@@ -51,38 +52,48 @@ second_writer (first ∷ second ∷ others) = second.writer
 second_writer others = 0
 
 -- the first in two parts
-read_in_parts : IsRight three (part 2 0 [] ∷ part 1 1 (99 ∷ []) ∷ part 0 0 (98 ∷ []) ∷ part 0 0 (97 ∷ []) ∷ []) None
+read_in_parts : IsRight three
+    (part 2 0 [] ∷ part 1 1 (99 ∷ []) ∷ part 0 0 (98 ∷ []) ∷ part 0 0 (97 ∷ []) ∷ []) None
 read_in_parts = record { whole = refl; some_left = tt }
 
 -- of the last nothing is left, and of the first one byte
-read_with_a_rest : IsRight (record three { read_whole = 1 }) (part 0 0 (97 ∷ []) ∷ []) (Some (part 0 0 (98 ∷ [])))
+read_with_a_rest : IsRight (record three { read_whole = 1 }) (part 0 0 (97 ∷ []) ∷ [])
+    (Some (part 0 0 (98 ∷ [])))
 read_with_a_rest = record { whole = refl; some_left = λ is. cc }
 
 joined_read : IsRight three (part 2 0 [] ∷ part 0 0 (97 ∷ 98 ∷ 99 ∷ []) ∷ []) None → ⊥
 joined_read right = let whole = right.whole in cc
 
-torn_parts : IsRight three (part 2 0 [] ∷ part 0 0 (98 ∷ []) ∷ part 1 1 (99 ∷ []) ∷ part 0 0 (97 ∷ []) ∷ []) None → ⊥
+torn_parts : IsRight three
+    (part 2 0 [] ∷ part 0 0 (98 ∷ []) ∷ part 1 1 (99 ∷ []) ∷ part 0 0 (97 ∷ []) ∷ []) None → ⊥
 torn_parts right = let whole = right.whole in cc
 
-invented_empty_part : IsRight three (part 2 0 [] ∷ part 1 1 [] ∷ part 1 1 (99 ∷ []) ∷ part 0 0 (97 ∷ 98 ∷ []) ∷ []) None → ⊥
+invented_empty_part : IsRight three
+    (part 2 0 [] ∷ part 1 1 [] ∷ part 1 1 (99 ∷ []) ∷ part 0 0 (97 ∷ 98 ∷ []) ∷ []) None → ⊥
 invented_empty_part right = let whole = right.whole in cc
 
 skipped_empty_write : IsRight three (part 1 1 (99 ∷ []) ∷ part 0 0 (97 ∷ 98 ∷ []) ∷ []) None → ⊥
 skipped_empty_write right = let whole = right.whole in cc
 
-read_twice : IsRight three (part 2 0 [] ∷ part 1 1 (99 ∷ []) ∷ part 1 1 (99 ∷ []) ∷ part 0 0 (97 ∷ 98 ∷ []) ∷ []) None → ⊥
+read_twice : IsRight three
+    (part 2 0 [] ∷ part 1 1 (99 ∷ []) ∷ part 1 1 (99 ∷ []) ∷ part 0 0 (97 ∷ 98 ∷ []) ∷ []) None → ⊥
 read_twice right = let whole = right.whole in cc
 
 lost_rest : IsRight (record three { read_whole = 1 }) (part 0 0 (97 ∷ []) ∷ []) None → ⊥
 lost_rest right = let bytes = ap first_bytes right.whole in cc
 
-empty_rest : IsRight (record three { read_whole = 1 }) (part 0 0 (97 ∷ 98 ∷ []) ∷ []) (Some (part 0 0 [])) → ⊥
+empty_rest : IsRight (record three { read_whole = 1 }) (part 0 0 (97 ∷ 98 ∷ []) ∷ [])
+    (Some (part 0 0 [])) → ⊥
 empty_rest right = right.some_left refl
 
-as_another_writers : IsRight three (part 2 0 [] ∷ part 1 0 (99 ∷ []) ∷ part 0 0 (97 ∷ 98 ∷ []) ∷ []) None → ⊥
-as_another_writers right = let writer = ap second_writer right.whole in absurd (omega (arith, writer))
+as_another_writers : IsRight three (part 2 0 [] ∷ part 1 0 (99 ∷ []) ∷ part 0 0 (97 ∷ 98 ∷ []) ∷ [])
+    None → ⊥
+as_another_writers right = let writer = ap second_writer right.whole in
+    absurd (omega (arith, writer))
 
-by_writer : bytes_by 0 (reverse (pieces_of (part 2 0 [] ∷ part 1 1 (99 ∷ []) ∷ part 0 0 (98 ∷ []) ∷ part 0 0 (97 ∷ []) ∷ [])))
+by_writer : bytes_by 0
+    (reverse (pieces_of
+    (part 2 0 [] ∷ part 1 1 (99 ∷ []) ∷ part 0 0 (98 ∷ []) ∷ part 0 0 (97 ∷ []) ∷ [])))
     ≡ (97 ∷ 98 ∷ []) ∷ [] ∷ []
 by_writer = refl
 
@@ -116,7 +127,8 @@ module _ (process : Process) (account : Account Entry) (key : Key) (row : Row) w
   abbrev reader : Option Part → Reader
   reader rest = record { account = account; rest = rest; process = process }
 
-  goes_on : Gets key row (reader (Some abc)) (0 ∷ 0 ∷ []) 2 (reader (Some (part 0 0 (99 ∷ [])))) (97 ∷ 98 ∷ [])
+  goes_on : Gets key row (reader (Some abc)) (0 ∷ 0 ∷ []) 2 (reader (Some (part 0 0 (99 ∷ []))))
+      (97 ∷ 98 ∷ [])
   goes_on =
       record {
         left = abc;
@@ -134,16 +146,19 @@ module _ (process : Process) (account : Account Entry) (key : Key) (row : Row) w
       left_in None = part 0 0 (97 ∷ [])
       left_in (Some left) = left
 
-      count : (left : Part) → left ≡ part 0 0 (97 ∷ []) → IsFilled (part_of 2 left) (0 ∷ 0 ∷ []) buffer' 2 → ⊥
+      count : (left : Part) → left ≡ part 0 0 (97 ∷ [])
+          → IsFilled (part_of 2 left) (0 ∷ 0 ∷ []) buffer' 2 → ⊥
       count left is filled =
           let counted = filled.count_is in
           let bytes = ap (λ (p : Part). length (part_of 2 p).bytes) is in
           absurd (omega (arith, counted, bytes))
 
-      by : GoesOn (reader (Some (part 0 0 (97 ∷ [])))) gets.left new ⊎ TakesOut key row (reader (Some (part 0 0 (97 ∷ [])))) gets.left new → ⊥
+      by : GoesOn (reader (Some (part 0 0 (97 ∷ [])))) gets.left new
+          ⊎ TakesOut key row (reader (Some (part 0 0 (97 ∷ [])))) gets.left new → ⊥
       by (inl goes) = count gets.left (some_part gets.left goes.left_is) gets.filled
         where
-          some_part : (left : Part) → Some (part 0 0 (97 ∷ [])) ≡ Some left → left ≡ part 0 0 (97 ∷ [])
+          some_part : (left : Part) → Some (part 0 0 (97 ∷ [])) ≡ Some left → left
+              ≡ part 0 0 (97 ∷ [])
           some_part left is = sym (ap left_in is)
       by (inr takes) = let none = takes.none_left in cc
 
@@ -173,7 +188,8 @@ module _ (before_all : Process) where
       }
 
   -- the first writer at the Rendez behind the reader's, and then the second
-  wakes_both : WakesWriters two_writers 2 5 idle (woke (woke idle (record { 0 = 4 }) 5) (record { 0 = 5 }) 5)
+  wakes_both : WakesWriters two_writers 2 5 idle
+      (woke (woke idle (record { 0 = 4 }) 5) (record { 0 = 5 }) 5)
   wakes_both =
       record {
         between = woke idle (record { 0 = 4 }) 5;
@@ -182,7 +198,8 @@ module _ (before_all : Process) where
           others = refl;
           last = record {
             receipt = record { rendez = record { 0 = 4 }; level = 5 };
-            woken = record { ends = inl refl; rendez_is = refl; level_is = refl; receipt = inl refl };
+            woken = record
+                { ends = inl refl; rendez_is = refl; level_is = refl; receipt = inl refl };
           };
         };
         last = record {
@@ -191,15 +208,32 @@ module _ (before_all : Process) where
         };
       }
 
-  sleep_has_no_other_fault : (before after : Process) (rendez : RendezId) → FailsAsleep before rendez 0 after fault.NoRendez → ⊥
+  sleep_has_no_other_fault : (before after : Process) (rendez : RendezId)
+      → FailsAsleep before rendez 0 after fault.NoRendez → ⊥
   sleep_has_no_other_fault before after rendez fails = fails
 
 -- ---- what was written
 
-written : HasWritten (record { number = 1; shares = record { number = 1; mine = Stood 0 1 ∷ Taken 0 (97 ∷ []) 1 ∷ [] } ∷ []; seen = []; gave = [] }) 0 ((97 ∷ []) ∷ [])
+written : HasWritten
+    (record {
+      number = 1;
+      shares =
+          record { number = 1; mine = Stood 0 1 ∷ Taken 0 (97 ∷ []) 1 ∷ [] } ∷ [];
+      seen = [];
+      gave = [];
+    })
+    0 ((97 ∷ []) ∷ [])
 written = record { own = refl; are = (λ number. refl, tt) }
 
-forgets_a_write : HasWritten (record { number = 1; shares = record { number = 1; mine = Stood 0 1 ∷ Taken 0 (97 ∷ []) 1 ∷ [] } ∷ []; seen = []; gave = [] }) 0 [] → ⊥
+forgets_a_write : HasWritten
+    (record {
+      number = 1;
+      shares =
+          record { number = 1; mine = Stood 0 1 ∷ Taken 0 (97 ∷ []) 1 ∷ [] } ∷ [];
+      seen = [];
+      gave = [];
+    })
+    0 [] → ⊥
 forgets_a_write written = let are = written.are.0 refl in cc
 
 is_another_writers : HasWritten (new_account 1) 1 [] → ⊥
@@ -253,8 +287,18 @@ reader_of_both =
 abbrev held : Holdings
 held = record { rest = 98 ∷ []; writes = write 0 (99 ∷ []) ∷ []; hung = false }
 
-finished : Finishes small (record { account = reader_of_both; parts = part 0 0 (97 ∷ []) ∷ []; rest = Some (part 0 0 (98 ∷ [])) })
-    (record { number = 1; mine = Stood 0 2 ∷ Taken 0 (99 ∷ []) 2 ∷ Stood 0 1 ∷ Taken 0 (97 ∷ 98 ∷ []) 1 ∷ [] } ∷ []) held
+finished : Finishes small
+    (record {
+      account = reader_of_both;
+      parts = part 0 0 (97 ∷ []) ∷ [];
+      rest =
+          Some (part 0 0 (98 ∷ []));
+    })
+    (record {
+      number = 1;
+      mine =
+          Stood 0 2 ∷ Taken 0 (99 ∷ []) 2 ∷ Stood 0 1 ∷ Taken 0 (97 ∷ 98 ∷ []) 1 ∷ [];
+    } ∷ []) held
 finished =
     record {
       history = both;
@@ -264,10 +308,21 @@ finished =
           (
             record { may = tt; in_turn = refl },
             (
-              record { may = record { may = (refl, omega arith); number_is = refl; given = omega arith }; in_turn = refl },
+              record {
+                may =
+                    record { may = (refl, omega arith); number_is = refl; given = omega arith };
+                in_turn = refl;
+              },
               (
                 record { may = tt; in_turn = refl },
-                (record { may = record { may = (refl, omega arith); number_is = refl; given = omega arith }; in_turn = refl }, tt),
+                (
+                  record {
+                    may =
+                        record { may = (refl, omega arith); number_is = refl; given = omega arith };
+                    in_turn = refl;
+                  },
+                  tt,
+                ),
               ),
             ),
           ),
@@ -283,6 +338,13 @@ finished =
     }
 
 -- what was read and is held is both writes
-found : bytes_by 0 (read_and_held small (record { account = reader_of_both; parts = part 0 0 (97 ∷ []) ∷ []; rest = Some (part 0 0 (98 ∷ [])) }) held)
+found : bytes_by 0
+    (read_and_held small
+    (record {
+      account = reader_of_both;
+      parts = part 0 0 (97 ∷ []) ∷ [];
+      rest =
+          Some (part 0 0 (98 ∷ []));
+    }) held)
     ≡ (97 ∷ 98 ∷ []) ∷ (99 ∷ []) ∷ []
 found = refl

@@ -1,5 +1,6 @@
 -- What the calls of a write end add to what its seat knows as accepted.
-use Rattle.std.proofs.Common.{◌≡◌, ◌≢◌, ◌⊎◌, inl, inr, eqb, ℕ, zero, suc, ◌+◌, true, false, if◌then◌else◌, List, [], ◌∷◌, ◌++◌, map, refl, sym, ◌∙◌, ap, subst}
+use Rattle.std.proofs.Common.{◌≡◌, ◌≢◌, ◌⊎◌, inl, inr, eqb, ℕ, zero, suc, ◌+◌, true, false}
+use Rattle.std.proofs.Common.{if◌then◌else◌, List, [], ◌∷◌, ◌++◌, map, refl, sym, ◌∙◌, ap, subst}
 use Rattle.std.specs.Prelude.{IsTrue, ◌||◌, Result, Ok, Err}
 use Rattle.std.specs.List.{AllByRecursion}
 use Rattle.std.proofs.lemmas.Bool.Decides.{eqb_tells}
@@ -10,14 +11,16 @@ use Rattle.histories.specs.Account.{has_number, share_after}
 use Rattle.sync_base.specs.declared.fault.Fault.{Fault}
 use Rattle.sync_base.specs.declared.fault.Fault.TheVariants as fault
 use Rattle.block_queue.specs.declared.entry.Entry.{Entry}
-use Rattle.block_queue.specs.declared.entry.Entry.TheVariants.{Taken, Stood, Full, Hungup, Worn, Hung}
+use Rattle.block_queue.specs.declared.entry.Entry.TheVariants.{Taken, Stood, Full, Hungup, Worn}
+use Rattle.block_queue.specs.declared.entry.Entry.TheVariants.{Hung}
 use Rattle.block_queue.specs.declared.view.Key.{Key}
 use Rattle.block_queue.specs.History.{seat_of}
 use Rattle.block_queue.specs.Meaning.{Enters}
 use Rattle.block_queue.specs.Opening.{new_account}
 use Rattle.block_queue.proofs.SeatLemmas.{entered_own}
 use Rattle.pipe_dev.specs.declared.row.Row.{Row}
-use Rattle.pipe_dev.specs.CallLaws.{NewEndsHaveWrittenNothing, WritesAddWhatWasAccepted, HangupsWriteNothing}
+use Rattle.pipe_dev.specs.CallLaws.{NewEndsHaveWrittenNothing, WritesAddWhatWasAccepted}
+use Rattle.pipe_dev.specs.CallLaws.{HangupsWriteNothing}
 use Rattle.pipe_dev.specs.Chain.{HasWritten, written_by}
 use Rattle.pipe_dev.specs.Finishing.{accepted_in}
 use Rattle.pipe_dev.specs.Rounds.{Rounds}
@@ -32,32 +35,40 @@ Are writer blocks shares =
 are_after : (writer : ℕ) (entry : Entry) (blocks more : List (List ℕ)) (shares : List (Share Entry))
     → seat_of entry ≡ writer + 1
     → ((mine : List Entry) → accepted_in (entry ∷ mine) ≡ accepted_in mine ++ more)
-    → Are writer blocks shares → Are writer (blocks ++ more) (map (share_after seat_of entry) shares)
+    → Are writer blocks shares
+    → Are writer (blocks ++ more) (map (share_after seat_of entry) shares)
 are_after writer entry blocks more [] by_it says are = tt
-are_after writer entry blocks more (share ∷ shares) by_it says are =
-    (λ number. one (eqb_tells (seat_of entry) share.number) number (are.0 number), are_after writer entry blocks more shares by_it says are.1)
+are_after writer entry blocks more (share ∷ shares) by_it says are = (
+  λ number. one (eqb_tells (seat_of entry) share.number) number (are.0 number),
+  are_after writer entry blocks more shares by_it says are.1,
+)
   where
-    one : ((eqb (seat_of entry) share.number ≡ true) × (seat_of entry ≡ share.number)) ⊎ ((eqb (seat_of entry) share.number ≡ false) × (seat_of entry ≢ share.number))
+    one : ((eqb (seat_of entry) share.number ≡ true) × (seat_of entry ≡ share.number))
+        ⊎ ((eqb (seat_of entry) share.number ≡ false) × (seat_of entry ≢ share.number))
         → share.number ≡ writer + 1 → accepted_in share.mine ≡ blocks
-        → accepted_in (if eqb (seat_of entry) share.number then entry ∷ share.mine else share.mine) ≡ blocks ++ more
+        → accepted_in (if eqb (seat_of entry) share.number then entry ∷ share.mine else share.mine)
+        ≡ blocks ++ more
     one (inl same) number known =
         ap (λ b. accepted_in (if b then entry ∷ share.mine else share.mine)) same.0
         ∙ (says share.mine ∙ ap (λ bs. bs ++ more) known)
     one (inr differ) number known = absurd (differ.1 (by_it ∙ sym number))
 
-entered : (key : Key) (entry : Entry) (old new : Account Entry) (writer : ℕ) (blocks more : List (List ℕ))
+entered : (key : Key) (entry : Entry) (old new : Account Entry) (writer : ℕ)
+    (blocks more : List (List ℕ))
     → Enters key entry old new → seat_of entry ≡ writer + 1
     → ((mine : List Entry) → accepted_in (entry ∷ mine) ≡ accepted_in mine ++ more)
     → HasWritten old writer blocks → HasWritten new writer (blocks ++ more)
 entered key entry old new writer blocks more enters by_it says written =
     record {
       own = entered_own key entry old new (writer + 1) enters written.own;
-      are = subst (λ (a : Account Entry). Are writer (blocks ++ more) a.shares) (sym enters.adds.new_is)
+      are = subst (λ (a : Account Entry). Are writer (blocks ++ more) a.shares)
+          (sym enters.adds.new_is)
           (are_after writer entry blocks more old.shares by_it says written.are);
     }
 
 -- an entry that says nothing of the kind adds nothing
-entered_none : (key : Key) (entry : Entry) (old new : Account Entry) (writer : ℕ) (blocks : List (List ℕ))
+entered_none : (key : Key) (entry : Entry) (old new : Account Entry) (writer : ℕ)
+    (blocks : List (List ℕ))
     → Enters key entry old new → seat_of entry ≡ writer + 1
     → ((mine : List Entry) → accepted_in (entry ∷ mine) ≡ accepted_in mine)
     → HasWritten old writer blocks → HasWritten new writer blocks
@@ -72,18 +83,22 @@ all_rounds : (key : Key) (row : Row) (writer : ℕ) (block : List ℕ) (times : 
 all_rounds key row writer block zero old new blocks rounds written =
     subst (λ (w : Writer). HasWritten w.account writer blocks) (sym rounds) written
 all_rounds key row writer block (suc times) old new blocks rounds written =
-    entered_none key (Full writer block rounds.last.number) rounds.between.account new.account writer blocks
+    entered_none key (Full writer block rounds.last.number) rounds.between.account new.account
+    writer blocks
     rounds.last.found.entered refl (λ mine. refl)
     (all_rounds key row writer block times old rounds.between blocks rounds.rounds written)
 
-at_end : (key : Key) (row : Row) (writer : ℕ) (block : List ℕ) (old : Writer) (answer : Result ℕ Fault)
+at_end : (key : Key) (row : Row) (writer : ℕ) (block : List ℕ) (old : Writer)
+    (answer : Result ℕ Fault)
     (new : Writer) (blocks : List (List ℕ)) → EndsWrite key row writer block old answer new
     → HasWritten old.account writer blocks
     → HasWritten new.account writer (blocks ++ written_by answer block)
 at_end key row writer block old (Ok number) new blocks ends written =
-    entered_none key (Stood writer number) ends.stands.between new.account writer (blocks ++ block ∷ [])
+    entered_none key (Stood writer number) ends.stands.between new.account writer
+    (blocks ++ block ∷ [])
     ends.stands.stood refl (λ mine. refl)
-    (entered key (Taken writer block number) old.account ends.stands.between writer blocks (block ∷ [])
+    (entered key (Taken writer block number) old.account ends.stands.between writer blocks
+    (block ∷ [])
     ends.stands.taken refl (λ mine. refl) written)
 at_end key row writer block old (Err fault.Hungup) new blocks ends written =
     entered key (Hungup writer block) old.account new.account writer blocks [] ends.entered refl
@@ -92,10 +107,12 @@ at_end key row writer block old (Err fault.Worn) new blocks ends written =
     entered key (Worn writer block) old.account new.account writer blocks [] ends.entered refl
     (λ mine. sym (append-nil (accepted_in mine))) written
 at_end key row writer block old (Err why) new blocks ends written =
-    entered key (Full writer block ends.number) old.account new.account writer blocks [] ends.found.entered refl
+    entered key (Full writer block ends.number) old.account new.account writer blocks []
+    ends.found.entered refl
     (λ mine. sym (append-nil (accepted_in mine))) written
 
-asked : (key : Key) (row : Row) (writer : ℕ) (block : List ℕ) (old : Writer) (answer : Result ℕ Fault)
+asked : (key : Key) (row : Row) (writer : ℕ) (block : List ℕ) (old : Writer)
+    (answer : Result ℕ Fault)
     (new : Writer) (blocks : List (List ℕ)) → Asks key row writer block old answer new
     → HasWritten old.account writer blocks
     → HasWritten new.account writer (blocks ++ written_by answer block)
@@ -107,12 +124,15 @@ untouched : (old new : Writer) (writer : ℕ) (blocks : List (List ℕ)) → new
     → HasWritten old.account writer blocks → HasWritten new.account writer (blocks ++ [])
 untouched old new writer blocks same written =
     subst (λ (w : Writer). HasWritten w.account writer (blocks ++ [])) (sym same)
-    (subst (λ (bs : List (List ℕ)). HasWritten old.account writer bs) (sym (append-nil blocks)) written)
+    (subst (λ (bs : List (List ℕ)). HasWritten old.account writer bs) (sym (append-nil blocks))
+    written)
 
 pub new_ends_have_written_nothing : NewEndsHaveWrittenNothing
-new_ends_have_written_nothing writer = record { own = itself (eqb_tells (writer + 1) (writer + 1)); are = (λ _. refl, tt) }
+new_ends_have_written_nothing writer =
+    record { own = itself (eqb_tells (writer + 1) (writer + 1)); are = (λ _. refl, tt) }
   where
-    itself : ((eqb (writer + 1) (writer + 1) ≡ true) × (writer + 1 ≡ writer + 1)) ⊎ ((eqb (writer + 1) (writer + 1) ≡ false) × (writer + 1 ≢ writer + 1))
+    itself : ((eqb (writer + 1) (writer + 1) ≡ true) × (writer + 1 ≡ writer + 1))
+        ⊎ ((eqb (writer + 1) (writer + 1) ≡ false) × (writer + 1 ≢ writer + 1))
         → IsTrue (has_number (new_account (writer + 1)).shares (writer + 1))
     itself (inl same) = ap (λ b. b || false) same.0
     itself (inr differ) = absurd (differ.1 refl)
@@ -121,6 +141,9 @@ pub writes_add_what_was_accepted : WritesAddWhatWasAccepted
 writes_add_what_was_accepted key row writer block old (Ok number) new wrote blocks written =
     asked key row writer block old (Ok number) new blocks wrote written
 writes_add_what_was_accepted key row writer block old (Err fault.TooBig) new wrote blocks written =
+    untouched old new writer blocks wrote written
+writes_add_what_was_accepted key row writer block old (Err fault.NoRendez) new wrote blocks
+    written =
     untouched old new writer blocks wrote written
 writes_add_what_was_accepted key row writer block old (Err fault.Memory) new wrote blocks written =
     untouched old new writer blocks wrote written

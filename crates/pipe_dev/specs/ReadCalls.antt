@@ -1,5 +1,5 @@
 -- What the calls of a read end do, after pipe(2), pipe(3) and read(2).
-use Rattle.std.specs.Prelude.{◌≡◌, ◌⊎◌, ◌+◌, ◌++◌, ℕ, ⊤, nat_le, List, length, take, drop}
+use Rattle.std.specs.Prelude.{◌≡◌, ◌⊎◌, ◌+◌, ◌++◌, ℕ, nat_le, List, length, take, drop}
 use Rattle.std.specs.Prelude.{Option, Some, None, Result, Ok, Err, if◌then◌else◌}
 use Rattle.histories.specs.declared.account.Account.{Account}
 use Rattle.sync_base.specs.declared.fault.Fault.{Fault}
@@ -131,25 +131,27 @@ EndsRead key row old buffer (Ok read.End) new buffer' = FindsEnd key old new × 
 EndsRead key row old buffer (Err why) new buffer' =
     FailsForWrite key row old why new × (buffer' ≡ buffer)
 
--- What a read did, by its answer: some times it found nothing and slept; and then it ended.
-pub record Reads (key : Key) (row : Row) (old : Reader) (buffer : List ℕ)
+-- some times it found nothing and slept; and then it ended
+pub record KeepsTrying (key : Key) (row : Row) (old : Reader) (buffer : List ℕ)
     (answer : Result ReadAnswer Fault) (new : Reader) (buffer' : List ℕ) : Type 0 where
   pub times : ℕ
   pub between : Reader
   pub slept : Rounds (SleepsForWrite key row) times old between
   pub ended : EndsRead key row between buffer answer new buffer'
 
--- what a read is refused as before anything is tried
-abbrev pub IsRefusedRead : Result ReadAnswer Fault → Type 0
-IsRefusedRead (Err fault.BadCount) = ⊤
-IsRefusedRead (Err fault.NoRendez) = ⊤
-IsRefusedRead answer = ⊥
-
 -- a read that was refused at once did nothing
 pub record IsUntouchedRead (old : Reader) (buffer : List ℕ) (new : Reader) (buffer' : List ℕ) :
     Type 0 where
   pub same : new ≡ old
   pub buffer_same : buffer' ≡ buffer
+
+-- What a read did, by its answer. Own: a read into a buffer of no bytes is refused first, and then
+-- one by a process of another kernel; they do nothing.
+abbrev pub Reads :
+    Key → Row → Reader → List ℕ → Result ReadAnswer Fault → Reader → List ℕ → Type 0
+Reads key row old buffer (Err fault.BadCount) new buffer' = IsUntouchedRead old buffer new buffer'
+Reads key row old buffer (Err fault.NoRendez) new buffer' = IsUntouchedRead old buffer new buffer'
+Reads key row old buffer answer new buffer' = KeepsTrying key row old buffer answer new buffer'
 
 -- the reader that has this hand
 abbrev pub reader_with : ReadHand → Running → Reader

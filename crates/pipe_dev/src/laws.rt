@@ -39,8 +39,8 @@ pub fn calls_write_what_they_answer()
 /// The headline. Whatever calls were made of the ends of a direction, from any threads: what was
 /// read from it, followed by what it still holds, is for each writer the bytes of its accepted
 /// writes, in its order, each write whole, contiguous and once; no write is accepted after a
-/// hangup; and no process that fell asleep before its condition was made true stays posted once the wakeup
-/// that followed has returned.
+/// hangup; and no process that fell asleep before its condition was made true stays posted once
+/// the wakeup that followed has returned.
 pub fn each_write_is_read_whole_and_once()
     ensures shares { EachShareIsReadWholeAndOnce }
     ensures whole { EachWriteIsReadWholeAndOnce }

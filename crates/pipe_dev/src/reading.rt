@@ -2,7 +2,7 @@
 ghost use Rattle.std.specs.Prelude.{◌≡◌, ◌≢◌, [], Some, None};
 ghost use Rattle.block_queue.specs.Seats.{key_of};
 ghost use Rattle.pipe_dev.specs.Ends.{IsReadHand};
-ghost use Rattle.pipe_dev.specs.ReadCalls.{Reads, reader_with};
+ghost use Rattle.pipe_dev.specs.ReadCalls.{KeepsTrying, reader_with};
 ghost use Rattle.pipe_dev.specs.ReadSteps.{TriesOnce, IfOver, IfSlept};
 ghost use Rattle.pipe_dev.specs.Rendezes.{HasRow};
 
@@ -22,16 +22,16 @@ impl<'p> ReadEnd<'p> {
     ghost use Rattle.sync_base.specs.declared.fault.Fault.TheVariants.{BadCount, NoRendez};
     ghost use Rattle.block_queue.specs.Seats.{key_of};
     ghost use Rattle.pipe_dev.specs.Ends.{IsSameReadEnd};
-    ghost use Rattle.pipe_dev.specs.ReadCalls.{Reads, Tries, IsRefusedRead, IsUntouchedRead, reader_of};
+    ghost use Rattle.pipe_dev.specs.ReadCalls.{Reads, Tries, IsUntouchedRead, reader_of};
     ghost use Rattle.pipe_dev.specs.Rendezes.{HasRow};
 
     /// Reads what is next: fills the buffer, up to its end or to the end of one write, whichever
     /// comes first. Where nothing is there yet it waits. Takes no memory.
     ///
     /// `End` where the direction is hung up and all is read. Refuses, in this order, as `BadCount`
-    /// for a buffer of no bytes, as `NoRendez` where the process is of another kernel, which has not
-    /// all Rendez of the direction, and where it would wait as `DoubleSleep` and `Interrupted`. A
-    /// read that took a write out wakes each writer with its number. After pipe(3) and read(2).
+    /// for a buffer of no bytes, as `NoRendez` where the process is of another kernel, which has
+    /// not all Rendez of the direction, and where it would wait as `DoubleSleep` and `Interrupted`.
+    /// A read that took a write out wakes each writer with its number. After pipe(3) and read(2).
     pub fn read<R: Wait>(
         &mut self,
         rt: &R,
@@ -39,21 +39,19 @@ impl<'p> ReadEnd<'p> {
         buffer: &mut [u8],
     ) -> Result<ReadAnswer, Fault>
         // A buffer of no bytes is refused first, and then a process of a kernel that has not all
-        // Rendez of the direction; nothing is done then.
+        // Rendez of the direction.
         ensures bad_count { IsErrOf result BadCount ↔ (buffer.old ≡ []) }
         ensures no_rendez { buffer.old ≢ []
             → (IsErrOf result NoRendez ↔ ¬ HasRow proc.old.words self.old.row) }
-        ensures refused { IsRefusedRead result → IsUntouchedRead
-            (reader_of self.old proc.old) buffer.old (reader_of self.new proc.new) buffer.new }
 
-        // Otherwise it read, slept and woke so.
-        ensures read { ¬ IsRefusedRead result → Reads (key_of self.old.queue) self.old.row
+        // It read, slept and woke so, or did nothing.
+        ensures read { Reads (key_of self.old.queue) self.old.row
             (reader_of self.old proc.old) buffer.old result
             (reader_of self.new proc.new) buffer.new }
-
         ensures end { IsSameReadEnd self.old self.new }
         ensures words { proc.new.words ≡ proc.old.words }
     {
+        // The refusals come before the hand is taken, so they leave the end as it was.
         if buffer.is_empty() {
             return Err(Fault::BadCount);
         }
@@ -150,7 +148,7 @@ fn read_with<R: Wait>(
     requires kernel { HasRow proc.old.words row.now }
     ensures hand { IsReadHand queue.now row.now result.hand }
     ensures words { proc.new.words ≡ proc.old.words }
-    ensures read { Reads (key_of queue.now) row.now
+    ensures read { KeepsTrying (key_of queue.now) row.now
         (reader_with hand proc.old) buffer.old result.answer
         (reader_with result.hand proc.new) buffer.new }
 {

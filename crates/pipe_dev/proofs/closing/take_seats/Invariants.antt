@@ -8,7 +8,8 @@ use Rattle.pipe_dev.proofs.closing.take_seats.Given as goal
 abbrev pub invariant-taking : goal.invariant-taking
 invariant-taking l =
     record {
-      seats : (done : List WriteSide) × (l.initial.room.items ≡ l.room.items ++ done) × AreSeatsOf done (reverse l.puts.items);
+      seats : (done : List WriteSide) × (l.initial.room.items ≡ l.room.items ++ done)
+          × AreSeatsOf done (reverse l.puts.items);
       room : length l.room.items + length l.puts.items ≤ vec_capacity l.puts;
       capacity : vec_capacity l.room ≡ vec_capacity l.initial.room;
     }

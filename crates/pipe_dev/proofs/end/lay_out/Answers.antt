@@ -14,20 +14,39 @@ returns c =
     let row = c.args.lane.row in
     let seats = c.args.lane.puts.items in
     let lane = c.requires.lane in
-    let seated : c.seat_writers.result.items ≡ map (side_of queue row) seats = c.seat_writers.ensures.seated in
-    let side : ReadSide = record { queue = queue; row = row; account = c.new.result.account; rest = c.new.result.rest } in
+    let seated : c.seat_writers.result.items ≡ map (side_of queue row) seats =
+    c.seat_writers.ensures.seated in
+    let side : ReadSide =
+    record {
+      queue = queue;
+      row = row;
+      account = c.new.result.account;
+      rest =
+          c.new.result.rest;
+    } in
     let side_is : side ≡ c.new.result
-    = ap (λ q. record { queue = q; row = row; account = c.new.result.account; rest = c.new.result.rest }) (sym c.new.ensures.queue)
-    ∙ ap (λ r. record { queue = c.new.result.queue; row = r; account = c.new.result.account; rest = c.new.result.rest }) (sym c.new.ensures.row) in
+    = ap (λ q. record
+    { queue = q; row = row; account = c.new.result.account; rest = c.new.result.rest })
+    (sym c.new.ensures.queue)
+    ∙ ap (λ r. record {
+      queue = c.new.result.queue;
+      row = r;
+      account = c.new.result.account;
+      rest =
+          c.new.result.rest;
+    }) (sym c.new.ensures.row) in
     record {
       ends = record {
         queue_is = c.new.ensures.queue;
         row_is = c.new.ensures.row;
         unread = c.new.ensures.account ∙ lane.unread;
         rest = c.new.ensures.rest;
-        unwritten = subst (AllByRecursion (IsNewWriteEnd queue row)) (sym seated) (new_writes queue row seats lane.writes);
+        unwritten =
+            subst (AllByRecursion (IsNewWriteEnd queue row)) (sym seated)
+            (new_writes queue row seats lane.writes);
         all = record {
-          one = subst (λ (r : ReadSide). AllByRecursion (AreOfOne r) c.seat_writers.result.items) side_is
+          one = subst (λ (r : ReadSide). AllByRecursion (AreOfOne r) c.seat_writers.result.items)
+              side_is
               (subst (AllByRecursion (AreOfOne side)) (sym seated) (new_one side seats));
           order = ap (map (λ (w : WriteSide). w.writer)) seated ∙ (new_order queue row seats
               ∙ (lane.order ∙ ap (λ r. numbers_from 0 r.writers) (sym c.new.ensures.row)));

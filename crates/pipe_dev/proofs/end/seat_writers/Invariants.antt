@@ -10,6 +10,8 @@ abbrev pub invariant-seating : goal.invariant-seating
 invariant-seating l =
     record {
       hands : AllByRecursion (IsHandOf l.queue l.row) (into_iter_items l.seat-iterator);
-      seated : l.writes.items ++ map (side_of l.queue l.row) (into_iter_items l.seat-iterator) ≡ map (side_of l.queue l.row) l.fn.puts.items;
-      room : length l.writes.items + length (into_iter_items l.seat-iterator) ≤ vec_capacity l.writes;
+      seated : l.writes.items ++ map (side_of l.queue l.row) (into_iter_items l.seat-iterator)
+          ≡ map (side_of l.queue l.row) l.fn.puts.items;
+      room : length l.writes.items + length (into_iter_items l.seat-iterator) ≤ vec_capacity
+          l.writes;
     }

@@ -1,4 +1,5 @@
-use Rattle.pipe_dev.proofs.WrittenLemmas.{new_ends_have_written_nothing, writes_add_what_was_accepted, hangups_write_nothing}
+use Rattle.pipe_dev.proofs.WrittenLemmas.{new_ends_have_written_nothing}
+use Rattle.pipe_dev.proofs.WrittenLemmas.{writes_add_what_was_accepted, hangups_write_nothing}
 use Rattle.pipe_dev.proofs.laws.calls_write_what_they_answer.Goals as goal
 
 pub returns-clause-new : goal.returns-clause-new

@@ -1,7 +1,9 @@
 -- By what each legal history leaves.
-use Rattle.pipe_dev.proofs.LawLemmas.{each_share_is_read_whole_and_once, none_is_accepted_after_hangup}
+use Rattle.pipe_dev.proofs.LawLemmas.{each_share_is_read_whole_and_once}
+use Rattle.pipe_dev.proofs.LawLemmas.{none_is_accepted_after_hangup}
 use Rattle.pipe_dev.proofs.ChainLemmas.{each_write_is_read_whole_and_once}
-use Rattle.pipe_dev.proofs.WaitLemmas.{writes_wake_the_reader, reads_wake_each_writer, hangups_wake_all}
+use Rattle.pipe_dev.proofs.WaitLemmas.{writes_wake_the_reader, reads_wake_each_writer}
+use Rattle.pipe_dev.proofs.WaitLemmas.{hangups_wake_all}
 use Rattle.pipe_dev.proofs.laws.each_write_is_read_whole_and_once.Goals as goal
 
 pub returns-clause-shares : goal.returns-clause-shares

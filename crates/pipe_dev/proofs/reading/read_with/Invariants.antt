@@ -12,5 +12,7 @@ invariant-reading g l =
       hand : IsReadHand l.queue l.row l.hand;
       words : l.proc.words ≡ l.initial.proc.words;
       buffer : l.buffer ≡ l.initial.buffer;
-      times : (times : ℕ) × Rounds (SleepsForWrite (key_of l.queue) l.row) times (reader_with l.initial.hand l.initial.proc) (reader_with l.hand l.proc);
+      times : (times : ℕ)
+          × Rounds (SleepsForWrite (key_of l.queue) l.row) times
+          (reader_with l.initial.hand l.initial.proc) (reader_with l.hand l.proc);
     }

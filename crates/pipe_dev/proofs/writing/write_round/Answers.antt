@@ -11,20 +11,29 @@ use Rattle.pipe_dev.proofs.writing.write_round.Goals as goal
 
 pub returns-in-Full-clause-over : goal.returns-in-Full-clause-over
 returns-in-Full-clause-over g c =
-    write_fails c.args.proc.now.words (key_of c.args.queue.now) c.args.row.now c.args.seat.writer c.args.block
-    (writer_with c.args.seat c.args.proc.now) (put_account c.put.new.seat) c.in-Full.number c.writer.result
+    write_fails c.args.proc.now.words (key_of c.args.queue.now) c.args.row.now c.args.seat.writer
+    c.args.block
+    (writer_with c.args.seat c.args.proc.now) (put_account c.put.new.seat) c.in-Full.number
+    c.writer.result
     c.sleep.new.self.process c.in-Err.fault c.requires.seat.row_is.first c.requires.kernel
     (omega (arith, c.requires.seat.seat_is.writer_is, c.requires.seat.row_is.writers))
     (c.writer.ensures ∙ ap (writer_rendez c.args.row.now) c.writer-writer.ensures)
-    record { entered = c.in-Full.ensures.answer.refused; fresh = c.in-Full.ensures.fresh; process = λ i. c.args.proc.now.process }
+    record {
+      entered = c.in-Full.ensures.answer.refused;
+      fresh = c.in-Full.ensures.fresh;
+      process =
+          λ i. c.args.proc.now.process;
+    }
     c.in-Err.ensures.fault
 
 pub returns-in-Hungup-clause-over : goal.returns-in-Hungup-clause-over
 returns-in-Hungup-clause-over g c = (
   record {
     entered = c.in-Hungup.ensures.answer.refused;
-    knew = hungup_knew (key_of c.args.queue.now) c.args.seat.writer c.args.block (put_account c.args.seat) (put_account c.put.new.seat) c.in-Hungup.ensures.answer.refused;
-    noted = c.put_back.ensures.noted ∙ ap (notes c.args.proc.now.process (pid_in c.args.proc.now.process)) c.of.ensures.value;
+    knew = hungup_knew (key_of c.args.queue.now) c.args.seat.writer c.args.block
+        (put_account c.args.seat) (put_account c.put.new.seat) c.in-Hungup.ensures.answer.refused;
+    noted = c.put_back.ensures.noted
+        ∙ ap (notes c.args.proc.now.process (pid_in c.args.proc.now.process)) c.of.ensures.value;
   },
   tt,
 )

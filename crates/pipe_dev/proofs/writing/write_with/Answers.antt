@@ -11,10 +11,15 @@ writing-preserved g c =
     let key = key_of c.args.queue.now in
     let old = writer_with c.writing.seat c.writing.proc in
     let new = writer_with c.write_round-now.result.seat c.write_round-now.new.proc in
-    let again = subst (λ turn. IfAgain turn key c.args.row.now c.writing.seat.writer c.writing.block old new)
+    let again =
+    subst (λ turn. IfAgain turn key c.args.row.now c.writing.seat.writer c.writing.block old
+    new)
     c.in-Again.is c.write_round-now.ensures.again in
     record {
-      seat = subst (λ (writer : ℕ). IsWriteHand c.args.queue.now c.args.row.now writer c.write_round-now.result.seat) c.writing.invariant.seat.writer_is c.write_round-now.ensures.seat;
+      seat = subst
+          (λ (writer : ℕ). IsWriteHand c.args.queue.now c.args.row.now writer
+          c.write_round-now.result.seat) c.writing.invariant.seat.writer_is
+          c.write_round-now.ensures.seat;
       words = c.write_round-now.ensures.words ∙ c.writing.invariant.words;
       block = again.1 ∙ c.writing.invariant.block;
       times = (
@@ -22,8 +27,11 @@ writing-preserved g c =
         record {
           between = old;
           rounds = c.writing.invariant.times.1;
-          last = subst (λ (block : List ℕ). SleepsForRoom key c.args.row.now c.args.seat.writer block old new) c.writing.invariant.block
-              (subst (λ (writer : ℕ). SleepsForRoom key c.args.row.now writer c.writing.block old new) c.writing.invariant.seat.writer_is again.0);
+          last = subst
+              (λ (block : List ℕ). SleepsForRoom key c.args.row.now c.args.seat.writer block old
+              new) c.writing.invariant.block
+              (subst (λ (writer : ℕ). SleepsForRoom key c.args.row.now writer c.writing.block old
+              new) c.writing.invariant.seat.writer_is again.0);
         },
       );
     }

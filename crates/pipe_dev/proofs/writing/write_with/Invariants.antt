@@ -12,5 +12,7 @@ invariant-writing g l =
       seat : IsWriteHand l.queue l.row l.initial.seat.writer l.seat;
       words : l.proc.words ≡ l.initial.proc.words;
       block : l.block ≡ l.initial.block;
-      times : (times : ℕ) × Rounds (SleepsForRoom (key_of l.queue) l.row l.initial.seat.writer l.initial.block) times (writer_with l.initial.seat l.initial.proc) (writer_with l.seat l.proc);
+      times : (times : ℕ)
+          × Rounds (SleepsForRoom (key_of l.queue) l.row l.initial.seat.writer l.initial.block)
+          times (writer_with l.initial.seat l.initial.proc) (writer_with l.seat l.proc);
     }

@@ -34,9 +34,11 @@ returns-clause-lane c =
       };
       unread = way.account_is;
       writes = all_to_give queue c.args.row 0 c.args.self.puts.items row_is
-          (λ place seat there. subst (λ (n : ℕ). IsNewPutSeat queue n seat) (omega arith) (seats place seat there));
+          (λ place seat there. subst (λ (n : ℕ). IsNewPutSeat queue n seat) (omega arith)
+          (seats place seat there));
       order = writers_in_order queue 0 c.args.self.puts.items
-          (λ place seat there. subst (λ (n : ℕ). IsNewPutSeat queue n seat) (omega arith) (seats place seat there))
+          (λ place seat there. subst (λ (n : ℕ). IsNewPutSeat queue n seat) (omega arith)
+          (seats place seat there))
           ∙ ap (numbers_from 0) count;
       none = way.none;
       room = omega (arith, count, room);

@@ -15,8 +15,10 @@ returns-in-Err-clause-wrote g c =
       ended = (
         c.split_at.result.0.now,
         atomic_writes c.split_at.result.1.now,
-        cut_next c.args.bytes.now c.writing.left.now _ _ written.0 c.writing-test.true c.split_at.ensures.front c.split_at.ensures.back written.3,
-        wrote_at c.args.self.now c.writing.self _ _ (Err c.in-Err.fault) _ c.writing.invariant.end c.in-Err.ensures.wrote,
+        cut_next c.args.bytes.now c.writing.left.now _ _ written.0 c.writing-test.true
+            c.split_at.ensures.front c.split_at.ensures.back written.3,
+        wrote_at c.args.self.now c.writing.self _ _ (Err c.in-Err.fault) _ c.writing.invariant.end
+            c.in-Err.ensures.wrote,
       );
     }
 
@@ -41,12 +43,15 @@ writing-preserved g c =
           others = written.1;
           last = record {
             number = c.in_default.field-0;
-            accepted = wrote_at c.args.self.now c.writing.self _ _ (Ok c.in_default.field-0) _ c.writing.invariant.end c.in_default.ensures.wrote;
+            accepted =
+                wrote_at c.args.self.now c.writing.self _ _ (Ok c.in_default.field-0) _
+                c.writing.invariant.end c.in_default.ensures.wrote;
           };
         },
         omega (arith, taken, front_len),
         one_done written.0 c.split_at.result.0.now (atomic_writes c.split_at.result.1.now) _
-            (cut_next c.args.bytes.now c.writing.left.now _ _ written.0 c.writing-test.true c.split_at.ensures.front c.split_at.ensures.back written.3),
+            (cut_next c.args.bytes.now c.writing.left.now _ _ written.0 c.writing-test.true
+            c.split_at.ensures.front c.split_at.ensures.back written.3),
       );
       count = omega (arith, count, back_len);
     }
@@ -64,11 +69,16 @@ returns-in-Ok-clause-wrote g c =
         others = written.1;
         last = record {
           number = c.in-Ok.field-0;
-          accepted = wrote_at c.args.self.now c.writing.self _ _ (Ok c.in-Ok.field-0) _ c.writing.invariant.end c.in-Ok.ensures.wrote;
+          accepted =
+              wrote_at c.args.self.now c.writing.self _ _ (Ok c.in-Ok.field-0) _
+              c.writing.invariant.end c.in-Ok.ensures.wrote;
         };
       };
       taken = omega (arith, taken);
-      ended = (λ i. writer_of c.write-2.new.self c.write-2.new.proc, all_done c.args.bytes.now c.writing.left.now written.0 (omega (arith, short)) written.3);
+      ended = (
+        λ i. writer_of c.write-2.new.self c.write-2.new.proc,
+        all_done c.args.bytes.now c.writing.left.now written.0 (omega (arith, short)) written.3,
+      );
     }
 
 pub returns-in-Err-write-clause-wrote : goal.returns-in-Err-write-clause-wrote
@@ -84,6 +94,7 @@ returns-in-Err-write-clause-wrote g c =
         c.writing.left.now,
         [],
         cut_last c.args.bytes.now c.writing.left.now written.0 (omega (arith, short)) written.3,
-        wrote_at c.args.self.now c.writing.self _ _ (Err c.in-Err-write.fault) _ c.writing.invariant.end c.in-Err-write.ensures.wrote,
+        wrote_at c.args.self.now c.writing.self _ _ (Err c.in-Err-write.fault) _
+            c.writing.invariant.end c.in-Err-write.ensures.wrote,
       );
     }

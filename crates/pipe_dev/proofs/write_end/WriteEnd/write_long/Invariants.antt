@@ -11,7 +11,8 @@ invariant-writing g l =
       end : IsSameWriteEnd l.initial.self l.self;
       words : l.proc.words ≡ l.initial.proc.words;
       written : (done : List (List ℕ))
-          × WritesEach (key_of l.initial.self.queue) l.initial.self.row l.initial.self.writer done (writer_of l.initial.self l.initial.proc) (writer_of l.self l.proc)
+          × WritesEach (key_of l.initial.self.queue) l.initial.self.row l.initial.self.writer done
+          (writer_of l.initial.self l.initial.proc) (writer_of l.self l.proc)
           × (l.taken ≡ bytes_in done)
           × (atomic_writes l.bytes ≡ reverse done ++ atomic_writes l.left);
       count : l.taken + length l.left ≡ length l.bytes;
