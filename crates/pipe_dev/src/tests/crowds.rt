@@ -4,7 +4,8 @@ use std::test::Fail;
 
 #[test]
 fn each_write_is_read_whole_once_and_in_order(rt: HostRuntime) -> Result<(), Fail> {
-    for (writers, writes) in [(1, 40), (2, 20), (4, 10), (64, 2)] {
+    for (writers, writes) in [(1u64, 40u64), (2, 20), (4, 10), (64, 2)] {
+        let all = writers.saturating_mul(writes);
         for limit in [1, 2, 16] {
             for size in [0, 1, 16, 8_192] {
                 let plan = Plan {
@@ -21,8 +22,8 @@ fn each_write_is_read_whole_once_and_in_order(rt: HostRuntime) -> Result<(), Fai
                     assert!(rt; run.is_whole(), "{plan:?}");
                 }
                 assert!(rt; run.read.good && run.read.noted == 0, "{plan:?}");
-                assert_eq!(rt; run.read.all, writers * writes, "{plan:?}");
-                assert_eq!(rt; run.accepted(), writers * writes, "{plan:?}");
+                assert_eq!(rt; run.read.all, all, "{plan:?}");
+                assert_eq!(rt; run.accepted(), all, "{plan:?}");
             }
         }
     }

@@ -8,8 +8,8 @@ const WRITES: u64 = 20;
 #[test]
 fn hangups_at_scattered_moments_lose_nothing(rt: HostRuntime) -> Result<(), Fail> {
     for turn in 0..16u64 {
-        let by_writer = turn * 7 % WRITES;
-        let by_reader = turn * 11 % (2 * WRITES);
+        let by_writer = turn.wrapping_mul(7) % WRITES;
+        let by_reader = turn.wrapping_mul(11) % (2 * WRITES);
         for (writer_hangs, reader_hangs) in [
             (by_writer, u64::MAX),
             (u64::MAX, by_reader),
