@@ -1,63 +1,196 @@
-//! Worked runs of two processes: a long write that is cut by a hangup, a hangup that ends a wait, a
-//! read where another sleeps, and what is held.
-use crate::tests::hands::{Reader, Way, closed, one_way};
-use crate::{Held, Long, Opened, Pipe, ReadAnswer, TryAnswer, finish};
-use sleep_wakeup::Kernel;
+//! Worked runs of two processes: writes that are read in parts, a long write that is cut by a
+//! hangup, a hangup that ends a wait, a read where another sleeps, and what is held.
+ghost use Rattle.pipe_dev.specs.Ends.{IsSameReadEnd, IsSameWriteEnd};
+
+use crate::tests::hands::{Gate, Reader, Writer, closed};
+use crate::tests::lone::{Lone, Split, lone_of};
+use crate::tests::scene::opened;
+use crate::{Ends, Held, Long, Opened, Parts, Pipe, ReadAnswer, ReadEnd, TryAnswer};
+use sleep_wakeup::{Kernel, Proc};
+use std::alloc::Global;
 use std::sync::Wait;
 use std::test::Fail;
 use std::thread::join;
 use sync_base::{Fault, NoteSet, Probe, RendezId};
 
-/// Reads at a point of another's sleep, and then wakes it.
-#[derive(Drop)]
-struct ReadAt<'r, 'k, 'p, R: Wait> {
-    rt: &'r R,
-    reader: Reader<'k, 'p>,
-    rendez: RendezId,
-    answer: Option<Result<ReadAnswer, Fault>>,
-}
-
-impl<R: Wait> Probe for ReadAt<'_, '_, '_, R> {
-    fn at(&mut self, point: u64) {
-        if point == 2 && self.answer.is_none() {
-            let mut buffer = [0; 8];
-            let answer = self
-                .reader
-                .end
-                .read(self.rt, &mut self.reader.proc, &mut buffer);
-            self.answer = Some(match self.reader.proc.wakeup(self.rendez, 1) {
-                Ok(_) => answer,
-                Err(fault) => Err(fault),
-            });
-        }
-    }
+#[test]
+fn a_write_is_read_in_parts(rt: HostRuntime) -> Result<(), Fail> {
+    let sleep_wakeup::Opened { kernel, start } = Kernel::new(rt.alloc(), 3, 4)?;
+    let mut started = kernel.start(start);
+    let Opened { pipe, start } = opened(&rt, rt.alloc(), &mut started.roster, 2, 1)?;
+    let mut lone = lone_of(started, pipe.ends(start))?;
+    let mut two = [0; 2];
+    let mut eight = [0; 8];
+    assert_eq!(rt; lone.try_read(&mut eight), Ok(TryAnswer::NotYet));
+    assert_eq!(rt; lone.try_read(&mut []), Err(Fault::BadCount));
+    assert_eq!(rt; lone.read(&rt, &mut []), Err(Fault::BadCount));
+    assert_eq!(rt; lone.write(&rt, rt.alloc(), b"abc"), Ok(1));
+    assert_eq!(rt; lone.write(&rt, rt.alloc(), b""), Ok(2));
+    assert_eq!(rt; lone.read(&rt, &mut two), Ok(ReadAnswer::Got(2)));
+    assert_eq!(rt; two, *b"ab");
+    assert_eq!(rt; lone.try_read(&mut eight), Ok(TryAnswer::Got(1)));
+    assert_eq!(rt; eight, *b"c\0\0\0\0\0\0\0");
+    assert_eq!(rt; lone.read(&rt, &mut eight), Ok(ReadAnswer::Got(0)));
+    assert_eq!(rt; lone.write(&rt, rt.alloc(), b"def"), Ok(3));
+    lone.hang_write();
+    assert_eq!(rt; lone.write(&rt, rt.alloc(), b"g"), Err(Fault::Hungup));
+    assert_eq!(rt; lone.writers_notes(), closed());
+    assert_eq!(rt; lone.read(&rt, &mut two), Ok(ReadAnswer::Got(2)));
+    let Held { rest, writes, hung } = lone.finish(rt.alloc())?;
+    assert_eq!(rt; rest.as_slice(), b"f".as_slice());
+    assert!(rt; writes.is_empty() && hung);
+    Ok(())
 }
 
 #[test]
-fn a_hangup_cuts_a_long_write(rt: HostRuntime) -> Result<(), Fail> {
-    let alloc = rt.alloc();
-    let sleep_wakeup::Opened { kernel, start } = Kernel::new(alloc, 3, 4)?;
+fn a_pipe_that_is_hung_up_ends(rt: HostRuntime) -> Result<(), Fail> {
+    let sleep_wakeup::Opened { kernel, start } = Kernel::new(rt.alloc(), 3, 4)?;
     let mut started = kernel.start(start);
-    let Opened { pipe, start } = Pipe::new(alloc, &mut started.roster, 1, 1)?;
-    let Way {
-        mut reader,
-        mut writers,
-        spare: _,
-    } = one_way(alloc, started, pipe.ends(start))?;
-    let Some(mut writer) = writers.pop() else {
-        return Err(Fault::BadSize)?;
-    };
-    let bytes = vec![in alloc; 7; 20_000]?;
-    let rendez = reader.end.rendez();
-    let (long, slept) = join(
-        &rt,
-        || writer.end.write_long(alloc, &rt, &mut writer.proc, &bytes),
-        || {
-            let slept = reader.proc.sleep(&rt, rendez, 0);
-            reader.end.hangup(&mut reader.proc);
-            slept
-        },
+    let Opened { pipe, start } = opened(&rt, rt.alloc(), &mut started.roster, 2, 1)?;
+    let mut lone = lone_of(started, pipe.ends(start))?;
+    let mut eight = [0; 8];
+    lone.hang_read();
+    assert_eq!(rt; lone.try_read(&mut eight), Ok(TryAnswer::End));
+    assert_eq!(rt; lone.read(&rt, &mut eight), Ok(ReadAnswer::End));
+    // The size is tested first, also where the direction is hung up.
+    let bytes = vec![in rt.alloc(); 0; 8_193]?;
+    assert_eq!(rt;
+        lone.write(&rt, rt.alloc(), bytes.as_slice()),
+        Err(Fault::TooBig)
     );
+    assert_eq!(rt; lone.writers_notes(), NoteSet::empty());
+    Ok(())
+}
+
+#[test]
+fn what_is_left_of_a_write_is_held(rt: HostRuntime) -> Result<(), Fail> {
+    let sleep_wakeup::Opened { kernel, start } = Kernel::new(rt.alloc(), 3, 4)?;
+    let mut started = kernel.start(start);
+    let Opened { pipe, start } = opened(&rt, rt.alloc(), &mut started.roster, 2, 1)?;
+    let mut lone = lone_of(started, pipe.ends(start))?;
+    let mut two = [0; 2];
+    assert_eq!(rt; lone.write(&rt, rt.alloc(), b"abc"), Ok(1));
+    assert_eq!(rt; lone.write(&rt, rt.alloc(), b"de"), Ok(2));
+    assert_eq!(rt; lone.read(&rt, &mut two), Ok(ReadAnswer::Got(2)));
+    let Held { rest, writes, hung } = lone.finish(rt.alloc())?;
+    assert_eq!(rt; rest.as_slice(), b"c".as_slice());
+    assert!(rt; writes.len() == 1 && !hung);
+    for stored in writes.iter() {
+        assert_eq!(rt; stored.writer, 0);
+        assert_eq!(rt; stored.block.as_slice(), b"de".as_slice());
+    }
+    Ok(())
+}
+
+#[test]
+fn a_long_write_counts_what_was_taken(rt: HostRuntime) -> Result<(), Fail> {
+    for size in [0, 1, 8_191, 8_192, 8_193, 16_384, 20_000] {
+        let sleep_wakeup::Opened { kernel, start } = Kernel::new(rt.alloc(), 3, 4)?;
+        let mut started = kernel.start(start);
+        let Opened { pipe, start } = opened(&rt, rt.alloc(), &mut started.roster, 16, 1)?;
+        let mut lone = lone_of(started, pipe.ends(start))?;
+        let bytes = vec![in rt.alloc(); 9; size]?;
+        assert_eq!(rt;
+            lone.write_long(&rt, rt.alloc(), bytes.as_slice()),
+            Long {
+                taken: size as u64,
+                fault: None
+            },
+            "{size} bytes"
+        );
+        let mut buffer = vec![in rt.alloc(); 0; 9_000]?;
+        // Writes of the atomic size, and one of the rest; no bytes are one empty write.
+        let mut left = size;
+        for _ in 0..size.div_ceil(8_192).max(1) {
+            let part = left.min(8_192);
+            assert_eq!(rt;
+                lone.read(&rt, buffer.as_mut_slice()),
+                Ok(ReadAnswer::Got(part)),
+                "{size} bytes"
+            );
+            left = left.saturating_sub(part);
+        }
+        assert_eq!(rt; lone.try_read(buffer.as_mut_slice()), Ok(TryAnswer::NotYet));
+    }
+    Ok(())
+}
+
+/// A writer after a long write.
+#[derive(Drop)]
+struct LongWritten<'a> {
+    writer: Writer<'a>,
+    long: Long,
+}
+
+fn write_long<'a, R: Wait>(
+    rt: &R,
+    alloc: Global,
+    gate: &Gate,
+    bytes: &[u8],
+    writer: Writer<'a>,
+) -> LongWritten<'a>
+    ensures { IsSameWriteEnd writer.entry.end result.writer.end }
+{
+    let Writer { mut proc, mut end } = writer;
+    let long = if gate.pass() {
+        end.write_long(alloc, rt, &mut proc, bytes)
+    } else {
+        Long {
+            taken: 0,
+            fault: Some(Fault::Device),
+        }
+    };
+    LongWritten {
+        writer: Writer { proc, end },
+        long,
+    }
+}
+
+/// A reader after a sleep where it is woken, and a hangup.
+#[derive(Drop)]
+struct Slept<'a> {
+    reader: Reader<'a>,
+    slept: Result<(), Fault>,
+}
+
+fn sleep_and_hang_up<'a, R: Wait>(rt: &R, gate: &Gate, reader: Reader<'a>) -> Slept<'a>
+    ensures { IsSameReadEnd reader.entry.end result.reader.end }
+{
+    let Reader { mut proc, mut end } = reader;
+    let rendez = end.rendez();
+    let slept = if gate.pass() {
+        proc.sleep(rt, rendez, 0)
+    } else {
+        Err(Fault::Device)
+    };
+    end.hangup(&mut proc);
+    Slept {
+        reader: Reader { proc, end },
+        slept,
+    }
+}
+
+#[tactic(auto, using(crate::proofs::LoneLemmas::still_both))]
+#[test]
+fn a_hangup_cuts_a_long_write(rt: HostRuntime) -> Result<(), Fail> {
+    let sleep_wakeup::Opened { kernel, start } = Kernel::new(rt.alloc(), 3, 4)?;
+    let mut started = kernel.start(start);
+    let Opened { pipe, start } = opened(&rt, rt.alloc(), &mut started.roster, 1, 1)?;
+    let Split { reader, writer } = lone_of(started, pipe.ends(start))?.split();
+    let bytes = vec![in rt.alloc(); 7; 20_000]?;
+    let alloc = rt.alloc();
+    let gate = Gate::new(2);
+    let (written, slept) = join(
+        &rt,
+        || -> LongWritten
+            ensures { IsSameWriteEnd writer.entry.end result.writer.end }
+        { write_long(&rt, alloc, &gate, bytes.as_slice(), writer) },
+        || -> Slept
+            ensures { IsSameReadEnd reader.entry.end result.reader.end }
+        { sleep_and_hang_up(&rt, &gate, reader) },
+    );
+    let LongWritten { writer, long } = written;
+    let Slept { reader, slept } = slept;
     assert_eq!(rt; slept, Ok(()));
     assert_eq!(rt;
         long,
@@ -66,183 +199,149 @@ fn a_hangup_cuts_a_long_write(rt: HostRuntime) -> Result<(), Fail> {
             fault: Some(Fault::Hungup),
         }
     );
-    assert_eq!(rt; writer.proc.notes(), closed());
-    let mut buffer = vec![in alloc; 0; 8_192]?;
+    let mut lone = Lone::new(reader, writer);
+    assert_eq!(rt; lone.writers_notes(), closed());
+    let mut buffer = vec![in rt.alloc(); 0; 8_192]?;
     for answer in [ReadAnswer::Got(8_192), ReadAnswer::End, ReadAnswer::End] {
-        assert_eq!(rt;
-            reader.end.read(&rt, &mut reader.proc, &mut buffer),
-            Ok(answer)
-        );
+        assert_eq!(rt; lone.read(&rt, buffer.as_mut_slice()), Ok(answer));
     }
-    let mut ends = Vec::new(alloc);
-    ends.push(writer.end)?;
-    let Ok(Held { rest, writes, hung }) = finish(alloc, reader.end, ends) else {
-        return Err(Fault::Memory)?;
-    };
+    let Held { rest, writes, hung } = lone.finish(rt.alloc())?;
     assert!(rt; rest.as_slice().is_empty() && writes.is_empty() && hung);
     Ok(())
 }
 
-#[test]
-fn what_is_left_of_a_write_is_held(rt: HostRuntime) -> Result<(), Fail> {
-    let alloc = rt.alloc();
-    let sleep_wakeup::Opened { kernel, start } = Kernel::new(alloc, 3, 4)?;
-    let mut started = kernel.start(start);
-    let Opened { pipe, start } = Pipe::new(alloc, &mut started.roster, 1, 1)?;
-    let Way {
-        mut reader,
-        mut writers,
-        spare: _,
-    } = one_way(alloc, started, pipe.ends(start))?;
-    let Some(mut writer) = writers.pop() else {
-        return Err(Fault::BadSize)?;
-    };
-    assert_eq!(rt;
-        writer.end.write(alloc, &rt, &mut writer.proc, b"abc"),
-        Ok(1)
-    );
-    let mut buffer = [0; 2];
-    assert_eq!(rt;
-        reader.end.read(&rt, &mut reader.proc, &mut buffer),
-        Ok(ReadAnswer::Got(2))
-    );
-    let mut ends = Vec::new(alloc);
-    ends.push(writer.end)?;
-    let Ok(Held { rest, writes, hung }) = finish(alloc, reader.end, ends) else {
-        return Err(Fault::Memory)?;
-    };
-    assert_eq!(rt; rest.as_slice(), b"c".as_slice());
-    assert!(rt; writes.is_empty() && !hung);
-    Ok(())
+fn read_once<R: Wait>(rt: &R, gate: &Gate, reader: Reader) -> Result<ReadAnswer, Fault> {
+    let Reader { mut proc, mut end } = reader;
+    let mut buffer = [0; 8];
+    if !gate.pass() {
+        return Err(Fault::Device);
+    }
+    end.read(rt, &mut proc, &mut buffer)
 }
 
-#[test]
-fn a_long_write_counts_what_was_taken(rt: HostRuntime) -> Result<(), Fail> {
-    let alloc = rt.alloc();
-    let sleep_wakeup::Opened { kernel, start } = Kernel::new(alloc, 3, 4)?;
-    let mut started = kernel.start(start);
-    let Opened { pipe, start } = Pipe::new(alloc, &mut started.roster, 16, 1)?;
-    let Way {
-        mut reader,
-        mut writers,
-        spare: _,
-    } = one_way(alloc, started, pipe.ends(start))?;
-    let Some(mut writer) = writers.pop() else {
-        return Err(Fault::BadSize)?;
-    };
-    for size in [0, 1, 8_191, 8_192, 8_193, 16_384, 20_000] {
-        let bytes = vec![in alloc; 9; size]?;
-        let long = writer.end.write_long(alloc, &rt, &mut writer.proc, &bytes);
-        assert_eq!(rt;
-            long,
-            Long {
-                taken: size as u64,
-                fault: None
-            },
-            "{size} bytes"
-        );
-        let mut buffer = vec![in alloc; 0; 9_000]?;
-        // Writes of the atomic size, and one of the rest; no bytes are one empty write.
-        let mut left = size;
-        for _ in 0..size.div_ceil(8_192).max(1) {
-            let part = left.min(8_192);
-            assert_eq!(rt;
-                reader.end.read(&rt, &mut reader.proc, &mut buffer),
-                Ok(ReadAnswer::Got(part)),
-                "{size} bytes"
-            );
-            left = left.saturating_sub(part);
-        }
-        assert_eq!(rt;
-            reader.end.try_read(&mut reader.proc, &mut buffer),
-            Ok(TryAnswer::NotYet)
-        );
-    }
-    Ok(())
+fn hang_up_writing(gate: &Gate, writer: Writer) -> bool {
+    let Writer { mut proc, mut end } = writer;
+    let passed = gate.pass();
+    end.hangup(&mut proc);
+    passed
 }
 
 #[test]
 fn a_hangup_ends_a_read_that_waits(rt: HostRuntime) -> Result<(), Fail> {
-    let alloc = rt.alloc();
-    let sleep_wakeup::Opened { kernel, start } = Kernel::new(alloc, 3, 4)?;
+    let sleep_wakeup::Opened { kernel, start } = Kernel::new(rt.alloc(), 3, 4)?;
     let mut started = kernel.start(start);
-    let Opened { pipe, start } = Pipe::new(alloc, &mut started.roster, 1, 1)?;
-    let Way {
-        mut reader,
-        mut writers,
-        spare: _,
-    } = one_way(alloc, started, pipe.ends(start))?;
-    let Some(mut writer) = writers.pop() else {
-        return Err(Fault::BadSize)?;
-    };
-    let mut buffer = [0; 8];
-    let (answer, _) = join(
+    let Opened { pipe, start } = opened(&rt, rt.alloc(), &mut started.roster, 1, 1)?;
+    let Split { reader, writer } = lone_of(started, pipe.ends(start))?.split();
+    let gate = Gate::new(2);
+    let (answer, passed) = join(
         &rt,
-        || reader.end.read(&rt, &mut reader.proc, &mut buffer),
-        || writer.end.hangup(&mut writer.proc),
+        || read_once(&rt, &gate, reader),
+        || hang_up_writing(&gate, writer),
     );
-    assert_eq!(rt; answer, Ok(ReadAnswer::End));
+    assert_eq!(rt; (answer, passed), (Ok(ReadAnswer::End), true));
     Ok(())
+}
+
+/// What a write was answered, and what was then pending.
+fn write_once<R: Wait>(
+    rt: &R,
+    alloc: Global,
+    gate: &Gate,
+    writer: Writer,
+) -> (Result<u64, Fault>, NoteSet) {
+    let Writer { mut proc, mut end } = writer;
+    if !gate.pass() {
+        return (Err(Fault::Device), NoteSet::empty());
+    }
+    let answer = end.write(alloc, rt, &mut proc, b"b");
+    (answer, proc.notes())
+}
+
+fn hang_up_reading(gate: &Gate, reader: Reader) -> bool {
+    let Reader { mut proc, mut end } = reader;
+    let passed = gate.pass();
+    end.hangup(&mut proc);
+    passed
 }
 
 #[test]
 fn a_hangup_ends_a_write_that_waits_for_room(rt: HostRuntime) -> Result<(), Fail> {
-    let alloc = rt.alloc();
-    let sleep_wakeup::Opened { kernel, start } = Kernel::new(alloc, 3, 4)?;
+    let sleep_wakeup::Opened { kernel, start } = Kernel::new(rt.alloc(), 3, 4)?;
     let mut started = kernel.start(start);
-    let Opened { pipe, start } = Pipe::new(alloc, &mut started.roster, 1, 1)?;
-    let Way {
-        mut reader,
-        mut writers,
-        spare: _,
-    } = one_way(alloc, started, pipe.ends(start))?;
-    let Some(mut writer) = writers.pop() else {
-        return Err(Fault::BadSize)?;
-    };
-    assert_eq!(rt; writer.end.write(alloc, &rt, &mut writer.proc, b"a"), Ok(1));
-    let (answer, _) = join(
+    let Opened { pipe, start } = opened(&rt, rt.alloc(), &mut started.roster, 1, 1)?;
+    let mut lone = lone_of(started, pipe.ends(start))?;
+    assert_eq!(rt; lone.write(&rt, rt.alloc(), b"a"), Ok(1));
+    let Split { reader, writer } = lone.split();
+    let alloc = rt.alloc();
+    let gate = Gate::new(2);
+    let (written, passed) = join(
         &rt,
-        || writer.end.write(alloc, &rt, &mut writer.proc, b"b"),
-        || reader.end.hangup(&mut reader.proc),
+        || write_once(&rt, alloc, &gate, writer),
+        || hang_up_reading(&gate, reader),
     );
-    assert_eq!(rt; answer, Err(Fault::Hungup));
-    assert_eq!(rt; writer.proc.notes(), closed());
-    assert_eq!(rt; writer.proc.notes(), NoteSet::empty());
+    assert_eq!(rt; (written, passed), ((Err(Fault::Hungup), closed()), true));
     Ok(())
+}
+
+/// Reads at a point of another's sleep, and then wakes it.
+#[derive(Drop)]
+struct ReadAt<'r, 'a, R: Wait> {
+    rt: &'r R,
+    proc: Proc<'a>,
+    end: ReadEnd<'a>,
+    rendez: RendezId,
+    answer: Option<Result<ReadAnswer, Fault>>,
+}
+
+impl<R: Wait> ReadAt<'_, '_, R> {
+    fn read(&mut self) {
+        let rt = self.rt;
+        let mut buffer = [0; 8];
+        let answer = self.end.read(rt, &mut self.proc, &mut buffer);
+        match self.proc.wakeup(self.rendez, 1) {
+            Ok(_) => self.answer = Some(answer),
+            Err(fault) => self.answer = Some(Err(fault)),
+        }
+    }
+}
+
+impl<R: Wait> Probe for ReadAt<'_, '_, R> {
+    fn at(&mut self, point: u64) {
+        if point == 2 && self.answer.is_none() {
+            self.read();
+        }
+    }
 }
 
 #[test]
 fn a_read_where_another_sleeps_is_refused(rt: HostRuntime) -> Result<(), Fail> {
-    let alloc = rt.alloc();
-    let sleep_wakeup::Opened { kernel, start } = Kernel::new(alloc, 3, 4)?;
+    let sleep_wakeup::Opened { kernel, start } = Kernel::new(rt.alloc(), 3, 4)?;
     let mut started = kernel.start(start);
-    let Opened { pipe, start } = Pipe::new(alloc, &mut started.roster, 1, 1)?;
-    let Way {
-        reader,
-        writers: _,
-        mut spare,
-    } = one_way(alloc, started, pipe.ends(start))?;
-    let rendez = reader.end.rendez();
+    let Opened { pipe, start } = opened(&rt, rt.alloc(), &mut started.roster, 1, 1)?;
+    let Split { reader, writer } = lone_of(started, pipe.ends(start))?.split();
+    let Reader { proc, end } = reader;
+    let rendez = end.rendez();
     let mut probe = ReadAt {
         rt: &rt,
-        reader,
+        proc,
+        end,
         rendez,
         answer: None,
     };
-    assert_eq!(rt; spare.sleep_probed(&rt, rendez, 0, &mut probe), Ok(()));
+    let mut sleeper = writer.proc;
+    assert_eq!(rt; sleeper.sleep_probed(&rt, rendez, 0, &mut probe), Ok(()));
     assert_eq!(rt; probe.answer, Some(Err(Fault::DoubleSleep)));
     Ok(())
 }
 
 #[test]
 fn sizes_and_rendez_are_refused_in_order(rt: HostRuntime) -> Result<(), Fail> {
-    let alloc = rt.alloc();
-    let sleep_wakeup::Opened { kernel, start } = Kernel::new(alloc, 3, 5)?;
+    let sleep_wakeup::Opened { kernel, start } = Kernel::new(rt.alloc(), 1, 5)?;
     let mut started = kernel.start(start);
-    for (limit, writers) in [(0, 1), (1_025, 1), (1, 0), (1, 65)] {
+    for (limit, writers) in [(0, 1), (1_025, 1), (1, 0), (1, 65), (0, u64::MAX)] {
         assert!(rt;
             matches!(
-                Pipe::new(alloc, &mut started.roster, limit, writers),
+                Pipe::new(rt.alloc(), &mut started.roster, limit, writers),
                 Err(Fault::BadSize)
             )
         );
@@ -250,36 +349,61 @@ fn sizes_and_rendez_are_refused_in_order(rt: HostRuntime) -> Result<(), Fail> {
     // Six are wanted and five are there; a refusal uses none up.
     assert!(rt;
         matches!(
-            Pipe::new(alloc, &mut started.roster, 1, 2),
+            Pipe::new(rt.alloc(), &mut started.roster, 1, 2),
             Err(Fault::NoRendez)
         )
     );
     assert_eq!(rt; started.roster.left().rendez, 5);
-    let Opened { pipe, start } = Pipe::new(alloc, &mut started.roster, 1, 1)?;
+    let _pipe = opened(&rt, rt.alloc(), &mut started.roster, 1, 1)?;
     assert_eq!(rt; started.roster.left().rendez, 1);
-    let Way {
-        mut reader,
-        mut writers,
-        spare: _,
-    } = one_way(alloc, started, pipe.ends(start))?;
-    assert_eq!(rt;
-        reader.end.read(&rt, &mut reader.proc, &mut []),
-        Err(Fault::BadCount)
-    );
-    let Some(mut writer) = writers.pop() else {
+    Ok(())
+}
+
+#[test]
+fn a_process_of_another_kernel_is_refused(rt: HostRuntime) -> Result<(), Fail> {
+    let sleep_wakeup::Opened { kernel, start } = Kernel::new(rt.alloc(), 1, 4)?;
+    let mut started = kernel.start(start);
+    let Opened { pipe, start } = opened(&rt, rt.alloc(), &mut started.roster, 1, 1)?;
+    // The other kernel has a Rendez too few.
+    let sleep_wakeup::Opened {
+        kernel: other,
+        start: other_start,
+    } = Kernel::new(rt.alloc(), 1, 1)?;
+    let mut foreign = other.start(other_start).proc;
+    let Ends { first, second } = pipe.ends(start);
+    let Parts {
+        mut read,
+        writes: _,
+    } = first.parts();
+    let Parts {
+        read: _,
+        mut writes,
+    } = second.parts();
+    let Some(mut write) = writes.pop() else {
         return Err(Fault::BadSize)?;
     };
-    let bytes = vec![in alloc; 0; 8_193]?;
-    // The size is tested first, also where the direction is hung up.
+    let mut buffer = [0; 8];
+    let mut own = started.proc;
+    assert_eq!(rt; write.write(rt.alloc(), &rt, &mut own, b"a"), Ok(1));
     assert_eq!(rt;
-        writer.end.write(alloc, &rt, &mut writer.proc, &bytes),
-        Err(Fault::TooBig)
+        read.read(&rt, &mut foreign, &mut buffer),
+        Err(Fault::NoRendez)
     );
-    writer.end.hangup(&mut writer.proc);
     assert_eq!(rt;
-        writer.end.write(alloc, &rt, &mut writer.proc, &bytes),
-        Err(Fault::TooBig)
+        read.try_read(&mut foreign, &mut buffer),
+        Err(Fault::NoRendez)
     );
-    assert_eq!(rt; writer.proc.notes(), NoteSet::empty());
+    assert_eq!(rt; read.read(&rt, &mut foreign, &mut []), Err(Fault::BadCount));
+    assert_eq!(rt;
+        write.write(rt.alloc(), &rt, &mut foreign, b"b"),
+        Err(Fault::NoRendez)
+    );
+    // It hangs the direction up all the same. What was accepted stays readable.
+    write.hangup(&mut foreign);
+    assert_eq!(rt;
+        read.read(&rt, &mut own, &mut buffer),
+        Ok(ReadAnswer::Got(1))
+    );
+    assert_eq!(rt; read.read(&rt, &mut own, &mut buffer), Ok(ReadAnswer::End));
     Ok(())
 }

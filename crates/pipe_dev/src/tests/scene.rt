@@ -1,0 +1,31 @@
+//! What the tests begin with: a pipe of a kernel.
+ghost use Rattle.std.specs.Prelude.{IfOk};
+ghost use Rattle.pipe_dev.specs.Openings.{IsStartOf};
+
+use crate::{Opened, Pipe};
+use sleep_wakeup::Roster;
+use std::alloc::Global;
+use std::process::Abort;
+use std::test::Fail;
+use sync_base::Fault;
+
+/// A new pipe. Where memory was refused no Rendez is used up, and the pipe is asked for again.
+pub fn opened<'p>(
+    rt: &impl Abort,
+    alloc: Global,
+    roster: &mut Roster<'_>,
+    limit: u64,
+    writers: u64,
+) -> Result<Opened<'p>, Fail>
+    ensures { IfOk result (λ opened. IsStartOf opened.pipe opened.start) }
+{
+    let left = roster.left();
+    match Pipe::new(alloc, roster, limit, writers) {
+        Ok(opened) => Ok(opened),
+        Err(fault) => {
+            assert_eq!(rt; fault, Fault::Memory);
+            assert_eq!(rt; roster.left(), left);
+            Ok(Pipe::new(alloc, roster, limit, writers)?)
+        }
+    }
+}
