@@ -4,7 +4,7 @@
 //! come. It answers each on a pipe of its client's own. A hangup of the pipe of requests ends it.
 #![tactic(auto)]
 
-use pipe_dev::{Ends, Pipe, ReadAnswer, ReadEnd, WriteEnd};
+use pipe_dev::{Ends, Opened, Pipe, ReadAnswer, ReadEnd, WriteEnd};
 use sleep_wakeup::{Kernel, Proc, Started};
 use std::alloc::Global;
 use std::io;
@@ -23,13 +23,12 @@ struct Client<'s> {
 
 /// Asks for the squares of 1 to 5, and gives their sum. A request, with the client's number, is one
 /// write: it is read whole and never joined with another, so the clients need no lock.
-fn ask<R: Wait>(rt: &R, alloc: Global, mut me: Client<'_>) -> Result<u64, Fault> {
-    let mut sum = 0u64;
-    let mut square = [0];
+fn ask<R: Wait>(rt: &R, alloc: Global, me: Client<'_>) -> Result<u64, Fault> {
+    let (mut proc, mut requests, mut answers) = (me.proc, me.requests, me.answers);
+    let (mut sum, mut square) = (0u64, [0]);
     for wanted in 1..=5 {
-        me.requests
-            .write(alloc, rt, &mut me.proc, &[me.number, wanted])?;
-        if me.answers.read(rt, &mut me.proc, &mut square)? == ReadAnswer::End {
+        requests.write(alloc, rt, &mut proc, &[me.number, wanted])?;
+        if answers.read(rt, &mut proc, &mut square)? == ReadAnswer::End {
             return Err(Fault::Hungup);
         }
         sum = sum.wrapping_add(u64::from(square[0]));
@@ -64,17 +63,18 @@ struct Server<'s> {
 }
 
 /// The request loop. The pipe of a client that can't be answered is hung up, so it doesn't wait.
-fn serve<R: Wait>(rt: &R, alloc: Global, mut me: Server<'_>) -> Result<(), Fault> {
+fn serve<R: Wait>(rt: &R, alloc: Global, me: Server<'_>) -> Result<(), Fault> {
+    let (mut proc, mut requests, mut answers) = (me.proc, me.requests, me.answers);
     let mut request = [0; 2];
     for _ in rt.forever() {
-        if me.requests.read(rt, &mut me.proc, &mut request)? == ReadAnswer::End {
+        if requests.read(rt, &mut proc, &mut request)? == ReadAnswer::End {
             break;
         }
         let [client, wanted] = request;
         let square = [wanted.saturating_mul(wanted)];
-        if let Some(answers) = me.answers.get_mut(usize::from(client)) {
-            if answers.write(alloc, rt, &mut me.proc, &square).is_err() {
-                answers.hangup(&mut me.proc);
+        if let Some(end) = answers.get_mut(usize::from(client)) {
+            if end.write(alloc, rt, &mut proc, &square).is_err() {
+                end.hangup(&mut proc);
             }
         }
     }
@@ -127,18 +127,17 @@ fn run_all<'s, R: Threads + Wait + Sync>(
 fn run<R: Threads + Wait + Sync>(rt: &R, alloc: Global) -> Result<Vec<u64>, Fault> {
     let opened = Kernel::new(alloc, 6, 28)?;
     let mut started = opened.kernel.start(opened.start);
-    let there = Pipe::new(alloc, &mut started.roster, 2, 5)?;
-    let one = Pipe::new(alloc, &mut started.roster, 1, 1)?;
-    let two = Pipe::new(alloc, &mut started.roster, 1, 1)?;
-    let three = Pipe::new(alloc, &mut started.roster, 1, 1)?;
-    let four = Pipe::new(alloc, &mut started.roster, 1, 1)?;
-    let back = [
-        one.pipe.ends(one.start),
-        two.pipe.ends(two.start),
-        three.pipe.ends(three.start),
-        four.pipe.ends(four.start),
-    ];
-    run_all(rt, alloc, started, there.pipe.ends(there.start), back)
+    let Opened { pipe, start } = Pipe::new(alloc, &mut started.roster, 2, 5)?;
+    let there = pipe.ends(start);
+    let Opened { pipe: one, start } = Pipe::new(alloc, &mut started.roster, 1, 1)?;
+    let back_one = one.ends(start);
+    let Opened { pipe: two, start } = Pipe::new(alloc, &mut started.roster, 1, 1)?;
+    let back_two = two.ends(start);
+    let Opened { pipe: three, start } = Pipe::new(alloc, &mut started.roster, 1, 1)?;
+    let back_three = three.ends(start);
+    let Opened { pipe: four, start } = Pipe::new(alloc, &mut started.roster, 1, 1)?;
+    let back = [back_one, back_two, back_three, four.ends(start)];
+    run_all(rt, alloc, started, there, back)
 }
 
 fn main(rt: HostRuntime) -> io::Result<()> {

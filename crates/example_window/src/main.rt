@@ -5,7 +5,7 @@
 //! When the window is closed the pipe is hung up: what was written is still read, and then it ends.
 #![tactic(auto)]
 
-use pipe_dev::{Ends, Pipe, ReadAnswer, ReadEnd, WriteEnd};
+use pipe_dev::{Ends, Opened, Pipe, ReadAnswer, ReadEnd, WriteEnd};
 use sleep_wakeup::{Kernel, Proc, Started};
 use std::alloc::Global;
 use std::io;
@@ -30,9 +30,10 @@ struct Writer<'w> {
 }
 
 /// A device writes its events in order, and waits where the pipe is full.
-fn send<R: Wait>(rt: &R, alloc: Global, mut device: Writer<'_>) -> Result<(), Fault> {
+fn send<R: Wait>(rt: &R, alloc: Global, device: Writer<'_>) -> Result<(), Fault> {
+    let (mut proc, mut out) = (device.proc, device.out);
     for event in device.events {
-        device.out.write(alloc, rt, &mut device.proc, event)?;
+        out.write(alloc, rt, &mut proc, event)?;
     }
     Ok(())
 }
@@ -43,10 +44,11 @@ fn send_all<'w, R: Threads + Wait + Sync>(
     rt: &R,
     alloc: Global,
     devices: Vec<Writer<'w>>,
-    mut button: Writer<'w>,
+    button: Writer<'w>,
 ) -> Result<(), Fault> {
     let sent = map_vec(rt, devices, &|device: Writer| send(rt, alloc, device));
-    button.out.hangup(&mut button.proc);
+    let (mut proc, mut out) = (button.proc, button.out);
+    out.hangup(&mut proc);
     for sent in sent? {
         sent?;
     }
@@ -73,16 +75,15 @@ fn take(window: &mut Window, event: &[u8]) -> Result<(), Fault> {
     Ok(())
 }
 
-/// The process that reads the pipe.
-#[derive(Drop)]
-struct Reader<'w> {
-    proc: Proc<'w>,
-    events: ReadEnd<'w>,
-}
-
 /// The multiplexer. Each read is one event, since a read never joins two writes. Where an event
 /// can't be shown it reads on, so that no device waits for ever.
-fn show<R: Wait>(rt: &R, alloc: Global, mut reader: Reader<'_>) -> Result<Window, Fault> {
+#[tactic(auto, using(crate::proofs::EventLemmas::event_fits))]
+fn show<'w, R: Wait>(
+    rt: &R,
+    alloc: Global,
+    mut proc: Proc<'w>,
+    mut events: ReadEnd<'w>,
+) -> Result<Window, Fault> {
     let mut window = Window {
         typed: String::new(alloc),
         mouse: (0, 0),
@@ -91,7 +92,7 @@ fn show<R: Wait>(rt: &R, alloc: Global, mut reader: Reader<'_>) -> Result<Window
     let mut shown = Ok(());
     let mut event = [0; 8];
     for _ in rt.forever() {
-        match reader.events.read(rt, &mut reader.proc, &mut event)? {
+        match events.read(rt, &mut proc, &mut event)? {
             ReadAnswer::Got(count) => shown = shown.and(take(&mut window, &event[..count])),
             ReadAnswer::End => break,
         }
@@ -119,14 +120,13 @@ fn writers<'w>(
 fn run<R: Threads + Wait + Sync>(rt: &R, alloc: Global) -> Result<Window, Fault> {
     let opened = Kernel::new(alloc, 5, 10)?;
     let mut started = opened.kernel.start(opened.start);
-    let made = Pipe::new(alloc, &mut started.roster, 2, 4)?;
-    let Ends { first, second } = made.pipe.ends(made.start);
+    let Opened { pipe, start } = Pipe::new(alloc, &mut started.roster, 2, 4)?;
+    let Ends { first, second } = pipe.ends(start);
     let mut writers = writers(alloc, &mut started, second.parts().writes)?;
     let button = writers.pop().ok_or(Fault::BadSize)?;
     let (proc, events) = (started.proc, first.parts().read);
-    let reader = Reader { proc, events };
     scope(scope_env(), rt, move |scope| {
-        let Ok(showing) = scope.spawn(move || show(rt, alloc, reader)) else {
+        let Ok(showing) = scope.spawn(move || show(rt, alloc, proc, events)) else {
             return Err(Fault::Device);
         };
         let sent = send_all(rt, alloc, writers, button);
