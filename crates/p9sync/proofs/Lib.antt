@@ -4,7 +4,6 @@ mod DeviceLemmas
 mod DigitLemmas
 mod EventLineLemmas
 mod EventTextLemmas
-mod HexTextLemmas
 mod LineLemmas
 mod NumberLemmas
 mod OnePassLemmas
