@@ -1,4 +1,5 @@
-/* The same work with POSIX semaphores: sem_wait and sem_post of one thread, and one unit that four threads pass round. */
+/* The same work with POSIX semaphores: sem_wait and sem_post of one thread, and one unit that four
+   threads pass round. */
 #include <pthread.h>
 #include <semaphore.h>
 #include <stdio.h>

@@ -1,14 +1,16 @@
 #!/bin/sh
-# Times a semaphore beside Rust's Mutex with a Condvar and beside POSIX semaphores: acquires and releases that nobody
-# contends, and one unit that four threads pass round. The sides run in turn, a few rounds each; medians, with the least and
-# the most. usage: run.sh [ROUNDS]. What it builds lies in bench/out/semaphore, outside the repository's crates.
+# Times a semaphore beside Rust's Mutex with a Condvar and beside POSIX semaphores: acquires and
+# releases that nobody contends, and one unit that four threads pass round. The sides run in turn, a
+# few rounds each; medians, with the least and the most. usage: run.sh [ROUNDS]. What it builds lies
+# in bench/out/semaphore, outside the repository's crates.
 set -eu
 here=$(cd "$(dirname "$0")" && pwd)
 top=$(cd "$here/../.." && pwd)
 work=$top/bench/out/semaphore
 rounds=${1:-5}
+crates="sync_base histories sleep_core kernel_lock rendez_words sleep_wakeup semaphore"
 
-for crate in sync_base histories sleep_core kernel_lock rendez_words sleep_wakeup semaphore; do
+for crate in $crates; do
     mkdir -p "$work/repo/crates/$crate"
     for part in src specs proofs; do
         rm -rf "$work/repo/crates/$crate/$part"
@@ -18,7 +20,7 @@ done
 mkdir -p "$work/repo/crates/semaphore_bench/src"
 cp "$here/units.rattle" "$work/repo/crates/semaphore_bench/src/main.rt"
 cp "$top/HANDLES" "$work/repo/HANDLES"
-{ grep -E '^(sync_base|histories|sleep_core|kernel_lock|rendez_words|sleep_wakeup|semaphore)[ :]' "$top/crates.txt"
+{ grep -E "^($(echo $crates | tr ' ' '|'))[ :]" "$top/crates.txt"
   echo "semaphore_bench: sync_base sleep_wakeup semaphore"; } > "$work/repo/crates.txt"
 [ -d "$work/repo/.git" ] || git init -q "$work/repo"
 

@@ -120,7 +120,7 @@ ticks_none caller start kernel now =
     record {
       deeds = [];
       did = record { process = refl; seat = refl; timer = refl };
-      promise = record { own = tt; count_is = refl; told = refl; due = tt };
+      promise = record { own = tt; count_is = refl; told = refl; in_turn = tt; due = tt };
     }
 
 -- a timer expired, and its process is told
@@ -141,6 +141,7 @@ ticks_one caller start here process timer kernel now count pid served below note
         count_is = omega (arith, had.count_is);
         told = ap (λ l. pid ∷ l) had.told
             ∙ sym (ap (λ b. if b then pid ∷ filter (λ p. nat_lt p.0 kernel) (ended_in calls.deeds) else filter (λ p. nat_lt p.0 kernel) (ended_in calls.deeds)) below);
+        in_turn = (refl, had.in_turn);
         due = had.due;
       };
     }
@@ -161,6 +162,7 @@ ticks_other caller start here timer kernel now count pid served above calls =
         count_is = omega (arith, had.count_is);
         told = had.told
             ∙ sym (ap (λ b. if b then pid ∷ filter (λ p. nat_lt p.0 kernel) (ended_in calls.deeds) else filter (λ p. nat_lt p.0 kernel) (ended_in calls.deeds)) above);
+        in_turn = had.in_turn;
         due = had.due;
       };
     }
@@ -181,6 +183,7 @@ ticks_to_none caller start here timer procs kernel now count served calls =
         count_is = had.count_is;
         until = had.due;
         told = had.told;
+        in_turn = had.in_turn;
       };
     }
 
@@ -214,6 +217,7 @@ ticks_all caller start here procs kernel now calls =
         count_is = had.count_is;
         until = goes_on_to procs calls.deeds had.due (sym had.count_is);
         told = had.told;
+        in_turn = had.in_turn;
       };
     }
 

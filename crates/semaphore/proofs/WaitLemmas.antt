@@ -36,7 +36,7 @@ use Rattle.semaphore.specs.declared.timer_object.TimerCall.{TimerCall}
 use Rattle.semaphore.specs.declared.timer_object.TimerCall.TheVariants.{Add, Cancel}
 use Rattle.semaphore.specs.declared.timer_object.TimerReply.{TimerReply}
 use Rattle.semaphore.specs.declared.timer_object.TimerReply.TheVariants as told
-use Rattle.semaphore.specs.Acquiring.{IsOfAcquire, TimesIts, RestsInTurn, SleepsBetween, HasEnded, IsDouble, IsNoted, Acquires, AcquiresInTime, TimersSeen, TimedOut, AwaitsTick, IsPutBack, without_expired, last_wait, units_in, notes_taken, posts_in, was_expired}
+use Rattle.semaphore.specs.Acquiring.{IsOfAcquire, TimesIts, RestsInTurn, SleepsBetween, HasEnded, IsDouble, IsNoted, Acquires, AcquiresInTime, TimersSeen, TimedOut, MayRest, IsPutBack, without_expired, last_wait, units_in, notes_taken, posts_in, was_expired}
 use Rattle.semaphore.specs.Asking.{WaitsFor, HasWaited, HasLeft, HasKept, HasStopped, Left, ending_of, rest_ending, cancel_reply, granted_units, stopped_notes}
 use Rattle.semaphore.specs.Deeds.{Deed, Ending, Caller, Standing, SemaView, TimerView, Slept, Steps, Chain, Did, Calls}
 use Rattle.semaphore.specs.Deeds.Deed.{Asks, Times, Rests, Posts, Drains}
@@ -286,80 +286,83 @@ pub record StillAwaits (left : Left) : Type 0 where
   pub to_come : holds left.notes Expired ≡ false
 
 awaits : (caller : Caller) (left : Left) (deeds : List Deed) → StillAwaits left
-    → HasLeft caller left deeds → AwaitsTick deeds
+    → HasLeft caller left deeds → MayRest deeds LAST_GRANT
 awaits caller left deeds still had =
-    record {
-      expired = had.expired ∙ still.expired;
-      to_come = ap (λ s. holds s Expired) had.notes ∙ still.to_come;
-    }
+    inr (
+      (record {
+        expired = had.expired ∙ still.expired;
+        to_come = ap (λ s. holds s Expired) had.notes ∙ still.to_come;
+      }),
+      refl,
+    )
 
 pub awaits_well : (caller : Caller) (start now : Standing) (process : Process) (left : Left)
-    (threshold : ℕ) → StillAwaits left → Slept caller.rendez threshold Ending.Well now.process process
+    → StillAwaits left → Slept caller.rendez LAST_GRANT Ending.Well now.process process
     → Calls caller start now (HasLeft caller left)
     → Calls caller start (record now { process = process }) (HasLeft caller left)
-awaits_well caller start now process left threshold still slept calls =
+awaits_well caller start now process left still slept calls =
     let had = calls.promise in
     record {
-      deeds = Rests threshold Ending.Well ∷ calls.deeds;
-      did = then_rests caller start now process calls.deeds threshold Ending.Well calls.did slept;
+      deeds = Rests LAST_GRANT Ending.Well ∷ calls.deeds;
+      did = then_rests caller start now process calls.deeds LAST_GRANT Ending.Well calls.did slept;
       promise = record {
         own = (tt, had.own);
-        rests = (inr (awaits caller left calls.deeds still had), had.rests);
+        rests = (awaits caller left calls.deeds still had, had.rests);
         between = had.between;
         units = had.units;
         notes = had.notes;
         posts = had.posts;
         expired = had.expired;
-        why = λ e. stopped_rests left.stop calls.deeds threshold Ending.Well (had.why e);
+        why = λ e. stopped_rests left.stop calls.deeds LAST_GRANT Ending.Well (had.why e);
       };
     }
 
 pub awaits_noted : (caller : Caller) (start now : Standing) (process : Process) (left : Left)
-    (threshold : ℕ) (set : NoteSet) → StillAwaits left
-    → Slept caller.rendez threshold (Ending.Noted set) now.process process
+    (set : NoteSet) → StillAwaits left
+    → Slept caller.rendez LAST_GRANT (Ending.Noted set) now.process process
     → Calls caller start now (HasLeft caller left)
     → Calls caller start (record now { process = process })
     (HasLeft caller (record left { notes = joined left.notes set }))
-awaits_noted caller start now process left threshold set still slept calls =
+awaits_noted caller start now process left set still slept calls =
     let had = calls.promise in
     record {
-      deeds = Rests threshold (Ending.Noted set) ∷ calls.deeds;
-      did = then_rests caller start now process calls.deeds threshold (Ending.Noted set) calls.did slept;
+      deeds = Rests LAST_GRANT (Ending.Noted set) ∷ calls.deeds;
+      did = then_rests caller start now process calls.deeds LAST_GRANT (Ending.Noted set) calls.did slept;
       promise = record {
         own = (tt, had.own);
-        rests = (inr (awaits caller left calls.deeds still had), had.rests);
+        rests = (awaits caller left calls.deeds still had, had.rests);
         between = had.between;
         units = had.units;
         notes = ap (λ s. joined s set) had.notes;
         posts = had.posts;
         expired = had.expired;
-        why = λ e. stopped_rests left.stop calls.deeds threshold (Ending.Noted set) (had.why e);
+        why = λ e. stopped_rests left.stop calls.deeds LAST_GRANT (Ending.Noted set) (had.why e);
       };
     }
 
 -- another process sleeps there, so it takes its notes without a sleep
 pub awaits_refused : (caller : Caller) (start now : Standing) (between process : Process)
-    (left : Left) (threshold : ℕ) (set : NoteSet) → StillAwaits left
-    → Slept caller.rendez threshold Ending.Double now.process between
+    (left : Left) (set : NoteSet) → StillAwaits left
+    → Slept caller.rendez LAST_GRANT Ending.Double now.process between
     → process ≡ steps.drains between set → Calls caller start now (HasLeft caller left)
     → Calls caller start (record now { process = process })
     (HasLeft caller (record left { notes = joined left.notes set }))
-awaits_refused caller start now between process left threshold set still slept drained calls =
+awaits_refused caller start now between process left set still slept drained calls =
     let had = calls.promise in
     record {
-      deeds = Drains set ∷ Rests threshold Ending.Double ∷ calls.deeds;
-      did = then_drains caller start (record now { process = between }) process (Rests threshold Ending.Double ∷ calls.deeds) set
-          (then_rests caller start now between calls.deeds threshold Ending.Double calls.did slept) drained;
+      deeds = Drains set ∷ Rests LAST_GRANT Ending.Double ∷ calls.deeds;
+      did = then_drains caller start (record now { process = between }) process (Rests LAST_GRANT Ending.Double ∷ calls.deeds) set
+          (then_rests caller start now between calls.deeds LAST_GRANT Ending.Double calls.did slept) drained;
       promise = record {
         own = (tt, (tt, had.own));
-        rests = (inr (awaits caller left calls.deeds still had), had.rests);
+        rests = (awaits caller left calls.deeds still had, had.rests);
         between = had.between;
         units = had.units;
         notes = ap (λ s. joined s set) had.notes;
         posts = had.posts;
         expired = had.expired;
-        why = λ e. stopped_drains left.stop (Rests threshold Ending.Double ∷ calls.deeds) set
-            (stopped_rests left.stop calls.deeds threshold Ending.Double (had.why e));
+        why = λ e. stopped_drains left.stop (Rests LAST_GRANT Ending.Double ∷ calls.deeds) set
+            (stopped_rests left.stop calls.deeds LAST_GRANT Ending.Double (had.why e));
       };
     }
 

@@ -10,6 +10,7 @@ use Rattle.sync_base.specs.declared.note.Note.TheVariants.{Interrupt, Alarm, Exp
 use Rattle.sync_base.specs.declared.note.NoteSet.{NoteSet}
 use Rattle.sync_base.specs.NoteSet.{no_notes, joined, only, holds}
 use Rattle.semaphore.specs.declared.acquiring.Semacquired.TheVariants as sema
+use Rattle.semaphore.specs.declared.limits.TheConstants.{LAST_GRANT}
 use Rattle.semaphore.specs.declared.sema_object.SemaCall.TheVariants.{Acquire, AcquireNow, Release, NextWake, Collect, Leave}
 use Rattle.semaphore.specs.declared.sema_object.SemaReply.TheVariants as reply
 use Rattle.semaphore.specs.declared.timer_object.Timer.{Timer}
@@ -125,13 +126,13 @@ the_tick_took_it =
 -- a tick ended the wait; before its note came another process slept in the Rendez, once
 a_timed_wait : AcquiresInTime timed_waiter (record { opening = Unset ∷ Unset ∷ []; history = ticked }) 150
     (Ok tt)
-    (Posts (pid 5) (only Alarm) ∷ Drains (joined (only Alarm) (only Expired)) ∷ Rests 9 Double ∷ broken.leaves_a_note_behind)
+    (Posts (pid 5) (only Alarm) ∷ Drains (joined (only Alarm) (only Expired)) ∷ Rests LAST_GRANT Double ∷ broken.leaves_a_note_behind)
 a_timed_wait =
     record {
       units = refl;
       reason = tt;
       own = (refl, (tt, (tt, (refl, (refl, (tt, ((refl, refl, refl), (refl, tt))))))));
-      rests = (inr (record { expired = refl; to_come = refl }), (inl refl, tt));
+      rests = (inr ((record { expired = refl; to_come = refl }), refl), (inl refl, tt));
       between = (tt, tt);
       notes = inr refl;
       told = λ e. refl;
@@ -172,12 +173,13 @@ a_tick =
       count_is = refl;
       until = tt;
       told = refl;
+      in_turn = (refl, tt);
     }
 
 -- no more than there are timers
 a_whole_tick : Ticks 1 6 150 1 (Posts (pid 5) (only Expired) ∷ Times (Expire 150) (told.Ended (pid 5)) ∷ [])
 a_whole_tick =
-    record { own = (refl, (refl, tt)); count_is = refl; until = (refl, tt); told = refl }
+    record { own = (refl, (refl, tt)); count_is = refl; until = (refl, tt); told = refl; in_turn = (refl, tt) }
 
 -- whether a seat waits, and has a timer, by its own calls
 own_calls_tell : (is_waiting (entry 0 (Acquire 0) (reply.Wait 0) ∷ []) ≡ true)
@@ -219,7 +221,7 @@ no_sleep_is_too_high acquires = by acquires.rests.0
   where
     by : MayRest begun 1 → ⊥
     by (inl is) = absurd (omega (arith, one_of 0 1 is))
-    by (inr tick) = let clash : false ≡ true = tick.expired in cc
+    by (inr tick) = let clash : false ≡ true = tick.0.expired in cc
 
 no_question_without_a_sleep : SleepsBetween broken.asks_without_a_sleep → ⊥
 no_question_without_a_sleep between = between.0
@@ -245,9 +247,16 @@ no_note_is_left_behind seen acquires = let clash : false ≡ true = acquires.tol
 no_sleep_behind_the_tick : RestsInTurn broken.sleeps_behind_the_tick → ⊥
 no_sleep_behind_the_tick rests = by rests.0
   where
-    by : MayRest (Rests 7 (Noted (only Expired)) ∷ broken.leaves_a_note_behind) 7 → ⊥
+    by : MayRest (Rests LAST_GRANT (Noted (only Expired)) ∷ broken.leaves_a_note_behind) LAST_GRANT → ⊥
     by (inl is) = cc
-    by (inr tick) = let clash : true ≡ false = tick.to_come in cc
+    by (inr tick) = let clash : true ≡ false = tick.0.to_come in cc
+
+no_sleep_is_too_low : RestsInTurn broken.sleeps_too_low → ⊥
+no_sleep_is_too_low rests = by rests.0
+  where
+    by : MayRest broken.leaves_a_note_behind 7 → ⊥
+    by (inl is) = cc
+    by (inr tick) = absurd (omega (arith, tick.1))
 
 no_seat_is_forgotten : Releases 3 2 (Ok 2) broken.forgets_a_seat → ⊥
 no_seat_is_forgotten releases = cc releases.woken
@@ -263,6 +272,9 @@ it_asks_to_the_last last = last
 
 nobody_else_is_told : Ticks 3 6 150 1 broken.tells_another → ⊥
 nobody_else_is_told ticks = cc ticks.told
+
+nobody_is_told_too_early : Ticks 3 6 150 1 broken.tells_too_early → ⊥
+nobody_is_told_too_early ticks = ticks.in_turn
 
 somebody_is_told : Ticks 3 6 150 1 broken.tells_nobody → ⊥
 somebody_is_told ticks = cc ticks.told

@@ -11,6 +11,7 @@ use Rattle.sync_base.specs.declared.note.NoteSet.{NoteSet}
 use Rattle.sync_base.specs.NoteSet.{no_notes, joined, holds}
 use Rattle.semaphore.specs.declared.acquiring.Semacquired.{Semacquired}
 use Rattle.semaphore.specs.declared.acquiring.Semacquired.TheVariants as sema
+use Rattle.semaphore.specs.declared.limits.TheConstants.{LAST_GRANT}
 use Rattle.semaphore.specs.declared.sema_object.SemaCall.{SemaCall}
 use Rattle.semaphore.specs.declared.sema_object.SemaCall.TheVariants.{Acquire, AcquireNow, Release, NextWake, Collect, Leave}
 use Rattle.semaphore.specs.declared.sema_object.SemaReply.{SemaReply}
@@ -121,10 +122,11 @@ pub record AwaitsTick (deeds : List Deed) : Type 0 where
   pub expired : was_expired deeds ≡ true
   pub to_come : holds (notes_taken deeds) Expired ≡ false
 
--- a sleep has the count that the last answer told it to wait for; it may be any while the note of a
--- tick is awaited
+-- a sleep has the count that the last answer told it to wait for; or the note of a tick is awaited,
+-- and it has the last count, which no answer tells and no grant passes
 abbrev pub MayRest : List Deed → ℕ → Type 0
-MayRest past threshold = (last_wait past ≡ Some threshold) ⊎ AwaitsTick past
+MayRest past threshold =
+    (last_wait past ≡ Some threshold) ⊎ (AwaitsTick past × (threshold ≡ LAST_GRANT))
 
 abbrev pub RestsInTurn : List Deed → Type 0
 RestsInTurn [] = ⊤

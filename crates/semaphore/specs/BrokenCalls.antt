@@ -5,6 +5,7 @@ use Rattle.sync_base.specs.declared.ids.Pid.{Pid}
 use Rattle.sync_base.specs.declared.note.Note.TheVariants.{Interrupt, Expired}
 use Rattle.sync_base.specs.declared.note.NoteSet.{NoteSet}
 use Rattle.sync_base.specs.NoteSet.{only}
+use Rattle.semaphore.specs.declared.limits.TheConstants.{LAST_GRANT}
 use Rattle.semaphore.specs.declared.sema_object.SemaCall.TheVariants.{Acquire, AcquireNow, Release, NextWake, Collect, Leave}
 use Rattle.semaphore.specs.declared.sema_object.SemaReply.TheVariants as reply
 use Rattle.semaphore.specs.declared.timer_object.TimerCall.TheVariants.{Add, Expire, Cancel}
@@ -75,7 +76,12 @@ leaves_a_note_behind =
 
 -- it sleeps on, though the note of the tick has come
 abbrev pub sleeps_behind_the_tick : List Deed
-sleeps_behind_the_tick = Rests 7 Well ∷ Rests 7 (Noted (only Expired)) ∷ leaves_a_note_behind
+sleeps_behind_the_tick =
+    Rests LAST_GRANT Well ∷ Rests LAST_GRANT (Noted (only Expired)) ∷ leaves_a_note_behind
+
+-- it sleeps for the note of the tick with a count that a grant can pass
+abbrev pub sleeps_too_low : List Deed
+sleeps_too_low = Rests 7 (Noted (only Expired)) ∷ leaves_a_note_behind
 
 -- a release that forgets a seat, wakes it with another count, or does not ask to the last
 abbrev pub forgets_a_seat : List Deed
@@ -97,12 +103,20 @@ abbrev pub does_not_ask_on : List Deed
 does_not_ask_on =
     Rouses 4 4 ∷ Asks NextWake (reply.Wake 1 4) ∷ Asks (Release 2) (reply.Value 2) ∷ []
 
--- a tick that tells another process, tells nobody, or stops while a timer may be due
+-- a tick that tells another process, tells it before its timer expires, tells nobody, or stops while
+-- a timer may be due
 abbrev pub tells_another : List Deed
 tells_another =
     Times (Expire 150) told.NoneDue
     ∷ Posts (pid 6) (only Expired)
     ∷ Times (Expire 150) (told.Ended (pid 5))
+    ∷ []
+
+abbrev pub tells_too_early : List Deed
+tells_too_early =
+    Times (Expire 150) told.NoneDue
+    ∷ Times (Expire 150) (told.Ended (pid 5))
+    ∷ Posts (pid 5) (only Expired)
     ∷ []
 
 abbrev pub tells_nobody : List Deed

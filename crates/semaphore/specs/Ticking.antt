@@ -27,6 +27,14 @@ IsOfTick now (Times (Expire moment) answer) = moment ≡ now
 IsOfTick now (Posts pid set) = set ≡ only Expired
 IsOfTick now deed = ⊥
 
+-- each note is posted just behind the Expire that ended the timer of that process
+abbrev pub PostsInTurn : List Deed → Type 0
+PostsInTurn [] = ⊤
+PostsInTurn (Posts pid set ∷ Times call (told.Ended other) ∷ past) =
+    (pid ≡ other) × PostsInTurn past
+PostsInTurn (Posts pid set ∷ past) = ⊥
+PostsInTurn (deed ∷ past) = PostsInTurn past
+
 -- no deed was told that nothing is due
 abbrev pub FindsDue : List Deed → Type 0
 FindsDue [] = ⊤
@@ -44,10 +52,12 @@ pub record Ticks (procs kernel now count : ℕ) (deeds : List Deed) : Type 0 whe
   pub count_is : count ≡ length (ended_in deeds)
   pub until : GoesOn procs deeds
   pub told : posted_to deeds ≡ filter (λ pid. nat_lt pid.0 kernel) (ended_in deeds)
+  pub in_turn : PostsInTurn deeds
 
 -- a tick that goes on: so many timers expired, and their processes were told
 pub record IsTicking (kernel now count : ℕ) (deeds : List Deed) : Type 0 where
   pub own : AllByRecursion (IsOfTick now) deeds
   pub count_is : count ≡ length (ended_in deeds)
   pub told : posted_to deeds ≡ filter (λ pid. nat_lt pid.0 kernel) (ended_in deeds)
+  pub in_turn : PostsInTurn deeds
   pub due : FindsDue deeds

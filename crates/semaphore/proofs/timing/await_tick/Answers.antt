@@ -19,7 +19,7 @@ loop-preserved-in-None-rest g c =
       pid = c.rest.ensures.pid ∙ c.loop.invariant.pid;
       awaits = λ caller start now left rendez expired notes process calls.
           awaits_well caller start (stepped c.loop.proc now) c.rest.new.proc.process
-          (record left { notes = c.loop.notes }) LAST_GRANT
+          (record left { notes = c.loop.notes })
           (record { expired = expired ∙ asked; to_come = to_come })
           (subst
           (λ r. Slept r LAST_GRANT Ending.Well c.loop.proc.process c.rest.new.proc.process)
@@ -42,7 +42,7 @@ loop-preserved-in-Some-Noted g c =
           (HasLeft caller (record left { notes = set })))
           (sym c.join-notes.ensures.value)
           (awaits_noted caller start (stepped c.loop.proc now) c.rest.new.proc.process
-          (record left { notes = c.loop.notes }) LAST_GRANT set
+          (record left { notes = c.loop.notes }) set
           (record { expired = expired ∙ asked; to_come = to_come })
           (subst
           (λ r. Slept r LAST_GRANT (Ending.Noted set) c.loop.proc.process c.rest.new.proc.process)
@@ -68,7 +68,7 @@ loop-preserved g c =
           (HasLeft caller (record left { notes = set })))
           (sym c.join-notes-in-Some-Refused.ensures.value)
           (awaits_refused caller start (stepped c.loop.proc now) c.rest.new.proc.process
-          c.notes.new.self.process (record left { notes = c.loop.notes }) LAST_GRANT
+          c.notes.new.self.process (record left { notes = c.loop.notes })
           c.notes.result (record { expired = expired ∙ asked; to_come = to_come })
           (subst
           (λ r. Slept r LAST_GRANT Ending.Double c.loop.proc.process c.rest.new.proc.process)
