@@ -14,6 +14,7 @@ use sync_base::{Fault, Pid};
 mod acquires;
 mod crowd;
 mod member;
+mod opened;
 mod opens;
 mod pages;
 mod plain_sema;
