@@ -1,9 +1,9 @@
 mod ArgsLemmas
-mod CrewLemmas
 mod DeviceLemmas
 mod DigitLemmas
 mod EventLineLemmas
 mod EventTextLemmas
+mod HexTextLemmas
 mod LineLemmas
 mod NumberLemmas
 mod OnePassLemmas
@@ -17,4 +17,3 @@ mod TextLemmas
 mod ToldLemmas
 mod WorkedSchedules
 mod WorkedScripts
-mod WorkedWords

@@ -10,5 +10,4 @@ pub mod WrittenLemmas
 pub mod ChainLemmas
 pub mod WaitLemmas
 pub mod WorkedPipes
-pub mod LoneLemmas
 pub mod WorkedCalls

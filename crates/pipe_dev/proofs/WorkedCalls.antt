@@ -1,8 +1,8 @@
 -- Calls of the ends worked out by the definitions alone: each row is used, and short calls that
 -- they refuse.
-use Rattle.std.proofs.Common.{◌≡◌, ◌≢◌, ℕ, false, true, List, [], ◌∷◌, ◌++◌, Some, None}
+use Rattle.std.proofs.Common.{◌≡◌, ◌≢◌, ℕ, false, true, List, [], ◌∷◌, ◌++◌, Option, Some, None}
 use Rattle.std.proofs.Common.{refl, sym, ◌∙◌, inl, inr, ap, arith, length, reverse}
-use Rattle.std.specs.Prelude.{Ok, Err}
+use Rattle.std.specs.Prelude.{Result, Ok, Err}
 use Rattle.std.proofs.lemmas.List.{reverse-reverse}
 use Rattle.histories.specs.declared.account.Account.{Account}
 use Rattle.histories.specs.Account.{AreByOthers}
@@ -24,11 +24,13 @@ use Rattle.block_queue.specs.declared.entry.Entry.TheVariants as entry
 use Rattle.block_queue.specs.declared.queue.Queue.{Queue}
 use Rattle.block_queue.specs.declared.view.Key.{Key}
 use Rattle.block_queue.specs.History.{seat_of, opening_state}
-use Rattle.block_queue.specs.Meaning.{Enters, queue_meaning}
+use Rattle.block_queue.specs.Meaning.{Enters, KnowsQueue, queue_meaning}
+use Rattle.pipe_dev.specs.declared.answers.Long.{Long}
 use Rattle.pipe_dev.specs.declared.answers.ReadAnswer.TheVariants as read
 use Rattle.pipe_dev.specs.declared.row.Row.{Row}
 use Rattle.pipe_dev.specs.Chain.{IsMade}
 use Rattle.pipe_dev.specs.Ends.{ReadSide, WriteSide, AreAllEnds}
+use Rattle.pipe_dev.specs.Parts.{Part}
 use Rattle.pipe_dev.specs.ReadCalls.{Reader, Reads, FindsNotYet, SleepsForWrite}
 use Rattle.pipe_dev.specs.Rendezes.{HasRow, WakesAll, WakesIfKnown, WakesWriters}
 use Rattle.pipe_dev.specs.WriteCalls.{Writer, Writes, WritesLong, atomic_writes, bytes_in}

@@ -14,7 +14,6 @@ use sync_base::{Fault, Pid};
 mod acquires;
 mod crowd;
 mod member;
-mod opened;
 mod opens;
 mod pages;
 mod plain_sema;

@@ -1,8 +1,7 @@
 //! Units that processes acquire and release, and notes that come before each step of a wait.
 use crate::tests::member::{Act, ActAt, First, Member};
-use crate::tests::opened::{kernel_of, sema_of, timers_of};
-use crate::{OpenedSema, OpenedTimers, Semacquired};
-use sleep_wakeup::{Opened, Started};
+use crate::{OpenedSema, OpenedTimers, Sema, Semacquired, Timers};
+use sleep_wakeup::{Kernel, Opened, Started};
 use std::alloc::Global;
 use std::process::Abort;
 use std::sync::Wait;
@@ -11,13 +10,13 @@ use sync_base::{Fault, Note, NoteSet};
 
 #[test]
 fn units_are_acquired_and_released(rt: HostRuntime) -> Result<(), Fail> {
-    let Opened { kernel, start } = kernel_of(rt.alloc(), 1, 1)?;
+    let Opened { kernel, start } = Kernel::new(rt.alloc(), 1, 1)?;
     let Started { mut roster, proc } = kernel.start(start);
     let OpenedTimers {
         timers,
         seat: timer,
-    } = timers_of(rt.alloc(), 1)?;
-    let OpenedSema { sema, seat } = sema_of(&rt, rt.alloc(), &mut roster, 0, 1)?;
+    } = Timers::new(rt.alloc(), 1)?;
+    let OpenedSema { sema, seat } = Sema::new(rt.alloc(), &mut roster, 0, 1)?;
     let mut member = Member::new(&sema, &timers, First { seat, timer, proc });
     assert_eq!(rt; member.acquire(&rt, false), Ok(Semacquired::NotNow));
     assert_eq!(rt; member.release(&rt, 3), Ok(3));
@@ -73,13 +72,13 @@ fn acquired_beside<'s, 't, 'k, R: Wait + Abort>(
 
 // The same, of a new semaphore without units.
 fn acquired_while<R: Wait + Abort>(rt: &R, alloc: Global, acts: [Act; 4]) -> Result<Outcome, Fail> {
-    let Opened { kernel, start } = kernel_of(alloc, 2, 2)?;
+    let Opened { kernel, start } = Kernel::new(alloc, 2, 2)?;
     let Started { mut roster, proc } = kernel.start(start);
     let OpenedTimers {
         timers,
         seat: timer,
-    } = timers_of(alloc, 2)?;
-    let OpenedSema { sema, seat } = sema_of(rt, alloc, &mut roster, 0, 2)?;
+    } = Timers::new(alloc, 2)?;
+    let OpenedSema { sema, seat } = Sema::new(alloc, &mut roster, 0, 2)?;
     let mut member = Member::new(&sema, &timers, First { seat, timer, proc });
     let Some(other) = member.fork(rt, &mut roster)? else {
         panic!(rt; "RFPROC makes a child")

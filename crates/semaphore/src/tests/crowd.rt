@@ -1,15 +1,10 @@
 //! Eight processes that acquire and release units, with notes, time-outs and ticks between.
-ghost use Rattle.std.specs.Prelude.{◌≡◌};
-
 use crate::tests::member::{First, Member};
-use crate::tests::opened::{kernel_of, sema_of, timers_of};
-use crate::{OpenedSema, OpenedTimers, Semacquired};
-use sleep_wakeup::{Opened, Roster, Started};
-use std::alloc::Global;
-use std::process::Abort;
+use crate::{OpenedSema, OpenedTimers, Sema, Semacquired, Timers};
+use sleep_wakeup::{Kernel, Opened, Started};
 use std::sync::Wait;
 use std::test::Fail;
-use std::thread::{self, Threads};
+use std::thread;
 use sync_base::{Fault, Note, Pid};
 
 const PROCESSES: u64 = 8;
@@ -107,68 +102,37 @@ fn make_work<R: Wait>(rt: &R, job: Job) -> Work {
     work
 }
 
-// A job for each process of the crowd.
-fn jobs_of<'s, 't, 'k, R: Wait + Abort>(
-    rt: &R,
-    alloc: Global,
-    first: &mut Member<'s, 't, 'k>,
-    roster: &mut Roster<'k>,
-) -> Result<Vec<Job<'s, 't, 'k>>, Fault>
-    requires { roster.old.words ≡ first.old.words }
-{
-    let mut jobs = Vec::new(alloc);
-    for number in 0..PROCESSES {
-        let Some(member) = first.fork(rt, roster)? else {
-            panic!(rt; "RFPROC makes a child")
-        };
-        jobs.push(Job { member, number })?;
-    }
-    Ok(jobs)
-}
-
-// How many units are left, up to twice as many as there are processes.
-fn units_left<R: Wait>(rt: &R, member: &mut Member) -> u64 {
-    let mut left = 0u64;
-    for _ in 0..2 * PROCESSES {
-        if member.acquire(rt, false) == Ok(Semacquired::Acquired) {
-            left = left.saturating_add(1);
-        }
-    }
-    left
-}
-
-// What each process of a crowd did, and how many units were left behind it.
-fn crowd_works<R: Threads + Wait + Abort + Sync>(
-    rt: &R,
-    alloc: Global,
-) -> Result<(Vec<Work>, u64), Fault> {
+#[test]
+fn no_unit_is_lost_and_none_is_given_twice(rt: HostRuntime) -> Result<(), Fail> {
     let all = PROCESSES + 1;
-    let Opened { kernel, start } = kernel_of(alloc, all, all)?;
+    let Opened { kernel, start } = Kernel::new(rt.alloc(), all, all)?;
     let Started { mut roster, proc } = kernel.start(start);
     let OpenedTimers {
         timers,
         seat: timer,
-    } = timers_of(alloc, all)?;
-    let OpenedSema { sema, seat } = sema_of(rt, alloc, &mut roster, OPENING, all)?;
+    } = Timers::new(rt.alloc(), all)?;
+    let OpenedSema { sema, seat } = Sema::new(rt.alloc(), &mut roster, OPENING, all)?;
     let mut first = Member::new(&sema, &timers, First { seat, timer, proc });
-    let jobs = jobs_of(rt, alloc, &mut first, &mut roster)?;
-    let works = thread::map_vec(rt, jobs, &|job: Job| -> Work { make_work(rt, job) })?;
-    Ok((works, units_left(rt, &mut first)))
-}
-
-#[test]
-fn no_unit_is_lost_and_none_is_given_twice(rt: HostRuntime) -> Result<(), Fail> {
-    // Where memory is refused the crowd works once more.
-    let (works, left) = match crowd_works(&rt, rt.alloc()) {
-        Err(Fault::Memory) => crowd_works(&rt, rt.alloc())?,
-        answer => answer?,
-    };
+    let mut jobs = Vec::new(rt.alloc());
+    for number in 0..PROCESSES {
+        let Some(member) = first.fork(&rt, &mut roster)? else {
+            panic!(rt; "RFPROC makes a child")
+        };
+        jobs.push(Job { member, number })?;
+    }
+    let done = thread::map_vec(&rt, jobs, &|job: Job| -> Work { make_work(&rt, job) })?;
     let mut expected = OPENING as u64;
-    for (number, work) in works.iter().enumerate() {
+    for (number, work) in done.iter().enumerate() {
         assert_eq!(rt; (work.wrong, work.acquired), (0, UNITS), "process {number}");
         expected = expected
             .saturating_add(work.released)
             .saturating_sub(work.acquired);
+    }
+    let mut left = 0u64;
+    for _ in 0..2 * PROCESSES {
+        if first.acquire(&rt, false) == Ok(Semacquired::Acquired) {
+            left = left.saturating_add(1);
+        }
     }
     assert_eq!(rt; left, expected);
     Ok(())

@@ -1,12 +1,11 @@
 //! The examples of the manual page, line for line. `tests/pages` compares them with the page.
-use crate::tests::opened::{kernel_of, sema_of, timers_of};
-use crate::{OpenedSema, OpenedTimers, Semacquired};
-use sleep_wakeup::{Opened, Started};
+use crate::{OpenedSema, OpenedTimers, Sema, Semacquired, Timers};
+use sleep_wakeup::{Kernel, Opened, Started};
 use std::test::Fail;
 
 #[test]
 fn semacquire_page(rt: HostRuntime) -> Result<(), Fail> {
-    let Opened { kernel, start } = kernel_of(rt.alloc(), 1, 1)?;
+    let Opened { kernel, start } = Kernel::new(rt.alloc(), 1, 1)?;
     let Started {
         mut roster,
         mut proc,
@@ -14,8 +13,8 @@ fn semacquire_page(rt: HostRuntime) -> Result<(), Fail> {
     let OpenedTimers {
         timers,
         seat: mut timer,
-    } = timers_of(rt.alloc(), 1)?;
-    let OpenedSema { sema, mut seat } = sema_of(&rt, rt.alloc(), &mut roster, 1, 1)?;
+    } = Timers::new(rt.alloc(), 1)?;
+    let OpenedSema { sema, mut seat } = Sema::new(rt.alloc(), &mut roster, 1, 1)?;
     assert_eq!(rt;
         sema.semacquire(&rt, &mut proc, &mut seat, true),
         Ok(Semacquired::Acquired)

@@ -1,8 +1,7 @@
 //! Waits in time: the note of a tick comes where it is awaited, and nowhere else.
 use crate::tests::member::{Act, ActAt, First, Member};
-use crate::tests::opened::{kernel_of, sema_of, timers_of};
-use crate::{OpenedSema, OpenedTimers, Semacquired};
-use sleep_wakeup::{Opened, Proc, Started};
+use crate::{OpenedSema, OpenedTimers, Sema, Semacquired, Timers};
+use sleep_wakeup::{Kernel, Opened, Proc, Started};
 use std::alloc::Global;
 use std::process::Abort;
 use std::sync::Wait;
@@ -60,13 +59,13 @@ fn acquired_beside<'s, 't, 'k, R: Wait + Abort>(
 
 // The same, of a new semaphore without units.
 fn acquired_while<R: Wait + Abort>(rt: &R, alloc: Global, acts: [Act; 4]) -> Result<Outcome, Fail> {
-    let Opened { kernel, start } = kernel_of(alloc, 2, 2)?;
+    let Opened { kernel, start } = Kernel::new(alloc, 2, 2)?;
     let Started { mut roster, proc } = kernel.start(start);
     let OpenedTimers {
         timers,
         seat: timer,
-    } = timers_of(alloc, 2)?;
-    let OpenedSema { sema, seat } = sema_of(rt, alloc, &mut roster, 0, 2)?;
+    } = Timers::new(alloc, 2)?;
+    let OpenedSema { sema, seat } = Sema::new(alloc, &mut roster, 0, 2)?;
     let mut member = Member::new(&sema, &timers, First { seat, timer, proc });
     let Some(other) = member.fork(rt, &mut roster)? else {
         panic!(rt; "RFPROC makes a child")
@@ -240,7 +239,7 @@ fn awaited_beside<'s, 't, 'k, R: Wait + Abort>(
 // posted in the Rendez for as long as the call lasts.
 #[test]
 fn a_tick_is_awaited_where_another_process_sleeps(rt: HostRuntime) -> Result<(), Fail> {
-    let Opened { kernel, start } = kernel_of(rt.alloc(), 3, 2)?;
+    let Opened { kernel, start } = Kernel::new(rt.alloc(), 3, 2)?;
     let Started {
         mut roster,
         mut proc,
@@ -248,8 +247,8 @@ fn a_tick_is_awaited_where_another_process_sleeps(rt: HostRuntime) -> Result<(),
     let OpenedTimers {
         timers,
         seat: timer,
-    } = timers_of(rt.alloc(), 2)?;
-    let OpenedSema { sema, seat } = sema_of(&rt, rt.alloc(), &mut roster, 0, 2)?;
+    } = Timers::new(rt.alloc(), 2)?;
+    let OpenedSema { sema, seat } = Sema::new(rt.alloc(), &mut roster, 0, 2)?;
     let Some(guest) = roster.rfork(&mut proc, Flags::RFPROC)? else {
         panic!(rt; "RFPROC makes a child")
     };
@@ -291,13 +290,13 @@ fn waits_and_ticks<'s, 't, 'k, R: Threads + Wait + Sync>(
 
 #[test]
 fn a_tick_ends_a_wait_of_another_thread(rt: HostRuntime) -> Result<(), Fail> {
-    let Opened { kernel, start } = kernel_of(rt.alloc(), 2, 2)?;
+    let Opened { kernel, start } = Kernel::new(rt.alloc(), 2, 2)?;
     let Started { mut roster, proc } = kernel.start(start);
     let OpenedTimers {
         timers,
         seat: timer,
-    } = timers_of(rt.alloc(), 2)?;
-    let OpenedSema { sema, seat } = sema_of(&rt, rt.alloc(), &mut roster, 0, 2)?;
+    } = Timers::new(rt.alloc(), 2)?;
+    let OpenedSema { sema, seat } = Sema::new(rt.alloc(), &mut roster, 0, 2)?;
     let mut member = Member::new(&sema, &timers, First { seat, timer, proc });
     let Some(other) = member.fork(&rt, &mut roster)? else {
         panic!(rt; "RFPROC makes a child")
