@@ -1,6 +1,7 @@
 mod AnswerLemmas
 mod GroupLemmas
 mod LineLemmas
+mod SearchLemmas
 mod RunLemmas
 mod TableLemmas
 mod SpaceLemmas

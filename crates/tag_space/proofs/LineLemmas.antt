@@ -1,12 +1,8 @@
--- Lines in the order of their tags: what a search finds, and what stays found after an edit.
+-- Lines in the order of their tags: what is found in them, and what stays found after an edit.
 use Rattle.std.proofs.Common.{◌≡◌, ℕ, zero, suc, ◌+◌, ◌-◌, ◌<◌, ◌≤◌, ◌≢◌, eqb, [], ◌∷◌, List, length}
-use Rattle.std.proofs.Common.{if◌then◌else◌, Some, None, Result, Ok, Err, IfOk, IfErr}
-use Rattle.std.proofs.Common.{refl, sym, ap, subst, arith}
+use Rattle.std.proofs.Common.{if◌then◌else◌, Some, None}
+use Rattle.std.proofs.Common.{refl, ap, subst, arith}
 use Rattle.std.specs.List.{insert, remove}
-use Rattle.std.specs.List.Sorted.{IsSearchInRange, IsBinarySearchResult, IsNonDecreasingBy}
-use Rattle.std.specs.Ordering.{nat_cmp, ordering_index}
-use Rattle.std.proofs.lemmas.Cmp.{ranked}
-use Rattle.std.proofs.lemmas.List.Sorted.{IsNonDecreasingBy-from_default}
 use Rattle.std.proofs.lemmas.List.Edits.{length-insert, get_or-insert_below}
 use Rattle.std.proofs.lemmas.List.Edits.{get_or-insert_at, get_or-insert_above}
 use Rattle.std.proofs.lemmas.List.Edits.{length-remove, get_or-remove_below, get_or-remove_above}
@@ -56,30 +52,6 @@ found_after_remove ((first, owner) ∷ lines) key (suc i) at none after tag =
     grind (arith, nat_tests, none 0 (omega arith), found_after_remove lines key i (is_at_rest (first, owner) lines key i at) (rest_has_none (first, owner) lines key i none) (λ j above below. after (suc j) (omega arith) (omega arith)) tag)
 
 module _ (table : List Line) (rising : IsRising table) where
-  module _ (tag : ℕ) where
-    -- the comparisons with the tag rise along the table, as a binary search asks
-    comparisons_rise : IsNonDecreasingBy (λ line. ordering_index (nat_cmp line.0.0 tag)) table
-    comparisons_rise =
-        IsNonDecreasingBy-from_default (λ line. ordering_index (nat_cmp line.0.0 tag)) table no_line
-        (λ i j le in_range.
-        let tags_rise : tag_at table i ≤ tag_at table j = grind (arith, rising i j, λ (same : i ≡ j). ap (tag_at table) same) in
-        grind (arith, nat_tests))
-
-    -- a binary search ends at the tag, or at the gap for it
-    pub searched : (r : Result ℕ ℕ) → IsSearchInRange r (length table) → IsBinarySearchResult (λ line. nat_cmp line.0.0 tag) table r → record { found : IfOk r (IsAt table tag); absent : IfErr r (IsGapFor table tag) }
-    searched (Ok at) in_range equal = record {
-      found = record { in_range = in_range; has_tag = ranked _ tag _ (sym (equal no_line)) };
-      absent = tt;
-    }
-    searched (Err at) in_range parted = record {
-      found = tt;
-      absent = record {
-        in_range = in_range;
-        smaller_before = λ j below. ranked _ tag _ (sym ((parted comparisons_rise).0 j no_line (omega arith) below));
-        greater_after = λ j from below. ranked _ tag _ (sym ((parted comparisons_rise).1 j no_line from below));
-      };
-    }
-
   module _ (tag i : ℕ) (at : IsAt table tag i) where
     none_before : NoTagBefore table tag i
     none_before j below same = omega (arith, rising j i below at.in_range, at.has_tag)

@@ -2,6 +2,7 @@ pub mod Group
 pub mod Laws
 pub mod Rendezvous
 pub mod Table
+pub mod Search
 pub mod Runs
 pub mod Promises
 pub mod Members
