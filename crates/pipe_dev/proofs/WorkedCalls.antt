@@ -1,8 +1,8 @@
 -- Calls of the ends worked out by the definitions alone: each row is used, and short calls that
 -- they refuse.
-use Rattle.std.proofs.Common.{◌≡◌, ◌≢◌, ℕ, false, true, List, [], ◌∷◌, ◌++◌, Option, Some, None}
-use Rattle.std.proofs.Common.{refl, sym, ◌∙◌, inl, inr, ap, arith, length, reverse}
-use Rattle.std.specs.Prelude.{Result, Ok, Err}
+use Rattle.std.proofs.Common.{◌≡◌, ◌≢◌, ◌⊎◌, ◌+◌, ℕ, false, true, List, [], ◌∷◌, ◌++◌, Some, None}
+use Rattle.std.proofs.Common.{refl, sym, ◌∙◌, inl, inr, ap, subst, arith, length, reverse}
+use Rattle.std.specs.Prelude.{Ok, Err}
 use Rattle.std.proofs.lemmas.List.{reverse-reverse}
 use Rattle.histories.specs.declared.account.Account.{Account}
 use Rattle.histories.specs.Account.{AreByOthers}
@@ -24,14 +24,16 @@ use Rattle.block_queue.specs.declared.entry.Entry.TheVariants as entry
 use Rattle.block_queue.specs.declared.queue.Queue.{Queue}
 use Rattle.block_queue.specs.declared.view.Key.{Key}
 use Rattle.block_queue.specs.History.{seat_of, opening_state}
-use Rattle.block_queue.specs.Meaning.{Enters, KnowsQueue, queue_meaning}
-use Rattle.pipe_dev.specs.declared.answers.Long.{Long}
+use Rattle.block_queue.specs.Meaning.{Enters, queue_meaning}
 use Rattle.pipe_dev.specs.declared.answers.ReadAnswer.TheVariants as read
+use Rattle.pipe_dev.specs.declared.answers.TryAnswer.TheVariants as try
 use Rattle.pipe_dev.specs.declared.row.Row.{Row}
-use Rattle.pipe_dev.specs.Chain.{IsMade}
+use Rattle.pipe_dev.specs.Chain.{IsMade, IsNoBlock, AddsNothing}
 use Rattle.pipe_dev.specs.Ends.{ReadSide, WriteSide, AreAllEnds}
 use Rattle.pipe_dev.specs.Parts.{Part}
-use Rattle.pipe_dev.specs.ReadCalls.{Reader, Reads, FindsNotYet, SleepsForWrite}
+use Rattle.pipe_dev.specs.ReadCalls.{Reader, Reads, Tries, GoesOn, TakesOut, FindsNotYet}
+use Rattle.pipe_dev.specs.ReadCalls.{SleepsForWrite}
+use Rattle.pipe_dev.specs.Reading.{Reading}
 use Rattle.pipe_dev.specs.Rendezes.{HasRow, WakesAll, WakesIfKnown, WakesWriters}
 use Rattle.pipe_dev.specs.WriteCalls.{Writer, Writes, WritesLong, atomic_writes, bytes_in}
 use Rattle.pipe_dev.proofs.ReadingLemmas.{what_is_read_is_right}
@@ -227,6 +229,10 @@ run_end =
       within = (omega arith, (omega arith, tt));
     }
 
+run_hung : IsRun tight (entry.Hung 0 ∷ [])
+run_hung =
+    record { legal = (record { may = tt; in_turn = refl }, tt); within = (omega arith, tt) }
+
 run_late : IsRun tight (entry.Hungup 0 b ∷ entry.Hung 0 ∷ [])
 run_late =
     record {
@@ -256,6 +262,9 @@ has_taken = taker (entry.Block 0 a 1 ∷ entry.NotYet 0 ∷ []) seen_5
 abbrev has_ended : Account Entry
 has_ended = taker (entry.End ∷ []) (entry.End ∷ entry.Hung 1 ∷ [])
 
+abbrev has_hung : Account Entry
+has_hung = taker (entry.Hung 0 ∷ []) (entry.Hung 0 ∷ [])
+
 finds_nothing : Enters tight (entry.NotYet 0) unread told
 finds_nothing = taker_enters (entry.NotYet 0) [] [] [] tt refl refl refl run_1
 
@@ -267,6 +276,9 @@ takes_out =
 finds_the_end : Enters tight entry.End unread has_ended
 finds_the_end =
     taker_enters entry.End (entry.Hung 1 ∷ []) [] [] (refl, tt) refl refl refl run_end
+
+hangs_up : Enters tight (entry.Hung 0) unread has_hung
+hangs_up = taker_enters (entry.Hung 0) [] [] [] tt refl refl refl run_hung
 
 abbrev put_one : List Entry
 put_one = entry.Stood 0 1 ∷ entry.Taken 0 a 1 ∷ []
@@ -345,6 +357,12 @@ has_notes none = let held = ap (λ (set : NoteSet). set.interrupt) none in cc
 module _ (table : TableId) where
   abbrev idle : Process
   idle = record { table = table; pid = 0; trace = [] }
+
+  -- a process that has woken somebody did something
+  is_not_idle : (before : Process) (level : ℕ)
+      → Ends (raises before (at_rendez 4) level) idle → ⊥
+  is_not_idle before level (inl nobody) = let trace = ap (λ (p : Process). p.trace) nobody in cc
+  is_not_idle before level (inr sleeper) = let trace = ap (λ (p : Process). p.trace) sleeper.1 in cc
 
   -- ---- a read
 
@@ -459,6 +477,65 @@ module _ (table : TableId) where
   read_tries_again_at_once sleeps =
       let trace = ap (λ (p : Process). p.trace) sleeps.slept.leaves.cleared in cc
 
+  -- ---- a read that does not wait
+
+  abbrev second_byte : Part
+  second_byte = record { place = 0; writer = 0; bytes = 98 ∷ [] }
+
+  -- a reader that has read the first byte of the write and holds the second
+  abbrev begun : Process → Reader
+  begun process = record { account = has_taken; rest = Some second_byte; process = process }
+
+  tries_and_begins : Tries tight row (reader told reader_woken) (0 ∷ []) (try.Got 1)
+      (begun (woke reader_woken 4 1)) (97 ∷ [])
+  tries_and_begins =
+      record {
+        left = record { place = 0; writer = 0; bytes = a };
+        next = inr record {
+          none_left = refl;
+          taken = takes_out;
+          woken = wakes_the_writer;
+        };
+        filled = record { count_is = refl; bytes = refl };
+        rest = refl;
+      }
+
+  tries_and_goes_on : Tries tight row (begun idle) (0 ∷ 0 ∷ []) (try.Got 1)
+      (reader has_taken idle) (98 ∷ 0 ∷ [])
+  tries_and_goes_on =
+      record {
+        left = second_byte;
+        next = inl record { left_is = refl; account = refl; process = refl };
+        filled = record { count_is = refl; bytes = refl };
+        rest = refl;
+      }
+
+  tries_too_early : Tries tight row (reader unread idle) b try.NotYet (reader told idle) b
+  tries_too_early = (record { number = 0; found = finds_not_yet }, refl)
+
+  tries_at_the_end : Tries tight row (reader unread idle) b try.End (reader has_ended idle) b
+  tries_at_the_end =
+      (record { none_left = refl; entered = finds_the_end; rest = refl; process = refl }, refl)
+
+  try_wakes_no_writer : Tries tight row (reader told idle) (0 ∷ []) (try.Got 1) (begun idle)
+      (97 ∷ []) → ⊥
+  try_wakes_no_writer tries = by tries.left tries.next
+    where
+      by : (left : Part) → GoesOn (reader told idle) left (begun idle)
+          ⊎ TakesOut tight row (reader told idle) left (begun idle) → ⊥
+      by left (inl goes) = let none = goes.left_is in cc
+      by left (inr out) =
+          is_not_idle out.woken.between (left.place + 1) out.woken.last.woken.ends
+
+  try_sleeps : Tries tight row (reader unread idle) b try.NotYet (reader told reader_woken) b → ⊥
+  try_sleeps tries = let trace = ap (λ (p : Process). p.trace) tries.0.found.none.process in cc
+
+  try_at_the_end_fills_its_buffer : Tries tight row (reader unread idle) b try.End
+      (reader has_ended idle) a → ⊥
+  try_at_the_end_fills_its_buffer tries = let bytes = tries.1 in cc
+
+  -- ---- what calls make of a read end
+
   -- two calls: nothing was there; and then one byte of two was read
   made_by_two_calls : IsMade tight row
       (record {
@@ -512,6 +589,79 @@ module _ (table : TableId) where
         rest = None;
       }) → ⊥
   made_of_nothing made = let whole = (what_is_read_is_right tight row _ made).right.whole in cc
+
+  abbrev nothing_read : Account Entry → Reading
+  nothing_read account = record { account = account; parts = []; rest = None }
+
+  abbrev first_write : Part
+  first_write = record { place = 0; writer = 0; bytes = a }
+
+  -- a call found the end
+  ends_unread : AddsNothing tight (nothing_read unread) (nothing_read has_ended)
+  ends_unread =
+      record {
+        entry = entry.End;
+        entered = finds_the_end;
+        no_block = tt;
+        rest = refl;
+        parts = refl;
+      }
+
+  made_by_an_end : IsMade tight row (nothing_read has_ended)
+  made_by_an_end =
+      record {
+        first = refl;
+        times = 1;
+        steps = record {
+          between = nothing_read unread;
+          rounds = refl;
+          last = inr ends_unread;
+        };
+      }
+
+  -- a call hung the direction up
+  made_by_a_hangup : IsMade tight row (nothing_read has_hung)
+  made_by_a_hangup =
+      record {
+        first = refl;
+        times = 1;
+        steps = record {
+          between = nothing_read unread;
+          rounds = refl;
+          last = inr record {
+            entry = entry.Hung 0;
+            entered = hangs_up;
+            no_block = tt;
+            rest = refl;
+            parts = refl;
+          };
+        };
+      }
+
+  end_adds_a_part : AddsNothing tight (nothing_read unread)
+      (record { account = has_ended; parts = first_write ∷ []; rest = None }) → ⊥
+  end_adds_a_part adds = let parts = adds.parts in cc
+
+  hangup_leaves_a_rest : AddsNothing tight (nothing_read unread)
+      (record { account = has_hung; parts = []; rest = Some first_write }) → ⊥
+  hangup_leaves_a_rest adds = let rest = adds.rest in cc
+
+  -- a write that was taken out is read
+  block_is_not_read : AddsNothing tight (nothing_read told) (nothing_read has_taken) → ⊥
+  block_is_not_read adds =
+      let seen = ap (λ (x : Account Entry). x.seen) adds.entered.adds.new_is in
+      let same : adds.entry ≡ entry.Block 0 a 1 = cc in
+      subst IsNoBlock same adds.no_block
+
+  made_of_a_part_at_the_end : IsMade tight row
+      (record { account = has_ended; parts = first_write ∷ []; rest = None }) → ⊥
+  made_of_a_part_at_the_end made =
+      let whole = (what_is_read_is_right tight row _ made).right.whole in cc
+
+  made_of_a_rest_at_a_hangup : IsMade tight row
+      (record { account = has_hung; parts = []; rest = Some first_write }) → ⊥
+  made_of_a_rest_at_a_hangup made =
+      let whole = (what_is_read_is_right tight row _ made).right.whole in cc
 
   -- ---- a write
 
@@ -723,11 +873,8 @@ module _ (table : TableId) where
     wakes_nobody : HasRow words row
         → WakesIfKnown row (record { words = words; process = idle }) idle → ⊥
     wakes_nobody has wakes =
-        by (wakes.known has).writers.between (wakes.known has).writers.last.woken.ends
-      where
-        by : (before : Process) → Ends (raises before (at_rendez 4) TOP_LEVEL) idle → ⊥
-        by before (inl nobody) = let trace = ap (λ (p : Process). p.trace) nobody in cc
-        by before (inr sleeper) = let trace = ap (λ (p : Process). p.trace) sleeper.1 in cc
+        is_not_idle (wakes.known has).writers.between TOP_LEVEL
+        (wakes.known has).writers.last.woken.ends
 
 -- ---- all ends of a direction
 
