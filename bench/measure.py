@@ -4,10 +4,10 @@
 usage: measure.py COMMAND PLAIN P9SYNC SCRIPT...; COMMAND is pipe or replay
 
 Each program runs ROUNDS times on each script, in turn, and the one that goes first alternates. The script is on standard
-input, and the answers go to /dev/null. Figures are medians, with the least and the greatest behind them. Processor time
-is that of the user and of the system together. A share is p9sync's speed as a part of the plain program's in one round.
-Peak memory is the greatest of all rounds. Of several scripts, it also prints how the processor time of a line in the last
-compares with that in the first."""
+input, the answers go to /dev/null, and the environment is the one that the launcher gives. Figures are medians, with the
+least and the greatest behind them. Processor time is that of the user and of the system together. A share is p9sync's
+speed as a part of the plain program's in one round. Peak memory is the greatest of all rounds. Of several scripts, it also
+prints how the processor time of a line in the last compares with that in the first."""
 import filecmp
 import os
 import pathlib
@@ -19,6 +19,8 @@ from typing import NamedTuple
 
 ROUNDS = 9
 TOP = pathlib.Path(__file__).resolve().parent.parent
+# What the launcher sets for large pages, which the plain program asks for itself. Both run with it.
+ENVIRONMENT = {**os.environ, "GLIBC_TUNABLES": "glibc.malloc.hugetlb=1"}
 
 
 class Run(NamedTuple):
@@ -38,7 +40,7 @@ def run(words, script, answers=os.devnull, faults=os.devnull):
         os.dup2(os.open(script, os.O_RDONLY), 0)
         os.dup2(os.open(answers, make, 0o644), 1)
         os.dup2(os.open(faults, make, 0o644), 2)
-        os.execv(words[0], words)
+        os.execve(words[0], words, ENVIRONMENT)
     _, status, usage = os.wait4(pid, 0)
     elapsed = time.perf_counter() - start
     return Run(os.waitstatus_to_exitcode(status), usage.ru_utime + usage.ru_stime, elapsed, usage.ru_maxrss)

@@ -1,12 +1,14 @@
 -- Lines of a schedule with a word too many are not in the grammar.
 use Rattle.std.proofs.Common.{◌≡◌, ℕ, ◌<◌, List, [], ◌∷◌, ◌++◌, length, ◌+◌, option_and_then, ap, sym, subst, ◌∙◌, Option, None, Some, Bor, refl, arith}
-use Rattle.p9sync.specs.Lines.{is_space, words_of, BeginsWithLine}
+use Rattle.p9sync.specs.Lines.{is_space, words_of, words_behind, number_of, BeginsWithLine}
+use Rattle.sync_base.specs.declared.note.NoteSet.{NoteSet}
 use Rattle.sleep_core.specs.declared.event.Event.{Event}
+use Rattle.sleep_core.specs.declared.event.Event.TheVariants as event
 use Rattle.p9sync.specs.declared.event_line.Verb.{Verb}
 use Rattle.p9sync.specs.declared.event_line.Verb.TheVariants as verb
 use Rattle.p9sync.specs.declared.lines.TheConstants.{SPACE}
 use Rattle.p9sync.proofs.OnePassLemmas.{IsWord, line_behind_word}
-use Rattle.p9sync.specs.Schedule.{verb_of, verb_word, event_with, BeginsWithEvent, size_of, lone_pid, operands_of, note_of}
+use Rattle.p9sync.specs.Schedule.{verb_of, verb_word, event_with, BeginsWithEvent, size_of, lone_pid, operands_of, note_of, kinds_of}
 use Rattle.p9sync.proofs.LineLemmas.{parts_of-some}
 
 -- a process and a word more is no process alone
@@ -97,3 +99,10 @@ event_begins text v mid words rest event split line asks =
           (λ (o : Option Verb). option_and_then (λ v. event_with v words) o) (verb_is_read v)
           ∙ asks;
     }
+
+-- a number and kinds, with nothing behind them, are a note
+pub note_is : (pid kinds line : List ℕ) (more : Option (Bor (List ℕ))) (n : ℕ) (set : NoteSet)
+    → words_of line ≡ kinds ∷ words_behind more → more ≡ None → number_of pid ≡ Some n
+    → Some set ≡ kinds_of kinds
+    → note_of (pid ∷ words_of line) ≡ Some (event.Note (record { 0 = n }) set)
+note_is pid kinds line more n set begin alone is are = rw (begin, alone, is, ← are) refl

@@ -3,7 +3,6 @@ mod DeviceLemmas
 mod DigitLemmas
 mod EventLineLemmas
 mod EventTextLemmas
-mod HexTextLemmas
 mod LineLemmas
 mod NumberLemmas
 mod OnePassLemmas

@@ -116,10 +116,24 @@ fn leading_number(text: &[u8]) -> Option<(u64, usize)>
     let mut count = 0;
     // Nineteen digits fit, whichever they are, so that they are not tested one by one.
     let short = text.len().min(19);
-    'short: while count < short && text[count].is_ascii_digit() {
+    'short: while count < short {
+        // Most numbers end here, so that what stands behind them is looked at once.
+        if !text[count].is_ascii_digit() {
+            return Some((n, count));
+        }
         n = 10 * n + u64::from(text[count] - ZERO);
         count += 1;
     }
+    long_number(text, n, count)
+}
+
+/// The same of a text of which so many digits are passed, which spell this number.
+fn long_number(text: &[u8], front: u64, passed: usize) -> Option<(u64, usize)>
+    requires { LeadingDigits text.now front passed }
+    ensures { IfSome result (λ found. LeadingDigits text.now found.0 found.1) }
+{
+    let mut n = front;
+    let mut count = passed;
     'long: while count < text.len() && text[count].is_ascii_digit() {
         n = n
             .checked_mul(10)?

@@ -1,13 +1,16 @@
 //! Schedules: each line is an event of the sleep core, answered by its world. Before this:
 //! `event_line`, `event_text` and `script`. After it: `run`.
-ghost use Rattle.std.specs.Prelude.{◌≡◌};
+ghost use Rattle.std.specs.Prelude.{◌≡◌, ◌∷◌, [], ◌++◌, OnOk};
 ghost use Rattle.sleep_core.specs.State.{State};
+ghost use Rattle.sleep_core.specs.Step.{answer_to, world_after};
+ghost use Rattle.p9sync.specs.EventText.{event_text};
+ghost use Rattle.p9sync.specs.declared.lines.TheConstants.{LINE_FEED};
 ghost use Rattle.p9sync.specs.Schedule.{schedule_language};
 
 use crate::event_line::{event_at, parse_event, parse_size};
 use crate::event_text::push_event_answer;
 use crate::script::{MAX_LINE, Script};
-use sleep_core::World;
+use sleep_core::{Event, World};
 use std::alloc::{AllocError, Global};
 
 /// A schedule while it runs.
@@ -37,7 +40,7 @@ impl Script for Schedule {
         let Some(event) = parse_event(line) else {
             return Ok(false);
         };
-        push_event_answer(output, self.world.step(event))?;
+        answer_event(&mut self.world, event, output)?;
         Ok(true)
     }
 
@@ -52,7 +55,7 @@ impl Script for Schedule {
         if text.len() - rest.len() > MAX_LINE {
             return Ok(None);
         }
-        push_event_answer(output, self.world.step(event))?;
+        answer_event(&mut self.world, event, output)?;
         Ok(Some(rest))
     }
 
@@ -63,4 +66,15 @@ impl Script for Schedule {
             output.extend_from_slice(b"lost no\n")
         }
     }
+}
+
+/// Does an event, and writes the answer. The one call of both is here, so that the compiler makes
+/// the step and its answer in words one function.
+#[inline(never)]
+fn answer_event(world: &mut World, event: Event, output: &mut Vec<u8>) -> Result<(), AllocError>
+    ensures after { world.new ≡ world_after world.old event }
+    ensures text { OnOk result (output.new.items
+        ≡ output.old.items ++ event_text (answer_to world.old event) ++ LINE_FEED ∷ []) }
+{
+    push_event_answer(output, world.step(event))
 }

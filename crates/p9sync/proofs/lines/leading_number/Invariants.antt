@@ -1,4 +1,4 @@
-use Rattle.std.proofs.Common.{◌≡◌, ◌-◌, ◌^◌, ◌<◌, ◌≤◌, length, take, true}
+use Rattle.std.proofs.Common.{◌≡◌, ◌-◌, ◌^◌, ◌<◌, ◌≤◌, take, true}
 use Rattle.std.specs.List.{list_all}
 use Rattle.std.specs.Char.{is_ascii_digit}
 use Rattle.p9sync.specs.Lines.{decimal_value}
@@ -15,14 +15,3 @@ invariant-short l = record {
 
 abbrev pub decreases-short : goal.decreases-short
 decreases-short l = l.short - l.count
-
-abbrev pub invariant-long : goal.invariant-long
-invariant-long l = record {
-  within : l.count ≤ length l.text;
-  digits : list_all is_ascii_digit (take l.count l.text) ≡ true;
-  value : l.n ≡ decimal_value (take l.count l.text);
-  small : l.n < 2 ^ 64;
-}
-
-abbrev pub decreases-long : goal.decreases-long
-decreases-long l = length l.text - l.count

@@ -21,8 +21,8 @@ returns-clause-answered c s same =
     })
     found.begins c.if-text-rest-gt-MAX_LINE.false
     (event_answered s found.begins.line found.words c.in-Some.event found.begins.words_are found.asks)
-    (rw (← same) c.step.ensures.after)
-    (rw (← same, ← c.step.ensures.answer) c.in_ok-push_event_answer.ensures)
+    (rw (← same) c.answer_event.ensures.after)
+    (rw (← same) c.in_ok-answer_event.ensures.text)
 
 pub returns-clause-shorter : goal.returns-clause-shorter
 returns-clause-shorter c =
