@@ -1,7 +1,8 @@
 #!/bin/sh
 # Times the object of a tag space, for one thread: a Call among 1,023 that wait beside one among two.
-# Each side runs a few times and its best counts. What it builds lies in bench/out/rendezvous,
-# outside the repository's crates.
+# Each side runs often, a thousand rounds at a time, and its quickest thousand counts, so that it is
+# the same beside other work of the machine. What it builds lies in bench/out/rendezvous, outside the
+# repository's crates.
 set -eu
 here=$(cd "$(dirname "$0")" && pwd)
 top=$(cd "$here/../.." && pwd)
