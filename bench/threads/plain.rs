@@ -1,0 +1,356 @@
+//! What `p9sync threads` is measured beside: the same messages, the same check of their order and the
+//! same last line, in plain Rust.
+//!
+//! usage: plain WAY WRITERS WRITES SIZE, where WAY is
+//!   ring     the steps of a pipe and nothing else: a ring without a lock, a wakeup of the reader by
+//!            each write and of every writer by each read, on the words of sleep and wakeup
+//!   channel  std's `sync_channel(16)`
+//!   pipe     a pipe of the system
+use std::cell::UnsafeCell;
+use std::env;
+use std::io::{self, Read, Write};
+use std::sync::atomic::Ordering::SeqCst;
+use std::sync::atomic::{AtomicBool, AtomicU32, AtomicU64};
+use std::sync::mpsc::sync_channel;
+use std::thread;
+
+const LIMIT: u64 = 16;
+const HEAD: usize = 16;
+
+/// How often a sleeper looks, and how often it yields, before it parks.
+const LOOKS: u32 = 50;
+const YIELDS: u32 = 100;
+
+#[derive(Clone, Copy)]
+struct Opts {
+    writers: usize,
+    writes: u64,
+    size: usize,
+}
+
+fn fill(message: &mut [u8], writer: u64, number: u64) {
+    message[..8].copy_from_slice(&writer.to_be_bytes());
+    message[8..HEAD].copy_from_slice(&number.to_be_bytes());
+    message[HEAD..].fill(number as u8);
+}
+
+/// What was read, and whether each piece was whole and the next of its writer.
+struct Tally {
+    writes: u64,
+    bytes: u64,
+    in_order: bool,
+    next: Vec<u64>,
+    message: Vec<u8>,
+}
+
+impl Tally {
+    fn new(opts: Opts) -> Tally {
+        Tally {
+            writes: 0,
+            bytes: 0,
+            in_order: true,
+            next: vec![0; opts.writers],
+            message: vec![0; opts.size],
+        }
+    }
+
+    fn count(&mut self, piece: &[u8]) {
+        self.in_order = self.in_order && self.is_next(piece);
+        self.writes += 1;
+        self.bytes += piece.len() as u64;
+    }
+
+    fn is_next(&mut self, piece: &[u8]) -> bool {
+        if piece.len() != self.message.len() {
+            return false;
+        }
+        let writer = u64::from_be_bytes(piece[..8].try_into().unwrap());
+        let Some(next) = self.next.get_mut(writer as usize) else {
+            return false;
+        };
+        fill(&mut self.message, writer, *next);
+        *next += 1;
+        self.message == piece
+    }
+
+    fn say(&self, opts: Opts) {
+        let order = if self.in_order { "in order" } else { "out of order" };
+        println!("writers {} writes {} bytes {} {order}", opts.writers, self.writes, self.bytes);
+    }
+}
+
+/// A word on a cache line of its own.
+#[repr(align(64))]
+struct Line<T>(T);
+
+extern "C" {
+    fn syscall(number: i64, ...) -> i64;
+}
+
+const FUTEX: i64 = 202;
+const WAIT: i32 = 128;
+const WAKE: i32 = 129;
+
+/// A process's flags: it was woken; it parks.
+const WOKEN: u32 = 1;
+const PARKED: u32 = 2;
+
+/// The words of sleep and wakeup: level and posted of each Rendez, flags of each process. The reader
+/// is process 0 and waits at Rendez 0, writer w is process w + 1 and waits at Rendez w + 1.
+struct Words {
+    level: Vec<Line<AtomicU64>>,
+    posted: Vec<Line<AtomicU32>>,
+    flags: Vec<Line<AtomicU32>>,
+}
+
+impl Words {
+    fn new(procs: usize) -> Words {
+        Words {
+            level: (0..procs).map(|_| Line(AtomicU64::new(0))).collect(),
+            posted: (0..procs).map(|_| Line(AtomicU32::new(0))).collect(),
+            flags: (0..procs).map(|_| Line(AtomicU32::new(0))).collect(),
+        }
+    }
+
+    /// Each process sleeps at the Rendez of its own number.
+    fn sleep(&self, me: usize, threshold: u64) {
+        let posted = &self.posted[me].0;
+        posted.store(me as u32 + 1, SeqCst);
+        if self.level[me].0.load(SeqCst) > threshold {
+            if posted.compare_exchange(me as u32 + 1, 0, SeqCst, SeqCst).is_ok() {
+                return;
+            }
+        }
+        self.await_mark(me);
+        self.flags[me].0.swap(0, SeqCst);
+    }
+
+    fn await_mark(&self, me: usize) {
+        let flags = &self.flags[me].0;
+        for _ in 0..LOOKS {
+            if flags.load(SeqCst) & WOKEN != 0 {
+                return;
+            }
+            std::hint::spin_loop();
+        }
+        for _ in 0..YIELDS {
+            if flags.load(SeqCst) & WOKEN != 0 {
+                return;
+            }
+            thread::yield_now();
+        }
+        if flags.fetch_or(PARKED, SeqCst) & WOKEN != 0 {
+            return;
+        }
+        while flags.load(SeqCst) & WOKEN == 0 {
+            unsafe { syscall(FUTEX, flags.as_ptr(), WAIT, PARKED, 0usize) };
+        }
+    }
+
+    fn wakeup(&self, rendez: usize, level: u64) {
+        self.level[rendez].0.fetch_max(level, SeqCst);
+        let posted = &self.posted[rendez].0;
+        // Whoever posts itself after this load sees the level.
+        if posted.load(SeqCst) == 0 {
+            return;
+        }
+        let held = posted.swap(0, SeqCst);
+        if held != 0 {
+            let flags = &self.flags[held as usize - 1].0;
+            if flags.fetch_or(WOKEN, SeqCst) & PARKED != 0 {
+                unsafe { syscall(FUTEX, flags.as_ptr(), WAKE, 1) };
+            }
+        }
+    }
+}
+
+/// A place of the ring: 2 · lap where it is free, and one more where its block stands.
+struct Place {
+    sequence: AtomicU64,
+    block: UnsafeCell<Vec<u8>>,
+}
+
+struct Ring {
+    tail: Line<AtomicU64>,
+    places: Vec<Line<Place>>,
+    hung: Line<AtomicBool>,
+    words: Words,
+}
+
+unsafe impl Sync for Ring {}
+
+impl Ring {
+    fn new(writers: usize) -> Ring {
+        let place = |_| Line(Place { sequence: AtomicU64::new(0), block: UnsafeCell::new(Vec::new()) });
+        Ring {
+            tail: Line(AtomicU64::new(0)),
+            places: (0..LIMIT).map(place).collect(),
+            hung: Line(AtomicBool::new(false)),
+            words: Words::new(writers + 1),
+        }
+    }
+
+    fn write(&self, writer: usize, bytes: &[u8]) {
+        let block = bytes.to_vec();
+        loop {
+            let tail = self.tail.0.load(SeqCst);
+            let place = &self.places[(tail % LIMIT) as usize].0;
+            let free = 2 * (tail / LIMIT);
+            let sequence = place.sequence.load(SeqCst);
+            if sequence < free {
+                // Full: all but the last LIMIT writes were taken out.
+                self.words.sleep(writer + 1, tail - LIMIT);
+            } else if sequence == free
+                && self.tail.0.compare_exchange(tail, tail + 1, SeqCst, SeqCst).is_ok()
+            {
+                unsafe { *place.block.get() = block };
+                place.sequence.store(free + 1, SeqCst);
+                self.words.wakeup(0, tail + 1);
+                return;
+            }
+        }
+    }
+
+    /// Reads one write into the buffer, or none at the end.
+    fn read(&self, head: &mut u64, writers: usize, buffer: &mut [u8]) -> Option<usize> {
+        loop {
+            let tail = self.tail.0.load(SeqCst);
+            let hung = self.hung.0.load(SeqCst);
+            let place = &self.places[(*head % LIMIT) as usize].0;
+            let free = 2 * (*head / LIMIT);
+            if place.sequence.load(SeqCst) == free + 1 {
+                let block = unsafe { std::mem::take(&mut *place.block.get()) };
+                place.sequence.store(free + 2, SeqCst);
+                *head += 1;
+                for writer in 0..writers {
+                    self.words.wakeup(writer + 1, *head);
+                }
+                buffer[..block.len()].copy_from_slice(&block);
+                return Some(block.len());
+            }
+            if hung && tail == *head {
+                return None;
+            }
+            self.words.sleep(0, *head);
+        }
+    }
+
+    fn hangup(&self) {
+        self.hung.0.store(true, SeqCst);
+        self.words.wakeup(0, u64::MAX);
+    }
+}
+
+fn by_ring(opts: Opts) -> Tally {
+    let ring = Ring::new(opts.writers);
+    let ring = &ring;
+    thread::scope(|scope| {
+        let reader = scope.spawn(move || {
+            let mut tally = Tally::new(opts);
+            let mut buffer = vec![0; opts.size];
+            let mut head = 0;
+            while let Some(count) = ring.read(&mut head, opts.writers, &mut buffer) {
+                tally.count(&buffer[..count]);
+            }
+            tally
+        });
+        let writers: Vec<_> = (0..opts.writers)
+            .map(|writer| {
+                scope.spawn(move || {
+                    let mut message = vec![0; opts.size];
+                    for number in 0..opts.writes {
+                        fill(&mut message, writer as u64, number);
+                        ring.write(writer, &message);
+                    }
+                })
+            })
+            .collect();
+        for writer in writers {
+            writer.join().unwrap();
+        }
+        ring.hangup();
+        reader.join().unwrap()
+    })
+}
+
+fn by_channel(opts: Opts) -> Tally {
+    let (to, from) = sync_channel::<Vec<u8>>(LIMIT as usize);
+    thread::scope(|scope| {
+        let reader = scope.spawn(move || {
+            let mut tally = Tally::new(opts);
+            let mut buffer = vec![0; opts.size];
+            for block in from {
+                buffer[..block.len()].copy_from_slice(&block);
+                tally.count(&buffer[..block.len()]);
+            }
+            tally
+        });
+        for writer in 0..opts.writers {
+            let to = to.clone();
+            scope.spawn(move || {
+                let mut message = vec![0; opts.size];
+                for number in 0..opts.writes {
+                    fill(&mut message, writer as u64, number);
+                    to.send(message.clone()).unwrap();
+                }
+            });
+        }
+        drop(to);
+        reader.join().unwrap()
+    })
+}
+
+/// Messages of up to 4,096 bytes are written whole; a longer one is whole where one writer writes.
+fn by_pipe(opts: Opts) -> io::Result<Tally> {
+    let (mut from, to) = io::pipe()?;
+    thread::scope(|scope| {
+        let reader = scope.spawn(move || -> io::Result<Tally> {
+            let mut tally = Tally::new(opts);
+            let mut buffer = vec![0; 65_536];
+            let mut held = 0;
+            loop {
+                let count = from.read(&mut buffer[held..])?;
+                if count == 0 {
+                    return Ok(tally);
+                }
+                held += count;
+                let mut at = 0;
+                while held - at >= opts.size {
+                    tally.count(&buffer[at..at + opts.size]);
+                    at += opts.size;
+                }
+                buffer.copy_within(at..held, 0);
+                held -= at;
+            }
+        });
+        for writer in 0..opts.writers {
+            let mut to = to.try_clone()?;
+            scope.spawn(move || {
+                let mut message = vec![0; opts.size];
+                for number in 0..opts.writes {
+                    fill(&mut message, writer as u64, number);
+                    to.write_all(&message).unwrap();
+                }
+            });
+        }
+        drop(to);
+        reader.join().unwrap()
+    })
+}
+
+fn main() -> io::Result<()> {
+    let words: Vec<String> = env::args().collect();
+    let number = |at: usize| words[at].parse::<u64>().unwrap();
+    let opts = Opts {
+        writers: number(2) as usize,
+        writes: number(3),
+        size: number(4) as usize,
+    };
+    let tally = match words[1].as_str() {
+        "ring" => by_ring(opts),
+        "channel" => by_channel(opts),
+        _ => by_pipe(opts)?,
+    };
+    tally.say(opts);
+    Ok(())
+}
