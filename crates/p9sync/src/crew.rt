@@ -1,6 +1,7 @@
 //! What each thread of a run does. Before this: `tally`. After it: `threads`.
 ghost use Rattle.std.specs.Prelude.{◌≤◌, vec_len};
 ghost use Rattle.p9sync.specs.declared.message.TheConstants.{HEAD};
+ghost use Rattle.p9sync.specs.Tally.{IsTallyOf};
 
 use crate::gate::Gate;
 use crate::message::fill;
@@ -105,28 +106,36 @@ pub struct Reader<'p> {
     proc: Proc<'p>,
     end: ReadEnd<'p>,
     buffer: Vec<u8>,
-    pub(crate) tally: Tally,
+    pub(crate) opts: ThreadsOpts,
+    tally: Tally,
+    ghost of: { IsTallyOf opts tally },
 }
 
-/// What a reader has counted, and why it read no more, if it did not come to the end.
+/// What a reader has counted of a run with these options, and why it read no more, if it did not
+/// come to the end. What a thread returns is known by its type alone, so the options stand in it.
 #[derive(Drop)]
 pub struct Counted {
-    pub(crate) tally: Tally,
+    opts: ThreadsOpts,
+    tally: Tally,
     read: Result<(), Fault>,
+    ghost of: { IsTallyOf opts tally },
 }
 
 impl<'p> Reader<'p> {
+    ghost use Rattle.std.specs.Prelude.{◌≡◌};
     ghost use Rattle.p9sync.specs.Tally.{AreOfOneRun};
 
     /// Reads and counts until the end. Where it can read no more it hangs the pipe up.
-    #[tactic(auto, using(crate::proofs::CrewLemmas::answer_fits))]
+    #[tactic(auto, using(crate::proofs::CrewLemmas::answer_fits, crate::proofs::CrewLemmas::still_of))]
     pub fn read_all<R: Wait>(self, rt: &R) -> Counted
-        ensures { AreOfOneRun self.entry.tally result.tally }
+        ensures opts { result.opts ≡ self.entry.opts }
+        ensures run { AreOfOneRun self.entry.tally result.tally }
     {
         let Reader {
             mut proc,
             mut end,
             mut buffer,
+            opts,
             mut tally,
         } = self;
         let mut read = Ok(());
@@ -141,23 +150,31 @@ impl<'p> Reader<'p> {
                 }
             }
         }
-        Counted { tally, read }
+        Counted { opts, tally, read }
     }
 }
 
 impl Counted {
     ghost use Rattle.std.specs.Prelude.{◌≡◌, Err, IfOk, IfErr};
-    ghost use Rattle.p9sync.specs.Tally.{IsTallyOf, Tells};
+    ghost use Rattle.p9sync.specs.Tally.{Tells};
     ghost use Rattle.p9sync.specs.Threads.{IsReportOf};
 
-    /// What was read up to the end, or why it did not come to the end.
+    /// Why it did not come to the end, if it did not.
+    pub fn read_to_end(&self) -> Result<(), Fault> {
+        self.read
+    }
+
+    /// What was read up to the end, or why it did not come to the end. `Device` where it was
+    /// counted for a run with other options.
     pub fn report(&self, opts: &ThreadsOpts) -> Result<Report, Fault>
-        requires { IsTallyOf opts.now self.now.tally }
         ensures fault { IfErr self.now.read (λ fault. result ≡ Err fault) }
         ensures told { IfOk result (Tells opts.now.writers self.now.tally) }
         ensures of { IfOk result (IsReportOf opts.now) }
     {
         self.read?;
+        if self.opts != *opts {
+            return Err(Fault::Device);
+        }
         Ok(self.tally.report(opts.writers))
     }
 }
@@ -170,8 +187,7 @@ pub struct Crew<'p> {
 }
 
 impl<'p> Crew<'p> {
-    ghost use Rattle.std.specs.Prelude.{IfOk};
-    ghost use Rattle.p9sync.specs.Tally.{IsTallyOf};
+    ghost use Rattle.std.specs.Prelude.{◌≡◌, IfOk};
     ghost use Rattle.p9sync.specs.Threads.{AreWithin};
 
     /// A reader at one end, and as many writers as there are at the other, each a process. All
@@ -185,7 +201,7 @@ impl<'p> Crew<'p> {
         writes: Vec<WriteEnd<'p>>,
     ) -> Result<Crew<'p>, Fault>
         requires { AreWithin opts.now }
-        ensures { IfOk result (λ crew. IsTallyOf opts.now crew.reader.tally) }
+        ensures { IfOk result (λ crew. crew.reader.opts ≡ opts.now) }
     {
         let (mut roster, mut proc) = (roster, proc);
         let mut writers = Vec::with_capacity(alloc, writes.len())?;
@@ -196,6 +212,7 @@ impl<'p> Crew<'p> {
             proc,
             end: read,
             buffer: vec![in alloc; 0; opts.size as usize]?,
+            opts: *opts,
             tally: Tally::new(alloc, opts)?,
         };
         Ok(Crew { reader, writers })

@@ -3,7 +3,6 @@
 ghost use Rattle.std.specs.Prelude.{◌≡◌, IfOk, Err};
 ghost use Rattle.sync_base.specs.declared.fault.Fault.TheVariants.{BadArg};
 ghost use Rattle.p9sync.specs.Threads.{AreWithin, IsReportOf};
-ghost use Rattle.p9sync.specs.Tally.{AreOfOneRun, IsTallyOf};
 
 use crate::crew::{Counted, Crew, Writer};
 use crate::gate::Gate;
@@ -15,7 +14,7 @@ use std::sync::Wait;
 use std::sync::atomic::AtomicBool;
 use std::sync::atomic::Ordering::SeqCst;
 use std::thread;
-use std::thread::{JoinHandle, Promise, Threads};
+use std::thread::{JoinHandle, Threads};
 use sync_base::Fault;
 
 /// How many writes the pipe holds that no read has begun.
@@ -53,18 +52,7 @@ pub fn run_threads<R: Threads + Wait + Sync, G: Gate + Sync>(
     run_crew(rt, alloc, opts, gate, crew)
 }
 
-// The reader's thread counts by these options.
-#[derive(Drop)]
-struct CountsBy(ThreadsOpts);
-
-impl Promise<Counted> for CountsBy {
-    ghost use Rattle.p9sync.specs.Tally.{IsTallyOf};
-
-    ghost kept_by = { λ promise counted. IsTallyOf promise.0 counted.tally };
-}
-
 // Runs each of the crew on a thread of its own, and joins them all.
-#[tactic(auto, using(crate::proofs::CrewLemmas::still_of))]
 fn run_crew<'p, R: Threads + Wait + Sync, G: Gate + Sync>(
     rt: &R,
     alloc: Global,
@@ -72,26 +60,17 @@ fn run_crew<'p, R: Threads + Wait + Sync, G: Gate + Sync>(
     gate: &G,
     crew: Crew<'p>,
 ) -> Result<Report, Fault>
-    requires { IsTallyOf opts crew.reader.tally }
     ensures { IfOk result (IsReportOf opts) }
 {
     let Crew { reader, writers } = crew;
     let called_off = AtomicBool::new(false);
     let off = &called_off;
-    thread::scope(
+    let counted = thread::scope(
         thread::scope_env(),
         rt,
-        move |scope| -> Result<Report, Fault>
-            requires { IsTallyOf opts reader.tally }
-            ensures { IfOk result (IsReportOf opts) }
-        {
+        move |scope| -> Result<Counted, Fault> {
             let mut running = Vec::with_capacity(alloc, writers.len())?;
-            let Ok(reading) = scope.spawn_with(
-                CountsBy(opts),
-                move || -> Counted
-                    ensures { AreOfOneRun reader.entry.tally result.tally }
-                { reader.read_all(rt) },
-            ) else {
+            let Ok(reading) = scope.spawn(move || reader.read_all(rt)) else {
                 return Err(Fault::Device);
             };
             let mut started = Ok(());
@@ -111,13 +90,14 @@ fn run_crew<'p, R: Threads + Wait + Sync, G: Gate + Sync>(
                 }
             }
             let wrote = join_writers(rt, running);
-            let report = reading.join(rt).report(&opts);
+            let counted = reading.join(rt);
             started?;
-            let report = report?;
+            counted.read_to_end()?;
             wrote?;
-            Ok(report)
+            Ok(counted)
         },
-    )
+    )?;
+    counted.report(&opts)
 }
 
 // Writes, unless the run is called off.
