@@ -1,12 +1,12 @@
 // Refuses one growth of memory: the one whose number, counted from 1, REFUSED_GROWTH gives. For LD_PRELOAD.
-// getenv, which reads the number, takes no memory.
+// getenv, which reads the number, takes no memory. The growths of all threads are counted together.
 #define _GNU_SOURCE
 #include <dlfcn.h>
 #include <errno.h>
 #include <stddef.h>
 #include <stdlib.h>
 
-static long growths;
+static _Atomic long growths;
 static long refused = -1;
 
 static int is_refused(void)

@@ -1,31 +1,50 @@
 -- Which command lines `clap` takes, and that it refuses every other.
 use Rattle.std.proofs.Common.{◌≡◌, ℕ, Bool, true, false, ◌⊎◌, inl, inr, zero, suc, List, [], ◌∷◌, ◌++◌, length, fold, append_assoc, Option, None, Some, refl, sym, ◌∙◌, ap, ap₂, subst, codes, rules}
-use Rattle.std.proofs.Common.{slice_get, option_map}
+use Rattle.std.proofs.Common.{arith, slice_get, option_map}
 use Rattle.std.specs.Str.{bytes_eq, chars}
 use Rattle.std.specs.Bool.{Decides}
 use Rattle.std.proofs.lemmas.Bool.Decides.{same_from_decides}
 use Rattle.std.proofs.lemmas.List.{append-nil}
+use Rattle.std.proofs.Math.Seq.{take-length}
 use Rattle.std.proofs.lemmas.Slice.Eq.{bytes_eq-Decides}
 use Rattle.clap.specs.Lexer.{long_of, short_of}
-use Rattle.clap.specs.Walk.{Names, Rule, Text, Walk, idle, walk, walk_from, walked, nothing_held, bundle_met, subcommand_met}
-use Rattle.clap.specs.Simple.{Shape, built, names_of, subcommand_of, subcommand_rows}
+use Rattle.clap.specs.Walk.{Names, Row, rows_of, Rule, Text, Walk, idle, walk, walk_from, walked, nothing_held, bundle_met, subcommand_met}
+use Rattle.clap.specs.Simple.{Shape, built, entered, names_of, subcommand_of, subcommand_rows}
 use Rattle.clap.specs.declared.parser.matches.SubCommand.{SubCommand}
 use Rattle.clap.specs.declared.parser.matches.ArgMatches.TheViews.{out-SubCommand}
 use Rattle.std.specs.Box.{box_value}
 use Rattle.std.specs.Prelude.{Box}
-use Rattle.clap.specs.Kinds.{Kinds, or_else}
+use Rattle.clap.specs.Kinds.{HasKind, Kinds, or_else}
+use Rattle.clap.specs.Values.{kind_of}
+use Rattle.clap.specs.Matches.{found_of, ReadsOne}
+use Rattle.clap.specs.ValueTests.{accepts, is_unsigned_in}
+use Rattle.clap.specs.declared.builder.value_parser.ValueParser.TheVariants as vp
+use Rattle.clap.proofs.ValueTestLemmas.{accepts-Accepts, Accepts-accepts}
+use Rattle.std.specs.Str.Parse.{ParsesUnsigned, digits_value, without_leading_plus}
+use Rattle.std.specs.Prelude.{option_and_then, ◌-◌, ◌^◌, Ok}
+use Rattle.clap.specs.declared.error.Error.{Error}
+use Rattle.clap.specs.declared.error.kind.ErrorKind.TheVariants as kind
 use Rattle.clap.specs.Takes.{takes}
 use Rattle.clap.specs.Faults.{fault_of, is_simple_and_free, walk_fault, turn_fault, flags_fault, stray_fault, entered_fault}
 use Rattle.clap.proofs.OnLiterals.{clap_on_literals}
 use Rattle.p9sync.specs.declared.args.NoTask.{NoTask}
 use Rattle.p9sync.specs.declared.args.NoTask.TheVariants.{Refused}
-use Rattle.std.specs.Option.{ok_or}
+use Rattle.std.specs.Option.{ok_or, option_or}
 use Rattle.std.specs.Result.{IfOk, IfErr}
 use Rattle.std.specs.Prelude.{Result, Err, IfSome}
 use Rattle.p9sync.specs.declared.args.Task.{Task}
+use Rattle.p9sync.specs.declared.args.Task.TheVariants.{Pipe, Replay, Threads}
+use Rattle.p9sync.specs.declared.opts.ThreadsOpts.{ThreadsOpts}
+use Rattle.p9sync.specs.declared.opts.Report.{Report}
+use Rattle.std.specs.Io.KnownBytes.{Appends}
+use Rattle.sync_base.specs.declared.fault.Fault.{Fault}
+use Rattle.p9sync.specs.Device.{AppendsFront, WritesTold}
+use Rattle.p9sync.specs.Script.{Told}
+use Rattle.p9sync.specs.ReportText.{report_line}
+use Rattle.p9sync.specs.Threads.{IsReportOf}
 use Rattle.p9sync.specs.Lines.{is_word}
 use Rattle.p9sync.specs.declared.args.TheConstants.{FAULT}
-use Rattle.p9sync.specs.Args.{command_line, task_asked, task_named, told_by, EndsRun}
+use Rattle.p9sync.specs.Args.{command_line, command_named, number_asked, script_asked, task_asked, task_named, threads_asked, threads_named, status_of, EndsRun, EndsTask, EndsThreads}
 use Rattle.sync_base.specs.declared.fault.Fault.TheVariants.{Memory}
 use Rattle.p9sync.proofs.DeviceLemmas.{appends_nothing}
 
@@ -80,8 +99,8 @@ replay_end_is_taken : (name : Text)
 unfolding clap_on_literals
 replay_end_is_taken name = refl
 
--- whatever asks for a run is taken
-pub is_taken : (words : List Text) (task : Task) → task_asked words ≡ Some task
+-- whatever asks for the run of a script is taken
+pub is_taken : (words : List Text) (task : Task) → script_asked words ≡ Some task
     → takes command_line words ≡ true
 is_taken [] task asked = absurd (cc)
 is_taken (name ∷ []) task asked = absurd (cc)
@@ -251,6 +270,14 @@ pipe_stops rest =
     walk_stops top.rules names (walked top.rules names (walk_from nothing_held) (codes "pipe"))
     (codes "pipe", []) rest refl
 
+threads_stops : (rest : List Text)
+    → (walk top.rules names nothing_held (codes "threads" ∷ rest)).stopped ≡ Some
+    (codes "threads", rest)
+unfolding walked
+threads_stops rest =
+    walk_stops top.rules names (walked top.rules names (walk_from nothing_held) (codes "threads"))
+    (codes "threads", []) rest refl
+
 replay_stops : (rest : List Text)
     → (walk top.rules names nothing_held (codes "replay" ∷ rest)).stopped ≡ Some
     (codes "replay", rest)
@@ -279,46 +306,63 @@ behind_replay name rest none =
     takes_nothing _ rest refl (both_none _ _ level).0
 
 -- the name of the command that the words name
-abbrev pub command_named : List Text → Option Text
-command_named words = option_map (λ p. p.0) (subcommand_of command_line words)
+abbrev pub name_met : List Text → Option Text
+name_met words = option_map (λ p. p.0) (subcommand_of command_line words)
 
 -- words that are taken name their command
-names_pipe : (name : Text) → command_named (name ∷ codes "pipe" ∷ []) ≡ Some (codes "pipe")
+names_pipe : (name : Text) → name_met (name ∷ codes "pipe" ∷ []) ≡ Some (codes "pipe")
 unfolding clap_on_literals
 names_pipe name = refl
 
 names_pipe_end : (name : Text)
-    → command_named (name ∷ codes "pipe" ∷ codes "--" ∷ []) ≡ Some (codes "pipe")
+    → name_met (name ∷ codes "pipe" ∷ codes "--" ∷ []) ≡ Some (codes "pipe")
 unfolding clap_on_literals
 names_pipe_end name = refl
 
-names_replay : (name : Text) → command_named (name ∷ codes "replay" ∷ []) ≡ Some (codes "replay")
+names_replay : (name : Text) → name_met (name ∷ codes "replay" ∷ []) ≡ Some (codes "replay")
 unfolding clap_on_literals
 names_replay name = refl
 
 names_replay_end : (name : Text)
-    → command_named (name ∷ codes "replay" ∷ codes "--" ∷ []) ≡ Some (codes "replay")
+    → name_met (name ∷ codes "replay" ∷ codes "--" ∷ []) ≡ Some (codes "replay")
 unfolding clap_on_literals
 names_replay_end name = refl
 
+-- words whose first is `threads` name that command
+names_threads : (name : Text) (rest : List Text)
+    → name_met (name ∷ codes "threads" ∷ rest) ≡ Some (codes "threads")
+names_threads name rest =
+    ap (λ stop. option_map (λ p. p.0) (entered (built command_line) stop)) (threads_stops rest)
+
+-- and ask for the run of no script
+no_script : (name : Text) (rest : List Text) → script_asked (name ∷ codes "threads" ∷ rest) ≡ None
+no_script name [] = refl
+no_script name (end ∷ []) = by_end (is_word end (codes "--")) refl
+  where
+    by_end : (found : Bool) → is_word end (codes "--") ≡ found
+        → script_asked (name ∷ codes "threads" ∷ end ∷ []) ≡ None
+    by_end true is = rw is refl
+    by_end false is = rw is refl
+no_script name (end ∷ next ∷ rest) = refl
+
 -- the words are these, which name this command and ask for its run
 asks_as : (words these : List Text) (command met : Text) → words ≡ these
-    → command_named these ≡ Some command
-    → task_asked these ≡ task_named command → command_named words ≡ Some met
-    → task_asked words ≡ task_named met
+    → name_met these ≡ Some command
+    → script_asked these ≡ task_named command → name_met words ≡ Some met
+    → script_asked words ≡ task_named met
 asks_as words these command met are names_command asks is =
-    let same : Some command ≡ Some met = sym names_command ∙ (ap command_named (sym are) ∙ is) in
+    let same : Some command ≡ Some met = sym names_command ∙ (ap name_met (sym are) ∙ is) in
     let is_met : command ≡ met = cc in
-    ap task_asked are ∙ (asks ∙ ap task_named is_met)
+    ap script_asked are ∙ (asks ∙ ap task_named is_met)
 
--- Words without a fault ask for the run of the command that they name.
-pub asks_for : (words : List Text) (met : Text) → fault_of command_line words ≡ []
-    → command_named words ≡ Some met
-    → task_asked words ≡ task_named met
+-- Words without a fault ask for the run of the script whose command they name.
+asks_for_script : (words : List Text) (met : Text) → fault_of command_line words ≡ []
+    → name_met words ≡ Some met
+    → script_asked words ≡ task_named met
 unfolding walk_fault
-asks_for [] met none is = absurd (no_words none)
-asks_for (name ∷ []) met none is = absurd (name_alone name none)
-asks_for (name ∷ word ∷ rest) met none is = by_pipe (is_word word (codes "pipe")) refl
+asks_for_script [] met none is = absurd (no_words none)
+asks_for_script (name ∷ []) met none is = absurd (name_alone name none)
+asks_for_script (name ∷ word ∷ rest) met none is = by_pipe (is_word word (codes "pipe")) refl
   where
     in_place : (command : Text) → word ≡ command
         → fault_of command_line (name ∷ command ∷ rest) ≡ []
@@ -329,7 +373,7 @@ asks_for (name ∷ word ∷ rest) met none is = by_pipe (is_word word (codes "pi
     words_are command end same ends = ap₂ (λ w ws. name ∷ w ∷ ws) same ends
 
     as_pipe : word ≡ codes "pipe" → (rest ≡ []) ⊎ (rest ≡ codes "--" ∷ [])
-        → task_asked (name ∷ word ∷ rest) ≡ task_named met
+        → script_asked (name ∷ word ∷ rest) ≡ task_named met
     as_pipe same (inl ends) =
         asks_as _ _ (codes "pipe") met (words_are (codes "pipe") [] same ends) (names_pipe name)
         refl is
@@ -338,7 +382,7 @@ asks_for (name ∷ word ∷ rest) met none is = by_pipe (is_word word (codes "pi
         (names_pipe_end name) refl is
 
     as_replay : word ≡ codes "replay" → (rest ≡ []) ⊎ (rest ≡ codes "--" ∷ [])
-        → task_asked (name ∷ word ∷ rest) ≡ task_named met
+        → script_asked (name ∷ word ∷ rest) ≡ task_named met
     as_replay same (inl ends) =
         asks_as _ _ (codes "replay") met (words_are (codes "replay") [] same ends)
         (names_replay name) refl is
@@ -346,14 +390,19 @@ asks_for (name ∷ word ∷ rest) met none is = by_pipe (is_word word (codes "pi
         asks_as _ _ (codes "replay") met (words_are (codes "replay") (codes "--" ∷ []) same ends)
         (names_replay_end name) refl is
 
+    as_threads : word ≡ codes "threads" → script_asked (name ∷ word ∷ rest) ≡ task_named met
+    as_threads same =
+        asks_as _ _ (codes "threads") met (words_are (codes "threads") rest same refl)
+        (names_threads name rest) (no_script name rest) is
+
     -- the word names no command
     unmet : is_word word (codes "pipe") ≡ false → is_word word (codes "replay") ≡ false
-        → subcommand_met names idle word ≡ None
-    unmet not_pipe not_replay =
+        → is_word word (codes "threads") ≡ false → subcommand_met names idle word ≡ None
+    unmet not_pipe not_replay not_threads =
         rw (
           bytes_eq-sym (codes "pipe") word ∙ not_pipe,
-          bytes_eq-sym (codes "replay") word
-              ∙ not_replay,
+          bytes_eq-sym (codes "replay") word ∙ not_replay,
+          bytes_eq-sym (codes "threads") word ∙ not_threads,
         ) refl
 
     ends_alone : word ≡ codes "--" → (ws : List Text) → rest ≡ ws → ⊥
@@ -368,43 +417,115 @@ asks_for (name ∷ word ∷ rest) met none is = by_pipe (is_word word (codes "pi
         (words_are (codes "--") (next ∷ more) same ends) none)).0
 
     by_end : is_word word (codes "pipe") ≡ false → is_word word (codes "replay") ≡ false
-        → (found : Bool) → is_word word (codes "--") ≡ found → ⊥
-    by_end not_pipe not_replay true found = ends_alone (word_is word (codes "--") found) rest refl
-    by_end not_pipe not_replay false found =
-        stray top names word refl (unmet not_pipe not_replay) found
+        → is_word word (codes "threads") ≡ false → (found : Bool) → is_word word (codes "--") ≡ found → ⊥
+    by_end not_pipe not_replay not_threads true found = ends_alone (word_is word (codes "--") found) rest refl
+    by_end not_pipe not_replay not_threads false found =
+        stray top names word refl (unmet not_pipe not_replay not_threads) found
         (both_none _ _ (both_none _ _ none).0).0
+
+    by_threads : is_word word (codes "pipe") ≡ false → is_word word (codes "replay") ≡ false
+        → (found : Bool) → is_word word (codes "threads") ≡ found
+        → script_asked (name ∷ word ∷ rest) ≡ task_named met
+    by_threads not_pipe not_replay true found = as_threads (word_is word (codes "threads") found)
+    by_threads not_pipe not_replay false found =
+        absurd (by_end not_pipe not_replay found (is_word word (codes "--")) refl)
 
     by_replay : is_word word (codes "pipe") ≡ false → (found : Bool)
         → is_word word (codes "replay") ≡ found
-        → task_asked (name ∷ word ∷ rest) ≡ task_named met
+        → script_asked (name ∷ word ∷ rest) ≡ task_named met
     by_replay not_pipe true found =
         let same = word_is word (codes "replay") found in
         as_replay same (behind_replay name rest (in_place _ same))
-    by_replay not_pipe false found = absurd (by_end not_pipe found (is_word word (codes "--")) refl)
+    by_replay not_pipe false found =
+        by_threads not_pipe found (is_word word (codes "threads")) refl
 
     by_pipe : (found : Bool) → is_word word (codes "pipe") ≡ found
-        → task_asked (name ∷ word ∷ rest) ≡ task_named met
+        → script_asked (name ∷ word ∷ rest) ≡ task_named met
     by_pipe true found =
         let same = word_is word (codes "pipe") found in
         as_pipe same (behind_pipe name rest (in_place _ same))
     by_pipe false found = by_replay found (is_word word (codes "replay")) refl
 
--- what is not taken asks for no run
+-- Words without a fault ask for the run of the command that they name, with what they give for its
+-- options.
+pub asks_for : (words : List Text) (met : Text) (rows : List Row) → fault_of command_line words ≡ []
+    → subcommand_of command_line words ≡ Some (met, rows)
+    → task_asked words ≡ command_named met rows
+asks_for words met rows none is =
+    let script : script_asked words ≡ task_named met =
+    asks_for_script words met none (ap (option_map (λ p. p.0)) is) in
+    let threads : threads_asked words ≡ threads_named met rows = rw (none, is) refl in
+    ap₂ option_or script threads
+
+-- What is not taken, and has a fault, asks for no run.
 pub not_taken : (words : List Text) → (takes command_line words ≡ true → ⊥)
-    → task_asked words ≡ None
-not_taken words refused = by_asked (task_asked words) refl
+    → (fault_of command_line words ≡ [] → ⊥) → task_asked words ≡ None
+not_taken words refused faulty = ap₂ option_or no_script_is no_threads
   where
-    by_asked : (asked : Option Task) → task_asked words ≡ asked → task_asked words ≡ None
+    by_asked : (asked : Option Task) → script_asked words ≡ asked → script_asked words ≡ None
     by_asked None is = is
     by_asked (Some task) is = absurd (refused (is_taken words task is))
 
--- the rows of a subcommand stand beside its name
+    no_script_is : script_asked words ≡ None
+    no_script_is = by_asked (script_asked words) refl
+
+    by_fault : (kinds : Kinds) → fault_of command_line words ≡ kinds → threads_asked words ≡ None
+    by_fault [] is = absurd (faulty is)
+    by_fault (kind ∷ kinds) is = rw is refl
+
+    no_threads : threads_asked words ≡ None
+    no_threads = by_fault (fault_of command_line words) refl
+
+-- where words have no fault, an error says that memory ran out
+pub only_memory : (kinds : Kinds) (error : Error) → HasKind kinds error → kinds ≡ []
+    → kind_of error ≡ kind.OutOfMemory
+only_memory [] error (inl memory) none = memory
+only_memory [] error (inr among) none = absurd among
+only_memory (k ∷ ks) error has none = absurd (cc)
+
+-- the subcommand that was entered, by its name and its rows
 module _ {Z : Type 0} where
-  pub name_of_rows : (met : Option (Box SubCommand Z))
-      → option_map (λ p. p.0) (subcommand_rows met) ≡ option_map
-      (λ b. (out-SubCommand (box_value b)).name.now) met
-  name_of_rows None = refl
-  name_of_rows (Some b) = refl
+  pub met_of_parts : (found : Option (Box SubCommand Z)) (name : Text) (rows : List Row)
+      → option_map (λ b. (out-SubCommand (box_value b)).name.now) found ≡ Some name
+      → option_map (λ p. p.1) (subcommand_rows found) ≡ Some rows
+      → subcommand_rows found ≡ Some (name, rows)
+  met_of_parts None name rows is_name is_rows = absurd (cc)
+  met_of_parts (Some b) name rows is_name is_rows =
+      let named : (out-SubCommand (box_value b)).name.now ≡ name = cc in
+      let given : rows_of (found_of (out-SubCommand (box_value b)).matches) ≡ rows = cc in
+      ap₂ (λ n r. Some (n, r)) named given
+
+-- the greatest number that an option may spell
+abbrev top_number : ℕ
+top_number = 2 ^ 64 - 1
+
+-- a text that was read as a number is one
+module _ (E : Type 0) (gives : Text → Result ℕ E → Type 0)
+    (parses : (text : Text) (r : Result ℕ E) → gives text r → ParsesUnsigned 64 10 text r) where
+  number_read : (text : Text) (r : Option ℕ) → ReadsOne {T = ℕ} {E = E} gives text r
+      → r ≡ number_asked text
+  number_read text (Some v) given =
+      let numeral = parses text (Ok v) given in
+      let passes : is_unsigned_in 0 top_number text ≡ true =
+      Accepts-accepts false (vp.Unsigned 0 top_number) text
+      (numeral.0.0, numeral.0.1, omega arith, omega (arith, numeral.0.1)) in
+      rw passes (ap Some numeral.1)
+  number_read text None given = by_test (is_unsigned_in 0 top_number text) refl
+    where
+      by_test : (passes : Bool) → is_unsigned_in 0 top_number text ≡ passes
+          → None ≡ number_asked text
+      by_test true is =
+          let accepted = accepts-Accepts false (vp.Unsigned 0 top_number) text is in
+          absurd (parses text (Err given.0) given.1 (accepted.0, accepted.1))
+      by_test false is = rw is refl
+
+  -- so what an option was given is read as the definition says
+  pub option_read : (given : Option Text) (r : Option ℕ)
+      → (given ≡ None → r ≡ None)
+      → ((text : Text) → given ≡ Some text → ReadsOne {T = ℕ} {E = E} gives text r)
+      → r ≡ option_and_then number_asked given
+  option_read None r none read = none refl
+  option_read (Some text) r none read = number_read text r (read text refl)
 
 -- a run that was found is asked for, and where none was none is
 pub found_is : (asked found : Option Task) (r : Result Task NoTask) → asked ≡ found
@@ -419,11 +540,53 @@ pub none_found : (asked found : Option Task) (r : Result Task NoTask) → asked 
 none_found asked (Some task) r same is = rw is tt
 none_found asked None r same is = rw is (λ refused. same)
 
+-- a report of a run in which nothing was read
+abbrev nothing_read : ThreadsOpts → Report
+nothing_read opts = record { writers = opts.writers; writes = 0; bytes = 0; in_order = false }
+
+pub no_report : (opts : ThreadsOpts) → IsReportOf opts (nothing_read opts)
+no_report opts = record { writers = refl; whole = λ yes. absurd (cc); most = λ yes. absurd (cc) }
+
 -- a run that could not begin for want of memory has written nothing
 pub ends_for_memory : (asked : Option Task) (input held : Option (List ℕ)) (status : ℕ)
     → status ≡ FAULT
-    → IfSome asked (λ task. IfSome input (λ all. EndsRun (told_by task all) held held status))
+    → IfSome asked (λ task. EndsTask task input held held status)
 ends_for_memory None input held status is = tt
-ends_for_memory (Some task) None held status is = tt
-ends_for_memory (Some task) (Some all) held status is =
+ends_for_memory (Some Pipe) None held status is = tt
+ends_for_memory (Some Pipe) (Some all) held status is =
     record { outcome = Err Memory; written = (0, appends_nothing held); status_is = is }
+ends_for_memory (Some Replay) None held status is = tt
+ends_for_memory (Some Replay) (Some all) held status is =
+    record { outcome = Err Memory; written = (0, appends_nothing held); status_is = is }
+ends_for_memory (Some (Threads opts)) input held status is = record {
+  report = nothing_read opts;
+  is_report = no_report opts;
+  ended = inr (is, (0, appends_nothing held));
+}
+
+-- before a report is written nothing is
+pub unreported : (opts : ThreadsOpts) (held : Option (List ℕ))
+    → (report : Report) × IsReportOf opts report × AppendsFront held held (report_line report)
+unreported opts held = (nothing_read opts, no_report opts, (0, appends_nothing held))
+
+-- what was written whole is a front of itself
+pub whole_is_front : (old new : Option (List ℕ)) (bytes : List ℕ) → Appends old new bytes
+    → AppendsFront old new bytes
+whole_is_front old new bytes whole =
+    (length bytes, subst (λ b. Appends old new b) (sym (take-length bytes)) whole)
+
+-- a run of a script ends so, where it was asked for
+pub ends_script : (told : List ℕ → Told) (unread held written : Option (List ℕ))
+    (outcome : Result (Unit {0}) Fault) (status : ℕ)
+    → IfSome unread (λ input. WritesTold (told input) held written outcome)
+    → status ≡ status_of outcome
+    → IfSome unread (λ input. EndsRun (told input) held written status)
+ends_script told None held written outcome status runs is = tt
+ends_script told (Some input) held written outcome status runs is =
+    record { outcome = outcome; written = runs; status_is = is }
+
+pub ends_as : (asked : Option Task) (task : Task) (unread held written : Option (List ℕ))
+    (status : ℕ)
+    → asked ≡ Some task → EndsTask task unread held written status
+    → IfSome asked (λ t. EndsTask t unread held written status)
+ends_as asked task unread held written status is ends = rw is ends

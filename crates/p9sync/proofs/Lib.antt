@@ -1,4 +1,5 @@
 mod ArgsLemmas
+mod CrewLemmas
 mod DeviceLemmas
 mod DigitLemmas
 mod EventLineLemmas
@@ -16,3 +17,4 @@ mod TextLemmas
 mod ToldLemmas
 mod WorkedSchedules
 mod WorkedScripts
+mod WorkedWords

@@ -1,10 +1,14 @@
 //! The program on its words and its streams: what no clause says of it, and that its runs succeed.
 mod devices;
 mod longest_scripts;
+mod tallies;
+mod thread_runs;
 mod worked_runs;
 
 use crate::args::run_args;
 use std::alloc::{AllocError, Global};
+use std::sync::Wait;
+use std::thread::Threads;
 
 /// What a run left behind.
 #[derive(Drop)]
@@ -22,11 +26,16 @@ impl Ended {
 }
 
 /// Runs the program on these words, with this script on its standard input.
-pub fn run(alloc: Global, words: &[&str], script: &[u8]) -> Ended {
+pub fn run<T: Threads + Wait + Sync>(
+    rt: &T,
+    alloc: Global,
+    words: &[&str],
+    script: &[u8],
+) -> Ended {
     let mut input = script;
     let mut out = Vec::new(alloc);
     let mut err = Vec::new(alloc);
-    let status = run_args(alloc, words, &mut input, &mut out, &mut err);
+    let status = run_args(rt, alloc, words, &mut input, &mut out, &mut err);
     Ended { status, out, err }
 }
 

@@ -14,6 +14,19 @@ const SCRIPT: &[u8] = b"limit 2\nwrite 0 616263\nread 8\nfrob\n";
 
 const ANSWERS: &[u8] = b"taken\ngot 616263\n";
 
+const THREADS: [&str; 8] = [
+    "p9sync",
+    "threads",
+    "--writers",
+    "2",
+    "--writes",
+    "3",
+    "--size",
+    "16",
+];
+
+const REPORT: &[u8] = b"writers 2 writes 6 bytes 96 in order\n";
+
 const SCRIPT_FAULT: &[u8] = b"p9sync: script fault at line 4\n";
 
 const DEVICE_FAULT: &[u8] = b"p9sync: device fault\n";
@@ -192,7 +205,7 @@ fn a_failed_read_writes_nothing_whichever_its_kind(rt: HostRuntime) {
         for call in 1..4 {
             let mut from = reading(SCRIPT, 20, Failing::at(call, kind));
             let (mut out, mut err) = (Vec::new(alloc), Vec::new(alloc));
-            let status = run_args(alloc, &PIPE, &mut from, &mut out, &mut err);
+            let status = run_args(&rt, alloc, &PIPE, &mut from, &mut out, &mut err);
             assert_eq!(rt; status, 1, "read {call}");
             assert!(rt; out.is_empty(), "read {call}");
             assert_eq!(rt; err.as_slice(), DEVICE_FAULT);
@@ -206,7 +219,10 @@ fn a_read_behind_the_end_is_not_asked_for(rt: HostRuntime) {
     let alloc = rt.alloc();
     let mut from = reading(SCRIPT, 20, Failing::at(4, ErrorKind::Other));
     let (mut out, mut err) = (Vec::new(alloc), Vec::new(alloc));
-    assert_eq!(rt; run_args(alloc, &PIPE, &mut from, &mut out, &mut err), 1);
+    assert_eq!(rt;
+        run_args(&rt, alloc, &PIPE, &mut from, &mut out, &mut err),
+        1
+    );
     assert_eq!(rt; out.as_slice(), ANSWERS);
     assert_eq!(rt; err.as_slice(), SCRIPT_FAULT);
 }
@@ -220,7 +236,7 @@ fn an_interrupted_read_is_tried_again(rt: HostRuntime) {
                 let kind = ErrorKind::Interrupted;
                 let mut from = reading(SCRIPT, most, Failing { first, times, kind });
                 let (mut out, mut err) = (Vec::new(alloc), Vec::new(alloc));
-                let status = run_args(alloc, &PIPE, &mut from, &mut out, &mut err);
+                let status = run_args(&rt, alloc, &PIPE, &mut from, &mut out, &mut err);
                 assert_eq!(rt; status, 1);
                 assert_eq!(rt; out.as_slice(), ANSWERS);
                 assert_eq!(rt; err.as_slice(), SCRIPT_FAULT);
@@ -238,7 +254,7 @@ fn a_failed_write_leaves_a_prefix_whichever_its_kind(rt: HostRuntime) {
             let mut from = SCRIPT;
             let mut out = writing(alloc, Takes::AtMost(5), Failing::at(call, kind), NEVER);
             let mut err = Vec::new(alloc);
-            let status = run_args(alloc, &PIPE, &mut from, &mut out, &mut err);
+            let status = run_args(&rt, alloc, &PIPE, &mut from, &mut out, &mut err);
             assert_eq!(rt; status, 1);
             assert_eq!(rt; err.as_slice(), DEVICE_FAULT);
             assert_eq!(rt; out.held.as_slice(), &ANSWERS[..5 * (call - 1)]);
@@ -257,7 +273,7 @@ fn an_interrupted_write_is_tried_again(rt: HostRuntime) {
             let failing = Failing { first, times, kind };
             let mut out = writing(alloc, Takes::AtMost(6), failing, failing);
             let mut err = Vec::new(alloc);
-            let status = run_args(alloc, &PIPE, &mut from, &mut out, &mut err);
+            let status = run_args(&rt, alloc, &PIPE, &mut from, &mut out, &mut err);
             assert_eq!(rt; status, 1);
             assert_eq!(rt; out.held.as_slice(), ANSWERS);
             assert!(rt; out.is_flushed);
@@ -273,7 +289,10 @@ fn a_writer_may_take_few_bytes_at_once_but_not_none(rt: HostRuntime) {
         let mut from = SCRIPT;
         let mut out = writing(alloc, takes, NEVER, NEVER);
         let mut err = Vec::new(alloc);
-        assert_eq!(rt; run_args(alloc, &PIPE, &mut from, &mut out, &mut err), 1);
+        assert_eq!(rt;
+            run_args(&rt, alloc, &PIPE, &mut from, &mut out, &mut err),
+            1
+        );
         assert_eq!(rt; out.held.as_slice(), ANSWERS);
         assert_eq!(rt; err.as_slice(), SCRIPT_FAULT);
         assert!(rt; out.is_flushed);
@@ -281,7 +300,10 @@ fn a_writer_may_take_few_bytes_at_once_but_not_none(rt: HostRuntime) {
     let mut from = SCRIPT;
     let mut out = writing(alloc, Takes::AtMost(0), NEVER, NEVER);
     let mut err = Vec::new(alloc);
-    assert_eq!(rt; run_args(alloc, &PIPE, &mut from, &mut out, &mut err), 1);
+    assert_eq!(rt;
+        run_args(&rt, alloc, &PIPE, &mut from, &mut out, &mut err),
+        1
+    );
     assert_eq!(rt; err.as_slice(), DEVICE_FAULT);
     assert!(rt; out.held.is_empty());
 }
@@ -293,7 +315,10 @@ fn a_failed_flush_is_a_fault_where_something_was_written(rt: HostRuntime) {
         let mut from = SCRIPT;
         let mut out = writing(alloc, Takes::AtMost(64), NEVER, Failing::at(1, kind));
         let mut err = Vec::new(alloc);
-        assert_eq!(rt; run_args(alloc, &PIPE, &mut from, &mut out, &mut err), 1);
+        assert_eq!(rt;
+            run_args(&rt, alloc, &PIPE, &mut from, &mut out, &mut err),
+            1
+        );
         assert_eq!(rt; out.held.as_slice(), ANSWERS);
         assert_eq!(rt; err.as_slice(), DEVICE_FAULT);
     }
@@ -311,7 +336,7 @@ fn nothing_to_write_needs_no_writer(rt: HostRuntime) {
         let failing = Failing::at(1, ErrorKind::Other);
         let mut out = writing(alloc, Takes::AtMost(0), failing, failing);
         let mut err = Vec::new(alloc);
-        let status = run_args(alloc, &PIPE, &mut from, &mut out, &mut err);
+        let status = run_args(&rt, alloc, &PIPE, &mut from, &mut out, &mut err);
         assert_eq!(rt; status, expected);
         assert_eq!(rt; err.as_slice(), said);
         assert_eq!(rt; out.calls, 0);
@@ -329,16 +354,65 @@ fn a_failing_error_stream_changes_nothing(rt: HostRuntime) {
             let mut from = SCRIPT;
             let mut out = Vec::new(alloc);
             let mut err = writing(alloc, takes, failing, failing);
-            assert_eq!(rt; run_args(alloc, &PIPE, &mut from, &mut out, &mut err), 1);
+            assert_eq!(rt;
+                run_args(&rt, alloc, &PIPE, &mut from, &mut out, &mut err),
+                1
+            );
             assert_eq!(rt; out.as_slice(), ANSWERS);
             let mut from = SCRIPT;
             let mut out = Vec::new(alloc);
             let mut err = writing(alloc, takes, failing, failing);
-            assert_eq!(rt; run_args(alloc, &refused, &mut from, &mut out, &mut err), 2);
+            assert_eq!(rt;
+                run_args(&rt, alloc, &refused, &mut from, &mut out, &mut err),
+                2
+            );
             assert!(rt; out.is_empty());
             assert_eq!(rt; from, SCRIPT);
         }
     }
+}
+
+#[test]
+fn a_report_that_is_not_written_whole_is_a_device_fault(rt: HostRuntime) {
+    let alloc = rt.alloc();
+    for call in 1..4 {
+        let mut from = reading(SCRIPT, 20, NEVER);
+        let failing = Failing::at(call, ErrorKind::StorageFull);
+        let mut out = writing(alloc, Takes::AtMost(10), failing, NEVER);
+        let mut err = Vec::new(alloc);
+        let status = run_args(&rt, alloc, &THREADS, &mut from, &mut out, &mut err);
+        assert_eq!(rt; status, 1, "write {call}");
+        assert_eq!(rt; err.as_slice(), DEVICE_FAULT);
+        assert_eq!(rt; out.held.as_slice(), &REPORT[..10 * (call - 1)]);
+        assert_eq!(rt; from.calls, 0);
+    }
+}
+
+#[test]
+fn a_report_is_flushed_and_its_write_tried_again(rt: HostRuntime) {
+    let alloc = rt.alloc();
+    let failing = Failing {
+        first: 2,
+        times: 3,
+        kind: ErrorKind::Interrupted,
+    };
+    let mut from = SCRIPT;
+    let mut out = writing(alloc, Takes::AtMost(10), failing, failing);
+    let mut err = Vec::new(alloc);
+    let status = run_args(&rt, alloc, &THREADS, &mut from, &mut out, &mut err);
+    assert_eq!(rt; status, 0);
+    assert_eq!(rt; out.held.as_slice(), REPORT);
+    assert!(rt; out.is_flushed);
+    assert!(rt; err.is_empty());
+    let mut out = writing(
+        alloc,
+        Takes::AtMost(64),
+        NEVER,
+        Failing::at(1, ErrorKind::BrokenPipe),
+    );
+    let status = run_args(&rt, alloc, &THREADS, &mut from, &mut out, &mut err);
+    assert_eq!(rt; status, 1);
+    assert_eq!(rt; err.as_slice(), DEVICE_FAULT);
 }
 
 #[test]
@@ -356,7 +430,7 @@ fn the_largest_script_may_come_in_small_pieces(rt: HostRuntime) -> Result<(), Fa
     for most in [1, 4_096] {
         let mut from = reading(&script, most, NEVER);
         let (mut out, mut err) = (Vec::new(alloc), Vec::new(alloc));
-        let status = run_args(alloc, &PIPE, &mut from, &mut out, &mut err);
+        let status = run_args(&rt, alloc, &PIPE, &mut from, &mut out, &mut err);
         assert_eq!(rt; status, 0, "{most} bytes at once");
         assert!(rt; out.as_slice() == answers.as_slice());
         assert!(rt; err.is_empty());
@@ -373,7 +447,7 @@ fn of_a_longer_script_one_byte_more_is_read(rt: HostRuntime) -> Result<(), Fail>
     for most in [4_096, 1_000_000] {
         let mut from = reading(&script, most, NEVER);
         let (mut out, mut err) = (Vec::new(alloc), Vec::new(alloc));
-        let status = run_args(alloc, &PIPE, &mut from, &mut out, &mut err);
+        let status = run_args(&rt, alloc, &PIPE, &mut from, &mut out, &mut err);
         assert_eq!(rt; status, 1);
         assert!(rt; out.as_slice() == answers.as_slice());
         let said = b"p9sync: script fault at line 1677722\n".as_slice();

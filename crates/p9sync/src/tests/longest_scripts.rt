@@ -28,13 +28,13 @@ fn a_line_has_at_most_200_000_bytes(rt: HostRuntime) -> Result<(), Fail> {
     let alloc = rt.alloc();
     let digits = MAX_LINE - b"write 0 ".len();
     let most = script_of(alloc, &[(digits, 1)], b"")?;
-    assert!(rt; run(alloc, &PIPE, &most).is(0, b"too big\n", b""));
+    assert!(rt; run(&rt, alloc, &PIPE, &most).is(0, b"too big\n", b""));
     let more = script_of(alloc, &[(digits + 1, 1)], b"")?;
     let fault = b"p9sync: script fault at line 2\n".as_slice();
-    assert!(rt; run(alloc, &PIPE, &more).is(1, b"", fault));
+    assert!(rt; run(&rt, alloc, &PIPE, &more).is(1, b"", fault));
     // Two more digits would be bytes, but the line is too long.
     let more = script_of(alloc, &[(digits + 2, 1)], b"")?;
-    assert!(rt; run(alloc, &PIPE, &more).is(1, b"", fault));
+    assert!(rt; run(&rt, alloc, &PIPE, &more).is(1, b"", fault));
     Ok(())
 }
 
@@ -46,17 +46,17 @@ fn a_script_has_at_most_16_777_216_bytes(rt: HostRuntime) -> Result<(), Fail> {
     let most = script_of(alloc, &writes, b"")?;
     assert_eq!(rt; most.len(), MAX_SCRIPT);
     let answers = repeated(alloc, &[(b"too big\n".as_slice(), 84)])?;
-    assert!(rt; run(alloc, &PIPE, &most).is(0, &answers, b""));
+    assert!(rt; run(&rt, alloc, &PIPE, &most).is(0, &answers, b""));
     // The line that begins behind the last byte allowed is at fault, whatever it is.
     let fault = b"p9sync: script fault at line 86\n".as_slice();
     for more in [b"\n".as_slice(), b"hangup\n".as_slice(), b"h".as_slice()] {
         let script = script_of(alloc, &writes, more)?;
-        assert!(rt; run(alloc, &PIPE, &script).is(1, &answers, fault));
+        assert!(rt; run(&rt, alloc, &PIPE, &script).is(1, &answers, fault));
     }
     // So is one whose line feed is the byte too many.
     let longer = script_of(alloc, &[(199_990, 83), (177_283, 1)], b"")?;
     let fault = b"p9sync: script fault at line 85\n".as_slice();
     let answers = repeated(alloc, &[(b"too big\n".as_slice(), 83)])?;
-    assert!(rt; run(alloc, &PIPE, &longer).is(1, &answers, fault));
+    assert!(rt; run(&rt, alloc, &PIPE, &longer).is(1, &answers, fault));
     Ok(())
 }

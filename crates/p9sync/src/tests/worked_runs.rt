@@ -2,7 +2,9 @@
 use crate::run::run_replay;
 use crate::tests::{repeated, run};
 use std::alloc::{AllocError, Global};
+use std::sync::Wait;
 use std::test::Fail;
+use std::thread::Threads;
 
 const PIPE: [&str; 2] = ["p9sync", "pipe"];
 
@@ -34,14 +36,15 @@ fn status_and_text(alloc: Global, ends: Ends) -> Result<(u8, Vec<u8>), AllocErro
 }
 
 /// The first of these rows, counted from 0, that the program on these words doesn't meet.
-fn first_wrong(
+fn first_wrong<T: Threads + Wait + Sync>(
+    rt: &T,
     alloc: Global,
     words: &[&str],
     rows: &[Row<'_>],
 ) -> Result<Option<usize>, AllocError> {
     for (i, (script, answers, ends)) in rows.iter().enumerate() {
         let (status, text) = status_and_text(alloc, *ends)?;
-        if !run(alloc, words, script).is(status, answers, &text) {
+        if !run(rt, alloc, words, script).is(status, answers, &text) {
             return Ok(Some(i));
         }
     }
@@ -78,7 +81,11 @@ fn other_command_lines_are_refused(rt: HostRuntime) -> Result<(), Fail> {
         (b"world 1 1\n", b"", Ends::Refused),
     ];
     for words in lines {
-        assert_eq!(rt; first_wrong(rt.alloc(), words, &rows)?, None, "{words:?}");
+        assert_eq!(rt;
+            first_wrong(&rt, rt.alloc(), words, &rows)?,
+            None,
+            "{words:?}"
+        );
     }
     Ok(())
 }
@@ -119,7 +126,7 @@ fn pipe_scripts_are_answered(rt: HostRuntime) -> Result<(), Fail> {
             Ends::Well,
         ),
     ];
-    assert_eq!(rt; first_wrong(rt.alloc(), &PIPE, &rows)?, None);
+    assert_eq!(rt; first_wrong(&rt, rt.alloc(), &PIPE, &rows)?, None);
     Ok(())
 }
 
@@ -150,7 +157,7 @@ fn a_size_is_tested_before_a_hangup(rt: HostRuntime) -> Result<(), Fail> {
         ],
     )?;
     let rows: [Row<'_>; 1] = [(&script, &answers, Ends::Well)];
-    assert_eq!(rt; first_wrong(alloc, &PIPE, &rows)?, None);
+    assert_eq!(rt; first_wrong(&rt, alloc, &PIPE, &rows)?, None);
     Ok(())
 }
 
@@ -209,7 +216,7 @@ fn a_pipe_script_ends_at_its_first_bad_line(rt: HostRuntime) -> Result<(), Fail>
             Ends::AtLine(3),
         ),
     ];
-    assert_eq!(rt; first_wrong(rt.alloc(), &PIPE, &rows)?, None);
+    assert_eq!(rt; first_wrong(&rt, rt.alloc(), &PIPE, &rows)?, None);
     Ok(())
 }
 
@@ -282,7 +289,7 @@ fn schedules_are_answered(rt: HostRuntime) -> Result<(), Fail> {
             Ends::Well,
         ),
     ];
-    assert_eq!(rt; first_wrong(rt.alloc(), &REPLAY, &rows)?, None);
+    assert_eq!(rt; first_wrong(&rt, rt.alloc(), &REPLAY, &rows)?, None);
     Ok(())
 }
 
@@ -330,7 +337,7 @@ fn each_set_of_notes_has_its_text(rt: HostRuntime) -> Result<(), Fail> {
             Ends::Well,
         ),
     ];
-    assert_eq!(rt; first_wrong(rt.alloc(), &REPLAY, &rows)?, None);
+    assert_eq!(rt; first_wrong(&rt, rt.alloc(), &REPLAY, &rows)?, None);
     Ok(())
 }
 
@@ -378,7 +385,7 @@ fn a_schedule_ends_at_its_first_bad_line(rt: HostRuntime) -> Result<(), Fail> {
             Ends::AtLine(3),
         ),
     ];
-    assert_eq!(rt; first_wrong(rt.alloc(), &REPLAY, &rows)?, None);
+    assert_eq!(rt; first_wrong(&rt, rt.alloc(), &REPLAY, &rows)?, None);
     Ok(())
 }
 

@@ -15,6 +15,9 @@ returns c =
     search rules in
     let two_are = c.in_ok-subcommand.ensures.shape (search rules)
     ∙ ap₂ with_subcommand top_is pipe_is in
-    IfOk-weaker c.subcommand-2.result _ _
-    (λ command adds. adds.shape (search rules) ∙ ap₂ with_subcommand two_are replay_is)
-    c.subcommand-2.ensures
+    let three_are = c.in_ok-subcommand-2.ensures.shape (search rules)
+    ∙ ap₂ with_subcommand two_are replay_is in
+    IfOk-weaker c.subcommand-3.result _ _
+    (λ command adds. adds.shape c.in_ok-threads.ensures.local
+    ∙ ap₂ with_subcommand three_are c.in_ok-threads.ensures.shape)
+    c.subcommand-3.ensures
