@@ -1,6 +1,6 @@
 //! Many writers and one reader, each on a thread of its own, on one direction of a pipe. Before
 //! this: `crew`. After it: `report_text`.
-ghost use Rattle.std.specs.Prelude.{◌≡◌, IfOk, Err};
+ghost use Rattle.std.specs.Prelude.{◌≡◌, ⊤, IfOk, Err};
 ghost use Rattle.sync_base.specs.declared.fault.Fault.TheVariants.{BadArg};
 ghost use Rattle.p9sync.specs.Threads.{AreWithin, IsReportOf};
 
@@ -68,7 +68,10 @@ fn run_crew<'p, R: Threads + Wait + Sync, G: Gate + Sync>(
     let counted = thread::scope(
         thread::scope_env(),
         rt,
-        move |scope| -> Result<Counted, Fault> {
+        move |scope| -> Result<Counted, Fault>
+            // It asks nothing of its caller.
+            ensures { ⊤ }
+        {
             let mut running = Vec::with_capacity(alloc, writers.len())?;
             let Ok(reading) = scope.spawn(move || reader.read_all(rt)) else {
                 return Err(Fault::Device);
