@@ -4,6 +4,7 @@ mod DeviceLemmas
 mod DigitLemmas
 mod EventLineLemmas
 mod EventTextLemmas
+mod HexTextLemmas
 mod LineLemmas
 mod NumberLemmas
 mod OnePassLemmas

@@ -4,7 +4,6 @@ ghost use Rattle.p9sync.specs.AnswerText.{write_text, read_text, hex_text};
 ghost use Rattle.sync_base.specs.PlainPipe.{lent_answer};
 ghost use Rattle.p9sync.specs.declared.lines.TheConstants.{LINE_FEED};
 
-use crate::digits::encode;
 use crate::lines::LINE_FEED;
 use std::alloc::AllocError;
 use sync_base::{Lent, WriteAnswer};
@@ -14,11 +13,12 @@ pub fn push_write_answer(output: &mut Vec<u8>, answer: WriteAnswer) -> Result<()
     ensures { OnOk result (output.new.items
         ≡ output.old.items ++ write_text answer ++ LINE_FEED ∷ []) }
 {
-    match answer {
-        WriteAnswer::Taken => output.extend_from_slice(b"taken\n"),
-        WriteAnswer::Full => output.extend_from_slice(b"full\n"),
-        WriteAnswer::Hungup => output.extend_from_slice(b"hungup\n"),
-    }
+    let text = match answer {
+        WriteAnswer::Taken => b"taken\n".as_slice(),
+        WriteAnswer::Full => b"full\n".as_slice(),
+        WriteAnswer::Hungup => b"hungup\n".as_slice(),
+    };
+    output.extend_from_slice(text)
 }
 
 /// The answer to a read.
@@ -51,6 +51,6 @@ fn push_hex(output: &mut Vec<u8>, bytes: &[u8]) -> Result<(), AllocError>
     };
     // The digits are written where they stay.
     output.resize(end, 0)?;
-    encode(bytes, output.slice_mut(start..));
+    let _ = hex::encode_to_slice(bytes, output.slice_mut(start..));
     Ok(())
 }

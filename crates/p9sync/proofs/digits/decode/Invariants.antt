@@ -1,13 +1,10 @@
-use Rattle.std.proofs.Common.{◌<◌, ◌+◌, ◌*◌}
-use Rattle.p9sync.proofs.DigitLemmas.{IsDecodedTo}
+use Rattle.std.proofs.Common.{◌≡◌, ◌<◌, ◌*◌, take, drop}
+use Rattle.hex.specs.Hex.{decode_pairs}
+use Rattle.hex.proofs.Pairs.{prepend}
 use Rattle.p9sync.proofs.digits.decode.Given as goal
 
--- where no value was too great, the digits so far are the bytes so far
-abbrev pub invariant-front : goal.invariant-front
-invariant-front l = l.greatest < 16 → IsDecodedTo l.digits l.room (8 * l.block)
-
-abbrev pub invariant-block : goal.invariant-block
-invariant-block l = l.greatest < 16 → IsDecodedTo l.digits l.room (8 * l.block + l.place)
-
-abbrev pub invariant-rest : goal.invariant-rest
-invariant-rest l = l.greatest < 16 → IsDecodedTo l.digits l.room l.i
+-- where no sum was too great, the digits so far are the bytes so far
+abbrev pub invariant-loop-i : goal.invariant-loop-i
+invariant-loop-i l =
+    l.greatest < 256 → decode_pairs 0 l.digits
+    ≡ prepend (take l.i l.room) (decode_pairs (2 * l.i) (drop (2 * l.i) l.digits))

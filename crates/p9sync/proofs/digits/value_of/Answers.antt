@@ -2,7 +2,7 @@ use Rattle.std.proofs.Common.{refl, arith}
 use Rattle.p9sync.specs.declared.digits.TheConstants.{VALUES}
 use Rattle.p9sync.specs.Digits.{value_or_none}
 use Rattle.p9sync.proofs.DigitLemmas.{agree_below, agree_at}
-use Rattle.p9sync.proofs.digits.listed_value.Goals as goal
+use Rattle.p9sync.proofs.digits.value_of.Goals as goal
 
 -- the table is the definition at each of the 256 bytes
 pub returns : goal.returns
