@@ -75,14 +75,17 @@ fn take(window: &mut Window, event: &[u8]) -> Result<(), Fault> {
     Ok(())
 }
 
+/// The process that reads the pipe.
+#[derive(Drop)]
+struct Reader<'w> {
+    proc: Proc<'w>,
+    events: ReadEnd<'w>,
+}
+
 /// The multiplexer. Each read is one event, since a read never joins two writes. Where an event
 /// can't be shown it reads on, so that no device waits for ever.
-fn show<'w, R: Wait>(
-    rt: &R,
-    alloc: Global,
-    mut proc: Proc<'w>,
-    mut events: ReadEnd<'w>,
-) -> Result<Window, Fault> {
+fn show<R: Wait>(rt: &R, alloc: Global, me: Reader<'_>) -> Result<Window, Fault> {
+    let (mut proc, mut events) = (me.proc, me.events);
     let mut window = Window {
         typed: String::new(alloc),
         mouse: (0, 0),
@@ -102,10 +105,16 @@ fn show<'w, R: Wait>(
     Ok(window)
 }
 
+/// A further process.
+fn fork<'k>(started: &mut Started<'k>) -> Result<Proc<'k>, Fault> {
+    let forked = started.roster.rfork(&mut started.proc, Flags::RFPROC)?;
+    forked.ok_or(Fault::NoProc)
+}
+
 /// Makes a process for each device and for the button. The reader is started first, since the
 /// devices wait for it.
 fn run_all<'w, R: Threads + Wait + Sync>(
-    rt: &'w R,
+    rt: &R,
     alloc: Global,
     mut started: Started<'w>,
     ends: Ends<'w>,
@@ -113,14 +122,16 @@ fn run_all<'w, R: Threads + Wait + Sync>(
     let mut writers = Vec::new(alloc);
     let outs = ends.second.parts().writes;
     for (out, events) in outs.into_iter().zip([KEYBOARD, MOUSE, FRAME, &[]]) {
-        let child = started.roster.rfork(&mut started.proc, Flags::RFPROC)?;
-        let proc = child.ok_or(Fault::NoProc)?;
+        let proc = fork(&mut started)?;
         writers.push(Writer { proc, out, events })?;
     }
     let button = writers.pop().ok_or(Fault::BadSize)?;
-    let (proc, events) = (started.proc, ends.first.parts().read);
+    let reader = Reader {
+        proc: started.proc,
+        events: ends.first.parts().read,
+    };
     scope(scope_env(), rt, move |scope| {
-        let Ok(showing) = scope.spawn(move || show(rt, alloc, proc, events)) else {
+        let Ok(showing) = scope.spawn(move || show(rt, alloc, reader)) else {
             return Err(Fault::Device);
         };
         let sent = send_all(rt, alloc, writers, button);
