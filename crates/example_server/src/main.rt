@@ -89,11 +89,11 @@ fn fork<'k>(started: &mut Started<'k>) -> Result<Proc<'k>, Fault> {
 
 /// Makes the clients and the server, and starts the server first, since the clients wait for it.
 fn run_all<'s, R: Threads + Wait + Sync>(
-    rt: &'s R,
+    rt: &R,
     alloc: Global,
     mut started: Started<'s>,
     there: Ends<'s>,
-    back: [Ends<'s>; 4],
+    back: Vec<Ends<'s>>,
 ) -> Result<Vec<u64>, Fault> {
     let mut writes = there.second.parts().writes;
     let last = writes.pop().ok_or(Fault::BadSize)?;
@@ -123,21 +123,36 @@ fn run_all<'s, R: Threads + Wait + Sync>(
     })
 }
 
+/// Opens a pipe back to each client that has none, and then runs all. A pipe outlives its ends, so
+/// each is opened in a call of its own, and all that uses it is within.
+fn open_back<'s, R: Threads + Wait + Sync>(
+    rt: &R,
+    alloc: Global,
+    mut started: Started<'s>,
+    there: Ends<'s>,
+    back: Vec<Ends<'s>>,
+    left: u8,
+) -> Result<Vec<u64>, Fault> {
+    if left == 0 {
+        return run_all(rt, alloc, started, there, back);
+    }
+    let Opened { pipe, start } = Pipe::new(alloc, &mut started.roster, 1, 1)?;
+    let back = with(back, pipe.ends(start))?;
+    open_back(rt, alloc, started, there, back, left - 1)
+}
+
+/// The same ends, and one more pair.
+fn with<'s>(mut back: Vec<Ends<'s>>, ends: Ends<'s>) -> Result<Vec<Ends<'s>>, Fault> {
+    back.push(ends)?;
+    Ok(back)
+}
+
 /// The pipe of requests has five writers. A pipe goes both ways; here one way of each is used.
 fn run<R: Threads + Wait + Sync>(rt: &R, alloc: Global) -> Result<Vec<u64>, Fault> {
     let sleep_wakeup::Opened { kernel, start } = Kernel::new(alloc, 6, 28)?;
     let mut started = kernel.start(start);
     let Opened { pipe, start } = Pipe::new(alloc, &mut started.roster, 2, 5)?;
-    let there = pipe.ends(start);
-    let Opened { pipe, start } = Pipe::new(alloc, &mut started.roster, 1, 1)?;
-    let one = pipe.ends(start);
-    let Opened { pipe, start } = Pipe::new(alloc, &mut started.roster, 1, 1)?;
-    let two = pipe.ends(start);
-    let Opened { pipe, start } = Pipe::new(alloc, &mut started.roster, 1, 1)?;
-    let three = pipe.ends(start);
-    let Opened { pipe, start } = Pipe::new(alloc, &mut started.roster, 1, 1)?;
-    let back = [one, two, three, pipe.ends(start)];
-    run_all(rt, alloc, started, there, back)
+    open_back(rt, alloc, started, pipe.ends(start), Vec::new(alloc), 4)
 }
 
 fn main(rt: HostRuntime) -> io::Result<()> {
