@@ -1,7 +1,7 @@
 //! A window system's multiplexer. It shows one reader of many devices.
 //!
 //! A keyboard, a mouse and the frame of a window each write events into one pipe, and one reader
-//! takes them as they come, whichever device they are from: it waits at one place for all of them.
+//! takes them as they come, whichever device they are from: it waits at one place for all.
 //! When the window is closed the pipe is hung up: what was written is still read, and then it ends.
 #![tactic(auto)]
 
@@ -20,8 +20,7 @@ const MOUSE: &[&[u8]] = &[&[b'm', 3, 4], &[b'm', 5, 4], &[b'm', 9, 7]];
 
 const FRAME: &[&[u8]] = &[&[b'r', 80, 24], &[b'r', 100, 40]];
 
-/// A process that writes into the pipe: a device, or the button that closes the window, which has
-/// no events.
+/// A process that writes into the pipe: a device, or the button, which has no events and closes it.
 #[derive(Drop)]
 struct Writer<'w> {
     proc: Proc<'w>,
@@ -63,8 +62,7 @@ struct Window {
     size: (u8, u8),
 }
 
-/// Events of one device come in its order, whatever those of the others do. So the window ends the
-/// same in every schedule.
+/// Events of one device come in its order, so the window ends the same in every schedule.
 fn take(window: &mut Window, event: &[u8]) -> Result<(), Fault> {
     match event {
         [b'k', key] => window.typed.push(char::from(*key))?,
@@ -105,38 +103,31 @@ fn show<R: Wait>(rt: &R, alloc: Global, me: Reader<'_>) -> Result<Window, Fault>
     Ok(window)
 }
 
-/// A further process.
-fn fork<'k>(started: &mut Started<'k>) -> Result<Proc<'k>, Fault> {
-    let forked = started.roster.rfork(&mut started.proc, Flags::RFPROC)?;
-    forked.ok_or(Fault::NoProc)
-}
-
-/// Makes a process for each device and for the button. The reader is started first, since the
-/// devices wait for it.
+/// Makes a process for each device and for the button. The reader, for which they wait, is first.
 fn run_all<'w, R: Threads + Wait + Sync>(
     rt: &R,
     alloc: Global,
-    mut started: Started<'w>,
+    started: Started<'w>,
     ends: Ends<'w>,
 ) -> Result<Window, Fault> {
+    let (mut roster, mut reader) = (started.roster, started.proc);
     let mut writers = Vec::new(alloc);
     let outs = ends.second.parts().writes;
     for (out, events) in outs.into_iter().zip([KEYBOARD, MOUSE, FRAME, &[]]) {
-        let proc = fork(&mut started)?;
+        let child = roster.rfork(&mut reader, Flags::RFPROC)?;
+        let proc = child.ok_or(Fault::NoProc)?;
         writers.push(Writer { proc, out, events })?;
     }
     let button = writers.pop().ok_or(Fault::BadSize)?;
     let reader = Reader {
-        proc: started.proc,
+        proc: reader,
         events: ends.first.parts().read,
     };
     scope(scope_env(), rt, move |scope| {
         let Ok(showing) = scope.spawn(move || show(rt, alloc, reader)) else {
             return Err(Fault::Device);
         };
-        let sent = send_all(rt, alloc, writers, button);
-        let window = showing.join(rt);
-        sent.and(window)
+        send_all(rt, alloc, writers, button).and(showing.join(rt))
     })
 }
 
