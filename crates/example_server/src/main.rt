@@ -1,0 +1,163 @@
+//! A server's request loop. It shows a pipe with many writers, and a pipe back to each of them.
+//!
+//! Four clients write requests into one pipe, and one server reads them in the order in which they
+//! come. It answers each on a pipe of its client's own. A hangup of the pipe of requests ends it.
+#![tactic(auto)]
+
+use pipe_dev::{Ends, Opened, Pipe, ReadAnswer, ReadEnd, WriteEnd};
+use sleep_wakeup::{Kernel, Proc, Started};
+use std::alloc::Global;
+use std::io;
+use std::sync::Wait;
+use std::thread::{Threads, map_vec, scope, scope_env};
+use sync_base::{Fault, Flags};
+
+/// A client asks at one pipe and is answered at another.
+#[derive(Drop)]
+struct Client<'s> {
+    number: u8,
+    proc: Proc<'s>,
+    requests: WriteEnd<'s>,
+    answers: ReadEnd<'s>,
+}
+
+/// Asks for the squares of 1 to 5, and gives their sum. A request, with the client's number, is one
+/// write: it is read whole and never joined with another, so the clients need no lock.
+fn ask<R: Wait>(rt: &R, alloc: Global, me: Client<'_>) -> Result<u64, Fault> {
+    let (mut proc, mut requests, mut answers) = (me.proc, me.requests, me.answers);
+    let (mut sum, mut square) = (0u64, [0]);
+    for wanted in 1..=5 {
+        requests.write(alloc, rt, &mut proc, &[me.number, wanted])?;
+        if answers.read(rt, &mut proc, &mut square)? == ReadAnswer::End {
+            return Err(Fault::Hungup);
+        }
+        sum = sum.wrapping_add(u64::from(square[0]));
+    }
+    Ok(sum)
+}
+
+/// All clients at once, each on a thread of its own, or one after the other where no thread can be
+/// started. Then the pipe of requests is hung up, at a write end that is for this alone.
+fn ask_all<'s, R: Threads + Wait + Sync>(
+    rt: &R,
+    alloc: Global,
+    clients: Vec<Client<'s>>,
+    mut last: WriteEnd<'s>,
+    mut proc: Proc<'s>,
+) -> Result<Vec<u64>, Fault> {
+    let asked = map_vec(rt, clients, &|client: Client| ask(rt, alloc, client));
+    last.hangup(&mut proc);
+    let mut sums = Vec::new(alloc);
+    for sum in asked? {
+        sums.push(sum?)?;
+    }
+    Ok(sums)
+}
+
+/// The server reads requests at one pipe, and answers at one for each client.
+#[derive(Drop)]
+struct Server<'s> {
+    proc: Proc<'s>,
+    requests: ReadEnd<'s>,
+    answers: Vec<WriteEnd<'s>>,
+}
+
+/// The request loop. The pipe of a client that can't be answered is hung up, so it doesn't wait.
+fn serve<R: Wait>(rt: &R, alloc: Global, me: Server<'_>) -> Result<(), Fault> {
+    let (mut proc, mut requests, mut answers) = (me.proc, me.requests, me.answers);
+    let mut request = [0; 2];
+    for _ in rt.forever() {
+        if requests.read(rt, &mut proc, &mut request)? == ReadAnswer::End {
+            break;
+        }
+        let [client, wanted] = request;
+        let square = [wanted.saturating_mul(wanted)];
+        if let Some(end) = answers.get_mut(usize::from(client)) {
+            if end.write(alloc, rt, &mut proc, &square).is_err() {
+                end.hangup(&mut proc);
+            }
+        }
+    }
+    Ok(())
+}
+
+/// A further process.
+fn fork<'k>(started: &mut Started<'k>) -> Result<Proc<'k>, Fault> {
+    let forked = started.roster.rfork(&mut started.proc, Flags::RFPROC)?;
+    forked.ok_or(Fault::NoProc)
+}
+
+/// Makes the clients and the server, and starts the server first, since the clients wait for it.
+fn run_all<'s, R: Threads + Wait + Sync>(
+    rt: &R,
+    alloc: Global,
+    mut started: Started<'s>,
+    there: Ends<'s>,
+    back: Vec<Ends<'s>>,
+) -> Result<Vec<u64>, Fault> {
+    let mut writes = there.second.parts().writes;
+    let last = writes.pop().ok_or(Fault::BadSize)?;
+    let mut clients = Vec::new(alloc);
+    let mut answers = Vec::new(alloc);
+    for (number, (requests, ends)) in (0..4).zip(writes.into_iter().zip(back)) {
+        answers.extend(ends.first.parts().writes)?;
+        clients.push(Client {
+            number,
+            proc: fork(&mut started)?,
+            requests,
+            answers: ends.second.parts().read,
+        })?;
+    }
+    let server = Server {
+        proc: fork(&mut started)?,
+        requests: there.first.parts().read,
+        answers,
+    };
+    let proc = started.proc;
+    scope(scope_env(), rt, move |scope| {
+        let Ok(serving) = scope.spawn(move || serve(rt, alloc, server)) else {
+            return Err(Fault::Device);
+        };
+        let sums = ask_all(rt, alloc, clients, last, proc);
+        serving.join(rt).and(sums)
+    })
+}
+
+/// Opens a pipe back to each client that has none, and then runs all. A pipe outlives its ends, so
+/// each is opened in a call of its own, and all that uses it is within.
+fn open_back<'s, R: Threads + Wait + Sync>(
+    rt: &R,
+    alloc: Global,
+    mut started: Started<'s>,
+    there: Ends<'s>,
+    back: Vec<Ends<'s>>,
+    left: u8,
+) -> Result<Vec<u64>, Fault> {
+    if left == 0 {
+        return run_all(rt, alloc, started, there, back);
+    }
+    let Opened { pipe, start } = Pipe::new(alloc, &mut started.roster, 1, 1)?;
+    let back = with(back, pipe.ends(start))?;
+    open_back(rt, alloc, started, there, back, left - 1)
+}
+
+/// The same ends, and one more pair.
+fn with<'s>(mut back: Vec<Ends<'s>>, ends: Ends<'s>) -> Result<Vec<Ends<'s>>, Fault> {
+    back.push(ends)?;
+    Ok(back)
+}
+
+/// The pipe of requests has five writers. A pipe goes both ways; here one way of each is used.
+fn run<R: Threads + Wait + Sync>(rt: &R, alloc: Global) -> Result<Vec<u64>, Fault> {
+    let sleep_wakeup::Opened { kernel, start } = Kernel::new(alloc, 6, 28)?;
+    let mut started = kernel.start(start);
+    let Opened { pipe, start } = Pipe::new(alloc, &mut started.roster, 2, 5)?;
+    open_back(rt, alloc, started, pipe.ends(start), Vec::new(alloc), 4)
+}
+
+fn main(rt: HostRuntime) -> io::Result<()> {
+    match run(&rt, rt.alloc()) {
+        Ok(sums) => println!(rt; "the clients' sums are {sums:?}"),
+        Err(fault) => println!(rt; "the server failed: {fault}"),
+    }
+}
