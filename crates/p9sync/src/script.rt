@@ -114,9 +114,7 @@ fn open_line<S: Script>(alloc: Global, line: &[u8]) -> Result<Option<S>, AllocEr
 }
 
 /// Answers the lines behind the first, writes the answers piece by piece, and gives the number of
-/// the line at fault. It is compiled apart from what comes before and after, which would take its
-/// registers.
-#[inline(never)]
+/// the line at fault.
 fn answer_lines<S: Script, W: Write>(
     alloc: Global,
     mut script: S,
