@@ -10,4 +10,5 @@ pub mod WrittenLemmas
 pub mod ChainLemmas
 pub mod WaitLemmas
 pub mod WorkedPipes
+pub mod LoneLemmas
 pub mod WorkedCalls
