@@ -3,7 +3,7 @@
 use crate::tests::hands::{Gate, Reader, Writer, fork};
 use crate::{Ends, Opened, Parts, Pipe, ReadAnswer};
 use sleep_wakeup::{Kernel, Proc, Started};
-use std::alloc::Global;
+use std::alloc::{AllocError, Global};
 use std::process::Abort;
 use std::sync::Wait;
 use std::sync::atomic::Ordering::SeqCst;
@@ -346,6 +346,17 @@ impl Run {
     }
 }
 
+// All jobs at once, each on a thread of its own.
+fn make_all<R: Threads + Wait + Sync>(
+    rt: &R,
+    alloc: Global,
+    board: &Board,
+    jobs: Vec<Job<'_>>,
+    plan: Plan,
+) -> Result<Vec<Work>, AllocError> {
+    thread::map_vec(rt, jobs, &|job: Job| make_work(rt, alloc, board, job, plan))
+}
+
 fn make_run<R: Threads + Wait + Sync>(rt: &R, alloc: Global, plan: Plan) -> Result<Run, Fault> {
     let procs = plan.writers.saturating_add(2);
     let sleep_wakeup::Opened { kernel, start } = Kernel::new(
@@ -361,13 +372,8 @@ fn make_run<R: Threads + Wait + Sync>(rt: &R, alloc: Global, plan: Plan) -> Resu
         wrote: AtomicU64::new(0),
         read: AtomicBool::new(false),
     };
-    let done = thread::map_vec(
-        rt,
-        jobs,
-        &|job: Job| -> Work { make_work(rt, alloc, &board, job, plan) },
-    )?;
     let mut run = Run::new();
-    for work in done {
+    for work in make_all(rt, alloc, &board, jobs, plan)? {
         run.add(work);
     }
     Ok(run)
