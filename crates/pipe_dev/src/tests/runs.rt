@@ -1,5 +1,7 @@
 //! Runs of many writers and one reader on threads, with hangups and notes between. Each message is
 //! made of one byte, which says its writer and its number.
+ghost use Rattle.std.specs.Prelude.{⊤};
+
 use crate::tests::hands::{Gate, Reader, Writer, fork};
 use crate::{Ends, Opened, Parts, Pipe, ReadAnswer};
 use sleep_wakeup::{Kernel, Proc, Started};
@@ -354,7 +356,13 @@ fn make_all<R: Threads + Wait + Sync>(
     jobs: Vec<Job<'_>>,
     plan: Plan,
 ) -> Result<Vec<Work>, AllocError> {
-    thread::map_vec(rt, jobs, &|job: Job| make_work(rt, alloc, board, job, plan))
+    thread::map_vec(
+        rt,
+        jobs,
+        &|job: Job| -> Work
+            ensures { ⊤ }
+        { make_work(rt, alloc, board, job, plan) },
+    )
 }
 
 fn make_run<R: Threads + Wait + Sync>(rt: &R, alloc: Global, plan: Plan) -> Result<Run, Fault> {
