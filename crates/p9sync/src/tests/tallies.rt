@@ -70,8 +70,10 @@ fn each_mistake_is_out_of_order(rt: HostRuntime) -> Result<(), Fail> {
     let huge = message(alloc, u64::MAX, 0)?;
     let mut joined = Vec::from_slice(alloc, &a)?;
     joined.extend_from_slice(&b)?;
-    let mut torn = Vec::from_slice(alloc, &a)?;
-    torn[SIZE - 1] = 1;
+    let mut cut = Vec::from_slice(alloc, &a)?;
+    cut.pop();
+    let mut torn = Vec::from_slice(alloc, &cut)?;
+    torn.push(1)?;
     // Skipped, repeated and turned round.
     assert!(rt; says(alloc, &[&b], b"writers 2 writes 1 bytes 20 out of order\n")?);
     assert!(rt;
@@ -92,7 +94,7 @@ fn each_mistake_is_out_of_order(rt: HostRuntime) -> Result<(), Fail> {
     assert!(rt;
         says(
             alloc,
-            &[&a[..19]],
+            &[&cut],
             b"writers 2 writes 1 bytes 19 out of order\n"
         )?
     );
