@@ -7,12 +7,13 @@ use crate::threads::run_threads;
 use std::sync::atomic::AtomicU64;
 use std::sync::atomic::Ordering::SeqCst;
 use std::test::Fail;
+use std::thread::yield_now;
 use sync_base::Fault;
 
 const USAGE: &[u8] = b"usage: p9sync pipe | replay | threads --writers W --writes K --size S\n";
 
-/// For how many turns a writer is held at a gate.
-const TURNS: u64 = 10_000_000;
+/// For how many turns a writer is held at a gate. At each it lets others run.
+const TURNS: u64 = 4_000_000;
 
 /// Holds each writer until so many have come, for so many turns at most, and then sends it away.
 #[derive(Drop)]
@@ -29,6 +30,7 @@ impl Gate for Meeting {
             if self.come.load(SeqCst) >= self.wanted {
                 return true;
             }
+            yield_now();
         }
         self.missed.fetch_add(1, SeqCst);
         false
