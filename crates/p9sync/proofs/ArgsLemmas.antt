@@ -34,19 +34,19 @@ use Rattle.std.specs.Result.{IfOk, IfErr}
 use Rattle.std.specs.Prelude.{Result, Err, IfSome}
 use Rattle.p9sync.specs.declared.args.Task.{Task}
 use Rattle.p9sync.specs.declared.args.Task.TheVariants.{Pipe, Replay, Threads}
-use Rattle.p9sync.specs.declared.opts.ThreadsOpts.{ThreadsOpts}
-use Rattle.p9sync.specs.declared.opts.Report.{Report}
+use Rattle.crew.specs.declared.opts.ThreadsOpts.{ThreadsOpts}
+use Rattle.crew.specs.declared.opts.Report.{Report}
 use Rattle.std.specs.Io.KnownBytes.{Appends}
 use Rattle.sync_base.specs.declared.fault.Fault.{Fault}
-use Rattle.p9sync.specs.Device.{AppendsFront, WritesTold}
-use Rattle.p9sync.specs.Script.{Told}
+use Rattle.scripts.specs.Device.{AppendsFront, WritesTold}
+use Rattle.scripts.specs.Script.{Told}
 use Rattle.p9sync.specs.ReportText.{report_line}
-use Rattle.p9sync.specs.Threads.{IsReportOf}
-use Rattle.p9sync.specs.Lines.{is_word}
+use Rattle.crew.specs.Threads.{IsReportOf}
+use Rattle.scripts.specs.Lines.{is_word}
 use Rattle.p9sync.specs.declared.args.TheConstants.{FAULT}
 use Rattle.p9sync.specs.Args.{command_line, command_named, number_asked, script_asked, task_asked, task_named, threads_asked, threads_named, status_of, EndsRun, EndsTask, EndsThreads}
 use Rattle.sync_base.specs.declared.fault.Fault.TheVariants.{Memory}
-use Rattle.p9sync.proofs.DeviceLemmas.{appends_nothing}
+use Rattle.scripts.proofs.DeviceLemmas.{appends_nothing}
 
 -- the command line is one of those that clap's clauses speak of exactly
 pub line_is_simple : is_simple_and_free command_line ≡ true

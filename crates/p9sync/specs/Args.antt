@@ -18,16 +18,16 @@ use Rattle.sync_base.specs.declared.limits.TheConstants.{ATOMIC_SIZE, MAX_WRITER
 use Rattle.p9sync.specs.declared.args.TheConstants.{GOOD, FAULT}
 use Rattle.p9sync.specs.declared.args.Task.{Task}
 use Rattle.p9sync.specs.declared.args.Task.TheVariants.{Pipe, Replay, Threads}
-use Rattle.p9sync.specs.declared.opts.TheConstants.{LEAST_SIZE, MAX_WRITES}
-use Rattle.p9sync.specs.declared.opts.ThreadsOpts.{ThreadsOpts}
-use Rattle.p9sync.specs.declared.opts.Report.{Report}
-use Rattle.p9sync.specs.Lines.{is_word}
-use Rattle.p9sync.specs.Script.{Told}
-use Rattle.p9sync.specs.Device.{AppendsFront, WritesTold}
-use Rattle.p9sync.specs.PipeScript.{pipe_told}
+use Rattle.crew.specs.declared.opts.TheConstants.{LEAST_SIZE, MAX_WRITES}
+use Rattle.crew.specs.declared.opts.ThreadsOpts.{ThreadsOpts}
+use Rattle.crew.specs.declared.opts.Report.{Report}
+use Rattle.scripts.specs.Lines.{is_word}
+use Rattle.scripts.specs.Script.{Told}
+use Rattle.scripts.specs.Device.{AppendsFront, WritesTold}
+use Rattle.scripts.specs.PipeScript.{pipe_told}
 use Rattle.p9sync.specs.ReportText.{report_line}
-use Rattle.p9sync.specs.Schedule.{schedule_told}
-use Rattle.p9sync.specs.Threads.{IsReportOf}
+use Rattle.scripts.specs.Schedule.{schedule_told}
+use Rattle.crew.specs.Threads.{IsReportOf}
 
 -- the run of a word alone, spelled exactly so
 abbrev pub task_named : List ℕ → Option Task

@@ -1,16 +1,2 @@
-pub mod AnswerText
 pub mod Args
-pub mod Device
-pub mod Digits
-pub mod EventText
-pub mod Lines
-pub mod Message
-pub mod PipeLine
-pub mod PipeScript
 pub mod ReportText
-pub mod Schedule
-pub mod Script
-pub mod ScriptLaws
-pub mod Tally
-pub mod TextLaws
-pub mod Threads

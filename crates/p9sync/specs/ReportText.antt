@@ -1,8 +1,8 @@
 -- What a run on threads says that it read.
 use Rattle.std.specs.Prelude.{ℕ, List, [], ◌∷◌, ◌++◌, if◌then◌else◌, codes}
 use Rattle.std.specs.Fmt.{decimal}
-use Rattle.p9sync.specs.declared.lines.TheConstants.{LINE_FEED}
-use Rattle.p9sync.specs.declared.opts.Report.{Report}
+use Rattle.scripts.specs.declared.lines.TheConstants.{LINE_FEED}
+use Rattle.crew.specs.declared.opts.Report.{Report}
 
 -- `writers W writes T bytes B in order`, or `out of order`, with its line feed
 abbrev pub report_line : Report → List ℕ

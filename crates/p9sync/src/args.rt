@@ -1,5 +1,5 @@
 //! The program on its words: what the command line asks for, and how it ends. Before this:
-//! `run`.
+//! `report_text`.
 ghost use Rattle.std.specs.Prelude.{◌≡◌, ◌≤◌, ◌<◌, ◌+◌, ◌↔◌, Some, None, map, false};
 ghost use Rattle.std.specs.Prelude.{IfOk, IfErr, IfSome, IsOk, OnErr};
 ghost use Rattle.std.specs.Io.KnownBytes.{Keeps};
@@ -8,26 +8,25 @@ ghost use Rattle.clap.specs.Walk.{rows_of, rule_of};
 ghost use Rattle.clap.specs.Words.{found_of, kind_of};
 ghost use Rattle.clap.specs.declared.builder.command.Command.TheViews.{out-Command};
 ghost use Rattle.clap.specs.declared.error.kind.ErrorKind.TheVariants as kind;
-ghost use Rattle.p9sync.specs.declared.script.TheConstants.{MAX_SCRIPT};
+ghost use Rattle.scripts.specs.declared.script.TheConstants.{MAX_SCRIPT};
 ghost use Rattle.p9sync.specs.Args.{command_line, command_named, number_between, opts_asked};
 ghost use Rattle.p9sync.specs.Args.{option_asked, status_of, task_asked, threads_command};
 ghost use Rattle.p9sync.specs.Args.{EndsTask, EndsThreads, ReadsNothing};
-ghost use Rattle.p9sync.specs.declared.opts.Report.{Report};
-ghost use Rattle.p9sync.specs.Device.{AppendsFront, TakesAtMost};
+ghost use Rattle.crew.specs.declared.opts.Report.{Report};
+ghost use Rattle.scripts.specs.Device.{AppendsFront, TakesAtMost};
 ghost use Rattle.p9sync.specs.ReportText.{report_line};
-ghost use Rattle.p9sync.specs.Threads.{IsReportOf};
+ghost use Rattle.crew.specs.Threads.{IsReportOf};
 ghost use Rattle.std.specs.Io.KnownBytes.{Appends};
 ghost use Rattle.p9sync.specs.declared.args.NoTask.TheVariants as why;
 
-use crate::device::write_whole;
-use crate::gate::OpenGate;
-use crate::opts::{LEAST_SIZE, MAX_WRITES, ThreadsOpts};
 use crate::report_text::push_report;
-use crate::run::{run_pipe, run_replay};
-use crate::threads::run_threads;
 use clap::builder::ValueParser;
 use clap::error::ErrorKind;
 use clap::{Arg, ArgAction, ArgMatches, Command, Error};
+use crew::opts::{LEAST_SIZE, MAX_WRITES};
+use crew::{OpenGate, ThreadsOpts, run_threads};
+use scripts::device::write_whole;
+use scripts::{run_pipe, run_replay};
 use std::alloc::{AllocError, Global};
 use std::convert::AsStr;
 use std::io::{Read, Write};
@@ -44,6 +43,13 @@ pub const FAULT: u8 = 1;
 
 /// The status of a command line that was refused, a request for help included.
 pub const REFUSED: u8 = 2;
+
+/// Each status, by its number.
+pub fn numbers_of_the_program()
+    ensures good { GOOD ≡ 0 }
+    ensures fault { FAULT ≡ 1 }
+    ensures refused { REFUSED ≡ 2 }
+{}
 
 /// The forms of the command line.
 const USAGE: &str = "usage: p9sync pipe | replay | threads --writers W --writes K --size S";

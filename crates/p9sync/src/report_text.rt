@@ -1,9 +1,9 @@
-//! What was read by a run on threads, in words. Before this: `threads`. After it: `args`.
+//! What was read by a run on threads, in words. After this: `args`.
 ghost use Rattle.std.specs.Prelude.{◌≡◌, ◌++◌, OnOk};
 ghost use Rattle.std.specs.Fmt.{decimal};
 ghost use Rattle.p9sync.specs.ReportText.{report_line};
 
-use crate::opts::Report;
+use crew::Report;
 use std::alloc::AllocError;
 
 /// The line of a report.

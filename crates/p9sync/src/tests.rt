@@ -1,8 +1,7 @@
 //! The program on its words and its streams: what no clause says of it, and that its runs succeed.
 mod devices;
 mod longest_scripts;
-mod tallies;
-mod thread_runs;
+mod reports;
 mod worked_runs;
 
 use crate::args::run_args;

@@ -1,8 +1,8 @@
 //! Readers and writers that fail in every way, give or take little at once, or are interrupted.
 //! An interruption alone is tried again; every other failure is a device fault.
 use crate::args::run_args;
-use crate::script::MAX_SCRIPT;
 use crate::tests::repeated;
+use scripts::script::MAX_SCRIPT;
 use std::alloc::Global;
 use std::io;
 use std::io::{ErrorKind, Read, Write};

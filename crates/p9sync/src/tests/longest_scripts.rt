@@ -1,6 +1,6 @@
 //! The longest lines and scripts.
-use crate::script::{MAX_LINE, MAX_SCRIPT};
 use crate::tests::{repeated, run};
+use scripts::script::{MAX_LINE, MAX_SCRIPT};
 use std::alloc::{AllocError, Global};
 use std::test::Fail;
 

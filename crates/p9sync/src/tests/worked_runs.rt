@@ -1,6 +1,6 @@
 //! The program on its words: what each command line and each script is answered, and the status.
-use crate::run::run_replay;
 use crate::tests::{repeated, run};
+use scripts::run_replay;
 use std::alloc::{AllocError, Global};
 use std::sync::Wait;
 use std::test::Fail;

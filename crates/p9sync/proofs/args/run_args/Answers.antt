@@ -2,8 +2,8 @@
 use Rattle.std.proofs.Common.{◌≡◌, rules, map, Some}
 use Rattle.p9sync.specs.declared.args.Task.TheVariants.{Pipe, Replay}
 use Rattle.p9sync.specs.Args.{task_asked}
-use Rattle.p9sync.specs.PipeScript.{pipe_told}
-use Rattle.p9sync.specs.Schedule.{schedule_told}
+use Rattle.scripts.specs.PipeScript.{pipe_told}
+use Rattle.scripts.specs.Schedule.{schedule_told}
 use Rattle.p9sync.proofs.ArgsLemmas.{ends_as, ends_for_memory, ends_script}
 use Rattle.p9sync.proofs.args.run_args.Goals as goal
 

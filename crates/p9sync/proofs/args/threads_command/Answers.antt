@@ -5,7 +5,7 @@ use Rattle.clap.specs.Simple.{App, app_of, new_app, on_top, with_rule}
 use Rattle.clap.specs.Walk.{rule_of}
 use Rattle.clap.specs.declared.builder.command.Command.TheViews.{out-Command}
 use Rattle.sync_base.specs.declared.limits.TheConstants.{ATOMIC_SIZE, MAX_WRITERS}
-use Rattle.p9sync.specs.declared.opts.TheConstants.{LEAST_SIZE, MAX_WRITES}
+use Rattle.crew.specs.declared.opts.TheConstants.{LEAST_SIZE, MAX_WRITES}
 use Rattle.p9sync.specs.Args.{number_between}
 use Rattle.p9sync.proofs.args.threads_command.Goals as goal
 

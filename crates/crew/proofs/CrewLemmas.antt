@@ -1,0 +1,34 @@
+-- What a reader knows of a piece that it got, and of what it counted.
+use Rattle.std.proofs.Common.{◌≡◌, ℕ, ◌+◌, ◌≤◌, List, ◌++◌, length, drop, Result, Ok, ap, ◌∙◌, subst, arith, length-append}
+use Rattle.sync_base.specs.declared.fault.Fault.{Fault}
+use Rattle.block_queue.specs.declared.view.Key.{Key}
+use Rattle.pipe_dev.specs.declared.answers.ReadAnswer.{ReadAnswer}
+use Rattle.pipe_dev.specs.declared.answers.ReadAnswer.TheVariants as read
+use Rattle.pipe_dev.specs.declared.row.Row.{Row}
+use Rattle.pipe_dev.specs.ReadCalls.{Reader, Reads, part_of}
+use Rattle.crew.specs.declared.opts.ThreadsOpts.{ThreadsOpts}
+use Rattle.crew.specs.declared.tally.Tally.{Tally}
+use Rattle.crew.specs.Tally.{AreOfOneRun, IsTallyOf}
+
+-- it lies in the buffer
+got_fits : (key : Key) (row : Row) (old : Reader) (buffer : List ℕ) (count : ℕ) (new : Reader)
+    (buffer' : List ℕ) → Reads key row old buffer (Ok (read.Got count)) new buffer'
+    → count ≤ length buffer'
+got_fits key row old buffer count new buffer' reads =
+    let filled = reads.ended.filled in
+    let bytes = (part_of (length buffer) reads.ended.left).bytes in
+    omega (arith, filled.count_is, ap length filled.bytes, length-append bytes (drop count buffer))
+
+pub answer_fits : (key : Key) (row : Row) (old : Reader) (buffer : List ℕ)
+    (answer : Result ReadAnswer Fault) (count : ℕ) (new : Reader) (buffer' : List ℕ)
+    → Reads key row old buffer answer new buffer' → answer ≡ Ok (read.Got count)
+    → count ≤ length buffer'
+answer_fits key row old buffer answer count new buffer' reads is =
+    got_fits key row old buffer count new buffer'
+    (subst (λ (a : Result ReadAnswer Fault). Reads key row old buffer a new buffer') is reads)
+
+-- what counts for the same run counts by the same options
+pub still_of : (opts : ThreadsOpts) (old new : Tally) → IsTallyOf opts old → AreOfOneRun old new
+    → IsTallyOf opts new
+still_of opts old new is same =
+    record { most = same.most ∙ is.most; size = same.size ∙ is.size }

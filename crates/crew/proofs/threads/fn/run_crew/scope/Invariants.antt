@@ -1,0 +1,9 @@
+-- there is room for the handle of each writer that is left
+use Rattle.std.proofs.Common.{◌≤◌, ◌+◌, length}
+use Rattle.std.specs.Vec.{vec_capacity}
+use Rattle.std.specs.Vec.Iter.{into_iter_items}
+use Rattle.crew.proofs.threads.fn.run_crew.scope.Given as goal
+
+abbrev pub invariant-loop-writer : goal.invariant-loop-writer
+invariant-loop-writer g l =
+    length l.running.items + length (into_iter_items l.writer-iterator) ≤ vec_capacity l.running

@@ -1,0 +1,47 @@
+-- What the reader of a run on threads expects, and what it has counted.
+use Rattle.std.specs.Prelude.{◌≡◌, ◌+◌, ◌*◌, ◌<◌, ℕ, true, List, length, slice_get, slice_set, vec_len, Some}
+use Rattle.crew.specs.declared.opts.Report.{Report}
+use Rattle.crew.specs.declared.opts.ThreadsOpts.{ThreadsOpts}
+use Rattle.crew.specs.declared.tally.Tally.{Tally}
+use Rattle.crew.specs.Message.{message_of}
+
+-- The piece is, whole, the next message of its writer, each of whom has so many messages of this
+-- size: and then the one behind it is the next.
+pub record TakesNext (each size : ℕ) (old new : List ℕ) (piece : List ℕ) : Type 0 where
+  pub writer : ℕ
+  pub number : ℕ
+  pub expected : slice_get old writer ≡ Some number
+  pub within : number < each
+  pub whole : piece ≡ message_of size writer number
+  pub next : new ≡ slice_set old writer (number + 1)
+
+-- it counts what writers with these options write
+pub record IsTallyOf (opts : ThreadsOpts) (tally : Tally) : Type 0 where
+  pub most : tally.most ≡ opts.writers * opts.writes
+  pub size : vec_len tally.expected.message ≡ opts.size
+
+-- both count what the same writers write
+pub record AreOfOneRun (old new : Tally) : Type 0 where
+  pub most : new.most ≡ old.most
+  pub size : vec_len new.expected.message ≡ vec_len old.expected.message
+
+-- nothing was counted, and so nothing is out of order
+pub record IsNewTally (tally : Tally) : Type 0 where
+  pub writes : tally.writes ≡ 0
+  pub bytes : tally.bytes ≡ 0
+  pub in_order : tally.in_order ≡ true
+
+-- all was in order, and the piece is the next message of its writer, which is counted
+pub record CountsNext (old new : Tally) (piece : List ℕ) : Type 0 where
+  pub before : old.in_order ≡ true
+  pub next : TakesNext old.expected.each (vec_len old.expected.message) old.expected.next.items
+      new.expected.next.items piece
+  pub writes : new.writes ≡ old.writes + 1
+  pub bytes : new.bytes ≡ old.bytes + length piece
+
+-- the report says what was counted, of so many writers
+pub record Tells (writers : ℕ) (tally : Tally) (report : Report) : Type 0 where
+  pub writers_is : report.writers ≡ writers
+  pub writes : report.writes ≡ tally.writes
+  pub bytes : report.bytes ≡ tally.bytes
+  pub in_order : report.in_order ≡ tally.in_order

@@ -1,0 +1,24 @@
+-- What a run on threads is asked for, and what it answers.
+use Rattle.std.specs.Prelude.{◌≡◌, ◌≤◌, ◌*◌, ℕ, Bool, true}
+use Rattle.sync_base.specs.declared.limits.TheConstants.{ATOMIC_SIZE, MAX_WRITERS}
+use Rattle.crew.specs.declared.opts.TheConstants.{LEAST_SIZE, MAX_WRITES}
+use Rattle.crew.specs.declared.opts.ThreadsOpts.{ThreadsOpts}
+use Rattle.crew.specs.declared.opts.Report.{Report}
+
+-- a number lies between two others
+pub record IsBetween (least most n : ℕ) : Type 0 where
+  pub at_least : least ≤ n
+  pub at_most : n ≤ most
+
+-- what may be asked for
+pub record AreWithin (opts : ThreadsOpts) : Type 0 where
+  pub writers : IsBetween 1 MAX_WRITERS opts.writers
+  pub writes : IsBetween 1 MAX_WRITES opts.writes
+  pub size : IsBetween LEAST_SIZE ATOMIC_SIZE opts.size
+
+-- What a run with these options may report: how many writers there were, and where all was in
+-- order just the bytes of so many messages, no more than the writers have together.
+pub record IsReportOf (opts : ThreadsOpts) (report : Report) : Type 0 where
+  pub writers : report.writers ≡ opts.writers
+  pub whole : report.in_order ≡ true → report.bytes ≡ report.writes * opts.size
+  pub most : report.in_order ≡ true → report.writes ≤ opts.writers * opts.writes

@@ -1,0 +1,28 @@
+//! What a writer writes, so that a reader can tell whose it is and which. Before this: `gate`.
+//! After it: `opts`.
+
+ghost use Rattle.std.specs.Prelude.{◌≡◌, ◌≤◌, length};
+ghost use Rattle.crew.specs.Message.{message_of};
+
+/// The bytes of a message's head: its writer, and its number among that writer's.
+pub const HEAD: usize = 16;
+
+/// Fills a message: its writer and its number, each as 8 bytes with the highest first, and then
+/// bytes equal to the number's remainder by 256.
+pub fn fill(message: &mut [u8], writer: u64, number: u64)
+    requires { HEAD ≤ length message.old }
+    ensures { message.new ≡ message_of (length message.old) writer number }
+{
+    message[..8].copy_from_slice(&writer.to_be_bytes());
+    message[8..HEAD].copy_from_slice(&number.to_be_bytes());
+    message[HEAD..].fill((number % 256) as u8);
+}
+
+/// The writer that a message names.
+pub fn writer_of(message: &[u8]) -> u64
+    requires { HEAD ≤ length message.now }
+{
+    let mut head = [0; 8];
+    head.copy_from_slice(&message[..8]);
+    u64::from_be_bytes(head)
+}

@@ -1,0 +1,135 @@
+//! Many writers and one reader, each on a thread of its own, on one direction of a pipe. Before
+//! this: `crew`.
+ghost use Rattle.std.specs.Prelude.{◌≡◌, ⊤, IfOk, Err};
+ghost use Rattle.sync_base.specs.declared.fault.Fault.TheVariants.{BadArg};
+ghost use Rattle.crew.specs.Threads.{AreWithin, IsReportOf};
+
+use crate::crew::{Counted, Crew, Writer};
+use crate::gate::Gate;
+use crate::opts::{Report, ThreadsOpts};
+use pipe_dev::{Ends, Parts, Pipe};
+use sleep_wakeup::{Kernel, Started};
+use std::alloc::Global;
+use std::sync::Wait;
+use std::sync::atomic::AtomicBool;
+use std::sync::atomic::Ordering::SeqCst;
+use std::thread;
+use std::thread::{JoinHandle, Threads};
+use sync_base::Fault;
+
+/// How many writes the pipe holds that no read has begun.
+pub const LIMIT: u64 = 16;
+
+/// Runs so many writers and one reader, each on a thread of its own, on one direction of a pipe:
+/// each writer writes its messages, which are those of `message`, and the reader reads until the
+/// end. It hangs the pipe up when all writers have returned, and answers what was read. It waits.
+///
+/// Refuses, in this order, as `BadArg` outside the limits of `ThreadsOpts`, as `Memory`, and as
+/// `Device` where a thread can't be started; then all others have been joined.
+pub fn run_threads<R: Threads + Wait + Sync, G: Gate + Sync>(
+    rt: &R,
+    alloc: Global,
+    opts: ThreadsOpts,
+    gate: &G,
+) -> Result<Report, Fault>
+    // Refused first.
+    ensures bad_arg { (¬ AreWithin opts) → result ≡ Err BadArg }
+
+    // Otherwise it reports what was read.
+    ensures report { IfOk result (IsReportOf opts) }
+{
+    if !opts.is_within() {
+        return Err(Fault::BadArg);
+    }
+    let rendez = 2 * (1 + opts.writers);
+    let sleep_wakeup::Opened { kernel, start } = Kernel::new(alloc, opts.writers + 1, rendez)?;
+    let Started { mut roster, proc } = kernel.start(start);
+    let pipe_dev::Opened { pipe, start } = Pipe::new(alloc, &mut roster, LIMIT, opts.writers)?;
+    let Ends { first, second } = pipe.ends(start);
+    let Parts { read, writes: _ } = first.parts();
+    let Parts { read: _, writes } = second.parts();
+    let crew = Crew::new(alloc, &opts, roster, proc, read, writes)?;
+    run_crew(rt, alloc, opts, gate, crew)
+}
+
+// Runs each of the crew on a thread of its own, and joins them all.
+fn run_crew<'p, R: Threads + Wait + Sync, G: Gate + Sync>(
+    rt: &R,
+    alloc: Global,
+    opts: ThreadsOpts,
+    gate: &G,
+    crew: Crew<'p>,
+) -> Result<Report, Fault>
+    ensures { IfOk result (IsReportOf opts) }
+{
+    let Crew { reader, writers } = crew;
+    let called_off = AtomicBool::new(false);
+    let off = &called_off;
+    let counted = thread::scope(
+        thread::scope_env(),
+        rt,
+        move |scope| -> Result<Counted, Fault>
+            // It asks nothing of its caller.
+            ensures { ⊤ }
+        {
+            let mut running = Vec::with_capacity(alloc, writers.len())?;
+            let Ok(reading) = scope.spawn(move || reader.read_all(rt)) else {
+                return Err(Fault::Device);
+            };
+            let mut started = Ok(());
+            for writer in writers {
+                match scope.spawn(
+                    move || -> Writer
+                        ensures { result.number ≡ writer.entry.number }
+                    { write_unless(off, rt, alloc, gate, writer) },
+                ) {
+                    Ok(handle) => running.push_reserved(handle),
+                    Err(refused) => {
+                        off.store(true, SeqCst);
+                        (refused.value)().hangup();
+                        started = Err(Fault::Device);
+                        break;
+                    }
+                }
+            }
+            let wrote = join_writers(rt, running);
+            let counted = reading.join(rt);
+            started?;
+            counted.read_to_end()?;
+            wrote?;
+            Ok(counted)
+        },
+    )?;
+    counted.report(&opts)
+}
+
+// Writes, unless the run is called off.
+fn write_unless<'p, R: Wait, G: Gate>(
+    off: &AtomicBool,
+    rt: &R,
+    alloc: Global,
+    gate: &G,
+    writer: Writer<'p>,
+) -> Writer<'p>
+    ensures { result.number ≡ writer.entry.number }
+{
+    if off.load(SeqCst) {
+        return writer;
+    }
+    writer.write_all(rt, alloc, gate)
+}
+
+// Waits for all writers, and then hangs the pipe up.
+fn join_writers<'p, R: Threads>(rt: &R, running: Vec<JoinHandle<Writer<'p>>>) -> Result<(), Fault> {
+    let mut wrote = Ok(());
+    let mut last = None;
+    for handle in running {
+        let writer = handle.join(rt);
+        wrote = wrote.and(writer.wrote());
+        last = Some(writer);
+    }
+    if let Some(writer) = last {
+        writer.hangup();
+    }
+    wrote
+}

@@ -1,6 +1,0 @@
-use Rattle.p9sync.proofs.DeviceLemmas.{IsWriting}
-use Rattle.p9sync.proofs.device.write_whole.Given as goal
-
-abbrev pub invariant-loop : goal.invariant-loop
-invariant-loop g l =
-    IsWriting (g.W.Write.contents l.fn.writer) (g.W.Write.contents l.writer) l.fn.bytes l.rest

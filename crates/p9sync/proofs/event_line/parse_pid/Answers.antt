@@ -1,7 +1,0 @@
-use Rattle.std.proofs.Common.{arith}
-use Rattle.std.proofs.lemmas.Grind.{common_steps}
-use Rattle.p9sync.proofs.EventLineLemmas.{lone_pid-long}
-use Rattle.p9sync.proofs.event_line.parse_pid.Goals as goal
-
-pub returns-in-Some : goal.returns-in-Some
-returns-in-Some c = grind (arith, common_steps, lone_pid-long)

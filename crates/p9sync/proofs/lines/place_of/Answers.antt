@@ -1,6 +1,0 @@
-use Rattle.std.proofs.Common.{◌==◌}
-use Rattle.p9sync.proofs.PlaceLemmas.{first_place}
-use Rattle.p9sync.proofs.lines.place_of.Goals as goal
-
-pub returns : goal.returns
-returns c = first_place (λ b. b == c.args.byte) c.args.text.now c.memchr.result c.memchr.ensures

@@ -1,0 +1,52 @@
+-- The table of digits is the definition, and two values make the byte of two digits.
+use Rattle.std.proofs.Common.{◌≡◌, ℕ, zero, suc, ◌+◌, ◌*◌, ◌%◌, ◌<◌, ◌≤◌, ◌&&◌, Bool, true, false, cond, nat_eq, nat_lt, List, length, get_or, take, drop, Option, Some, None, unwrap_or, Result, Ok, Err, refl, ap, sym, ◌∙◌, arith, inl, inr}
+use Rattle.std.specs.Prelude.{max}
+use Rattle.std.proofs.lemmas.Bool.{cases_eq}
+use Rattle.std.proofs.lemmas.Bool.Decides.{nat_tests}
+use Rattle.hex.specs.Hex.{hex_digit_value, digit_or_error, pair_value, decode_pairs, decode_of, ◌>>=◌}
+use Rattle.hex.specs.declared.error.FromHexError.{FromHexError}
+use Rattle.hex.proofs.Pairs.{prepend, decode_step, decode_done}
+use Rattle.scripts.specs.Digits.{value_or_none}
+
+-- the table has the values of a definition below n
+unfoldable pub agree_below : List ℕ → (ℕ → ℕ) → ℕ → Bool
+agree_below table f zero = true
+agree_below table f (suc n) = nat_eq (get_or table n 0) (f n) && agree_below table f n
+
+both_of : (x y : ℕ) (rest : Bool) → (nat_eq x y && rest) ≡ true → (x ≡ y) × (rest ≡ true)
+both_of x y rest h = grind (arith, nat_tests)
+
+-- so it has each of them
+pub agree_at : (table : List ℕ) (f : ℕ → ℕ) (n : ℕ) → agree_below table f n ≡ true → (b : ℕ)
+    → b < n → get_or table b 0 ≡ f b
+unfolding agree_below
+agree_at table f zero h b lt = absurd (omega arith)
+agree_at table f (suc n) h b lt =
+    let both = both_of (get_or table n 0) (f n) (agree_below table f n) h in
+    elim (cases_eq b n) [
+      | inl same ↦ rw same both.0
+      | inr other ↦ agree_at table f n both.1 b (omega arith)
+    ]
+
+-- a byte of two values
+pair_of : (high low i : ℕ) (h l : Option ℕ) → 16 * unwrap_or h 256 + unwrap_or l 256 < 256
+    → (digit_or_error high i h
+    >>= (λ h. digit_or_error low (i + 1) l >>= (λ l. Ok (h * 16 + l))))
+    ≡ Ok ((16 * unwrap_or h 256 + unwrap_or l 256) % 256)
+pair_of high low i None l small = absurd (omega arith)
+pair_of high low i (Some h) None small = absurd (omega arith)
+pair_of high low i (Some h) (Some l) small = ap Ok (omega arith)
+
+-- two digits with a small sum are that byte
+pub pair_is : (high low i : ℕ) → 16 * value_or_none high + value_or_none low < 256
+    → pair_value high low i ≡ Ok ((16 * value_or_none high + value_or_none low) % 256)
+pair_is high low i small =
+    pair_of high low i (hex_digit_value high) (hex_digit_value low) small
+
+-- a text of an even length decodes by pairs
+pub decodes_by_pairs : (s : List ℕ) (n : ℕ) → length s ≡ 2 * n → decode_of s ≡ decode_pairs 0 s
+decodes_by_pairs s n even = grind (arith, nat_tests)
+
+-- what is below a bound with another is below it alone
+pub below_both : (a b m : ℕ) → m ≡ max a b → m < 256 → (a < 256) × (b < 256)
+below_both a b m is small = (omega (arith, is), omega (arith, is))

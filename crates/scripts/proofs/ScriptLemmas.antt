@@ -1,0 +1,301 @@
+-- What a script says, line by line.
+use Rattle.std.proofs.Common.{◌≡◌, ◌⊎◌, inl, inr, ℕ, ◌+◌, ◌-◌, ◌<◌, ◌≤◌, ◌||◌, nat_lt, min, Bool, true, false, List, [], ◌∷◌, ◌++◌, length, take, drop, Option, Some, None, refl, ap, sym, subst, ◌∙◌, append_assoc, arith}
+use Rattle.std.specs.Option.{option_map_or}
+use Rattle.std.specs.Io.KnownBytes.{Appends, Keeps}
+use Rattle.std.proofs.lemmas.List.{append-nil, take-append-drop}
+use Rattle.std.proofs.lemmas.Grind.{common_steps}
+use Rattle.std.proofs.lemmas.Bool.Decides.{nat_tests}
+use Rattle.scripts.specs.declared.lines.TheConstants.{LINE_FEED}
+use Rattle.scripts.specs.declared.script.TheConstants.{MAX_LINE, MAX_SCRIPT}
+use Rattle.scripts.specs.Lines.{lines_of, cut_line_of, BeginsWithLine}
+use Rattle.scripts.specs.Device.{AppendsFront}
+use Rattle.scripts.specs.Script.{Language, Answered, Told, Answers, fault_at, answer_then, if_fits, told, lines_told, told_from, FirstAnswered, IsStuck}
+use Rattle.scripts.proofs.DeviceLemmas.{IsWriting, appends_then, appends_nothing, appends_front}
+use Rattle.scripts.specs.ScriptLaws.{lines_text}
+use Rattle.scripts.proofs.TextLemmas.{lines_text-lines}
+use Rattle.scripts.proofs.OnePassLemmas.{begins_lines, begins_length}
+
+-- a line that is not too long is read
+if_fits_short : {A : Type 0} (read : List ℕ → Option A) (line : List ℕ) → length line ≤ MAX_LINE
+    → if_fits read line ≡ read line
+if_fits_short read line fits = grind (arith, nat_tests)
+
+-- the front of a list as a slice has it
+pub front-take : (n k : ℕ) (bs : List ℕ) → k ≡ min (length bs) n → take k bs ≡ take n bs
+front-take n k bs is_least = grind (arith, common_steps)
+
+-- what a script says is what its front says, and that bytes follow it
+pub told_front : {S : Type 0} (language : Language S) (input text : List ℕ)
+    → text ≡ take MAX_SCRIPT input
+    → lines_told language (nat_lt MAX_SCRIPT (length input) || nat_lt 0 (length (cut_line_of text)))
+    (lines_of text) ≡ told language input
+told_front language input text is_front =
+    ap (λ t. lines_told language
+    (nat_lt MAX_SCRIPT (length input) || nat_lt 0 (length (cut_line_of t))) (lines_of t))
+    is_front
+
+-- What was written, what is held back, and what the lines to come say, make what is told. The
+-- script has come to a state, and the first line to come has this number.
+pub record GoesOn {T S : Type 0} (stands : T → S → Type 0) (language : Language S)
+    (too_long : Bool) (cut : List ℕ) (said : Told) (old now : Option (List ℕ)) (t : T) (number : ℕ)
+    (held rest : List ℕ) : Type 0 where
+  pub state : S
+  pub stands_now : stands t state
+  pub cut_is : cut_line_of rest ≡ cut
+  pub writing : IsWriting old now said.output
+      (held ++ (told_from language (too_long || nat_lt 0 (length cut)) state number
+      (lines_of rest)).output)
+  pub fault : said.fault ≡ (told_from language (too_long || nat_lt 0 (length cut)) state number
+      (lines_of rest)).fault
+
+-- before the first line nothing is written, and nothing is held back
+pub goes_begin : {T S : Type 0} (stands : T → S → Type 0) (language : Language S)
+    (too_long : Bool) (old : Option (List ℕ)) (s : S) (t : T) (held lines : List ℕ) → stands t s
+    → held ≡ []
+    → GoesOn stands language too_long (cut_line_of lines)
+    (told_from language (too_long || nat_lt 0 (length (cut_line_of lines))) s 2 (lines_of lines))
+    old old t 2 held lines
+goes_begin stands language too_long old s t held lines stands_now none =
+    record {
+      state = s;
+      stands_now = stands_now;
+      cut_is = refl;
+      writing = record {
+        written = [];
+        whole = ap (λ (h : List ℕ). h ++ (told_from language
+            (too_long || nat_lt 0 (length (cut_line_of lines))) s 2 (lines_of lines)).output) none;
+        appended = appends_nothing old;
+      };
+      fault = refl;
+    }
+
+-- what the lines say where the first of them is answered
+told-answered : {S : Type 0} (language : Language S) (is_cut : Bool) (s : S) (number : ℕ)
+    (line : List ℕ) (lines : List (List ℕ)) (answered : Answered S)
+    → if_fits (language.answer_to s) line ≡ Some answered
+    → told_from language is_cut s number (line ∷ lines)
+    ≡ answer_then answered.text (told_from language is_cut answered.after (number + 1) lines)
+told-answered {S} language is_cut s number line lines answered is =
+    ap (λ (a : Option (Answered S)). option_map_or
+    (λ (answered : Answered S). answer_then answered.text
+    (told_from language is_cut answered.after (number + 1) lines)) a (fault_at number)) is
+
+-- and where it is not in the grammar
+told-refused : {S : Type 0} (language : Language S) (is_cut : Bool) (s : S) (number : ℕ)
+    (line : List ℕ) (lines : List (List ℕ)) → if_fits (language.answer_to s) line ≡ None
+    → told_from language is_cut s number (line ∷ lines) ≡ fault_at number
+told-refused {S} language is_cut s number line lines is =
+    ap (λ (a : Option (Answered S)). option_map_or
+    (λ (answered : Answered S). answer_then answered.text
+    (told_from language is_cut answered.after (number + 1) lines)) a (fault_at number)) is
+
+-- an answer is held back behind the others
+pub goes_answered : {T S : Type 0} (stands : T → S → Type 0) (language : Language S)
+    (too_long : Bool) (cut : List ℕ) (said : Told) (old now : Option (List ℕ)) (t t' : T)
+    (number : ℕ) (held rest held' rest' : List ℕ)
+    (goes : GoesOn stands language too_long cut said old now t number held rest)
+    → FirstAnswered stands language goes.state rest held t' rest' held'
+    → GoesOn stands language too_long cut said old now t' (number + 1) held' rest'
+goes_answered stands language too_long cut said old now t t' number held rest held' rest' goes
+    first =
+    let is_cut = too_long || nat_lt 0 (length cut) in
+    let more = told_from language is_cut first.answered.after (number + 1) (lines_of rest') in
+    let says : told_from language is_cut goes.state number (lines_of rest)
+    ≡ answer_then first.answered.text more =
+    ap (told_from language is_cut goes.state number) first.lines
+    ∙ told-answered language is_cut goes.state number first.line (lines_of rest')
+    first.answered first.in_grammar in
+    let same : held ++ (told_from language is_cut goes.state number (lines_of rest)).output
+    ≡ held' ++ more.output = rw (says, first.written) (simp append_assoc) in
+    record {
+      state = first.answered.after;
+      stands_now = first.stands_after;
+      cut_is = sym first.cut ∙ goes.cut_is;
+      writing = subst (IsWriting old now said.output) same goes.writing;
+      fault = goes.fault ∙ ap (λ (t : Told). t.fault) says;
+    }
+
+-- what was held back is written
+pub writes_held : (old now next : Option (List ℕ)) (bytes held more : List ℕ)
+    → IsWriting old now bytes (held ++ more) → Appends now next held
+    → IsWriting old next bytes more
+writes_held old now next bytes held more so_far appends =
+    record {
+      written = so_far.written ++ held;
+      whole = append_assoc so_far.written held more ∙ so_far.whole;
+      appended = appends_then old now next so_far.written held so_far.appended appends;
+    }
+
+pub goes_written : {T S : Type 0} (stands : T → S → Type 0) (language : Language S)
+    (too_long : Bool) (cut : List ℕ) (said : Told) (old now next : Option (List ℕ)) (t : T)
+    (number : ℕ) (held rest none : List ℕ)
+    → GoesOn stands language too_long cut said old now t number held rest
+    → Appends now next held → none ≡ []
+    → GoesOn stands language too_long cut said old next t number none rest
+goes_written stands language too_long cut said old now next t number held rest none goes appends
+    is =
+    let more = (told_from language (too_long || nat_lt 0 (length cut)) goes.state number
+    (lines_of rest)).output in
+    record {
+      state = goes.state;
+      stands_now = goes.stands_now;
+      cut_is = goes.cut_is;
+      writing = subst
+          (λ (h : List ℕ). IsWriting old next said.output (h ++ more)) (sym is)
+          (writes_held old now next said.output held more goes.writing appends);
+      fault = goes.fault;
+    }
+
+-- also where a front of what was held back was written last
+pub front_of_held : (old now next : Option (List ℕ)) (bytes held more : List ℕ)
+    → IsWriting old now bytes (held ++ more) → AppendsFront now next held
+    → AppendsFront old next bytes
+front_of_held old now next bytes held more so_far (n, appends) =
+    let whole : (so_far.written ++ take n held) ++ (drop n held ++ more) ≡ bytes =
+    append_assoc so_far.written (take n held) (drop n held ++ more)
+    ∙ (ap (λ (b : List ℕ). so_far.written ++ b)
+    (sym (append_assoc (take n held) (drop n held) more)
+    ∙ ap (λ (b : List ℕ). b ++ more) (take-append-drop n held)) ∙ so_far.whole) in
+    appends_front old next (so_far.written ++ take n held) (drop n held ++ more) bytes whole
+    (appends_then old now next so_far.written (take n held) so_far.appended appends)
+
+-- where a front of what is held back was written, it is a front of what is told
+pub goes_partly : {T S : Type 0} (stands : T → S → Type 0) (language : Language S)
+    (too_long : Bool) (cut : List ℕ) (said : Told) (old now next : Option (List ℕ)) (t : T)
+    (number : ℕ) (held rest : List ℕ)
+    → GoesOn stands language too_long cut said old now t number held rest
+    → AppendsFront now next held → AppendsFront old next said.output
+goes_partly stands language too_long cut said old now next t number held rest goes front =
+    front_of_held old now next said.output held _ goes.writing front
+
+-- a text without a whole line is cut as a whole
+no_lines-cut : (rest cut : List ℕ) → lines_of rest ≡ [] → cut_line_of rest ≡ cut → rest ≡ cut
+no_lines-cut rest cut none is =
+    sym (lines_text-lines rest)
+    ∙ (ap (λ (ls : List (List ℕ)). lines_text ls ++ cut_line_of rest) none ∙ is)
+
+-- bytes are left where there is one
+some_left : (x : ℕ) (r : List ℕ) → nat_lt 0 (length (x ∷ r)) ≡ true
+some_left x r = grind (arith, nat_tests)
+
+-- what comes behind the lines: a fault where bytes are left or the script is too long, and else the
+-- farewell
+pub goes_end : {T S : Type 0} (stands : T → S → Type 0) (language : Language S) (too_long : Bool)
+    (cut : List ℕ) (said : Told) (old now : Option (List ℕ)) (t t' : T) (number : ℕ)
+    (held rest held' : List ℕ) (b : Bool) (fault : Option ℕ)
+    (goes : GoesOn stands language too_long cut said old now t number held rest)
+    → IsStuck stands language goes.state rest t' → b ≡ (too_long || nat_lt 0 (length rest))
+    → (b ≡ true → (fault ≡ Some number) × (held' ≡ held))
+    → (b ≡ false → (s : S) → stands t' s
+    → (fault ≡ None) × (held' ≡ held ++ language.farewell s))
+    → IsWriting old now said.output (held' ++ []) × (fault ≡ said.fault)
+goes_end {T} {S} stands language too_long cut said old now t t' number held rest held' b fault
+    goes stuck is at_fault at_end = by_case b refl
+  where
+    is_cut : Bool
+    is_cut = too_long || nat_lt 0 (length cut)
+
+    joined : (last : Told)
+        → told_from language is_cut goes.state number (lines_of rest) ≡ last
+        → held' ≡ held ++ last.output → fault ≡ last.fault
+        → IsWriting old now said.output (held' ++ []) × (fault ≡ said.fault)
+    joined last says held_is fault_is = (
+      subst (IsWriting old now said.output)
+          (ap (λ (t : Told). held ++ t.output) says ∙ (sym held_is ∙ sym (append-nil held')))
+          goes.writing,
+      fault_is ∙ sym (goes.fault ∙ ap (λ (t : Told). t.fault) says),
+    )
+
+    none_left : lines_of rest ≡ [] → is_cut ≡ b
+    none_left none =
+        ap (λ (r : List ℕ). too_long || nat_lt 0 (length r))
+        (sym (no_lines-cut rest cut none goes.cut_is)) ∙ sym is
+
+    says_fault : b ≡ true → IsStuck stands language goes.state rest t'
+        → told_from language is_cut goes.state number (lines_of rest) ≡ fault_at number
+    says_fault is_true (inl none) =
+        rw (none.0, none_left none.0 ∙ is_true) refl
+    says_fault is_true (inr (line, lines, lines_is, refused)) =
+        ap (told_from language is_cut goes.state number) lines_is
+        ∙ told-refused language is_cut goes.state number line lines refused
+
+    no_long : (v : Bool) → (v || true) ≡ false → ⊥
+    no_long true h = cc
+    no_long false h = cc
+
+    no_line : (line : List ℕ) (lines : List (List ℕ)) → lines_of rest ≡ line ∷ lines
+        → b ≡ false → (r : List ℕ) → rest ≡ r → ⊥
+    no_line line lines lines_is is_false [] rest_is =
+        let none : lines_of rest ≡ [] = ap lines_of rest_is in cc
+    no_line line lines lines_is is_false (x ∷ r) rest_is =
+        let long : (too_long || true) ≡ false =
+        ap (λ (v : Bool). too_long || v) (sym (some_left x r))
+        ∙ (ap (λ (l : List ℕ). too_long || nat_lt 0 (length l)) (sym rest_is)
+        ∙ (sym is ∙ is_false)) in no_long too_long long
+
+    says_end : b ≡ false → IsStuck stands language goes.state rest t'
+        → IsWriting old now said.output (held' ++ []) × (fault ≡ said.fault)
+    says_end is_false (inl none) =
+        let ends = at_end is_false goes.state none.1 in
+        joined (record { output = language.farewell goes.state; fault = None })
+        (rw (none.0, none_left none.0 ∙ is_false) refl) ends.1 ends.0
+    says_end is_false (inr (line, lines, lines_is, refused)) =
+        absurd (no_line line lines lines_is is_false rest refl)
+
+    by_case : (v : Bool) → b ≡ v
+        → IsWriting old now said.output (held' ++ []) × (fault ≡ said.fault)
+    by_case true is_true =
+        joined (fault_at number) (says_fault is_true stuck)
+        ((at_fault is_true).1 ∙ sym (append-nil held)) (at_fault is_true).0
+    by_case false is_false = says_end is_false stuck
+
+-- a line that was split off and answered
+pub line_answered : {T S : Type 0} (stands : T → S → Type 0) (language : Language S) (s : S)
+    (text old : List ℕ) (t : T) (line rest new : List ℕ) (is_answered : Bool)
+    → lines_of text ≡ line ∷ lines_of rest → cut_line_of text ≡ cut_line_of rest
+    → length rest < length text → length line ≤ MAX_LINE
+    → Answers stands (language.answer_to s line) old is_answered t new → is_answered ≡ true
+    → FirstAnswered stands language s text old t rest new
+line_answered {T} {S} stands language s text old t line rest new is_answered lines cut shorter
+    fits answers is_true = by_answer (language.answer_to s line) refl answers
+  where
+    by_answer : (o : Option (Answered S)) → language.answer_to s line ≡ o
+        → Answers stands o old is_answered t new
+        → FirstAnswered stands language s text old t rest new
+    by_answer None is answers =
+        absurd (subst (λ v. Answers stands None old v t new) is_true answers)
+    by_answer (Some answered) is answers =
+        let both = subst (λ v. Answers stands (Some answered) old v t new) is_true answers in
+        record {
+          line = line;
+          answered = answered;
+          lines = lines;
+          cut = cut;
+          shorter = shorter;
+          in_grammar = if_fits_short (language.answer_to s) line fits ∙ is;
+          stands_after = both.0;
+          written = both.1;
+        }
+
+-- a line that was found in one pass and answered
+pub found_answered : {T S : Type 0} (stands : T → S → Type 0) (language : Language S) (s : S)
+    (text old : List ℕ) (t : T) (words : List (List ℕ)) (rest new : List ℕ)
+    (answered : Answered S) (begins : BeginsWithLine text words rest)
+    → length text - length rest ≤ MAX_LINE
+    → language.answer_to s begins.line ≡ Some answered → stands t answered.after
+    → new ≡ old ++ answered.text ++ LINE_FEED ∷ []
+    → FirstAnswered stands language s text old t rest new
+found_answered stands language s text old t words rest new answered begins near is stands_after
+    written =
+    let split = begins_lines text words rest begins in
+    let longer = begins_length text words rest begins in
+    record {
+      line = begins.line;
+      answered = answered;
+      lines = split.0;
+      cut = split.1;
+      shorter = omega (arith, longer);
+      in_grammar = if_fits_short (language.answer_to s) begins.line (omega (arith, longer)) ∙ is;
+      stands_after = stands_after;
+      written = written;
+    }

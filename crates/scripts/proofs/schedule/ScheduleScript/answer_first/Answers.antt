@@ -1,0 +1,30 @@
+use Rattle.std.proofs.Common.{◌≡◌, arith}
+use Rattle.sleep_core.specs.State.{State}
+use Rattle.scripts.specs.declared.schedule.Schedule.{Schedule}
+use Rattle.scripts.proofs.OnePassLemmas.{begins_length}
+use Rattle.std.specs.Option.{option_map}
+use Rattle.sleep_core.specs.Step.{answer_to, world_after}
+use Rattle.scripts.specs.EventText.{event_text}
+use Rattle.scripts.specs.Schedule.{schedule_language, event_of}
+use Rattle.scripts.proofs.ScriptLemmas.{found_answered}
+use Rattle.scripts.proofs.ScheduleLemmas.{event_answered}
+use Rattle.scripts.proofs.schedule.ScheduleScript.answer_first.Goals as goal
+
+pub returns-clause-answered : goal.returns-clause-answered
+returns-clause-answered c s same =
+    let found = c.in-Some.ensures in
+    found_answered (λ (schedule : Schedule) (state : State). schedule.world ≡ state)
+    schedule_language s _ _ _ found.words _ _
+    (record {
+      text = event_text (answer_to s c.in-Some.event);
+      after = world_after s c.in-Some.event;
+    })
+    found.begins c.if-text-rest-gt-MAX_LINE.false
+    (event_answered s found.begins.line found.words c.in-Some.event found.begins.words_are found.asks)
+    (rw (← same) c.answer_event.ensures.after)
+    (rw (← same) c.in_ok-answer_event.ensures.text)
+
+pub returns-clause-shorter : goal.returns-clause-shorter
+returns-clause-shorter c =
+    let found = c.in-Some.ensures in
+    omega (arith, begins_length _ found.words _ found.begins)

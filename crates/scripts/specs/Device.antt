@@ -1,0 +1,74 @@
+-- What a run takes from its reader and gives to its writer, where these tell their bytes.
+use Rattle.std.specs.Prelude.{◌≡◌, ◌≤◌, ◌<◌, ◌+◌, ◌++◌, ◌⊎◌, ℕ, List, length, take, Option, None, Some, Result, Ok, Err}
+use Rattle.std.specs.Prelude.{IfSome, IfErr}
+use Rattle.std.specs.Io.KnownBytes.{Appends, Consumes, IsAtEnd, Keeps}
+use Rattle.sync_base.specs.declared.fault.Fault.{Fault}
+use Rattle.sync_base.specs.declared.fault.Fault.TheVariants.{Memory, Script, Device}
+use Rattle.scripts.specs.declared.script.TheConstants.{MAX_SCRIPT}
+use Rattle.scripts.specs.Script.{Told}
+
+-- at most this many bytes were taken
+abbrev pub TakesAtMost : ℕ → Option (List ℕ) → Option (List ℕ) → Type 0
+TakesAtMost most old new = (taken : List ℕ) × Consumes old new taken × (length taken ≤ most)
+
+-- the input is these bytes that were taken: so many, or all that there were
+pub record TakesUpTo (most : ℕ) (old new : Option (List ℕ)) (input : List ℕ) : Type 0 where
+  pub taken : Consumes old new input
+  pub within : length input ≤ most
+  pub most_or_all : (length input ≡ most) ⊎ IsAtEnd new
+
+-- a script was read whole, or so much of it as tells that it is too long
+abbrev pub TakesScript : Option (List ℕ) → Option (List ℕ) → Type 0
+TakesScript old new = (input : List ℕ) × TakesUpTo (MAX_SCRIPT + 1) old new input
+
+-- a read of at most so many bytes gave the first n of its room, and none only at the end or where
+-- none were asked for
+pub record GivesSome (most : ℕ) (old new : Option (List ℕ)) (n : ℕ) (room : List ℕ) : Type 0 where
+  pub taken : Consumes old new (take n room)
+  pub within : n ≤ most
+  pub end : n ≡ 0 → 0 < most → IsAtEnd new
+
+-- a read of at most so many bytes put n of them behind what was there before, and none only at the
+-- end or where none were asked for
+pub record GivesBehind (most : ℕ) (old new : Option (List ℕ)) (n : ℕ) (before after : List ℕ)
+    : Type 0 where
+  pub bytes : List ℕ
+  pub taken : Consumes old new bytes
+  pub behind : after ≡ before ++ bytes
+  pub counted : length bytes ≡ n
+  pub within : n ≤ most
+  pub end : n ≡ 0 → 0 < most → IsAtEnd new
+
+-- a front of these bytes was written
+abbrev pub AppendsFront : Option (List ℕ) → Option (List ℕ) → List ℕ → Type 0
+AppendsFront old new bytes = (n : ℕ) × Appends old new (take n bytes)
+
+-- What is told was written, and this is its fault. Where that failed, a front of it was written.
+abbrev pub Tells : Told → Option (List ℕ) → Option (List ℕ) → Result (Option ℕ) Fault → Type 0
+Tells told old new (Ok faulty_line) = (faulty_line ≡ told.fault) × Appends old new told.output
+Tells told old new (Err fault) = AppendsFront old new told.output
+
+-- a run that ended so wrote this of what a script says
+abbrev pub WritesTold : Told → Option (List ℕ) → Option (List ℕ) → Result (Unit {0}) Fault → Type 0
+WritesTold told old new (Ok done) = (told.fault ≡ None) × Appends old new told.output
+WritesTold told old new (Err (Script line)) = (told.fault ≡ Some line) × Appends old new told.output
+WritesTold told old new (Err fault) = AppendsFront old new told.output
+
+-- memory was refused, or the reader or the writer failed
+abbrev pub IsOutside : Fault → Type 0
+IsOutside fault = (fault ≡ Memory) ⊎ (fault ≡ Device)
+
+-- the faults of a run
+abbrev pub IsRunFault : Fault → Type 0
+IsRunFault (Script line) = Unit {0}
+IsRunFault fault = IsOutside fault
+
+-- A run that says this of its input ended so. No more is read than what tells that a script is too
+-- long, and nothing is written before; what is written is what the input says, and the fault is the
+-- one that it names.
+pub record Runs (says : List ℕ → Told) (unread left held written : Option (List ℕ))
+    (result : Result (Unit {0}) Fault) : Type 0 where
+  pub at_most : TakesAtMost (MAX_SCRIPT + 1) unread left
+  pub reads_first : Keeps held written ⊎ TakesScript unread left
+  pub told : IfSome unread (λ input. WritesTold (says input) held written result)
+  pub faults : IfErr result IsRunFault

@@ -1,0 +1,11 @@
+pub mod AnswerText
+pub mod Device
+pub mod Digits
+pub mod EventText
+pub mod Lines
+pub mod PipeLine
+pub mod PipeScript
+pub mod Schedule
+pub mod Script
+pub mod ScriptLaws
+pub mod TextLaws

@@ -1,0 +1,125 @@
+-- What a script says, whichever its language: its lines are answered in order, up to the first
+-- that is not in the grammar.
+use Rattle.std.specs.Prelude.{◌≡◌, ◌⊎◌, ◌||◌, ◌<◌, ℕ, ◌+◌, nat_lt, nat_le, Bool, true, false, if◌then◌else◌, List, [], ◌∷◌, ◌++◌, length, take, Option, None, Some}
+use Rattle.std.specs.Option.{option_map_or}
+use Rattle.std.specs.Borrow.{Bor}
+use Rattle.scripts.specs.declared.lines.TheConstants.{LINE_FEED}
+use Rattle.scripts.specs.declared.script.TheConstants.{MAX_LINE, MAX_SCRIPT}
+use Rattle.scripts.specs.Lines.{lines_of, cut_line_of}
+
+-- the answer to a line, without its line end, and the state after it
+pub record Answered (S : Type 0) : Type 0 where
+  pub text : List ℕ
+  pub after : S
+
+-- A language of scripts over a state. `None` is given for a line that is not in its grammar.
+pub record Language (S : Type 0) : Type 0 where
+  pub opened_by : List ℕ → Option S  -- the state that the first line opens
+  pub answer_to : S → List ℕ → Option (Answered S)  -- what each other line does
+  pub farewell : S → List ℕ  -- what is written after the last line
+
+-- what a script writes, and the first line that is not in the grammar, counted from 1
+pub record Told : Type 0 where
+  pub output : List ℕ
+  pub fault : Option ℕ
+
+-- nothing is written, and the line with this number is at fault
+abbrev pub fault_at : ℕ → Told
+fault_at number = record { output = []; fault = Some number }
+
+-- an answer with its line end, before what the other lines say
+abbrev pub answer_then : List ℕ → Told → Told
+answer_then text told = record { output = text ++ LINE_FEED ∷ told.output; fault = told.fault }
+
+-- what a line gives, where it is not too long
+abbrev pub if_fits : {A : Type 0} → (List ℕ → Option A) → List ℕ → Option A
+if_fits read line = if nat_le (length line) MAX_LINE then read line else None
+
+-- what these lines say, from a state; the first of them has this number. Behind them the script
+-- ends, or a line that
+-- is cut or stands too far behind.
+abbrev pub told_from : {S : Type 0} → Language S → Bool → S → ℕ → List (List ℕ) → Told
+told_from {S} language is_cut s number [] =
+    if is_cut then fault_at number else record { output = language.farewell s; fault = None }
+told_from {S} language is_cut s number (line ∷ lines) =
+    option_map_or
+    (λ (answered : Answered S). answer_then answered.text
+    (told_from language is_cut answered.after (number + 1) lines))
+    (if_fits (language.answer_to s) line)
+    (fault_at number)
+
+-- what a script of these lines says
+abbrev pub lines_told : {S : Type 0} → Language S → Bool → List (List ℕ) → Told
+lines_told language is_cut [] = fault_at 1
+lines_told language is_cut (line ∷ lines) =
+    option_map_or (λ s. told_from language is_cut s 2 lines) (if_fits language.opened_by line)
+    (fault_at 1)
+
+-- whether bytes follow the last whole line of the text, or follow the text
+abbrev pub is_cut_off : List ℕ → Bool
+is_cut_off input =
+    nat_lt MAX_SCRIPT (length input) || nat_lt 0 (length (cut_line_of (take MAX_SCRIPT input)))
+
+-- what a script says, as a function of its bytes
+abbrev pub told : {S : Type 0} → Language S → List ℕ → Told
+told language input = lines_told language (is_cut_off input) (lines_of (take MAX_SCRIPT input))
+
+-- What a program that follows a language keeps of a state, by its own lights: T stands for S where
+-- `stands` says so.
+
+-- the line opened this, by what the language says
+abbrev pub Opens : {T S : Type 0} → (T → S → Type 0) → Option S → Option T → Type 0
+Opens stands None None = Unit {0}
+Opens stands (Some s) (Some t) = stands t s
+Opens stands None (Some t) = ⊥
+Opens stands (Some s) None = ⊥
+
+-- the line was answered behind what was written before, or it is not in the grammar and nothing
+-- was written
+abbrev pub Answers : {T S : Type 0} → (T → S → Type 0) → Option (Answered S) → List ℕ → Bool → T
+    → List ℕ → Type 0
+Answers stands (Some answered) old true t new =
+    stands t answered.after × (new ≡ old ++ answered.text ++ LINE_FEED ∷ [])
+Answers stands None old false t new = new ≡ old
+Answers stands (Some answered) old false t new = ⊥
+Answers stands None old true t new = ⊥
+
+-- The text begins with a line that was answered behind what was written before, and goes on with
+-- the rest.
+pub record FirstAnswered {T S : Type 0} (stands : T → S → Type 0) (language : Language S) (s : S)
+    (text old : List ℕ) (t : T) (rest new : List ℕ) : Type 0 where
+  pub line : List ℕ
+  pub answered : Answered S
+  pub lines : lines_of text ≡ line ∷ lines_of rest
+  pub cut : cut_line_of text ≡ cut_line_of rest
+  pub shorter : length rest < length text
+  pub in_grammar : if_fits (language.answer_to s) line ≡ Some answered
+  pub stands_after : stands t answered.after
+  pub written : new ≡ old ++ answered.text ++ LINE_FEED ∷ []
+
+-- the first line of the text was answered, or nothing was done
+abbrev pub AnswersFirst : {T S : Type 0} → (T → S → Type 0) → Language S → S → List ℕ → List ℕ
+    → Option (Bor (List ℕ)) → T → List ℕ → Type 0
+AnswersFirst stands language s text old (Some rest) t new =
+    FirstAnswered stands language s text old t rest.now new
+AnswersFirst stands language s text old None t new = stands t s × (new ≡ old)
+
+-- the text has no whole line, or its first one is not in the grammar
+abbrev pub IsStuck : {T S : Type 0} → (T → S → Type 0) → Language S → S → List ℕ → T → Type 0
+IsStuck stands language s text t =
+    ((lines_of text ≡ []) × stands t s)
+    ⊎ ((line : List ℕ) × (lines : List (List ℕ)) × (lines_of text ≡ line ∷ lines)
+    × (if_fits (language.answer_to s) line ≡ None))
+
+-- the first line of the text was answered, or there is none that could be
+abbrev pub AnswersNext : {T S : Type 0} → (T → S → Type 0) → Language S → S → List ℕ → List ℕ
+    → Option (Bor (List ℕ)) → T → List ℕ → Type 0
+AnswersNext stands language s text old (Some rest) t new =
+    FirstAnswered stands language s text old t rest.now new
+AnswersNext stands language s text old None t new =
+    IsStuck stands language s text t × (new ≡ old)
+
+-- what follows a line is shorter than the text
+abbrev pub IsShorter : Option (Bor (List ℕ)) → List ℕ → Type 0
+IsShorter (Some rest) text = length rest.now < length text
+IsShorter None text = Unit {0}

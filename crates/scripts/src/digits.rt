@@ -1,0 +1,49 @@
+//! Bytes from hexadecimal digits by a table. After this: `pipe_line`.
+ghost use Rattle.std.specs.Prelude.{◌≡◌, ◌*◌, length, Ok, IsTrue};
+ghost use Rattle.hex.specs.Hex.{decode_of};
+ghost use Rattle.scripts.specs.Digits.{value_or_none};
+
+/// No digit has this value.
+const NONE: u16 = 256;
+
+/// Of each byte its value as a digit of either case, or `NONE`.
+static VALUES: [u16; 256] = [
+    256, 256, 256, 256, 256, 256, 256, 256, 256, 256, 256, 256, 256, 256, 256, 256, 256, 256, 256,
+    256, 256, 256, 256, 256, 256, 256, 256, 256, 256, 256, 256, 256, 256, 256, 256, 256, 256, 256,
+    256, 256, 256, 256, 256, 256, 256, 256, 256, 256, 0, 1, 2, 3, 4, 5, 6, 7, 8, 9, 256, 256, 256,
+    256, 256, 256, 256, 10, 11, 12, 13, 14, 15, 256, 256, 256, 256, 256, 256, 256, 256, 256, 256,
+    256, 256, 256, 256, 256, 256, 256, 256, 256, 256, 256, 256, 256, 256, 256, 256, 10, 11, 12, 13,
+    14, 15, 256, 256, 256, 256, 256, 256, 256, 256, 256, 256, 256, 256, 256, 256, 256, 256, 256,
+    256, 256, 256, 256, 256, 256, 256, 256, 256, 256, 256, 256, 256, 256, 256, 256, 256, 256, 256,
+    256, 256, 256, 256, 256, 256, 256, 256, 256, 256, 256, 256, 256, 256, 256, 256, 256, 256, 256,
+    256, 256, 256, 256, 256, 256, 256, 256, 256, 256, 256, 256, 256, 256, 256, 256, 256, 256, 256,
+    256, 256, 256, 256, 256, 256, 256, 256, 256, 256, 256, 256, 256, 256, 256, 256, 256, 256, 256,
+    256, 256, 256, 256, 256, 256, 256, 256, 256, 256, 256, 256, 256, 256, 256, 256, 256, 256, 256,
+    256, 256, 256, 256, 256, 256, 256, 256, 256, 256, 256, 256, 256, 256, 256, 256, 256, 256, 256,
+    256, 256, 256, 256, 256, 256, 256, 256, 256, 256, 256, 256, 256, 256, 256, 256, 256, 256, 256,
+    256, 256, 256,
+];
+
+/// Puts the bytes of these digits into the room; false where one is no digit. The crate `hex`
+/// branches on the class of each digit, which is guessed wrong one time in three; a table has no
+/// branch, and a digit that is none is found behind the loop, by the greatest sum.
+pub fn decode(digits: &[u8], room: &mut [u8]) -> bool
+    requires { length digits.now ≡ 2 * length room.old }
+    ensures { IsTrue result → decode_of digits.now ≡ Ok room.new }
+{
+    let mut greatest = 0u16;
+    for i in 0..room.len() {
+        let sum = 16 * value_of(digits[2 * i]) + value_of(digits[2 * i + 1]);
+        greatest = greatest.max(sum);
+        room[i] = (sum % 256) as u8;
+    }
+    greatest < NONE
+}
+
+/// The value of a byte as a digit, or `NONE`.
+#[inline(always)]
+fn value_of(digit: u8) -> u16
+    ensures { result ≡ value_or_none digit }
+{
+    VALUES[digit as usize]
+}

@@ -1,0 +1,144 @@
+//! The lines, words and numbers of a script. After this: `script`, which answers the lines.
+ghost use Rattle.std.specs.Prelude.{◌≡◌, false, ◌==◌, ◌∷◌, ◌+◌, ◌<◌, [], length, position, MatchOption, IfSome};
+ghost use Rattle.std.specs.Char.{is_ascii_digit};
+ghost use Rattle.scripts.specs.Lines.{BeginsWithNumber, LeadingDigits, lines_of, cut_line_of, parts_of, parts_behind, words_of, words_behind, number_of, number_within, value_of};
+
+use memchr::memchr;
+
+/// The byte that ends a line.
+pub const LINE_FEED: u8 = b'\n';
+
+/// The byte between two words.
+pub const SPACE: u8 = b' ';
+
+/// The byte between two kinds of notes.
+pub const COMMA: u8 = b',';
+
+/// The digit 0.
+pub const ZERO: u8 = b'0';
+
+/// Where the byte first stands. The crate looks at 32 bytes at once.
+fn place_of(byte: u8, text: &[u8]) -> Option<usize>
+    ensures { result ≡ position (λ b. b == byte) text.now }
+{
+    memchr(byte, text)
+}
+
+/// The first line, without its line feed, and what follows; `None` where there is no line feed.
+pub fn next_line(text: &[u8]) -> Option<(&[u8], &[u8])>
+    ensures lines { MatchOption result (lines_of text.now ≡ [])
+        (λ split. lines_of text.now ≡ split.0.now ∷ lines_of split.1.now) }
+    ensures cut { MatchOption result (cut_line_of text.now ≡ text.now)
+        (λ split. cut_line_of text.now ≡ cut_line_of split.1.now) }
+    ensures shorter { IfSome result (λ split. length split.1.now < length text.now) }
+{
+    match place_of(LINE_FEED, text) {
+        None => None,
+        Some(end) => Some((&text[..end], &text[end + 1..])),
+    }
+}
+
+/// The first word, and what follows the space behind it; `None` follows the last word.
+pub fn next_word(text: &[u8]) -> (&[u8], Option<&[u8]>)
+    ensures { words_of text.now ≡ result.0.now ∷ words_behind result.1 }
+{
+    next_part(SPACE, text)
+}
+
+/// The part before the first such byte, and what follows that; `None` follows the last part.
+pub fn next_part(parting: u8, text: &[u8]) -> (&[u8], Option<&[u8]>)
+    ensures part { parts_of (λ b. b == parting) text.now
+        ≡ result.0.now ∷ parts_behind (λ b. b == parting) result.1 }
+    ensures shorter { IfSome result.1 (λ rest. length rest.now < length text.now) }
+{
+    match place_of(parting, text) {
+        None => (text, None),
+        Some(end) => (&text[..end], Some(&text[end + 1..])),
+    }
+}
+
+/// The number below 2^64 that a word spells, with no zero in front but for the number 0.
+pub fn number(word: &[u8]) -> Option<u64>
+    ensures { result ≡ number_of word.now }
+{
+    match word {
+        [] | [ZERO, _, ..] => None,
+        _ => value(word),
+    }
+}
+
+/// That number, where it is in a range.
+pub fn bounded_number(word: &[u8], least: u64, most: u64) -> Option<u64>
+    ensures { result ≡ number_within least most word.now }
+{
+    number(word).filter(|n| least <= *n && *n <= most)
+}
+
+/// The number below 2^64 that digits spell.
+fn value(digits: &[u8]) -> Option<u64>
+    ensures { result ≡ value_of digits.now }
+{
+    let mut n = 0u64;
+    for digit in digits {
+        if !digit.is_ascii_digit() {
+            return None;
+        }
+        n = n.checked_mul(10)?.checked_add(u64::from(digit - ZERO))?;
+    }
+    Some(n)
+}
+
+/// The number that a text begins with, before this byte, and what follows that byte. One pass over
+/// the digits finds their end too, where `next_word` and then `number` read each digit twice.
+#[inline(always)]
+pub fn number_before(end: u8, text: &[u8]) -> Option<(u64, &[u8])>
+    requires { is_ascii_digit end ≡ false }
+    ensures { IfSome result (λ found.
+        BeginsWithNumber end text.now found.0 found.1.now) }
+{
+    let (n, count) = leading_number(text)?;
+    match &text[..count] {
+        [] | [ZERO, _, ..] => return None,
+        _ => {}
+    }
+    if count == text.len() || text[count] != end {
+        return None;
+    }
+    Some((n, &text[count + 1..]))
+}
+
+/// The number that the first digits of a text spell, and how many they are.
+#[inline(always)]
+fn leading_number(text: &[u8]) -> Option<(u64, usize)>
+    ensures { IfSome result (λ found. LeadingDigits text.now found.0 found.1) }
+{
+    let mut n = 0u64;
+    let mut count = 0;
+    // Nineteen digits fit, whichever they are, so that they are not tested one by one.
+    let short = text.len().min(19);
+    'short: while count < short {
+        // Most numbers end here, so that what stands behind them is looked at once.
+        if !text[count].is_ascii_digit() {
+            return Some((n, count));
+        }
+        n = 10 * n + u64::from(text[count] - ZERO);
+        count += 1;
+    }
+    long_number(text, n, count)
+}
+
+/// The same of a text of which so many digits are passed, which spell this number.
+fn long_number(text: &[u8], front: u64, passed: usize) -> Option<(u64, usize)>
+    requires { LeadingDigits text.now front passed }
+    ensures { IfSome result (λ found. LeadingDigits text.now found.0 found.1) }
+{
+    let mut n = front;
+    let mut count = passed;
+    'long: while count < text.len() && text[count].is_ascii_digit() {
+        n = n
+            .checked_mul(10)?
+            .checked_add(u64::from(text[count] - ZERO))?;
+        count += 1;
+    }
+    Some((n, count))
+}

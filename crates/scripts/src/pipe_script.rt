@@ -1,0 +1,118 @@
+//! Scripts of pipe operations, over a pipe for one thread. Before this: `pipe_line`, `answer_text`
+//! and `script`. After it: `run`.
+ghost use Rattle.std.specs.Prelude.{◌≡◌, OnOk};
+ghost use Rattle.sync_base.specs.Pipe.{PipeState};
+ghost use Rattle.sync_base.specs.PlainPipe.{Shows};
+ghost use Rattle.scripts.specs.PipeScript.{pipe_language, answered, Writes, Reads};
+ghost use Rattle.scripts.specs.PipeLine.{IsAnswered, asked_by};
+
+use crate::answer_text::{push_read_answer, push_write_answer};
+use crate::pipe_line::{PipeOp, limit, op_at};
+use crate::script::{MAX_LINE, Script};
+use std::alloc::{AllocError, Global};
+use sync_base::{Fault, PlainPipe};
+
+/// A pipe script while it runs.
+#[derive(Drop)]
+pub struct PipeScript {
+    pipe: PlainPipe,
+    /// Room for the bytes of a write.
+    room: Vec<u8>,
+    /// Room for the bytes of the longest line, for the quick way: it is zeroed once.
+    decoded: Vec<u8>,
+}
+
+impl Script for PipeScript {
+    ghost State = { PipeState };
+
+    ghost language = { pipe_language };
+
+    ghost stands_for = { λ script s. Shows script.pipe s };
+
+    fn open(alloc: Global, line: &[u8]) -> Result<Option<Self>, AllocError> {
+        let Some(limit) = limit(line) else {
+            return Ok(None);
+        };
+        let Ok(pipe) = PlainPipe::new(alloc, limit) else {
+            return Err(AllocError);
+        };
+        let room = Vec::new(alloc);
+        let decoded = vec![in alloc; 0u8; MAX_LINE / 2]?;
+        Ok(Some(PipeScript {
+            pipe,
+            room,
+            decoded,
+        }))
+    }
+
+    fn answer(&mut self, line: &[u8], output: &mut Vec<u8>) -> Result<bool, AllocError> {
+        let Some(op) = PipeOp::parse(line, &mut self.room)? else {
+            return Ok(false);
+        };
+        answer_op(&mut self.pipe, op, output)?;
+        Ok(true)
+    }
+
+    fn answer_first<'t>(
+        &mut self,
+        text: &'t [u8],
+        output: &mut Vec<u8>,
+    ) -> Result<Option<&'t [u8]>, AllocError> {
+        let Some((op, rest)) = op_at(text, self.decoded.as_mut_slice()) else {
+            return Ok(None);
+        };
+        if text.len() - rest.len() > MAX_LINE {
+            return Ok(None);
+        }
+        answer_op(&mut self.pipe, op, output)?;
+        Ok(Some(rest))
+    }
+
+    fn farewell(&self, _output: &mut Vec<u8>) -> Result<(), AllocError> {
+        Ok(())
+    }
+}
+
+/// Does what a line asks for, and writes the answer.
+fn answer_op(pipe: &mut PlainPipe, op: PipeOp<'_>, output: &mut Vec<u8>) -> Result<(), AllocError>
+    ensures { (s : PipeState) → Shows pipe.old s → OnOk result
+        (IsAnswered (answered s (asked_by op.entry)) pipe.new output.old.items output.new.items) }
+{
+    match op {
+        PipeOp::Write { writer, bytes } => answer_write(pipe, writer, bytes, output),
+        PipeOp::Read { most } => answer_read(pipe, most, output),
+        PipeOp::Hangup => {
+            pipe.hangup();
+            output.extend_from_slice(b"ok\n")
+        }
+    }
+}
+
+fn answer_write(
+    pipe: &mut PlainPipe,
+    writer: u64,
+    bytes: &[u8],
+    output: &mut Vec<u8>,
+) -> Result<(), AllocError>
+    ensures { (s : PipeState) → Shows pipe.old s → OnOk result
+        (IsAnswered (answered s (Writes writer bytes.now))
+        pipe.new output.old.items output.new.items) }
+{
+    match pipe.write(writer, bytes) {
+        Ok(answer) => push_write_answer(output, answer),
+        Err(Fault::TooBig) => output.extend_from_slice(b"too big\n"),
+        Err(_) => Err(AllocError),
+    }
+}
+
+fn answer_read(pipe: &mut PlainPipe, most: u64, output: &mut Vec<u8>) -> Result<(), AllocError>
+    ensures { (s : PipeState) → Shows pipe.old s → OnOk result
+        (IsAnswered (answered s (Reads most)) pipe.new output.old.items output.new.items) }
+{
+    match pipe.peek(most) {
+        Ok(answer) => push_read_answer(output, answer)?,
+        Err(_) => return output.extend_from_slice(b"bad count\n"),
+    }
+    pipe.pass(most);
+    Ok(())
+}

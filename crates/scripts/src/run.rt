@@ -1,0 +1,82 @@
+//! A run: a script is read whole, its lines are answered, and the answers are written. Before this:
+//! `device`, `pipe_script` and `schedule`.
+ghost use Rattle.std.specs.Prelude.{◌≡◌, IfErr};
+ghost use Rattle.scripts.specs.Device.{IsRunFault, Runs, WritesTold};
+ghost use Rattle.scripts.specs.PipeScript.{pipe_told};
+ghost use Rattle.scripts.specs.Schedule.{schedule_told};
+ghost use Rattle.scripts.specs.Script.{told};
+
+use crate::device::read_script;
+use crate::pipe_script::PipeScript;
+use crate::schedule::Schedule;
+use crate::script::{Script, tell};
+use std::alloc::Global;
+use std::io::{Read, Write};
+use sync_base::Fault;
+
+/// Runs a pipe script: reads it whole, and then writes the answers to its lines. The page
+/// `docs/SCRIPTS.md` says what a pipe script is and what its lines are answered.
+///
+/// Device: the reader failed, and then nothing was written; or the writer failed, and then a prefix
+/// of the answers was. Memory: the same. Script: the line that is not in the grammar, and then the
+/// answers of the lines before it were written.
+pub fn run_pipe<R: Read, W: Write>(
+    alloc: Global,
+    reader: &mut R,
+    writer: &mut W,
+) -> Result<(), Fault>
+    ensures { Runs pipe_told (R.remaining reader.old) (R.remaining reader.new)
+        (W.contents writer.old) (W.contents writer.new) result }
+{
+    run_script::<PipeScript, R, W>(alloc, reader, writer)
+}
+
+/// Runs a schedule: reads it whole, and then writes the answers to its events and whether a wakeup
+/// was lost. The page `docs/SCRIPTS.md` says what a schedule is and what its lines are answered.
+///
+/// Device: the reader failed, and then nothing was written; or the writer failed, and then a prefix
+/// of the answers was. Memory: the same. Script: the line that is not in the grammar, and then the
+/// answers of the lines before it were written, and no last line.
+pub fn run_replay<R: Read, W: Write>(
+    alloc: Global,
+    reader: &mut R,
+    writer: &mut W,
+) -> Result<(), Fault>
+    ensures { Runs schedule_told (R.remaining reader.old) (R.remaining reader.new)
+        (W.contents writer.old) (W.contents writer.new) result }
+{
+    run_script::<Schedule, R, W>(alloc, reader, writer)
+}
+
+/// Runs a script of any language: reads it whole, and then writes the answers to its lines. What it
+/// writes is what the script says, up to its first line that is not in the grammar.
+///
+/// Device: the reader failed, and then nothing was written; or the writer failed, and then a prefix
+/// of the answers was. Memory: the same. Script: the line that is not in the grammar.
+pub fn run_script<S: Script, R: Read, W: Write>(
+    alloc: Global,
+    reader: &mut R,
+    writer: &mut W,
+) -> Result<(), Fault>
+    ensures { Runs (told S.language) (R.remaining reader.old) (R.remaining reader.new)
+        (W.contents writer.old) (W.contents writer.new) result }
+{
+    let input = read_script(alloc, reader)?;
+    write_answers::<S, W>(alloc, &input, writer)
+}
+
+/// Writes what a script of these bytes says.
+fn write_answers<S: Script, W: Write>(
+    alloc: Global,
+    input: &[u8],
+    writer: &mut W,
+) -> Result<(), Fault>
+    ensures told { WritesTold (told S.language input.now)
+        (W.contents writer.old) (W.contents writer.new) result }
+    ensures faults { IfErr result IsRunFault }
+{
+    match tell::<S, W>(alloc, input, writer)? {
+        None => Ok(()),
+        Some(line) => Err(Fault::Script(line)),
+    }
+}

@@ -1,0 +1,211 @@
+//! Scripts of any language: their lines are answered in order, up to the first that is not in the
+//! grammar. Before this: `lines` and `device`. After it: `run`.
+ghost use Rattle.std.specs.Prelude.{◌≡◌, true, false, Some, None, ◌≤◌, ◌||◌, ◌++◌, ℕ, List, length, nat_lt, IfOk, IfErr, OnOk};
+ghost use Rattle.scripts.specs.Lines.{lines_of, cut_line_of};
+ghost use Rattle.scripts.specs.Device.{Tells, IsOutside};
+ghost use Rattle.scripts.specs.Script.{Language, Opens, Answers, AnswersFirst, AnswersNext, IsShorter, if_fits, told, lines_told, told_from};
+
+use crate::device::write_whole;
+use crate::lines::next_line;
+use std::alloc::{AllocError, Global};
+use std::io::Write;
+use sync_base::Fault;
+
+/// The most bytes of a line, its line feed not counted.
+pub const MAX_LINE: usize = 200_000;
+
+/// The most bytes of a script, line feeds counted.
+pub const MAX_SCRIPT: usize = 16_777_216;
+
+/// A script while it runs. Its language says what each line does to a state.
+pub trait Script: Drop + Sized {
+    /// What the language follows from line to line.
+    ghost State: { Type 0 };
+
+    /// The language of these scripts.
+    ghost language: { Language State };
+
+    /// Whether the script has come to this state.
+    ghost stands_for: { Self → State → Type 0 };
+
+    /// The script that the first line opens, or nothing where that line is not in the grammar.
+    fn open(alloc: Global, line: &[u8]) -> Result<Option<Self>, AllocError>
+        ensures { IfOk result (Opens stands_for (language.opened_by line.now)) };
+
+    /// Writes the answer to a line and its line feed, or answers false where that line is not in
+    /// the grammar.
+    fn answer(&mut self, line: &[u8], output: &mut Vec<u8>) -> Result<bool, AllocError>
+        ensures { (s : State) → stands_for self.old s → IfOk result (λ is_answered.
+            Answers stands_for (language.answer_to s line.now)
+            output.old.items is_answered self.new output.new.items) };
+
+    /// The quick way: answers the first line of a text in one pass, and gives what follows that
+    /// line. Where it gives nothing it has done nothing, and the line goes the way of `answer`.
+    fn answer_first<'t>(
+        &mut self,
+        text: &'t [u8],
+        output: &mut Vec<u8>,
+    ) -> Result<Option<&'t [u8]>, AllocError>
+        ensures answered { (s : State) → stands_for self.old s → IfOk result (λ rest.
+            AnswersFirst stands_for language s text.now output.old.items
+            rest self.new output.new.items) }
+        ensures shorter { IfOk result (λ rest. IsShorter rest text.now) };
+
+    /// Writes what comes behind the answer to the last line.
+    fn farewell(&self, output: &mut Vec<u8>) -> Result<(), AllocError>
+        ensures { (s : State) → stands_for self.now s →
+            OnOk result (output.new.items ≡ output.old.items ++ language.farewell s) };
+}
+
+/// How many bytes of answers are held back before they are written. So few stay in the cache, and
+/// their memory is taken once.
+const PIECE: usize = 65_536;
+
+/// Room for a piece and the longest answer behind it, which gives 8,192 bytes in digits.
+const ROOM: usize = PIECE + 16_389;
+
+/// Writes what a script says, of which at most one byte more than it may have is looked at. It
+/// gives the first line that is not in the grammar.
+///
+/// Memory, Device: a front of it was written.
+pub fn tell<S: Script, W: Write>(
+    alloc: Global,
+    input: &[u8],
+    writer: &mut W,
+) -> Result<Option<u64>, Fault>
+    ensures told { Tells (told S.language input.now)
+        (W.contents writer.old) (W.contents writer.new) result }
+    ensures outside { IfErr result IsOutside }
+{
+    let text = &input[..input.len().min(MAX_SCRIPT)];
+    tell_text::<S, W>(alloc, text, input.len() > MAX_SCRIPT, writer)
+}
+
+/// Writes what the lines of a text say. Where the script is too long, the text is the front of it.
+fn tell_text<S: Script, W: Write>(
+    alloc: Global,
+    text: &[u8],
+    is_too_long: bool,
+    writer: &mut W,
+) -> Result<Option<u64>, Fault>
+    requires { length text.now ≤ MAX_SCRIPT }
+    ensures told { Tells (lines_told S.language
+        (is_too_long || nat_lt 0 (length (cut_line_of text.now))) (lines_of text.now))
+        (W.contents writer.old) (W.contents writer.new) result }
+    ensures outside { IfErr result IsOutside }
+{
+    let Some((first, rest)) = next_line(text) else {
+        return Ok(Some(1));
+    };
+    let Some(script) = open_line::<S>(alloc, first)? else {
+        return Ok(Some(1));
+    };
+    answer_lines(alloc, script, rest, is_too_long, writer)
+}
+
+/// What the first line opens, where it is not too long.
+fn open_line<S: Script>(alloc: Global, line: &[u8]) -> Result<Option<S>, AllocError>
+    ensures { IfOk result (Opens S.stands_for (if_fits S.language.opened_by line.now)) }
+{
+    if line.len() > MAX_LINE {
+        return Ok(None);
+    }
+    S::open(alloc, line)
+}
+
+/// Answers the lines behind the first, writes the answers piece by piece, and gives the number of
+/// the line at fault.
+fn answer_lines<S: Script, W: Write>(
+    alloc: Global,
+    mut script: S,
+    lines: &[u8],
+    is_too_long: bool,
+    writer: &mut W,
+) -> Result<Option<u64>, Fault>
+    requires { length lines.now ≤ MAX_SCRIPT }
+    ensures told { (s : S.State) → S.stands_for script s → Tells (told_from S.language
+        (is_too_long || nat_lt 0 (length (cut_line_of lines.now))) s 2 (lines_of lines.now))
+        (W.contents writer.old) (W.contents writer.new) result }
+    ensures outside { IfErr result IsOutside }
+{
+    let mut held = Vec::with_capacity(alloc, ROOM)?;
+    let mut rest = lines;
+    let mut number = 2u64;
+    while let Some(after) = answer_next(&mut script, rest, &mut held)? {
+        number += 1;
+        rest = after;
+        if held.len() >= PIECE {
+            write_whole(writer, &held)?;
+            held.clear();
+        }
+    }
+    let faulty_line = end(&script, is_cut(is_too_long, rest), number, &mut held)?;
+    write_whole(writer, &held)?;
+    Ok(faulty_line)
+}
+
+/// Whether bytes are left behind the lines, or the script is too long.
+fn is_cut(is_too_long: bool, rest: &[u8]) -> bool
+    ensures { result ≡ (is_too_long || nat_lt 0 (length rest.now)) }
+{
+    is_too_long || !rest.is_empty()
+}
+
+/// Ends a script behind the last line that could be answered: the next one is at fault where bytes
+/// are left, and otherwise the farewell is written.
+fn end<S: Script>(
+    script: &S,
+    is_cut: bool,
+    number: u64,
+    output: &mut Vec<u8>,
+) -> Result<Option<u64>, AllocError>
+    ensures fault { is_cut ≡ true → IfOk result (λ fault.
+        (fault ≡ Some number) × (output.new.items ≡ output.old.items)) }
+    ensures farewell { is_cut ≡ false → (s : S.State) → S.stands_for script.now s →
+        IfOk result (λ fault. (fault ≡ None)
+        × (output.new.items ≡ output.old.items ++ S.language.farewell s)) }
+{
+    if is_cut {
+        return Ok(Some(number));
+    }
+    script.farewell(output)?;
+    Ok(None)
+}
+
+/// Answers the first line of a text, and gives what follows that line; nothing where there is no
+/// whole line, or it is not in the grammar.
+fn answer_next<'t, S: Script>(
+    script: &mut S,
+    text: &'t [u8],
+    output: &mut Vec<u8>,
+) -> Result<Option<&'t [u8]>, AllocError>
+    ensures answered { (s : S.State) → S.stands_for script.old s → IfOk result (λ rest.
+        AnswersNext S.stands_for S.language s text.now output.old.items
+        rest script.new output.new.items) }
+    ensures shorter { IfOk result (λ rest. IsShorter rest text.now) }
+{
+    match script.answer_first(text, output)? {
+        Some(rest) => Ok(Some(rest)),
+        None => answer_line(script, text, output),
+    }
+}
+
+/// The same the plain way: the line is split off, and then read.
+fn answer_line<'t, S: Script>(
+    script: &mut S,
+    text: &'t [u8],
+    output: &mut Vec<u8>,
+) -> Result<Option<&'t [u8]>, AllocError>
+    ensures answered { (s : S.State) → S.stands_for script.old s → IfOk result (λ rest.
+        AnswersNext S.stands_for S.language s text.now output.old.items
+        rest script.new output.new.items) }
+    ensures shorter { IfOk result (λ rest. IsShorter rest text.now) }
+{
+    let Some((line, rest)) = next_line(text) else {
+        return Ok(None);
+    };
+    if line.len() > MAX_LINE || !script.answer(line, output)? {
+        return Ok(None);
+    }
+    Ok(Some(rest))
+}
