@@ -7,7 +7,6 @@
 use pipe_dev::{Ends, Opened, Pipe, ReadAnswer, ReadEnd, WriteEnd};
 use sleep_wakeup::{Kernel, Proc, Started};
 use std::alloc::Global;
-use std::io;
 use std::sync::Wait;
 use std::thread::{Threads, map_vec, scope, scope_env};
 use sync_base::{Fault, Flags};
@@ -15,7 +14,6 @@ use sync_base::{Fault, Flags};
 /// A client asks at one pipe and is answered at another.
 #[derive(Drop)]
 struct Client<'s> {
-    number: u8,
     proc: Proc<'s>,
     requests: WriteEnd<'s>,
     answers: ReadEnd<'s>,
@@ -25,9 +23,9 @@ struct Client<'s> {
 /// write: it is read whole and never joined with another, so the clients need no lock.
 fn ask<R: Wait>(rt: &R, alloc: Global, me: Client<'_>) -> Result<u64, Fault> {
     let (mut proc, mut requests, mut answers) = (me.proc, me.requests, me.answers);
-    let (mut sum, mut square) = (0u64, [0]);
+    let (number, mut sum, mut square) = (requests.writer() as u8, 0u64, [0]);
     for wanted in 1..=5 {
-        requests.write(alloc, rt, &mut proc, &[me.number, wanted])?;
+        requests.write(alloc, rt, &mut proc, &[number, wanted])?;
         if answers.read(rt, &mut proc, &mut square)? == ReadAnswer::End {
             return Err(Fault::Hungup);
         }
@@ -36,8 +34,7 @@ fn ask<R: Wait>(rt: &R, alloc: Global, me: Client<'_>) -> Result<u64, Fault> {
     Ok(sum)
 }
 
-/// All clients at once, each on a thread of its own, or one after the other where no thread can be
-/// started. Then the pipe of requests is hung up, at a write end that is for this alone.
+/// All clients, each on a thread, and then a hangup of the pipe of requests by an end for this alone.
 fn ask_all<'s, R: Threads + Wait + Sync>(
     rt: &R,
     alloc: Global,
@@ -54,17 +51,14 @@ fn ask_all<'s, R: Threads + Wait + Sync>(
     Ok(sums)
 }
 
-/// The server reads requests at one pipe, and answers at one for each client.
-#[derive(Drop)]
-struct Server<'s> {
-    proc: Proc<'s>,
-    requests: ReadEnd<'s>,
-    answers: Vec<WriteEnd<'s>>,
-}
-
 /// The request loop. The pipe of a client that can't be answered is hung up, so it doesn't wait.
-fn serve<R: Wait>(rt: &R, alloc: Global, me: Server<'_>) -> Result<(), Fault> {
-    let (mut proc, mut requests, mut answers) = (me.proc, me.requests, me.answers);
+fn serve<'s, R: Wait>(
+    rt: &R,
+    alloc: Global,
+    mut proc: Proc<'s>,
+    mut requests: ReadEnd<'s>,
+    mut answers: Vec<WriteEnd<'s>>,
+) -> Result<(), Fault> {
     let mut request = [0; 2];
     for _ in rt.forever() {
         if requests.read(rt, &mut proc, &mut request)? == ReadAnswer::End {
@@ -72,10 +66,9 @@ fn serve<R: Wait>(rt: &R, alloc: Global, me: Server<'_>) -> Result<(), Fault> {
         }
         let [client, wanted] = request;
         let square = [wanted.saturating_mul(wanted)];
-        if let Some(end) = answers.get_mut(usize::from(client)) {
-            if end.write(alloc, rt, &mut proc, &square).is_err() {
-                end.hangup(&mut proc);
-            }
+        let end = answers.get_mut(usize::from(client)).ok_or(Fault::BadArg)?;
+        if end.write(alloc, rt, &mut proc, &square).is_err() {
+            end.hangup(&mut proc);
         }
     }
     Ok(())
@@ -83,8 +76,8 @@ fn serve<R: Wait>(rt: &R, alloc: Global, me: Server<'_>) -> Result<(), Fault> {
 
 /// A further process.
 fn fork<'k>(started: &mut Started<'k>) -> Result<Proc<'k>, Fault> {
-    let forked = started.roster.rfork(&mut started.proc, Flags::RFPROC)?;
-    forked.ok_or(Fault::NoProc)
+    let Started { roster, proc } = started;
+    roster.rfork(proc, Flags::RFPROC)?.ok_or(Fault::NoProc)
 }
 
 /// Makes the clients and the server, and starts the server first, since the clients wait for it.
@@ -97,25 +90,19 @@ fn run_all<'s, R: Threads + Wait + Sync>(
 ) -> Result<Vec<u64>, Fault> {
     let mut writes = there.second.parts().writes;
     let last = writes.pop().ok_or(Fault::BadSize)?;
-    let mut clients = Vec::new(alloc);
-    let mut answers = Vec::new(alloc);
-    for (number, (requests, ends)) in (0..4).zip(writes.into_iter().zip(back)) {
+    let (mut clients, mut answers) = (Vec::new(alloc), Vec::new(alloc));
+    for (requests, ends) in writes.into_iter().zip(back) {
         answers.extend(ends.first.parts().writes)?;
         clients.push(Client {
-            number,
             proc: fork(&mut started)?,
             requests,
             answers: ends.second.parts().read,
         })?;
     }
-    let server = Server {
-        proc: fork(&mut started)?,
-        requests: there.first.parts().read,
-        answers,
-    };
-    let proc = started.proc;
+    let server = fork(&mut started)?;
+    let (proc, requests) = (started.proc, there.first.parts().read);
     scope(scope_env(), rt, move |scope| {
-        let Ok(serving) = scope.spawn(move || serve(rt, alloc, server)) else {
+        let Ok(serving) = scope.spawn(move || serve(rt, alloc, server, requests, answers)) else {
             return Err(Fault::Device);
         };
         let sums = ask_all(rt, alloc, clients, last, proc);
@@ -123,8 +110,7 @@ fn run_all<'s, R: Threads + Wait + Sync>(
     })
 }
 
-/// Opens a pipe back to each client that has none, and then runs all. A pipe outlives its ends, so
-/// each is opened in a call of its own, and all that uses it is within.
+/// Opens a pipe back to each client, each in a call of its own, and then runs all within the last.
 fn open_back<'s, R: Threads + Wait + Sync>(
     rt: &R,
     alloc: Global,
@@ -155,7 +141,7 @@ fn run<R: Threads + Wait + Sync>(rt: &R, alloc: Global) -> Result<Vec<u64>, Faul
     open_back(rt, alloc, started, pipe.ends(start), Vec::new(alloc), 4)
 }
 
-fn main(rt: HostRuntime) -> io::Result<()> {
+fn main(rt: HostRuntime) -> std::io::Result<()> {
     match run(&rt, rt.alloc()) {
         Ok(sums) => println!(rt; "the clients' sums are {sums:?}"),
         Err(fault) => println!(rt; "the server failed: {fault}"),
