@@ -1,11 +1,10 @@
 -- The table of digits is the definition, and two values make the byte of two digits.
-use Rattle.std.proofs.Common.{◌≡◌, ℕ, zero, suc, ◌+◌, ◌*◌, ◌%◌, ◌<◌, ◌≤◌, ◌&&◌, Bool, true, false, cond, nat_eq, nat_lt, List, length, get_or, take, drop, Option, Some, None, unwrap_or, Result, Ok, Err, refl, ap, sym, ◌∙◌, arith, inl, inr}
-use Rattle.std.specs.Prelude.{max}
+use Rattle.std.proofs.Common.{◌≡◌, ℕ, zero, suc, ◌+◌, ◌*◌, ◌%◌, ◌<◌, ◌&&◌, Bool, true, nat_eq, List, length, get_or, Option, Some, None, unwrap_or, Ok, ap, arith, inl, inr}
+use Rattle.std.specs.Prelude.{bit_or}
+use Rattle.std.proofs.lemmas.Nat.{le_or_l, le_or_r}
 use Rattle.std.proofs.lemmas.Bool.{cases_eq}
 use Rattle.std.proofs.lemmas.Bool.Decides.{nat_tests}
 use Rattle.hex.specs.Hex.{hex_digit_value, digit_or_error, pair_value, decode_pairs, decode_of, ◌>>=◌}
-use Rattle.hex.specs.declared.error.FromHexError.{FromHexError}
-use Rattle.hex.proofs.Pairs.{prepend, decode_step, decode_done}
 use Rattle.scripts.specs.Digits.{value_or_none}
 
 -- the table has the values of a definition below n
@@ -47,6 +46,6 @@ pair_is high low i small =
 pub decodes_by_pairs : (s : List ℕ) (n : ℕ) → length s ≡ 2 * n → decode_of s ≡ decode_pairs 0 s
 decodes_by_pairs s n even = grind (arith, nat_tests)
 
--- what is below a bound with another is below it alone
-pub below_both : (a b m : ℕ) → m ≡ max a b → m < 256 → (a < 256) × (b < 256)
-below_both a b m is small = (omega (arith, is), omega (arith, is))
+-- what is below a bound with another in its bits is below it alone
+pub below_both : (a b m : ℕ) → m ≡ bit_or a b → m < 256 → (a < 256) × (b < 256)
+below_both a b m is small = (omega (arith, is, le_or_l a b), omega (arith, is, le_or_r a b))

@@ -2,7 +2,6 @@ pub mod DeviceLemmas
 mod DigitLemmas
 mod EventLineLemmas
 mod EventTextLemmas
-mod HexTextLemmas
 mod LineLemmas
 mod NumberLemmas
 mod OnePassLemmas

@@ -1,12 +1,11 @@
 -- Lines that are read in one pass: words that are found one after the other make a line.
-use Rattle.std.proofs.Common.{◌≡◌, ℕ, suc, ◌+◌, ◌<◌, ◌≤◌, ◌&&◌, Bool, true, false, cond, not, List, [], ◌∷◌, ◌++◌, length, Some, refl, ap, sym, subst, ◌∙◌, append_assoc, arith, length-append}
+use Rattle.std.proofs.Common.{◌≡◌, ℕ, suc, ◌+◌, ◌&&◌, Bool, true, false, not, List, [], ◌∷◌, ◌++◌, length, refl, ap, sym, subst, ◌∙◌, append_assoc, arith, length-append}
 use Rattle.std.specs.List.{list_all}
 use Rattle.std.specs.Char.{is_ascii_digit}
 use Rattle.std.proofs.lemmas.List.Folds.{list_all-append}
-use Rattle.std.proofs.lemmas.List.Sums.{AllPass-from_list_all}
 use Rattle.std.proofs.lemmas.Bool.Decides.{nat_tests}
 use Rattle.scripts.specs.declared.lines.TheConstants.{LINE_FEED, SPACE}
-use Rattle.scripts.specs.Lines.{is_line_feed, is_space, parts_of, all_but_last, last_of, lines_of, cut_line_of, words_of, number_of, BeginsWithNumber, BeginsWithLine}
+use Rattle.scripts.specs.Lines.{is_line_feed, is_space, parts_of, all_but_last, last_of, lines_of, cut_line_of, words_of, BeginsWithNumber, BeginsWithLine}
 use Rattle.scripts.specs.ScriptLaws.{lines_text}
 use Rattle.scripts.proofs.TextLemmas.{IsPlain, ArePlain, plain_lines, lines_text-lines}
 use Rattle.scripts.proofs.LineLemmas.{parts_of-part, parts_of-plain, parts_of-some, all_but_last-cons, last_of-cons}

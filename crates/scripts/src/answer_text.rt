@@ -13,12 +13,11 @@ pub fn push_write_answer(output: &mut Vec<u8>, answer: WriteAnswer) -> Result<()
     ensures { OnOk result (output.new.items
         ≡ output.old.items ++ write_text answer ++ LINE_FEED ∷ []) }
 {
-    let text = match answer {
-        WriteAnswer::Taken => b"taken\n".as_slice(),
-        WriteAnswer::Full => b"full\n".as_slice(),
-        WriteAnswer::Hungup => b"hungup\n".as_slice(),
-    };
-    output.extend_from_slice(text)
+    match answer {
+        WriteAnswer::Taken => output.extend_from_slice(b"taken\n"),
+        WriteAnswer::Full => output.extend_from_slice(b"full\n"),
+        WriteAnswer::Hungup => output.extend_from_slice(b"hungup\n"),
+    }
 }
 
 /// The answer to a read.

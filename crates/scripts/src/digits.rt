@@ -26,18 +26,20 @@ static VALUES: [u16; 256] = [
 
 /// Puts the bytes of these digits into the room; false where one is no digit. The crate `hex`
 /// branches on the class of each digit, which is guessed wrong one time in three; a table has no
-/// branch, and a digit that is none is found behind the loop, by the greatest sum.
+/// branch, and a digit that is none is found behind the loop, by the bits of all sums. As a function
+/// of its own the loop has the registers to itself.
+#[inline(never)]
 pub fn decode(digits: &[u8], room: &mut [u8]) -> bool
     requires { length digits.now ≡ 2 * length room.old }
     ensures { IsTrue result → decode_of digits.now ≡ Ok room.new }
 {
-    let mut greatest = 0u16;
+    let mut seen = 0u16;
     for i in 0..room.len() {
         let sum = 16 * value_of(digits[2 * i]) + value_of(digits[2 * i + 1]);
-        greatest = greatest.max(sum);
+        seen |= sum;
         room[i] = (sum % 256) as u8;
     }
-    greatest < NONE
+    seen < NONE
 }
 
 /// The value of a byte as a digit, or `NONE`.

@@ -1,4 +1,4 @@
-use Rattle.std.proofs.Common.{sym, ap, ◌∙◌, arith}
+use Rattle.std.proofs.Common.{arith}
 use Rattle.std.proofs.lemmas.Grind.{common_steps}
 use Rattle.scripts.proofs.DeviceLemmas.{gives_behind}
 use Rattle.scripts.proofs.device.read_behind.Goals as goal

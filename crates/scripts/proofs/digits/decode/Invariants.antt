@@ -3,8 +3,8 @@ use Rattle.hex.specs.Hex.{decode_pairs}
 use Rattle.hex.proofs.Pairs.{prepend}
 use Rattle.scripts.proofs.digits.decode.Given as goal
 
--- where no sum was too great, the digits so far are the bytes so far
+-- where no digit was none, the digits so far are the bytes so far
 abbrev pub invariant-loop-i : goal.invariant-loop-i
 invariant-loop-i l =
-    l.greatest < 256 → decode_pairs 0 l.digits
+    l.seen < 256 → decode_pairs 0 l.digits
     ≡ prepend (take l.i l.room) (decode_pairs (2 * l.i) (drop (2 * l.i) l.digits))

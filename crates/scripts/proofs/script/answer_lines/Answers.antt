@@ -1,5 +1,5 @@
 -- Each way out of the loop over the lines, from what was written and held back when it was taken.
-use Rattle.std.proofs.Common.{◌≡◌, ◌<◌, [], ◌++◌, List, ℕ, ap, subst, length, ◌∙◌, arith}
+use Rattle.std.proofs.Common.{[], ◌++◌, List, ℕ, ap, subst, ◌∙◌, arith}
 use Rattle.std.specs.Io.KnownBytes.{Appends}
 use Rattle.std.proofs.lemmas.Result.{err_from_is_err_and}
 use Rattle.scripts.specs.Device.{AppendsFront}

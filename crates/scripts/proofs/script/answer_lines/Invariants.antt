@@ -1,4 +1,4 @@
-use Rattle.std.proofs.Common.{◌≡◌, ◌+◌, ◌≤◌, ◌||◌, nat_lt, length}
+use Rattle.std.proofs.Common.{◌+◌, ◌≤◌, ◌||◌, nat_lt, length}
 use Rattle.scripts.specs.Lines.{lines_of, cut_line_of}
 use Rattle.scripts.specs.Script.{told_from}
 use Rattle.scripts.proofs.ScriptLemmas.{GoesOn}

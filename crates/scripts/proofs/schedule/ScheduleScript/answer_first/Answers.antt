@@ -2,10 +2,9 @@ use Rattle.std.proofs.Common.{◌≡◌, arith}
 use Rattle.sleep_core.specs.State.{State}
 use Rattle.scripts.specs.declared.schedule.Schedule.{Schedule}
 use Rattle.scripts.proofs.OnePassLemmas.{begins_length}
-use Rattle.std.specs.Option.{option_map}
 use Rattle.sleep_core.specs.Step.{answer_to, world_after}
 use Rattle.scripts.specs.EventText.{event_text}
-use Rattle.scripts.specs.Schedule.{schedule_language, event_of}
+use Rattle.scripts.specs.Schedule.{schedule_language}
 use Rattle.scripts.proofs.ScriptLemmas.{found_answered}
 use Rattle.scripts.proofs.ScheduleLemmas.{event_answered}
 use Rattle.scripts.proofs.schedule.ScheduleScript.answer_first.Goals as goal
