@@ -9,6 +9,7 @@ pub mod RuleLemmas
 pub mod SeatLemmas
 pub mod ServeLemmas
 pub mod SettleKeeps
+pub mod SlotLemmas
 pub mod SplitLemmas
 pub mod WatchKeeps
 pub mod WorkedLocks

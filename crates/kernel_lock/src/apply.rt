@@ -14,7 +14,7 @@ use crate::locked::Locked;
 use crate::object::Object;
 use crate::plays::Made;
 use crate::rule::Stepper;
-use crate::view::Guarded;
+use crate::steps::SLOT;
 use std::marker::Brand;
 use std::snapshot::Snapshot;
 use std::sync::Wait;
@@ -67,17 +67,19 @@ impl<O: Object> Locked<O> {
         reply
     }
 
-    // Has the object answer the request.
+    // Has the object answer the request, in its slot.
+    // Step Answer: a run of the object in its place, as plain memory. Seat: as it was.
+    // Keeps the rule: it speaks of the object only where it is at home.
     fn answer(&self, stepper: &mut Stepper<O>, request: O::Request) -> O::Reply
         requires stepper { IsStepperOf self.now stepper.old }
         requires full { HasOnly stepper.old.me }
         ensures stepper { IsSameStepper stepper.old stepper.new }
         ensures answered { HasAnswered O.definition request result stepper.old.me stepper.new.me }
     {
-        let Guarded { mut object, next } = self.take_out(stepper);
-        let reply = object.run(request);
-        self.put_back(stepper, Guarded { object, next });
-        reply
+        match stepper.slot_mut(&self.table.shared, SLOT) {
+            Some(guarded) => guarded.object.run(request),
+            None => unreachable!(),
+        }
     }
 
     // Gives the lock back. The request and its reply are there for the proof alone,

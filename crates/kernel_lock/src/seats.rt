@@ -22,7 +22,6 @@ use crate::lock_seat::LockSeat;
 use crate::locked::Locked;
 use crate::object::Object;
 use crate::rule::Stepper;
-use crate::view::Guarded;
 use std::marker::Brand;
 use std::sync::Wait;
 use sync_base::Fault;
@@ -85,19 +84,12 @@ impl<O: Object> Locked<O> {
         ensures full { IfNone result (limit_of self.now ≤ stepper.old.me.0.given) }
         ensures refused { IfNone result (stepper.new.me.0 ≡ stepper.old.me.0) }
     {
-        let Guarded { object, next } = self.take_out(stepper);
+        let next = self.read_next(stepper);
         if next >= self.limit {
-            self.put_back(stepper, Guarded { object, next });
             return None;
         }
         let child = self.divide(stepper);
-        self.put_back(
-            stepper,
-            Guarded {
-                object,
-                next: next + 1,
-            },
-        );
+        self.write_next(stepper, next + 1);
         Some(LockSeat {
             badge: child.into_badge(),
             number: next,

@@ -18,7 +18,8 @@ use crate::view::Guarded;
 
 const WORD: usize = 0;
 
-const SLOT: usize = 0;
+/// The slot in which the object lies.
+pub(crate) const SLOT: usize = 0;
 
 const FREE: u64 = 0;
 
@@ -64,18 +65,39 @@ impl<O: Object> Locked<O> {
         self.table.shared.exchange(stepper, SLOT, None).unwrap()
     }
 
-    /// Puts the object back into the slot.
-    // Step PutBack: exchange of the slot, which is the seat's, as plain memory. Seat: as it was.
-    // Keeps the rule: it speaks of the object only where it is at home.
-    pub(crate) fn put_back(&self, stepper: &mut Stepper<O>, guarded: Guarded<O>)
+    /// Says which number the next seat gets.
+    // Step ReadNext: read of the slot in its place, as plain memory. Seat: as it was.
+    // Keeps the rule: nothing changes.
+    pub(crate) fn read_next(&self, stepper: &mut Stepper<O>) -> u64
         requires stepper { IsStepperOf self.now stepper.old }
-        requires empty { stepper.old.me.1 ≡ (0, None) ∷ [] }
+        requires full { HasOnly stepper.old.me }
         ensures stepper { IsSameStepper stepper.old stepper.new }
-        ensures seat { stepper.new.me ≡ (stepper.old.me.0, (0, Some guarded) ∷ []) }
+        ensures same { stepper.new.me ≡ stepper.old.me }
+        ensures next { (guarded : _) → stepper.old.me.1 ≡ (0, Some guarded) ∷ [] →
+            result ≡ guarded.next }
     {
-        match self.table.shared.exchange(stepper, SLOT, Some(guarded)) {
-            None => {}
-            Some(_) => unreachable!(),
+        match stepper.slot_mut(&self.table.shared, SLOT) {
+            Some(guarded) => guarded.next,
+            None => unreachable!(),
+        }
+    }
+
+    /// Writes down which number the next seat gets.
+    // Step WriteNext: write of the slot in its place, as plain memory. Seat: as it was.
+    // Keeps the rule: it speaks of the next number only where the object is at home.
+    pub(crate) fn write_next(&self, stepper: &mut Stepper<O>, next: u64)
+        requires stepper { IsStepperOf self.now stepper.old }
+        requires full { HasOnly stepper.old.me }
+        ensures stepper { IsSameStepper stepper.old stepper.new }
+        ensures counted { (guarded : _) → stepper.old.me.1 ≡ (0, Some guarded) ∷ [] →
+            stepper.new.me ≡ (
+              stepper.old.me.0,
+              (0, Some record { object = guarded.object; next = next }) ∷ [],
+            ) }
+    {
+        match stepper.slot_mut(&self.table.shared, SLOT) {
+            Some(guarded) => guarded.next = next,
+            None => unreachable!(),
         }
     }
 
