@@ -32,6 +32,7 @@ use crate::queue::Queue;
 use crate::queue_object::StoredBlock;
 use crate::rule::Place;
 use crate::seats::{PutSeat, TakeSeat};
+use crate::spare::Spare;
 use std::alloc::Global;
 use std::marker::Brand;
 use sync_base::NoProbe;
@@ -72,13 +73,18 @@ impl Queue {
         let Ok(mut blocks) = Vec::with_capacity(alloc, self.key.limit as usize) else {
             return Err(Ungathered { take, puts });
         };
-        let TakeSeat { badge, taken } = take;
+        let TakeSeat {
+            badge,
+            taken,
+            mut spare,
+        } = take;
         let mut place = badge.into_seat();
         self.join_all(&mut place, puts);
         let tail = self.survey::<Brand>(&mut place);
         let hung = tail >= MARK;
         let accepted = tail % MARK;
-        self.empty(&mut place, taken, accepted - taken, &mut blocks);
+        self.empty(&mut place, &mut spare, taken, accepted - taken, &mut blocks);
+        spare.free();
         Ok(Gathered { blocks, hung })
     }
 
@@ -93,7 +99,12 @@ impl Queue {
         ensures pasts { TellsPasts puts.items place.old.me.0 [] place.new.me.0 }
     {
         'joining: while let Some(seat) = puts.pop() {
-            let PutSeat { badge, writer: _ } = seat;
+            let PutSeat {
+                badge,
+                writer: _,
+                spare,
+            } = seat;
+            spare.free();
             self.join(place, badge.into_seat());
         }
     }
@@ -126,7 +137,14 @@ impl Queue {
     }
 
     // Takes so many blocks out, which is all that is left.
-    fn empty(&self, place: &mut Place, taken: u64, left: u64, blocks: &mut Vec<StoredBlock>)
+    fn empty(
+        &self,
+        place: &mut Place,
+        spare: &mut Spare,
+        taken: u64,
+        left: u64,
+        blocks: &mut Vec<StoredBlock>,
+    )
         requires place { IsFreePlaceOf self.now place.old 0 }
         requires taken { taken ≡ place.old.me.0.taken }
         requires left { IsLeft self.now.key place.old.me.0.account left }
@@ -137,7 +155,7 @@ impl Queue {
     {
         let mut taken = taken;
         'emptying: while (blocks.len() as u64) < left {
-            match self.take_next(place, taken, &mut NoProbe) {
+            match self.take_next(place, spare, taken, &mut NoProbe) {
                 TakeAnswer::Block(block, writer, _) => {
                     blocks.push_reserved(StoredBlock { writer, block });
                     taken += 1;

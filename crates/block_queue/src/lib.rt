@@ -1,8 +1,8 @@
 //! A bounded queue of blocks with hangup, which many writers and one reader share: as a sequential
 //! object, and as a ring without a lock.
 //! Read `entry`, `answers`, `queue_object` with `laws`, what holds of it; then `places`, `view`,
-//! `rule`, `plays`, `seats`, `queue`, `opening`, `put_steps`, `put`, `take_steps`, `take`, and
-//! `gather`.
+//! `spare`, `rule`, `plays`, `seats`, `queue`, `opening`, `put_steps`, `put`, `take_steps`, `take`,
+//! and `gather`.
 #![tactic(auto)]
 
 pub mod answers;
@@ -18,6 +18,7 @@ pub mod queue;
 pub mod queue_object;
 mod rule;
 pub mod seats;
+pub mod spare;
 mod take;
 mod take_steps;
 #[cfg(test)]
@@ -30,3 +31,4 @@ pub use opening::Opened;
 pub use queue::Queue;
 pub use queue_object::{QueueObject, StoredBlock};
 pub use seats::{PutSeat, TakeSeat};
+pub use spare::Spare;

@@ -1,5 +1,5 @@
 //! How a queue is made, with its seats. Before this: `queue`. After it: `put_steps`.
-ghost use Rattle.std.specs.Prelude.{◌≡◌, ◌⊎◌, ◌↔◌, ◌+◌, ◌<◌, ◌≤◌, [], replicate};
+ghost use Rattle.std.specs.Prelude.{◌≡◌, ◌⊎◌, ◌↔◌, ◌+◌, ◌<◌, ◌≤◌, [], replicate, None};
 ghost use Rattle.std.specs.Prelude.{IfOk, IfErr, IsErrOf};
 ghost use Rattle.std.specs.Vec.{vec_capacity};
 ghost use Rattle.sync_base.specs.declared.fault.Fault.TheVariants.{BadSize, BadArg, Memory};
@@ -23,6 +23,7 @@ use crate::plays::Hand;
 use crate::queue::Queue;
 use crate::rule::Place;
 use crate::seats::{PutSeat, TakeSeat};
+use crate::spare::{Slot, Spare};
 use crate::view::Key;
 use atomic_table::Table;
 use std::alloc::{AllocError, Global};
@@ -42,6 +43,17 @@ fn zeros(alloc: Global, count: usize) -> Result<Vec<u64>, AllocError>
     ensures { IfOk result (λ words. words.items ≡ replicate count 0) }
 {
     vec![in alloc; 0; count]
+}
+
+// Its slots: no block, and no memory for one.
+fn empty_slots(alloc: Global, count: usize) -> Result<Vec<Slot>, AllocError>
+    ensures { IfOk result (λ slots. slots.items ≡ replicate count None) }
+{
+    let mut slots = Vec::with_capacity(alloc, count)?;
+    'emptying: while slots.len() < count {
+        slots.push_reserved(Slot::empty(Spare::none()));
+    }
+    Ok(slots)
 }
 
 impl Queue {
@@ -93,12 +105,16 @@ impl Queue {
         };
         let mut puts = Vec::with_capacity(alloc, writers as usize)?;
         let words = zeros(alloc, limit as usize + 1)?;
-        let (table, mut place) = Table::vacant(alloc, words.as_slice(), limit as usize, &key)?;
+        let slots = empty_slots(alloc, limit as usize)?;
+        let Ok((table, mut place)) = Table::new(alloc, words.as_slice(), slots, &key) else {
+            return Err(Fault::Memory);
+        };
         let queue = Queue { table, key };
         queue.hand_seats(&mut place, &mut puts);
         let take = TakeSeat {
             badge: place.into_badge(),
             taken: 0,
+            spare: Spare::none(),
         };
         Ok(Opened { queue, take, puts })
     }
@@ -118,6 +134,7 @@ impl Queue {
             puts.push_reserved(PutSeat {
                 badge: seat.into_badge(),
                 writer,
+                spare: Spare::none(),
             });
         }
     }

@@ -17,7 +17,7 @@ ghost use Rattle.block_queue.specs.Steps.{
   handed_view,
 };
 
-use crate::queue_object::StoredBlock;
+use crate::spare::Slot;
 use crate::view::View;
 use atomic_table::{Play, Split};
 use std::marker::{Brand, PhantomData};
@@ -41,7 +41,7 @@ pub struct PutTail<M> {
     asked: PhantomData<M>,
 }
 
-impl<M: Asks> Play<Option<StoredBlock>, View> for PutTail<M> {
+impl<M: Asks> Play<Slot, View> for PutTail<M> {
     ghost then = { λ _ before found after. HasPutTail M.asked before found after };
 }
 
@@ -49,7 +49,7 @@ pub struct PutSequence<M> {
     asked: PhantomData<M>,
 }
 
-impl<M: Asks> Play<Option<StoredBlock>, View> for PutSequence<M> {
+impl<M: Asks> Play<Slot, View> for PutSequence<M> {
     ghost then = { λ _ before found after. HasPutSequence M.asked before found after };
 }
 
@@ -57,7 +57,7 @@ pub struct Accept<M> {
     asked: PhantomData<M>,
 }
 
-impl<M: Asks> Play<Option<StoredBlock>, View> for Accept<M> {
+impl<M: Asks> Play<Slot, View> for Accept<M> {
     ghost then = { λ _ before found after. HasAccepted M.asked before found after };
 }
 
@@ -65,7 +65,7 @@ pub struct Store<M> {
     asked: PhantomData<M>,
 }
 
-impl<M: Asks> Play<Option<StoredBlock>, View> for Store<M> {
+impl<M: Asks> Play<Slot, View> for Store<M> {
     ghost then = { λ _ before _ after. HasStored M.asked before after };
 }
 
@@ -73,7 +73,7 @@ pub struct TakeTail<M> {
     asked: PhantomData<M>,
 }
 
-impl<M: Asks> Play<Option<StoredBlock>, View> for TakeTail<M> {
+impl<M: Asks> Play<Slot, View> for TakeTail<M> {
     ghost then = { λ _ before found after. HasTakeTail M.asked.key before found after };
 }
 
@@ -81,7 +81,7 @@ pub struct TakeSequence<M> {
     asked: PhantomData<M>,
 }
 
-impl<M: Asks> Play<Option<StoredBlock>, View> for TakeSequence<M> {
+impl<M: Asks> Play<Slot, View> for TakeSequence<M> {
     ghost then = { λ _ before found after. HasTakeSequence M.asked.key before found after };
 }
 
@@ -89,7 +89,7 @@ pub struct FreePlace<M> {
     asked: PhantomData<M>,
 }
 
-impl<M: Asks> Play<Option<StoredBlock>, View> for FreePlace<M> {
+impl<M: Asks> Play<Slot, View> for FreePlace<M> {
     ghost then = { λ _ before _ after. HasFreed M.asked.key M.asked.write before after };
 }
 
@@ -97,7 +97,7 @@ pub struct Hang<M> {
     asked: PhantomData<M>,
 }
 
-impl<M: Asks> Play<Option<StoredBlock>, View> for Hang<M> {
+impl<M: Asks> Play<Slot, View> for Hang<M> {
     ghost then = { λ _ before _ after. HasHung M.asked.key before after };
 }
 
@@ -121,6 +121,6 @@ pub struct Survey<M> {
     asked: PhantomData<M>,
 }
 
-impl<M: Asks> Play<Option<StoredBlock>, View> for Survey<M> {
+impl<M: Asks> Play<Slot, View> for Survey<M> {
     ghost then = { λ _ before found after. HasSurveyed M.asked.key before found after };
 }

@@ -21,6 +21,7 @@ use crate::queue::Queue;
 use crate::queue_object::StoredBlock;
 use crate::rule::Place;
 use crate::seats::PutSeat;
+use crate::spare::Spare;
 use std::marker::Brand;
 use std::snapshot::Snapshot;
 use std::sync::Wait;
@@ -76,7 +77,7 @@ impl Queue {
         ensures fresh { IsFreshPut (key_of self.now) (put_account seat.old) result }
     {
         let mut place = seat.stand();
-        let answer = self.put_in_turn(rt, &mut place, seat.writer, block, probe);
+        let answer = self.put_in_turn(rt, &mut place, &mut seat.spare, seat.writer, block, probe);
         seat.sit(place);
         probe.at(6);
         answer
@@ -87,6 +88,7 @@ impl Queue {
         &self,
         rt: &R,
         place: &mut Place,
+        spare: &mut Spare,
         writer: u64,
         block: Piece,
         probe: &mut P,
@@ -99,7 +101,7 @@ impl Queue {
     {
         let mut block = block;
         for _ in rt.forever() {
-            match self.try_put(place, writer, block, probe) {
+            match self.try_put(place, spare, writer, block, probe) {
                 Tried::Answered(answer) => return answer,
                 Tried::Again(back) => block = back,
             }
@@ -111,6 +113,7 @@ impl Queue {
     fn try_put<P: Probe>(
         &self,
         place: &mut Place,
+        spare: &mut Spare,
         writer: u64,
         block: Piece,
         probe: &mut P,
@@ -141,13 +144,14 @@ impl Queue {
         if word > free {
             return Tried::Again(block);
         }
-        self.claim(place, writer, block, tail, probe)
+        self.claim(place, spare, writer, block, tail, probe)
     }
 
     // The rest of a round: the write is accepted, its block is moved in, and it stands.
     fn claim<P: Probe>(
         &self,
         place: &mut Place,
+        spare: &mut Spare,
         writer: u64,
         block: Piece,
         count: u64,
@@ -171,7 +175,7 @@ impl Queue {
         }
         probe.at(4);
         let asked = Snapshot::of(&block);
-        self.move_in(place, count, StoredBlock { writer, block });
+        spare.keep(self.move_in(place, count, StoredBlock { writer, block }));
         probe.at(5);
         self.store::<Brand>(place, writer, &asked, count);
         Tried::Answered(PutAnswer::Taken(self.key.first + count + 1))

@@ -20,6 +20,7 @@ use crate::plays::{Accept, Asks, PutSequence, PutTail, Store};
 use crate::queue::Queue;
 use crate::queue_object::StoredBlock;
 use crate::rule::Place;
+use crate::spare::{Slot, Spare};
 use std::snapshot::Snapshot;
 use sync_base::Piece;
 
@@ -86,9 +87,9 @@ impl Queue {
             .compare_exchange::<Accept<M>>(seat, TAIL, count, count + 1)
     }
 
-    /// Puts the block into the slot of its place.
+    /// Puts the block into the slot of its place, and takes out the memory that lay there.
     // Exchange of the slot, which is the seat's, as plain memory. Seat: as it was.
-    pub(crate) fn move_in(&self, seat: &mut Place, count: u64, block: StoredBlock)
+    pub(crate) fn move_in(&self, seat: &mut Place, count: u64, block: StoredBlock) -> Spare
         requires seat { seat.old.table_id ≡ self.now.table.shared.table_id }
         requires empty { seat.old.me.1 ≡ (place_of self.now.key.limit count, None) ∷ [] }
         ensures seat { IsSamePlace seat.old seat.new }
@@ -96,10 +97,10 @@ impl Queue {
             (seat.old.me.0, (place_of self.now.key.limit count, Some block) ∷ []) }
     {
         let slot = place(self.key.limit, count);
-        match self.table.shared.exchange(seat, slot, Some(block)) {
-            None => {}
-            Some(_) => unreachable!(),
-        }
+        self.table
+            .shared
+            .exchange(seat, slot, Slot::storing(block))
+            .into_spare()
     }
 
     /// Says that the block stands.

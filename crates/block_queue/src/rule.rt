@@ -1,7 +1,7 @@
-//! The rule of the ring's table. Before this: `view`. After it: `plays`, what each step tells.
+//! The rule of the ring's table. Before this: `spare`. After it: `plays`, what each step tells.
 ghost use Rattle.block_queue.specs.Rule.{IsOneQueue, first_view};
 
-use crate::queue_object::StoredBlock;
+use crate::spare::Slot;
 use crate::view::{Key, View};
 use atomic_table::{Seat, Table, TableRule};
 use std::alloc::Global;
@@ -11,13 +11,11 @@ use std::alloc::Global;
 /// the places hold the blocks that it has left.
 pub struct OneQueue;
 
-pub type Slot = Option<StoredBlock>;
-
 pub type QueueTable = Table<Slot, View, Key, OneQueue, Global>;
 
 pub type Place = Seat<Slot, View>;
 
-impl TableRule<Option<StoredBlock>, View, Key> for OneQueue {
+impl TableRule<Slot, View, Key> for OneQueue {
     ghost holds = { IsOneQueue };
 
     ghost first = { first_view };

@@ -3,6 +3,7 @@ ghost use Rattle.std.specs.Prelude.{◌≡◌, [], ◌∷◌};
 ghost use Rattle.block_queue.specs.Seats.{put_view, take_view};
 
 use crate::rule::Place;
+use crate::spare::Spare;
 use crate::view::View;
 use atomic_table::Badge;
 use std::mem;
@@ -12,6 +13,7 @@ use std::mem;
 pub struct PutSeat {
     pub(crate) badge: Badge<View>,
     pub(crate) writer: u64,
+    pub(crate) spare: Spare,
 }
 
 /// The seat of the reader, with which one thread at a time takes blocks out.
@@ -19,6 +21,7 @@ pub struct PutSeat {
 pub struct TakeSeat {
     pub(crate) badge: Badge<View>,
     pub(crate) taken: u64,
+    pub(crate) spare: Spare,
 }
 
 impl PutSeat {
@@ -27,6 +30,20 @@ impl PutSeat {
         ensures { result ≡ self.now.writer }
     {
         self.writer
+    }
+
+    /// Takes the memory out that the seat keeps for its next block.
+    pub fn take_spare(&mut self) -> Spare
+        ensures { self.new ≡ self.old }
+    {
+        self.spare.take()
+    }
+
+    /// Keeps this memory for the next block.
+    pub fn keep_spare(&mut self, spare: Spare)
+        ensures { self.new ≡ self.old }
+    {
+        self.spare.keep(spare)
     }
 
     /// What the seat makes its steps with. A blank badge stands in for what it knows until `sit`.
@@ -50,6 +67,13 @@ impl PutSeat {
 }
 
 impl TakeSeat {
+    /// Keeps this memory, which the next take leaves in the ring for a writer.
+    pub fn keep_spare(&mut self, spare: Spare)
+        ensures { self.new ≡ self.old }
+    {
+        self.spare.keep(spare)
+    }
+
     /// What the seat makes its steps with. A blank badge stands in for what it knows until `sit`.
     pub(crate) fn stand(&mut self) -> Place
         requires { self.old.badge.views ≡ take_view self.old ∷ [] }

@@ -19,6 +19,7 @@ use crate::queue::Queue;
 use crate::queue_object::StoredBlock;
 use crate::rule::Place;
 use crate::seats::{PutSeat, TakeSeat};
+use crate::spare::Spare;
 use std::marker::Brand;
 use sync_base::{NoProbe, Probe};
 
@@ -66,7 +67,7 @@ impl Queue {
             (take_account seat.old) (take_account seat.new) result }
     {
         let mut place = seat.stand();
-        let answer = self.take_next(&mut place, seat.taken, probe);
+        let answer = self.take_next(&mut place, &mut seat.spare, seat.taken, probe);
         seat.taken += blocks(&answer);
         seat.sit(place);
         answer
@@ -76,6 +77,7 @@ impl Queue {
     pub(crate) fn take_next<P: Probe>(
         &self,
         place: &mut Place,
+        spare: &mut Spare,
         taken: u64,
         probe: &mut P,
     ) -> TakeAnswer
@@ -100,7 +102,7 @@ impl Queue {
             return TakeAnswer::NotYet(self.key.first + taken);
         }
         probe.at(3);
-        let stored = self.move_out(place, taken);
+        let stored = self.move_out(place, taken, spare.take());
         probe.at(4);
         self.free_place::<Brand>(place, taken, &stored);
         let StoredBlock { writer, block } = stored;

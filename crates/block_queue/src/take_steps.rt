@@ -12,6 +12,7 @@ use crate::plays::{Asks, FreePlace, Hang, TakeSequence, TakeTail};
 use crate::queue::Queue;
 use crate::queue_object::StoredBlock;
 use crate::rule::Place;
+use crate::spare::{Slot, Spare};
 
 impl Queue {
     /// Reads whether the queue has ended.
@@ -45,9 +46,9 @@ impl Queue {
         self.table.shared.load::<TakeSequence<M>>(seat, word)
     }
 
-    /// Takes the block out of the slot of its place.
+    /// Takes the block out of the slot of its place, and leaves this memory there.
     // Exchange of the slot, which is the seat's, as plain memory. Seat: as it was.
-    pub(crate) fn move_out(&self, seat: &mut Place, taken: u64) -> StoredBlock
+    pub(crate) fn move_out(&self, seat: &mut Place, taken: u64, spare: Spare) -> StoredBlock
         requires seat { seat.old.table_id ≡ self.now.table.shared.table_id }
         requires full { (write : _) ×
             (seat.old.me.1 ≡ (place_of self.now.key.limit taken, Some write) ∷ []) }
@@ -57,7 +58,11 @@ impl Queue {
             (seat.old.me.0, (place_of self.now.key.limit taken, None) ∷ []) }
     {
         let slot = place(self.key.limit, taken);
-        self.table.shared.exchange(seat, slot, None).unwrap()
+        self.table
+            .shared
+            .exchange(seat, slot, Slot::empty(spare))
+            .into_stored()
+            .unwrap()
     }
 
     /// Frees the place for the next lap.

@@ -106,6 +106,22 @@ fn a_queue_of_one_place_is_full_with_one_block(rt: HostRuntime) -> Result<(), Fa
 }
 
 #[test]
+fn a_block_that_was_read_comes_back(rt: HostRuntime) -> Result<(), Fail> {
+    let mut one = One::open(rt.alloc(), 1, 0)?;
+    assert_eq!(rt; taken(one.put(&rt, block(rt.alloc(), b"abcdef")?)), 1);
+    assert!(rt; one.take_back());
+    assert_eq!(rt; taken(one.put(&rt, block(rt.alloc(), b"g")?)), 2);
+    assert!(rt; one.take_back());
+    assert_eq!(rt; one.room(rt.alloc()), 0);
+    assert_eq!(rt; taken(one.put(&rt, block(rt.alloc(), b"h")?)), 3);
+    assert_eq!(rt; one.room(rt.alloc()), 6);
+    assert!(rt; was_full(one.put(&rt, block(rt.alloc(), b"i")?), b"i", 2));
+    assert_eq!(rt; one.room(rt.alloc()), 6);
+    assert!(rt; gave(one.take(), b"h", 0, 3));
+    Ok(())
+}
+
+#[test]
 fn what_stands_is_gathered_after_a_hangup(rt: HostRuntime) -> Result<(), Fail> {
     let mut one = One::open(rt.alloc(), 3, 7)?;
     assert_eq!(rt; taken(one.put(&rt, block(rt.alloc(), b"a")?)), 8);

@@ -1,4 +1,4 @@
-//! What a seat of a queue knows. Before this: `places`. After it: `rule`, what holds of all seats.
+//! What a seat of a queue knows. Before this: `places`. After it: `spare`.
 //! No value of a stage or a view is ever made: contracts alone see them, and they take no memory.
 use crate::entry::Entry;
 use histories::Account;

@@ -1,5 +1,6 @@
 //! What is left of a write that was taken out of the queue. Before this: `waking`.
 //! After it: `hand`.
+use block_queue::Spare;
 use std::alloc::{AllocError, Global};
 use std::marker::Model;
 use sync_base::Piece;
@@ -30,11 +31,12 @@ impl Model for Begun {
     ghost invariant = { λ begun. begun.at ≤ length begun.block };
 }
 
-/// What a read gave of it, and what is left.
+/// What a read gave of it, what is left, and the memory of the block where nothing is.
 #[derive(Drop)]
 pub(crate) struct Given {
     pub(crate) count: usize,
     pub(crate) left: Option<Begun>,
+    pub(crate) spare: Spare,
 }
 
 impl Begun {
@@ -71,6 +73,7 @@ impl Begun {
             Given {
                 count: left,
                 left: None,
+                spare: Spare::of(block),
             }
         } else {
             let count = buffer.len();
@@ -83,6 +86,7 @@ impl Begun {
                     writer,
                     place,
                 }),
+                spare: Spare::none(),
             }
         }
     }

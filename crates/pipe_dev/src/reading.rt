@@ -220,10 +220,11 @@ fn try_with(
         (reader_with hand proc.old) buffer.old result.found
         (reader_with result.hand proc.new) buffer.new }
 {
-    let ReadHand { seat, rest } = hand;
+    let ReadHand { mut seat, rest } = hand;
     match rest {
         Some(begun) => {
-            let Given { count, left } = begun.give(buffer);
+            let Given { count, left, spare } = begun.give(buffer);
+            seat.keep_spare(spare);
             Tried {
                 hand: ReadHand { seat, rest: left },
                 found: Found::Got(count),
@@ -253,7 +254,9 @@ fn try_next(
     match queue.take(&mut seat) {
         TakeAnswer::Block(block, writer, number) => {
             wake_writers(proc, row, number);
-            let Given { count, left } = Begun::whole(block, writer, number - 1).give(buffer);
+            let whole = Begun::whole(block, writer, number - 1);
+            let Given { count, left, spare } = whole.give(buffer);
+            seat.keep_spare(spare);
             Tried {
                 hand: ReadHand { seat, rest: left },
                 found: Found::Got(count),

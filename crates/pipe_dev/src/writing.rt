@@ -9,7 +9,7 @@ ghost use Rattle.pipe_dev.specs.WriteSteps.{IfOver, IfAgain};
 use crate::row::Row;
 use crate::waking::wake;
 use crate::write_end::WriteEnd;
-use block_queue::{PutAnswer, PutSeat, Queue};
+use block_queue::{PutAnswer, PutSeat, Queue, Spare};
 use sleep_wakeup::Proc;
 use std::alloc::Global;
 use std::sync::Wait;
@@ -59,13 +59,23 @@ impl<'p> WriteEnd<'p> {
         if !self.row.is_known_to(proc) {
             return Err(Fault::NoRendez);
         }
-        let block = Piece::of(Vec::from_slice(alloc, bytes)?);
-        let Some(seat) = self.seat.take() else {
+        let Some(mut seat) = self.seat.take() else {
             unreachable!()
         };
-        let Done { seat, answer } = write_with(self.queue, &self.row, rt, seat, proc, block);
-        self.seat = Some(seat);
-        answer
+        match seat.take_spare().filled(alloc, bytes) {
+            Ok(block) => {
+                let Done { seat, answer } = write_with(
+                    self.queue, &self.row, rt, seat, proc, block,
+                );
+                self.seat = Some(seat);
+                answer
+            }
+            Err(spare) => {
+                seat.keep_spare(spare);
+                self.seat = Some(seat);
+                Err(Fault::Memory)
+            }
+        }
     }
 }
 
@@ -154,21 +164,28 @@ fn write_round<R: Wait>(
                 seat,
                 turn: Turn::Again(back),
             },
-            Err(fault) => Round {
-                seat,
-                turn: Turn::Over(Err(fault)),
-            },
+            Err(fault) => {
+                seat.keep_spare(Spare::of(back));
+                Round {
+                    seat,
+                    turn: Turn::Over(Err(fault)),
+                }
+            }
         },
-        PutAnswer::Hungup(_) => {
+        PutAnswer::Hungup(back) => {
+            seat.keep_spare(Spare::of(back));
             proc.put_back(NoteSet::of(Note::ClosedPipe));
             Round {
                 seat,
                 turn: Turn::Over(Err(Fault::Hungup)),
             }
         }
-        PutAnswer::Worn(_) => Round {
-            seat,
-            turn: Turn::Over(Err(Fault::Worn)),
-        },
+        PutAnswer::Worn(back) => {
+            seat.keep_spare(Spare::of(back));
+            Round {
+                seat,
+                turn: Turn::Over(Err(Fault::Worn)),
+            }
+        }
     }
 }

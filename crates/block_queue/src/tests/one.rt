@@ -5,7 +5,7 @@ ghost use Rattle.histories.specs.Account.{numbers_from};
 ghost use Rattle.block_queue.specs.Gather.{AreAllSeats};
 ghost use Rattle.block_queue.specs.Seats.{IsPutSeatOf, IsTakeSeatOf, put_account, take_account};
 
-use crate::{Gathered, Opened, PutAnswer, PutSeat, Queue, TakeAnswer, TakeSeat, Ungathered};
+use crate::{Gathered, Opened, PutAnswer, PutSeat, Queue, Spare, TakeAnswer, TakeSeat, Ungathered};
 use std::alloc::Global;
 use std::sync::Wait;
 use sync_base::{Fault, Piece};
@@ -75,6 +75,30 @@ impl One {
 
     pub fn take(&mut self) -> TakeAnswer {
         self.queue.take(&mut self.take)
+    }
+
+    /// Whether a block was there to take out. Its memory is given back.
+    pub fn take_back(&mut self) -> bool {
+        match self.take() {
+            TakeAnswer::Block(block, _, _) => {
+                self.take.keep_spare(Spare::of(block));
+                true
+            }
+            _ => false,
+        }
+    }
+
+    /// How many bytes the memory has room for that the writer keeps.
+    pub fn room(&mut self, alloc: Global) -> usize {
+        match self.put.take_spare().filled(alloc, b"") {
+            Ok(block) => {
+                let bytes = block.into_vec();
+                let room = bytes.capacity();
+                self.put.keep_spare(Spare::of(Piece::of(bytes)));
+                room
+            }
+            Err(_) => 0,
+        }
     }
 
     pub fn hang_put(&mut self) {

@@ -9,12 +9,13 @@ use crate::{
     Ends, Held, Long, Parts, Pipe, PipeStart, ReadAnswer, ReadEnd, TryAnswer, Unfinished, WriteEnd,
     finish,
 };
+use block_queue::Spare;
 use sleep_wakeup::{Proc, Started};
 use std::alloc::Global;
 use std::marker::Model;
 use std::process::Abort;
 use std::sync::Wait;
-use sync_base::{Fault, NoteSet};
+use sync_base::{Fault, NoteSet, Piece};
 
 /// A process that reads and one that writes, with all ends of the direction.
 #[derive(Drop)]
@@ -105,6 +106,22 @@ fn held_of<'a>(rt: &impl Abort, alloc: Global, read: ReadEnd<'a>, writes: Vec<Wr
     }
 }
 
+// The memory that a write end keeps stays there.
+fn room_of(end: &mut WriteEnd<'_>, alloc: Global) -> usize
+    ensures { end.new ≡ end.old }
+{
+    let Some(seat) = &mut end.seat else { return 0 };
+    match seat.take_spare().filled(alloc, b"") {
+        Ok(block) => {
+            let bytes = block.into_vec();
+            let room = bytes.capacity();
+            seat.keep_spare(Spare::of(Piece::of(bytes)));
+            room
+        }
+        Err(_) => 0,
+    }
+}
+
 impl<'a> Lone<'a> {
     /// Each of the two.
     pub fn split(self) -> Split<'a> {
@@ -162,6 +179,16 @@ impl<'a> Lone<'a> {
     #[tactic(auto, using(crate::proofs::LoneLemmas::still_written))]
     pub fn write_long<R: Wait>(&mut self, rt: &R, alloc: Global, bytes: &[u8]) -> Long {
         write_on(rt, alloc, &mut self.writer, &mut self.write, bytes)
+    }
+
+    /// How many bytes the memory has room for that the writer keeps for its next block.
+    pub fn room(&mut self, alloc: Global) -> usize {
+        room_of(&mut self.write, alloc)
+    }
+
+    /// Posts these notes to the writer.
+    pub fn note_writer(&mut self, notes: NoteSet) {
+        self.writer.put_back(notes)
     }
 
     #[tactic(auto, using(crate::proofs::LoneLemmas::still_written))]

@@ -1,12 +1,20 @@
 -- nothing was called on any of them, and these are all
 use Rattle.std.proofs.Common.{◌≡◌, sym, ap, subst, ◌∙◌, map}
 use Rattle.histories.specs.Account.{numbers_from}
+use Rattle.histories.proofs.ListLemmas.{all_weaker}
 use Rattle.std.specs.List.{AllByRecursion}
 use Rattle.pipe_dev.specs.Ends.{ReadSide, WriteSide, AreOfOne}
-use Rattle.pipe_dev.specs.Openings.{IsNewWriteEnd}
-use Rattle.pipe_dev.specs.Seating.{side_of}
+use Rattle.pipe_dev.specs.Openings.{IsNewWriteEnd, IsSeatToGive}
+use Rattle.pipe_dev.specs.Seating.{side_of, IsHandOf}
 use Rattle.pipe_dev.proofs.SeatingLemmas.{new_writes, new_one, new_order}
 use Rattle.pipe_dev.proofs.end.lay_out.Goals as goal
+
+pub seat_writers-requires-clause-seats : goal.seat_writers-requires-clause-seats
+seat_writers-requires-clause-seats c =
+    let queue = c.args.queue.now in
+    let row = c.args.lane.row in
+    all_weaker (IsSeatToGive queue row) (IsHandOf queue row) (λ seat to_give. to_give.hand)
+    c.args.lane.puts.items c.requires.lane.writes
 
 pub returns : goal.returns
 returns c =

@@ -18,8 +18,8 @@ loop-writer-preserved c =
       table = c.hand-seat.ensures.place.table ∙ c.loop-writer.invariant.table;
       view = c.hand-seat.ensures.keeper ∙ ap (λ me. (keeper_view me.0, me.1)) view ∙ ap (λ v. (v, [])) (handed_on c.args.self.now.key.writers c.loop-writer.writer more);
       puts = subst (AreNewPutSeats c.args.self.now (c.loop-writer.writer + 1)) (sym c.push_reserved.ensures.items)
-          (one_more_seat c.args.self.now c.loop-writer.writer _ (record { badge = c.into_badge.result; writer = c.loop-writer.writer }) c.loop-writer.invariant.puts
-          (new_put_seat c.args.self.now (record { badge = c.into_badge.result; writer = c.loop-writer.writer }) c.hand-seat.result.me.0
+          (one_more_seat c.args.self.now c.loop-writer.writer _ (record { badge = c.into_badge.result; writer = c.loop-writer.writer; spare = tt }) c.loop-writer.invariant.puts
+          (new_put_seat c.args.self.now (record { badge = c.into_badge.result; writer = c.loop-writer.writer; spare = tt }) c.hand-seat.result.me.0
           (c.into_badge.ensures.0 ∙ c.hand-seat.ensures.table ∙ c.loop-writer.invariant.table) c.into_badge.ensures.2 more known));
       room = omega arith;
     }

@@ -3,16 +3,20 @@ use Rattle.std.specs.Prelude.{replicate}
 use Rattle.atomic_table.specs.Table.{opening}
 use Rattle.block_queue.specs.Rule.{IsOneQueue, first_view}
 use Rattle.block_queue.specs.Seats.{head_view}
+use Rattle.block_queue.specs.declared.view.Key.{Key}
 use Rattle.block_queue.proofs.AllSeatsLemmas.{new_are_all}
 use Rattle.block_queue.proofs.OpeningKeeps.{opening_keeps}
 use Rattle.block_queue.proofs.queue.Queue.new_from.Goals as goal
 
-pub vacant-requires : goal.vacant-requires
-vacant-requires c =
+pub new-requires : goal.new-requires
+new-requires c =
     let some_room : 0 < c.args.limit = omega arith in
-    subst (λ words. IsOneQueue (record { limit = c.args.limit; first = c.args.first; writers = c.args.writers }) (opening words (replicate c.args.limit None) (first_view (record { limit = c.args.limit; first = c.args.first; writers = c.args.writers }))))
+    let key : Key = record { limit = c.args.limit; first = c.args.first; writers = c.args.writers } in
+    subst (λ slots. IsOneQueue key (opening c.as_slice.result.now slots (first_view key)))
+    (sym c.in_ok-slots.ensures)
+    (subst (λ words. IsOneQueue key (opening words (replicate c.args.limit None) (first_view key)))
     (sym (c.as_slice.ensures.value ∙ c.in_ok-words.ensures))
-    (opening_keeps (record { limit = c.args.limit; first = c.args.first; writers = c.args.writers }) some_room c.if-first-gt-LAST_WRITE.false)
+    (opening_keeps key some_room c.if-first-gt-LAST_WRITE.false))
 
 pub returns-clause-all : goal.returns-clause-all
 returns-clause-all c =
