@@ -3,7 +3,6 @@ pub mod CheckKeeps
 pub mod FlagsLemmas
 pub mod KindSteps
 pub mod LawLemmas
-pub mod LookLemmas
 pub mod OpeningKeeps
 pub mod PlaceLemmas
 pub mod ProcessLemmas

@@ -1,5 +1,5 @@
 -- What a process is after a step.
-use Rattle.std.proofs.Common.{◌≡◌, ℕ, ◌<◌, true, false, ◌∷◌, if◌then◌else◌, sym}
+use Rattle.std.proofs.Common.{◌≡◌, ℕ, ◌<◌, true, ◌∷◌, if◌then◌else◌, sym}
 use Rattle.std.proofs.Common.{◌∙◌, ap, subst}
 use Rattle.atomic_table.specs.Seated.{TableId}
 use Rattle.sleep_core.specs.declared.event.Event.{Event}
@@ -51,30 +51,6 @@ made_is sizes event before found after told table has is worth =
             answer = told;
           } ∷ before.trace else before.trace;
     }) worth
-
--- a step that is not worth keeping leaves the process as it was
-pub unmade_is : (sizes : Sizes) (event : Event) (before : Process) (found : ℕ) (after : Process)
-    (told : Answer) → after.table ≡ before.table
-    → (has : HasMade sizes event (part_of before) found (part_of after))
-    → reply event has.stage has.word ≡ told → is_kept told event ≡ false → after ≡ before
-unmade_is sizes event before found after told table has is lost =
-    process_is after before.table (part_after event (reply event has.stage has.word)
-    (part_of before)) table has.after_is
-    ∙ ap (λ t. record {
-      table = before.table;
-      pid = before.pid;
-      trace = (part_after event t (part_of before)).trace;
-    }) is
-    ∙ ap (λ b. record {
-      table = before.table;
-      pid = before.pid;
-      trace =
-          if b then record {
-            maker = before.pid;
-            event = event;
-            answer = told;
-          } ∷ before.trace else before.trace;
-    }) lost
 
 -- a process belongs to its words still
 pub belongs_still : (words : Words) (event : Event) (before : Process) (found : ℕ) (after : Process)

@@ -8,4 +8,5 @@ pub mod Rule
 pub mod States
 pub mod Steps
 pub mod View
+pub mod Waking
 pub mod Words

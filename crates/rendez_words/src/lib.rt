@@ -1,11 +1,12 @@
 //! The words of sleep and wakeup on running threads: each event of the core is one atomic step on
 //! one word, with no lock round it. Read `flags_word`, `view`, `rule`, `plays`, `states`,
-//! `parking`, `words`, `steps`, `waiting`, `sleeper`, `raiser`, `notes`, `released` and then
-//! `laws`.
+//! `parking`, `words`, `steps`, `waking`, `looking`, `waiting`, `sleeper`, `raiser`, `notes`,
+//! `released` and then `laws`.
 #![tactic(auto)]
 
 mod flags_word;
 pub mod laws;
+mod looking;
 mod notes;
 mod parking;
 mod plays;
@@ -19,6 +20,7 @@ mod steps;
 mod tests;
 pub mod view;
 mod waiting;
+mod waking;
 pub mod words;
 
 pub use states::{

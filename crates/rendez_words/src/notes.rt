@@ -36,9 +36,8 @@ impl Words {
             wake: false,
             notes: set,
         });
-        let word = self.flags_word(pid);
-        self.fetch_or(&mut seat.stepper, word, bits, event);
-        self.wake(pid);
+        let unwoken = self.set_flags(&mut seat.stepper, pid, bits, event);
+        self.wake(unwoken, &seat.stepper);
         Ok(())
     }
 

@@ -1,14 +1,24 @@
 //! Who parks. Before this: `plays`. After it: `words`.
-//! It is no word of the table and no clause speaks of it: it keeps a mark and a note from calling
-//! the system where the process does not park.
-ghost use Rattle.std.specs.Prelude.{◌≡◌, ◌<◌, ◌^◌, IfOk};
+//! What a process says here is no word of the table, and decides nothing: it keeps a mark and a
+//! note from calling the system where the process does not park.
+//! Each step of parking and of waking gives a value that the next one spends, and that can't be
+//! dropped. `put` and `get` alone touch the words, and tell what they wrote and found.
+ghost use Rattle.std.specs.Prelude.{◌≡◌, ◌≢◌, ◌==◌, ◌<◌, ◌^◌, IfOk};
+ghost use Rattle.rendez_words.specs.declared.parking.TheConstants.{AWAKE, PARKS};
 
 use std::alloc::{AllocError, Global};
 use std::marker::Model;
 use std::sync::atomic::AtomicU64;
 use std::sync::atomic::Ordering::SeqCst;
+use sync_base::Pid;
 
-/// Of each process, 1 where it parks or is about to, else 0.
+/// What a process says that doesn't park.
+const AWAKE: u64 = 0;
+
+/// What a process says that parks, or is about to.
+const PARKS: u64 = 1;
+
+/// What each process says of itself.
 #[derive(Drop)]
 pub struct Parking {
     parks: Vec<AtomicU64>,
@@ -22,6 +32,33 @@ impl Model for Parking {
     ghost view = { λ parking. length parking.parks.items };
 }
 
+/// What a process says of itself, as it was written or found.
+#[derive(Clone, Copy)]
+pub(crate) struct Said {
+    pid: u64,
+    word: u64,
+}
+
+/// A process has said that it parks. `leave` spends it.
+#[must_use]
+pub(crate) struct Announced {
+    said: Said,
+    ghost parks: { said.word ≡ PARKS },
+}
+
+/// The flags of a process were set, and it has yet to be woken. `wake` spends it.
+#[must_use]
+pub(crate) struct Unwoken {
+    pid: u64,
+    found: u64,
+}
+
+/// What is said by a process that is to be woken. Who parks is roused, and others are passed.
+#[must_use]
+pub(crate) struct Found {
+    said: Said,
+}
+
 impl Parking {
     pub(crate) fn new(alloc: Global, procs: u64) -> Result<Parking, AllocError>
         requires { procs < 2 ^ 32 }
@@ -29,30 +66,106 @@ impl Parking {
     {
         let mut parks = Vec::with_capacity(alloc, procs as usize)?;
         for _ in 0..procs {
-            parks.push(AtomicU64::new(0))?;
+            parks.push(AtomicU64::new(AWAKE))?;
         }
         Ok(Parking { parks })
     }
 
     /// Says that the process is about to park. It has to look at its flags again before it does.
-    // A mark that finds 0 here comes before this step, so that look finds the mark.
-    pub(crate) fn announce(&self, pid: u64)
-        requires { pid < self.now }
+    // A mark that finds it awake comes before this step, so that look finds the mark.
+    pub(crate) fn announce(&self, pid: Pid) -> Announced
+        requires { pid.0 < self.now }
+        ensures { result.said.pid ≡ pid.0 }
     {
-        self.parks[pid as usize].store(1, SeqCst);
+        let said = self.put(pid.0, PARKS);
+        Announced { said }
     }
 
     /// Says that the process doesn't park.
-    pub(crate) fn leave(&self, pid: u64)
-        requires { pid < self.now }
+    pub(crate) fn leave(&self, announced: Announced) -> Said
+        requires { announced.said.pid < self.now }
+        ensures pid { result.pid ≡ announced.said.pid }
+        ensures awake { result.word ≡ AWAKE }
     {
-        self.parks[pid as usize].store(0, SeqCst);
+        let Announced { said } = announced;
+        self.put(said.pid, AWAKE)
     }
 
-    /// Whether the process parks, or is about to.
-    pub(crate) fn has(&self, pid: u64) -> bool
-        requires { pid < self.now }
+    /// Finds what is said by the process that is to be woken.
+    pub(crate) fn find(&self, unwoken: Unwoken) -> Found
+        requires { unwoken.pid < self.now }
+        ensures { result.said.pid ≡ unwoken.pid }
     {
-        self.parks[pid as usize].load(SeqCst) == 1
+        let Unwoken { pid, found: _ } = unwoken;
+        let said = self.get(pid);
+        Found { said }
+    }
+
+    // Store of what the process says.
+    fn put(&self, pid: u64, word: u64) -> Said
+        requires { pid < self.now }
+        ensures pid { result.pid ≡ pid }
+        ensures word { result.word ≡ word }
+    {
+        self.parks[pid as usize].store(word, SeqCst);
+        Said { pid, word }
+    }
+
+    // Load of what the process says.
+    fn get(&self, pid: u64) -> Said
+        requires { pid < self.now }
+        ensures { result.pid ≡ pid }
+    {
+        let word = self.parks[pid as usize].load(SeqCst);
+        Said { pid, word }
+    }
+}
+
+impl Announced {
+    /// The process that has said so.
+    pub(crate) fn pid(&self) -> Pid
+        ensures { result.0 ≡ self.now.said.pid }
+    {
+        Pid(self.said.pid)
+    }
+}
+
+impl Unwoken {
+    /// The flags of the process, in which this was found, were set.
+    pub(crate) fn new(pid: Pid, found: u64) -> Unwoken
+        ensures pid { result.pid ≡ pid.0 }
+        ensures found { result.found ≡ found }
+    {
+        Unwoken { pid: pid.0, found }
+    }
+}
+
+impl Found {
+    /// The process that is to be woken.
+    pub(crate) fn pid(&self) -> Pid
+        ensures { result.0 ≡ self.now.said.pid }
+    {
+        Pid(self.said.pid)
+    }
+
+    /// Whether it parks, or is about to.
+    pub(crate) fn parks(&self) -> bool
+        ensures { result ≡ (self.now.said.word == PARKS) }
+    {
+        self.said.word == PARKS
+    }
+
+    /// It is woken by a call of the system.
+    pub(crate) fn rouse(self)
+        requires { self.said.word ≡ PARKS }
+    {
+        let Found { said: _ } = self;
+    }
+
+    /// It doesn't park, so it needs no call: it looks at its flags again before it does.
+    pub(crate) fn pass(self)
+        requires { self.said.word ≢ PARKS }
+    {
+        let Found { said: _ } = self;
     }
 }

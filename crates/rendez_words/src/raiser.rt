@@ -116,9 +116,8 @@ impl Words {
             wake: true,
             notes: NoteSet::empty(),
         });
-        let word = self.flags_word(sleeper);
-        self.fetch_or(&mut stepper, word, mark, event);
-        self.wake(sleeper);
+        let unwoken = self.set_flags(&mut stepper, sleeper, mark, event);
+        self.wake(unwoken, &stepper);
         let seat = Seat { stepper };
         let done = Done { rendez, level };
         Returned { seat, done }

@@ -9,6 +9,7 @@ ghost use Rattle.rendez_words.specs.Plays.{IsStep, HasMade, part_of};
 ghost use Rattle.rendez_words.specs.Rule.{place};
 ghost use Rattle.rendez_words.specs.Words.{table_of, sizes_of, procs_of, rendez_of};
 
+use crate::parking::Unwoken;
 use crate::plays::{Make, Making};
 use crate::states::Stepper;
 use crate::words::Words;
@@ -166,22 +167,26 @@ impl Words {
             .fetch_max::<Make<M>>(&mut stepper.place, word, least)
     }
 
-    /// Sets bits of the word, and answers what it was.
-    pub(crate) fn fetch_or(
+    /// Sets bits of the flags of the process, which has then yet to be woken.
+    pub(crate) fn set_flags(
         &self,
         stepper: &mut Stepper,
-        word: usize,
+        pid: Pid,
         bits: u64,
         event: Event,
-    ) -> u64
+    ) -> Unwoken
+        requires pid { pid.0 < procs_of self.now }
         requires table { stepper.old.table ≡ table_of self.now }
-        requires step { IsStep (sizes_of self.now) event (part_of stepper.old) word
-            (λ n. bit_or n bits) }
+        requires step { IsStep (sizes_of self.now) event (part_of stepper.old)
+            (place (sizes_of self.now) (FlagsOf pid.0)) (λ n. bit_or n bits) }
         ensures table { stepper.new.table ≡ stepper.old.table }
         ensures made { HasMade (sizes_of self.now) event
-            (part_of stepper.old) result (part_of stepper.new) }
+            (part_of stepper.old) result.found (part_of stepper.new) }
+        ensures pid { result.pid ≡ pid.0 }
     {
-        self.fetch_or_for::<Brand>(stepper, word, bits, &event)
+        let word = self.flags_word(pid);
+        let found = self.fetch_or_for::<Brand>(stepper, word, bits, &event);
+        Unwoken::new(pid, found)
     }
 
     fn fetch_or_for<M: Making>(

@@ -1,16 +1,14 @@
-//! How a process waits for its flags, and how it is woken. Before this: `steps`. After it:
-//! `sleeper`.
+//! How a process waits for its flags. Before this: `looking`. After it: `sleeper`.
 //! A process looks some times, then yields between its looks, and then parks. Who sets its flags
 //! wakes it only where it parks, and else calls no system.
-ghost use Rattle.std.specs.Prelude.{◌≡◌, ◌<◌};
-ghost use Rattle.std.specs.Bool.{OnTrue, OnFalse};
+ghost use Rattle.std.specs.Prelude.{◌≡◌, IfSome, IfNone};
 ghost use Rattle.sleep_core.specs.declared.event.Event.TheVariants.{Look};
 ghost use Rattle.rendez_words.specs.FlagsWord.{flags_word};
 ghost use Rattle.rendez_words.specs.Plays.{HasMade, part_of};
 ghost use Rattle.rendez_words.specs.Process.{phase_in, pid_in};
-ghost use Rattle.rendez_words.specs.States.{IsLooking, IsEnding, EndsWait, KeepsWait};
+ghost use Rattle.rendez_words.specs.States.{IsLooking, IsEnding, EndsWait};
 ghost use Rattle.rendez_words.specs.Steps.{clears};
-ghost use Rattle.rendez_words.specs.Words.{IsProcessOf, table_of, sizes_of, procs_of};
+ghost use Rattle.rendez_words.specs.Words.{IsProcessOf, sizes_of};
 
 use crate::flags_word::flags_in;
 use crate::states::Stepper;
@@ -19,7 +17,7 @@ use sleep_core::{Event, ProcFlags};
 use std::hint::spin_loop;
 use std::sync::Wait;
 use std::thread::yield_now;
-use sync_base::{NoteSet, Pid};
+use sync_base::NoteSet;
 
 /// How often a process looks before it yields.
 const LOOKS: u64 = 50;
@@ -46,66 +44,52 @@ impl Words {
             (part_of stepper.old) (flags_word result) (part_of stepper.new) }
         ensures ends { EndsWait notes_end result }
     {
-        let pid = stepper.pid();
-        let mut word = self.look_once(stepper, notes_end);
-        let mut looks = 0;
-        for _ in rt.forever() {
-            if ends_wait(flags_in(word), notes_end) {
-                break;
-            }
-            self.rest(rt, pid, looks, word);
-            if looks <= LOOKS + YIELDS {
-                looks += 1;
-            }
-            word = self.look_once(stepper, notes_end);
+        match self.watch(stepper, notes_end) {
+            Some(flags) => flags,
+            None => self.rest(rt, stepper, notes_end),
         }
-        if looks > LOOKS + YIELDS {
-            self.parking.leave(pid.0);
-        }
-        flags_in(word)
     }
 
-    // Step Look: load of the flags. Seat: Asleep, then Woken or Leaving, or Awaiting, then Woken;
-    // as it was where the flags don't end its wait.
-    fn look_once(&self, stepper: &mut Stepper, notes_end: bool) -> u64
+    // Looks for a while, with pauses and then yields between the looks.
+    fn watch(&self, stepper: &mut Stepper, notes_end: bool) -> Option<ProcFlags>
+        requires process { IsProcessOf self.now stepper.old }
+        requires looking { IsLooking notes_end (phase_in stepper.old) }
+        ensures table { stepper.new.table ≡ stepper.old.table }
+        ensures made { IfSome result (λ flags. HasMade (sizes_of self.now)
+            (Look (pid_in stepper.old)) (part_of stepper.old) (flags_word flags)
+            (part_of stepper.new)) }
+        ensures ends { IfSome result (EndsWait notes_end) }
+        ensures same { IfNone result (stepper.new ≡ stepper.old) }
+    {
+        for looks in 0..LOOKS + YIELDS {
+            if let Ok(flags) = self.look_at(stepper, notes_end) {
+                return Some(flags);
+            }
+            pause(looks);
+        }
+        None
+    }
+
+    // Says that the process parks, and then looks and parks in turn.
+    fn rest<R: Wait>(&self, rt: &R, stepper: &mut Stepper, notes_end: bool) -> ProcFlags
         requires process { IsProcessOf self.now stepper.old }
         requires looking { IsLooking notes_end (phase_in stepper.old) }
         ensures table { stepper.new.table ≡ stepper.old.table }
         ensures made { HasMade (sizes_of self.now) (Look (pid_in stepper.old))
-            (part_of stepper.old) result (part_of stepper.new) }
+            (part_of stepper.old) (flags_word result) (part_of stepper.new) }
+        ensures ends { EndsWait notes_end result }
     {
-        let _ = notes_end;
-        let pid = stepper.pid();
-        self.load(stepper, self.flags_word(pid), Event::Look { pid })
-    }
-
-    // What a process does between two looks: it pauses, then yields, then says that it will park,
-    // and then parks, if its flags are still what it saw.
-    fn rest<R: Wait>(&self, rt: &R, pid: Pid, looks: u64, seen: u64)
-        requires pid { pid.0 < procs_of self.now }
-    {
-        if looks < LOOKS {
-            for _ in 0..PAUSES {
-                spin_loop();
+        let announced = self.parking.announce(stepper.pid());
+        for _ in rt.forever() {
+            match self.look_behind(&announced, stepper, notes_end) {
+                Ok(flags) => {
+                    self.parking.leave(announced);
+                    return flags;
+                }
+                Err(seen) => self.park(rt, seen),
             }
-        } else if looks < LOOKS + YIELDS {
-            yield_now();
-        } else if looks == LOOKS + YIELDS {
-            self.parking.announce(pid.0);
-        } else {
-            let expected = (seen & 0xffff_ffff) as u32;
-            self.table.shared.park(rt, self.flags_word(pid), expected);
         }
-    }
-
-    /// Wakes the process where it parks, or is about to. Otherwise it is a load, and calls no
-    /// system.
-    pub(crate) fn wake(&self, pid: Pid)
-        requires pid { pid.0 < procs_of self.now }
-    {
-        if self.parking.has(pid.0) {
-            self.table.shared.wake_one(self.flags_word(pid));
-        }
+        unreachable!()
     }
 
     /// Ends a sleep, and takes the notes.
@@ -123,10 +107,13 @@ impl Words {
     }
 }
 
-// Whether the flags end a wait.
-fn ends_wait(flags: ProcFlags, notes_end: bool) -> bool
-    ensures ends { OnTrue result (EndsWait notes_end flags) }
-    ensures parks { OnFalse result (KeepsWait notes_end flags) }
-{
-    flags.wake || notes_end && !flags.notes.is_empty()
+// What a process does behind a look that found nothing, by how often it has looked.
+fn pause(looks: u64) {
+    if looks < LOOKS {
+        for _ in 0..PAUSES {
+            spin_loop();
+        }
+    } else {
+        yield_now();
+    }
 }

@@ -1,12 +1,12 @@
-use Rattle.std.proofs.Common.{ap, arith}
+use Rattle.std.proofs.Common.{ap, arith, refl}
 use Rattle.rendez_words.specs.declared.view.Sizes.{Sizes}
 use Rattle.rendez_words.proofs.KindSteps.{note_step}
 use Rattle.rendez_words.proofs.words.Words.note.Goals as goal
 
-pub fetch_or-requires-clause-step : goal.fetch_or-requires-clause-step
-fetch_or-requires-clause-step c =
+pub set_flags-unwoken-requires-clause-step : goal.set_flags-unwoken-requires-clause-step
+set_flags-unwoken-requires-clause-step c =
     let branch = c.if-pid-self.false in
     let sizes = c.args.self.now.sizes_are in
     let same = ap (λ (k : Sizes). k.procs) sizes in
     note_step c.args.self.now c.seat.inside.stepper _ _ _ _
-    (omega arith) c.flags_word-word.ensures c.word_from-bits.ensures
+    (omega arith) refl c.word_from-bits.ensures

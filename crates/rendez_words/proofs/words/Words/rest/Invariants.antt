@@ -1,0 +1,8 @@
+use Rattle.std.proofs.Common.{◌≡◌}
+use Rattle.rendez_words.proofs.words.Words.rest.Given as goal
+
+-- no look has changed the process so far
+abbrev pub invariant-loop : goal.invariant-loop
+invariant-loop g l =
+    (goal.iterator-loop g).can_next l.iterator' × (goal.iterator-loop g).is_finite l.iterator'
+    × (l.stepper ≡ l.fn.stepper)

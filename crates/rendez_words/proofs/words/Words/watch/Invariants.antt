@@ -1,0 +1,6 @@
+use Rattle.std.proofs.Common.{◌≡◌}
+use Rattle.rendez_words.proofs.words.Words.watch.Given as goal
+
+-- no look has changed the process so far
+abbrev pub invariant-loop-looks : goal.invariant-loop-looks
+invariant-loop-looks l = l.stepper ≡ l.fn.stepper

@@ -1,0 +1,124 @@
+//! How a process looks at its flags, and parks until they change. Before this: `waking`.
+//! After it: `waiting`.
+//! A process parks on what it saw there behind its announcement, and on nothing else: `look_behind`
+//! alone gives a `Seen`, and `park` alone spends it.
+ghost use Rattle.std.specs.Prelude.{◌≡◌, ◌<◌, ◌%◌, ◌^◌, OnErr, IfOk, IfErr, MatchResult};
+ghost use Rattle.std.specs.Bool.{OnTrue, OnFalse};
+ghost use Rattle.sleep_core.specs.Table.Cell.{FlagsOf};
+ghost use Rattle.sleep_core.specs.declared.event.Event.TheVariants.{Look};
+ghost use Rattle.rendez_words.specs.FlagsWord.{flags_word};
+ghost use Rattle.rendez_words.specs.Plays.{HasMade, part_of};
+ghost use Rattle.rendez_words.specs.Process.{phase_in, pid_in};
+ghost use Rattle.rendez_words.specs.Rule.{place};
+ghost use Rattle.rendez_words.specs.States.{IsLooking, EndsWait, KeepsWait};
+ghost use Rattle.rendez_words.specs.Words.{IsProcessOf, sizes_of, procs_of};
+
+use crate::flags_word::flags_in;
+use crate::parking::Announced;
+use crate::states::Stepper;
+use crate::words::Words;
+use sleep_core::{Event, ProcFlags};
+use std::sync::Wait;
+
+/// What a process saw in its flags behind its announcement, and they don't end its wait.
+#[must_use]
+pub(crate) struct Seen<'a> {
+    announced: &'a Announced,
+    word: u64,
+}
+
+impl Words {
+    /// Looks at the flags of the process: what they are where they end its wait, or else the word.
+    pub(crate) fn look_at(&self, stepper: &mut Stepper, notes_end: bool) -> Result<ProcFlags, u64>
+        requires process { IsProcessOf self.now stepper.old }
+        requires looking { IsLooking notes_end (phase_in stepper.old) }
+        ensures table { stepper.new.table ≡ stepper.old.table }
+        ensures made { MatchResult result
+            (λ flags. HasMade (sizes_of self.now) (Look (pid_in stepper.old))
+            (part_of stepper.old) (flags_word flags) (part_of stepper.new))
+            (λ word. HasMade (sizes_of self.now) (Look (pid_in stepper.old))
+            (part_of stepper.old) word (part_of stepper.new)) }
+        ensures ends { IfOk result (EndsWait notes_end) }
+        ensures same { OnErr result (stepper.new ≡ stepper.old) }
+    {
+        let word = self.look_once(stepper, notes_end);
+        let flags = flags_in(word);
+        if ends_wait(flags, notes_end) {
+            Ok(flags)
+        } else {
+            Err(word)
+        }
+    }
+
+    /// The same, of a process that has said that it parks.
+    // A mark that found it awake came before it said so, and this look comes behind: it sees that.
+    pub(crate) fn look_behind<'a>(
+        &self,
+        announced: &'a Announced,
+        stepper: &mut Stepper,
+        notes_end: bool,
+    ) -> Result<ProcFlags, Seen<'a>>
+        requires process { IsProcessOf self.now stepper.old }
+        requires looking { IsLooking notes_end (phase_in stepper.old) }
+        requires own { announced.now.said.pid ≡ stepper.old.pid }
+        ensures table { stepper.new.table ≡ stepper.old.table }
+        ensures made { MatchResult result
+            (λ flags. HasMade (sizes_of self.now) (Look (pid_in stepper.old))
+            (part_of stepper.old) (flags_word flags) (part_of stepper.new))
+            (λ seen. HasMade (sizes_of self.now) (Look (pid_in stepper.old))
+            (part_of stepper.old) seen.word (part_of stepper.new)) }
+        ensures ends { IfOk result (EndsWait notes_end) }
+        ensures same { OnErr result (stepper.new ≡ stepper.old) }
+        ensures announced { IfErr result (λ seen.
+            seen.announced.now.said.pid ≡ announced.now.said.pid) }
+    {
+        match self.look_at(stepper, notes_end) {
+            Ok(flags) => Ok(flags),
+            Err(word) => Err(Seen { announced, word }),
+        }
+    }
+
+    /// Parks while the flags are what the process saw.
+    pub(crate) fn park<R: Wait>(&self, rt: &R, seen: Seen<'_>)
+        requires { seen.announced.now.said.pid < procs_of self.now }
+    {
+        let word = self.flags_word(seen.announced.pid());
+        let expected = (seen.word % (1 << 32)) as u32;
+        self.park_at(rt, seen, word, expected);
+    }
+
+    // Parks on the word of its flags.
+    fn park_at<R: Wait>(&self, rt: &R, seen: Seen<'_>, word: usize, expected: u32)
+        requires pid { seen.announced.now.said.pid < procs_of self.now }
+        requires word { word ≡ place (sizes_of self.now) (FlagsOf seen.announced.now.said.pid) }
+        requires expected { expected ≡ seen.word % 2 ^ 32 }
+    {
+        let Seen {
+            announced: _,
+            word: _,
+        } = seen;
+        self.table.shared.park(rt, word, expected);
+    }
+
+    // Step Look: load of the flags. Seat: Asleep, then Woken or Leaving, or Awaiting, then Woken;
+    // as it was where the flags don't end its wait.
+    fn look_once(&self, stepper: &mut Stepper, notes_end: bool) -> u64
+        requires process { IsProcessOf self.now stepper.old }
+        requires looking { IsLooking notes_end (phase_in stepper.old) }
+        ensures table { stepper.new.table ≡ stepper.old.table }
+        ensures made { HasMade (sizes_of self.now) (Look (pid_in stepper.old))
+            (part_of stepper.old) result (part_of stepper.new) }
+    {
+        let _ = notes_end;
+        let pid = stepper.pid();
+        self.load(stepper, self.flags_word(pid), Event::Look { pid })
+    }
+}
+
+// Whether the flags end a wait.
+fn ends_wait(flags: ProcFlags, notes_end: bool) -> bool
+    ensures ends { OnTrue result (EndsWait notes_end flags) }
+    ensures parks { OnFalse result (KeepsWait notes_end flags) }
+{
+    flags.wake || notes_end && !flags.notes.is_empty()
+}

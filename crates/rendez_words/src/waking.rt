@@ -1,0 +1,39 @@
+//! How a process is woken whose flags were set. Before this: `steps`. After it: `looking`.
+ghost use Rattle.std.specs.Prelude.{◌≡◌, ◌<◌};
+ghost use Rattle.sleep_core.specs.Table.Cell.{FlagsOf};
+ghost use Rattle.rendez_words.specs.declared.parking.TheConstants.{PARKS};
+ghost use Rattle.rendez_words.specs.Rule.{place};
+ghost use Rattle.rendez_words.specs.Waking.{HasSet};
+ghost use Rattle.rendez_words.specs.Words.{sizes_of, procs_of};
+
+use crate::parking::{Found, Unwoken};
+use crate::states::Stepper;
+use crate::words::Words;
+
+impl Words {
+    /// Wakes the process where it parks, or is about to. Otherwise it is a load, and calls no
+    /// system. Who calls it has set the flags: a process that is woken before looks, and parks
+    /// again, and nobody would wake it then.
+    pub(crate) fn wake(&self, unwoken: Unwoken, _by: &Stepper)
+        requires pid { unwoken.pid < procs_of self.now }
+        requires set { HasSet _by.now unwoken.pid }
+    {
+        let found = self.parking.find(unwoken);
+        if found.parks() {
+            let word = self.flags_word(found.pid());
+            self.wake_at(found, word);
+        } else {
+            found.pass();
+        }
+    }
+
+    // Wakes the process that was found parking, on the word of its flags.
+    fn wake_at(&self, found: Found, word: usize)
+        requires pid { found.said.pid < procs_of self.now }
+        requires parks { found.said.word ≡ PARKS }
+        requires word { word ≡ place (sizes_of self.now) (FlagsOf found.said.pid) }
+    {
+        found.rouse();
+        self.table.shared.wake_one(word);
+    }
+}
