@@ -14,7 +14,7 @@ use Rattle.tag_space.specs.declared.forking.SpentMember.{SpentMember}
 use Rattle.tag_space.specs.declared.member.Member.{Member}
 use Rattle.tag_space.specs.declared.space.TagSpace.{TagSpace}
 use Rattle.tag_space.specs.Members.{IsMemberOf, IsSameMember}
-use Rattle.tag_space.specs.Spaces.{IsNewSpace, IsFirstMember}
+use Rattle.tag_space.specs.Spaces.{IsNewSpace, IsFirstMember, IsFurtherMember}
 
 -- RFPROC and RFREND alone are known here
 abbrev pub AreKnown : Flags → Type 0
@@ -118,6 +118,12 @@ pub record LeavesMember (flags : Flags) : Type 0 where
 abbrev pub IsUntouched : Flags → Member → Member → Type 0
 IsUntouched flags before after = LeavesMember flags → after ≡ before
 
+-- a child that joins its parent has a further member, which its parent's gave and nothing else
+abbrev pub GivesMember : TagSpace → Flags → Member → Member → Option Child → Type 0
+GivesMember space flags before after None = ¬ JoinsParent flags
+GivesMember space flags before after (Some child) =
+    JoinsParent flags → IsFurtherMember space before after child.member
+
 -- a caller that moves has spent the member that it had, which is as it was
 abbrev pub HasSpent : Flags → Member → Option SpentMember → Type 0
 HasSpent flags before None = ¬ MovesCaller flags
@@ -141,6 +147,11 @@ IsChild unused space (Some child) =
 abbrev pub IsGroup : Unused → TagSpace → Option TagSpace → Type 0
 IsGroup unused old None = ⊥
 IsGroup unused old (Some new) = IsNewSpace unused old.procs new
+
+-- the child has a further member of its parent's space
+abbrev pub HasFurther : TagSpace → Member → Member → Option Child → Type 0
+HasFurther space before after None = ⊥
+HasFurther space before after (Some child) = IsFurtherMember space before after child.member
 
 -- a member was spent, and is as it was
 abbrev pub IsSpent : Member → Option SpentMember → Type 0

@@ -18,6 +18,8 @@ ghost use Rattle.tag_space.specs.Forks.{
   KeepsMember,
   ComesBack,
   IsUntouched,
+  GivesMember,
+  HasFurther,
   HasSpent,
   IsSpent,
   WhyNotInside,
@@ -107,6 +109,8 @@ pub fn rfork<'k, R: Wait>(
 
     // The caller's member makes no call, and gives no other but the child's.
     ensures untouched { IfOk result (λ forked. IsUntouched flags member forked.member) }
+    ensures gives { IfOk result (λ forked.
+        GivesMember space.now flags member forked.member forked.child) }
     ensures spent { IfOk result (λ forked. HasSpent flags member forked.spent) }
 
     // The parent is as it was.
@@ -152,6 +156,8 @@ fn fork_inside<'k, R: Wait>(
     ensures child { IfOk result (λ forked. IsChild roster.old space.now forked.child) }
     ensures member { IfOk result (λ forked. IsMemberOf space.now forked.member) }
     ensures kept { IfOk result (λ forked. IsSameMember member forked.member) }
+    ensures further { IfOk result (λ forked.
+        HasFurther space.now member forked.member forked.child) }
     ensures spent { IfOk result (λ forked. forked.spent ≡ None) }
     ensures left { OnOk result (roster.new ≡ one_pid_less roster.old) }
     ensures parent { parent.new ≡ parent.old }
