@@ -10,7 +10,8 @@ use Rattle.sync_base.specs.declared.ids.Tag.{Tag}
 use Rattle.tag_space.specs.declared.member.Member.{Member}
 use Rattle.tag_space.specs.declared.space.TagSpace.{TagSpace}
 use Rattle.tag_space.specs.Members.{space_of, number_of, seen_of, IsOneOf, IsMemberOf, IsSameMember}
-use Rattle.tag_space.specs.Outcome.{Exchange}
+use Rattle.tag_space.specs.Outcome.{Exchange, calls_by}
+use Rattle.tag_space.proofs.OtherLemmas.{newest_is_own}
 use Rattle.tag_space.specs.Rendezvous.{Entry, Space, Offer, rendezvous, stage_of}
 use Rattle.tag_space.specs.Rendezvous.Stage.{Over}
 use Rattle.tag_space.specs.Walk.{Point, Caller, Turn, AreTurns, last_point, HasWaited}
@@ -120,6 +121,8 @@ module _ (space : TagSpace) (before after : Member) (offer : Offer) (answer : Re
       record {
         offer = offer;
         one = ended.one;
+        member_is = newest_is_own (number_of before) (seen_of after) offer
+            (calls_by (number_of before) (seen_of before)) ended.one;
         tag_is = tag_is;
         value_is = value_is;
         outcome = ended.outcome;

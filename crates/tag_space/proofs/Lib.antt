@@ -15,4 +15,6 @@ mod WalkLemmas
 mod OutcomeLemmas
 mod EndLemmas
 mod ValueLemmas
+mod PartnerLemmas
+mod JoinLemmas
 mod WorkedCalls

@@ -159,6 +159,43 @@ module _ (space : Space) (member : ℕ) where
       (calls_by member (since ++ past)) (not_its entry legal.0.own none.0)
       ∙ calls_still since past legal.1 none.1
 
+-- a call that stands before a member's own is its own
+own_made : (number member : ℕ) (call : GroupCall) (others : List Offer)
+    → AllByRecursion (λ offer. offer.member ≡ member) others
+    → AllByRecursion (λ offer. offer.member ≡ member) (call_made number member call others)
+own_made number member (Call caller tag value) others own =
+    elim (cases_eq caller member) [
+      | inl same ↦
+          let is : eqb caller member ≡ true = subst (λ m. eqb caller m ≡ true) same (yes caller) in
+          rw is (same, own)
+      | inr differs ↦ rw (no caller member differs) own
+    ]
+own_made number member (Collect caller) others own = own
+own_made number member (Leave caller) others own = own
+
+-- a member's calls are its own
+pub calls_are_own : (member : ℕ) (history : List Entry)
+    → AllByRecursion (λ offer. offer.member ≡ member) (calls_by member history)
+calls_are_own member [] = tt
+calls_are_own member (entry ∷ past) =
+    own_made (length past) member entry.request (calls_by member past) (calls_are_own member past)
+
+-- and so is the newest of them
+pub newest_is_own : (member : ℕ) (history : List Entry) (offer : Offer) (others : List Offer)
+    → calls_by member history ≡ offer ∷ others → offer.member ≡ member
+newest_is_own member history offer others is =
+    (subst (AllByRecursion (λ offer. offer.member ≡ member)) is (calls_are_own member history)).0
+
+-- a number that made no entry has made no call
+pub calls_fresh : (space : Space) (number : ℕ) (history : List Entry)
+    → IsLegal (rendezvous space) [] history → AreByBelow server number history
+    → calls_by number history ≡ []
+calls_fresh space number [] legal below = refl
+calls_fresh space number (entry ∷ past) legal below =
+    calls_after (length past) number entry.request (calls_by number past)
+    (λ same. let own : entry.by ≡ member_of entry.request = legal.0.own in omega (arith, below.0, own, same))
+    ∙ calls_fresh space number past legal.1 below.1
+
 -- a number that made no entry rests
 pub over_fresh : (space : Space) (number : ℕ) (history : List Entry)
     → IsLegal (rendezvous space) [] history → AreByBelow server number history

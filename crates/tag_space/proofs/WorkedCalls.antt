@@ -1,7 +1,12 @@
 -- What comes of calls in the worked histories, and what rfork does by its flags, computed. Each
 -- definition has an example that would come out otherwise without a row of it.
-use Rattle.std.proofs.Common.{◌≡◌, ◌⊎◌, ℕ, true, false, List, [], ◌∷◌, refl, inl, inr, arith, Some, None}
-use Rattle.std.proofs.Common.{Ok, Err, ap, sym, ◌∙◌}
+use Rattle.std.proofs.Common.{◌≡◌, ◌⊎◌, ℕ, true, false, List, [], ◌∷◌, length, refl, inl, inr, arith, Some, None}
+use Rattle.std.proofs.Common.{Ok, Err, ap, sym, ◌∙◌, ◌≢◌, ◌++◌}
+use Rattle.std.proofs.lemmas.Bool.{false≢true}
+use Rattle.histories.specs.declared.account.Account.{Account}
+use Rattle.kernel_lock.specs.Seats.{KnowsAllGiven, account_of, gave_of}
+use Rattle.sleep_wakeup.specs.Forks.{HasPid}
+use Rattle.sleep_wakeup.specs.Kernel.{Unused}
 use Rattle.rendez_words.specs.Process.{Process}
 use Rattle.rendez_words.specs.Steps.{notes}
 use Rattle.rendez_words.specs.Process.{pid_in}
@@ -11,12 +16,19 @@ use Rattle.sync_base.specs.declared.flags.Flags.{Flags}
 use Rattle.sync_base.specs.declared.note.NoteSet.{NoteSet}
 use Rattle.tag_space.specs.declared.calls.GroupReply.TheVariants.{Wait}
 use Rattle.tag_space.specs.declared.space.TagSpace.{TagSpace}
+use Rattle.tag_space.specs.declared.forking.Child.{Child}
+use Rattle.tag_space.specs.declared.member.Member.{Member}
 use Rattle.tag_space.specs.Forks.{AreKnown, asks_child, asks_space, callers_space, childs_space}
+use Rattle.tag_space.specs.Forks.{JoinsParent, ComesBack, LeavesMember, IsUntouched}
+use Rattle.tag_space.specs.Forks.{GivesMember, HasSpent}
+use Rattle.tag_space.specs.Members.{number_of, seen_of}
 use Rattle.tag_space.specs.Outcome.{calls_by, IsOneOfPairs, IsInPair, word_of}
-use Rattle.tag_space.specs.Rendezvous.{Pair, pairs_of}
+use Rattle.tag_space.specs.Outcome.{IsOneOfCalls, HasPartner, Exchange}
+use Rattle.tag_space.specs.Spaces.{IsFurtherMember, IsKeptIn, JoinsMembers}
+use Rattle.tag_space.specs.Rendezvous.{Entry, Offer, Pair, pairs_of}
 use Rattle.tag_space.specs.Walk.{Point, Caller, Turn, last_count, PutsBack}
 use Rattle.tag_space.specs.Walk.{EndsWait}
-use Rattle.tag_space.proofs.WorkedSpaces.{told, gives, offer, one_waits, one_is_found, one_is_told, the_pair}
+use Rattle.tag_space.proofs.WorkedSpaces.{told, gives, offer, two, one_waits, one_is_found, one_is_told, the_pair}
 
 -- ---- a member's calls
 
@@ -64,6 +76,63 @@ an_invented_value in_pair = by in_pair.pair in_pair.is_pair in_pair.exchanged
         ⊎ ((pair.finding ≡ offer 0 0 7 5) × (8 ≡ pair.waiting.value)) → ⊥
     by pair (inl is) exchanged = other_than pair is exchanged
     by pair (inr none) exchanged = none
+
+-- ---- who is whose partner
+
+-- of two calls that met each is the other's partner
+who_waited_has_a_partner : HasPartner one_is_found (offer 0 0 7 5) 9
+who_waited_has_a_partner =
+    record {
+      partner = offer 1 1 7 9;
+      call = inl refl;
+      another = λ same. omega (arith, same);
+      tag_is = refl;
+      gives = refl;
+      gets = who_found_gets_the_waiters_value;
+    }
+
+who_found_has_a_partner : HasPartner one_is_found (offer 1 1 7 9) 5
+who_found_has_a_partner =
+    record {
+      partner = offer 0 0 7 5;
+      call = inl refl;
+      another = λ same. omega (arith, same);
+      tag_is = refl;
+      gives = refl;
+      gets = who_waited_gets_the_finders_value;
+    }
+
+-- a call that waits has none
+nobody_is_a_partner_yet : HasPartner one_waits (offer 0 0 7 5) 9 → ⊥
+nobody_is_a_partner_yet has = has.gets.is_pair
+
+-- a call that nobody made is no call of the member
+no_call_from_nowhere : IsOneOfCalls (offer 1 1 7 8) (calls_by 1 one_is_found) → ⊥
+no_call_from_nowhere (inl is) =
+    let value : 9 ≡ 8 = ap (λ (o : Offer). o.value) is in
+    omega (arith, value)
+no_call_from_nowhere (inr none) = none
+
+-- ---- the exchange
+
+-- the member's one call, its own, is in a pair
+who_waited_exchanged : Exchange two 0 (record { 0 = 7 }) 5 [] one_is_told (Ok 9)
+who_waited_exchanged =
+    record {
+      offer = offer 0 0 7 5;
+      one = refl;
+      member_is = refl;
+      tag_is = refl;
+      value_is = refl;
+      outcome = record { pair = the_pair; is_pair = inl refl; exchanged = inl (refl, refl) };
+    }
+
+-- the call of another is not the member's
+anothers_call_is_not_its_own : (exchange : Exchange two 0 (record { 0 = 7 }) 5 [] one_is_told (Ok 9))
+    → exchange.offer ≡ offer 1 1 7 9 → ⊥
+anothers_call_is_not_its_own exchange is =
+    let member : 0 ≡ 1 = sym exchange.member_is ∙ ap (λ (o : Offer). o.member) is in
+    omega (arith, member)
 
 -- ---- the word for an answer
 
@@ -141,3 +210,152 @@ module _ (old new : TagSpace) where
 
   without_rfrend_the_child_is_its_parents : childs_space old None ≡ old
   without_rfrend_the_child_is_its_parents = refl
+
+-- ---- what rfork does to its caller's member
+
+rfproc_alone_joins_its_parent : JoinsParent (flags 1)
+rfproc_alone_joins_its_parent = record { child = refl; no_space = false≢true }
+
+-- no other flags do
+no_flag_joins_nobody : JoinsParent (flags 0) → ⊥
+no_flag_joins_nobody joins = false≢true joins.child
+
+rfrend_alone_joins_nobody : JoinsParent (flags 2) → ⊥
+rfrend_alone_joins_nobody joins = false≢true joins.child
+
+both_join_nobody : JoinsParent (flags 3) → ⊥
+both_join_nobody joins = joins.no_space refl
+
+a_bad_flag_joins_nobody : JoinsParent (flags 4) → ⊥
+a_bad_flag_joins_nobody joins = false≢true joins.child
+
+-- without flags, and with both, the member is let alone
+no_flag_leaves_the_member : LeavesMember (flags 0)
+no_flag_leaves_the_member = record { no_child = no_flag_joins_nobody; stays = λ is. omega (arith, is) }
+
+both_leave_the_member : LeavesMember (flags 3)
+both_leave_the_member = record { no_child = both_join_nobody; stays = λ is. omega (arith, is) }
+
+rfproc_takes_part_of_it : LeavesMember (flags 1) → ⊥
+rfproc_takes_part_of_it leaves = leaves.no_child rfproc_alone_joins_its_parent
+
+rfrend_moves_it : LeavesMember (flags 2) → ⊥
+rfrend_moves_it leaves = leaves.stays refl
+
+module _ (unused : Unused) (space : TagSpace) (before after further : Member) where
+  -- a refusal with any flags but RFPROC hands the member back as it was
+  a_bad_flag_hands_it_back : ComesBack unused space (flags 4) before after → after ≡ before
+  a_bad_flag_hands_it_back (inl same) = same
+  a_bad_flag_hands_it_back (inr wants) = absurd (a_bad_flag_joins_nobody wants.joins)
+
+  rfrend_hands_it_back : ComesBack unused space (flags 2) before after → after ≡ before
+  rfrend_hands_it_back (inl same) = same
+  rfrend_hands_it_back (inr wants) = absurd (rfrend_alone_joins_nobody wants.joins)
+
+  both_hand_it_back : ComesBack unused space (flags 3) before after → after ≡ before
+  both_hand_it_back (inl same) = same
+  both_hand_it_back (inr wants) = absurd (both_join_nobody wants.joins)
+
+  -- and with RFPROC where no pid is left
+  no_pid_hands_it_back : (HasPid unused → ⊥) → ComesBack unused space (flags 1) before after
+      → after ≡ before
+  no_pid_hands_it_back none (inl same) = same
+  no_pid_hands_it_back none (inr wants) = absurd (none wants.pid)
+
+  -- where all members were given it may know that
+  it_comes_back_knowing_all : HasPid unused → KnowsAllGiven space.lock before.seat after.seat
+      → ComesBack unused space (flags 1) before after
+  it_comes_back_knowing_all pid all =
+      inr (record { joins = rfproc_alone_joins_its_parent; pid = pid; all_given = all })
+
+  -- one that has seen more does not come back as it was, nor one of another number
+  one_that_called : (entry : Entry) → seen_of after ≡ entry ∷ [] → seen_of before ≡ []
+      → IsUntouched (flags 0) before after → ⊥
+  one_that_called entry now then untouched =
+      let same : entry ∷ [] ≡ [] =
+      sym now ∙ ap (λ (member : Member). seen_of member) (untouched no_flag_leaves_the_member)
+      ∙ then in
+      cc
+
+  another_one : number_of after ≢ number_of before → IsUntouched (flags 3) before after → ⊥
+  another_one differs untouched =
+      differs (ap (λ (member : Member). number_of member) (untouched both_leave_the_member))
+
+  -- with RFPROC the child's member is a further one
+  a_child_has_a_further_member : (child : Child) → GivesMember space (flags 1) before after (Some child)
+      → IsFurtherMember space before after child.member
+  a_child_has_a_further_member child gives = gives rfproc_alone_joins_its_parent
+
+  no_child_with_rfproc : GivesMember space (flags 1) before after None → ⊥
+  no_child_with_rfproc none = none rfproc_alone_joins_its_parent
+
+  -- which has not its parent's number, and has called nobody
+  a_childs_number_is_its_parents : number_of further ≡ number_of before
+      → IsFurtherMember space before after further → ⊥
+  a_childs_number_is_its_parents same is =
+      let above = is.above in
+      omega (arith, above, same)
+
+  a_child_has_called : calls_by (number_of further) (seen_of further) ≡ offer 0 1 7 5 ∷ []
+      → IsFurtherMember space before after further → ⊥
+  a_child_has_called calls is = let none = sym is.no_calls ∙ calls in cc
+
+  -- its parent's gave one number more and no other
+  a_number_too_many : (one other : ℕ) (gave : List ℕ)
+      → gave_of before.seat ≡ gave → gave_of after.seat ≡ one ∷ other ∷ gave
+      → IsFurtherMember space before after further → ⊥
+  a_number_too_many one other gave then now is =
+      let gives = ap (λ (a : Account Entry). a.gave) is.given.account.parent_is in
+      let both : one ∷ other ∷ gave ≡ number_of_child is ∷ gave =
+      sym now ∙ gives ∙ ap (λ (ns : List ℕ). number_of_child is ∷ ns) then in
+      let lengths : length (one ∷ other ∷ gave) ≡ length (number_of_child is ∷ gave) = ap length both in
+      omega (arith, lengths)
+    where
+      number_of_child : IsFurtherMember space before after further → ℕ
+      number_of_child is = (account_of further.seat).number
+
+  -- with RFREND alone the old member is spent, as it was
+  what_is_spent_is_as_it_was : HasSpent (flags 2) before (Some (record { member = after }))
+      → after ≡ before
+  what_is_spent_is_as_it_was has = has.1
+
+  something_is_spent : HasSpent (flags 2) before None → ⊥
+  something_is_spent none = none refl
+
+  nothing_is_spent_without_rfrend : HasSpent (flags 1) before (Some (record { member = after })) → ⊥
+  nothing_is_spent_without_rfrend has = let moved : 1 ≡ 2 = has.0 in omega (arith, moved)
+
+  nothing_is_spent_for_a_child : HasSpent (flags 3) before (Some (record { member = after })) → ⊥
+  nothing_is_spent_for_a_child has = let moved : 3 ≡ 2 = has.0 in omega (arith, moved)
+
+-- ---- what a join of two members keeps
+
+module _ (first second joined : Member) where
+  not_behind : (since : List Entry) (entry : Entry) → [] ≡ since ++ entry ∷ [] → ⊥
+  not_behind [] entry is = cc
+  not_behind (newer ∷ since) entry is = cc
+
+  -- it has seen what either has
+  the_first_is_forgotten : (entry : Entry) → seen_of first ≡ entry ∷ [] → seen_of joined ≡ []
+      → JoinsMembers first second joined → ⊥
+  the_first_is_forgotten entry saw now joins =
+      not_behind joins.first_kept.past.since entry
+      (sym now ∙ joins.first_kept.past.new_is
+      ∙ ap (λ (h : List Entry). joins.first_kept.past.since ++ h) saw)
+
+  the_second_is_forgotten : (entry : Entry) → seen_of second ≡ entry ∷ [] → seen_of joined ≡ []
+      → JoinsMembers first second joined → ⊥
+  the_second_is_forgotten entry saw now joins =
+      not_behind joins.second_kept.past.since entry
+      (sym now ∙ joins.second_kept.past.new_is
+      ∙ ap (λ (h : List Entry). joins.second_kept.past.since ++ h) saw)
+
+  -- and knows of no call that the two did not make
+  a_call_is_added : calls_by (number_of second) (seen_of second) ≡ []
+      → calls_by (number_of second) (seen_of joined) ≡ offer 0 1 7 5 ∷ []
+      → IsKeptIn joined second → ⊥
+  a_call_is_added none made kept = let is = sym made ∙ kept.calls ∙ none in cc
+
+  -- no member is joined with itself
+  one_joins_itself : JoinsMembers first first joined → ⊥
+  one_joins_itself joins = joins.apart refl

@@ -10,10 +10,11 @@ use Rattle.sync_base.specs.declared.fault.Fault.TheVariants as fault
 use Rattle.sync_base.specs.declared.flags.Flags.{Flags}
 use Rattle.sync_base.specs.Flags.{bits_of}
 use Rattle.tag_space.specs.declared.forking.Child.{Child}
+use Rattle.tag_space.specs.declared.forking.SpentMember.{SpentMember}
 use Rattle.tag_space.specs.declared.member.Member.{Member}
 use Rattle.tag_space.specs.declared.space.TagSpace.{TagSpace}
 use Rattle.tag_space.specs.Members.{IsMemberOf, IsSameMember}
-use Rattle.tag_space.specs.Spaces.{IsNewSpace, IsFirstMember}
+use Rattle.tag_space.specs.Spaces.{IsNewSpace, IsFirstMember, IsFurtherMember}
 
 -- RFPROC and RFREND alone are known here
 abbrev pub AreKnown : Flags → Type 0
@@ -66,6 +67,11 @@ WhyNotForked unused space flags before after fault.Memory =
     WantsRow unused flags × HasRendez unused space.procs
 WhyNotForked unused space flags before after other = ⊥
 
+-- A refusal hands the member back as it was; where all members were given, it knows that too.
+abbrev pub ComesBack : Unused → TagSpace → Flags → Member → Member → Type 0
+ComesBack unused space flags before after =
+    (after ≡ before) ⊎ WantsMember unused space flags before after
+
 -- the caller's space afterwards: a new one with RFREND alone, else its own
 abbrev pub callers_space : Flags → TagSpace → Option TagSpace → TagSpace
 callers_space flags old None = old
@@ -103,6 +109,26 @@ MovesCaller flags = bits_of flags ≡ 2
 abbrev pub KeepsMember : Flags → Member → Member → Type 0
 KeepsMember flags before after = ¬ MovesCaller flags → IsSameMember before after
 
+-- no child gets a member of the caller's space, and the caller stays there
+pub record LeavesMember (flags : Flags) : Type 0 where
+  pub no_child : ¬ JoinsParent flags
+  pub stays : ¬ MovesCaller flags
+
+-- then the caller's member is as it was
+abbrev pub IsUntouched : Flags → Member → Member → Type 0
+IsUntouched flags before after = LeavesMember flags → after ≡ before
+
+-- a child that joins its parent has a further member, which its parent's gave and nothing else
+abbrev pub GivesMember : TagSpace → Flags → Member → Member → Option Child → Type 0
+GivesMember space flags before after None = ¬ JoinsParent flags
+GivesMember space flags before after (Some child) =
+    JoinsParent flags → IsFurtherMember space before after child.member
+
+-- a caller that moves has spent the member that it had, which is as it was
+abbrev pub HasSpent : Flags → Member → Option SpentMember → Type 0
+HasSpent flags before None = ¬ MovesCaller flags
+HasSpent flags before (Some spent) = MovesCaller flags × (spent.member ≡ before)
+
 -- who is in the new space is its first member: the child, or where there is none the caller
 abbrev pub IsFirstThere : Option TagSpace → Member → Option Child → Type 0
 IsFirstThere None member child = ⊤
@@ -122,10 +148,21 @@ abbrev pub IsGroup : Unused → TagSpace → Option TagSpace → Type 0
 IsGroup unused old None = ⊥
 IsGroup unused old (Some new) = IsNewSpace unused old.procs new
 
--- why a child is not made in its parent's space
+-- the child has a further member of its parent's space
+abbrev pub HasFurther : TagSpace → Member → Member → Option Child → Type 0
+HasFurther space before after None = ⊥
+HasFurther space before after (Some child) = IsFurtherMember space before after child.member
+
+-- a member was spent, and is as it was
+abbrev pub IsSpent : Member → Option SpentMember → Type 0
+IsSpent before None = ⊥
+IsSpent before (Some spent) = spent.member ≡ before
+
+-- why a child is not made in its parent's space, and what its parent's member is then
 abbrev pub WhyNotInside : Unused → TagSpace → Member → Member → Fault → Type 0
 WhyNotInside unused space before after fault.NoProc =
-    (¬ HasPid unused) ⊎ (HasPid unused × KnowsAllGiven space.lock before.seat after.seat)
+    ((¬ HasPid unused) × (after ≡ before))
+    ⊎ (HasPid unused × KnowsAllGiven space.lock before.seat after.seat)
 WhyNotInside unused space before after other = ⊥
 
 -- why a child is not made in a space of its own

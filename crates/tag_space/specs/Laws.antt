@@ -10,7 +10,7 @@ use Rattle.tag_space.specs.declared.calls.GroupReply.TheVariants.{Met, Worn, Gon
 use Rattle.tag_space.specs.declared.limits.TheConstants.{LAST_MEETING}
 use Rattle.tag_space.specs.declared.meeting.TheConstants.{INTERRUPTED}
 use Rattle.tag_space.specs.Group.{opening, group}
-use Rattle.tag_space.specs.Outcome.{IsInPair}
+use Rattle.tag_space.specs.Outcome.{IsInPair, HasPartner}
 use Rattle.tag_space.specs.Rendezvous.{Entry, Space, rendezvous}
 use Rattle.tag_space.specs.Rendezvous.{Offer, stage_of, IsAnswered, IsMet}
 use Rattle.tag_space.specs.Rendezvous.Stage.{Waits}
@@ -89,6 +89,26 @@ abbrev pub ToldIsInPair : Type 0
 ToldIsInPair =
     (space : Space) (past : List Entry) (member given : ℕ) → IsLegal (rendezvous space) [] past
     → IsMet past member given → IsToldOf past member given
+
+-- whoever is in a pair has a partner, whose call stands in the same history
+abbrev pub PartnersAreCalls : Type 0
+PartnersAreCalls =
+    (space : Space) (history : List Entry) (offer : Offer) (given : ℕ)
+    → IsLegal (rendezvous space) [] history → IsInPair history offer given
+    → HasPartner history offer given
+
+-- a call that is in a pair stays in it, and its value stays, whatever comes
+abbrev pub PairsStay : Type 0
+PairsStay =
+    (since past : List Entry) (offer : Offer) (given : ℕ) → IsInPair past offer given
+    → IsInPair (since ++ past) offer given
+
+-- a call gets one value
+abbrev pub EachGetsOneValue : Type 0
+EachGetsOneValue =
+    (space : Space) (history : List Entry) (offer : Offer) (first second : ℕ)
+    → IsLegal (rendezvous space) [] history → IsInPair history offer first
+    → IsInPair history offer second → first ≡ second
 
 -- after rendezvous(2): the word for an interruption is ~0
 abbrev pub InterruptedIs : Type 0

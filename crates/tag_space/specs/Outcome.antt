@@ -1,6 +1,6 @@
 -- What comes of a call of rendezvous, after rendezvous(2): two calls with one tag exchange their
 -- values, and one that was interrupted exchanges nothing.
-use Rattle.std.specs.Prelude.{◌≡◌, ◌⊎◌, ◌==◌, ℕ, List, [], ◌∷◌, ◌++◌, length, if◌then◌else◌}
+use Rattle.std.specs.Prelude.{◌≡◌, ◌≢◌, ◌⊎◌, ◌==◌, ℕ, List, [], ◌∷◌, ◌++◌, length, if◌then◌else◌}
 use Rattle.std.specs.Prelude.{Result, Ok, Err}
 use Rattle.histories.specs.History.{IsLegal}
 use Rattle.sync_base.specs.declared.fault.Fault.{Fault}
@@ -43,6 +43,21 @@ pub record IsInPair (history : List Entry) (offer : Offer) (given : ℕ) : Type 
   pub is_pair : IsOneOfPairs pair (pairs_of history)
   pub exchanged : Exchanges offer given pair
 
+-- the offer is one of these
+abbrev pub IsOneOfCalls : Offer → List Offer → Type 0
+IsOneOfCalls offer [] = ⊥
+IsOneOfCalls offer (other ∷ offers) = (other ≡ offer) ⊎ IsOneOfCalls offer offers
+
+-- The other call of the pair: it is one of the calls of another member, with the same tag, it gives
+-- this value, and it gets the value of this one.
+pub record HasPartner (history : List Entry) (offer : Offer) (given : ℕ) : Type 0 where
+  pub partner : Offer
+  pub call : IsOneOfCalls partner (calls_by partner.member history)
+  pub another : partner.member ≢ offer.member
+  pub tag_is : partner.tag ≡ offer.tag
+  pub gives : given ≡ partner.value
+  pub gets : IsInPair history partner offer.value
+
 -- the call is in no pair, whatever comes
 abbrev pub IsOutForGood : Space → List Entry → Offer → Type 0
 IsOutForGood space history offer =
@@ -53,12 +68,13 @@ abbrev pub ComesOf : Space → List Entry → Offer → Result ℕ Fault → Typ
 ComesOf space history offer (Ok given) = IsInPair history offer given
 ComesOf space history offer (Err why) = IsOutForGood space history offer
 
--- The member made one call, with this tag and this value. It is answered with a value exactly where
+-- The member made one call, its own, with this tag and this value. It is answered with a value exactly where
 -- that call is in a pair: the partner's.
 pub record Exchange (space : Space) (member : ℕ) (tag : Tag) (value : ℕ) (before after : List Entry)
     (answer : Result ℕ Fault) : Type 0 where
   pub offer : Offer
   pub one : calls_by member after ≡ offer ∷ calls_by member before
+  pub member_is : offer.member ≡ member
   pub tag_is : offer.tag ≡ tag.0
   pub value_is : offer.value ≡ value
   pub outcome : ComesOf space after offer answer

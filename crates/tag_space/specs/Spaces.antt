@@ -1,13 +1,15 @@
--- What a tag space begins with, and why none is made.
-use Rattle.std.specs.Prelude.{◌≡◌, ℕ}
+-- What a tag space begins with, how a member is given and two are joined, and why none is made.
+use Rattle.std.specs.Prelude.{◌≡◌, ◌≢◌, ◌<◌, ℕ, []}
+use Rattle.histories.specs.History.{IsPast}
 use Rattle.sleep_core.specs.Limits.{IsProcCount}
-use Rattle.kernel_lock.specs.Seats.{IsFirstSeat}
+use Rattle.kernel_lock.specs.Seats.{IsFirstSeat, Splits, Joins}
 use Rattle.sleep_wakeup.specs.Kernel.{Unused, HasRendez}
 use Rattle.sync_base.specs.declared.fault.Fault.{Fault}
 use Rattle.sync_base.specs.declared.fault.Fault.TheVariants as fault
 use Rattle.tag_space.specs.declared.member.Member.{Member}
 use Rattle.tag_space.specs.declared.space.TagSpace.{TagSpace}
-use Rattle.tag_space.specs.Members.{IsMemberOf, HasRow}
+use Rattle.tag_space.specs.Members.{IsMemberOf, HasRow, number_of, seen_of}
+use Rattle.tag_space.specs.Outcome.{calls_by}
 
 -- a space of so many members, whose row of Rendez are the next ones
 pub record IsNewSpace (before : Unused) (procs : ℕ) (space : TagSpace) : Type 0 where
@@ -19,6 +21,26 @@ pub record IsNewSpace (before : Unused) (procs : ℕ) (space : TagSpace) : Type 
 pub record IsFirstMember (space : TagSpace) (member : Member) : Type 0 where
   pub member_of : IsMemberOf space member
   pub first : IsFirstSeat 0 member.seat
+
+-- A further member: this one gave it and nothing else, its number is above this one's, and it has
+-- made no call.
+pub record IsFurtherMember (space : TagSpace) (before after further : Member) : Type 0 where
+  pub given : Splits space.lock before.seat after.seat further.seat
+  pub above : number_of before < number_of further
+  pub no_calls : calls_by (number_of further) (seen_of further) ≡ []
+
+-- what the member had seen is a past of what the joined one has seen, and its calls are all there
+pub record IsKeptIn (joined member : Member) : Type 0 where
+  pub past : IsPast (seen_of member) (seen_of joined)
+  pub calls : calls_by (number_of member) (seen_of joined)
+      ≡ calls_by (number_of member) (seen_of member)
+
+-- one member of two: both stand in the one history that it has seen
+pub record JoinsMembers (first second joined : Member) : Type 0 where
+  pub seats : Joins first.seat second.seat joined.seat
+  pub apart : number_of first ≢ number_of second
+  pub first_kept : IsKeptIn joined first
+  pub second_kept : IsKeptIn joined second
 
 -- Own: a row of Rendez is asked for before memory.
 abbrev pub WhyNoGroup : Unused → ℕ → Fault → Type 0

@@ -16,6 +16,12 @@ ghost use Rattle.tag_space.specs.Forks.{
   IsFirstThere,
   IsGroup,
   KeepsMember,
+  ComesBack,
+  IsUntouched,
+  GivesMember,
+  HasFurther,
+  HasSpent,
+  IsSpent,
   WhyNotInside,
   WhyNotOutside,
 };
@@ -35,6 +41,12 @@ pub struct Child<'k> {
     pub member: Member,
 }
 
+/// The member that a caller had in the space that it left. Nothing is called with it any more.
+#[derive(Drop)]
+pub struct SpentMember {
+    pub(crate) member: Member,
+}
+
 /// What rfork made.
 #[derive(Drop)]
 pub struct Forked<'k> {
@@ -44,9 +56,11 @@ pub struct Forked<'k> {
     pub space: Option<TagSpace>,
     /// The child, with RFPROC. With RFREND too it is the first of the new space.
     pub child: Option<Child<'k>>,
+    /// With RFREND alone, the member that the caller had in its old space.
+    pub spent: Option<SpentMember>,
 }
 
-/// Why rfork made nothing. The member comes back.
+/// Why rfork made nothing. The member comes back as it was.
 #[derive(Drop)]
 pub struct NotForked {
     pub member: Member,
@@ -78,6 +92,8 @@ pub fn rfork<'k, R: Wait>(
         WhyNotForked roster.old space.now flags member refused.member refused.fault) }
     ensures back { IfErr result (λ refused. IsMemberOf space.now refused.member) }
     ensures same { IfErr result (λ refused. IsSameMember member refused.member) }
+    ensures as_it_was { IfErr result (λ refused.
+        ComesBack roster.old space.now flags member refused.member) }
     ensures refused { OnErr result (roster.new ≡ roster.old) }
 
     // Otherwise the flags say who is in which space.
@@ -91,6 +107,12 @@ pub fn rfork<'k, R: Wait>(
         IsFirstThere forked.space forked.member forked.child) }
     ensures left { OnOk result (roster.new ≡ left_by roster.old space.now flags) }
 
+    // The caller's member makes no call, and gives no other but the child's.
+    ensures untouched { IfOk result (λ forked. IsUntouched flags member forked.member) }
+    ensures gives { IfOk result (λ forked.
+        GivesMember space.now flags member forked.member forked.child) }
+    ensures spent { IfOk result (λ forked. HasSpent flags member forked.spent) }
+
     // The parent is as it was.
     ensures parent { parent.new ≡ parent.old }
 {
@@ -100,6 +122,7 @@ pub fn rfork<'k, R: Wait>(
             member,
             space: None,
             child: None,
+            spent: None,
         })
     } else if flags.bits() == Flags::RFPROC.bits() {
         fork_inside(rt, roster, parent, space, member)
@@ -133,6 +156,9 @@ fn fork_inside<'k, R: Wait>(
     ensures child { IfOk result (λ forked. IsChild roster.old space.now forked.child) }
     ensures member { IfOk result (λ forked. IsMemberOf space.now forked.member) }
     ensures kept { IfOk result (λ forked. IsSameMember member forked.member) }
+    ensures further { IfOk result (λ forked.
+        HasFurther space.now member forked.member forked.child) }
+    ensures spent { IfOk result (λ forked. forked.spent ≡ None) }
     ensures left { OnOk result (roster.new ≡ one_pid_less roster.old) }
     ensures parent { parent.new ≡ parent.old }
 {
@@ -151,6 +177,7 @@ fn fork_inside<'k, R: Wait>(
                 proc: next_child(roster, parent),
                 member: childs,
             }),
+            spent: None,
         }),
         Err(fault) => Err(NotForked { member, fault }),
     }
@@ -173,13 +200,15 @@ fn regroup<'k>(
         IsMemberOf (childs_space space.now forked.space) forked.member) }
     ensures first { IfOk result (λ forked.
         IsFirstThere forked.space forked.member forked.child) }
+    ensures spent { IfOk result (λ forked. IsSpent member forked.spent) }
     ensures left { OnOk result (roster.new ≡ rendez_less space.now.procs roster.old) }
 {
     match space.new_group(alloc, roster) {
-        Ok(Opened { space, member }) => Ok(Forked {
-            member,
+        Ok(Opened { space, member: own }) => Ok(Forked {
+            member: own,
             space: Some(space),
             child: None,
+            spent: Some(SpentMember { member }),
         }),
         Err(fault) => Err(NotForked { member, fault }),
     }
@@ -201,6 +230,7 @@ fn fork_outside<'k>(
     ensures child { IfOk result (λ forked.
         IsChild roster.old (childs_space space.now forked.space) forked.child) }
     ensures member { IfOk result (λ forked. forked.member ≡ member) }
+    ensures spent { IfOk result (λ forked. forked.spent ≡ None) }
     ensures first { IfOk result (λ forked.
         IsFirstThere forked.space forked.member forked.child) }
     ensures left { OnOk result
@@ -226,6 +256,7 @@ fn fork_outside<'k>(
                 proc: next_child(roster, parent),
                 member: childs,
             }),
+            spent: None,
         }),
         Err(fault) => Err(NotForked { member, fault }),
     }

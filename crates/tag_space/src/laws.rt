@@ -5,6 +5,7 @@ ghost use Rattle.tag_space.specs.Laws.{GroupsAreSpaces, EachCallHasOneAnswer, La
 ghost use Rattle.tag_space.specs.Laws.{PairsAreMeetings, EachCallMeetsOnce, WaitingTagsDiffer};
 ghost use Rattle.tag_space.specs.Laws.{WhoLeftMeetsNobody, WhoIsWornMeetsNobody};
 ghost use Rattle.tag_space.specs.Laws.{FoundIsInPair, ToldIsInPair, InterruptedIs};
+ghost use Rattle.tag_space.specs.Laws.{PartnersAreCalls, PairsStay, EachGetsOneValue};
 
 /// Each history of a space as an object is a history of rendezvous: calls meet by their tags, each
 /// gets the other's value, and whoever left meets nobody.
@@ -37,6 +38,15 @@ pub fn who_is_told_is_in_a_pair()
 pub fn who_is_out_meets_nobody()
     ensures left { WhoLeftMeetsNobody }
     ensures worn { WhoIsWornMeetsNobody }
+{}
+
+/// Whoever is in a pair has a partner: a call of another member, with the same tag, whose value it
+/// gets and which gets its value; and so it stays. Of two members that are joined each has so the
+/// calls of the other.
+pub fn partners_have_each_others_values()
+    ensures partner { PartnersAreCalls }
+    ensures stays { PairsStay }
+    ensures one { EachGetsOneValue }
 {}
 
 /// The last count of meetings.

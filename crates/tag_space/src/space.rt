@@ -106,6 +106,7 @@ impl TagSpace {
     ghost use Rattle.kernel_lock.specs.Seats.{Splits, KnowsAllGiven};
     ghost use Rattle.sync_base.specs.declared.fault.Fault.TheVariants.{NoProc};
     ghost use Rattle.tag_space.specs.Members.{IsMemberOf, IsSameMember};
+    ghost use Rattle.tag_space.specs.Spaces.{IsFurtherMember, JoinsMembers};
 
     /// A further member of the space, for a child of the process that has this one.
     /// Refuses as `NoProc` where the space has had all its members. Waits for other callers of the
@@ -119,6 +120,7 @@ impl TagSpace {
         ensures child { IfOk result (IsMemberOf self.now) }
         ensures given { IfOk result (λ child.
             Splits self.now.lock member.old.seat member.new.seat child.seat) }
+        ensures further { IfOk result (IsFurtherMember self.now member.old member.new) }
 
         // Or all members were given.
         ensures fault { IfErr result (λ fault. fault ≡ NoProc) }
@@ -128,5 +130,27 @@ impl TagSpace {
         let seat = self.lock.split(rt, &mut member.seat)?;
         let rendez = RendezId(self.first.0 + seat.number());
         Ok(Member { seat, rendez })
+    }
+
+    /// Makes one member of two, each between two calls. It calls as the first, and has seen what
+    /// both have. Takes no memory and doesn't wait.
+    pub fn join_members(&self, first: Member, second: Member) -> Member
+        requires first { IsMemberOf self.now first }
+        requires second { IsMemberOf self.now second }
+        ensures member { IsMemberOf self.now result }
+        ensures same { IsSameMember first result }
+
+        // What both had seen are pasts of one history, in which their calls stand once each.
+        ensures joined { JoinsMembers first second result }
+    {
+        let Member { seat, rendez } = first;
+        let Member {
+            seat: other,
+            rendez: _,
+        } = second;
+        Member {
+            seat: self.lock.join(seat, other),
+            rendez,
+        }
     }
 }

@@ -22,7 +22,7 @@ const CALLERS: u64 = 8;
 const TAGS: u64 = 4;
 
 /// How many meetings there are, at least.
-const MEETINGS: u64 = 100_000;
+const MEETINGS: u64 = 10_000;
 
 /// What the callers and the poster tell each other, outside the space.
 #[derive(Drop)]

@@ -164,10 +164,12 @@ fn a_child_is_in_its_parents_space(rt: HostRuntime) -> Result<(), Fail> {
         member,
         space: new,
         child,
+        spent,
     } = forked;
     let None = new else {
         panic!(rt; "no space was asked for")
     };
+    assert!(rt; spent.is_none());
     let Some(mut child) = child else {
         panic!(rt; "RFPROC makes a child")
     };
@@ -208,10 +210,12 @@ fn a_child_with_rfrend_does_not_meet_its_parent(rt: HostRuntime) -> Result<(), F
         member: _parents,
         space: new,
         child,
+        spent,
     } = forked;
     let Some(new) = new else {
         panic!(rt; "RFREND makes a space")
     };
+    assert!(rt; spent.is_none());
     let Some(child) = child else {
         panic!(rt; "RFPROC makes a child")
     };
@@ -255,6 +259,7 @@ fn a_caller_with_rfrend_is_alone(rt: HostRuntime) -> Result<(), Fail> {
     assert_eq!(rt; parted.forked.member.rendez(), RendezId(2));
     assert!(rt; parted.forked.space.is_some());
     assert!(rt; parted.forked.child.is_none());
+    assert!(rt; parted.forked.spent.is_some());
     Ok(())
 }
 

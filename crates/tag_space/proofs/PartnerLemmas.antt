@@ -1,0 +1,172 @@
+-- The partner of a call that is in a pair, and that the pair stays.
+use Rattle.std.proofs.Common.{◌≡◌, ◌≢◌, ◌⊎◌, ℕ, eqb, List, [], ◌∷◌, ◌++◌, length}
+use Rattle.std.proofs.Common.{refl, sym, ap, ◌∙◌, subst, inl, inr}
+use Rattle.std.proofs.lemmas.Bool.{cases_Bool}
+use Rattle.std.specs.List.{AllByRecursion}
+use Rattle.histories.specs.Account.{AreDifferent}
+use Rattle.tag_space.specs.declared.calls.GroupCall.{GroupCall}
+use Rattle.tag_space.specs.declared.calls.GroupCall.TheVariants.{Call, Collect, Leave}
+use Rattle.tag_space.specs.Laws.{PartnersAreCalls, PairsStay, EachGetsOneValue}
+use Rattle.tag_space.specs.Outcome.{call_made, calls_by, IsOneOfPairs, IsOneOfCalls}
+use Rattle.tag_space.specs.Outcome.{Exchanges, HasPartner}
+use Rattle.tag_space.specs.Promises.{IsMade, IsMeeting, numbers_in}
+use Rattle.tag_space.specs.Rendezvous.{Entry, Offer, Pair, pairs_of, pair_made}
+use Rattle.tag_space.proofs.OtherLemmas.{one_of_more, yes}
+use Rattle.tag_space.proofs.PromiseLemmas.{is_space}
+
+-- a call of the member stays one of its calls
+more_calls : (offer : Offer) (number member : ℕ) (call : GroupCall) (others : List Offer)
+    → IsOneOfCalls offer others → IsOneOfCalls offer (call_made number member call others)
+more_calls offer number member (Call caller tag value) others is =
+    elim (cases_Bool (eqb caller member)) [
+      | inl same ↦ rw same (inr is)
+      | inr not ↦ rw not is
+    ]
+more_calls offer number member (Collect caller) others is = is
+more_calls offer number member (Leave caller) others is = is
+
+-- a call that stands in the history is one of its member's
+made_is_call : (history : List Entry) (offer : Offer) → IsMade history offer
+    → IsOneOfCalls offer (calls_by offer.member history)
+made_is_call [] offer made = made
+made_is_call (entry ∷ past) offer (inl here) =
+    let others = calls_by offer.member past in
+    let call : GroupCall = Call offer.member (record { 0 = offer.tag }) offer.value in
+    let newest : call_made (length past) offer.member call others
+    ≡ record { number = length past; member = offer.member; tag = offer.tag; value = offer.value } ∷ others
+    = rw (yes offer.member) refl in
+    let its : record { number = length past; member = offer.member; tag = offer.tag; value = offer.value } ≡ offer
+    = ap (λ n. record { number = n; member = offer.member; tag = offer.tag; value = offer.value }) (sym here.0) in
+    subst (IsOneOfCalls offer)
+    (sym (ap (λ request. call_made (length past) offer.member request others) here.1 ∙ newest)) (inl its)
+made_is_call (entry ∷ past) offer (inr before) =
+    more_calls offer (length past) offer.member entry.request (calls_by offer.member past)
+    (made_is_call past offer before)
+
+-- what is true of each pair is true of this one
+of_pair : (P : Pair → Type 0) (pair : Pair) (pairs : List Pair) → AllByRecursion P pairs
+    → IsOneOfPairs pair pairs → P pair
+of_pair P pair [] all is = absurd is
+of_pair P pair (other ∷ pairs) all (inl is) = subst P is all.0
+of_pair P pair (other ∷ pairs) all (inr more) = of_pair P pair pairs all.1 more
+
+-- and what is true of each number in pairs is true of the numbers of its calls
+of_numbers : (P : ℕ → Type 0) (pair : Pair) (pairs : List Pair) → AllByRecursion P (numbers_in pairs)
+    → IsOneOfPairs pair pairs → P pair.waiting.number × P pair.finding.number
+of_numbers P pair [] all is = absurd is
+of_numbers P pair (other ∷ pairs) all (inl is) = (
+  subst (λ (p : Pair). P p.waiting.number) is all.0,
+  subst (λ (p : Pair). P p.finding.number) is all.1.0,
+)
+of_numbers P pair (other ∷ pairs) all (inr more) = of_numbers P pair pairs all.1.1 more
+
+-- the call is one of the pair
+abbrev IsSide : Offer → Pair → Type 0
+IsSide offer pair = (pair.waiting ≡ offer) ⊎ (pair.finding ≡ offer)
+
+side_of : (offer : Offer) (given : ℕ) (pair : Pair) → Exchanges offer given pair → IsSide offer pair
+side_of offer given pair (inl first) = inl first.0
+side_of offer given pair (inr second) = inr second.0
+
+-- a call of a pair is in none of the others
+not_again : (offer : Offer) (here there : Pair) (pairs : List Pair)
+    → AreDifferent (numbers_in (here ∷ pairs)) → IsOneOfPairs there pairs → IsSide offer here
+    → IsSide offer there → ⊥
+not_again offer here there pairs different is (inl first) (inl second) =
+    (of_numbers (λ n. here.waiting.number ≢ n) there pairs different.0.1 is).0
+    (ap (λ (o : Offer). o.number) (first ∙ sym second))
+not_again offer here there pairs different is (inl first) (inr second) =
+    (of_numbers (λ n. here.waiting.number ≢ n) there pairs different.0.1 is).1
+    (ap (λ (o : Offer). o.number) (first ∙ sym second))
+not_again offer here there pairs different is (inr first) (inl second) =
+    (of_numbers (λ n. here.finding.number ≢ n) there pairs different.1.0 is).0
+    (ap (λ (o : Offer). o.number) (first ∙ sym second))
+not_again offer here there pairs different is (inr first) (inr second) =
+    (of_numbers (λ n. here.finding.number ≢ n) there pairs different.1.0 is).1
+    (ap (λ (o : Offer). o.number) (first ∙ sym second))
+
+-- a call is in one pair
+one_pair : (offer : Offer) (first second : Pair) (pairs : List Pair)
+    → AreDifferent (numbers_in pairs) → IsOneOfPairs first pairs → IsOneOfPairs second pairs
+    → IsSide offer first → IsSide offer second → first ≡ second
+one_pair offer first second [] different is too side also = absurd is
+one_pair offer first second (pair ∷ pairs) different (inl is) (inl too) side also = sym is ∙ too
+one_pair offer first second (pair ∷ pairs) different (inl is) (inr too) side also =
+    absurd (not_again offer pair second pairs different too (subst (IsSide offer) (sym is) side) also)
+one_pair offer first second (pair ∷ pairs) different (inr is) (inl too) side also =
+    absurd (not_again offer pair first pairs different is (subst (IsSide offer) (sym too) also) side)
+one_pair offer first second (pair ∷ pairs) different (inr is) (inr too) side also =
+    one_pair offer first second pairs different.1.1 is too side also
+
+-- in one pair a call gets one value, since its two calls are of two members
+one_value : (offer : Offer) (first second : ℕ) (pair : Pair)
+    → pair.waiting.member ≢ pair.finding.member → Exchanges offer first pair
+    → Exchanges offer second pair → first ≡ second
+one_value offer first second pair members (inl a) (inl b) = a.1 ∙ sym b.1
+one_value offer first second pair members (inl a) (inr b) =
+    absurd (members (ap (λ (o : Offer). o.member) (a.0 ∙ sym b.0)))
+one_value offer first second pair members (inr a) (inl b) =
+    absurd (members (ap (λ (o : Offer). o.member) (b.0 ∙ sym a.0)))
+one_value offer first second pair members (inr a) (inr b) = a.1 ∙ sym b.1
+
+pub each_gets_one_value : EachGetsOneValue
+each_gets_one_value space history offer first second legal one two =
+    let is = is_space space history legal in
+    let same = one_pair offer one.pair two.pair (pairs_of history) is.once one.is_pair two.is_pair
+    (side_of offer first one.pair one.exchanged) (side_of offer second two.pair two.exchanged) in
+    let meeting = of_pair (IsMeeting history) two.pair (pairs_of history) is.meetings two.is_pair in
+    one_value offer first second two.pair meeting.members
+    (subst (Exchanges offer first) same one.exchanged) two.exchanged
+
+-- the partner of a call in this pair
+partner_in : (history : List Entry) (offer : Offer) (given : ℕ) (pair : Pair)
+    → IsMeeting history pair → IsOneOfPairs pair (pairs_of history) → Exchanges offer given pair
+    → HasPartner history offer given
+partner_in history offer given pair meeting is (inl first) =
+    record {
+      partner = pair.finding;
+      call = made_is_call history pair.finding meeting.finding;
+      another = λ same. meeting.members (ap (λ (o : Offer). o.member) first.0 ∙ sym same);
+      tag_is = sym meeting.tags ∙ ap (λ (o : Offer). o.tag) first.0;
+      gives = first.1;
+      gets = record {
+        pair = pair;
+        is_pair = is;
+        exchanged = inr (refl, ap (λ (o : Offer). o.value) (sym first.0));
+      };
+    }
+partner_in history offer given pair meeting is (inr second) =
+    record {
+      partner = pair.waiting;
+      call = made_is_call history pair.waiting meeting.waiting;
+      another = λ same. meeting.members (same ∙ ap (λ (o : Offer). o.member) (sym second.0));
+      tag_is = meeting.tags ∙ ap (λ (o : Offer). o.tag) second.0;
+      gives = second.1;
+      gets = record {
+        pair = pair;
+        is_pair = is;
+        exchanged = inl (refl, ap (λ (o : Offer). o.value) (sym second.0));
+      };
+    }
+
+pub partners_are_calls : PartnersAreCalls
+partners_are_calls space history offer given legal is =
+    partner_in history offer given is.pair
+    (of_pair (IsMeeting history) is.pair (pairs_of history) (is_space space history legal).meetings
+    is.is_pair) is.is_pair is.exchanged
+
+-- a pair of a past is a pair of the history
+pair_stays : (since past : List Entry) (pair : Pair) → IsOneOfPairs pair (pairs_of past)
+    → IsOneOfPairs pair (pairs_of (since ++ past))
+pair_stays [] past pair is = is
+pair_stays (entry ∷ since) past pair is =
+    one_of_more pair (pair_made (since ++ past) entry.request entry.reply)
+    (pairs_of (since ++ past)) (pair_stays since past pair is)
+
+pub pairs_stay : PairsStay
+pairs_stay since past offer given is =
+    record {
+      pair = is.pair;
+      is_pair = pair_stays since past is.pair is.is_pair;
+      exchanged = is.exchanged;
+    }

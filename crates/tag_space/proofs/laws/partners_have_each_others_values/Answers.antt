@@ -1,0 +1,11 @@
+use Rattle.tag_space.proofs.PartnerLemmas.{partners_are_calls, pairs_stay, each_gets_one_value}
+use Rattle.tag_space.proofs.laws.partners_have_each_others_values.Goals as goal
+
+pub returns-clause-partner : goal.returns-clause-partner
+returns-clause-partner c = partners_are_calls
+
+pub returns-clause-stays : goal.returns-clause-stays
+returns-clause-stays c = pairs_stay
+
+pub returns-clause-one : goal.returns-clause-one
+returns-clause-one c = each_gets_one_value
