@@ -16,6 +16,7 @@ use std::thread::{Threads, join};
 use sync_base::limits::TOP_LEVEL;
 use sync_base::{Fault, Note, NoteSet, Pid, RendezId};
 
+mod parked;
 mod receipts;
 
 const FIRST: RendezId = RendezId(0);
