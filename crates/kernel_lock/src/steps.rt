@@ -15,13 +15,14 @@ use crate::object::Object;
 use crate::plays::{Acquire, Divide, Hand, Made, Merge, Release, Settle, Watch};
 use crate::rule::Stepper;
 use crate::view::Guarded;
+use crate::waiters::GivenBack;
 
 const WORD: usize = 0;
 
 /// The slot in which the object lies.
 pub(crate) const SLOT: usize = 0;
 
-const FREE: u64 = 0;
+pub(crate) const FREE: u64 = 0;
 
 const TAKEN: u64 = 1;
 
@@ -41,15 +42,14 @@ impl<O: Object> Locked<O> {
         found == FREE
     }
 
-    /// Says whether the lock is free.
+    /// The word, which is `FREE` where the lock is.
     // Step Watch: load of the word. Seat: as it was. Keeps the rule: nothing changes.
-    pub(crate) fn watch(&self, stepper: &mut Stepper<O>) -> bool
+    pub(crate) fn watch(&self, stepper: &mut Stepper<O>) -> u64
         requires { IsStepperOf self.now stepper.old }
         ensures stepper { IsSameStepper stepper.old stepper.new }
         ensures same { stepper.new.me ≡ stepper.old.me }
     {
-        let found = self.table.shared.load::<Watch>(stepper, WORD);
-        found == FREE
+        self.table.shared.load::<Watch>(stepper, WORD)
     }
 
     /// Takes the object out of the slot.
@@ -106,13 +106,17 @@ impl<O: Object> Locked<O> {
     // Seat: Inside, then Outside; where a request was served, it has seen the history with that.
     // Keeps the rule: the object is what the history and that request leave,
     // and no other seat was inside.
-    pub(crate) fn release<M: Made<O::Request, O::Reply>>(&self, stepper: &mut Stepper<O>)
+    pub(crate) fn release<M: Made<O::Request, O::Reply>>(
+        &self,
+        stepper: &mut Stepper<O>,
+    ) -> GivenBack
         requires stepper { IsStepperOf self.now stepper.old }
         requires due { IsDue O.definition self.now.table.shared.key M.served stepper.old.me }
         ensures stepper { IsSameStepper stepper.old stepper.new }
         ensures released { HasReleased M.served stepper.old.me stepper.new.me }
     {
         self.table.shared.store::<Release<M>>(stepper, WORD, FREE);
+        GivenBack::by(stepper)
     }
 
     /// Gives a seat with the next number.

@@ -5,6 +5,7 @@ ghost use Rattle.std.specs.Prelude.{◌<◌, IfOk};
 ghost use denote.Param.Send.{IsSync};
 ghost use Rattle.kernel_lock.specs.Seats.{IsSeatOf};
 
+use crate::waiters::{Taken, Turn};
 use crate::{LockSeat, Locked, Opened, OpenedWhole};
 use std::alloc::{AllocFailed, Global};
 use std::process::Abort;
@@ -13,7 +14,7 @@ use std::test::Fail;
 use std::thread::{Threads, join};
 use sync_base::Fault;
 
-mod counter;
+pub(crate) mod counter;
 mod room;
 mod shelf;
 
@@ -138,7 +139,12 @@ fn eight<R: Threads + Wait + Sync>(
 
 // A lock over a counter. Where memory is refused the counter comes back as it was,
 // and with memory there is a lock.
-fn open(rt: &impl Abort, alloc: Global, sum: u64, seats: u64) -> Result<Opened<Counter>, Fail>
+pub(crate) fn open(
+    rt: &impl Abort,
+    alloc: Global,
+    sum: u64,
+    seats: u64,
+) -> Result<Opened<Counter>, Fail>
     requires { 0 < seats }
     ensures { IfOk result (λ opened. IsSeatOf opened.lock opened.seat) }
 {
@@ -418,7 +424,8 @@ fn a_release_before_the_mark_is_seen(rt: HostRuntime) -> Result<(), Fail> {
     let Opened { lock, mut seat } = open(&rt, rt.alloc(), 0, 1)?;
     lock.apply(&rt, &mut seat, 1);
     let mut stepper = seat.stand();
-    assert!(rt; !lock.sleep(&rt, &mut stepper), "the lock is free");
+    let turn = lock.sleep(&rt, &mut stepper, Turn::new());
+    assert!(rt; lock.waiters.pass_on(turn).is_none(), "the lock is free");
     seat.sit(stepper);
     assert_eq!(rt; lock.close(&rt, seat).sum, 1);
     Ok(())
@@ -432,11 +439,14 @@ fn a_release_after_the_mark_ends_the_sleep(rt: HostRuntime) -> Result<(), Fail> 
     let first = lock.waiters.announce();
     let second = lock.waiters.announce();
     lock.apply(&rt, &mut seat, 1);
-    lock.waiters.sleep(&rt, first);
-    lock.waiters.sleep(&rt, second);
 
     // The next mark is another, so this release was no answer to it.
     assert_ne!(rt; lock.waiters.announce(), first);
+    let turn = lock
+        .waiters
+        .sleep(&rt, Taken::behind(first, 1), Turn::new());
+    let turn = lock.waiters.sleep(&rt, Taken::behind(second, 1), turn);
+    assert!(rt; lock.waiters.pass_on(turn).is_some(), "it slept");
     assert_eq!(rt; lock.close(&rt, seat).sum, 1);
     Ok(())
 }

@@ -1,7 +1,10 @@
 //! Who waits for a lock. Before this: `locked`. After it: `steps`.
-//! The mark is no word of the table and no clause speaks of it: it keeps those who wait from
+//! The mark is no word of the table and no clause says what it holds: it keeps those who wait from
 //! burning the processor, and those who release from calling the system where nobody sleeps.
-ghost use Rattle.std.specs.Prelude.{◌≡◌};
+//! What has to be done for those who sleep is a value that only the next act spends: a lock that
+//! was given back is looked at, a mark that is set is cleared, and then one thread is woken; who
+//! has slept sets the mark again.
+ghost use Rattle.std.specs.Prelude.{◌≡◌, ◌≢◌, ◌%◌, true, false, IfNone};
 ghost use Rattle.kernel_lock.specs.declared.view.Stage.TheVariants.{Outside};
 
 use crate::object::Object;
@@ -10,11 +13,84 @@ use std::sync::Wait;
 use std::sync::atomic::AtomicU64;
 use std::sync::atomic::Ordering::SeqCst;
 
+#[cfg(test)]
+mod tests;
+
+/// A thread sleeps while the mark has the low 32 bits that it announced.
+const LOW: u64 = 0x1_0000_0000;
+
 /// An odd number says that a thread sleeps, or is about to.
 /// Each wake makes it even, so it also counts the wakes.
 #[derive(Drop)]
 pub struct Waiters {
     mark: AtomicU64,
+}
+
+/// A thread that is about to sleep has said so, and this is the mark that it left.
+#[derive(Drop, Debug, PartialEq)]
+pub(crate) struct Announced {
+    mark: u32,
+    ghost odd: { mark % 2 ≡ 1 },
+}
+
+/// The lock was found taken behind the announcement. `sleep` spends it.
+#[derive(Drop)]
+pub(crate) struct Taken {
+    announced: Announced,
+}
+
+impl Taken {
+    /// The word of the lock, as it was found behind the announcement.
+    pub(crate) fn behind(announced: Announced, _word: u64) -> Taken
+        requires { _word ≢ 0 }
+    {
+        Taken { announced }
+    }
+}
+
+/// Whether a thread that has to get the lock has slept for it.
+/// It can't be dropped: `pass_on` spends it.
+#[must_use]
+pub(crate) struct Turn {
+    slept: bool,
+}
+
+impl Turn {
+    pub(crate) fn new() -> Turn
+        ensures { result.slept ≡ false }
+    {
+        Turn { slept: false }
+    }
+}
+
+/// The lock was given back, and nobody was told. It can't be dropped: `look` spends it.
+#[must_use]
+pub(crate) struct GivenBack {
+    marker: (),
+}
+
+impl GivenBack {
+    /// Who makes it has given the lock back: a thread that is woken before may find it taken
+    /// and sleep again, and nobody would wake it then.
+    pub(crate) fn by<O: Object>(_outside: &Stepper<O>) -> GivenBack
+        requires { _outside.now.me.0.stage ≡ Outside }
+    {
+        GivenBack { marker: () }
+    }
+}
+
+/// A mark that says that somebody sleeps. It can't be dropped: `clear` spends it.
+#[must_use]
+pub(crate) struct Marked {
+    mark: u64,
+    ghost odd: { mark % 2 ≡ 1 },
+}
+
+/// A mark that was taken away, and its sleeper is not yet woken.
+/// It can't be dropped: `wake_one` spends it.
+#[must_use]
+pub(crate) struct Cleared {
+    marker: (),
 }
 
 impl Waiters {
@@ -25,36 +101,60 @@ impl Waiters {
     }
 
     /// Says that a thread is about to sleep.
-    /// It has to look at the lock again before it calls `sleep` with the answer.
-    // A release that finds no mark comes before this step, so that look finds the lock free,
-    // or taken by another thread, whose release finds the mark.
-    pub(crate) fn announce(&self) -> u32 {
-        let mark = self.mark.fetch_or(1, SeqCst) | 1;
-        (mark & 0xffff_ffff) as u32
+    // A release that finds no mark comes before this step, so a look at the lock behind it finds it
+    // free, or taken by another thread, whose release finds the mark.
+    pub(crate) fn announce(&self) -> Announced {
+        let found = self.mark.fetch_or(1, SeqCst);
+        let mark = if found % 2 == 1 { found } else { found + 1 };
+        Announced {
+            mark: (mark % LOW) as u32,
+        }
     }
 
     /// Sleeps until the next wake, if there was none since the announcement.
-    pub(crate) fn sleep<R: Wait>(&self, rt: &R, mark: u32) {
-        self.mark.park(rt, mark);
+    pub(crate) fn sleep<R: Wait>(&self, rt: &R, taken: Taken, turn: Turn) -> Turn
+        ensures slept { result.slept ≡ true }
+    {
+        let Turn { slept: _ } = turn;
+        self.mark.park(rt, taken.announced.mark);
+        Turn { slept: true }
     }
 
-    /// Wakes one thread, if any has announced itself. Otherwise it is a load, and calls no system.
-    /// Who calls it has given the lock back: a thread that is woken before may find it taken
-    /// and sleep again, and nobody would wake it then.
-    // The one that is woken announces itself again with the lock, and so wakes the next.
-    pub(crate) fn wake<O: Object>(&self, _outside: &Stepper<O>)
-        requires { _outside.now.me.0.stage ≡ Outside }
+    /// Ends the turn of a thread that has the lock, and says whether it set the mark again.
+    /// Where it slept others may sleep still, and it was woken in their place:
+    /// its release wakes one of them.
+    pub(crate) fn pass_on(&self, turn: Turn) -> Option<Announced>
+        ensures slept { IfNone result (turn.slept ≡ false) }
     {
+        let Turn { slept } = turn;
+        if slept { Some(self.announce()) } else { None }
+    }
+
+    /// Looks whether a thread has announced itself, behind a release.
+    pub(crate) fn look(&self, given_back: GivenBack) -> Option<Marked> {
+        let GivenBack { marker: () } = given_back;
         let mark = self.mark.load(SeqCst);
-        if mark & 1 == 1 {
-            let next = mark.wrapping_add(1);
-            if self
-                .mark
-                .compare_exchange(mark, next, SeqCst, SeqCst)
-                .is_ok()
-            {
-                self.mark.wake_one();
-            }
+        if mark % 2 == 1 {
+            Some(Marked { mark })
+        } else {
+            None
         }
+    }
+
+    /// Takes the mark away, if no other release did.
+    pub(crate) fn clear(&self, marked: Marked) -> Option<Cleared> {
+        let Marked { mark } = marked;
+        let next = mark.wrapping_add(1);
+        match self.mark.compare_exchange(mark, next, SeqCst, SeqCst) {
+            Ok(_) => Some(Cleared { marker: () }),
+            Err(_) => None,
+        }
+    }
+
+    /// Wakes one thread that sleeps.
+    // It announces itself again with the lock, and so wakes the next.
+    pub(crate) fn wake_one(&self, cleared: Cleared) {
+        let Cleared { marker: () } = cleared;
+        self.mark.wake_one();
     }
 }

@@ -1,6 +1,6 @@
 //! How a thread waits for the lock, and how the next one is woken.
 //! Before this: `steps`. After it: `apply`.
-ghost use Rattle.std.specs.Prelude.{◌≡◌};
+ghost use Rattle.std.specs.Prelude.{◌≡◌, true};
 ghost use Rattle.kernel_lock.specs.Steppers.{IsStepperOf, IsSameStepper};
 ghost use Rattle.kernel_lock.specs.Steps.{TakesLock, IsDue, HasReleased};
 
@@ -8,6 +8,8 @@ use crate::locked::Locked;
 use crate::object::Object;
 use crate::plays::Made;
 use crate::rule::Stepper;
+use crate::steps::FREE;
+use crate::waiters::{Announced, GivenBack, Taken, Turn};
 use std::hint::spin_loop;
 use std::sync::Wait;
 
@@ -34,48 +36,58 @@ impl<O: Object> Locked<O> {
         if self.acquire(stepper) {
             return;
         }
-        let mut slept = false;
+        let mut turn = Turn::new();
         for _ in rt.forever() {
-            slept = self.wait(rt, stepper) || slept;
+            turn = self.wait(rt, stepper, turn);
             if self.acquire(stepper) {
                 break;
             }
         }
-        if slept {
-            // Others may sleep still, and this thread was woken in their place:
-            // its release wakes one of them.
-            self.waiters.announce();
-        }
+        self.waiters.pass_on(turn);
     }
 
-    // Looks at the word for a while, and then sleeps until a release. Says whether it slept.
-    fn wait<R: Wait>(&self, rt: &R, stepper: &mut Stepper<O>) -> bool
+    // Looks at the word for a while, and then sleeps until a release.
+    fn wait<R: Wait>(&self, rt: &R, stepper: &mut Stepper<O>, turn: Turn) -> Turn
         requires { IsStepperOf self.now stepper.old }
         ensures stepper { IsSameStepper stepper.old stepper.new }
         ensures same { stepper.new.me ≡ stepper.old.me }
+        ensures slept { turn.slept ≡ true → result.slept ≡ true }
     {
         for _ in 0..LOOKS {
             pause();
-            if self.watch(stepper) {
-                return false;
+            if self.watch(stepper) == FREE {
+                return turn;
             }
         }
-        self.sleep(rt, stepper)
+        self.sleep(rt, stepper, turn)
     }
 
-    /// Sleeps until a release, where the lock is still taken. Says whether it slept.
+    /// Sleeps until a release, where the lock is still taken.
     // A release before the mark woke nobody. The look behind the mark finds that one.
-    pub(crate) fn sleep<R: Wait>(&self, rt: &R, stepper: &mut Stepper<O>) -> bool
+    pub(crate) fn sleep<R: Wait>(&self, rt: &R, stepper: &mut Stepper<O>, turn: Turn) -> Turn
+        requires { IsStepperOf self.now stepper.old }
+        ensures stepper { IsSameStepper stepper.old stepper.new }
+        ensures same { stepper.new.me ≡ stepper.old.me }
+        ensures slept { turn.slept ≡ true → result.slept ≡ true }
+    {
+        let announced = self.waiters.announce();
+        match self.watch_again(stepper, announced) {
+            Some(taken) => self.waiters.sleep(rt, taken, turn),
+            None => turn,
+        }
+    }
+
+    // Looks at the lock behind an announcement: a thread may sleep where it is still taken.
+    fn watch_again(&self, stepper: &mut Stepper<O>, announced: Announced) -> Option<Taken>
         requires { IsStepperOf self.now stepper.old }
         ensures stepper { IsSameStepper stepper.old stepper.new }
         ensures same { stepper.new.me ≡ stepper.old.me }
     {
-        let mark = self.waiters.announce();
-        if self.watch(stepper) {
-            return false;
+        let found = self.watch(stepper);
+        if found == FREE {
+            return None;
         }
-        self.waiters.sleep(rt, mark);
-        true
+        Some(Taken::behind(announced, found))
     }
 
     /// Gives the lock back, and wakes a thread that waits for it.
@@ -85,7 +97,16 @@ impl<O: Object> Locked<O> {
         ensures stepper { IsSameStepper stepper.old stepper.new }
         ensures released { HasReleased M.served stepper.old.me stepper.new.me }
     {
-        self.release::<M>(stepper);
-        self.waiters.wake(stepper);
+        let given_back = self.release::<M>(stepper);
+        self.wake(given_back);
+    }
+
+    // Wakes one thread, if any has announced itself. Otherwise it is a load, and calls no system.
+    fn wake(&self, given_back: GivenBack) {
+        if let Some(marked) = self.waiters.look(given_back) {
+            if let Some(cleared) = self.waiters.clear(marked) {
+                self.waiters.wake_one(cleared);
+            }
+        }
     }
 }

@@ -1,4 +1,8 @@
-use Rattle.std.proofs.Common.{rules, arith}
+use Rattle.std.proofs.Common.{rules, arith, ◌≡◌, List, Option, Some, None, ap, refl, ◌∙◌}
+use Rattle.kernel_lock.specs.declared.view.Served.{Served}
+use Rattle.kernel_lock.specs.declared.view.Stage.TheVariants.{Outside}
+use Rattle.kernel_lock.specs.declared.view.View.{View}
+use Rattle.kernel_lock.specs.View.{outside_view}
 use Rattle.kernel_lock.proofs.ReleaseKeeps.{release_keeps}
 use Rattle.kernel_lock.proofs.locked.Locked.release.Goals as goal
 
@@ -9,3 +13,15 @@ store-requires g c =
       search rules,
       release_keeps g.O.Object.definition _ _ _ _ _ (omega arith) c.requires.due,
     )
+
+-- a seat that has given the lock back is outside, whether a request was served or not
+released_is_outside : {Object Request Reply : Type 0} (history : List (Served Request Reply))
+    (served : Option (Served Request Reply)) (view : View Object Request Reply) →
+    (outside_view history served view).stage ≡ Outside
+released_is_outside history None view = refl
+released_is_outside history (Some served) view = refl
+
+pub by-requires : goal.by-requires
+by-requires g c =
+    ap (λ view. view.stage) (c.store.ensures.2.view_is c.requires.due.history c.requires.due.stage_is)
+    ∙ released_is_outside _ _ _

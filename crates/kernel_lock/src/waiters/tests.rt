@@ -1,0 +1,114 @@
+//! A thread that surely sleeps for a lock is woken by a release, and a release wakes nobody else.
+//! Each test ends by itself, also where a wake is lost.
+ghost use Rattle.kernel_lock.specs.Seats.{IsSeatOf};
+
+use super::{Taken, Turn, Waiters};
+use crate::tests::counter::Counter;
+use crate::tests::open;
+use crate::{LockSeat, Locked, Opened};
+use std::sync::Wait;
+use std::sync::atomic::AtomicU64;
+use std::sync::atomic::Ordering::SeqCst;
+use std::test::Fail;
+use std::thread::{Threads, join, yield_now};
+
+/// How often a thread looks for a sign of the other.
+const LOOKS: u64 = 200_000;
+
+/// How long a thread that is about to sleep has for it.
+const STAY: u64 = 20_000;
+
+/// How two threads tell of themselves.
+#[derive(Drop)]
+struct Signs {
+    announced: AtomicU64,
+    woken: AtomicU64,
+    over: AtomicU64,
+}
+
+fn is_seen(sign: &AtomicU64) -> bool {
+    for _ in 0..LOOKS {
+        if sign.load(SeqCst) > 0 {
+            return true;
+        }
+        yield_now();
+    }
+    false
+}
+
+// Sleeps as a thread does that found the lock taken. Says whether it slept.
+fn fall_asleep<R: Wait>(rt: &R, waiters: &Waiters, signs: &Signs) -> bool {
+    let announced = waiters.announce();
+    signs.announced.store(1, SeqCst);
+    if signs.over.load(SeqCst) > 0 {
+        return false;
+    }
+    let turn = waiters.sleep(rt, Taken::behind(announced, 1), Turn::new());
+    signs.woken.store(1, SeqCst);
+    waiters.pass_on(turn).is_some()
+}
+
+// Makes a call once the other thread sleeps, and says whether that woke it. Else it wakes it.
+fn call<R: Wait>(rt: &R, lock: &Locked<Counter>, mut seat: LockSeat<Counter>, signs: &Signs) -> bool
+    requires { IsSeatOf lock.now seat }
+{
+    if is_seen(&signs.announced) {
+        for _ in 0..STAY {
+            yield_now();
+        }
+        lock.apply(rt, &mut seat, 1);
+        if is_seen(&signs.woken) {
+            return true;
+        }
+    }
+    signs.over.store(1, SeqCst);
+    lock.waiters.mark.fetch_add(2, SeqCst);
+    lock.waiters.mark.wake_all();
+    false
+}
+
+fn call_and_sleep<R: Threads + Wait + Sync>(
+    rt: &R,
+    lock: &Locked<Counter>,
+    seat: LockSeat<Counter>,
+    signs: &Signs,
+) -> (bool, bool)
+    requires { IsSeatOf lock.now seat }
+{
+    let waiters = &lock.waiters;
+    join(
+        rt,
+        || call(rt, lock, seat, signs),
+        || fall_asleep(rt, waiters, signs),
+    )
+}
+
+#[test]
+fn a_sleeper_that_parked_is_woken_by_a_release(rt: HostRuntime) -> Result<(), Fail> {
+    let Opened { lock, seat } = open(&rt, rt.alloc(), 0, 1)?;
+    let signs = Signs {
+        announced: AtomicU64::new(0),
+        woken: AtomicU64::new(0),
+        over: AtomicU64::new(0),
+    };
+    let (woken, slept) = call_and_sleep(&rt, &lock, seat, &signs);
+    assert_eq!(rt; woken, slept);
+    Ok(())
+}
+
+// A wake changes the mark for good: a lock that has the mark of a new one has made none.
+#[test]
+fn a_call_that_nobody_waits_for_wakes_nobody(rt: HostRuntime) -> Result<(), Fail> {
+    let Opened { lock, mut seat } = open(&rt, rt.alloc(), 0, 1)?;
+    lock.apply(&rt, &mut seat, 1);
+    lock.apply(&rt, &mut seat, 1);
+    assert_eq!(rt; lock.waiters.mark.load(SeqCst), 0);
+
+    // Where somebody waits the mark tells of the one wake.
+    lock.waiters.announce();
+    lock.apply(&rt, &mut seat, 1);
+    lock.apply(&rt, &mut seat, 1);
+    assert_eq!(rt; lock.waiters.mark.load(SeqCst), 2);
+    assert_eq!(rt; lock.close(&rt, seat).sum, 4);
+    Ok(())
+}
