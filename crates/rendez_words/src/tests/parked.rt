@@ -1,6 +1,6 @@
 //! Sleepers that are surely parked when they are woken: who wakes them has seen that they say so,
-//! and then lets turns pass. Where the wake is lost the sleeper is roused by hand, so each test ends
-//! by itself, and fails.
+//! and then lets turns pass. Where the wake is lost the sleeper is roused by hand, so each test
+//! ends by itself, and fails.
 ghost use Rattle.std.specs.Prelude.{◌<◌};
 ghost use Rattle.rendez_words.specs.Words.{IsProcessOf, procs_of};
 
