@@ -6,6 +6,7 @@ use super::{Taken, Turn, Waiters};
 use crate::tests::counter::Counter;
 use crate::tests::open;
 use crate::{LockSeat, Locked, Opened};
+use std::hint::spin_loop;
 use std::sync::Wait;
 use std::sync::atomic::AtomicU64;
 use std::sync::atomic::Ordering::SeqCst;
@@ -15,8 +16,12 @@ use std::thread::{Threads, join, yield_now};
 /// How often a thread looks for a sign of the other.
 const LOOKS: u64 = 200_000;
 
-/// How long a thread that is about to sleep has for it.
-const STAY: u64 = 20_000;
+/// How often a thread that is about to sleep is let go on: often enough for a machine that is
+/// busy, and no oftener, since there each turn may take as long as the others like.
+const TURNS: u64 = 100;
+
+/// How long each turn is where nobody else wants the processor.
+const PAUSES: u64 = 1_000;
 
 /// How two threads tell of themselves.
 #[derive(Drop)]
@@ -36,6 +41,15 @@ fn is_seen(sign: &AtomicU64) -> bool {
     false
 }
 
+fn let_it_park() {
+    for _ in 0..TURNS {
+        for _ in 0..PAUSES {
+            spin_loop();
+        }
+        yield_now();
+    }
+}
+
 // Sleeps as a thread does that found the lock taken. Says whether it slept.
 fn fall_asleep<R: Wait>(rt: &R, waiters: &Waiters, signs: &Signs) -> bool {
     let announced = waiters.announce();
@@ -53,9 +67,7 @@ fn call<R: Wait>(rt: &R, lock: &Locked<Counter>, mut seat: LockSeat<Counter>, si
     requires { IsSeatOf lock.now seat }
 {
     if is_seen(&signs.announced) {
-        for _ in 0..STAY {
-            yield_now();
-        }
+        let_it_park();
         lock.apply(rt, &mut seat, 1);
         if is_seen(&signs.woken) {
             return true;

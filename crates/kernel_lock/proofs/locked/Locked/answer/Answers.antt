@@ -1,3 +1,4 @@
+-- The object answers in the slot that the seat has.
 use Rattle.std.proofs.Common.{Some, ◌∷◌, refl, ap, ◌∙◌}
 use Rattle.atomic_table.specs.Table.{rest}
 use Rattle.kernel_lock.specs.declared.view.Guarded.{Guarded}

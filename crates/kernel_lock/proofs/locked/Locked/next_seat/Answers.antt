@@ -1,3 +1,4 @@
+-- Whether the seat is divided or not, the object stays, and the right number lies beside it.
 use Rattle.std.proofs.Common.{◌+◌, refl, ap, ◌∙◌}
 use Rattle.kernel_lock.specs.declared.view.Guarded.{Guarded}
 use Rattle.kernel_lock.specs.View.{parent_view}
@@ -32,5 +33,6 @@ returns-clause-object g c =
     record { object = inside.guarded.object; next = c.read_next-next.result + 1 } in
     divides _ c.divide-child.new.stepper.me _ inside.guarded left inside inside.slots_are
     (ap (λ me. me.0) parent ∙ ap (λ me. parent_view me.0) same)
-    (c.write_next.ensures.counted _ (ap (λ me. me.1) parent ∙ ap (λ me. me.1) same ∙ inside.slots_are))
+    (c.write_next.ensures.counted _
+    (ap (λ me. me.1) parent ∙ ap (λ me. me.1) same ∙ inside.slots_are))
     refl (ap (λ n. n + 1) next)

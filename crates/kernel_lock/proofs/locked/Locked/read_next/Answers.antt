@@ -1,3 +1,4 @@
+-- The seat has the slot that it reads.
 use Rattle.kernel_lock.proofs.SlotLemmas.{has_slot}
 use Rattle.kernel_lock.proofs.locked.Locked.read_next.Goals as goal
 

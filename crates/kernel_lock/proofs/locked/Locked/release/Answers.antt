@@ -1,3 +1,4 @@
+-- The release keeps the rule, and the seat is outside behind it.
 use Rattle.std.proofs.Common.{rules, arith, ◌≡◌, List, Option, Some, None, ap, refl, ◌∙◌}
 use Rattle.kernel_lock.specs.declared.view.Served.{Served}
 use Rattle.kernel_lock.specs.declared.view.Stage.TheVariants.{Outside}
@@ -23,5 +24,6 @@ released_is_outside history (Some served) view = refl
 
 pub by-requires : goal.by-requires
 by-requires g c =
-    ap (λ view. view.stage) (c.store.ensures.2.view_is c.requires.due.history c.requires.due.stage_is)
+    let due = c.requires.due in
+    ap (λ view. view.stage) (c.store.ensures.2.view_is due.history due.stage_is)
     ∙ released_is_outside _ _ _

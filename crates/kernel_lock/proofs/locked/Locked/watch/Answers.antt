@@ -1,3 +1,4 @@
+-- A look changes nothing.
 use Rattle.std.proofs.Common.{rules}
 use Rattle.kernel_lock.proofs.WatchKeeps.{watch_keeps}
 use Rattle.kernel_lock.proofs.locked.Locked.watch.Goals as goal

@@ -1,3 +1,4 @@
+-- The seat has the slot that it writes.
 use Rattle.kernel_lock.proofs.SlotLemmas.{has_slot}
 use Rattle.kernel_lock.proofs.locked.Locked.write_next.Goals as goal
 
