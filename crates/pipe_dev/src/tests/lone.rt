@@ -111,11 +111,11 @@ fn room_of(end: &mut WriteEnd<'_>, alloc: Global) -> usize
     ensures { end.new ≡ end.old }
 {
     let Some(seat) = &mut end.seat else { return 0 };
-    match seat.take_spare().filled(alloc, b"") {
+    match seat.spare.take().filled(alloc, b"") {
         Ok(block) => {
             let bytes = block.into_vec();
             let room = bytes.capacity();
-            seat.keep_spare(Spare::of(Piece::of(bytes)));
+            seat.spare.keep(Spare::of(Piece::of(bytes)));
             room
         }
         Err(_) => 0,
