@@ -1,5 +1,6 @@
 //! Memory that comes back, and what a slot of the ring keeps. Before this: `view`.
-//! After it: `rule`. A reader leaves the memory of a block that it has read in a slot, where a writer finds it.
+//! After it: `rule`. A reader leaves the memory of a block that it has read in a slot, where a
+//! writer finds it.
 use crate::queue_object::StoredBlock;
 use std::alloc::Global;
 use std::marker::Model;

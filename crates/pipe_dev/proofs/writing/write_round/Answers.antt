@@ -33,7 +33,8 @@ returns-in-Hungup-clause-over g c = (
     knew = hungup_knew (key_of c.args.queue.now) c.args.seat.writer c.args.block
         (put_account c.args.seat) (put_account c.put.new.seat) c.in-Hungup.ensures.answer.refused;
     noted = c.put_back.ensures.noted
-        ∙ ap (notes c.args.proc.now.process (pid_in c.args.proc.now.process)) c.of-in-Hungup-2.ensures.value;
+        ∙ ap (notes c.args.proc.now.process (pid_in c.args.proc.now.process))
+        c.of-in-Hungup-2.ensures.value;
   },
   tt,
 )
