@@ -13,7 +13,8 @@ use std::mem;
 pub struct PutSeat {
     pub(crate) badge: Badge<View>,
     pub(crate) writer: u64,
-    pub(crate) spare: Spare,
+    /// The memory of its next block.
+    pub spare: Spare,
 }
 
 /// The seat of the reader, with which one thread at a time takes blocks out.
@@ -21,7 +22,8 @@ pub struct PutSeat {
 pub struct TakeSeat {
     pub(crate) badge: Badge<View>,
     pub(crate) taken: u64,
-    pub(crate) spare: Spare,
+    /// The memory that its next take leaves in the ring, for a writer.
+    pub spare: Spare,
 }
 
 impl PutSeat {
@@ -30,20 +32,6 @@ impl PutSeat {
         ensures { result ≡ self.now.writer }
     {
         self.writer
-    }
-
-    /// Takes the memory out that the seat keeps for its next block.
-    pub fn take_spare(&mut self) -> Spare
-        ensures { self.new ≡ self.old }
-    {
-        self.spare.take()
-    }
-
-    /// Keeps this memory for the next block.
-    pub fn keep_spare(&mut self, spare: Spare)
-        ensures { self.new ≡ self.old }
-    {
-        self.spare.keep(spare)
     }
 
     /// What the seat makes its steps with. A blank badge stands in for what it knows until `sit`.
@@ -67,13 +55,6 @@ impl PutSeat {
 }
 
 impl TakeSeat {
-    /// Keeps this memory, which the next take leaves in the ring for a writer.
-    pub fn keep_spare(&mut self, spare: Spare)
-        ensures { self.new ≡ self.old }
-    {
-        self.spare.keep(spare)
-    }
-
     /// What the seat makes its steps with. A blank badge stands in for what it knows until `sit`.
     pub(crate) fn stand(&mut self) -> Place
         requires { self.old.badge.views ≡ take_view self.old ∷ [] }

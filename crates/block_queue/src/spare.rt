@@ -1,5 +1,6 @@
-//! Memory that comes back, and what a slot of the ring keeps. Before this: `view`. After it: `rule`.
-//! A reader leaves the memory of a block that it has read in a slot, where a writer finds it.
+//! Memory that comes back, and what a slot of the ring keeps. Before this: `view`.
+//! After it: `rule`. A reader leaves the memory of a block that it has read in a slot, where a
+//! writer finds it.
 use crate::queue_object::StoredBlock;
 use std::alloc::Global;
 use std::marker::Model;
@@ -61,14 +62,14 @@ impl Spare {
     }
 
     /// Takes the memory out.
-    pub(crate) fn take(&mut self) -> Spare {
+    pub fn take(&mut self) -> Spare {
         Spare {
             bytes: self.bytes.take(),
         }
     }
 
     /// Keeps that memory, where there is some. What was kept before is given back.
-    pub(crate) fn keep(&mut self, spare: Spare) {
+    pub fn keep(&mut self, spare: Spare) {
         if spare.bytes.is_some() {
             self.bytes = spare.bytes;
         }

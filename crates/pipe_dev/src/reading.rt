@@ -224,7 +224,7 @@ fn try_with(
     match rest {
         Some(begun) => {
             let Given { count, left, spare } = begun.give(buffer);
-            seat.keep_spare(spare);
+            seat.spare.keep(spare);
             Tried {
                 hand: ReadHand { seat, rest: left },
                 found: Found::Got(count),
@@ -256,7 +256,7 @@ fn try_next(
             wake_writers(proc, row, number);
             let whole = Begun::whole(block, writer, number - 1);
             let Given { count, left, spare } = whole.give(buffer);
-            seat.keep_spare(spare);
+            seat.spare.keep(spare);
             Tried {
                 hand: ReadHand { seat, rest: left },
                 found: Found::Got(count),

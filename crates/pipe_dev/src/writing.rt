@@ -62,7 +62,7 @@ impl<'p> WriteEnd<'p> {
         let Some(mut seat) = self.seat.take() else {
             unreachable!()
         };
-        match seat.take_spare().filled(alloc, bytes) {
+        match seat.spare.take().filled(alloc, bytes) {
             Ok(block) => {
                 let Done { seat, answer } = write_with(
                     self.queue, &self.row, rt, seat, proc, block,
@@ -71,7 +71,7 @@ impl<'p> WriteEnd<'p> {
                 answer
             }
             Err(spare) => {
-                seat.keep_spare(spare);
+                seat.spare.keep(spare);
                 self.seat = Some(seat);
                 Err(Fault::Memory)
             }
@@ -165,7 +165,7 @@ fn write_round<R: Wait>(
                 turn: Turn::Again(back),
             },
             Err(fault) => {
-                seat.keep_spare(Spare::of(back));
+                seat.spare.keep(Spare::of(back));
                 Round {
                     seat,
                     turn: Turn::Over(Err(fault)),
@@ -173,7 +173,7 @@ fn write_round<R: Wait>(
             }
         },
         PutAnswer::Hungup(back) => {
-            seat.keep_spare(Spare::of(back));
+            seat.spare.keep(Spare::of(back));
             proc.put_back(NoteSet::of(Note::ClosedPipe));
             Round {
                 seat,
@@ -181,7 +181,7 @@ fn write_round<R: Wait>(
             }
         }
         PutAnswer::Worn(back) => {
-            seat.keep_spare(Spare::of(back));
+            seat.spare.keep(Spare::of(back));
             Round {
                 seat,
                 turn: Turn::Over(Err(Fault::Worn)),

@@ -81,7 +81,7 @@ impl One {
     pub fn take_back(&mut self) -> bool {
         match self.take() {
             TakeAnswer::Block(block, _, _) => {
-                self.take.keep_spare(Spare::of(block));
+                self.take.spare.keep(Spare::of(block));
                 true
             }
             _ => false,
@@ -90,11 +90,11 @@ impl One {
 
     /// How many bytes the memory has room for that the writer keeps.
     pub fn room(&mut self, alloc: Global) -> usize {
-        match self.put.take_spare().filled(alloc, b"") {
+        match self.put.spare.take().filled(alloc, b"") {
             Ok(block) => {
                 let bytes = block.into_vec();
                 let room = bytes.capacity();
-                self.put.keep_spare(Spare::of(Piece::of(bytes)));
+                self.put.spare.keep(Spare::of(Piece::of(bytes)));
                 room
             }
             Err(_) => 0,

@@ -9,7 +9,7 @@ use crate::{
     Ends, Held, Long, Parts, Pipe, PipeStart, ReadAnswer, ReadEnd, TryAnswer, Unfinished, WriteEnd,
     finish,
 };
-use block_queue::Spare;
+use block_queue::{PutSeat, Spare};
 use sleep_wakeup::{Proc, Started};
 use std::alloc::Global;
 use std::marker::Model;
@@ -106,20 +106,26 @@ fn held_of<'a>(rt: &impl Abort, alloc: Global, read: ReadEnd<'a>, writes: Vec<Wr
     }
 }
 
-// The memory that a write end keeps stays there.
-fn room_of(end: &mut WriteEnd<'_>, alloc: Global) -> usize
-    ensures { end.new ≡ end.old }
+// The memory that a seat keeps stays there.
+fn room_in(seat: &mut PutSeat, alloc: Global) -> usize
+    ensures { seat.new ≡ seat.old }
 {
-    let Some(seat) = &mut end.seat else { return 0 };
-    match seat.take_spare().filled(alloc, b"") {
+    match seat.spare.take().filled(alloc, b"") {
         Ok(block) => {
             let bytes = block.into_vec();
             let room = bytes.capacity();
-            seat.keep_spare(Spare::of(Piece::of(bytes)));
+            seat.spare.keep(Spare::of(Piece::of(bytes)));
             room
         }
         Err(_) => 0,
     }
+}
+
+fn room_of(end: &mut WriteEnd<'_>, alloc: Global) -> usize
+    ensures { end.new ≡ end.old }
+{
+    let Some(seat) = &mut end.seat else { return 0 };
+    room_in(seat, alloc)
 }
 
 impl<'a> Lone<'a> {

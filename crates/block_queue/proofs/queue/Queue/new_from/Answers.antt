@@ -11,7 +11,8 @@ use Rattle.block_queue.proofs.queue.Queue.new_from.Goals as goal
 pub new-requires : goal.new-requires
 new-requires c =
     let some_room : 0 < c.args.limit = omega arith in
-    let key : Key = record { limit = c.args.limit; first = c.args.first; writers = c.args.writers } in
+    let key : Key =
+    record { limit = c.args.limit; first = c.args.first; writers = c.args.writers } in
     subst (λ slots. IsOneQueue key (opening c.as_slice.result.now slots (first_view key)))
     (sym c.in_ok-slots.ensures)
     (subst (λ words. IsOneQueue key (opening words (replicate c.args.limit None) (first_view key)))
