@@ -17,4 +17,5 @@ mod EndLemmas
 mod ValueLemmas
 mod PartnerLemmas
 mod JoinLemmas
+mod TwoLemmas
 mod WorkedCalls

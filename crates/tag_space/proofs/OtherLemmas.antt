@@ -121,7 +121,7 @@ module _ (past : List Entry) (by member : ℕ) (offer : Offer) where
       under_same past (record { by = by; request = call; reply = told }) member offer refl [] refl under
 
 -- an entry of another is no call of the member
-calls_after : (number member : ℕ) (call : GroupCall) (others : List Offer) → member_of call ≢ member
+pub calls_after : (number member : ℕ) (call : GroupCall) (others : List Offer) → member_of call ≢ member
     → call_made number member call others ≡ others
 calls_after number member (Call caller tag value) others differs =
     rw (no caller member differs) refl

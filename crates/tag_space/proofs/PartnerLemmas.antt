@@ -1,17 +1,22 @@
 -- The partner of a call that is in a pair, and that the pair stays.
-use Rattle.std.proofs.Common.{◌≡◌, ◌≢◌, ◌⊎◌, ℕ, eqb, List, [], ◌∷◌, ◌++◌, length}
+use Rattle.std.proofs.Common.{◌≡◌, ◌≢◌, ◌⊎◌, ◌<◌, ℕ, eqb, List, [], ◌∷◌, ◌++◌, length}
 use Rattle.std.proofs.Common.{refl, sym, ap, ◌∙◌, subst, inl, inr}
-use Rattle.std.proofs.lemmas.Bool.{cases_Bool}
+use Rattle.std.proofs.lemmas.Bool.{cases_Bool, cases_eq}
 use Rattle.std.specs.List.{AllByRecursion}
 use Rattle.histories.specs.Account.{AreDifferent}
+use Rattle.histories.specs.History.{IsLegal, AreByBelow}
+use Rattle.kernel_lock.specs.Definition.{server}
 use Rattle.tag_space.specs.declared.calls.GroupCall.{GroupCall}
 use Rattle.tag_space.specs.declared.calls.GroupCall.TheVariants.{Call, Collect, Leave}
+use Rattle.tag_space.specs.Group.{member_of}
 use Rattle.tag_space.specs.Laws.{PartnersAreCalls, PairsStay, EachGetsOneValue}
+use Rattle.tag_space.specs.Laws.{CallsAreByMembers, PairedIsNotAlone}
 use Rattle.tag_space.specs.Outcome.{call_made, calls_by, IsOneOfPairs, IsOneOfCalls}
 use Rattle.tag_space.specs.Outcome.{Exchanges, HasPartner}
 use Rattle.tag_space.specs.Promises.{IsMade, IsMeeting, numbers_in}
-use Rattle.tag_space.specs.Rendezvous.{Entry, Offer, Pair, pairs_of, pair_made}
-use Rattle.tag_space.proofs.OtherLemmas.{one_of_more, yes}
+use Rattle.tag_space.specs.Rendezvous.{Entry, Space, Offer, Pair, pairs_of, pair_made}
+use Rattle.tag_space.specs.Rendezvous.{rendezvous}
+use Rattle.tag_space.proofs.OtherLemmas.{one_of_more, calls_after, yes}
 use Rattle.tag_space.proofs.PromiseLemmas.{is_space}
 
 -- a call of the member stays one of its calls
@@ -117,6 +122,43 @@ each_gets_one_value space history offer first second legal one two =
     let meeting = of_pair (IsMeeting history) two.pair (pairs_of history) is.meetings two.is_pair in
     one_value offer first second two.pair meeting.members
     (subst (Exchanges offer first) same one.exchanged) two.exchanged
+
+-- a call in a pair is not alone
+side_is_there : (offer : Offer) (pair : Pair) → IsSide offer pair
+    → (pair.waiting.number ≢ offer.number) × (pair.finding.number ≢ offer.number) → ⊥
+side_is_there offer pair (inl first) apart = apart.0 (ap (λ (o : Offer). o.number) first)
+side_is_there offer pair (inr second) apart = apart.1 (ap (λ (o : Offer). o.number) second)
+
+pub paired_is_not_alone : PairedIsNotAlone
+paired_is_not_alone history offer given is alone =
+    side_is_there offer is.pair (side_of offer given is.pair is.exchanged)
+    (of_numbers (λ n. n ≢ offer.number) is.pair (pairs_of history) alone is.is_pair)
+
+-- a call stands in the history by its member, or one of the others does
+by_caller : (limit number member : ℕ) (offer : Offer) (call : GroupCall) (others : List Offer)
+    → member_of call < limit → (IsOneOfCalls offer others → member < limit)
+    → IsOneOfCalls offer (call_made number member call others) → member < limit
+by_caller limit number member offer (Call caller tag value) others below before is =
+    elim (cases_eq caller member) [
+      | inl same ↦ subst (λ m. m < limit) same below
+      | inr differs ↦ before (subst (IsOneOfCalls offer)
+          (calls_after number member (Call caller tag value) others differs) is)
+    ]
+by_caller limit number member offer (Collect caller) others below before is = before is
+by_caller limit number member offer (Leave caller) others below before is = before is
+
+calls_below : (space : Space) (limit : ℕ) (history : List Entry) (member : ℕ) (offer : Offer)
+    → IsLegal (rendezvous space) [] history → AreByBelow server limit history
+    → IsOneOfCalls offer (calls_by member history) → member < limit
+calls_below space limit [] member offer legal below is = absurd is
+calls_below space limit (entry ∷ past) member offer legal below is =
+    by_caller limit (length past) member offer entry.request (calls_by member past)
+    (subst (λ n. n < limit) legal.0.own below.0)
+    (calls_below space limit past member offer legal.1 below.1) is
+
+pub calls_are_by_members : CallsAreByMembers
+calls_are_by_members space limit history member offer is =
+    calls_below space limit history member offer is.legal is.within
 
 -- the partner of a call in this pair
 partner_in : (history : List Entry) (offer : Offer) (given : ℕ) (pair : Pair)

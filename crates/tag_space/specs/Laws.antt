@@ -1,6 +1,6 @@
 -- What holds of every tag space, over all its histories.
-use Rattle.std.specs.Prelude.{◌≡◌, ℕ, List, [], ◌∷◌, ◌++◌, length}
-use Rattle.histories.specs.History.{IsLegal}
+use Rattle.std.specs.Prelude.{◌≡◌, ◌<◌, ℕ, List, [], ◌∷◌, ◌++◌, length}
+use Rattle.histories.specs.History.{IsLegal, IsHistory}
 use Rattle.kernel_lock.specs.Definition.{meaning_of}
 use Rattle.sync_base.specs.declared.ids.Tag.{Tag}
 use Rattle.tag_space.specs.declared.calls.GroupCall.{GroupCall}
@@ -10,7 +10,7 @@ use Rattle.tag_space.specs.declared.calls.GroupReply.TheVariants.{Met, Worn, Gon
 use Rattle.tag_space.specs.declared.limits.TheConstants.{LAST_MEETING}
 use Rattle.tag_space.specs.declared.meeting.TheConstants.{INTERRUPTED}
 use Rattle.tag_space.specs.Group.{opening, group}
-use Rattle.tag_space.specs.Outcome.{IsInPair, HasPartner}
+use Rattle.tag_space.specs.Outcome.{IsInPair, IsOneOfCalls, HasPartner, calls_by}
 use Rattle.tag_space.specs.Rendezvous.{Entry, Space, rendezvous}
 use Rattle.tag_space.specs.Rendezvous.{Offer, stage_of, IsAnswered, IsMet}
 use Rattle.tag_space.specs.Rendezvous.Stage.{Waits}
@@ -102,6 +102,19 @@ abbrev pub PairsStay : Type 0
 PairsStay =
     (since past : List Entry) (offer : Offer) (given : ℕ) → IsInPair past offer given
     → IsInPair (since ++ past) offer given
+
+-- the calls of a history are by members of its space
+abbrev pub CallsAreByMembers : Type 0
+CallsAreByMembers =
+    (space : Space) (limit : ℕ) (history : List Entry) (member : ℕ) (offer : Offer)
+    → IsHistory (rendezvous space) [] limit history
+    → IsOneOfCalls offer (calls_by member history) → member < limit
+
+-- who has a partner did not end alone
+abbrev pub PairedIsNotAlone : Type 0
+PairedIsNotAlone =
+    (history : List Entry) (offer : Offer) (given : ℕ) → IsInPair history offer given
+    → ¬ IsAlone history offer.number
 
 -- a call gets one value
 abbrev pub EachGetsOneValue : Type 0

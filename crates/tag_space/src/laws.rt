@@ -6,6 +6,7 @@ ghost use Rattle.tag_space.specs.Laws.{PairsAreMeetings, EachCallMeetsOnce, Wait
 ghost use Rattle.tag_space.specs.Laws.{WhoLeftMeetsNobody, WhoIsWornMeetsNobody};
 ghost use Rattle.tag_space.specs.Laws.{FoundIsInPair, ToldIsInPair, InterruptedIs};
 ghost use Rattle.tag_space.specs.Laws.{PartnersAreCalls, PairsStay, EachGetsOneValue};
+ghost use Rattle.tag_space.specs.Laws.{CallsAreByMembers, PairedIsNotAlone};
 
 /// Each history of a space as an object is a history of rendezvous: calls meet by their tags, each
 /// gets the other's value, and whoever left meets nobody.
@@ -41,12 +42,14 @@ pub fn who_is_out_meets_nobody()
 {}
 
 /// Whoever is in a pair has a partner: a call of another member, with the same tag, whose value it
-/// gets and which gets its value; and so it stays. Of two members that are joined each has so the
-/// calls of the other.
+/// gets and which gets its value; and so it stays, and neither of them ends alone. The calls of a
+/// history are by members of its space.
 pub fn partners_have_each_others_values()
     ensures partner { PartnersAreCalls }
     ensures stays { PairsStay }
     ensures one { EachGetsOneValue }
+    ensures paired { PairedIsNotAlone }
+    ensures members { CallsAreByMembers }
 {}
 
 /// The last count of meetings.

@@ -9,6 +9,7 @@ mod forks;
 mod meddler;
 mod meetings;
 mod pages;
+mod partners;
 mod scene;
 mod spaces;
 
