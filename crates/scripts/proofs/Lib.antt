@@ -2,6 +2,7 @@ pub mod DeviceLemmas
 mod DigitLemmas
 mod EventLineLemmas
 mod EventTextLemmas
+mod GroupLemmas
 mod LineLemmas
 mod NumberLemmas
 mod OnePassLemmas

@@ -11,7 +11,7 @@ use Rattle.scripts.specs.declared.event_line.Size.{Size}
 use Rattle.scripts.specs.declared.lines.TheConstants.{LINE_FEED}
 use Rattle.scripts.specs.Lines.{words_of}
 use Rattle.scripts.specs.Script.{Answered}
-use Rattle.scripts.specs.Schedule.{schedule_language, size_of, event_of}
+use Rattle.scripts.specs.Schedule.{schedule_language, size_of, event_of, events_of}
 use Rattle.scripts.specs.EventText.{event_text}
 use Rattle.scripts.specs.ScriptLaws.{answers_of, NoScheduleSaysLost}
 use Rattle.scripts.proofs.ToldLemmas.{Stays}
@@ -24,12 +24,11 @@ pub record IsReached (state : State) : Type 0 where
   pub events : List Event
   pub is : state ≡ world_after_all (opening procs rendez) events
 
--- one event more
-after_one_more : (state : State) (events : List Event) (event : Event)
-    → world_after_all state (events ++ event ∷ []) ≡ world_after (world_after_all state events)
-    event
-after_one_more state [] event = refl
-after_one_more state (first ∷ events) event = after_one_more (world_after state first) events event
+-- some events more
+after_more : (state : State) (events more : List Event)
+    → world_after_all state (events ++ more) ≡ world_after_all (world_after_all state events) more
+after_more state [] more = refl
+after_more state (first ∷ events) more = after_more (world_after state first) events more
 
 -- a first line opens a world to which no events lead
 opened_is_reached : (line : List ℕ) (state : State) → schedule_language.opened_by line ≡ Some state
@@ -42,22 +41,23 @@ opened_is_reached line state is = by_size (size_of (words_of line)) refl
         let opened : Some (opening size.procs size.rendez) ≡ Some state = rw some at is in
         record { procs = size.procs; rendez = size.rendez; events = []; is = cc }
 
--- and each answer comes from a world to which one event more leads
+-- and each answer comes from a world to which more events lead
 answered_is_reached : (state : State) (line : List ℕ) (answered : Answered State) → IsReached state
     → schedule_language.answer_to state line ≡ Some answered → IsReached answered.after
-answered_is_reached state line answered reached is = by_event (event_of (words_of line)) refl
+answered_is_reached state line answered reached is = by_events (events_of (words_of line)) refl
   where
-    by_event : (event : Option Event) → event_of (words_of line) ≡ event → IsReached answered.after
-    by_event None none = let bad = rw none at is in absurd (cc)
-    by_event (Some event) some =
+    by_events : (events : Option (List Event)) → events_of (words_of line) ≡ events
+        → IsReached answered.after
+    by_events None none = let bad = rw none at is in absurd (cc)
+    by_events (Some events) some =
         let answer = rw some at is in
-        let after : answered.after ≡ world_after state event = cc in
+        let after : answered.after ≡ world_after_all state events = cc in
         record {
           procs = reached.procs;
           rendez = reached.rendez;
-          events = reached.events ++ event ∷ [];
-          is = after ∙ (ap (λ s. world_after s event) reached.is
-              ∙ sym (after_one_more (opening reached.procs reached.rendez) reached.events event));
+          events = reached.events ++ events;
+          is = after ∙ (ap (λ s. world_after_all s events) reached.is
+              ∙ sym (after_more (opening reached.procs reached.rendez) reached.events events));
         }
 
 -- what a world in which no wakeup is lost is told

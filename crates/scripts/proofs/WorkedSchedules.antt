@@ -124,3 +124,61 @@ a_fault_ends_a_schedule_with_no_last_line : schedule_told
     { output = text (codes "notes -" ∷ []); fault = Some 3 }
 unfolding digits
 a_fault_ends_a_schedule_with_no_last_line = refl
+
+a_group_note_is_a_note_to_each : schedule_told
+    (text (codes "world 3 1" ∷ codes "post 1 0 0" ∷ codes "test 1" ∷ codes "notepg 0,1,5 interrupt"
+    ∷ codes "look 1" ∷ codes "withdraw 1" ∷ codes "clear 1" ∷ codes "drain 0" ∷ codes "drain 2"
+    ∷ [])) ≡ record {
+      output = text
+          (codes "posted" ∷ codes "asleep" ∷ codes "noted" ∷ codes "noted" ∷ codes "no process"
+          ∷ codes "leaving" ∷ codes "out" ∷ codes "interrupted interrupt" ∷ codes "notes interrupt"
+          ∷ codes "notes -" ∷ codes "lost no" ∷ []);
+      fault = None;
+    }
+unfolding digits
+a_group_note_is_a_note_to_each = refl
+
+a_group_of_one_gets_all_kinds : schedule_told
+    (text (codes "world 2 1" ∷ codes "notepg 1 hangup,alarm" ∷ codes "notepg 0,1 -" ∷ codes
+    "drain 1" ∷ codes "drain 0" ∷ [])) ≡ record {
+      output = text
+          (codes "noted" ∷ codes "noted" ∷ codes "noted" ∷ codes "notes hangup,alarm" ∷ codes
+          "notes -" ∷ codes "lost no" ∷ []);
+      fault = None;
+    }
+unfolding digits
+a_group_of_one_gets_all_kinds = refl
+
+a_group_that_falls_is_a_fault : schedule_told
+    (text (codes "world 3 1" ∷ codes "notepg 1,0 alarm" ∷ [])) ≡ record
+    { output = []; fault = Some 2 }
+unfolding digits
+a_group_that_falls_is_a_fault = refl
+
+a_process_twice_in_a_group_is_a_fault : schedule_told
+    (text (codes "world 3 1" ∷ codes "note 1 alarm" ∷ codes "notepg 1,1 alarm" ∷ [])) ≡ record
+    { output = text (codes "noted" ∷ []); fault = Some 3 }
+unfolding digits
+a_process_twice_in_a_group_is_a_fault = refl
+
+a_group_of_none_is_a_fault : schedule_told (text (codes "world 3 1" ∷ codes "notepg  alarm" ∷ []))
+    ≡ record { output = []; fault = Some 2 }
+unfolding digits
+a_group_of_none_is_a_fault = refl
+
+a_comma_behind_a_group_is_a_fault : schedule_told
+    (text (codes "world 3 1" ∷ codes "notepg 0,1, alarm" ∷ [])) ≡ record
+    { output = []; fault = Some 2 }
+unfolding digits
+a_comma_behind_a_group_is_a_fault = refl
+
+a_word_behind_a_group_note_is_a_fault : schedule_told
+    (text (codes "world 3 1" ∷ codes "notepg 0,1 alarm hangup" ∷ [])) ≡ record
+    { output = []; fault = Some 2 }
+unfolding digits
+a_word_behind_a_group_note_is_a_fault = refl
+
+a_group_note_without_kinds_is_a_fault : schedule_told
+    (text (codes "world 3 1" ∷ codes "notepg 0,1" ∷ [])) ≡ record { output = []; fault = Some 2 }
+unfolding digits
+a_group_note_without_kinds_is_a_fault = refl

@@ -2,6 +2,7 @@ pub mod AnswerText
 pub mod Device
 pub mod Digits
 pub mod EventText
+pub mod GroupNote
 pub mod Lines
 pub mod PipeLine
 pub mod PipeScript

@@ -1,6 +1,6 @@
 -- The language of schedules: its lines are events, each an atomic step of one process.
-use Rattle.std.specs.Prelude.{◌≡◌, ℕ, if◌then◌else◌, List, [], ◌∷◌, ◌++◌, codes, Option, None, Some, option_and_then}
-use Rattle.std.specs.Option.{option_map}
+use Rattle.std.specs.Prelude.{◌≡◌, ℕ, nat_lt, Bool, true, if◌then◌else◌, List, [], ◌∷◌, ◌++◌, map, codes, Option, None, Some, option_and_then}
+use Rattle.std.specs.Option.{option_map, option_map_or}
 use Rattle.sync_base.specs.declared.limits.TheConstants.{MAX_PROCS, MAX_RENDEZ}
 use Rattle.sync_base.specs.declared.note.Note.{Note}
 use Rattle.sync_base.specs.declared.note.Note.TheVariants.{Interrupt, Hangup, Alarm, ClosedPipe}
@@ -11,7 +11,7 @@ use Rattle.sync_base.specs.NoteSet.{holds, joined, no_notes, only}
 use Rattle.sleep_core.specs.declared.event.Event.{Event}
 use Rattle.sleep_core.specs.declared.event.Event.TheVariants as event
 use Rattle.sleep_core.specs.State.{State, opening}
-use Rattle.sleep_core.specs.Step.{answer_to, world_after}
+use Rattle.sleep_core.specs.Runs.{answers_to_all, world_after_all}
 use Rattle.sleep_core.specs.Oversleep.{has_lost_wakeup}
 use Rattle.scripts.specs.declared.event_line.Size.{Size}
 use Rattle.scripts.specs.declared.event_line.Operands.{Operands}
@@ -19,7 +19,7 @@ use Rattle.scripts.specs.declared.event_line.Verb.{Verb}
 use Rattle.scripts.specs.declared.event_line.Verb.TheVariants as verb
 use Rattle.scripts.specs.declared.lines.TheConstants.{LINE_FEED}
 use Rattle.scripts.specs.Lines.{parts_of, is_comma, is_word, words_of, number_of, number_within, BeginsWithLine}
-use Rattle.scripts.specs.Script.{Language, Told, told}
+use Rattle.scripts.specs.Script.{Answered, Language, Told, told}
 use Rattle.scripts.specs.EventText.{event_text}
 
 -- these sizes, where each of them is one
@@ -121,10 +121,50 @@ event_with verb.Note words = note_of words
 event_with verb.Drain words = option_map event.Drain (lone_pid words)
 event_with verb.Check words = option_map event.Check (lone_pid words)
 
--- a line but the first
+-- a line of one event
 abbrev pub event_of : List (List ℕ) → Option Event
 event_of [] = None
 event_of (word ∷ words) = option_and_then (λ v. event_with v words) (verb_of word)
+
+-- whether a number is above the one before it, where one is before it
+abbrev pub is_above : Option ℕ → ℕ → Bool
+is_above None n = true
+is_above (Some before) n = nat_lt before n
+
+-- the number that a word spells, where it is above the one before it
+abbrev pub next_rising : Option ℕ → List ℕ → Option ℕ
+next_rising before word =
+    option_and_then (λ n. if is_above before n then Some n else None) (number_of word)
+
+-- numbers that rise strictly, and begin above the one before them
+abbrev pub rising_behind : Option ℕ → List (List ℕ) → Option (List ℕ)
+rising_behind before [] = Some []
+rising_behind before (word ∷ words) =
+    option_and_then (λ n. option_map (λ more. n ∷ more) (rising_behind (Some n) words))
+    (next_rising before word)
+
+-- processes that rise strictly, with a comma between each two
+abbrev pub pids_of : List ℕ → Option (List ℕ)
+pids_of word = rising_behind None (parts_of is_comma word)
+
+-- these notes to each of these processes in turn
+abbrev pub notes_to : NoteSet → List ℕ → List Event
+notes_to notes pids = map (λ n. event.Note (record { 0 = n }) notes) pids
+
+-- the same, where both are there
+abbrev pub group_notes : Option (List ℕ) → Option NoteSet → Option (List Event)
+group_notes (Some pids) (Some notes) = Some (notes_to notes pids)
+group_notes pids notes = None
+
+-- `notepg PIDS KINDS`: a note to each process of a group
+abbrev pub group_of : List (List ℕ) → Option (List Event)
+group_of (verb ∷ pids ∷ kinds ∷ []) =
+    if is_word verb (codes "notepg") then group_notes (pids_of pids) (kinds_of kinds) else None
+group_of words = None
+
+-- a line but the first: one event, or those of a group
+abbrev pub events_of : List (List ℕ) → Option (List Event)
+events_of words = option_map_or (λ e. Some (e ∷ [])) (event_of words) (group_of words)
 
 -- the word of a verb
 abbrev pub verb_word : Verb → List ℕ
@@ -146,6 +186,22 @@ pub record BeginsWithEvent (text : List ℕ) (event : Event) (rest : List ℕ) :
   pub begins : BeginsWithLine text words rest
   pub asks : event_of words ≡ Some event
 
+-- lines with a line feed between each two
+abbrev pub joined_lines : List (List ℕ) → List ℕ
+joined_lines [] = []
+joined_lines (line ∷ []) = line
+joined_lines (line ∷ next ∷ lines) = line ++ LINE_FEED ∷ joined_lines (next ∷ lines)
+
+-- what events are answered, a line for each
+abbrev pub answer_lines : State → List Event → List (List ℕ)
+answer_lines state events = map event_text (answers_to_all state events)
+
+-- the answer to a line that asks for these events
+abbrev pub answered : State → List Event → Answered State
+answered state events =
+    record
+    { text = joined_lines (answer_lines state events); after = world_after_all state events }
+
 -- the last line
 abbrev pub lost_text : State → List ℕ
 lost_text state = if has_lost_wakeup state then codes "lost yes" else codes "lost no"
@@ -157,10 +213,7 @@ schedule_language =
     record {
       opened_by = λ line. option_map (λ size. opening size.procs size.rendez)
           (size_of (words_of line));
-      answer_to = λ state line.
-          option_map (λ e. record
-          { text = event_text (answer_to state e); after = world_after state e })
-          (event_of (words_of line));
+      answer_to = λ state line. option_map (answered state) (events_of (words_of line));
       farewell = λ state. lost_text state ++ LINE_FEED ∷ [];
     }
 

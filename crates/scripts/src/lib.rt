@@ -1,6 +1,6 @@
 //! Scripts: a text is read whole, its lines are answered, and the answers are written. Reading
 //! order: `lines`, `script`, `laws`; for pipes `pipe_line`, `answer_text`, `pipe_script`; for
-//! schedules `event_line`, `event_text`, `schedule`; and then `device` and `run`.
+//! schedules `event_line`, `group_line`, `event_text`, `schedule`; and then `device` and `run`.
 #![tactic(auto)]
 
 mod answer_text;
@@ -8,6 +8,7 @@ pub mod device;
 mod digits;
 mod event_line;
 mod event_text;
+mod group_line;
 pub mod laws;
 pub mod lines;
 mod pipe_line;

@@ -61,7 +61,8 @@ pub trait Script: Drop + Sized {
 /// their memory is taken once.
 const PIECE: usize = 65_536;
 
-/// Room for a piece and the longest answer behind it, which gives 8,192 bytes in digits.
+/// Room for a piece and the longest answer behind it, which gives 8,192 bytes in digits. The answers
+/// to a long line `notepg` may take more, and then the room grows.
 const ROOM: usize = PIECE + 16_389;
 
 /// Writes what a script says, of which at most one byte more than it may have is looked at. It

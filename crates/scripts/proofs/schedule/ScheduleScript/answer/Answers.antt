@@ -1,0 +1,20 @@
+use Rattle.std.proofs.Common.{◌≡◌, Option, true, refl, sym, subst}
+use Rattle.sleep_core.specs.State.{State}
+use Rattle.scripts.specs.declared.schedule.Schedule.{Schedule}
+use Rattle.scripts.specs.Script.{Answered, Answers}
+use Rattle.scripts.proofs.GroupLemmas.{group_answered, group_written}
+use Rattle.scripts.proofs.schedule.ScheduleScript.answer.Goals as goal
+
+pub returns : goal.returns
+returns c s same =
+    let asked = c.in-Some-parse_group.ensures in
+    let posts = c.in_ok-answer_group.ensures asked.pids asked.written in
+    subst
+    (λ (a : Option (Answered State)).
+    Answers (λ (schedule : Schedule) (state : State). schedule.world ≡ state) a
+    c.args.output.now.items true (record { world = c.answer_group.new.world })
+    c.answer_group.new.output.items)
+    (sym (group_answered s c.args.line.now _ _ refl asked.ask)) (
+      rw (← same) posts.after,
+      rw (← same) (group_written _ _ _ _ _ _ c.in-Some-parse_group.group.pids.now posts asked.written),
+    )
