@@ -1,6 +1,7 @@
 // Refuses one growth of memory: the one whose number, counted from 1, REFUSED_GROWTH gives. For LD_PRELOAD.
 // getenv, which reads the number, takes no memory. The growths of all threads are counted together.
-// At the end it writes how many there were into the file that COUNTED_GROWTHS names.
+// At the end it writes how many there were into the file that COUNTED_GROWTHS names, whether the program ends by _exit or
+// returns from main.
 #define _GNU_SOURCE
 #include <dlfcn.h>
 #include <errno.h>
@@ -50,13 +51,20 @@ void *aligned_alloc(size_t alignment, size_t size)
 	return is_refused() ? NULL : next(alignment, size);
 }
 
-// The program ends by this call, and runs nothing that is left for the end.
-void _exit(int status)
+__attribute__((destructor)) static void write_count(void)
 {
 	const char *name = getenv("COUNTED_GROWTHS");
 	int count = name ? open(name, O_WRONLY | O_CREAT | O_TRUNC, 0600) : -1;
-	if (count >= 0)
+	if (count >= 0) {
 		dprintf(count, "%ld\n", growths);
+		close(count);
+	}
+}
+
+// A program that ends by this call runs nothing that is left for the end.
+void _exit(int status)
+{
+	write_count();
 	for (;;)
 		syscall(SYS_exit_group, status);
 }

@@ -1,7 +1,7 @@
 /* A plain C program that does the work of `p9sync pipe`. Built with -O3. What it shares with others is in plain.h. */
 #include "../plain.h"
 
-enum { ATOMIC_SIZE = 8192, MAX_LIMIT = 1024, WRITERS = 64 };
+enum { ATOMIC_SIZE = 65536, MAX_LIMIT = 1024, WRITERS = 64 };
 
 /* A write that waits: where its bytes begin in the ring, and how many they are. */
 struct held { uint32_t begin, len; };

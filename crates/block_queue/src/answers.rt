@@ -1,4 +1,4 @@
-//! What callers of a queue are told. Before this: `entry`. After it: `queue_object`.
+//! What callers of a queue are told.
 use sync_base::Piece;
 
 /// What a put was answered. A block that was not taken comes back.

@@ -1,5 +1,5 @@
-//! The lines of a queue's history. After this: `answers`, what callers are told.
-//! No entry is ever made: contracts alone see them, and they take no memory.
+//! The lines of a queue's history. No entry is ever made: contracts alone see them, and they take
+//! no memory.
 use sync_base::Piece;
 
 /// What one call did, as the history of a queue keeps it. The reader is seat 0, and writer w is

@@ -1,5 +1,4 @@
 //! The end of a queue: all its seats become one, which takes out what is left.
-//! Before this: `take`.
 ghost use Rattle.std.specs.Prelude.{◌≡◌, ◌+◌, ◌<◌, ◌≤◌, [], length, IfOk, IfErr};
 ghost use Rattle.std.specs.Vec.{vec_capacity};
 ghost use Rattle.std.specs.List.{AllByRecursion};

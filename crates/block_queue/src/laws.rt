@@ -1,5 +1,5 @@
 //! What holds of every sequential queue. A law is a function that does nothing: its contract is the
-//! law. Before this: `queue_object`, and `specs/History`, what any queue may be answered.
+//! law.
 ghost use Rattle.block_queue.specs.Laws.{EachCallIsRight, ObjectsAreQueues};
 
 /// Each call on a sequential queue is answered by the first answer that a direction of a pipe may

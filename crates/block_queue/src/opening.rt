@@ -1,4 +1,4 @@
-//! How a queue is made, with its seats. Before this: `queue`. After it: `put_steps`.
+//! How a queue is made, with its seats.
 ghost use Rattle.std.specs.Prelude.{◌≡◌, ◌⊎◌, ◌↔◌, ◌+◌, ◌<◌, ◌≤◌, [], replicate, None};
 ghost use Rattle.std.specs.Prelude.{IfOk, IfErr, IsErrOf};
 ghost use Rattle.std.specs.Vec.{vec_capacity};

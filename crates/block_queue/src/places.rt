@@ -1,6 +1,6 @@
-//! Where the ring keeps what. Before this: `queue_object`. After it: `view`.
-//! The first word is the tail; behind it stands a sequence word for each place, and each place has
-//! a slot. The writes are counted from 0, and write c is kept in place c mod limit.
+//! Where the ring keeps what. The first word is the tail; behind it stands a sequence word for each
+//! place, and each place has a slot. The writes are counted from 0, and write c is kept in place c
+//! mod limit.
 ghost use Rattle.std.specs.Prelude.{◌≡◌, ◌+◌, ◌<◌};
 ghost use Rattle.block_queue.specs.Places.{sequence_of, free_word, stored_word, place_of};
 

@@ -1,5 +1,4 @@
-//! What each kind of step tells its seat. Before this: `rule`. After it: `seats`.
-//! These types are for the proofs alone.
+//! What each kind of step tells its seat. These types are for the proofs alone.
 ghost use Rattle.std.specs.Prelude.{[]};
 ghost use Rattle.block_queue.specs.GatherSteps.{HasSurveyed};
 ghost use Rattle.block_queue.specs.Rule.{spent_view};

@@ -1,4 +1,4 @@
-//! A put. Before this: `put_steps`. After it: `take_steps`.
+//! A put.
 ghost use Rattle.std.specs.Prelude.{◌≡◌, ◌+◌, ◌<◌, []};
 ghost use Rattle.sync_base.specs.declared.limits.TheConstants.{LAST_WRITE};
 ghost use Rattle.block_queue.specs.declared.view.Stage.TheVariants.{Free, Placed};

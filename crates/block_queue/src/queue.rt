@@ -1,4 +1,4 @@
-//! The ring. Before this: `seats`. After it: `opening`, how it is made.
+//! The ring.
 ghost use Rattle.std.specs.Prelude.{◌≡◌, ◌+◌, ◌<◌, ◌≤◌};
 ghost use Rattle.sync_base.specs.declared.limits.TheConstants.{
   LAST_WRITE,

@@ -1,5 +1,4 @@
 //! The queue for one thread: a sequential object, which a kernel lock can share among threads.
-//! Before this: `answers`.
 ghost use Rattle.std.specs.Prelude.{◌≡◌, ◌<◌, ◌≤◌, length, IfOk, IfErr};
 ghost use Rattle.sync_base.specs.declared.limits.TheConstants.{LAST_WRITE, MAX_PIPE_LIMIT};
 ghost use Rattle.block_queue.specs.QueueObject.{Kept, new_kept, put_reply, take_reply};

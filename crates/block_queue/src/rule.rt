@@ -1,4 +1,4 @@
-//! The rule of the ring's table. Before this: `spare`. After it: `plays`, what each step tells.
+//! The rule of the ring's table.
 ghost use Rattle.block_queue.specs.Rule.{IsOneQueue, first_view};
 
 use crate::spare::Slot;

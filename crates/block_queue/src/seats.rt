@@ -1,4 +1,4 @@
-//! The seats of a queue: what its threads call it with. Before this: `plays`. After it: `queue`.
+//! The seats of a queue: what its threads call it with.
 ghost use Rattle.std.specs.Prelude.{◌≡◌, [], ◌∷◌};
 ghost use Rattle.block_queue.specs.Seats.{put_view, take_view};
 

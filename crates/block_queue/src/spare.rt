@@ -1,6 +1,5 @@
-//! Memory that comes back, and what a slot of the ring keeps. Before this: `view`.
-//! After it: `rule`. A reader leaves the memory of a block that it has read in a slot, where a
-//! writer finds it.
+//! Memory that comes back, and what a slot of the ring keeps. A reader leaves the memory of a block
+//! that it has read in a slot, where a writer finds it.
 use crate::queue_object::StoredBlock;
 use std::alloc::Global;
 use std::marker::Model;

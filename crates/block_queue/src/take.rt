@@ -1,4 +1,4 @@
-//! A take, and a hangup from either side. Before this: `take_steps`. After it: `gather`.
+//! A take, and a hangup from either side.
 ghost use Rattle.std.specs.Prelude.{◌≡◌, ◌+◌, ◌<◌};
 ghost use Rattle.block_queue.specs.declared.entry.Entry.TheVariants.{Hung};
 ghost use Rattle.block_queue.specs.Calls.{Takes, IsFreshTake, blocks_in};

@@ -15,6 +15,7 @@ use sync_base::{Fault, Piece};
 mod between;
 mod crowd;
 mod one;
+mod points;
 mod under_a_lock;
 
 use between::{HangPutAt, HangTakeAt, Meanwhile, PutAt};

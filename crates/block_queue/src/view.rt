@@ -1,5 +1,5 @@
-//! What a seat of a queue knows. Before this: `places`. After it: `spare`.
-//! No value of a stage or a view is ever made: contracts alone see them, and they take no memory.
+//! What a seat of a queue knows. No value of a stage or a view is ever made: contracts alone see
+//! them, and they take no memory.
 use crate::entry::Entry;
 use histories::Account;
 use std::collections::LinkedList;

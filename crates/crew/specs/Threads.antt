@@ -1,7 +1,7 @@
 -- What a run on threads is asked for, and what it answers.
 use Rattle.std.specs.Prelude.{◌≡◌, ◌≤◌, ◌*◌, ℕ, Bool, true}
-use Rattle.sync_base.specs.declared.limits.TheConstants.{ATOMIC_SIZE, MAX_WRITERS}
-use Rattle.crew.specs.declared.opts.TheConstants.{LEAST_SIZE, MAX_WRITES}
+use Rattle.sync_base.specs.declared.limits.TheConstants.{MAX_WRITERS}
+use Rattle.crew.specs.declared.opts.TheConstants.{LEAST_SIZE, MOST_SIZE, MAX_WRITES}
 use Rattle.crew.specs.declared.opts.ThreadsOpts.{ThreadsOpts}
 use Rattle.crew.specs.declared.opts.Report.{Report}
 
@@ -14,7 +14,7 @@ pub record IsBetween (least most n : ℕ) : Type 0 where
 pub record AreWithin (opts : ThreadsOpts) : Type 0 where
   pub writers : IsBetween 1 MAX_WRITERS opts.writers
   pub writes : IsBetween 1 MAX_WRITES opts.writes
-  pub size : IsBetween LEAST_SIZE ATOMIC_SIZE opts.size
+  pub size : IsBetween LEAST_SIZE MOST_SIZE opts.size
 
 -- What a run with these options may report: how many writers there were, and where all was in
 -- order just the bytes of so many messages, no more than the writers have together.

@@ -1,7 +1,8 @@
-//! What each thread of a run does. Before this: `tally`. After it: `threads`.
+//! What each thread of a run does.
 ghost use Rattle.std.specs.Prelude.{◌≤◌, vec_len};
 ghost use Rattle.crew.specs.declared.message.TheConstants.{HEAD};
 ghost use Rattle.crew.specs.Tally.{IsTallyOf};
+ghost use Rattle.crew.specs.Threads.{AreWithin};
 
 use crate::gate::Gate;
 use crate::message::fill;
@@ -39,6 +40,7 @@ impl<'p> Writer<'p> {
     ) -> Result<Writer<'p>, Fault>
         requires { AreWithin opts.now }
     {
+        let message = vec![in alloc; 0; opts.size as usize]?;
         let Some(proc) = roster.rfork(parent, Flags::RFPROC)? else {
             return Err(Fault::NoProc);
         };
@@ -47,7 +49,7 @@ impl<'p> Writer<'p> {
             number: end.writer(),
             end,
             writes: opts.writes,
-            message: vec![in alloc; 0; opts.size as usize]?,
+            message,
             wrote: Ok(()),
         })
     }
@@ -122,8 +124,28 @@ pub struct Counted {
 }
 
 impl<'p> Reader<'p> {
-    ghost use Rattle.std.specs.Prelude.{◌≡◌};
+    ghost use Rattle.std.specs.Prelude.{◌≡◌, IfOk};
     ghost use Rattle.crew.specs.Tally.{AreOfOneRun};
+    ghost use Rattle.crew.specs.Threads.{AreWithin};
+
+    // A reader that has counted nothing.
+    fn new(
+        alloc: Global,
+        opts: &ThreadsOpts,
+        proc: Proc<'p>,
+        end: ReadEnd<'p>,
+    ) -> Result<Reader<'p>, Fault>
+        requires { AreWithin opts.now }
+        ensures { IfOk result (λ reader. reader.opts ≡ opts.now) }
+    {
+        Ok(Reader {
+            proc,
+            end,
+            buffer: vec![in alloc; 0; opts.size as usize]?,
+            opts: *opts,
+            tally: Tally::new(alloc, opts)?,
+        })
+    }
 
     /// Reads and counts until the end. Where it can read no more it hangs the pipe up.
     #[tactic(auto, using(crate::proofs::CrewLemmas::answer_fits, crate::proofs::CrewLemmas::still_of))]
@@ -204,17 +226,25 @@ impl<'p> Crew<'p> {
         ensures { IfOk result (λ crew. crew.reader.opts ≡ opts.now) }
     {
         let (mut roster, mut proc) = (roster, proc);
-        let mut writers = Vec::with_capacity(alloc, writes.len())?;
-        for end in writes {
-            writers.push(Writer::new(alloc, opts, &mut roster, &mut proc, end)?)?;
-        }
-        let reader = Reader {
-            proc,
-            end: read,
-            buffer: vec![in alloc; 0; opts.size as usize]?,
-            opts: *opts,
-            tally: Tally::new(alloc, opts)?,
-        };
+        let writers = writers_at(alloc, opts, &mut roster, &mut proc, writes)?;
+        let reader = Reader::new(alloc, opts, proc, read)?;
         Ok(Crew { reader, writers })
     }
+}
+
+// A writer at each of these ends.
+fn writers_at<'p>(
+    alloc: Global,
+    opts: &ThreadsOpts,
+    roster: &mut Roster<'p>,
+    parent: &mut Proc<'p>,
+    ends: Vec<WriteEnd<'p>>,
+) -> Result<Vec<Writer<'p>>, Fault>
+    requires { AreWithin opts.now }
+{
+    let mut writers = Vec::with_capacity(alloc, ends.len())?;
+    for end in ends {
+        writers.push(Writer::new(alloc, opts, roster, parent, end)?)?;
+    }
+    Ok(writers)
 }

@@ -1,4 +1,4 @@
-//! Who may write next. After this: `message`.
+//! Who may write next.
 
 /// What each writer passes before each of its writes.
 pub trait Gate {

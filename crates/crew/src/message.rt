@@ -1,5 +1,4 @@
-//! What a writer writes, so that a reader can tell whose it is and which. Before this: `gate`.
-//! After it: `opts`.
+//! What a writer writes, so that a reader can tell whose it is and which.
 
 ghost use Rattle.std.specs.Prelude.{◌≡◌, ◌≤◌, length};
 ghost use Rattle.crew.specs.Message.{message_of};

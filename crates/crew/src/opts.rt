@@ -1,16 +1,19 @@
-//! What a run on threads is asked for, and what it answers. Before this: `message`. After it:
-//! `tally`.
+//! What a run on threads is asked for, and what it answers.
 ghost use Rattle.std.specs.Prelude.{◌≡◌, ◌≤◌, ◌*◌, ◌↔◌, true};
 ghost use Rattle.crew.specs.Threads.{AreWithin, IsBetween};
 
 use crate::message::HEAD;
-use sync_base::limits::{ATOMIC_SIZE, MAX_WRITERS};
+use sync_base::limits::MAX_WRITERS;
 
 /// The most writes of one writer. The least is 1.
 pub const MAX_WRITES: u64 = 100_000;
 
-/// The least bytes of a message: its head. The most is the atomic size of a pipe.
+/// The least bytes of a message: its head.
 pub const LEAST_SIZE: u64 = HEAD as u64;
+
+/// The most bytes of a message. It is below the atomic size of a pipe, so that a message is one
+/// write.
+pub const MOST_SIZE: u64 = 8_192;
 
 /// What is run.
 #[derive(Clone, Copy, Debug, PartialEq, Eq)]
@@ -30,7 +33,7 @@ impl ThreadsOpts {
     {
         is_between(1, MAX_WRITERS, self.writers)
             && is_between(1, MAX_WRITES, self.writes)
-            && is_between(LEAST_SIZE, ATOMIC_SIZE as u64, self.size)
+            && is_between(LEAST_SIZE, MOST_SIZE, self.size)
     }
 }
 

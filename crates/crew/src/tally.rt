@@ -1,4 +1,4 @@
-//! What the reader finds. Before this: `opts`. After it: `crew`.
+//! What the reader finds.
 ghost use Rattle.std.specs.Prelude.{◌≡◌, ◌≤◌, ◌<◌, ◌*◌, ◌^◌, true, length, vec_len};
 ghost use Rattle.crew.specs.declared.message.TheConstants.{HEAD};
 ghost use Rattle.crew.specs.Message.{message_of};

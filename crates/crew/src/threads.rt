@@ -1,5 +1,4 @@
-//! Many writers and one reader, each on a thread of its own, on one direction of a pipe. Before
-//! this: `crew`.
+//! Many writers and one reader, each on a thread of its own, on one direction of a pipe.
 ghost use Rattle.std.specs.Prelude.{◌≡◌, ⊤, IfOk, Err};
 ghost use Rattle.sync_base.specs.declared.fault.Fault.TheVariants.{BadArg};
 ghost use Rattle.crew.specs.Threads.{AreWithin, IsReportOf};

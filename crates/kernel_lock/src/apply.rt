@@ -1,5 +1,4 @@
 //! A request to the object.
-//! Before this: `waiting`. After it: `seats`, how seats are given and joined.
 ghost use Rattle.std.specs.Prelude.{◌≡◌, IsTrue, IfSome};
 ghost use Rattle.histories.specs.Account.{KnowsHistory, has_number};
 ghost use Rattle.kernel_lock.specs.Calls.{Serves};

@@ -1,5 +1,4 @@
 //! A seat at a lock: what a thread calls the object with.
-//! Before this: `plays`. After it: `locked`, the lock itself.
 ghost use Rattle.std.specs.Prelude.{◌≡◌, [], ◌∷◌};
 
 use crate::object::Object;

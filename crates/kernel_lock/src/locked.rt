@@ -1,5 +1,4 @@
 //! An object under its lock: how it is made, and how it is taken back.
-//! Before this: `lock_seat`. After it: `waiters`.
 ghost use Rattle.std.specs.Prelude.{◌≡◌, [], ◌∷◌, Some};
 
 use crate::lock_seat::LockSeat;

@@ -1,5 +1,4 @@
-//! What each kind of step tells its seat. Before this: `rule`. After it: `lock_seat`.
-//! These types are for the proofs alone.
+//! What each kind of step tells its seat. These types are for the proofs alone.
 ghost use Rattle.std.specs.Prelude.{Option, None};
 ghost use Rattle.kernel_lock.specs.Steps.{HasAcquired, HasWatched, HasReleased, HasSettled};
 ghost use Rattle.kernel_lock.specs.View.{

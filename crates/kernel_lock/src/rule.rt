@@ -1,6 +1,5 @@
-//! The rule of the lock's table. Before this: `view`. After it: `plays`, what each step tells.
-//! The table has one word, which is 0 where the lock is free and else 1, and one slot,
-//! in which the object lies.
+//! The rule of the lock's table. The table has one word, which is 0 where the lock is free and else
+//! 1, and one slot, in which the object lies.
 ghost use Rattle.kernel_lock.specs.Rule.{IsOneHistory};
 ghost use Rattle.kernel_lock.specs.View.{first_view};
 

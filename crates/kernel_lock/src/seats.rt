@@ -1,4 +1,4 @@
-//! How a lock gives seats and joins them. Before this: `apply`.
+//! How a lock gives seats and joins them.
 ghost use Rattle.std.specs.Prelude.{◌≡◌, ◌≤◌, IfSome, IfNone, IfOk, IfErr, OnErr};
 ghost use Rattle.sync_base.specs.declared.fault.Fault.TheVariants.{NoProc};
 ghost use Rattle.histories.specs.Account.{KnowsHistory};

@@ -1,7 +1,5 @@
-//! What a seat knows, and what lies in the slot of the lock.
-//! Before this: `object`. After it: `rule`, what holds of all seats together.
-//! No value of a served request, a stage or a view is ever made: contracts alone see them,
-//! and they take no memory.
+//! What a seat knows, and what lies in the slot of the lock. No value of a served request, a stage
+//! or a view is ever made: contracts alone see them, and they take no memory.
 use histories::Account;
 use std::collections::LinkedList;
 use std::snapshot::Snapshot;

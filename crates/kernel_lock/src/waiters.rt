@@ -1,9 +1,8 @@
-//! Who waits for a lock. Before this: `locked`. After it: `steps`.
-//! The mark is no word of the table and no clause says what it holds: it keeps those who wait from
-//! burning the processor, and those who release from calling the system where nobody sleeps.
-//! What has to be done for those who sleep is a value that only the next act spends: a lock that
-//! was given back is looked at, a mark that is set is cleared, and then one thread is woken; who
-//! has slept sets the mark again.
+//! Who waits for a lock. The mark is no word of the table and no clause says what it holds: it
+//! keeps those who wait from burning the processor, and those who release from calling the system
+//! where nobody sleeps. What has to be done for those who sleep is a value that only the next act
+//! spends: a lock that was given back is looked at, a mark that is set is cleared, and then one
+//! thread is woken; who has slept sets the mark again.
 ghost use Rattle.std.specs.Prelude.{◌≡◌, ◌≢◌, ◌%◌, true, false, IfNone};
 ghost use Rattle.kernel_lock.specs.declared.view.Stage.TheVariants.{Outside};
 

@@ -1,5 +1,4 @@
 //! How a thread waits for the lock, and how the next one is woken.
-//! Before this: `steps`. After it: `apply`.
 ghost use Rattle.std.specs.Prelude.{◌≡◌, true};
 ghost use Rattle.kernel_lock.specs.Steppers.{IsStepperOf, IsSameStepper};
 ghost use Rattle.kernel_lock.specs.Steps.{TakesLock, IsDue, HasReleased};

@@ -14,11 +14,11 @@ use Rattle.clap.specs.Walk.{Row, Rule, one_of}
 use Rattle.clap.specs.declared.builder.action.ArgAction.TheVariants.{Set}
 use Rattle.clap.specs.declared.builder.value_parser.ValueParser.TheVariants as vp
 use Rattle.sync_base.specs.declared.fault.Fault.{Fault}
-use Rattle.sync_base.specs.declared.limits.TheConstants.{ATOMIC_SIZE, MAX_WRITERS}
+use Rattle.sync_base.specs.declared.limits.TheConstants.{MAX_WRITERS}
 use Rattle.p9sync.specs.declared.args.TheConstants.{GOOD, FAULT}
 use Rattle.p9sync.specs.declared.args.Task.{Task}
 use Rattle.p9sync.specs.declared.args.Task.TheVariants.{Pipe, Replay, Threads}
-use Rattle.crew.specs.declared.opts.TheConstants.{LEAST_SIZE, MAX_WRITES}
+use Rattle.crew.specs.declared.opts.TheConstants.{LEAST_SIZE, MOST_SIZE, MAX_WRITES}
 use Rattle.crew.specs.declared.opts.ThreadsOpts.{ThreadsOpts}
 use Rattle.crew.specs.declared.opts.Report.{Report}
 use Rattle.scripts.specs.Lines.{is_word}
@@ -104,7 +104,7 @@ threads_command = record (new_shape (codes "threads")) {
   disable_help_flag = true;
   rules = number_between 1 MAX_WRITERS (codes "writers")
       ∷ number_between 1 MAX_WRITES (codes "writes")
-      ∷ number_between LEAST_SIZE ATOMIC_SIZE (codes "size")
+      ∷ number_between LEAST_SIZE MOST_SIZE (codes "size")
       ∷ [];
 }
 

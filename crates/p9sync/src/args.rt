@@ -1,5 +1,4 @@
-//! The program on its words: what the command line asks for, and how it ends. Before this:
-//! `report_text`.
+//! The program on its words: what the command line asks for, and how it ends.
 ghost use Rattle.std.specs.Prelude.{◌≡◌, ◌≤◌, ◌<◌, ◌+◌, ◌↔◌, Some, None, map, false};
 ghost use Rattle.std.specs.Prelude.{IfOk, IfErr, IfSome, IsOk, OnErr};
 ghost use Rattle.std.specs.Io.KnownBytes.{Keeps};
@@ -23,7 +22,7 @@ use crate::report_text::push_report;
 use clap::builder::ValueParser;
 use clap::error::ErrorKind;
 use clap::{Arg, ArgAction, ArgMatches, Command, Error};
-use crew::opts::{LEAST_SIZE, MAX_WRITES};
+use crew::opts::{LEAST_SIZE, MAX_WRITES, MOST_SIZE};
 use crew::{OpenGate, ThreadsOpts, run_threads};
 use scripts::device::write_whole;
 use scripts::{run_pipe, run_replay};
@@ -33,7 +32,7 @@ use std::io::{Read, Write};
 use std::sync::Wait;
 use std::thread::Threads;
 use sync_base::Fault;
-use sync_base::limits::{ATOMIC_SIZE, MAX_WRITERS};
+use sync_base::limits::MAX_WRITERS;
 
 /// The status of a run that went well.
 pub const GOOD: u8 = 0;
@@ -245,7 +244,7 @@ fn threads_command<'a>(alloc: Global) -> Result<Command<'a>, AllocError>
 {
     let writers = number_option(alloc, WRITERS, 1, MAX_WRITERS);
     let writes = number_option(alloc, WRITES, 1, MAX_WRITES);
-    let size = number_option(alloc, SIZE, LEAST_SIZE, ATOMIC_SIZE as u64);
+    let size = number_option(alloc, SIZE, LEAST_SIZE, MOST_SIZE);
     Command::new(alloc, "threads")
         .disable_help_flag(true)
         .arg(writers)?

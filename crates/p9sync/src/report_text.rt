@@ -1,4 +1,4 @@
-//! What was read by a run on threads, in words. After this: `args`.
+//! What was read by a run on threads, in words.
 ghost use Rattle.std.specs.Prelude.{◌≡◌, ◌++◌, OnOk};
 ghost use Rattle.std.specs.Fmt.{decimal};
 ghost use Rattle.p9sync.specs.ReportText.{report_line};

@@ -12,3 +12,4 @@ pub mod WaitLemmas
 pub mod WorkedPipes
 pub mod LoneLemmas
 pub mod WorkedCalls
+pub mod SideLemmas

@@ -5,6 +5,7 @@ use Rattle.std.specs.Prelude.{Err, reverse}
 use Rattle.histories.specs.declared.account.Account.{Account}
 use Rattle.sync_base.specs.declared.ids.RendezId.{RendezId}
 use Rattle.sync_base.specs.declared.fault.Fault.TheVariants as fault
+use Rattle.sync_base.specs.declared.mode.Mode.TheVariants.{Message}
 use Rattle.sync_base.specs.Pipe.{PipeState}
 use Rattle.sync_base.specs.Write.{Write}
 use Rattle.rendez_words.specs.Process.{Process}
@@ -37,6 +38,7 @@ abbrev three : PipeState
 three =
     record {
       limit = 2;
+      mode = Message;
       accepted = write 0 (97 ∷ 98 ∷ []) ∷ write 1 (99 ∷ []) ∷ write 0 [] ∷ [];
       read_whole = 3;
       offset = 0;

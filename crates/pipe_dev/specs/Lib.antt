@@ -15,3 +15,5 @@ pub mod Chain
 pub mod CallLaws
 pub mod WaitLaws
 pub mod Laws
+pub mod Sides
+pub mod SideLaws

@@ -1,4 +1,4 @@
-//! What callers of an end are told. Before this: `hand`. After it: `read_end`.
+//! What callers of an end are told.
 use sync_base::Fault;
 
 /// What a read was answered.

@@ -1,5 +1,4 @@
-//! What is left of a write that was taken out of the queue. Before this: `waking`.
-//! After it: `hand`.
+//! What is left of a write that was taken out of the queue.
 use block_queue::Spare;
 use std::alloc::{AllocError, Global};
 use std::marker::Model;

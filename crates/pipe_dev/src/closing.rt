@@ -1,4 +1,4 @@
-//! The end of a direction: all its ends are given back. Before this: `end`. After it: `laws`.
+//! The end of a direction: all its ends are given back.
 ghost use Rattle.std.specs.Prelude.{◌≡◌, ◌≤◌, [], length, IfOk, IfErr};
 ghost use Rattle.std.specs.Vec.{vec_capacity};
 ghost use Rattle.block_queue.specs.Seats.{key_of};

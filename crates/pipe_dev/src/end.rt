@@ -1,4 +1,4 @@
-//! The two ends of a pipe. Before this: `pipe`. After it: `closing`.
+//! The two ends of a pipe.
 ghost use Rattle.std.specs.Prelude.{◌≡◌, ◌≤◌, [], length};
 ghost use Rattle.std.specs.Vec.{vec_capacity};
 ghost use Rattle.std.specs.List.{AllByRecursion};

@@ -1,4 +1,4 @@
-//! What a read end holds between two calls. Before this: `begun`. After it: `answers`.
+//! What a read end holds between two calls.
 use crate::begun::Begun;
 use block_queue::TakeSeat;
 

@@ -1,4 +1,4 @@
-//! How a direction is hung up, from either side. Before this: `write_long`. After it: `pipe`.
+//! How a direction is hung up, from either side.
 ghost use Rattle.std.specs.Prelude.{◌≡◌, ◌+◌};
 ghost use Rattle.block_queue.specs.declared.entry.Entry.TheVariants.{Hung};
 ghost use Rattle.block_queue.specs.Meaning.{Enters};

@@ -1,5 +1,5 @@
 //! What holds of every direction of a pipe. Each law is a function with an empty body, whose
-//! contract says it. Before this: `closing`.
+//! contract says it.
 ghost use Rattle.pipe_dev.specs.CallLaws.{
   ReadsAreSteps,
   TriesAreSteps,

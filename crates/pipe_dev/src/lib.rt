@@ -1,6 +1,6 @@
 //! Two-way pipes between processes, after pipe(2) and pipe(3).
 //! Read `row`, `waking`; `begun`, `hand`, `answers`; `read_end`, `reading`; `write_end`, `writing`,
-//! `write_long`; `hanging`; `pipe`, `end`; `closing`; and then `laws`, the headline.
+//! `write_long`; `hanging`; `pipe`, `end`; `closing`; and then `laws`, the headline, and `side_laws`.
 #![tactic(auto)]
 
 pub mod answers;
@@ -14,6 +14,7 @@ pub mod pipe;
 pub mod read_end;
 mod reading;
 pub mod row;
+pub mod side_laws;
 mod waking;
 pub mod write_end;
 mod write_long;

@@ -1,4 +1,4 @@
-//! A pipe: how it is made. Before this: `hanging`. After it: `end`.
+//! A pipe: how it is made.
 ghost use Rattle.std.specs.Prelude.{◌≡◌, ◌⊎◌, ◌↔◌, ℕ, IfOk, IfErr, IsErrOf};
 ghost use Rattle.sync_base.specs.declared.fault.Fault.TheVariants.{BadSize, Memory};
 ghost use Rattle.block_queue.specs.Opening.{IsBadQueue};

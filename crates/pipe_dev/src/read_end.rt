@@ -1,4 +1,4 @@
-//! The end at which a direction is read. Before this: `answers`. After it: `reading`, its calls.
+//! The end at which a direction is read.
 use crate::hand::ReadHand;
 use crate::row::Row;
 use block_queue::Queue;

@@ -1,4 +1,4 @@
-//! How a direction is read. Before this: `read_end`. After it: `write_end`.
+//! How a direction is read.
 ghost use Rattle.std.specs.Prelude.{◌≡◌, ◌≢◌, [], Some, None};
 ghost use Rattle.block_queue.specs.Seats.{key_of};
 ghost use Rattle.pipe_dev.specs.Ends.{IsReadHand};

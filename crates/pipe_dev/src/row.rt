@@ -1,4 +1,4 @@
-//! The Rendez of a direction. After this: `waking`.
+//! The Rendez of a direction.
 ghost use Rattle.std.specs.Prelude.{◌≡◌, ◌+◌, ◌<◌, ◌^◌};
 
 use sleep_wakeup::Proc;

@@ -1,4 +1,4 @@
-//! Who wakes whom on the Rendez of a direction. Before this: `row`. After it: `begun`.
+//! Who wakes whom on the Rendez of a direction.
 ghost use Rattle.std.specs.Prelude.{◌≡◌, ◌<◌};
 ghost use Rattle.rendez_words.specs.Words.{rendez_of};
 ghost use Rattle.pipe_dev.specs.Rendezes.{HasRow, WakesOne, WakesWriters, WakesIfKnown};

@@ -1,4 +1,4 @@
-//! An end at which a direction is written. Before this: `reading`. After it: `writing`, its calls.
+//! An end at which a direction is written.
 use crate::row::Row;
 use block_queue::{PutSeat, Queue};
 use std::marker::Model;

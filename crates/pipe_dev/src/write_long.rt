@@ -1,4 +1,4 @@
-//! How more than one write's bytes are written. Before this: `writing`. After it: `hanging`.
+//! How more than one write's bytes are written.
 use crate::answers::Long;
 use crate::write_end::WriteEnd;
 use sleep_wakeup::Proc;

@@ -1,4 +1,4 @@
-//! How a direction is written. Before this: `write_end`. After it: `write_long`.
+//! How a direction is written.
 ghost use Rattle.std.specs.Prelude.{◌≡◌};
 ghost use Rattle.block_queue.specs.Seats.{key_of};
 ghost use Rattle.pipe_dev.specs.Ends.{IsWriteHand};

@@ -1,5 +1,5 @@
-//! The flags of a process as one word, and back: the one place that knows the bits.
-//! The reader comes from `lib`. After this: `view`.
+//! The flags of a process as one word, and back: the one place that knows the bits. The reader
+//! comes from `lib`.
 ghost use Rattle.std.specs.Prelude.{◌≡◌, Bool, List, ◌∷◌, if◌then◌else◌};
 ghost use Rattle.sleep_core.specs.declared.phase.ProcFlags.{ProcFlags};
 ghost use Rattle.sync_base.specs.NoteSet.{joined, only};

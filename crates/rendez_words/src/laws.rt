@@ -1,5 +1,5 @@
 //! What the rule says of running threads, between any two steps. Each law is a function with an
-//! empty body, whose contract says it. Before this: `released`.
+//! empty body, whose contract says it.
 ghost use Rattle.rendez_words.specs.Broken.{with_procs, wakeup_goes_on};
 ghost use Rattle.rendez_words.specs.Broken.{wakeup_is_lost, sleeper_is_nowhere, mark_is_stray};
 ghost use Rattle.rendez_words.specs.Broken.{stranger_is_posted, stranger_has_a_seat};

@@ -1,7 +1,6 @@
-//! How a process looks at its flags, and parks until they change. Before this: `waking`.
-//! After it: `waiting`.
-//! A process parks on what it saw there behind its announcement, and on nothing else: `look_behind`
-//! alone gives a `Seen`, and `park` alone spends it.
+//! How a process looks at its flags, and parks until they change. A process parks on what it saw
+//! there behind its announcement, and on nothing else: `look_behind` alone gives a `Seen`, and
+//! `park` alone spends it.
 ghost use Rattle.std.specs.Prelude.{◌≡◌, ◌<◌, ◌%◌, ◌^◌, OnErr, IfOk, IfErr, MatchResult};
 ghost use Rattle.std.specs.Bool.{OnTrue, OnFalse};
 ghost use Rattle.sleep_core.specs.Table.Cell.{FlagsOf};

@@ -1,5 +1,4 @@
-//! How notes come to a process, and how it takes them outside a sleep. Before this: `raiser`.
-//! After it: `released`.
+//! How notes come to a process, and how it takes them outside a sleep.
 ghost use Rattle.std.specs.Prelude.{◌≡◌, ◌<◌, ◌≤◌, OnOk, OnErr, IfErr};
 ghost use Rattle.sync_base.specs.declared.fault.Fault.TheVariants.{NoProc};
 ghost use Rattle.rendez_words.specs.Steps.{notes, drains};

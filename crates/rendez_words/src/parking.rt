@@ -1,8 +1,7 @@
-//! Who parks. Before this: `plays`. After it: `words`.
-//! What a process says here is no word of the table, and decides nothing: it keeps a mark and a
-//! note from calling the system where the process does not park.
-//! Each step of parking and of waking gives a value that the next one spends, and that can't be
-//! dropped. `put` and `get` alone touch the words, and tell what they wrote and found.
+//! Who parks. What a process says here is no word of the table, and decides nothing: it keeps a
+//! mark and a note from calling the system where the process does not park. Each step of parking
+//! and of waking gives a value that the next one spends, and that can't be dropped. `put` and `get`
+//! alone touch the words, and tell what they wrote and found.
 ghost use Rattle.std.specs.Prelude.{◌≡◌, ◌≢◌, ◌==◌, ◌<◌, ◌^◌, IfOk};
 ghost use Rattle.rendez_words.specs.declared.parking.TheConstants.{AWAKE, PARKS};
 

@@ -1,5 +1,4 @@
 //! Whether a sleeper was released, asked by a process whose wakeup has returned.
-//! Before this: `notes`. After it: `laws`.
 ghost use Rattle.std.specs.Prelude.{◌≡◌, ◌<◌, ℕ, IsTrue, []};
 ghost use Rattle.rendez_words.specs.Plays.{IsStep, HasChecked};
 ghost use Rattle.rendez_words.specs.States.{IsAsleep, IsPlaceOf, IsJoined, IsUnkept};

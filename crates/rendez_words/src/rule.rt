@@ -1,6 +1,5 @@
-//! The rule of the words. Before this: `view`. After it: `plays`, what each step tells its seat.
-//! The table has no slots. Its words are the posted word of each Rendez, the level of each Rendez,
-//! and the flags of each process, in this order.
+//! The rule of the words. The table has no slots. Its words are the posted word of each Rendez, the
+//! level of each Rendez, and the flags of each process, in this order.
 ghost use Rattle.rendez_words.specs.Rule.{ShowsCore};
 ghost use Rattle.rendez_words.specs.View.{first_view};
 

@@ -1,6 +1,5 @@
-//! The states between two steps: each names the calls that spend it.
-//! Before this: `plays`. After it: `words`.
-//! A seat may be dropped, the others can't be: a sleep and a wakeup are made to their end.
+//! The states between two steps: each names the calls that spend it. A seat may be dropped, the
+//! others can't be: a sleep and a wakeup are made to their end.
 use crate::rule::Place;
 use std::marker::Model;
 use sync_base::{Fault, NoteSet, Pid, RendezId};

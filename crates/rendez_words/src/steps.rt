@@ -1,7 +1,6 @@
-//! One function for each atomic operation, which makes an event of the core.
-//! Before this: `words`. After it: `sleeper`, `raiser` and `notes`, whose steps are made by these.
-//! All orderings are the table's. Each asks that the operation does to its word what the event does
-//! to its cell, and tells what the table answers to the event from what was found there.
+//! One function for each atomic operation, which makes an event of the core. All orderings are the
+//! table's. Each asks that the operation does to its word what the event does to its cell, and
+//! tells what the table answers to the event from what was found there.
 ghost use Rattle.std.specs.Prelude.{◌≡◌, ◌==◌, ◌+◌, ◌<◌, max, bit_or};
 ghost use prog.Atomic.{either};
 ghost use Rattle.sleep_core.specs.Table.Cell.{PostedOf, LevelOf, FlagsOf};

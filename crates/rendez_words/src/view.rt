@@ -1,6 +1,5 @@
-//! What the seats of the table know. Before this: `flags_word`. After it: `rule`, what holds of all
-//! seats together. No value of a trace, a part or a view is ever made: contracts alone see them,
-//! and they take no memory.
+//! What the seats of the table know. No value of a trace, a part or a view is ever made: contracts
+//! alone see them, and they take no memory.
 use std::marker::Model;
 
 /// How many processes and Rendez there are. It is fixed when the words are made.

@@ -1,4 +1,4 @@
-//! How a process is woken whose flags were set. Before this: `steps`. After it: `looking`.
+//! How a process is woken whose flags were set.
 ghost use Rattle.std.specs.Prelude.{◌≡◌, ◌<◌};
 ghost use Rattle.sleep_core.specs.Table.Cell.{FlagsOf};
 ghost use Rattle.rendez_words.specs.declared.parking.TheConstants.{PARKS};

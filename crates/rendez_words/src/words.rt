@@ -1,5 +1,4 @@
-//! The words themselves: how they are made, and where each lies. Before this: `states`.
-//! After it: `steps`, one function for each atomic operation.
+//! The words themselves: how they are made, and where each lies.
 ghost use Rattle.std.specs.Prelude.{◌≡◌, ◌<◌};
 ghost use Rattle.sleep_core.specs.Limits.{IsWorldSize};
 ghost use Rattle.rendez_words.specs.View.{word_count};
@@ -106,6 +105,13 @@ impl Words {
             return Err(Fault::NoProc);
         }
         Ok(self.give(pids))
+    }
+
+    /// How many processes there are. Takes no memory and doesn't wait.
+    pub fn proc_count(&self) -> u64
+        ensures { result ≡ procs_of self.now }
+    {
+        self.sizes.procs
     }
 
     /// How many Rendez there are. Takes no memory and doesn't wait.

@@ -1,5 +1,7 @@
 -- Lines with a word too many are not in the grammar.
-use Rattle.std.proofs.Common.{◌≡◌, ℕ, ◌<◌, List, [], ◌∷◌, ◌++◌, length, Bool, true, false, not, cond, codes, is_some, Bor, Option, None, Some, Result, Ok, Err, refl, sym, subst, arith}
+use Rattle.std.proofs.Common.{◌≡◌, ℕ, ◌<◌, List, [], ◌∷◌, ◌++◌, length, Bool, true, false, not}
+use Rattle.std.proofs.Common.{cond, codes, is_some, Bor, Option, None, Some, Result, Ok, Err, refl}
+use Rattle.std.proofs.Common.{sym, subst, arith}
 use Rattle.std.specs.Option.{option_map}
 use Rattle.std.specs.List.{list_all}
 use Rattle.std.specs.Result.{result_ok}
@@ -13,11 +15,14 @@ use Rattle.sync_base.specs.Pipe.{PipeState}
 use Rattle.scripts.specs.declared.lines.TheConstants.{LINE_FEED, SPACE}
 use Rattle.scripts.specs.declared.pipe_line.PipeOp.{PipeOp}
 use Rattle.scripts.specs.Script.{Answers}
-use Rattle.scripts.specs.Lines.{is_space, is_word, lines_of, cut_line_of, words_of, words_behind, number_of, number_within, BeginsWithLine}
-use Rattle.scripts.specs.PipeScript.{Op, Writes, Hangs_up, answered, pipe_language, bytes_of, op_of, limit_of, hangup_of, read_of, write_of}
+use Rattle.scripts.specs.Lines.{is_space, is_word, lines_of, cut_line_of, words_of, words_behind}
+use Rattle.scripts.specs.Lines.{number_of, number_within, BeginsWithLine}
+use Rattle.scripts.specs.PipeScript.{Op, Writes, Hangs_up, answered, pipe_language, bytes_of, op_of}
+use Rattle.scripts.specs.PipeScript.{mode_of, hangup_of, read_of, write_of}
 use Rattle.scripts.specs.PipeLine.{IsOp, BeginsWithOp, asked_by}
 use Rattle.scripts.proofs.LineLemmas.{parts_of-some, parts_of-plain}
-use Rattle.scripts.proofs.OnePassLemmas.{IsWord, passes_too, line_begins, line_of_word, line_behind_word}
+use Rattle.scripts.proofs.OnePassLemmas.{IsWord, passes_too, line_begins, line_of_word}
+use Rattle.scripts.proofs.OnePassLemmas.{line_behind_word}
 
 -- `hangup` and a word more is not in the grammar
 hangup_of-more : (words : List (List ℕ)) → 0 < length words → hangup_of words ≡ None
@@ -36,15 +41,17 @@ read_of-more most (word ∷ words) some = refl
 pub read_of-long : (most rest : List ℕ) → read_of (most ∷ words_of rest) ≡ None
 read_of-long most rest = read_of-more most (words_of rest) (parts_of-some is_space rest)
 
--- nor `limit N` and a word more
-limit_of-more : (verb limit : List ℕ) (words : List (List ℕ)) → 0 < length words
-    → limit_of (verb ∷ limit ∷ words) ≡ None
-limit_of-more verb limit [] some = absurd (omega arith)
-limit_of-more verb limit (word ∷ words) some = refl
+-- nor `limit N stream` and a word more
+mode_of-more : (word : List ℕ) (words : List (List ℕ)) → 0 < length words
+    → mode_of (word ∷ words) ≡ None
+mode_of-more word [] some = absurd (omega arith)
+mode_of-more word (next ∷ words) some = refl
 
-pub limit_of-long : (verb limit rest : List ℕ) → limit_of (verb ∷ limit ∷ words_of rest) ≡ None
-limit_of-long verb limit rest =
-    limit_of-more verb limit (words_of rest) (parts_of-some is_space rest)
+pub mode_of-long : (word : List ℕ) (rest : Option (Bor (List ℕ))) → is_some rest ≡ true
+    → mode_of (word ∷ words_behind rest) ≡ None
+mode_of-long word None some = cc
+mode_of-long word (Some rest) some =
+    mode_of-more word (words_of rest.now) (parts_of-some is_space rest.now)
 
 -- nor `write W HEX` and a word more
 write_of-more : (writer bytes : List ℕ) (words : List (List ℕ)) → 0 < length words

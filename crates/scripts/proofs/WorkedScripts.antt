@@ -93,3 +93,51 @@ a_line_without_its_end_is_a_fault : pipe_told (text (codes "limit 2" ∷ []) ++ 
     record { output = []; fault = Some 2 }
 unfolding encode_with decode_pairs
 a_line_without_its_end_is_a_fault = refl
+
+a_stream_read_joins_writes : pipe_told
+    (text (codes "limit 4 stream" ∷ codes "write 0 616263" ∷ codes "write 1 6465" ∷ codes "read 4" ∷
+    codes "read 8" ∷ codes "read 8" ∷ [])) ≡ record {
+      output = text
+          (codes "taken" ∷ codes "taken" ∷ codes "got 61626364" ∷ codes "got 65" ∷ codes "empty" ∷
+          []);
+      fault = None;
+    }
+unfolding encode_with decode_pairs
+a_stream_read_joins_writes = refl
+
+a_stream_read_leaves_empty_writes_behind_its_last_byte : pipe_told
+    (text (codes "limit 3 stream" ∷ codes "write 0 -" ∷ codes "write 0 61" ∷ codes "write 0 -" ∷
+    codes "write 0 62" ∷ codes "read 1" ∷ codes "write 0 62" ∷ codes "hangup" ∷ codes "read 8" ∷
+    codes "read 8" ∷ [])) ≡ record {
+      output = text
+          (codes "taken" ∷ codes "taken" ∷ codes "taken" ∷ codes "full" ∷ codes "got 61" ∷
+          codes "taken" ∷ codes "ok" ∷ codes "got 62" ∷ codes "end" ∷ []);
+      fault = None;
+    }
+unfolding encode_with decode_pairs
+a_stream_read_leaves_empty_writes_behind_its_last_byte = refl
+
+a_stream_read_passes_empty_writes : pipe_told
+    (text (codes "limit 1 stream" ∷ codes "write 0 -" ∷ codes "read 8" ∷ codes "write 0 61" ∷
+    codes "read 8" ∷ [])) ≡ record {
+      output = text (codes "taken" ∷ codes "empty" ∷ codes "taken" ∷ codes "got 61" ∷ []);
+      fault = None;
+    }
+unfolding encode_with decode_pairs
+a_stream_read_passes_empty_writes = refl
+
+a_stream_is_read_to_its_end : pipe_told
+    (text (codes "limit 4 stream" ∷ codes "write 0 6162" ∷ codes "write 0 -" ∷ codes "write 0 6364" ∷
+    codes "hangup" ∷ codes "read 3" ∷ codes "read 8" ∷ codes "read 8" ∷ codes "read 8" ∷ [])) ≡ record {
+      output = text
+          (codes "taken" ∷ codes "taken" ∷ codes "taken" ∷ codes "ok" ∷ codes "got 616263" ∷
+          codes "got 64" ∷ codes "end" ∷ codes "end" ∷ []);
+      fault = None;
+    }
+unfolding encode_with decode_pairs
+a_stream_is_read_to_its_end = refl
+
+no_pipe_has_the_mode_streams : pipe_told (text (codes "limit 2 streams" ∷ [])) ≡ record
+    { output = []; fault = Some 1 }
+unfolding encode_with decode_pairs
+no_pipe_has_the_mode_streams = refl

@@ -1,8 +1,9 @@
 -- What the code reads off a line, beside what the grammar says of it.
 use Rattle.std.specs.Prelude.{◌≡◌, ℕ, Bool, true, false, List, [], ◌∷◌, ◌++◌, codes, Option, None, Some}
-use Rattle.sync_base.specs.Pipe.{PipeState}
+use Rattle.sync_base.specs.Pipe.{PipeState, opening_in}
 use Rattle.sync_base.specs.PlainPipe.{Kept, Shows}
 use Rattle.scripts.specs.declared.lines.TheConstants.{LINE_FEED, SPACE}
+use Rattle.scripts.specs.declared.pipe_line.Opening.{Opening}
 use Rattle.scripts.specs.declared.pipe_line.OpVerb.{OpVerb}
 use Rattle.scripts.specs.declared.pipe_line.OpVerb.TheVariants as verb
 use Rattle.scripts.specs.Script.{Answered}
@@ -10,6 +11,10 @@ use Rattle.scripts.specs.declared.pipe_line.PipeOp.{PipeOp}
 use Rattle.scripts.specs.declared.pipe_line.PipeOp.TheVariants.{Write, Read, Hangup}
 use Rattle.scripts.specs.Lines.{BeginsWithLine}
 use Rattle.scripts.specs.PipeScript.{Op, Writes, Reads, Hangs_up, op_of}
+
+-- the pipe that is opened so
+abbrev pub opened_by : Opening → PipeState
+opened_by opening = opening_in opening.mode opening.limit
 
 -- the word has these bytes, or it has none
 abbrev pub IsBytes : Option (List ℕ) → Bool → List ℕ → Type 0

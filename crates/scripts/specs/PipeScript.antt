@@ -1,5 +1,6 @@
 -- The language of pipe scripts: its lines, and what each of them does to one direction of a pipe.
-use Rattle.std.specs.Prelude.{◌-◌, ℕ, if◌then◌else◌, List, [], ◌∷◌, codes, Option, None, Some, option_and_then, Result, Ok, Err}
+use Rattle.std.specs.Prelude.{◌-◌, ℕ, if◌then◌else◌, List, [], ◌∷◌, codes, Option, None, Some}
+use Rattle.std.specs.Prelude.{option_and_then, Result, Ok, Err}
 use Rattle.std.specs.Option.{option_map}
 use Rattle.std.specs.Result.{result_ok}
 use Rattle.hex.specs.Hex.{decode_of}
@@ -7,7 +8,10 @@ use Rattle.sync_base.specs.declared.answers.WriteAnswer.{WriteAnswer}
 use Rattle.sync_base.specs.declared.answers.ReadAnswer.{ReadAnswer}
 use Rattle.sync_base.specs.declared.fault.Fault.{Fault}
 use Rattle.sync_base.specs.Write.{Write}
-use Rattle.sync_base.specs.Pipe.{PipeState, opening, write_result, after_write, read_result, after_read, after_hangup}
+use Rattle.sync_base.specs.declared.mode.Mode.{Mode}
+use Rattle.sync_base.specs.declared.mode.Mode.TheVariants.{Message, Stream}
+use Rattle.sync_base.specs.Pipe.{PipeState, opening_in, write_result, after_write, read_result}
+use Rattle.sync_base.specs.Pipe.{after_read, after_hangup}
 use Rattle.sync_base.specs.declared.limits.TheConstants.{MAX_PIPE_LIMIT, MAX_WRITERS}
 use Rattle.scripts.specs.Lines.{words_of, is_word, number_of, number_within}
 use Rattle.scripts.specs.Script.{Language, Answered, Told, told}
@@ -25,11 +29,21 @@ bytes_of [] = None
 bytes_of (digit ∷ digits) =
     if is_word (digit ∷ digits) (codes "-") then Some [] else result_ok (decode_of (digit ∷ digits))
 
--- the line `limit N`
-abbrev pub limit_of : List (List ℕ) → Option ℕ
-limit_of (verb ∷ limit ∷ []) =
-    if is_word verb (codes "limit") then number_within 1 MAX_PIPE_LIMIT limit else None
-limit_of words = None
+-- what follows the limit: nothing, or `stream`
+abbrev pub mode_of : List (List ℕ) → Option Mode
+mode_of [] = Some Message
+mode_of (word ∷ []) = if is_word word (codes "stream") then Some Stream else None
+mode_of words = None
+
+-- the pipe that a line `limit N` or `limit N stream` opens
+abbrev pub opened_of : List (List ℕ) → Option PipeState
+opened_of (verb ∷ limit ∷ words) =
+    if is_word verb (codes "limit")
+    then option_and_then
+    (λ mode. option_map (opening_in mode) (number_within 1 MAX_PIPE_LIMIT limit))
+    (mode_of words)
+    else None
+opened_of words = None
 
 -- `hangup`
 abbrev pub hangup_of : List (List ℕ) → Option Op
@@ -75,11 +89,12 @@ answered s (Writes writer bytes) =
 answered s (Reads most) = read_answered s most (read_result most s)
 answered s Hangs_up = record { text = codes "ok"; after = after_hangup s }
 
--- the language: `limit N` opens an empty pipe, and nothing is written at the end
+-- the language: `limit N`, or `limit N stream`, opens an empty pipe, and nothing is written at the
+-- end
 abbrev pub pipe_language : Language PipeState
 pipe_language =
     record {
-      opened_by = λ line. option_map opening (limit_of (words_of line));
+      opened_by = λ line. opened_of (words_of line);
       answer_to = λ s line. option_map (answered s) (op_of (words_of line));
       farewell = λ _. [];
     }

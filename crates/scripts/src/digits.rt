@@ -1,4 +1,4 @@
-//! Bytes from hexadecimal digits by a table. After this: `pipe_line`.
+//! Bytes from hexadecimal digits by a table.
 ghost use Rattle.std.specs.Prelude.{◌≡◌, ◌*◌, length, Ok, IsTrue};
 ghost use Rattle.hex.specs.Hex.{decode_of};
 ghost use Rattle.scripts.specs.Digits.{value_or_none};

@@ -1,5 +1,4 @@
-//! The line `notepg PIDS KINDS` of a schedule, which posts notes to a group of processes. Before
-//! this: `event_line`. After it: `schedule`, which posts them.
+//! The line `notepg PIDS KINDS` of a schedule, which posts notes to a group of processes.
 ghost use Rattle.std.specs.Prelude.{◌≡◌, None, IfSome, MatchOption};
 ghost use Rattle.std.specs.Option.{is_some};
 ghost use Rattle.scripts.specs.Lines.{words_of};

@@ -1,5 +1,5 @@
 //! What holds of every script of every language. Each law is a function that does nothing: its
-//! contract is the law. Before this: `script`, which the laws speak of.
+//! contract is the law.
 ghost use Rattle.std.specs.Prelude.{◌≡◌};
 ghost use Rattle.scripts.specs.PipeScript.{pipe_language};
 ghost use Rattle.scripts.specs.Schedule.{schedule_language};

@@ -1,4 +1,4 @@
-//! The lines, words and numbers of a script. After this: `script`, which answers the lines.
+//! The lines, words and numbers of a script.
 ghost use Rattle.std.specs.Prelude.{◌≡◌, false, ◌==◌, ◌∷◌, ◌+◌, ◌<◌, [], length, position, MatchOption, IfSome};
 ghost use Rattle.std.specs.Char.{is_ascii_digit};
 ghost use Rattle.scripts.specs.Lines.{BeginsWithNumber, LeadingDigits, lines_of, cut_line_of, parts_of, parts_behind, words_of, words_behind, number_of, number_within, value_of};

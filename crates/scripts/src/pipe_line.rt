@@ -1,13 +1,17 @@
-//! The lines of a pipe script. Before this: `lines`. After it: `pipe_script`, which answers them.
+//! The lines of a pipe script.
+ghost use Rattle.std.specs.Option.{option_map};
 ghost use Rattle.std.specs.Prelude.{◌≡◌, ◌∷◌, ◌++◌, ℕ, List, Some, IfOk, IfSome};
 ghost use Rattle.scripts.specs.Lines.{words_of, words_behind, BeginsWithLine};
-ghost use Rattle.scripts.specs.PipeScript.{bytes_of, limit_of, op_of, hangup_of, read_of, write_of};
-ghost use Rattle.scripts.specs.PipeLine.{IsBytes, IsOp, BeginsWithOp, asked_by, op_word, op_end};
+ghost use Rattle.scripts.specs.PipeScript.{bytes_of, opened_of, mode_of, op_of, hangup_of, read_of};
+ghost use Rattle.scripts.specs.PipeScript.{write_of};
+ghost use Rattle.scripts.specs.PipeLine.{opened_by, IsBytes, IsOp, BeginsWithOp, asked_by, op_word};
+ghost use Rattle.scripts.specs.PipeLine.{op_end};
 
 use crate::digits::decode;
 use crate::lines::{LINE_FEED, SPACE, bounded_number, next_line, next_word, number, number_before};
 use crate::script::MAX_LINE;
 use std::alloc::AllocError;
+use sync_base::Mode;
 use sync_base::limits::{MAX_PIPE_LIMIT, MAX_WRITERS};
 
 /// What a line asks for.
@@ -21,19 +25,42 @@ pub enum PipeOp<'a> {
     Hangup,
 }
 
-/// The limit that a line `limit N` gives.
-pub fn limit(line: &[u8]) -> Option<u64>
-    ensures { result ≡ limit_of (words_of line.now) }
+/// The pipe that the first line asks for.
+#[derive(Clone, Copy)]
+pub struct Opening {
+    pub mode: Mode,
+    pub limit: u64,
+}
+
+/// The pipe that a line `limit N` or `limit N stream` asks for.
+pub fn opening_at(line: &[u8]) -> Option<Opening>
+    ensures { option_map opened_by result ≡ opened_of (words_of line.now) }
 {
     let (verb, rest) = next_word(line);
     if verb != b"limit".as_slice() {
         return None;
     }
     let (limit, rest) = next_word(rest?);
-    match rest {
-        None => bounded_number(limit, 1, MAX_PIPE_LIMIT),
-        Some(_) => None,
+    let mode = mode_behind(rest)?;
+    let limit = bounded_number(limit, 1, MAX_PIPE_LIMIT)?;
+    Some(Opening { mode, limit })
+}
+
+/// The mode that what follows the limit asks for.
+fn mode_behind(rest: Option<&[u8]>) -> Option<Mode>
+    ensures { result ≡ mode_of (words_behind rest.entry) }
+{
+    let Some(rest) = rest else {
+        return Some(Mode::Message);
+    };
+    let (word, others) = next_word(rest);
+    if others.is_some() {
+        return None;
     }
+    if word != b"stream".as_slice() {
+        return None;
+    }
+    Some(Mode::Stream)
 }
 
 /// The bytes of a word in hexadecimal, put into this room; false where the word is none.

@@ -1,16 +1,15 @@
-//! Scripts of pipe operations, over a pipe for one thread. Before this: `pipe_line`, `answer_text`
-//! and `script`. After it: `run`.
-ghost use Rattle.std.specs.Prelude.{◌≡◌, OnOk};
+//! Scripts of pipe operations, over a pipe for one thread.
+ghost use Rattle.std.specs.Prelude.{◌≡◌, IfOk, OnOk};
 ghost use Rattle.sync_base.specs.Pipe.{PipeState};
 ghost use Rattle.sync_base.specs.PlainPipe.{Shows};
 ghost use Rattle.scripts.specs.PipeScript.{pipe_language, answered, Writes, Reads};
-ghost use Rattle.scripts.specs.PipeLine.{IsAnswered, asked_by};
+ghost use Rattle.scripts.specs.PipeLine.{opened_by, IsAnswered, asked_by};
 
 use crate::answer_text::{push_read_answer, push_write_answer};
-use crate::pipe_line::{PipeOp, limit, op_at};
+use crate::pipe_line::{Opening, PipeOp, op_at, opening_at};
 use crate::script::{MAX_LINE, Script};
 use std::alloc::{AllocError, Global};
-use sync_base::{Fault, PlainPipe};
+use sync_base::{Fault, Mode, PlainPipe};
 
 /// A pipe script while it runs.
 #[derive(Drop)]
@@ -18,6 +17,8 @@ pub struct PipeScript {
     pipe: PlainPipe,
     /// Room for the bytes of a write.
     room: Vec<u8>,
+    /// Room for the bytes of a read, in stream mode.
+    joined: Vec<u8>,
     /// Room for the bytes of the longest line, for the quick way: it is zeroed once.
     decoded: Vec<u8>,
 }
@@ -30,17 +31,19 @@ impl Script for PipeScript {
     ghost stands_for = { λ script s. Shows script.pipe s };
 
     fn open(alloc: Global, line: &[u8]) -> Result<Option<Self>, AllocError> {
-        let Some(limit) = limit(line) else {
+        let Some(opening) = opening_at(line) else {
             return Ok(None);
         };
-        let Ok(pipe) = PlainPipe::new(alloc, limit) else {
+        let Ok(pipe) = open_pipe(alloc, opening) else {
             return Err(AllocError);
         };
         let room = Vec::new(alloc);
+        let joined = Vec::new(alloc);
         let decoded = vec![in alloc; 0u8; MAX_LINE / 2]?;
         Ok(Some(PipeScript {
             pipe,
             room,
+            joined,
             decoded,
         }))
     }
@@ -49,7 +52,7 @@ impl Script for PipeScript {
         let Some(op) = PipeOp::parse(line, &mut self.room)? else {
             return Ok(false);
         };
-        answer_op(&mut self.pipe, op, output)?;
+        answer_op(&mut self.pipe, &mut self.joined, op, output)?;
         Ok(true)
     }
 
@@ -64,7 +67,7 @@ impl Script for PipeScript {
         if text.len() - rest.len() > MAX_LINE {
             return Ok(None);
         }
-        answer_op(&mut self.pipe, op, output)?;
+        answer_op(&mut self.pipe, &mut self.joined, op, output)?;
         Ok(Some(rest))
     }
 
@@ -73,14 +76,29 @@ impl Script for PipeScript {
     }
 }
 
+/// The pipe that the first line asks for.
+fn open_pipe(alloc: Global, opening: Opening) -> Result<PlainPipe, Fault>
+    ensures { IfOk result (λ pipe. Shows pipe (opened_by opening)) }
+{
+    match opening.mode {
+        Mode::Message => PlainPipe::new(alloc, opening.limit),
+        Mode::Stream => PlainPipe::new_stream(alloc, opening.limit),
+    }
+}
+
 /// Does what a line asks for, and writes the answer.
-fn answer_op(pipe: &mut PlainPipe, op: PipeOp<'_>, output: &mut Vec<u8>) -> Result<(), AllocError>
+fn answer_op(
+    pipe: &mut PlainPipe,
+    joined: &mut Vec<u8>,
+    op: PipeOp<'_>,
+    output: &mut Vec<u8>,
+) -> Result<(), AllocError>
     ensures { (s : PipeState) → Shows pipe.old s → OnOk result
         (IsAnswered (answered s (asked_by op.entry)) pipe.new output.old.items output.new.items) }
 {
     match op {
         PipeOp::Write { writer, bytes } => answer_write(pipe, writer, bytes, output),
-        PipeOp::Read { most } => answer_read(pipe, most, output),
+        PipeOp::Read { most } => answer_read(pipe, joined, most, output),
         PipeOp::Hangup => {
             pipe.hangup();
             output.extend_from_slice(b"ok\n")
@@ -105,13 +123,19 @@ fn answer_write(
     }
 }
 
-fn answer_read(pipe: &mut PlainPipe, most: u64, output: &mut Vec<u8>) -> Result<(), AllocError>
+fn answer_read(
+    pipe: &mut PlainPipe,
+    joined: &mut Vec<u8>,
+    most: u64,
+    output: &mut Vec<u8>,
+) -> Result<(), AllocError>
     ensures { (s : PipeState) → Shows pipe.old s → OnOk result
         (IsAnswered (answered s (Reads most)) pipe.new output.old.items output.new.items) }
 {
-    match pipe.peek(most) {
+    match pipe.peek(most, joined) {
         Ok(answer) => push_read_answer(output, answer)?,
-        Err(_) => return output.extend_from_slice(b"bad count\n"),
+        Err(Fault::BadCount) => return output.extend_from_slice(b"bad count\n"),
+        Err(_) => return Err(AllocError),
     }
     pipe.pass(most);
     Ok(())

@@ -1,5 +1,4 @@
-//! A run: a script is read whole, its lines are answered, and the answers are written. Before this:
-//! `device`, `pipe_script` and `schedule`.
+//! A run: a script is read whole, its lines are answered, and the answers are written.
 ghost use Rattle.std.specs.Prelude.{◌≡◌, IfErr};
 ghost use Rattle.scripts.specs.Device.{IsRunFault, Runs, WritesTold};
 ghost use Rattle.scripts.specs.PipeScript.{pipe_told};

@@ -1,5 +1,4 @@
-//! Schedules: each line is an event of the sleep core, answered by its world. Before this:
-//! `event_line`, `group_line`, `event_text` and `script`. After it: `run`.
+//! Schedules: each line is an event of the sleep core, answered by its world.
 ghost use Rattle.std.specs.Prelude.{◌≡◌, ◌∷◌, [], ◌++◌, List, ℕ, Some, OnOk};
 ghost use Rattle.sleep_core.specs.State.{State};
 ghost use Rattle.sleep_core.specs.Step.{answer_to, world_after};

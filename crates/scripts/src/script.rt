@@ -1,5 +1,5 @@
 //! Scripts of any language: their lines are answered in order, up to the first that is not in the
-//! grammar. Before this: `lines` and `device`. After it: `run`.
+//! grammar.
 ghost use Rattle.std.specs.Prelude.{◌≡◌, true, false, Some, None, ◌≤◌, ◌||◌, ◌++◌, ℕ, List, length, nat_lt, IfOk, IfErr, OnOk};
 ghost use Rattle.scripts.specs.Lines.{lines_of, cut_line_of};
 ghost use Rattle.scripts.specs.Device.{Tells, IsOutside};
@@ -61,9 +61,9 @@ pub trait Script: Drop + Sized {
 /// their memory is taken once.
 const PIECE: usize = 65_536;
 
-/// Room for a piece and the longest answer behind it, which gives 8,192 bytes in digits. The answers
-/// to a long line `notepg` may take more, and then the room grows.
-const ROOM: usize = PIECE + 16_389;
+/// Room for a piece and the longest answer behind it, which gives 65,536 bytes in digits. A read of
+/// a stream and the answers to a long line `notepg` may take more, and then the room grows.
+const ROOM: usize = PIECE + 131_077;
 
 /// Writes what a script says, of which at most one byte more than it may have is looked at. It
 /// gives the first line that is not in the grammar.

@@ -1,6 +1,5 @@
 -- What each step of an acquire adds to what the call did, and keeps of it.
-use Rattle.std.proofs.Common.{◌≡◌, ◌≢◌, ◌⊎◌, inl, inr, ℕ, ◌+◌, ◌≤◌, Bool, true, false, ◌||◌, List, [], ◌∷◌, Option, Some, None, Result, Ok, Err, refl, sym, ap, ◌∙◌, subst, arith}
-use Rattle.std.specs.List.{AllByRecursion}
+use Rattle.std.proofs.Common.{◌≡◌, inl, inr, ℕ, ◌+◌, Bool, true, false, if◌then◌else◌, List, [], ◌∷◌, Some, None, Result, Ok, refl, sym, ap, ◌∙◌, subst}
 use Rattle.sync_base.specs.declared.fault.Fault.{Fault}
 use Rattle.sync_base.specs.declared.ids.Pid.{Pid}
 use Rattle.sync_base.specs.declared.note.Note.TheVariants.{Expired}
@@ -16,14 +15,16 @@ use Rattle.semaphore.specs.declared.acquiring.Semacquired.TheVariants as sema
 use Rattle.semaphore.specs.declared.acquiring.Stop.{Stop}
 use Rattle.semaphore.specs.declared.acquiring.Stop.TheVariants as stop
 use Rattle.semaphore.specs.declared.sema_object.SemaCall.{SemaCall}
-use Rattle.semaphore.specs.declared.sema_object.SemaCall.TheVariants.{Acquire, AcquireNow, Collect, Leave}
+use Rattle.semaphore.specs.declared.sema_object.SemaCall.TheVariants.{AcquireNow, Collect, Leave}
 use Rattle.semaphore.specs.declared.sema_object.SemaReply.{SemaReply}
 use Rattle.semaphore.specs.declared.sema_object.SemaReply.TheVariants as reply
-use Rattle.semaphore.specs.Acquiring.{IsOfAcquire, RestsInTurn, SleepsBetween, HasSlept, Acquires, AcquiresNow, Semacquires, now_reply, last_wait, units_in, notes_taken, posts_in, was_expired}
-use Rattle.semaphore.specs.Asking.{WaitsFor, HasWaited, HasLeft, Left, ending_of, leave_reply, granted_units, stopped_notes, now_told}
-use Rattle.semaphore.specs.Deeds.{Deed, Ending, Caller, Standing, SemaView, Slept, Steps, Asked, Timed, Chain, Did, Calls}
+use Rattle.semaphore.specs.Acquiring.{Acquires, AcquiresNow, Semacquires, now_reply}
+use Rattle.semaphore.specs.Asking.{WaitsFor, HasWaited, HasLeft, Left, turn_left, ending_of, leave_reply, granted_units, stopped_notes, now_told}
+use Rattle.semaphore.specs.Deeds.{Deed, Ending, Caller, Standing, SemaView, Slept, Did, Calls}
 use Rattle.semaphore.specs.Deeds.Deed.{Asks, Rests, Posts}
 use Rattle.semaphore.specs.Seats.{goes_on}
+use Rattle.semaphore.specs.Turns.{Turn, turn_of, next, is_whole, is_timed, left_line, ticked}
+use Rattle.semaphore.specs.Turns.Turn.{Told, Ready}
 
 -- ---- one deed more
 
@@ -60,14 +61,49 @@ then_posts caller start now process deeds pid set did noted =
       timer = (now.timer, (did.timer, refl));
     }
 
+-- ---- turns
+
+-- two deeds more
+pub turn_after : (caller : Caller) (turn : Turn) (past : List Deed) (first second : Deed)
+    → turn_of caller past ≡ turn
+    → turn_of caller (second ∷ first ∷ past)
+    ≡ next (is_timed caller.deadline) (next (is_timed caller.deadline) turn first) second
+turn_after caller turn past first second is =
+    ap
+    (λ t. next (is_timed caller.deadline) (next (is_timed caller.deadline) t first) second) is
+
+-- without a deadline it owes nothing when it has left the line
+pub owes_none : (caller : Caller) (left : Left) → caller.deadline ≡ None → left.cancelled ≡ false
+    → turn_left caller left ≡ Ready
+owes_none caller left untimed cancelled =
+    ap
+    (λ b. if b then (if left.expired then ticked (holds left.notes Expired) else Ready)
+    else left_line (is_timed caller.deadline) (holds left.notes Expired)) cancelled
+    ∙ ap (λ d. left_line (is_timed d) (holds left.notes Expired)) untimed
+
+-- and with one when its timer is cancelled, and the note of a tick that took it has come
+pub owes_no_tick : (caller : Caller) (left : Left) → left.cancelled ≡ true
+    → (left.expired ≡ true → holds left.notes Expired ≡ true) → turn_left caller left ≡ Ready
+owes_no_tick caller left cancelled came =
+    ap
+    (λ b. if b then (if left.expired then ticked (holds left.notes Expired) else Ready)
+    else left_line (is_timed caller.deadline) (holds left.notes Expired)) cancelled
+    ∙ by left.expired came
+  where
+    by : (expired : Bool) → (expired ≡ true → holds left.notes Expired ≡ true)
+        → (if expired then ticked (holds left.notes Expired) else Ready) ≡ Ready
+    by true has = ap ticked (has refl)
+    by false has = refl
+
 -- ---- what a wait came to
 
 -- the unit came with notes, which are put back
 pub puts_back : (caller : Caller) (start now : Standing) (process : Process) (set : NoteSet)
-    (left : Left) → left.granted ≡ true → left.notes ≡ set
+    (left : Left) → caller.deadline ≡ None → left.cancelled ≡ false → left.granted ≡ true
+    → left.notes ≡ set
     → process ≡ steps.notes now.process caller.pid set → Calls caller start now (HasLeft caller left)
     → Calls caller start (record now { process = process }) (Acquires caller (Ok sema.Acquired))
-puts_back caller start now process set left granted notes noted calls =
+puts_back caller start now process set left untimed cancelled granted notes noted calls =
     let had = calls.promise in
     record {
       deeds = Posts caller.pid set ∷ calls.deeds;
@@ -76,6 +112,8 @@ puts_back caller start now process set left granted notes noted calls =
         units = had.units ∙ ap granted_units granted;
         reason = tt;
         own = (refl, had.own);
+        turn = ap (λ t. is_whole (next (is_timed caller.deadline) t (Posts caller.pid set)))
+            (had.turn ∙ owes_none caller left untimed cancelled);
         rests = had.rests;
         between = had.between;
         notes = inr (ap (λ l. set ∷ l) had.posts ∙ ap (λ s. s ∷ []) (sym (had.notes ∙ notes)));
@@ -97,7 +135,7 @@ asks_now caller start seat taken answer told served =
 
 -- it had its unit when it left, or leaves
 left_granted : (caller : Caller) (count : ℕ) (past : List Deed) → WaitsFor caller count past
-    → HasLeft caller (record { granted = true; notes = no_notes; expired = false; stop = None })
+    → HasLeft caller (record { granted = true; notes = no_notes; expired = false; stop = None; cancelled = false })
     (Asks (Collect caller.number) reply.Granted ∷ Rests count Ending.Well ∷ past)
 left_granted caller count past waits =
     record {
@@ -109,22 +147,24 @@ left_granted caller count past waits =
       posts = waits.posts;
       expired = waits.not_expired;
       why = λ e. cc;
+      turn = turn_after caller Told past (Rests count Ending.Well)
+          (Asks (Collect caller.number) reply.Granted) waits.turn;
     }
 
 pub leaves_with : (caller : Caller) (start now : Standing) → Calls caller start now (HasWaited caller None)
-    → Calls caller start now (HasLeft caller (record { granted = true; notes = no_notes; expired = false; stop = None }))
+    → Calls caller start now (HasLeft caller (record { granted = true; notes = no_notes; expired = false; stop = None; cancelled = false }))
 leaves_with caller start now calls =
     let had = calls.promise in
     record {
       deeds = calls.deeds;
       did = calls.did;
-      promise = subst (HasLeft caller (record { granted = true; notes = no_notes; expired = false; stop = None }))
+      promise = subst (HasLeft caller (record { granted = true; notes = no_notes; expired = false; stop = None; cancelled = false }))
           (sym had.deeds_are) (left_granted caller had.count had.past had.waited);
     }
 
 left_stopped : (caller : Caller) (count : ℕ) (past : List Deed) (how : Stop) (granted : Bool)
     → WaitsFor caller count past
-    → HasLeft caller (record { granted = granted; notes = stopped_notes (Some how); expired = false; stop = Some how })
+    → HasLeft caller (record { granted = granted; notes = stopped_notes (Some how); expired = false; stop = Some how; cancelled = false })
     (Asks (Leave caller.number) (leave_reply granted) ∷ Rests count (ending_of how) ∷ past)
 left_stopped caller count past stop.Refused true waits =
     record {
@@ -136,6 +176,8 @@ left_stopped caller count past stop.Refused true waits =
       posts = waits.posts;
       expired = waits.not_expired;
       why = λ e. inl tt;
+      turn = turn_after caller Told past (Rests count Ending.Double)
+          (Asks (Leave caller.number) reply.Granted) waits.turn;
     }
 left_stopped caller count past stop.Refused false waits =
     record {
@@ -147,6 +189,8 @@ left_stopped caller count past stop.Refused false waits =
       posts = waits.posts;
       expired = waits.not_expired;
       why = λ e. inl tt;
+      turn = turn_after caller Told past (Rests count Ending.Double)
+          (Asks (Leave caller.number) reply.Gone) waits.turn;
     }
 left_stopped caller count past (stop.Noted set) true waits =
     record {
@@ -158,6 +202,8 @@ left_stopped caller count past (stop.Noted set) true waits =
       posts = waits.posts;
       expired = waits.not_expired;
       why = λ e. inl tt;
+      turn = turn_after caller Told past (Rests count (Ending.Noted set))
+          (Asks (Leave caller.number) reply.Granted) waits.turn;
     }
 left_stopped caller count past (stop.Noted set) false waits =
     record {
@@ -169,20 +215,22 @@ left_stopped caller count past (stop.Noted set) false waits =
       posts = waits.posts;
       expired = waits.not_expired;
       why = λ e. inl tt;
+      turn = turn_after caller Told past (Rests count (Ending.Noted set))
+          (Asks (Leave caller.number) reply.Gone) waits.turn;
     }
 
 pub leaves_so : (caller : Caller) (start now : Standing) (seat : SemaView) (how : Stop) (granted : Bool)
     → Serves (record { by = caller.number; request = Leave caller.number; reply = leave_reply granted }) now.seat seat
     → Calls caller start now (HasWaited caller (Some how))
     → Calls caller start (record now { seat = seat })
-    (HasLeft caller (record { granted = granted; notes = stopped_notes (Some how); expired = false; stop = Some how }))
+    (HasLeft caller (record { granted = granted; notes = stopped_notes (Some how); expired = false; stop = Some how; cancelled = false }))
 leaves_so caller start now seat how granted served calls =
     let had = calls.promise in
     record {
       deeds = Asks (Leave caller.number) (leave_reply granted) ∷ calls.deeds;
       did = then_asks caller start now seat calls.deeds (Leave caller.number) (leave_reply granted) calls.did served;
       promise = subst
-          (λ deeds. HasLeft caller (record { granted = granted; notes = stopped_notes (Some how); expired = false; stop = Some how })
+          (λ deeds. HasLeft caller (record { granted = granted; notes = stopped_notes (Some how); expired = false; stop = Some how; cancelled = false })
           (Asks (Leave caller.number) (leave_reply granted) ∷ deeds))
           (sym had.deeds_are) (left_stopped caller had.count had.past how granted had.waited);
     }

@@ -19,7 +19,7 @@ use Rattle.semaphore.specs.Deeds.{SemaView, TimerView}
 use Rattle.semaphore.specs.Seats.{is_waiting}
 use Rattle.semaphore.specs.SemaHistory.{SemaEntry, sema_meaning}
 use Rattle.semaphore.specs.TimerHistory.{TimerEntry, timer_meaning, has_timer}
-use Rattle.semaphore.specs.Units.{SemaState, opening, is_idle, stage_of}
+use Rattle.semaphore.specs.Units.{SemaState, opening}
 use Rattle.semaphore.proofs.OwnSemaLemmas.{own_stage}
 use Rattle.semaphore.proofs.OwnTimerLemmas.{own_timer}
 use Rattle.semaphore.proofs.SemaLawLemmas.{history_keeps}

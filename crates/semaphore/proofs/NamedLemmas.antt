@@ -1,6 +1,6 @@
 -- What each call keeps of who is to be named: whoever is not was named with its latest count.
-use Rattle.std.proofs.Common.{◌≡◌, ◌≢◌, ◌⊎◌, inl, inr, ℕ, zero, suc, ◌+◌, ◌-◌, ◌<◌, ◌≤◌, ◌==◌, ◌||◌, eqb, Bool, true, false, if◌then◌else◌, List, [], ◌∷◌, ◌++◌, length, drop, replicate, get_or, set, Some, refl, sym, ap, ◌∙◌, subst, arith}
-use Rattle.std.proofs.lemmas.Bool.Decides.{nat_tests, eqb_tells}
+use Rattle.std.proofs.Common.{◌≡◌, ◌≢◌, ◌⊎◌, inl, inr, ℕ, zero, suc, ◌+◌, ◌<◌, ◌≤◌, ◌||◌, eqb, Bool, true, false, if◌then◌else◌, List, [], ◌∷◌, ◌++◌, length, drop, get_or, set, Some, refl, sym, ap, ◌∙◌, subst, arith}
+use Rattle.std.proofs.lemmas.Bool.Decides.{eqb_tells}
 use Rattle.std.proofs.lemmas.List.{get_or-set_other}
 use Rattle.std.proofs.Math.ListN.{length-set}
 use Rattle.histories.specs.History.{state_after, IsLegal}
@@ -14,7 +14,7 @@ use Rattle.semaphore.specs.SeatLine.{stands_in, with_seat, first_of}
 use Rattle.semaphore.specs.Units.{SemaState, IsSound, opening, grants_of, granted, passed, answer_to, answer_next, sema_after}
 use Rattle.semaphore.specs.SemaHistory.{SemaEntry, sema_meaning, named_by, last_named}
 use Rattle.semaphore.proofs.Cases.{same_or_not}
-use Rattle.semaphore.proofs.LineLemmas.{head_false, joined_same, joined_other, length_without}
+use Rattle.semaphore.proofs.LineLemmas.{joined_same, joined_other, length_without}
 use Rattle.semaphore.proofs.SemaLemmas.{sound_granted, first_waiter, passed_one, passed_all}
 use Rattle.semaphore.proofs.SemaLawLemmas.{released_of, count_is, history_keeps}
 

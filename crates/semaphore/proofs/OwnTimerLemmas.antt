@@ -1,5 +1,5 @@
 -- What a seat's own calls tell of its timer, and which tick took it.
-use Rattle.std.proofs.Common.{◌≡◌, ◌≢◌, ◌⊎◌, inl, inr, ℕ, zero, suc, ◌+◌, ◌<◌, ◌≤◌, eqb, nat_le, Bool, true, false, not, if◌then◌else◌, List, [], ◌∷◌, ◌++◌, length, replicate, get_or, set, Option, None, Some, IfSome, refl, sym, ap, ◌∙◌, subst, arith}
+use Rattle.std.proofs.Common.{◌≡◌, ◌≢◌, ◌⊎◌, inl, inr, ℕ, zero, suc, ◌<◌, ◌≤◌, eqb, nat_le, Bool, true, false, not, if◌then◌else◌, List, [], ◌∷◌, ◌++◌, length, replicate, get_or, set, Option, None, Some, IfSome, refl, sym, ap, ◌∙◌, subst, arith}
 use Rattle.std.proofs.lemmas.Bool.Decides.{nat_tests, eqb_tells}
 use Rattle.std.proofs.lemmas.List.{get_or-set_same, get_or-set_other}
 use Rattle.std.proofs.Math.ListN.{length-set}
@@ -18,7 +18,7 @@ use Rattle.semaphore.specs.Timers.{timer_of, dues_from, if_come, first_due, may_
 use Rattle.semaphore.specs.TimerHistory.{TimerEntry, timer_meaning, sets_after, has_timer, AreByOthersThan, WasTaken}
 use Rattle.semaphore.specs.TimerLaws.{IsTaken}
 use Rattle.semaphore.proofs.Cases.{same_or_not}
-use Rattle.semaphore.proofs.TimerLemmas.{first_of_all, earliest_is_set, IsSet}
+use Rattle.semaphore.proofs.TimerLemmas.{first_of_all, earliest_is_set}
 
 -- so many timers, and whether this one may be set
 pub record Keeps (s : List Timer) (procs number : ℕ) (free : Bool) : Type 0 where

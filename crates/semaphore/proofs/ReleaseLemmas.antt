@@ -1,10 +1,9 @@
 -- What each step of a release and of a tick adds to what the call did.
-use Rattle.std.proofs.Common.{◌≡◌, ◌≢◌, ℕ, ◌+◌, nat_lt, IsTrue, Bool, true, false, if◌then◌else◌, List, [], ◌∷◌, length, Result, Ok, Err, refl, sym, ap, ◌∙◌, subst, arith}
-use Rattle.std.specs.List.{AllByRecursion, filter}
+use Rattle.std.proofs.Common.{◌≡◌, ℕ, ◌+◌, ◌≤◌, nat_lt, IsTrue, Bool, true, false, if◌then◌else◌, List, [], ◌∷◌, length, Ok, Err, refl, sym, ap, ◌∙◌, subst, arith}
+use Rattle.std.specs.List.{filter}
 use Rattle.sync_base.specs.declared.fault.Fault.TheVariants as fault
 use Rattle.sync_base.specs.declared.ids.Pid.{Pid}
 use Rattle.sync_base.specs.declared.note.Note.TheVariants.{Expired}
-use Rattle.sync_base.specs.declared.note.NoteSet.{NoteSet}
 use Rattle.sync_base.specs.NoteSet.{only}
 use Rattle.rendez_words.specs.declared.states.Done.{Done}
 use Rattle.rendez_words.specs.Process.{Process}
@@ -13,14 +12,12 @@ use Rattle.sleep_wakeup.specs.Calls.{Wakes}
 use Rattle.kernel_lock.specs.Calls.{Serves}
 use Rattle.semaphore.specs.declared.sema_object.SemaCall.TheVariants.{Release, NextWake}
 use Rattle.semaphore.specs.declared.sema_object.SemaReply.TheVariants as reply
-use Rattle.semaphore.specs.declared.timer_object.TimerCall.{TimerCall}
 use Rattle.semaphore.specs.declared.timer_object.TimerCall.TheVariants.{Expire}
-use Rattle.semaphore.specs.declared.timer_object.TimerReply.{TimerReply}
 use Rattle.semaphore.specs.declared.timer_object.TimerReply.TheVariants as told
 use Rattle.semaphore.specs.Deeds.{Deed, Caller, Standing, SemaView, TimerView, Did, Calls}
 use Rattle.semaphore.specs.Deeds.Deed.{Asks, Times, Rests, Rouses, Posts, Drains}
-use Rattle.semaphore.specs.Releasing.{IsWaking, HasWoken, Released, Releases, releases_in, wakeups_in, wakeups_owed}
-use Rattle.semaphore.specs.Ticking.{Ticks, IsTicking, GoesOn, FindsDue, ended_in, posted_to}
+use Rattle.semaphore.specs.Releasing.{IsWaking, HasWoken, Released, Releases}
+use Rattle.semaphore.specs.Ticking.{Ticks, IsTicking, GoesOn, FindsDue, ended_in}
 use Rattle.semaphore.proofs.AcquireLemmas.{then_asks, then_posts}
 use Rattle.semaphore.proofs.WaitLemmas.{then_times}
 
@@ -169,11 +166,11 @@ ticks_other caller start here timer kernel now count pid served above calls =
 
 -- nothing is due
 pub ticks_to_none : (caller : Caller) (start here : Standing) (timer : TimerView)
-    (procs kernel now count : ℕ)
+    (procs kernel now count : ℕ) → count ≤ procs
     → Serves (record { by = caller.timer; request = Expire now; reply = told.NoneDue }) here.timer timer
     → Calls caller start here (IsTicking kernel now count)
     → Calls caller start (record here { timer = timer }) (Ticks procs kernel now count)
-ticks_to_none caller start here timer procs kernel now count served calls =
+ticks_to_none caller start here timer procs kernel now count most served calls =
     let had = calls.promise in
     record {
       deeds = Times (Expire now) told.NoneDue ∷ calls.deeds;
@@ -181,6 +178,7 @@ ticks_to_none caller start here timer procs kernel now count served calls =
       promise = record {
         own = (refl, had.own);
         count_is = had.count_is;
+        at_most = most;
         until = had.due;
         told = had.told;
         in_turn = had.in_turn;
@@ -215,6 +213,7 @@ ticks_all caller start here procs kernel now calls =
       promise = record {
         own = had.own;
         count_is = had.count_is;
+        at_most = omega arith;
         until = goes_on_to procs calls.deeds had.due (sym had.count_is);
         told = had.told;
         in_turn = had.in_turn;

@@ -1,16 +1,15 @@
 -- What a request of a seat may be answered: all other answers are left out of the typed ones.
-use Rattle.std.proofs.Common.{◌≡◌, ◌≢◌, ◌⊎◌, inl, inr, ℕ, ◌+◌, ◌<◌, ◌≤◌, ◌==◌, nat_lt, Bool, true, false, not, if◌then◌else◌, List, [], ◌∷◌, length, refl, sym, ap, ◌∙◌, subst, arith}
+use Rattle.std.proofs.Common.{◌≡◌, ◌≢◌, ◌⊎◌, inl, inr, ℕ, ◌+◌, ◌<◌, ◌≤◌, ◌==◌, nat_lt, Bool, true, false, if◌then◌else◌, List, [], ◌∷◌, length, refl, ap, ◌∙◌, arith}
 use Rattle.std.proofs.lemmas.Bool.Decides.{nat_tests}
 use Rattle.semaphore.specs.declared.limits.TheConstants.{MAX_VALUE, LAST_GRANT}
 use Rattle.semaphore.specs.declared.sema_object.Stage.{Stage}
 use Rattle.semaphore.specs.declared.sema_object.Stage.TheVariants.{Idle, Waiting, Granted}
-use Rattle.semaphore.specs.declared.sema_object.SemaCall.{SemaCall}
 use Rattle.semaphore.specs.declared.sema_object.SemaCall.TheVariants.{Acquire, AcquireNow, Release, NextWake, Collect, Leave}
 use Rattle.semaphore.specs.declared.sema_object.SemaReply.{SemaReply}
 use Rattle.semaphore.specs.declared.sema_object.SemaReply.TheVariants as reply
 use Rattle.semaphore.specs.Asking.{IsTold}
 use Rattle.semaphore.specs.SeatLine.{AreSeats}
-use Rattle.semaphore.specs.Units.{SemaState, is_seat, stage_of, grants_of, is_idle, may_acquire, answer_acquire, answer_release, answer_next, answer_collect, answer_leave}
+use Rattle.semaphore.specs.Units.{SemaState, is_seat, stage_of, grants_of, is_idle, may_acquire, answer_acquire, answer_next, answer_collect, answer_leave}
 
 if_true : (b : Bool) (x y : SemaReply) → b ≡ true → (if b then x else y) ≡ x
 if_true true x y is = refl

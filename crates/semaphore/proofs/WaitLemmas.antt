@@ -1,9 +1,7 @@
 -- Sleeps of a wait, and what a wait in time does beyond them.
-use Rattle.std.proofs.Common.{◌≡◌, ◌≢◌, ◌⊎◌, inl, inr, ℕ, ◌+◌, ◌<◌, ◌≤◌, Bool, true, false, ◌||◌, ◌&&◌, not, eqb, List, [], ◌∷◌, ◌++◌, length, replicate, Option, Some, None, Result, Ok, Err, IfErr, OnOk, refl, sym, ap, ◌∙◌, subst, arith}
+use Rattle.std.proofs.Common.{◌≡◌, ◌≢◌, ◌⊎◌, inl, inr, ℕ, ◌+◌, ◌<◌, ◌≤◌, Bool, true, false, ◌||◌, ◌&&◌, not, eqb, if◌then◌else◌, List, [], ◌∷◌, ◌++◌, length, replicate, Option, Some, None, Ok, Err, refl, sym, ap, ◌∙◌, subst, arith}
 use Rattle.std.proofs.lemmas.Bool.Decides.{eqb_tells}
-use Rattle.std.specs.List.{AllByRecursion}
-use Rattle.histories.specs.declared.account.Share.{Share}
-use Rattle.histories.specs.Account.{AreByOthers, KnowsHistory, has_number}
+use Rattle.histories.specs.Account.{AreByOthers, KnowsHistory}
 use Rattle.histories.specs.History.{state_after, IsLegal}
 use Rattle.kernel_lock.specs.Calls.{Serves}
 use Rattle.kernel_lock.specs.Definition.{server}
@@ -19,16 +17,13 @@ use Rattle.sleep_core.specs.declared.answer.Answer.TheVariants as answer
 use Rattle.rendez_words.specs.declared.words.Words.{Words}
 use Rattle.rendez_words.specs.Process.{Process}
 use Rattle.rendez_words.specs.Steps as steps
-use Rattle.rendez_words.specs.Words.{rendez_of, WhyNotPosted}
-use Rattle.sleep_wakeup.specs.Calls.{Sleeps, WhyNotSlept}
-use Rattle.semaphore.specs.declared.acquiring.Semacquired.{Semacquired}
+use Rattle.rendez_words.specs.Words.{rendez_of}
+use Rattle.sleep_wakeup.specs.Calls.{WhyNotSlept}
 use Rattle.semaphore.specs.declared.acquiring.Semacquired.TheVariants as sema
 use Rattle.semaphore.specs.declared.acquiring.Stop.{Stop}
 use Rattle.semaphore.specs.declared.acquiring.Stop.TheVariants as stop
 use Rattle.semaphore.specs.declared.limits.TheConstants.{LAST_GRANT}
-use Rattle.semaphore.specs.declared.sema_object.SemaCall.{SemaCall}
 use Rattle.semaphore.specs.declared.sema_object.SemaCall.TheVariants.{Acquire, Collect}
-use Rattle.semaphore.specs.declared.sema_object.SemaReply.{SemaReply}
 use Rattle.semaphore.specs.declared.sema_object.SemaReply.TheVariants as reply
 use Rattle.semaphore.specs.declared.timer_object.Timer.{Timer}
 use Rattle.semaphore.specs.declared.timer_object.Timer.TheVariants.{Unset}
@@ -36,12 +31,14 @@ use Rattle.semaphore.specs.declared.timer_object.TimerCall.{TimerCall}
 use Rattle.semaphore.specs.declared.timer_object.TimerCall.TheVariants.{Add, Cancel}
 use Rattle.semaphore.specs.declared.timer_object.TimerReply.{TimerReply}
 use Rattle.semaphore.specs.declared.timer_object.TimerReply.TheVariants as told
-use Rattle.semaphore.specs.Acquiring.{IsOfAcquire, TimesIts, RestsInTurn, SleepsBetween, HasEnded, IsDouble, IsNoted, Acquires, AcquiresInTime, TimersSeen, TimedOut, MayRest, IsPutBack, without_expired, last_wait, units_in, notes_taken, posts_in, was_expired}
-use Rattle.semaphore.specs.Asking.{WaitsFor, HasWaited, HasLeft, HasKept, HasStopped, Left, ending_of, rest_ending, cancel_reply, granted_units, stopped_notes}
+use Rattle.semaphore.specs.Acquiring.{TimesIts, Acquires, AcquiresInTime, TimersSeen, MayRest, IsPutBack, without_expired, notes_taken, posts_in, was_expired}
+use Rattle.semaphore.specs.Asking.{WaitsFor, HasWaited, HasLeft, HasKept, HasStopped, Left, turn_left, ending_of, cancel_reply, granted_units}
 use Rattle.semaphore.specs.Deeds.{Deed, Ending, Caller, Standing, SemaView, TimerView, Slept, Steps, Chain, Did, Calls}
 use Rattle.semaphore.specs.Deeds.Deed.{Asks, Times, Rests, Posts, Drains}
 use Rattle.semaphore.specs.TimerHistory.{TimerEntry, timer_meaning, WasTaken, AreByOthersThan}
-use Rattle.semaphore.proofs.AcquireLemmas.{then_asks, then_rests, then_posts}
+use Rattle.semaphore.specs.Turns.{Turn, turn_of, next, is_whole, is_timed, told_first, left_line, ticked}
+use Rattle.semaphore.specs.Turns.Turn.{Told, Awaiting, Ready}
+use Rattle.semaphore.proofs.AcquireLemmas.{then_asks, then_rests, then_posts, turn_after, owes_no_tick}
 use Rattle.semaphore.proofs.OwnTimerLemmas.{own_timer, was_taken}
 
 -- ---- one sleep
@@ -83,6 +80,8 @@ waits_still caller count next deeds waits =
       notes = waits.notes;
       posts = waits.posts;
       not_expired = waits.not_expired;
+      turn = turn_after caller Told deeds (Rests count Ending.Well)
+          (Asks (Collect caller.number) (reply.Wait next)) waits.turn;
     }
 
 -- it slept, and was told to wait on
@@ -141,6 +140,7 @@ acquires_at_once caller start seat served =
         units = refl;
         reason = tt;
         own = (refl, tt);
+        turn = refl;
         rests = tt;
         between = tt;
         notes = inl (refl, refl);
@@ -159,6 +159,7 @@ is_worn caller start seat served =
         units = refl;
         reason = refl;
         own = (refl, tt);
+        turn = refl;
         rests = tt;
         between = tt;
         notes = inl (refl, refl);
@@ -172,9 +173,9 @@ did_ask caller start seat count served =
     then_asks caller start start seat [] (Acquire caller.number) (reply.Wait count)
     (record { process = refl; seat = refl; timer = refl }) served
 
-pub begins : (caller : Caller) (count : ℕ)
+pub begins : (caller : Caller) (count : ℕ) → caller.deadline ≡ None
     → WaitsFor caller count (Asks (Acquire caller.number) (reply.Wait count) ∷ [])
-begins caller count =
+begins caller count untimed =
     record {
       own = (refl, tt);
       rests = tt;
@@ -184,6 +185,7 @@ begins caller count =
       notes = refl;
       posts = refl;
       not_expired = refl;
+      turn = ap (λ d. told_first (is_timed d)) untimed;
     }
 
 -- ---- in time
@@ -230,6 +232,9 @@ waits_timed caller count moment has =
       notes = refl;
       posts = refl;
       not_expired = refl;
+      turn = ap
+          (λ d. next (is_timed d) (told_first (is_timed d))
+          (Times (Add caller.timer caller.pid moment) told.Added)) has;
     }
 
 -- it cancelled its timer
@@ -244,12 +249,28 @@ told_expiry : (expired : Bool) (deeds : List Deed) (caller : Caller) → was_exp
 told_expiry true deeds caller before = refl
 told_expiry false deeds caller before = before
 
+turn_cancelled : (caller : Caller) (turn : Turn) (moment : ℕ) (expired came : Bool)
+    → caller.deadline ≡ Some moment → turn ≡ left_line (is_timed caller.deadline) came
+    → next (is_timed caller.deadline) turn (Times (Cancel caller.timer) (cancel_reply expired))
+    ≡ (if expired then ticked came else Ready)
+turn_cancelled caller turn moment expired came has is =
+    ap (λ t. next (is_timed caller.deadline) t (Times (Cancel caller.timer) (cancel_reply expired)))
+    is
+    ∙ (ap
+    (λ d. next (is_timed d) (left_line (is_timed d) came)
+    (Times (Cancel caller.timer) (cancel_reply expired))) has ∙ by expired)
+  where
+    by : (b : Bool) → next true (Turn.Out came) (Times (Cancel caller.timer) (cancel_reply b))
+        ≡ (if b then ticked came else Ready)
+    by true = refl
+    by false = refl
+
 pub cancels : (caller : Caller) (start now : Standing) (timer : TimerView) (moment : ℕ)
     (expired granted : Bool) (notes : NoteSet) (how : Option Stop) → caller.deadline ≡ Some moment
     → Serves (record { by = caller.timer; request = Cancel caller.timer; reply = cancel_reply expired }) now.timer timer
-    → Calls caller start now (HasLeft caller (record { granted = granted; notes = notes; expired = false; stop = how }))
+    → Calls caller start now (HasLeft caller (record { granted = granted; notes = notes; expired = false; stop = how; cancelled = false }))
     → Calls caller start (record now { timer = timer })
-    (HasLeft caller (record { granted = granted; notes = notes; expired = expired; stop = how }))
+    (HasLeft caller (record { granted = granted; notes = notes; expired = expired; stop = how; cancelled = true }))
 cancels caller start now timer moment expired granted notes how has served calls =
     let had = calls.promise in
     record {
@@ -264,6 +285,8 @@ cancels caller start now timer moment expired granted notes how has served calls
         posts = had.posts;
         expired = told_expiry expired calls.deeds caller had.expired;
         why = λ e. stopped_timed how calls.deeds (Cancel caller.timer) (cancel_reply expired) (had.why e);
+        turn = turn_cancelled caller (turn_of caller calls.deeds) moment expired
+            (holds notes Expired) has had.turn;
       };
     }
 
@@ -284,6 +307,29 @@ stopped_drains (Some (stop.Noted other)) deeds set stopped = stopped
 pub record StillAwaits (left : Left) : Type 0 where
   pub expired : left.expired ≡ true
   pub to_come : holds left.notes Expired ≡ false
+  pub cancelled : left.cancelled ≡ true
+
+-- a tick took its timer, so its turn is as its note has come or not
+turn_ticked : (caller : Caller) (left : Left) (notes : NoteSet) → StillAwaits left
+    → turn_left caller (record left { notes = notes }) ≡ ticked (holds notes Expired)
+turn_ticked caller left notes still =
+    ap
+    (λ b. if b then (if left.expired then ticked (holds notes Expired) else Ready)
+    else left_line (is_timed caller.deadline) (holds notes Expired)) still.cancelled
+    ∙ ap (λ b. if b then ticked (holds notes Expired) else Ready) still.expired
+
+turn_awaits : (caller : Caller) (left : Left) (deeds : List Deed) → StillAwaits left
+    → HasLeft caller left deeds → turn_of caller deeds ≡ Awaiting
+turn_awaits caller left deeds still had =
+    had.turn ∙ (turn_ticked caller left left.notes still ∙ ap ticked still.to_come)
+
+-- the notes that came now tell, since it had not come before
+turn_came : (caller : Caller) (left : Left) (set : NoteSet) → StillAwaits left
+    → ticked (holds set Expired) ≡ turn_left caller (record left { notes = joined left.notes set })
+turn_came caller left set still =
+    sym
+    (turn_ticked caller left (joined left.notes set) still
+    ∙ ap (λ b. ticked (b || holds set Expired)) still.to_come)
 
 awaits : (caller : Caller) (left : Left) (deeds : List Deed) → StillAwaits left
     → HasLeft caller left deeds → MayRest deeds LAST_GRANT
@@ -314,6 +360,9 @@ awaits_well caller start now process left still slept calls =
         posts = had.posts;
         expired = had.expired;
         why = λ e. stopped_rests left.stop calls.deeds LAST_GRANT Ending.Well (had.why e);
+        turn = ap (λ t. next (is_timed caller.deadline) t (Rests LAST_GRANT Ending.Well))
+            (turn_awaits caller left calls.deeds still had)
+            ∙ (sym (turn_awaits caller left calls.deeds still had) ∙ had.turn);
       };
     }
 
@@ -337,6 +386,9 @@ awaits_noted caller start now process left set still slept calls =
         posts = had.posts;
         expired = had.expired;
         why = λ e. stopped_rests left.stop calls.deeds LAST_GRANT (Ending.Noted set) (had.why e);
+        turn = ap (λ t. next (is_timed caller.deadline) t (Rests LAST_GRANT (Ending.Noted set)))
+            (turn_awaits caller left calls.deeds still had)
+            ∙ turn_came caller left set still;
       };
     }
 
@@ -363,6 +415,9 @@ awaits_refused caller start now between process left set still slept drained cal
         expired = had.expired;
         why = λ e. stopped_drains left.stop (Rests LAST_GRANT Ending.Double ∷ calls.deeds) set
             (stopped_rests left.stop calls.deeds LAST_GRANT Ending.Double (had.why e));
+        turn = turn_after caller Awaiting calls.deeds (Rests LAST_GRANT Ending.Double) (Drains set)
+            (turn_awaits caller left calls.deeds still had)
+            ∙ turn_came caller left set still;
       };
     }
 
@@ -394,10 +449,11 @@ others_are set notes kinds =
     }
 
 pub keeps_none : (caller : Caller) (start now : Standing) (process : Process) (left : Left) (set : NoteSet)
-    → set ≡ no_notes → set ≡ without_expired left.notes → process ≡ now.process
+    → set ≡ no_notes → set ≡ without_expired left.notes → turn_left caller left ≡ Ready
+    → process ≡ now.process
     → Calls caller start now (HasLeft caller left)
     → Calls caller start (record now { process = process }) (HasKept caller left)
-keeps_none caller start now process left set none set_is same calls =
+keeps_none caller start now process left set none set_is ready same calls =
     let had = calls.promise in
     record {
       deeds = calls.deeds;
@@ -411,6 +467,7 @@ keeps_none caller start now process left set none set_is same calls =
         posts = inl (sym set_is ∙ none, had.posts);
         expired = had.expired;
         why = had.why;
+        turn = ap is_whole (had.turn ∙ ready);
       };
     }
 
@@ -421,10 +478,10 @@ stopped_posts (Some stop.Refused) deeds pid set stopped = stopped
 stopped_posts (Some (stop.Noted other)) deeds pid set stopped = stopped
 
 pub keeps_some : (caller : Caller) (start now : Standing) (process : Process) (left : Left)
-    (set : NoteSet) → set ≡ without_expired left.notes
+    (set : NoteSet) → set ≡ without_expired left.notes → turn_left caller left ≡ Ready
     → process ≡ steps.notes now.process caller.pid set → Calls caller start now (HasLeft caller left)
     → Calls caller start (record now { process = process }) (HasKept caller left)
-keeps_some caller start now process left set set_is noted calls =
+keeps_some caller start now process left set set_is ready noted calls =
     let had = calls.promise in
     record {
       deeds = Posts caller.pid set ∷ calls.deeds;
@@ -438,6 +495,8 @@ keeps_some caller start now process left set set_is noted calls =
         posts = inr (ap (λ l. set ∷ l) had.posts ∙ ap (λ s. s ∷ []) set_is);
         expired = had.expired;
         why = λ e. stopped_posts left.stop calls.deeds caller.pid set (had.why e);
+        turn = ap (λ t. is_whole (next (is_timed caller.deadline) t (Posts caller.pid set)))
+            (had.turn ∙ ready);
       };
     }
 
@@ -462,6 +521,7 @@ acquired_in_time caller start now seen moment left granted came calls =
         units = had.units ∙ ap granted_units granted;
         reason = tt;
         own = had.own;
+        turn = had.turn;
         rests = had.rests;
         between = had.between;
         notes = subst (λ s. IsPutBack (without_expired s) (posts_in calls.deeds)) (sym had.notes) had.posts;
@@ -484,6 +544,7 @@ refused_in_time caller start now seen moment left granted how came calls =
         units = had.units ∙ ap granted_units granted;
         reason = subst (λ s. HasStopped s calls.deeds) how (had.why granted);
         own = had.own;
+        turn = had.turn;
         rests = had.rests;
         between = had.between;
         notes = subst (λ s. IsPutBack (without_expired s) (posts_in calls.deeds)) (sym had.notes) had.posts;
@@ -493,12 +554,13 @@ refused_in_time caller start now seen moment left granted how came calls =
 
 -- without one, by a tick
 pub timed_out : (caller : Caller) (start now : Standing) (seen : TimersSeen) (moment : ℕ) (left : Left)
-    → left.granted ≡ false → left.expired ≡ true → without_expired left.notes ≡ no_notes
+    → left.cancelled ≡ true → left.granted ≡ false → left.expired ≡ true
+    → without_expired left.notes ≡ no_notes
     → (left.expired ≡ true → holds left.notes Expired ≡ true)
     → WasTaken seen.opening caller.timer moment seen.history
     → Calls caller start now (HasLeft caller left)
     → Calls caller start now (AcquiresInTime caller seen moment (Err fault.TimedOut))
-timed_out caller start now seen moment left granted expired alone came taken calls =
+timed_out caller start now seen moment left cancelled granted expired alone came taken calls =
     let had = calls.promise in
     record {
       deeds = calls.deeds;
@@ -511,6 +573,7 @@ timed_out caller start now seen moment left granted expired alone came taken cal
           alone = ap without_expired had.notes ∙ alone;
         };
         own = had.own;
+        turn = ap is_whole (had.turn ∙ owes_no_tick caller left cancelled came);
         rests = had.rests;
         between = had.between;
         notes = inl (ap without_expired had.notes ∙ alone, had.posts);
@@ -520,19 +583,24 @@ timed_out caller start now seen moment left granted expired alone came taken cal
 
 -- without one, by notes
 pub interrupted_in_time : (caller : Caller) (start now : Standing) (seen : TimersSeen) (moment : ℕ)
-    (left : Left) (set its : NoteSet) → left.granted ≡ false → left.stop ≡ Some (stop.Noted its)
-    → set ≡ without_expired left.notes → (left.expired ≡ true → holds left.notes Expired ≡ true)
+    (left : Left) (set its : NoteSet) → left.cancelled ≡ true → left.granted ≡ false
+    → left.stop ≡ Some (stop.Noted its) → set ≡ without_expired left.notes
+    → (left.expired ≡ true → set ≢ no_notes) → (left.expired ≡ true → holds left.notes Expired ≡ true)
     → Calls caller start now (HasLeft caller left)
     → Calls caller start now (AcquiresInTime caller seen moment (Err (fault.Interrupted set)))
-interrupted_in_time caller start now seen moment left set its granted how set_is came calls =
+interrupted_in_time caller start now seen moment left set its cancelled granted how set_is some came calls =
     let had = calls.promise in
     record {
       deeds = calls.deeds;
       did = calls.did;
       promise = record {
         units = had.units ∙ ap granted_units granted;
-        reason = subst (λ s. HasStopped s calls.deeds) how (had.why granted);
+        reason = record {
+          ended = subst (λ s. HasStopped s calls.deeds) how (had.why granted);
+          others = λ is. some (sym had.expired ∙ is);
+        };
         own = had.own;
+        turn = ap is_whole (had.turn ∙ owes_no_tick caller left cancelled came);
         rests = had.rests;
         between = had.between;
         notes = (set_is ∙ sym (ap without_expired had.notes), had.posts);
@@ -552,6 +620,7 @@ in_time_at_once caller start seat seen moment served =
         units = refl;
         reason = tt;
         own = (refl, tt);
+        turn = refl;
         rests = tt;
         between = tt;
         notes = inl (refl, refl);
@@ -571,6 +640,7 @@ in_time_worn caller start seat seen moment served =
         units = refl;
         reason = refl;
         own = (refl, tt);
+        turn = refl;
         rests = tt;
         between = tt;
         notes = inl (refl, refl);

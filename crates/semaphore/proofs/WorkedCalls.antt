@@ -1,36 +1,50 @@
 -- Calls computed from the definitions alone: each row is used, and each promise is broken by an
 -- example that breaks that row alone.
-use Rattle.std.proofs.Common.{◌≡◌, ◌⊎◌, inl, inr, ℕ, true, false, List, [], ◌∷◌, Option, Some, None, Result, Ok, Err, refl, ap, arith}
+use Rattle.std.proofs.Common.{◌≡◌, inl, inr, ℕ, true, false, List, [], ◌∷◌, map, Some, Ok, Err, refl, ap, arith}
 use Rattle.std.specs.List.{AllByRecursion}
-use Rattle.histories.specs.History.{state_after, IsLegal}
-use Rattle.kernel_lock.specs.declared.view.Served.{Served}
+use Rattle.histories.specs.History.{IsLegal}
 use Rattle.sync_base.specs.declared.fault.Fault.TheVariants as fault
 use Rattle.sync_base.specs.declared.ids.Pid.{Pid}
 use Rattle.sync_base.specs.declared.note.Note.TheVariants.{Interrupt, Alarm, Expired}
-use Rattle.sync_base.specs.declared.note.NoteSet.{NoteSet}
 use Rattle.sync_base.specs.NoteSet.{no_notes, joined, only, holds}
 use Rattle.semaphore.specs.declared.acquiring.Semacquired.TheVariants as sema
 use Rattle.semaphore.specs.declared.limits.TheConstants.{LAST_GRANT}
-use Rattle.semaphore.specs.declared.sema_object.SemaCall.TheVariants.{Acquire, AcquireNow, Release, NextWake, Collect, Leave}
+use Rattle.semaphore.specs.declared.sema_object.SemaCall.TheVariants.{Acquire, Release, NextWake, Collect, Leave}
 use Rattle.semaphore.specs.declared.sema_object.SemaReply.TheVariants as reply
 use Rattle.semaphore.specs.declared.timer_object.Timer.{Timer}
 use Rattle.semaphore.specs.declared.timer_object.Timer.TheVariants.{Unset}
 use Rattle.semaphore.specs.declared.timer_object.TimerCall.TheVariants.{Add, Expire, Cancel}
 use Rattle.semaphore.specs.declared.timer_object.TimerReply.TheVariants as told
-use Rattle.semaphore.specs.Acquiring.{Acquires, AcquiresNow, AcquiresInTime, TimersSeen, TimesIts, IsOfAcquire, MayRest, RestsInTurn, SleepsBetween, KeepsNotes, IsPutBack, WhyWaited, units_in, units_of, notes_taken, posts_in, last_wait, was_expired, without_expired}
+use Rattle.semaphore.specs.Acquiring.{Acquires, AcquiresInTime, TimersSeen, IsOfAcquire, MayRest, RestsInTurn, SleepsBetween, IsPutBack}
 use Rattle.semaphore.specs.BrokenCalls as broken
 use Rattle.semaphore.specs.BrokenTimers as timers
 use Rattle.semaphore.specs.BrokenCalls.{waiter, timed_waiter, interrupt, pid, begun}
-use Rattle.semaphore.specs.Deeds.{Deed, Ending}
+use Rattle.semaphore.specs.Deeds.{Caller, Deed}
 use Rattle.semaphore.specs.Deeds.Deed.{Asks, Times, Rests, Rouses, Posts, Drains}
 use Rattle.semaphore.specs.Deeds.Ending.{Well, Noted, Double}
-use Rattle.semaphore.specs.Releasing.{Releases, Wakeup, AsksToTheLast, wakeups_in, wakeups_owed, releases_in}
-use Rattle.semaphore.specs.Ticking.{Ticks, GoesOn, IsOfTick, ended_in, posted_to}
+use Rattle.semaphore.specs.Releasing.{Releases, Wakeup, AsksToTheLast}
+use Rattle.semaphore.specs.Ticking.{Ticks}
 use Rattle.semaphore.specs.TimerHistory.{TimerEntry, timer_meaning, WasTaken, has_timer}
 use Rattle.semaphore.specs.Seats.{is_waiting}
+use Rattle.semaphore.specs.Turns.{turn_of, is_whole}
+use Rattle.semaphore.specs.Turns.Turn.{Fresh, Answered, Untimed, Told, Woken, Stopped, Out, Awaiting, Refused, Ready, Kept, Astray}
 use Rattle.semaphore.specs.Broken.{entry}
 
 -- ---- calls that keep their promises
+
+-- a call in time has set its timer; it was given its unit, or a tick ended its sleep; and a tick's
+-- note is to come
+abbrev timer_set : List Deed
+timer_set = Times (Add 0 (pid 5) 150) told.Added ∷ begun
+
+abbrev unit_in_time : List Deed
+unit_in_time = Asks (Collect 0) reply.Granted ∷ Rests 0 Well ∷ timer_set
+
+abbrev tick_in_time : List Deed
+tick_in_time = Asks (Leave 0) reply.Gone ∷ Rests 0 (Noted (only Expired)) ∷ timer_set
+
+abbrev awaited : List Deed
+awaited = Times (Cancel 0) told.Expired ∷ unit_in_time
 
 -- it slept twice, and then had its unit
 a_wait : Acquires waiter (Ok sema.Acquired)
@@ -40,6 +54,7 @@ a_wait =
       units = refl;
       reason = tt;
       own = (refl, (tt, (refl, (tt, (refl, tt)))));
+      turn = refl;
       rests = (inl refl, (inl refl, tt));
       between = (tt, (tt, tt));
       notes = inl (refl, refl);
@@ -53,6 +68,7 @@ a_unit_with_notes =
       units = refl;
       reason = tt;
       own = (refl, (refl, (tt, (refl, tt))));
+      turn = refl;
       rests = (inl refl, tt);
       between = (tt, tt);
       notes = inr refl;
@@ -66,6 +82,7 @@ an_interrupted_wait =
       units = refl;
       reason = inl tt;
       own = (refl, (tt, (refl, tt)));
+      turn = refl;
       rests = (inl refl, tt);
       between = (tt, tt);
       notes = (refl, refl);
@@ -77,6 +94,7 @@ a_refused_wait =
       units = refl;
       reason = inl tt;
       own = (refl, (tt, (refl, tt)));
+      turn = refl;
       rests = (inl refl, tt);
       between = (tt, tt);
       notes = inl (refl, refl);
@@ -132,6 +150,7 @@ a_timed_wait =
       units = refl;
       reason = tt;
       own = (refl, (tt, (tt, (refl, (refl, (tt, ((refl, refl, refl), (refl, tt))))))));
+      turn = refl;
       rests = (inr ((record { expired = refl; to_come = refl }), refl), (inl refl, tt));
       between = (tt, tt);
       notes = inr refl;
@@ -140,12 +159,13 @@ a_timed_wait =
 
 it_timed_out : AcquiresInTime timed_waiter (record { opening = Unset ∷ Unset ∷ []; history = ticked }) 150
     (Err fault.TimedOut)
-    (Times (Cancel 0) told.Expired ∷ Asks (Leave 0) reply.Gone ∷ Rests 0 (Noted (only Expired)) ∷ Times (Add 0 (pid 5) 150) told.Added ∷ begun)
+    broken.is_timed_out
 it_timed_out =
     record {
       units = refl;
       reason = record { taken = the_tick_took_it; told = refl; alone = refl };
       own = (refl, (refl, (tt, ((refl, refl, refl), (refl, tt)))));
+      turn = refl;
       rests = (inl refl, tt);
       between = (tt, tt);
       notes = inl (refl, refl);
@@ -171,6 +191,7 @@ a_tick =
     record {
       own = (refl, (refl, (refl, (refl, tt))));
       count_is = refl;
+      at_most = omega arith;
       until = tt;
       told = refl;
       in_turn = (refl, tt);
@@ -179,7 +200,14 @@ a_tick =
 -- no more than there are timers
 a_whole_tick : Ticks 1 6 150 1 (Posts (pid 5) (only Expired) ∷ Times (Expire 150) (told.Ended (pid 5)) ∷ [])
 a_whole_tick =
-    record { own = (refl, (refl, tt)); count_is = refl; until = (refl, tt); told = refl; in_turn = (refl, tt) }
+    record {
+      own = (refl, (refl, tt));
+      count_is = refl;
+      at_most = omega arith;
+      until = (refl, tt);
+      told = refl;
+      in_turn = (refl, tt);
+    }
 
 -- whether a seat waits, and has a timer, by its own calls
 own_calls_tell : (is_waiting (entry 0 (Acquire 0) (reply.Wait 0) ∷ []) ≡ true)
@@ -195,7 +223,106 @@ timers_tell : (has_timer (record { by = 0; request = Add 0 (pid 5) 150; reply = 
 unfolding ticked
 timers_tell = (refl, refl, refl)
 
+-- each turn, by the deed that leads there
+it_begins : (turn_of waiter (Asks (Acquire 0) reply.Acquired ∷ []) ≡ Answered)
+    × (turn_of waiter (Asks (Acquire 0) reply.Worn ∷ []) ≡ Answered)
+    × (turn_of waiter begun ≡ Told)
+    × (turn_of timed_waiter begun ≡ Untimed)
+    × (turn_of timed_waiter timer_set ≡ Told)
+it_begins = (refl, refl, refl, refl, refl)
+
+it_sleeps : (turn_of waiter (Rests 0 Well ∷ begun) ≡ Woken)
+    × (turn_of waiter (Rests 0 (Noted (only Expired)) ∷ begun) ≡ Stopped true)
+    × (turn_of waiter (Rests 0 (Noted interrupt) ∷ begun) ≡ Stopped false)
+    × (turn_of waiter (Rests 0 Double ∷ begun) ≡ Stopped false)
+    × (turn_of waiter (Asks (Collect 0) (reply.Wait 0) ∷ Rests 0 Well ∷ begun) ≡ Told)
+it_sleeps = (refl, refl, refl, refl, refl)
+
+it_leaves : (turn_of waiter (Asks (Collect 0) reply.Granted ∷ Rests 0 Well ∷ begun) ≡ Ready)
+    × (turn_of waiter (Asks (Leave 0) reply.Granted ∷ Rests 0 Double ∷ begun) ≡ Ready)
+    × (turn_of waiter (Asks (Leave 0) reply.Gone ∷ Rests 0 Double ∷ begun) ≡ Ready)
+    × (turn_of timed_waiter unit_in_time ≡ Out false)
+    × (turn_of timed_waiter tick_in_time ≡ Out true)
+it_leaves = (refl, refl, refl, refl, refl)
+
+it_cancels : (turn_of timed_waiter (Times (Cancel 0) told.Removed ∷ unit_in_time) ≡ Ready)
+    × (turn_of timed_waiter (Times (Cancel 0) told.Expired ∷ unit_in_time) ≡ Awaiting)
+    × (turn_of timed_waiter (Times (Cancel 0) told.Removed ∷ tick_in_time) ≡ Ready)
+    × (turn_of timed_waiter (Times (Cancel 0) told.Expired ∷ tick_in_time) ≡ Ready)
+it_cancels = (refl, refl, refl, refl)
+
+it_awaits : (turn_of timed_waiter (Rests LAST_GRANT Well ∷ awaited) ≡ Awaiting)
+    × (turn_of timed_waiter (Rests LAST_GRANT (Noted interrupt) ∷ awaited) ≡ Awaiting)
+    × (turn_of timed_waiter (Rests LAST_GRANT (Noted (only Expired)) ∷ awaited) ≡ Ready)
+    × (turn_of timed_waiter (Rests LAST_GRANT Double ∷ awaited) ≡ Refused)
+    × (turn_of timed_waiter (Drains no_notes ∷ Rests LAST_GRANT Double ∷ awaited) ≡ Awaiting)
+    × (turn_of timed_waiter (Drains (only Expired) ∷ Rests LAST_GRANT Double ∷ awaited) ≡ Ready)
+it_awaits = (refl, refl, refl, refl, refl, refl)
+
+-- notes are put back at the end, and where it owes something it does not return
+it_ends : (turn_of waiter (Posts (pid 5) interrupt ∷ broken.sets_no_timer) ≡ Kept)
+    × (turn_of waiter (Drains interrupt ∷ begun) ≡ Astray)
+    × (map is_whole (Answered ∷ Ready ∷ Kept ∷ []) ≡ true ∷ true ∷ true ∷ [])
+    × (map is_whole (Fresh ∷ Untimed ∷ Told ∷ Woken ∷ []) ≡ false ∷ false ∷ false ∷ false ∷ [])
+    × (map is_whole (Stopped false ∷ Out false ∷ Awaiting ∷ []) ≡ false ∷ false ∷ false ∷ [])
+    × (map is_whole (Refused ∷ Astray ∷ []) ≡ false ∷ false ∷ [])
+it_ends = (refl, refl, refl, refl, refl, refl)
+
 -- ---- calls that break them
+
+-- such a list of deeds is no whole call
+IsBrokenOff : Caller → List Deed → Type 0
+IsBrokenOff caller deeds = is_whole (turn_of caller deeds) ≡ true → ⊥
+
+no_second_timer : IsBrokenOff timed_waiter broken.sets_two_timers
+unfolding IsBrokenOff
+no_second_timer whole = cc
+
+a_deadline_sets_a_timer : IsBrokenOff timed_waiter broken.sets_no_timer
+unfolding IsBrokenOff
+a_deadline_sets_a_timer whole = cc
+
+each_timer_is_cancelled : IsBrokenOff timed_waiter broken.does_not_cancel
+unfolding IsBrokenOff
+each_timer_is_cancelled whole = cc
+
+no_note_is_taken_again : IsBrokenOff waiter broken.drains_what_it_put_back
+unfolding IsBrokenOff
+no_note_is_taken_again whole = cc
+
+no_note_is_slept_past : IsBrokenOff waiter broken.sleeps_past_a_note
+unfolding IsBrokenOff
+no_note_is_slept_past whole = cc
+
+no_sleep_behind_notes : IsBrokenOff waiter broken.sleeps_on_interrupted
+unfolding IsBrokenOff
+no_sleep_behind_notes whole = cc
+
+no_sleep_behind_a_refusal : IsBrokenOff waiter broken.sleeps_on_refused
+unfolding IsBrokenOff
+no_sleep_behind_a_refusal whole = cc
+
+no_waiter_comes_again : IsBrokenOff waiter broken.comes_again
+unfolding IsBrokenOff
+no_waiter_comes_again whole = cc
+
+nobody_stays_in_the_line : IsBrokenOff waiter broken.stays_in_the_line
+unfolding IsBrokenOff
+nobody_stays_in_the_line whole = cc
+
+no_acquire_releases : IsBrokenOff waiter broken.makes_a_release
+unfolding IsBrokenOff
+no_acquire_releases whole = cc
+
+no_release_is_of_an_acquire : AllByRecursion (IsOfAcquire waiter) broken.makes_a_release → ⊥
+no_release_is_of_an_acquire own = own.0
+
+a_tick_alone_interrupts_nobody : (seen : TimersSeen)
+    → AcquiresInTime timed_waiter seen 150 (Err (fault.Interrupted no_notes)) broken.is_timed_out → ⊥
+a_tick_alone_interrupts_nobody seen acquires = acquires.reason.others refl refl
+
+no_more_expire_than_there_are : Ticks 1 6 150 2 broken.ends_too_many → ⊥
+no_more_expire_than_there_are ticks = absurd (omega (arith, ticks.at_most))
 
 pids_apart : (a b : ℕ) → pid a ≡ pid b → a ≡ b
 pids_apart a b e = ap (λ (p : Pid). p.0) e

@@ -5,7 +5,6 @@ use Rattle.std.specs.Prelude.{Option, Some, None, Result, Ok, Err}
 use Rattle.std.specs.List.{AllByRecursion}
 use Rattle.sync_base.specs.declared.fault.Fault.{Fault}
 use Rattle.sync_base.specs.declared.fault.Fault.TheVariants as fault
-use Rattle.sync_base.specs.declared.ids.Pid.{Pid}
 use Rattle.sync_base.specs.declared.note.Note.TheVariants.{Expired}
 use Rattle.sync_base.specs.declared.note.NoteSet.{NoteSet}
 use Rattle.sync_base.specs.NoteSet.{no_notes, joined, holds}
@@ -26,6 +25,7 @@ use Rattle.semaphore.specs.Deeds.Deed.{Asks, Times, Rests, Rouses, Posts, Drains
 use Rattle.semaphore.specs.Deeds.Ending.{Well, Noted, Double}
 use Rattle.semaphore.specs.SemaHistory.{taken_by}
 use Rattle.semaphore.specs.TimerHistory.{TimerEntry, WasTaken}
+use Rattle.semaphore.specs.Turns.{turn_of, is_whole}
 
 -- ---- what a call got and took
 
@@ -218,6 +218,8 @@ pub record Acquires (caller : Caller) (answer : Result Semacquired Fault) (deeds
   pub units : units_in deeds ≡ units_of answer
   pub reason : WhyWaited caller deeds answer
   pub own : AllByRecursion (IsOfAcquire caller) deeds
+  -- each deed came in its turn, and it owes none
+  pub turn : is_whole (turn_of caller deeds) ≡ true
   pub rests : RestsInTurn deeds
   pub between : SleepsBetween deeds
   pub notes : KeepsNotes (notes_taken deeds) (posts_in deeds) answer
@@ -259,9 +261,16 @@ pub record TimedOut (caller : Caller) (seen : TimersSeen) (deadline : ℕ) (deed
   pub told : was_expired deeds ≡ true
   pub alone : without_expired (notes_taken deeds) ≡ no_notes
 
+-- notes ended it; where the timer had expired, there were others than the tick's
+pub record Interrupted (caller : Caller) (deeds : List Deed) (set : NoteSet) : Type 0 where
+  pub ended : HasEnded IsNoted deeds
+  pub others : was_expired deeds ≡ true → set ≢ no_notes
+
 abbrev pub WhyTimed : Caller → TimersSeen → ℕ → List Deed → Result Unit Fault → Type 0
 WhyTimed caller seen deadline deeds (Ok done) = ⊤
 WhyTimed caller seen deadline deeds (Err fault.TimedOut) = TimedOut caller seen deadline deeds
+WhyTimed caller seen deadline deeds (Err (fault.Interrupted set)) =
+    Interrupted caller deeds set
 WhyTimed caller seen deadline deeds (Err fault) = WhyNotAcquired caller deeds fault
 
 abbrev pub timed_units_of : Result Unit Fault → ℕ
@@ -274,6 +283,8 @@ pub record AcquiresInTime (caller : Caller) (seen : TimersSeen) (deadline : ℕ)
   pub units : units_in deeds ≡ timed_units_of answer
   pub reason : WhyTimed caller seen deadline deeds answer
   pub own : AllByRecursion (IsOfAcquire caller) deeds
+  -- each deed came in its turn, and it owes none
+  pub turn : is_whole (turn_of caller deeds) ≡ true
   pub rests : RestsInTurn deeds
   pub between : SleepsBetween deeds
   pub notes : KeepsNotes (without_expired (notes_taken deeds)) (posts_in deeds) answer

@@ -1,9 +1,10 @@
 -- What the typed answers of a seat's requests stand for, and what the parts of a call tell.
-use Rattle.std.specs.Prelude.{◌≡◌, ⊤, ℕ, ◌≤◌, ◌<◌, Bool, true, false, List, [], ◌∷◌, length, not, Option, Some, None}
+use Rattle.std.specs.Prelude.{◌≡◌, ⊤, ℕ, ◌≤◌, ◌<◌, Bool, true, false, List, [], ◌∷◌, length, not, if◌then◌else◌, Option, Some, None}
 use Rattle.std.specs.List.{AllByRecursion}
 use Rattle.sync_base.specs.declared.ids.Pid.{Pid}
 use Rattle.sync_base.specs.declared.note.NoteSet.{NoteSet}
-use Rattle.sync_base.specs.NoteSet.{no_notes}
+use Rattle.sync_base.specs.declared.note.Note.TheVariants.{Expired}
+use Rattle.sync_base.specs.NoteSet.{no_notes, holds}
 use Rattle.semaphore.specs.declared.acquiring.Stop.{Stop}
 use Rattle.semaphore.specs.declared.acquiring.Stop.TheVariants as stop
 use Rattle.semaphore.specs.declared.limits.TheConstants.{LAST_GRANT}
@@ -11,7 +12,7 @@ use Rattle.semaphore.specs.declared.sema_asks.Begun.{Begun}
 use Rattle.semaphore.specs.declared.sema_asks.Begun.TheVariants as begun
 use Rattle.semaphore.specs.declared.sema_asks.Grant.{Grant}
 use Rattle.semaphore.specs.declared.sema_object.SemaCall.{SemaCall}
-use Rattle.semaphore.specs.declared.sema_object.SemaCall.TheVariants.{Acquire, Collect}
+use Rattle.semaphore.specs.declared.sema_object.SemaCall.TheVariants.{Collect}
 use Rattle.semaphore.specs.declared.sema_object.SemaReply.{SemaReply}
 use Rattle.semaphore.specs.declared.sema_object.SemaReply.TheVariants as reply
 use Rattle.semaphore.specs.declared.timer_object.Timer.{Timer}
@@ -22,6 +23,8 @@ use Rattle.semaphore.specs.Deeds.{Deed, Ending, Caller}
 use Rattle.semaphore.specs.Deeds.Deed.{Asks, Rests}
 use Rattle.semaphore.specs.Timers.{may_add, timer_of}
 use Rattle.semaphore.specs.Timers as timing
+use Rattle.semaphore.specs.Turns.{Turn, turn_of, is_whole, is_timed, left_line, ticked}
+use Rattle.semaphore.specs.Turns.Turn.{Told, Ready}
 use Rattle.semaphore.specs.Units.{SemaState, IsSound, is_idle, stage_of, answer_to}
 use Rattle.semaphore.specs.Acquiring.{IsOfAcquire, RestsInTurn, SleepsBetween, HasEnded, IsNoted, IsDouble, IsPutBack, without_expired, last_wait, units_in, notes_taken, posts_in, was_expired}
 
@@ -132,6 +135,15 @@ pub record Left : Type 0 where
   pub notes : NoteSet
   pub expired : Bool
   pub stop : Option Stop
+  -- its timer is cancelled
+  pub cancelled : Bool
+
+-- the turn of a call that has left the line
+abbrev pub turn_left : Caller → Left → Turn
+turn_left caller left =
+    if left.cancelled then
+    (if left.expired then ticked (holds left.notes Expired) else Ready)
+    else left_line (is_timed caller.deadline) (holds left.notes Expired)
 
 -- a call that waited, and has left the line
 pub record HasLeft (caller : Caller) (left : Left) (deeds : List Deed) : Type 0 where
@@ -143,6 +155,7 @@ pub record HasLeft (caller : Caller) (left : Left) (deeds : List Deed) : Type 0 
   pub posts : posts_in deeds ≡ []
   pub expired : was_expired deeds ≡ left.expired
   pub why : left.granted ≡ false → HasStopped left.stop deeds
+  pub turn : turn_of caller deeds ≡ turn_left caller left
 
 -- and has put back the notes that it keeps
 pub record HasKept (caller : Caller) (left : Left) (deeds : List Deed) : Type 0 where
@@ -154,6 +167,7 @@ pub record HasKept (caller : Caller) (left : Left) (deeds : List Deed) : Type 0 
   pub posts : IsPutBack (without_expired left.notes) (posts_in deeds)
   pub expired : was_expired deeds ≡ left.expired
   pub why : left.granted ≡ false → HasStopped left.stop deeds
+  pub turn : is_whole (turn_of caller deeds) ≡ true
 
 -- a call that waits for this grant: it was told so, and has got and taken nothing
 pub record WaitsFor (caller : Caller) (count : ℕ) (deeds : List Deed) : Type 0 where
@@ -165,6 +179,7 @@ pub record WaitsFor (caller : Caller) (count : ℕ) (deeds : List Deed) : Type 0
   pub notes : notes_taken deeds ≡ no_notes
   pub posts : posts_in deeds ≡ []
   pub not_expired : was_expired deeds ≡ false
+  pub turn : turn_of caller deeds ≡ Told
 
 -- what it did last
 abbrev pub last_deeds : Caller → ℕ → Option Stop → List Deed → List Deed

@@ -1,16 +1,16 @@
 -- What calls must not have done: each breaks one promise by one row. Deeds are newest first; the
 -- caller's seat has the number 0 at the semaphore and at the timers, and its pid is 5.
-use Rattle.std.specs.Prelude.{ℕ, List, [], ◌∷◌, Some, None, true, false}
+use Rattle.std.specs.Prelude.{ℕ, List, [], ◌∷◌, Some, None}
 use Rattle.sync_base.specs.declared.ids.Pid.{Pid}
 use Rattle.sync_base.specs.declared.note.Note.TheVariants.{Interrupt, Expired}
 use Rattle.sync_base.specs.declared.note.NoteSet.{NoteSet}
 use Rattle.sync_base.specs.NoteSet.{only}
 use Rattle.semaphore.specs.declared.limits.TheConstants.{LAST_GRANT}
-use Rattle.semaphore.specs.declared.sema_object.SemaCall.TheVariants.{Acquire, AcquireNow, Release, NextWake, Collect, Leave}
+use Rattle.semaphore.specs.declared.sema_object.SemaCall.TheVariants.{Acquire, Release, NextWake, Collect, Leave}
 use Rattle.semaphore.specs.declared.sema_object.SemaReply.TheVariants as reply
 use Rattle.semaphore.specs.declared.timer_object.TimerCall.TheVariants.{Add, Expire, Cancel}
 use Rattle.semaphore.specs.declared.timer_object.TimerReply.TheVariants as told
-use Rattle.semaphore.specs.Deeds.{Caller, Deed, Ending}
+use Rattle.semaphore.specs.Deeds.{Caller, Deed}
 use Rattle.semaphore.specs.Deeds.Deed.{Asks, Times, Rests, Rouses, Posts, Drains}
 use Rattle.semaphore.specs.Deeds.Ending.{Well, Noted, Double}
 
@@ -83,6 +83,77 @@ sleeps_behind_the_tick =
 abbrev pub sleeps_too_low : List Deed
 sleeps_too_low = Rests 7 (Noted (only Expired)) ∷ leaves_a_note_behind
 
+-- it sets two timers, and takes one note
+abbrev pub sets_two_timers : List Deed
+sets_two_timers =
+    Times (Cancel 0) told.Expired
+    ∷ Asks (Leave 0) reply.Gone
+    ∷ Rests 0 (Noted (only Expired))
+    ∷ Times (Add 0 (pid 5) 150) told.Added
+    ∷ Times (Add 0 (pid 5) 150) told.Added
+    ∷ begun
+
+-- it has a deadline, and sets no timer or does not cancel it
+abbrev pub sets_no_timer : List Deed
+sets_no_timer = Asks (Collect 0) reply.Granted ∷ Rests 0 Well ∷ begun
+
+abbrev pub does_not_cancel : List Deed
+does_not_cancel =
+    Asks (Collect 0) reply.Granted
+    ∷ Rests 0 Well
+    ∷ Times (Add 0 (pid 5) 150) told.Added
+    ∷ begun
+
+-- it takes the notes again that it had put back
+abbrev pub drains_what_it_put_back : List Deed
+drains_what_it_put_back =
+    Drains interrupt
+    ∷ Posts (pid 5) interrupt
+    ∷ Asks (Leave 0) reply.Granted
+    ∷ Rests 0 (Noted interrupt)
+    ∷ begun
+
+-- it takes a note without a sleep, and then sleeps
+abbrev pub sleeps_past_a_note : List Deed
+sleeps_past_a_note =
+    Asks (Collect 0) reply.Granted ∷ Rests 0 Well ∷ Drains interrupt ∷ begun
+
+-- it sleeps on, though notes ended its sleep or it was refused
+abbrev pub sleeps_on_interrupted : List Deed
+sleeps_on_interrupted =
+    Asks (Collect 0) reply.Granted ∷ Rests 0 Well ∷ Rests 0 (Noted interrupt) ∷ begun
+
+abbrev pub sleeps_on_refused : List Deed
+sleeps_on_refused = Asks (Collect 0) reply.Granted ∷ Rests 0 Well ∷ Rests 0 Double ∷ begun
+
+-- it leaves the line, and comes again behind all others
+abbrev pub comes_again : List Deed
+comes_again =
+    Asks (Collect 0) reply.Granted
+    ∷ Rests 0 Well
+    ∷ Asks (Acquire 0) (reply.Wait 0)
+    ∷ Asks (Leave 0) reply.Gone
+    ∷ Rests 0 Well
+    ∷ begun
+
+-- it returns while it stands in the line
+abbrev pub stays_in_the_line : List Deed
+stays_in_the_line = Rests 0 Double ∷ begun
+
+-- it gives a unit that it was not asked for
+abbrev pub makes_a_release : List Deed
+makes_a_release =
+    Asks (Release 1) (reply.Value 1) ∷ Asks (Acquire 0) reply.Acquired ∷ []
+
+-- a tick took its timer, and no other note came
+abbrev pub is_timed_out : List Deed
+is_timed_out =
+    Times (Cancel 0) told.Expired
+    ∷ Asks (Leave 0) reply.Gone
+    ∷ Rests 0 (Noted (only Expired))
+    ∷ Times (Add 0 (pid 5) 150) told.Added
+    ∷ begun
+
 -- a release that forgets a seat, wakes it with another count, or does not ask to the last
 abbrev pub forgets_a_seat : List Deed
 forgets_a_seat =
@@ -122,6 +193,16 @@ tells_too_early =
 abbrev pub tells_nobody : List Deed
 tells_nobody =
     Times (Expire 150) told.NoneDue ∷ Times (Expire 150) (told.Ended (pid 5)) ∷ []
+
+-- of one timer it ends two
+abbrev pub ends_too_many : List Deed
+ends_too_many =
+    Times (Expire 150) told.NoneDue
+    ∷ Posts (pid 5) (only Expired)
+    ∷ Times (Expire 150) (told.Ended (pid 5))
+    ∷ Posts (pid 5) (only Expired)
+    ∷ Times (Expire 150) (told.Ended (pid 5))
+    ∷ []
 
 abbrev pub stops_early : List Deed
 stops_early = Posts (pid 5) (only Expired) ∷ Times (Expire 150) (told.Ended (pid 5)) ∷ []

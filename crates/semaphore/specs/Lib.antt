@@ -18,4 +18,5 @@ pub mod TimerHistory
 pub mod TimerLaws
 pub mod Timers
 pub mod Tournament
+pub mod Turns
 pub mod Units

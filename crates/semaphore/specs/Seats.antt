@@ -1,15 +1,12 @@
 -- What clauses see of a semaphore, of timers, and of their seats.
-use Rattle.std.specs.Prelude.{◌≡◌, ◌≤◌, ◌<◌, ◌+◌, ℕ, Bool, true, false, List, [], ◌∷◌, Option, Some, None, replicate}
+use Rattle.std.specs.Prelude.{◌≡◌, ◌≤◌, ◌+◌, ℕ, Bool, true, false, List, [], ◌∷◌, Some, None}
 use Rattle.sync_base.specs.declared.ids.RendezId.{RendezId}
 use Rattle.rendez_words.specs.declared.words.Words.{Words}
 use Rattle.rendez_words.specs.Process.{pid_in}
 use Rattle.rendez_words.specs.Words.{rendez_of}
 use Rattle.sleep_wakeup.specs.Kernel.{Running, Unused}
-use Rattle.kernel_lock.specs.declared.lock_seat.LockSeat.{LockSeat}
-use Rattle.kernel_lock.specs.declared.locked.Locked.{Locked}
-use Rattle.kernel_lock.specs.Seats.{IsSeatOf, SeesHistory, shares_of, number_of, view_of, seen_of, limit_of, opening_of, IsFirstSeat}
+use Rattle.kernel_lock.specs.Seats.{IsSeatOf, SeesHistory, shares_of, number_of, view_of, seen_of, opening_of, IsFirstSeat}
 use Rattle.kernel_lock.specs.View.{spent_view}
-use Rattle.semaphore.specs.declared.limits.TheConstants.{MAX_VALUE}
 use Rattle.semaphore.specs.declared.sema.Sema.{Sema}
 use Rattle.semaphore.specs.declared.sema.SemaSeat.{SemaSeat}
 use Rattle.semaphore.specs.declared.timers.Timers.{Timers}
@@ -18,17 +15,12 @@ use Rattle.semaphore.specs.declared.sema_object.SemaCall.{SemaCall}
 use Rattle.semaphore.specs.declared.sema_object.SemaCall.TheVariants.{Acquire, Collect, Leave}
 use Rattle.semaphore.specs.declared.sema_object.SemaReply.{SemaReply}
 use Rattle.semaphore.specs.declared.sema_object.SemaReply.TheVariants as reply
-use Rattle.semaphore.specs.declared.timer_object.Timer.{Timer}
-use Rattle.semaphore.specs.declared.timer_object.Timer.TheVariants.{Unset}
-use Rattle.semaphore.specs.declared.timer_object.TimerCall.{TimerCall}
-use Rattle.semaphore.specs.declared.timer_object.TimerReply.{TimerReply}
 use Rattle.semaphore.specs.Definitions.{sema_definition, timer_definition}
 use Rattle.semaphore.specs.Deeds.{Caller, Standing}
 use Rattle.semaphore.specs.Acquiring.{TimersSeen}
 use Rattle.semaphore.specs.Opening.{IsSemaLock, IsTimerLock}
 use Rattle.semaphore.specs.SemaHistory.{SemaEntry}
 use Rattle.semaphore.specs.TimerHistory.{TimerEntry, has_timer}
-use Rattle.semaphore.specs.Units.{SemaState, opening}
 
 -- ---- semaphores
 

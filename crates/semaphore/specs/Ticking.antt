@@ -1,5 +1,5 @@
 -- What tick promises, over what a call did. Own: tsemacquire in semacquire(2) has a clock of its own.
-use Rattle.std.specs.Prelude.{◌≡◌, ◌⊎◌, ⊤, ℕ, nat_lt, List, [], ◌∷◌, length}
+use Rattle.std.specs.Prelude.{◌≡◌, ◌≤◌, ⊤, ℕ, nat_lt, List, [], ◌∷◌, length}
 use Rattle.std.specs.List.{filter, AllByRecursion}
 use Rattle.sync_base.specs.declared.ids.Pid.{Pid}
 use Rattle.sync_base.specs.declared.note.Note.TheVariants.{Expired}
@@ -7,7 +7,7 @@ use Rattle.sync_base.specs.NoteSet.{only}
 use Rattle.semaphore.specs.declared.timer_object.TimerCall.TheVariants.{Expire}
 use Rattle.semaphore.specs.declared.timer_object.TimerReply.TheVariants as told
 use Rattle.semaphore.specs.Deeds.{Deed}
-use Rattle.semaphore.specs.Deeds.Deed.{Asks, Times, Rests, Rouses, Posts, Drains}
+use Rattle.semaphore.specs.Deeds.Deed.{Times, Posts}
 
 -- the processes whose timers expired
 abbrev pub ended_in : List Deed → List Pid
@@ -50,6 +50,8 @@ GoesOn procs deeds = (length (ended_in deeds) ≡ procs) × FindsDue deeds
 pub record Ticks (procs kernel now count : ℕ) (deeds : List Deed) : Type 0 where
   pub own : AllByRecursion (IsOfTick now) deeds
   pub count_is : count ≡ length (ended_in deeds)
+  -- no more than there are timers
+  pub at_most : count ≤ procs
   pub until : GoesOn procs deeds
   pub told : posted_to deeds ≡ filter (λ pid. nat_lt pid.0 kernel) (ended_in deeds)
   pub in_turn : PostsInTurn deeds

@@ -1,5 +1,5 @@
 -- What holds of timers after every legal history, said of the definitions alone.
-use Rattle.std.specs.Prelude.{◌≡◌, ℕ, ◌<◌, List, [], ◌∷◌, ◌++◌, length, replicate}
+use Rattle.std.specs.Prelude.{◌≡◌, ℕ, ◌<◌, List, ◌∷◌, ◌++◌, length}
 use Rattle.histories.specs.History.{state_after, IsLegal}
 use Rattle.sync_base.specs.declared.ids.Pid.{Pid}
 use Rattle.semaphore.specs.declared.timer_object.Timer.{Timer}

@@ -1,5 +1,5 @@
-//! How a process takes a unit. Before this: `sema_asks`. After it: `releasing`.
-ghost use Rattle.std.specs.Prelude.{◌≡◌, ◌≤◌, ◌<◌, true, false, List, IsSome};
+//! How a process takes a unit.
+ghost use Rattle.std.specs.Prelude.{◌≡◌, ◌≤◌, ◌<◌, true, false, List, None, IsSome};
 ghost use Rattle.rendez_words.specs.Process.{pid_in};
 ghost use Rattle.rendez_words.specs.Words.{rendez_of};
 ghost use Rattle.kernel_lock.specs.Seats.{number_of, view_of};
@@ -213,6 +213,7 @@ impl Sema {
               notes = stopped_notes stop;
               expired = false;
               stop = stop;
+              cancelled = false;
             })) }
     {
         match stop {
@@ -248,12 +249,14 @@ fn answer_wait(proc: &mut Proc<'_>, stop: Option<Stop>, granted: bool) -> Result
     requires { granted ≡ false → IsSome stop }
     ensures words { proc.new.words ≡ proc.old.words }
     ensures answered { (caller : Caller) (start now : Standing) →
-        caller.pid ≡ pid_in proc.old.process → now.process ≡ proc.old.process →
+        caller.pid ≡ pid_in proc.old.process → caller.deadline ≡ None →
+        now.process ≡ proc.old.process →
         Calls caller start now (HasLeft caller (record {
           granted = granted;
           notes = stopped_notes stop;
           expired = false;
           stop = stop;
+          cancelled = false;
         })) → Calls caller start (stepped proc.new now) (Acquires caller result) }
 {
     match (granted, stop) {

@@ -1,5 +1,4 @@
-//! How a process adds units, and wakes who was granted one. Before this: `acquiring`.
-//! After it: `timers`.
+//! How a process adds units, and wakes who was granted one.
 ghost use Rattle.std.specs.Prelude.{◌≡◌, List};
 ghost use Rattle.kernel_lock.specs.Seats.{number_of};
 ghost use Rattle.semaphore.specs.Deeds.{Calls, Caller, Deed, Did, Standing};

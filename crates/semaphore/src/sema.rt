@@ -1,5 +1,4 @@
-//! A semaphore on threads, and the seats of its processes. Before this: `object`.
-//! After it: `sema_asks`.
+//! A semaphore on threads, and the seats of its processes.
 ghost use Rattle.std.specs.Prelude.{◌+◌, ◌^◌, ◌<◌};
 
 use crate::limits::MAX_VALUE;

@@ -1,4 +1,4 @@
-//! What a seat asks of its semaphore. Before this: `sema`. After it: `acquiring`.
+//! What a seat asks of its semaphore.
 ghost use Rattle.std.specs.Prelude.{◌≡◌, ◌≤◌, ◌<◌, Bool, true, false, IfSome};
 ghost use Rattle.kernel_lock.specs.Calls.{Serves};
 ghost use Rattle.kernel_lock.specs.Seats.{number_of, view_of};

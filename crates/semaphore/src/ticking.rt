@@ -1,4 +1,4 @@
-//! How a moment is told, and timers expire. Before this: `timing`. After it: `laws`.
+//! How a moment is told, and timers expire.
 ghost use Rattle.std.specs.Prelude.{◌≡◌, false, nat_lt, IsTrue};
 ghost use Rattle.sync_base.specs.declared.note.Note.TheVariants.{Expired};
 ghost use Rattle.sync_base.specs.NoteSet.{only};

@@ -1,4 +1,4 @@
-//! What a seat asks of its timers. Before this: `timers`. After it: `timing`.
+//! What a seat asks of its timers.
 ghost use Rattle.std.specs.Prelude.{◌≡◌, true};
 ghost use Rattle.kernel_lock.specs.Calls.{Serves};
 ghost use Rattle.kernel_lock.specs.Seats.{number_of, view_of};

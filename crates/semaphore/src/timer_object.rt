@@ -1,5 +1,4 @@
 //! Timers, one for each seat, as an object that one thread at a time calls.
-//! Before this: `tournament`, which finds the one that expires first.
 ghost use Rattle.std.specs.Prelude.{◌≡◌, ◌<◌, length, IfOk, IfErr, OnOk, replicate};
 ghost use Rattle.semaphore.specs.Procs.{IsProcCount};
 ghost use Rattle.semaphore.specs.Timers.{answer_to, after, deadline_of, WhyNoTimers};

@@ -1,5 +1,4 @@
-//! Timers on threads, and the seats of their processes. Before this: `releasing`.
-//! After it: `timer_asks`.
+//! Timers on threads, and the seats of their processes.
 use crate::{TimerCall, TimerObject, TimerReply};
 use kernel_lock::{LockSeat, Locked, Opened};
 use std::alloc::Global;

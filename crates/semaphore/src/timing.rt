@@ -1,4 +1,4 @@
-//! How a process takes a unit by a moment. Before this: `timer_asks`. After it: `ticking`.
+//! How a process takes a unit by a moment.
 ghost use Rattle.std.specs.Prelude.{◌≡◌, ◌<◌, true, false, ℕ, IsSome};
 ghost use Rattle.sync_base.specs.declared.note.Note.TheVariants.{Expired};
 ghost use Rattle.sync_base.specs.NoteSet.{holds};
@@ -6,10 +6,11 @@ ghost use Rattle.rendez_words.specs.Process.{pid_in};
 ghost use Rattle.rendez_words.specs.Words.{rendez_of};
 ghost use Rattle.kernel_lock.specs.Seats.{number_of};
 ghost use Rattle.semaphore.specs.Acquiring.{AcquiresInTime, TimersSeen, without_expired};
-ghost use Rattle.semaphore.specs.Asking.{HasKept, HasLeft, Left, stopped_notes};
+ghost use Rattle.semaphore.specs.Asking.{HasKept, HasLeft, Left, stopped_notes, turn_left};
 ghost use Rattle.semaphore.specs.Deeds.{Calls, Caller, Standing};
 ghost use Rattle.semaphore.specs.TimerHistory.{WasTaken};
 ghost use Rattle.semaphore.specs.Timers.{deadline_of};
+ghost use Rattle.semaphore.specs.Turns.Turn.{Ready};
 ghost use Rattle.semaphore.specs.Seats.{
   HasRow,
   IsSemaSeatOf,
@@ -147,6 +148,7 @@ fn await_tick<R: Wait>(
     ensures came { expired ≡ true → holds result Expired ≡ true }
     ensures awaited { (caller : Caller) (start now : Standing) (left : Left) →
         caller.rendez ≡ rendez → left.expired ≡ expired → left.notes ≡ taken →
+        left.cancelled ≡ true →
         now.process ≡ proc.old.process → Calls caller start now (HasLeft caller left) →
         Calls caller start (stepped proc.new now)
         (HasLeft caller (record left { notes = result })) }
@@ -173,7 +175,8 @@ fn keep(proc: &mut Proc<'_>, set: NoteSet)
     ensures words { proc.new.words ≡ proc.old.words }
     ensures kept { (caller : Caller) (start now : Standing) (left : Left) →
         caller.pid ≡ pid_in proc.old.process → now.process ≡ proc.old.process →
-        set ≡ without_expired left.notes → Calls caller start now (HasLeft caller left) →
+        set ≡ without_expired left.notes → turn_left caller left ≡ Ready →
+        Calls caller start now (HasLeft caller left) →
         Calls caller start (stepped proc.new now) (HasKept caller left) }
 {
     if !set.is_empty() {
@@ -207,6 +210,7 @@ fn answer_timed(
           notes = notes;
           expired = expired;
           stop = stop;
+          cancelled = true;
         })) → Calls caller start (stepped proc.new now) (AcquiresInTime caller seen moment result) }
 {
     let others = others(notes);

@@ -1,4 +1,4 @@
-//! What an event tells its process. Before this: `event`. After it: `world`, which answers events.
+//! What an event tells its process.
 ghost use Rattle.std.specs.Prelude.{◌≡◌};
 
 use sync_base::{NoteSet, Pid};

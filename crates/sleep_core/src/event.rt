@@ -1,5 +1,4 @@
 //! What can happen to the words of sleep and wakeup: one event is one atomic step of one process.
-//! Before this: `phase`, where a process can be. After it: `answer`, what it is told.
 ghost use Rattle.std.specs.Prelude.{◌≡◌};
 ghost use Rattle.sleep_core.specs.Table.{pid_of};
 

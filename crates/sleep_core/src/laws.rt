@@ -1,5 +1,5 @@
 //! What holds of every world, every event and every run. Each law is a function with an empty body,
-//! whose contract says it. Before this: `world`, which is the machine that the laws speak of.
+//! whose contract says it.
 ghost use Rattle.sleep_core.specs.OwnLaws.{OwnSleepsEndForACause};
 ghost use Rattle.sleep_core.specs.Broken.{overlooks_the_sleeper, test_misses_the_level};
 ghost use Rattle.sleep_core.specs.Broken.{posts_over_a_sleeper, overlooks_among_others};

@@ -1,5 +1,5 @@
-//! Where a process is in its sleep or in its wakeup, and what it can be told meanwhile.
-//! The reader comes from `lib`. After this: `event`, what can happen.
+//! Where a process is in its sleep or in its wakeup, and what it can be told meanwhile. The reader
+//! comes from `lib`.
 ghost use Rattle.std.specs.Prelude.{◌≡◌};
 ghost use Rattle.sleep_core.specs.State.{no_flags};
 

@@ -10,7 +10,7 @@ use Rattle.sleep_core.specs.declared.answer.Answer.{Answer}
 use Rattle.sleep_core.specs.declared.answer.Answer.TheVariants as answer
 use Rattle.sleep_core.specs.declared.event.Event.{Event}
 use Rattle.sleep_core.specs.declared.event.Event.TheVariants.{Post, Test, Look, Withdraw, Clear}
-use Rattle.sleep_core.specs.declared.event.Event.TheVariants.{Raise, Take, Mark}
+use Rattle.sleep_core.specs.declared.event.Event.TheVariants.{Raise, Take, Mark, Note}
 use Rattle.sleep_core.specs.Runs.{Entry}
 use Rattle.rendez_words.specs.declared.states.Done.{Done}
 use Rattle.rendez_words.specs.Process.{Process}
@@ -158,3 +158,11 @@ finds_nobody = missed ∷ raised ∷ []
 
 abbrev pub marks_the_sleeper : List Entry
 marks_the_sleeper = marked 1 ∷ took ∷ raised ∷ []
+
+-- Processes 0 and 1 in one group, 2 and 3 in another.
+abbrev pub four_in_two : List (List ℕ)
+four_in_two = (2 ∷ 3 ∷ []) ∷ (0 ∷ 1 ∷ []) ∷ []
+
+-- an alarm was posted to this process
+abbrev pub noted : ℕ → Entry
+noted pid = step (Note (process pid) (only Alarm)) answer.Noted

@@ -1,10 +1,12 @@
 -- What clauses see of a process, and of the roster that gives out pids and Rendez.
-use Rattle.std.specs.Prelude.{◌≡◌, ◌≤◌, ◌+◌, ℕ, [], Option, Some, None}
+use Rattle.std.specs.Prelude.{◌≡◌, ◌≤◌, ◌<◌, ◌+◌, ℕ, Bool, if◌then◌else◌, List, [], length}
+use Rattle.std.specs.Prelude.{Option, Some, None}
 use Rattle.sync_base.specs.declared.ids.Pid.{Pid}
 use Rattle.rendez_words.specs.declared.words.Words.{Words}
 use Rattle.rendez_words.specs.Process.{Process, PidsLeft}
 use Rattle.rendez_words.specs.Words.{IsProcessOf, ArePidsOf, table_of, procs_of, rendez_of}
 use Rattle.rendez_words.specs.Words.{given_from, one_less}
+use Rattle.sleep_wakeup.specs.Groups.{Membership, group_of, begins, follows, leaves}
 
 -- a process of a kernel: the words on which it sleeps and wakes, its pid, and its own steps
 pub record Running : Type 0 where
@@ -18,11 +20,13 @@ pub record Counts : Type 0 where
   pub next_pid : ℕ
   pub next_rendez : ℕ
 
--- what a roster has left: the pids from the next one on, and the Rendez from this one on
+-- what a roster has left, the pids from the next one on and the Rendez from this one on, and the
+-- note groups of the pids that it gave
 pub record Unused : Type 0 where
   pub words : Words
   pub pids : PidsLeft
   pub rendez : ℕ
+  pub groups : List (List ℕ)
 
 -- the process of a seat; where the seat is away there is none
 abbrev pub process_in : Words → Option Process → Process
@@ -46,13 +50,43 @@ pub record AreLeftOf (words : Words) (pids : PidsLeft) (left : Counts) : Type 0 
   pub rendez_in : left.next_rendez ≤ rendez_of words
   pub sizes : HasSizes words left.procs left.rendez
 
+-- the groups are those of the pids that were given, with room for all
+pub record AreGroupsOf (own : Membership) (left : Counts) : Type 0 where
+  pub given_is : own.given ≡ left.next_pid
+  pub room_is : own.room ≡ left.procs
+
+-- a roster of these words: what is left, and the groups
+pub record IsRoster (words : Words) (pids : PidsLeft) (own : Membership) (left : Counts)
+    : Type 0 where
+  pub left_is : AreLeftOf words pids left
+  pub groups_are : AreGroupsOf own left
+
 -- the next process, which has made no step
 abbrev pub next_process : Unused → Running
 next_process unused = record { words = unused.words; process = given_from unused.pids }
 
--- one pid less is left
-abbrev pub one_pid_less : Unused → Unused
-one_pid_less unused = record unused { pids = one_less unused.pids }
+-- the groups with the next process in one of its own, or in that of its parent
+abbrev pub groups_with_next : ℕ → Bool → Unused → List (List ℕ)
+groups_with_next parent apart unused =
+    if apart then begins unused.pids.next unused.groups
+    else follows parent unused.pids.next unused.groups
+
+-- one pid less is left, of a child of this parent
+abbrev pub one_pid_less : ℕ → Bool → Unused → Unused
+one_pid_less parent apart unused =
+    record unused {
+      pids = one_less unused.pids;
+      groups = groups_with_next parent apart unused;
+    }
+
+-- the process has left its group, where one is asked for
+abbrev pub regrouped : ℕ → Bool → Unused → Unused
+regrouped pid apart unused =
+    record unused { groups = if apart then leaves pid unused.groups else unused.groups }
+
+-- a group holds this pid
+abbrev pub HasGroup : Unused → ℕ → Type 0
+HasGroup unused pid = 0 < length (group_of pid unused.groups)
 
 -- so many Rendez less are left
 abbrev pub rendez_less : ℕ → Unused → Unused

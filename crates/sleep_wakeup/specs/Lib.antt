@@ -1,5 +1,6 @@
 pub mod Broken
 pub mod Calls
 pub mod Forks
+pub mod Groups
 pub mod Kernel
 pub mod Starts

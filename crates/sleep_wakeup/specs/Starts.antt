@@ -1,8 +1,9 @@
 -- What a kernel begins with.
 use Rattle.std.specs.Prelude.{◌≡◌, []}
 use Rattle.rendez_words.specs.declared.words.Words.{Words}
-use Rattle.rendez_words.specs.Words.{IsProcessOf, ArePidsOf}
+use Rattle.rendez_words.specs.Words.{IsProcessOf, ArePidsOf, procs_of}
 use Rattle.sleep_wakeup.specs.declared.kernel.Start.{Start}
+use Rattle.sleep_wakeup.specs.Groups.{first_group}
 use Rattle.sleep_wakeup.specs.Kernel.{Running, Unused}
 
 -- the first process, and the pids behind it, of these words; nobody has made a step
@@ -12,6 +13,9 @@ pub record IsStartOf (words : Words) (start : Start) : Type 0 where
   pub unused : start.seat.trace ≡ []
   pub pids : ArePidsOf words start.pids
   pub next : start.pids.next ≡ 1
+  pub groups : start.groups.groups ≡ first_group
+  pub given : start.groups.given ≡ 1
+  pub room : start.groups.room ≡ procs_of words
 
 -- the process with the pid 0, which has made no step
 pub record IsFirst (words : Words) (proc : Running) : Type 0 where
@@ -19,8 +23,9 @@ pub record IsFirst (words : Words) (proc : Running) : Type 0 where
   pub first : proc.process.pid ≡ 0
   pub unused : proc.process.trace ≡ []
 
--- every other pid is left, and every Rendez
+-- every other pid is left, and every Rendez; the first process is alone in its group
 pub record HasAllLeft (words : Words) (roster : Unused) : Type 0 where
   pub words_are : roster.words ≡ words
   pub pids : roster.pids.next ≡ 1
   pub rendez : roster.rendez ≡ 0
+  pub groups : roster.groups ≡ first_group

@@ -1,6 +1,7 @@
-//! A kernel: how it is made, and what it begins with. After this: `roster`.
+//! A kernel: how it is made, and what it begins with.
 ghost use Rattle.std.specs.Prelude.{◌≡◌, []};
 
+use crate::groups::Groups;
 use crate::proc::Proc;
 use crate::roster::Roster;
 use rendez_words::{Pids, Seat, Words};
@@ -33,6 +34,7 @@ impl Model for Kernel {
 pub struct Start {
     seat: Seat,
     pids: Pids,
+    groups: Groups,
 }
 
 /// A new kernel, and what it begins with.
@@ -68,13 +70,14 @@ impl Kernel {
         ensures start { IfOk result (λ opened. IsStartOf opened.kernel opened.start) }
     {
         let rendez_words::Opened { words, seat, pids } = Words::new(alloc, procs, rendez)?;
+        let groups = Groups::new(alloc, procs)?;
         Ok(Opened {
             kernel: Kernel {
                 words,
                 procs,
                 rendez,
             },
-            start: Start { seat, pids },
+            start: Start { seat, pids, groups },
         })
     }
 
@@ -85,10 +88,10 @@ impl Kernel {
         ensures proc { IsFirst self.now result.proc }
         ensures roster { HasAllLeft self.now result.roster }
     {
-        let Start { seat, pids } = start;
+        let Start { seat, pids, groups } = start;
         let words = &self.words;
         Started {
-            roster: Roster::new(words, self.procs, self.rendez, pids),
+            roster: Roster::new(words, self.procs, self.rendez, pids, groups),
             proc: Proc::new(words, seat, Pid(0)),
         }
     }

@@ -1,5 +1,5 @@
-//! What the definitions of the calls forbid, and what they allow. Before this: `noting`.
-ghost use Rattle.std.specs.Prelude.{◌≡◌, ◌≢◌, ◌+◌, ℕ, [], Some, None};
+//! What the definitions of the calls forbid, and what they allow.
+ghost use Rattle.std.specs.Prelude.{◌≡◌, ◌≢◌, ◌+◌, ℕ, [], ◌∷◌, Some, None};
 ghost use Rattle.rendez_words.specs.Process.{TableId};
 ghost use Rattle.sync_base.specs.declared.flags.Flags.{Flags};
 ghost use Rattle.sync_base.specs.declared.fault.Fault.TheVariants.{Interrupted};
@@ -18,7 +18,10 @@ ghost use Rattle.sleep_wakeup.specs.Broken.{takes_twice, never_marks, marks_anot
 ghost use Rattle.sleep_wakeup.specs.Broken.{raises_elsewhere, raises_to_another_level};
 ghost use Rattle.sleep_wakeup.specs.Broken.{finds_nobody, marks_the_sleeper};
 ghost use Rattle.sleep_wakeup.specs.Calls.{Sleeps, Wakes, WhyNotSlept};
-ghost use Rattle.sleep_wakeup.specs.Forks.{IsNone, IsRfproc, Forks};
+ghost use Rattle.sleep_wakeup.specs.Forks.{AsksNobody, AsksChild, asks_group, Forks};
+ghost use Rattle.sleep_wakeup.specs.Groups.{AreGroups, first_group, group_of, begins, follows};
+ghost use Rattle.sleep_wakeup.specs.Groups.{leaves, notes_each};
+ghost use Rattle.sleep_wakeup.specs.Broken.{four_in_two, noted};
 ghost use Rattle.sleep_wakeup.specs.Kernel.{Unused, next_process, one_pid_less, rendez_less};
 
 /// Steps that are no sleep: each would be one if a sentence of its definition were gone.
@@ -108,14 +111,56 @@ pub fn wakeups_can_be_kept()
 
 /// No pid and no Rendez is given twice, and none is lost.
 pub fn forks_can_be_broken()
-    ensures gives_a_pid_twice { (unused : Unused) (flags : Flags)
-        → ¬ (Forks unused flags (Some (next_process unused)) unused) }
-    ensures skips_a_pid { (unused : Unused) (flags : Flags)
-        → ¬ (Forks unused flags (Some (next_process (one_pid_less unused))) (one_pid_less unused)) }
-    ensures makes_nobody { (unused : Unused) (flags : Flags) → IsRfproc flags
-        → ¬ (Forks unused flags None unused) }
-    ensures makes_a_child_unasked { (unused : Unused) (flags : Flags) → IsNone flags
-        → ¬ (Forks unused flags (Some (next_process unused)) (one_pid_less unused)) }
+    ensures gives_a_pid_twice { (unused : Unused) (flags : Flags) (parent : ℕ)
+        → ¬ (Forks parent unused flags (Some (next_process unused)) unused) }
+    ensures skips_a_pid { (unused : Unused) (flags : Flags) (parent : ℕ)
+        → ¬ (Forks parent unused flags
+        (Some (next_process (one_pid_less parent (asks_group flags) unused)))
+        (one_pid_less parent (asks_group flags) unused)) }
+    ensures makes_nobody { (unused : Unused) (flags : Flags) (parent : ℕ) → AsksChild flags
+        → ¬ (Forks parent unused flags None unused) }
+    ensures makes_a_child_unasked { (unused : Unused) (flags : Flags) (parent : ℕ)
+        → AsksNobody flags
+        → ¬ (Forks parent unused flags (Some (next_process unused))
+        (one_pid_less parent (asks_group flags) unused)) }
     ensures row_is_one_too_short { (unused : Unused) (count : ℕ)
         → rendez_less count unused ≢ rendez_less (count + 1) unused }
+{}
+
+/// Process 1 is a child in its parent's group, 2 is the first of another, and 3 is its child. Then
+/// 1 leaves the first group, and 2 stays where others are, and 0 stays, alone.
+pub fn groups_by_example()
+    ensures shared { follows 0 1 first_group ≡ (0 ∷ 1 ∷ []) ∷ [] }
+    ensures apart { begins 2 ((0 ∷ 1 ∷ []) ∷ []) ≡ (2 ∷ []) ∷ (0 ∷ 1 ∷ []) ∷ [] }
+    ensures further { follows 2 3 ((2 ∷ []) ∷ (0 ∷ 1 ∷ []) ∷ []) ≡ four_in_two }
+    ensures leaves_it { leaves 1 four_in_two ≡ (1 ∷ []) ∷ (2 ∷ 3 ∷ []) ∷ (0 ∷ []) ∷ [] }
+    ensures is_alone { leaves 0 ((1 ∷ []) ∷ (2 ∷ 3 ∷ []) ∷ (0 ∷ []) ∷ [])
+        ≡ (1 ∷ []) ∷ (2 ∷ 3 ∷ []) ∷ (0 ∷ []) ∷ [] }
+    ensures is_nowhere { leaves 7 four_in_two ≡ four_in_two }
+    ensures has_no_parent { follows 7 4 four_in_two ≡ (4 ∷ []) ∷ four_in_two }
+    ensures found { group_of 1 four_in_two ≡ 0 ∷ 1 ∷ [] }
+    ensures not_found { group_of 4 four_in_two ≡ [] }
+{}
+
+/// Lists of pids that are no groups: a pid stands twice, in one or in two; one is missing; one was
+/// not given; a group falls.
+pub fn groups_can_be_broken()
+    ensures stands_twice { ¬ (AreGroups ((0 ∷ 0 ∷ []) ∷ []) 1) }
+    ensures stands_in_two { ¬ (AreGroups ((0 ∷ 1 ∷ []) ∷ (1 ∷ []) ∷ []) 2) }
+    ensures one_is_missing { ¬ (AreGroups ((0 ∷ []) ∷ []) 2) }
+    ensures was_not_given { ¬ (AreGroups ((0 ∷ 1 ∷ []) ∷ []) 1) }
+    ensures falls { ¬ (AreGroups ((1 ∷ 0 ∷ []) ∷ []) 2) }
+{}
+
+/// A note to the group of pid 1 is two notes, to pid 0 and then to pid 1; one of them, or both in
+/// the other order, or one to another process is no note to that group.
+pub fn group_notes_can_be_broken()
+    ensures leaves_out_a_member { (table : TableId) → notes_each (after table [])
+        (group_of 1 four_in_two) (only Alarm) ≢ after table (noted 0 ∷ []) }
+    ensures posts_in_another_order { (table : TableId) → notes_each (after table [])
+        (group_of 1 four_in_two) (only Alarm) ≢ after table (noted 0 ∷ noted 1 ∷ []) }
+    ensures posts_to_another_group { (table : TableId) → notes_each (after table [])
+        (group_of 1 four_in_two) (only Alarm) ≢ after table (noted 3 ∷ noted 2 ∷ []) }
+    ensures is_kept { (table : TableId) → notes_each (after table [])
+        (group_of 1 four_in_two) (only Alarm) ≡ after table (noted 1 ∷ noted 0 ∷ []) }
 {}

@@ -1,4 +1,4 @@
-//! How notes are posted and taken. Before this: `waking`.
+//! How notes are posted and taken.
 use crate::proc::Proc;
 use sync_base::{Fault, NoteSet, Pid};
 

@@ -1,4 +1,4 @@
-//! A process. Before this: `roster`. After it: `sleeping`, `waking` and `noting`, its calls.
+//! A process.
 use rendez_words::{Seat, Words};
 use std::marker::Model;
 use sync_base::Pid;
@@ -27,7 +27,7 @@ impl<'k> Model for Proc<'k> {
 
 impl<'k> Proc<'k> {
     ghost use Rattle.std.specs.Prelude.{◌≡◌};
-    ghost use Rattle.rendez_words.specs.Words.{IsProcessOf, rendez_of};
+    ghost use Rattle.rendez_words.specs.Words.{IsProcessOf, procs_of, rendez_of};
 
     pub(crate) fn new(words: &'k Words, seat: Seat, pid: Pid) -> Proc<'k>
         requires seat { IsProcessOf words.now seat }
@@ -47,6 +47,13 @@ impl<'k> Proc<'k> {
         ensures { result.0 ≡ self.now.process.pid }
     {
         self.pid
+    }
+
+    // How many processes its kernel has.
+    pub(crate) fn proc_count(&self) -> u64
+        ensures { result ≡ procs_of self.now.words }
+    {
+        self.words.proc_count()
     }
 
     /// How many Rendez its kernel has: their numbers are those below. Takes no memory and doesn't

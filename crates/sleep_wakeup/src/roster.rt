@@ -1,14 +1,17 @@
-//! Who gives out the pids and the Rendez of a kernel. Before this: `kernel`. After it: `proc`.
+//! Who gives out the pids and the Rendez of a kernel, and knows its note groups.
+use crate::groups::Groups;
 use crate::proc::Proc;
 use rendez_words::{Pids, Words};
 use std::marker::Model;
-use sync_base::{Fault, Flags, Pid, RendezId};
+use sync_base::{Fault, Flags, NoteSet, Pid, RendezId};
 
-/// The pids and the Rendez of a kernel that were not given out yet. Each is given once.
+/// The pids and the Rendez of a kernel that were not given out yet, each of which is given once, and
+/// the note groups of its processes.
 #[derive(Drop)]
 pub struct Roster<'k> {
     words: &'k Words,
     pids: Pids,
+    groups: Groups,
     procs: u64,
     rendez: u64,
     next_pid: u64,
@@ -16,7 +19,7 @@ pub struct Roster<'k> {
 }
 
 impl<'k> Model for Roster<'k> {
-    ghost use Rattle.sleep_wakeup.specs.Kernel.{Unused, AreLeftOf};
+    ghost use Rattle.sleep_wakeup.specs.Kernel.{Unused, IsRoster};
 
     ghost Value = { Unused };
 
@@ -24,9 +27,10 @@ impl<'k> Model for Roster<'k> {
       words = roster.words.now;
       pids = roster.pids;
       rendez = roster.next_rendez;
+      groups = roster.groups.groups;
     } };
 
-    ghost invariant = { λ roster. AreLeftOf roster.words.now roster.pids (record {
+    ghost invariant = { λ roster. IsRoster roster.words.now roster.pids roster.groups (record {
       procs = roster.procs;
       rendez = roster.rendez;
       next_pid = roster.next_pid;
@@ -42,24 +46,36 @@ pub struct Left {
 }
 
 impl<'k> Roster<'k> {
-    ghost use Rattle.std.specs.Prelude.{◌≡◌, ◌+◌, ◌^◌, ◌<◌, ◌≤◌, ◌⊎◌, IfOk, IfErr, OnOk, OnErr};
-    ghost use Rattle.sync_base.specs.declared.fault.Fault.TheVariants.{NoRendez};
+    ghost use Rattle.std.specs.Prelude.{◌≡◌, ◌+◌, ◌^◌, ◌<◌, ◌≤◌, ◌⊎◌, length};
+    ghost use Rattle.std.specs.Prelude.{IfOk, IfErr, OnOk, OnErr};
+    ghost use Rattle.sync_base.specs.declared.fault.Fault.TheVariants.{NoProc, NoRendez};
     ghost use Rattle.rendez_words.specs.Words.{ArePidsOf, procs_of, rendez_of};
     ghost use Rattle.sleep_wakeup.specs.Forks.{MayFork, WhyNotForked, Forks};
-    ghost use Rattle.sleep_wakeup.specs.Kernel.{HasSizes, HasRendez, rendez_less};
+    ghost use Rattle.sleep_wakeup.specs.Kernel.{HasSizes, HasGroup, HasRendez, rendez_less};
+    ghost use Rattle.sleep_wakeup.specs.Groups.{AreGroups, group_of, notes_each};
 
     // The pids from 1 on and all Rendez.
-    pub(crate) fn new(words: &'k Words, procs: u64, rendez: u64, pids: Pids) -> Roster<'k>
+    pub(crate) fn new(
+        words: &'k Words,
+        procs: u64,
+        rendez: u64,
+        pids: Pids,
+        groups: Groups,
+    ) -> Roster<'k>
         requires sizes { HasSizes words.now procs rendez }
         requires pids { ArePidsOf words.now pids }
         requires next { pids.next ≡ 1 }
+        requires given { groups.given ≡ 1 }
+        requires room { groups.room ≡ procs }
         ensures words { result.words ≡ words.entry.now }
         ensures pids { result.pids ≡ pids }
         ensures rendez { result.rendez ≡ 0 }
+        ensures groups { result.groups ≡ groups.groups }
     {
         Roster {
             words,
             pids,
+            groups,
             procs,
             rendez,
             next_pid: 1,
@@ -67,7 +83,9 @@ impl<'k> Roster<'k> {
         }
     }
 
-    /// After fork(2): makes a child with the next pid where RFPROC is set, else nobody.
+    /// After fork(2): makes a child with the next pid where RFPROC is set, else nobody. A child is in
+    /// its parent's note group. With RFNOTEG it is the first of a new group; with RFNOTEG alone the
+    /// caller is.
     /// Refuses, in this order, as `BadFlags` for any other flag, and as `NoProc` where no pid is
     /// left. Takes no memory and doesn't wait.
     pub fn rfork(&mut self, parent: &mut Proc<'k>, flags: Flags) -> Result<Option<Proc<'k>>, Fault>
@@ -76,23 +94,70 @@ impl<'k> Roster<'k> {
         ensures fault { IfErr result (WhyNotForked self.old flags) }
         ensures refused { OnErr result (self.new ≡ self.old) }
 
-        // Otherwise the child has made no step.
-        ensures forked { IfOk result (λ child. Forks self.old flags child self.new) }
+        // Otherwise the child has made no step, and the flags say who is in which group.
+        ensures forked { IfOk result (λ child.
+            Forks parent.old.process.pid self.old flags child self.new) }
 
         // The parent is as it was.
         ensures parent { parent.new ≡ parent.old }
     {
-        let _ = parent.pid();
+        let caller = parent.pid();
+        let child_apart = Flags::RFPROC.bits() + Flags::RFNOTEG.bits();
         if flags.bits() == Flags::NONE.bits() {
             return Ok(None);
         }
-        if flags.bits() != Flags::RFPROC.bits() {
+        if flags.bits() == Flags::RFNOTEG.bits() {
+            self.groups.leave(caller);
+            return Ok(None);
+        }
+        if flags.bits() != Flags::RFPROC.bits() && flags.bits() != child_apart {
             return Err(Fault::BadFlags);
         }
         let seat = self.words.split(&mut self.pids)?;
         let pid = Pid(self.next_pid);
         self.next_pid += 1;
+        if flags.bits() == child_apart {
+            self.groups.begin();
+        } else {
+            self.groups.follow(caller);
+        }
         Ok(Some(Proc::new(self.words, seat, pid)))
+    }
+
+    /// Posts notes to each process of the note group that holds this one, the caller too where it
+    /// is in it, pids rising, and says how many they are. After postnote(2).
+    /// Refuses as `NoProc` a pid that was not given, and a caller of another kernel that has fewer
+    /// processes. Takes no memory and doesn't wait.
+    pub fn postnote_group(
+        &self,
+        poster: &mut Proc<'k>,
+        pid: Pid,
+        set: NoteSet,
+    ) -> Result<u64, Fault>
+        // Refused first, and then nothing changes.
+        ensures allowed { OnOk result (HasGroup self.now pid.0) }
+        ensures fault { IfErr result (λ fault. fault ≡ NoProc) }
+        ensures refused { OnErr result
+            (poster.old.words ≡ self.now.words → ¬ HasGroup self.now pid.0) }
+        ensures same { OnErr result (poster.new ≡ poster.old) }
+
+        // Otherwise the notes are pending at each process of the group.
+        ensures noted { OnOk result (poster.new.process
+            ≡ notes_each poster.old.process (group_of pid.0 self.now.groups) set) }
+        ensures count { IfOk result (λ count. count ≡ length (group_of pid.0 self.now.groups)) }
+        ensures words { poster.new.words ≡ poster.old.words }
+    {
+        if poster.proc_count() < self.procs || !self.groups.has(pid) {
+            return Err(Fault::NoProc);
+        }
+        Ok(self.groups.post(poster, pid, set))
+    }
+
+    /// Each process that was made is in one note group, and stands there once.
+    pub fn are_groups(&self)
+        ensures { AreGroups self.now.groups self.now.pids.next }
+    {
+        self.groups.are_groups();
     }
 
     /// The next Rendez. Refuses as `NoRendez` where none is left.

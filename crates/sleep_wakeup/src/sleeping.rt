@@ -1,4 +1,4 @@
-//! How a process sleeps. Before this: `proc`. After it: `waking`.
+//! How a process sleeps.
 ghost use Rattle.std.specs.Prelude.{◌≡◌, ◌⊎◌, IfOk, IfErr, OnOk};
 ghost use Rattle.sync_base.specs.NoteSet.{no_notes};
 ghost use Rattle.rendez_words.specs.Words.{IsProcessOf};

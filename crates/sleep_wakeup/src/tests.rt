@@ -1,5 +1,6 @@
 //! Processes that sleep, wake and post notes. Every test ends by itself, whatever the schedule.
-//! `note_at` is a probe that acts between two steps of a sleep, `crowd` has many processes at once.
+//! `note_at` is a probe that acts between two steps of a sleep, `visits` has the points that it
+//! passes, `crowd` many processes at once, `groups` note groups.
 ghost use Rattle.std.specs.Prelude.{◌≡◌};
 ghost use Rattle.sleep_core.specs.Limits.{IsWorldSize};
 ghost use Rattle.rendez_words.specs.Words.{procs_of, rendez_of};
@@ -14,12 +15,14 @@ use std::thread::{Threads, join};
 use sync_base::{Fault, Flags, Note, NoteSet, Pid, RendezId};
 
 mod crowd;
+mod groups;
 mod note_at;
 mod pages;
+mod visits;
 
 use note_at::{NoteAt, SleepAt};
 
-const ROUNDS: u64 = 100_000;
+const ROUNDS: u64 = 5_000;
 
 const INPUT: RendezId = RendezId(0);
 

@@ -1,4 +1,4 @@
-//! How a process wakes another. Before this: `sleeping`. After it: `noting`.
+//! How a process wakes another.
 ghost use Rattle.std.specs.Prelude.{◌≡◌, ◌≤◌, ◌<◌, IfOk, IfErr, OnOk, OnErr};
 ghost use Rattle.sync_base.specs.declared.fault.Fault.TheVariants.{NoRendez};
 ghost use Rattle.rendez_words.specs.Process.{phase_in};

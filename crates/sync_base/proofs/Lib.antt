@@ -1,1 +1,4 @@
 mod PlainPipeLemmas
+mod StreamLawLemmas
+mod StreamLemmas
+mod WorkedStreams

@@ -1,11 +1,15 @@
 -- What holds of every direction of a pipe, said of the definitions alone.
-use Rattle.std.specs.Prelude.{◌≡◌, ℕ, ◌<◌, ◌≤◌, false, List, length, Ok, Err}
+use Rattle.std.specs.Prelude.{drop, ◌≡◌, ℕ, ◌<◌, ◌≤◌, false, List, length, Ok, Err}
 use Rattle.sync_base.specs.declared.answers.WriteAnswer.TheVariants.{Full, Hungup}
 use Rattle.sync_base.specs.declared.answers.ReadAnswer.{ReadAnswer}
 use Rattle.sync_base.specs.declared.fault.Fault.TheVariants.{TooBig, BadCount}
 use Rattle.sync_base.specs.declared.limits.TheConstants.{ATOMIC_SIZE}
 use Rattle.sync_base.specs.Write.{Write}
-use Rattle.sync_base.specs.Pipe.{PipeState, IsPipeState, opening, MayAnswerWrite, MayAnswerRead, write_answer, write_result, read_answer, read_result, after_write, after_read, after_hangup}
+use Rattle.sync_base.specs.declared.mode.Mode.{Mode}
+use Rattle.sync_base.specs.declared.mode.Mode.TheVariants.{Message, Stream}
+use Rattle.sync_base.specs.Pipe.{PipeState, IsPipeState, opening_in, unread_bytes, MayAnswerWrite}
+use Rattle.sync_base.specs.Pipe.{MayAnswerRead, MayAnswerStreamRead, write_answer, write_result}
+use Rattle.sync_base.specs.Pipe.{read_answer, read_result, after_write, after_read, after_hangup}
 
 -- what a write is answered may be answered
 abbrev pub WriteAnswersApply : Type 0
@@ -40,20 +44,54 @@ abbrev pub OtherReadsAreAnswered : Type 0
 OtherReadsAreAnswered =
     (most : ℕ) (s : PipeState) → 0 < most → read_result most s ≡ Ok (read_answer most s)
 
--- what a read is answered may be answered, and it is End where nothing is left of a hung up
--- direction
+-- what a read in message mode is answered may be answered of one write, and it is End where nothing
+-- is left of a hung up direction
 abbrev pub ReadAnswersApply : Type 0
-ReadAnswersApply = (most : ℕ) (s : PipeState) → MayAnswerRead most s (read_answer most s)
+ReadAnswersApply =
+    (most : ℕ) (s : PipeState) → s.mode ≡ Message → MayAnswerRead most s (read_answer most s)
 
 abbrev pub EndComesBeforeEmpty : Type 0
 EndComesBeforeEmpty =
     (most : ℕ) (s : PipeState)
+    → s.mode ≡ Message
     → MayAnswerRead most s ReadAnswer.End
     → read_answer most s ≡ ReadAnswer.End
 
+-- the same of a read in stream mode, which has any number of writes before it
+abbrev pub StreamReadAnswersApply : Type 0
+StreamReadAnswersApply =
+    (most : ℕ) (s : PipeState)
+    → 0 < most
+    → s.mode ≡ Stream
+    → MayAnswerStreamRead most s (read_answer most s)
+
+abbrev pub StreamEndComesBeforeEmpty : Type 0
+StreamEndComesBeforeEmpty =
+    (most : ℕ) (s : PipeState)
+    → s.mode ≡ Stream
+    → MayAnswerStreamRead most s ReadAnswer.End
+    → read_answer most s ≡ ReadAnswer.End
+
+-- what a read in stream mode leaves unread is just what is behind the bytes that it had room for
+abbrev pub StreamReadsLoseNothing : Type 0
+StreamReadsLoseNothing =
+    (most : ℕ) (s : PipeState)
+    → s.mode ≡ Stream
+    → IsPipeState s
+    → unread_bytes (after_read most s) ≡ drop most (unread_bytes s)
+
+-- where it had room for more than there is, each write is read whole, the empty ones too
+abbrev pub StreamReadsPassAll : Type 0
+StreamReadsPassAll =
+    (most : ℕ) (s : PipeState)
+    → s.mode ≡ Stream
+    → IsPipeState s
+    → length (unread_bytes s) < most
+    → (after_read most s).read_whole ≡ length s.accepted
+
 -- each state from the opening on is a state of a pipe
 abbrev pub OpeningIsState : Type 0
-OpeningIsState = (limit : ℕ) → IsPipeState (opening limit)
+OpeningIsState = (mode : Mode) (limit : ℕ) → IsPipeState (opening_in mode limit)
 
 abbrev pub WritesKeepState : Type 0
 WritesKeepState =

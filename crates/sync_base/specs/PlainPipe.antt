@@ -1,7 +1,9 @@
 -- What a pipe for one thread keeps of a direction: the writes that are not read whole.
-use Rattle.std.specs.Prelude.{◌≡◌, ℕ, ◌-◌, ◌<◌, ◌≤◌, nat_lt, if◌then◌else◌, Bool, List, [], ◌∷◌, length, drop, ◌⊎◌}
+use Rattle.std.specs.Prelude.{◌≡◌, ℕ, ◌-◌, ◌<◌, ◌≤◌, nat_lt, if◌then◌else◌, Bool, List, [], ◌∷◌}
+use Rattle.std.specs.Prelude.{length, drop, ◌⊎◌}
 use Rattle.sync_base.specs.Write.{Write}
-use Rattle.sync_base.specs.Pipe.{PipeState}
+use Rattle.sync_base.specs.Pipe.{PipeState, Reach, reach_of, joined}
+use Rattle.sync_base.specs.declared.mode.Mode.{Mode}
 use Rattle.sync_base.specs.declared.limits.TheConstants.{MAX_PIPE_LIMIT}
 use Rattle.sync_base.specs.declared.answers.ReadAnswer.{ReadAnswer}
 use Rattle.sync_base.specs.declared.answers.ReadAnswer.TheVariants.{Got, Empty, End}
@@ -11,6 +13,7 @@ use Rattle.sync_base.specs.declared.answers.Lent.TheVariants as lent
 -- what is kept
 pub record Kept : Type 0 where
   pub limit : ℕ
+  pub mode : Mode
   pub unread : List Write
   pub offset : ℕ
   pub hung : Bool
@@ -18,6 +21,7 @@ pub record Kept : Type 0 where
 -- it keeps all of this state but the writes that are read whole
 pub record Shows (kept : Kept) (s : PipeState) : Type 0 where
   pub limit : kept.limit ≡ s.limit
+  pub mode : kept.mode ≡ s.mode
   pub unread : kept.unread ≡ drop s.read_whole s.accepted
   pub offset : kept.offset ≡ s.offset
   pub hung : kept.hung ≡ s.hung
@@ -27,6 +31,15 @@ pub record Shows (kept : Kept) (s : PipeState) : Type 0 where
 abbrev pub first_bytes : List Write → List ℕ
 first_bytes [] = []
 first_bytes (write ∷ writes) = write.bytes
+
+-- the bytes that are kept and not read
+abbrev pub kept_bytes : Kept → List ℕ
+kept_bytes kept = drop kept.offset (joined kept.unread)
+
+-- what is kept behind a read that goes on and comes so far
+abbrev pub kept_behind : Kept → Reach → Kept
+kept_behind kept reach =
+    record kept { unread = drop reach.whole kept.unread; offset = reach.offset }
 
 -- how many of them no read has begun
 abbrev pub kept_waiting : Kept → ℕ

@@ -3,8 +3,8 @@ ghost use Rattle.std.specs.Prelude.{◌≡◌, ℕ, max};
 ghost use Rattle.std.specs.Int.{bit_at};
 ghost use Rattle.sync_base.specs.Flags.{bits_of};
 
-/// A set of flags of rfork. Bit 0 is RFPROC and bit 1 is RFREND; the numbers are the library's own.
-/// Any other bit may be set, so that a call can refuse it.
+/// A set of flags of rfork. Bit 0 is RFPROC, bit 1 RFREND and bit 2 RFNOTEG; the numbers are the
+/// library's own. Any other bit may be set, so that a call can refuse it.
 #[derive(Clone, Copy, Debug, PartialEq, Eq)]
 pub struct Flags {
     bits: u32,
@@ -19,6 +19,9 @@ impl Flags {
 
     /// A new tag space is made, where calls of rendezvous meet.
     pub const RFREND: Flags = Flags { bits: 2 };
+
+    /// A new note group is made, whose members a note to one of them reaches.
+    pub const RFNOTEG: Flags = Flags { bits: 4 };
 
     /// The flags with these bits, known or not.
     pub const fn from_bits(bits: u32) -> Self

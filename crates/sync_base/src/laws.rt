@@ -3,12 +3,18 @@
 ghost use Rattle.std.specs.Prelude.{◌≡◌};
 ghost use Rattle.sync_base.specs.Flags.{bits_of};
 ghost use Rattle.sync_base.specs.declared.flags.TheConstants.Flags.{NONE, RFPROC, RFREND};
+ghost use Rattle.sync_base.specs.declared.flags.TheConstants.Flags.{RFNOTEG};
 ghost use Rattle.sync_base.specs.declared.limits.TheConstants.{MAX_PROCS, MAX_RENDEZ};
 ghost use Rattle.sync_base.specs.declared.limits.TheConstants.{MAX_PIPE_LIMIT, MAX_WRITERS};
 ghost use Rattle.sync_base.specs.declared.limits.TheConstants.{ATOMIC_SIZE, TOP_LEVEL, LAST_WRITE};
 ghost use Rattle.sync_base.specs.PipeLaws.{TooBigComesFirst, OtherWritesAreAnswered};
 ghost use Rattle.sync_base.specs.PipeLaws.{BadCountComesFirst, OtherReadsAreAnswered};
-ghost use Rattle.sync_base.specs.PipeLaws.{WriteAnswersApply, HungupComesFirst, FullComesBeforeTaken, ReadAnswersApply, EndComesBeforeEmpty, OpeningIsState, WritesKeepState, ReadsKeepState, HangupKeepsState};
+ghost use Rattle.sync_base.specs.PipeLaws.{WriteAnswersApply, HungupComesFirst};
+ghost use Rattle.sync_base.specs.PipeLaws.{FullComesBeforeTaken, ReadAnswersApply};
+ghost use Rattle.sync_base.specs.PipeLaws.{EndComesBeforeEmpty, StreamReadAnswersApply};
+ghost use Rattle.sync_base.specs.PipeLaws.{StreamEndComesBeforeEmpty, StreamReadsLoseNothing};
+ghost use Rattle.sync_base.specs.PipeLaws.{StreamReadsPassAll, OpeningIsState, WritesKeepState};
+ghost use Rattle.sync_base.specs.PipeLaws.{ReadsKeepState, HangupKeepsState};
 
 /// A write above the atomic size and a read of no bytes are refused first, and no others are.
 pub fn refusals_come_first()
@@ -25,6 +31,15 @@ pub fn first_answer_that_applies()
     ensures full { FullComesBeforeTaken }
     ensures read { ReadAnswersApply }
     ensures end { EndComesBeforeEmpty }
+    ensures stream_read { StreamReadAnswersApply }
+    ensures stream_end { StreamEndComesBeforeEmpty }
+{}
+
+/// A read in stream mode leaves just the bytes that it had no room for, and where it had room for
+/// more than there is, no write.
+pub fn stream_reads_go_on()
+    ensures loses_nothing { StreamReadsLoseNothing }
+    ensures passes_all { StreamReadsPassAll }
 {}
 
 /// From the opening on the position is within what was accepted, a begun write has a byte left, and
@@ -42,7 +57,7 @@ pub fn limits_by_number()
     ensures rendez { MAX_RENDEZ ≡ 8192 }
     ensures pipe_limit { MAX_PIPE_LIMIT ≡ 1024 }
     ensures writers { MAX_WRITERS ≡ 64 }
-    ensures atomic_size { ATOMIC_SIZE ≡ 8192 }
+    ensures atomic_size { ATOMIC_SIZE ≡ 65536 }
     ensures top_level { TOP_LEVEL ≡ 18446744073709551615 }
     ensures last_write { LAST_WRITE ≡ 4611686018427387903 }
 {}
@@ -52,4 +67,5 @@ pub fn flags_by_number()
     ensures none { bits_of NONE ≡ 0 }
     ensures rfproc { bits_of RFPROC ≡ 1 }
     ensures rfrend { bits_of RFREND ≡ 2 }
+    ensures rfnoteg { bits_of RFNOTEG ≡ 4 }
 {}

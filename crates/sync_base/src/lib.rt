@@ -1,7 +1,7 @@
 //! What every layer of the library speaks of: the names of processes, Rendez and tags, the notes,
 //! the flags of rfork, the faults, the limits, and a pipe for one thread.
-//! Read `ids`, `note`, `flags`, `limits`, `fault`, and then `plain_pipe`; `probe` is for tests of
-//! calls.
+//! Read `ids`, `note`, `flags`, `limits`, `fault`; then `piece`, `answers`, `mode`, `plain_pipe`
+//! and what holds of it, `laws`; `probe` is for tests of calls.
 #![tactic(auto)]
 
 pub mod answers;
@@ -10,6 +10,7 @@ pub mod flags;
 pub mod ids;
 pub mod laws;
 pub mod limits;
+pub mod mode;
 pub mod note;
 pub mod piece;
 pub mod plain_pipe;
@@ -19,6 +20,7 @@ pub use answers::{Lent, ReadAnswer, WriteAnswer};
 pub use fault::Fault;
 pub use flags::Flags;
 pub use ids::{Pid, RendezId, Tag};
+pub use mode::Mode;
 pub use note::{Note, NoteSet};
 pub use piece::Piece;
 pub use plain_pipe::PlainPipe;

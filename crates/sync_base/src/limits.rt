@@ -14,7 +14,7 @@ pub const MAX_PIPE_LIMIT: u64 = 1_024;
 pub const MAX_WRITERS: u64 = 64;
 
 /// The most bytes of one write.
-pub const ATOMIC_SIZE: usize = 8_192;
+pub const ATOMIC_SIZE: usize = 65_536;
 
 /// The level of a hangup. No level is above it, so nobody sleeps with it as a threshold.
 pub const TOP_LEVEL: u64 = u64::MAX;

@@ -1,13 +1,21 @@
 //! One direction of a pipe for one thread, after pipe(2) and pipe(3). It keeps the writes that are
-//! not read whole, so what it holds is bounded by its limit.
-ghost use Rattle.std.specs.Prelude.{◌≡◌, ◌⊎◌, ◌↔◌, ◌<◌, ℕ, length, drop, Ok, IfOk, IfErr, OnOk, OnErr, IsErrOf};
-ghost use Rattle.sync_base.specs.Pipe.{PipeState, opening, write_answer, after_write, read_answer, after_read, after_hangup, IsGot};
-ghost use Rattle.sync_base.specs.PlainPipe.{Shows, IsBadLimit, kept_waiting, first_bytes, lent_answer};
+//! not read whole, so what it holds is bounded by its limit. Its mode says whether a read stops at
+//! the end of a write.
+ghost use Rattle.std.specs.Prelude.{◌≡◌, ◌≢◌, [], take, ◌++◌, IsErr, ◌⊎◌, ◌↔◌, ◌<◌, ℕ, length};
+ghost use Rattle.std.specs.Prelude.{drop, Ok, IfOk, IfErr, OnOk, OnErr, IsErrOf};
+ghost use Rattle.sync_base.specs.Pipe.{PipeState, opening, stream_opening, opening_in};
+ghost use Rattle.sync_base.specs.Pipe.{write_answer, after_write, read_answer, after_read};
+ghost use Rattle.sync_base.specs.Pipe.{after_hangup, IsGot, message_answer, after_message};
+ghost use Rattle.sync_base.specs.Pipe.{bytes_read, nothing_read, reach_of};
+ghost use Rattle.sync_base.specs.PlainPipe.{Shows, IsBadLimit, kept_waiting, kept_bytes};
+ghost use Rattle.sync_base.specs.PlainPipe.{kept_behind, first_bytes, lent_answer};
+ghost use Rattle.sync_base.specs.declared.mode.Mode.TheVariants.{Message, Stream};
 ghost use Rattle.sync_base.specs.declared.limits.TheConstants.{ATOMIC_SIZE};
 
 use crate::answers::{Lent, ReadAnswer, WriteAnswer};
 use crate::fault::Fault;
 use crate::limits::{ATOMIC_SIZE, MAX_PIPE_LIMIT};
+use crate::mode::Mode;
 use crate::piece::Piece;
 use std::alloc::{AllocError, Global};
 use std::collections::VecDeque;
@@ -33,6 +41,7 @@ impl Model for HeldWrite {
 #[derive(Debug, Drop)]
 pub struct PlainPipe {
     limit: u64,
+    mode: Mode,
     held: VecDeque<HeldWrite>,
     /// How many bytes of the first write held are read.
     offset: usize,
@@ -49,6 +58,7 @@ impl Model for PlainPipe {
 
     ghost view = { λ pipe. record {
       limit = pipe.limit;
+      mode = pipe.mode;
       unread = pipe.held.items;
       offset = pipe.offset;
       hung = pipe.hung;
@@ -60,7 +70,8 @@ impl Model for PlainPipe {
 }
 
 impl PlainPipe {
-    /// An empty pipe that holds at most `limit` writes that no read has begun.
+    /// An empty pipe that holds at most `limit` writes that no read has begun. A read stops at the
+    /// end of a write.
     ///
     /// BadSize: the limit is not from 1 to 1,024. Memory: room for as many writes was refused.
     pub fn new(alloc: Global, limit: u64) -> Result<Self, Fault>
@@ -69,17 +80,41 @@ impl PlainPipe {
         ensures faults { IfErr result (λ fault.
             (fault ≡ Fault.BadSize) ⊎ (fault ≡ Fault.Memory)) }
     {
+        PlainPipe::new_in(alloc, Mode::Message, limit)
+    }
+
+    /// The same of a pipe in stream mode: a read goes on from write to write.
+    ///
+    /// BadSize: the limit is not from 1 to 1,024. Memory: room for as many writes was refused.
+    pub fn new_stream(alloc: Global, limit: u64) -> Result<Self, Fault>
+        ensures opening { IfOk result (λ pipe. Shows pipe (stream_opening limit)) }
+        ensures bad_size { IsErrOf result Fault.BadSize ↔ IsBadLimit limit }
+        ensures faults { IfErr result (λ fault.
+            (fault ≡ Fault.BadSize) ⊎ (fault ≡ Fault.Memory)) }
+    {
+        PlainPipe::new_in(alloc, Mode::Stream, limit)
+    }
+
+    fn new_in(alloc: Global, mode: Mode, limit: u64) -> Result<Self, Fault>
+        ensures opening { IfOk result (λ pipe. Shows pipe (opening_in mode limit)) }
+        ensures bad_size { IsErrOf result Fault.BadSize ↔ IsBadLimit limit }
+        ensures faults { IfErr result (λ fault.
+            (fault ≡ Fault.BadSize) ⊎ (fault ≡ Fault.Memory)) }
+    {
         if limit == 0 || limit > MAX_PIPE_LIMIT {
             return Err(Fault::BadSize);
         }
-        // The begun write stands beside those that the limit counts.
-        let held = VecDeque::with_capacity(alloc, limit as usize + 1)?;
+        // The begun write stands beside those that the limit counts, and each has one block.
+        let most = limit as usize + 1;
+        let held = VecDeque::with_capacity(alloc, most)?;
+        let spare = Vec::with_capacity(alloc, most)?;
         Ok(PlainPipe {
             limit,
+            mode,
             held,
             offset: 0,
             hung: false,
-            spare: Vec::new(alloc),
+            spare,
         })
     }
 
@@ -118,10 +153,12 @@ impl PlainPipe {
         Ok(WriteAnswer::Taken)
     }
 
-    /// Reads at most `most` bytes of the next write. It never waits, and takes memory for the bytes
-    /// that it gives; `peek` and `pass` are the same in two calls, and take none.
+    /// Reads at most `most` bytes: of the next write alone, or in stream mode of as many writes as
+    /// they are in. It never waits, and takes memory for the bytes that it gives; `peek` and `pass`
+    /// are the same in two calls.
     ///
-    /// BadCount: `most` is 0. Memory: in place of `Got`. Neither changes anything.
+    /// BadCount: `most` is 0. Memory: in place of `Got`. Neither changes anything, and no empty
+    /// write is passed.
     pub fn read(&mut self, most: u64) -> Result<ReadAnswer, Fault>
         // Refused first, and then nothing changes.
         ensures bad_count { IsErrOf result Fault.BadCount ↔ (most ≡ 0) }
@@ -137,10 +174,10 @@ impl PlainPipe {
         ensures memory { (s : PipeState) → Shows self.old s → IsErrOf result Fault.Memory →
             IsGot (read_answer most s) }
     {
-        let answer = match self.peek(most)? {
-            Lent::Got(bytes) => {
-                ReadAnswer::Got(Piece::of(Vec::from_slice(*self.held.allocator(), bytes)?))
-            }
+        let alloc = *self.held.allocator();
+        let mut room = Vec::new(alloc);
+        let answer = match self.peek(most, &mut room)? {
+            Lent::Got(bytes) => ReadAnswer::Got(Piece::of(Vec::from_slice(alloc, bytes)?)),
             Lent::Empty => ReadAnswer::Empty,
             Lent::End => ReadAnswer::End,
         };
@@ -148,34 +185,101 @@ impl PlainPipe {
         Ok(answer)
     }
 
-    /// What a read of at most so many bytes would be answered, its bytes lent. It takes no memory, and
-    /// nothing changes.
+    /// What a read of at most so many bytes would be answered, its bytes lent. Nothing changes. In
+    /// stream mode the bytes are joined in `room`, which takes memory where it is too small; else
+    /// `room` is not looked at, and no memory is taken.
     ///
-    /// BadCount: `most` is 0.
-    pub fn peek(&self, most: u64) -> Result<Lent<'_>, Fault>
+    /// BadCount: `most` is 0. Memory: in stream mode, in place of `Got`.
+    pub fn peek<'a>(&'a self, most: u64, room: &'a mut Vec<u8>) -> Result<Lent<'a>, Fault>
         ensures bad_count { IsErrOf result Fault.BadCount ↔ (most ≡ 0) }
-        ensures faults { IfErr result (λ fault. fault ≡ Fault.BadCount) }
+        ensures faults { IfErr result (λ fault.
+            (fault ≡ Fault.BadCount) ⊎ (fault ≡ Fault.Memory)) }
         ensures answer { (s : PipeState) → Shows self.now s →
             IfOk result (λ lent. lent_answer lent ≡ read_answer most s) }
+        ensures memory { (s : PipeState) → Shows self.now s → IsErrOf result Fault.Memory →
+            (s.mode ≡ Stream) × IsGot (read_answer most s) }
     {
         if most == 0 {
             return Err(Fault::BadCount);
         }
-        let Some(first) = self.held.front() else {
-            return Ok(if self.hung { Lent::End } else { Lent::Empty });
-        };
-        let rest = &first.bytes[self.offset..];
-        if rest.len() as u64 > most {
-            return Ok(Lent::Got(&rest[..most as usize]));
+        match self.mode {
+            Mode::Message => Ok(self.peek_piece(most)),
+            Mode::Stream => Ok(self.peek_bytes(most, room)?),
         }
-        Ok(Lent::Got(rest))
     }
 
-    /// Moves the position as a read of at most so many bytes does, and gives none of them. The block
-    /// of a write that is used up is kept for a write to come. It takes no memory but for the place
-    /// of that block.
+    /// Moves the position as a read of at most so many bytes does, and gives none of them. The
+    /// block of a write that is used up is kept for a write to come. It takes no memory.
     pub fn pass(&mut self, most: u64)
         ensures { (s : PipeState) → Shows self.old s → Shows self.new (after_read most s) }
+    {
+        match self.mode {
+            Mode::Message => self.pass_piece(most),
+            Mode::Stream => self.pass_bytes(most),
+        }
+    }
+
+    /// Closes the direction for writes, for good. What was accepted stays readable.
+    pub fn hangup(&mut self)
+        ensures { (s : PipeState) → Shows self.old s → Shows self.new (after_hangup s) }
+    {
+        self.hung = true;
+    }
+
+    /// The next piece of the next write.
+    fn peek_piece(&self, most: u64) -> Lent<'_>
+        ensures { (s : PipeState) → Shows self.now s → lent_answer result ≡ message_answer most s }
+    {
+        let Some(first) = self.held.front() else {
+            return self.lend_nothing();
+        };
+        Lent::Got(front_of(&first.bytes[self.offset..], most))
+    }
+
+    /// The next bytes, of however many writes.
+    fn peek_bytes<'a>(&self, most: u64, room: &'a mut Vec<u8>) -> Result<Lent<'a>, AllocError>
+        ensures answer { IfOk result (λ lent.
+            lent_answer lent ≡ bytes_read self.now.hung (take most (kept_bytes self.now))) }
+        ensures some { IsErr result → take most (kept_bytes self.now) ≢ [] }
+    {
+        room.clear();
+        self.join_onto(most, room)?;
+        if room.is_empty() {
+            return Ok(self.lend_nothing());
+        }
+        Ok(Lent::Got(room.as_slice()))
+    }
+
+    /// What a read that finds no byte is answered.
+    fn lend_nothing<'a>(&self) -> Lent<'a>
+        ensures { lent_answer result ≡ nothing_read self.now.hung }
+    {
+        if self.hung { Lent::End } else { Lent::Empty }
+    }
+
+    /// Puts the next bytes behind these, as many as there are and at most so many.
+    fn join_onto(&self, most: u64, room: &mut Vec<u8>) -> Result<(), AllocError>
+        ensures joined { OnOk result
+            (room.new.items ≡ room.old.items ++ take most (kept_bytes self.now)) }
+        ensures some { IsErr result → take most (kept_bytes self.now) ≢ [] }
+    {
+        let mut left = most;
+        let mut offset = self.offset;
+        'joining: for at in 0..self.held.len() {
+            if left == 0 {
+                return Ok(());
+            }
+            let part = front_of(&self.held[at].bytes[offset..], left);
+            append(room, part)?;
+            left -= part.len() as u64;
+            offset = 0;
+        }
+        Ok(())
+    }
+
+    /// Moves the position behind the next piece of the next write.
+    fn pass_piece(&mut self, most: u64)
+        ensures { (s : PipeState) → Shows self.old s → Shows self.new (after_message most s) }
     {
         let Some(first) = self.held.front() else {
             return;
@@ -187,11 +291,23 @@ impl PlainPipe {
         self.pass_first();
     }
 
-    /// Closes the direction for writes, for good. What was accepted stays readable.
-    pub fn hangup(&mut self)
-        ensures { (s : PipeState) → Shows self.old s → Shows self.new (after_hangup s) }
+    /// Moves the position behind the next bytes, of however many writes.
+    fn pass_bytes(&mut self, most: u64)
+        ensures { self.new ≡ kept_behind self.old (reach_of most self.old.offset self.old.unread) }
     {
-        self.hung = true;
+        let mut left = most;
+        'passing: while left > 0 {
+            let Some(first) = self.held.front() else {
+                return;
+            };
+            let rest = (first.bytes.len() - self.offset) as u64;
+            if rest > left {
+                self.offset += left as usize;
+                return;
+            }
+            left -= rest;
+            self.pass_first();
+        }
     }
 
     /// A block of these bytes, in one that is spare where there is one.
@@ -215,14 +331,37 @@ impl PlainPipe {
         (self.held.len() - begun) as u64
     }
 
-    /// Takes the first write out, and keeps its block. Where no room is left for one more block,
-    /// this one is given back to the system.
+    /// Takes the first write out, and keeps its block. There are never more blocks than places for
+    /// them, which were made with the pipe, so that this takes no memory.
     fn pass_first(&mut self)
         requires { 0 < length self.old.unread }
         ensures { self.new ≡ record self.old { unread = drop 1 self.old.unread; offset = 0 } }
     {
         let HeldWrite { writer: _, bytes } = self.held.pop_front().unwrap();
         self.offset = 0;
-        let _ = self.spare.push(bytes);
+        if self.spare.len() < self.spare.capacity() {
+            let _ = self.spare.push(bytes);
+        }
     }
+}
+
+/// The first bytes of these, at most so many.
+fn front_of(bytes: &[u8], most: u64) -> &[u8]
+    ensures { result.now ≡ take most bytes.now }
+{
+    if bytes.len() as u64 > most {
+        return &bytes[..most as usize];
+    }
+    bytes
+}
+
+/// Puts bytes behind these. No bytes ask for no memory.
+fn append(room: &mut Vec<u8>, bytes: &[u8]) -> Result<(), AllocError>
+    ensures behind { OnOk result (room.new.items ≡ room.old.items ++ bytes.now) }
+    ensures some { IsErr result → bytes.now ≢ [] }
+{
+    if bytes.is_empty() {
+        return Ok(());
+    }
+    room.extend_from_slice(bytes)
 }

@@ -1,5 +1,7 @@
 //! What no clause says: printed texts, and that each call can succeed. The runs of a pipe are those
 //! of docs/SCRIPTS.md.
+mod refused;
+
 use crate::limits::{ATOMIC_SIZE, MAX_PIPE_LIMIT};
 use crate::{Fault, Flags, Note, NoteSet, PlainPipe, ReadAnswer, WriteAnswer};
 use std::alloc::Global;
@@ -58,6 +60,7 @@ fn flags_answer_as_sets(rt: HostRuntime) {
     let both = Flags::RFPROC.join(Flags::RFREND);
     assert_eq!(rt; both, Flags::from_bits(3));
     assert_eq!(rt; both.join(Flags::NONE).bits(), 3);
+    assert_eq!(rt; both.join(Flags::RFNOTEG), Flags::from_bits(7));
 }
 
 /// What a read must answer.
@@ -93,6 +96,36 @@ fn a_read_never_joins_two_writes(rt: HostRuntime) -> Result<(), Fail> {
 }
 
 #[test]
+fn a_stream_read_goes_on_from_write_to_write(rt: HostRuntime) -> Result<(), Fail> {
+    let mut pipe = PlainPipe::new_stream(rt.alloc(), 4)?;
+    assert_eq!(rt; pipe.write(0, b"abc"), Ok(WriteAnswer::Taken));
+    assert_eq!(rt; pipe.write(1, b"de"), Ok(WriteAnswer::Taken));
+    assert!(rt; reads(&mut pipe, 4, Wanted::Got(b"abcd")));
+    assert!(rt; reads(&mut pipe, 8, Wanted::Got(b"e")));
+    assert!(rt; reads(&mut pipe, 8, Wanted::Empty));
+    Ok(())
+}
+
+#[test]
+fn a_stream_read_passes_the_empty_writes_before_its_last_byte(rt: HostRuntime) -> Result<(), Fail> {
+    let mut pipe = PlainPipe::new_stream(rt.alloc(), 3)?;
+    assert_eq!(rt; pipe.write(0, b""), Ok(WriteAnswer::Taken));
+    assert_eq!(rt; pipe.write(0, b"a"), Ok(WriteAnswer::Taken));
+    assert_eq!(rt; pipe.write(0, b""), Ok(WriteAnswer::Taken));
+    assert!(rt; reads(&mut pipe, 1, Wanted::Got(b"a")));
+    // The empty write behind it stands still.
+    assert_eq!(rt; pipe.write(0, b"b"), Ok(WriteAnswer::Taken));
+    assert_eq!(rt; pipe.write(0, b"c"), Ok(WriteAnswer::Taken));
+    assert_eq!(rt; pipe.write(0, b"d"), Ok(WriteAnswer::Full));
+    assert!(rt; reads(&mut pipe, 8, Wanted::Got(b"bc")));
+    assert_eq!(rt; pipe.write(0, b""), Ok(WriteAnswer::Taken));
+    assert!(rt; reads(&mut pipe, 8, Wanted::Empty));
+    pipe.hangup();
+    assert!(rt; reads(&mut pipe, 8, Wanted::End));
+    Ok(())
+}
+
+#[test]
 fn a_begun_write_frees_its_place(rt: HostRuntime) -> Result<(), Fail> {
     let mut pipe = PlainPipe::new(rt.alloc(), 1)?;
     assert_eq!(rt; pipe.write(0, b"abc"), Ok(WriteAnswer::Taken));
@@ -117,6 +150,10 @@ fn what_is_out_of_range_is_refused(rt: HostRuntime) -> Result<(), Fail> {
     for limit in [0, MAX_PIPE_LIMIT + 1, u64::MAX] {
         assert_eq!(rt;
             PlainPipe::new(rt.alloc(), limit).err(),
+            Some(Fault::BadSize)
+        );
+        assert_eq!(rt;
+            PlainPipe::new_stream(rt.alloc(), limit).err(),
             Some(Fault::BadSize)
         );
     }

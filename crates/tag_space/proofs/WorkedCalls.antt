@@ -5,7 +5,8 @@ use Rattle.std.proofs.Common.{Ok, Err, ap, sym, ◌∙◌, ◌≢◌, ◌++◌}
 use Rattle.std.proofs.lemmas.Bool.{false≢true}
 use Rattle.histories.specs.declared.account.Account.{Account}
 use Rattle.kernel_lock.specs.Seats.{KnowsAllGiven, account_of, gave_of}
-use Rattle.sleep_wakeup.specs.Forks.{HasPid}
+use Rattle.sleep_wakeup.specs.Forks.{HasPid, asks_group}
+use Rattle.sleep_wakeup.specs.Groups.{begins, follows, leaves}
 use Rattle.sleep_wakeup.specs.Kernel.{Unused}
 use Rattle.rendez_words.specs.Process.{Process}
 use Rattle.rendez_words.specs.Steps.{notes}
@@ -18,6 +19,7 @@ use Rattle.tag_space.specs.declared.calls.GroupReply.TheVariants.{Wait}
 use Rattle.tag_space.specs.declared.space.TagSpace.{TagSpace}
 use Rattle.tag_space.specs.declared.forking.Child.{Child}
 use Rattle.tag_space.specs.declared.member.Member.{Member}
+use Rattle.tag_space.specs.Forks.{left_by}
 use Rattle.tag_space.specs.Forks.{AreKnown, asks_child, asks_space, callers_space, childs_space}
 use Rattle.tag_space.specs.Forks.{JoinsParent, ComesBack, LeavesMember, IsUntouched}
 use Rattle.tag_space.specs.Forks.{GivesMember, HasSpent}
@@ -189,11 +191,52 @@ both_ask_for_both = (refl, refl)
 no_flag_asks_for_nothing : (asks_child (flags 0) ≡ false) × (asks_space (flags 0) ≡ false)
 no_flag_asks_for_nothing = (refl, refl)
 
-three_is_known : AreKnown (flags 3)
-three_is_known = omega arith
+-- RFNOTEG asks for a note group, and for nothing of these
+rfnoteg_asks_for_a_group : (asks_group (flags 4) ≡ true) × (asks_group (flags 3) ≡ false)
+rfnoteg_asks_for_a_group = (refl, refl)
 
-four_is_not : AreKnown (flags 4) → ⊥
-four_is_not known = omega (arith, known)
+rfnoteg_asks_for_no_more : (asks_child (flags 4) ≡ false) × (asks_space (flags 4) ≡ false)
+rfnoteg_asks_for_no_more = (refl, refl)
+
+a_child_apart_is_a_child : (asks_child (flags 5) ≡ true) × (asks_space (flags 5) ≡ false)
+a_child_apart_is_a_child = (refl, refl)
+
+a_space_and_a_group_are_a_space : (asks_child (flags 6) ≡ false) × (asks_space (flags 6) ≡ true)
+a_space_and_a_group_are_a_space = (refl, refl)
+
+all_three_ask_for_all : (asks_child (flags 7) ≡ true) × (asks_space (flags 7) ≡ true)
+all_three_ask_for_all = (refl, refl)
+
+seven_is_known : AreKnown (flags 7)
+seven_is_known = omega arith
+
+eight_is_not : AreKnown (flags 8) → ⊥
+eight_is_not known = omega (arith, known)
+
+-- what is left says so too
+module _ (unused : Unused) (space : TagSpace) where
+  a_child_joins_its_parents_group : (left_by 0 unused space (flags 1)).groups
+      ≡ follows 0 unused.pids.next unused.groups
+  a_child_joins_its_parents_group = refl
+
+  a_child_apart_begins_one : (left_by 0 unused space (flags 5)).groups
+      ≡ begins unused.pids.next unused.groups
+  a_child_apart_begins_one = refl
+
+  a_child_in_a_new_space_begins_one : (left_by 0 unused space (flags 7)).groups
+      ≡ begins unused.pids.next unused.groups
+  a_child_in_a_new_space_begins_one = refl
+
+  a_caller_alone_leaves_its_group : (left_by 0 unused space (flags 4)).groups
+      ≡ leaves 0 unused.groups
+  a_caller_alone_leaves_its_group = refl
+
+  a_caller_in_a_new_space_leaves_it : (left_by 0 unused space (flags 6)).groups
+      ≡ leaves 0 unused.groups
+  a_caller_in_a_new_space_leaves_it = refl
+
+  a_caller_of_rfrend_stays_in_it : (left_by 0 unused space (flags 2)).groups ≡ unused.groups
+  a_caller_of_rfrend_stays_in_it = refl
 
 module _ (old new : TagSpace) where
   with_rfrend_alone_the_caller_moves : callers_space (flags 2) old (Some new) ≡ new
@@ -226,7 +269,7 @@ rfrend_alone_joins_nobody joins = false≢true joins.child
 both_join_nobody : JoinsParent (flags 3) → ⊥
 both_join_nobody joins = joins.no_space refl
 
-a_bad_flag_joins_nobody : JoinsParent (flags 4) → ⊥
+a_bad_flag_joins_nobody : JoinsParent (flags 8) → ⊥
 a_bad_flag_joins_nobody joins = false≢true joins.child
 
 -- without flags, and with both, the member is let alone
@@ -244,7 +287,7 @@ rfrend_moves_it leaves = leaves.stays refl
 
 module _ (unused : Unused) (space : TagSpace) (before after further : Member) where
   -- a refusal with any flags but RFPROC hands the member back as it was
-  a_bad_flag_hands_it_back : ComesBack unused space (flags 4) before after → after ≡ before
+  a_bad_flag_hands_it_back : ComesBack unused space (flags 8) before after → after ≡ before
   a_bad_flag_hands_it_back (inl same) = same
   a_bad_flag_hands_it_back (inr wants) = absurd (a_bad_flag_joins_nobody wants.joins)
 

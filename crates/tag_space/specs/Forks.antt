@@ -1,10 +1,12 @@
 -- What rfork does to tag spaces, after fork(2): a child is in its parent's space, but with RFREND
--- the child is the first in a new space, or, where there is no child, the caller is.
-use Rattle.std.specs.Prelude.{◌≡◌, ◌⊎◌, ⊤, ◌<◌, ◌==◌, ◌||◌, Bool, if◌then◌else◌, IsTrue}
+-- the child is the first in a new space, or, where there is no child, the caller is. RFNOTEG does
+-- the same for note groups, beside it.
+use Rattle.std.specs.Prelude.{◌≡◌, ◌⊎◌, ⊤, ◌<◌, ◌-◌, ◌==◌, ◌||◌, ℕ, Bool, if◌then◌else◌, IsTrue}
 use Rattle.std.specs.Prelude.{Option, Some, None}
 use Rattle.kernel_lock.specs.Seats.{KnowsAllGiven}
-use Rattle.sleep_wakeup.specs.Forks.{HasPid}
+use Rattle.sleep_wakeup.specs.Forks.{HasPid, asks_group}
 use Rattle.sleep_wakeup.specs.Kernel.{Unused, HasRendez, next_process, one_pid_less, rendez_less}
+use Rattle.sleep_wakeup.specs.Kernel.{regrouped}
 use Rattle.sync_base.specs.declared.fault.Fault.{Fault}
 use Rattle.sync_base.specs.declared.fault.Fault.TheVariants as fault
 use Rattle.sync_base.specs.declared.flags.Flags.{Flags}
@@ -16,17 +18,21 @@ use Rattle.tag_space.specs.declared.space.TagSpace.{TagSpace}
 use Rattle.tag_space.specs.Members.{IsMemberOf, IsSameMember}
 use Rattle.tag_space.specs.Spaces.{IsNewSpace, IsFirstMember, IsFurtherMember}
 
--- RFPROC and RFREND alone are known here
+-- the flags but RFNOTEG
+abbrev pub others_of : Flags → ℕ
+others_of flags = if asks_group flags then bits_of flags - 4 else bits_of flags
+
+-- RFPROC, RFREND and RFNOTEG alone are known here
 abbrev pub AreKnown : Flags → Type 0
-AreKnown flags = bits_of flags < 4
+AreKnown flags = others_of flags < 4
 
 -- RFPROC is set: a child is asked for
 abbrev pub asks_child : Flags → Bool
-asks_child flags = (bits_of flags == 1) || (bits_of flags == 3)
+asks_child flags = (others_of flags == 1) || (others_of flags == 3)
 
 -- RFREND is set: a new space is asked for
 abbrev pub asks_space : Flags → Bool
-asks_space flags = (bits_of flags == 2) || (bits_of flags == 3)
+asks_space flags = (others_of flags == 2) || (others_of flags == 3)
 
 -- a pid is left, where one is asked for
 abbrev pub MayHavePid : Unused → Flags → Type 0
@@ -95,15 +101,17 @@ HasChild unused space flags (Some child) =
     IsTrue (asks_child flags) × (child.proc ≡ next_process unused)
     × IsMemberOf space child.member
 
--- what is left: a pid less where a child was made, a row less where a space was made
-abbrev pub left_by : Unused → TagSpace → Flags → Unused
-left_by unused space flags =
+-- What is left: a row less where a space was made, and a pid less where a child was made. With
+-- RFNOTEG the child is in a note group of its own, and where there is no child the caller is.
+abbrev pub left_by : ℕ → Unused → TagSpace → Flags → Unused
+left_by parent unused space flags =
     let rows = if asks_space flags then rendez_less space.procs unused else unused in
-    if asks_child flags then one_pid_less rows else rows
+    if asks_child flags then one_pid_less parent (asks_group flags) rows
+    else regrouped parent (asks_group flags) rows
 
--- with RFREND alone the caller moves to the new space
+-- with RFREND and no RFPROC the caller moves to the new space
 abbrev pub MovesCaller : Flags → Type 0
-MovesCaller flags = bits_of flags ≡ 2
+MovesCaller flags = others_of flags ≡ 2
 
 -- the caller has the member that it had, unless it moves
 abbrev pub KeepsMember : Flags → Member → Member → Type 0

@@ -1,5 +1,4 @@
-//! What a member asks of its space, one request at a time. Before this: `space`. After it:
-//! `meeting`, which puts them together.
+//! What a member asks of its space, one request at a time.
 ghost use Rattle.std.specs.Prelude.{◌≡◌};
 ghost use Rattle.tag_space.specs.declared.calls.GroupCall.TheVariants.{Call, Collect, Leave};
 ghost use Rattle.tag_space.specs.Group.{member_of};

@@ -1,5 +1,5 @@
-//! What a member asks of a tag space, and what it is answered. Members count from 0.
-//! The reader comes from `lib`. After this: `limits`, and `place`, what a space keeps of a member.
+//! What a member asks of a tag space, and what it is answered. Members count from 0. The reader
+//! comes from `lib`.
 ghost use Rattle.std.specs.Prelude.{◌≡◌};
 ghost use Rattle.tag_space.specs.Group.{member_of};
 

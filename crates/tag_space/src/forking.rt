@@ -1,8 +1,8 @@
 //! How rfork(2) makes a child in a tag space, or gives it or the caller a new one.
-//! Before this: `meeting`. After it: `laws`.
 ghost use Rattle.std.specs.Prelude.{◌≡◌, ◌<◌, IfOk, IfErr, OnOk, OnErr, IfSome, None};
-ghost use Rattle.sleep_wakeup.specs.Forks.{HasPid};
-ghost use Rattle.sleep_wakeup.specs.Kernel.{next_process, one_pid_less, rendez_less};
+ghost use Rattle.sleep_wakeup.specs.Forks.{HasPid, asks_group};
+ghost use Rattle.sync_base.specs.Flags.{bits_of};
+ghost use Rattle.sleep_wakeup.specs.Kernel.{next_process, one_pid_less, rendez_less, regrouped};
 ghost use Rattle.tag_space.specs.Members.{IsMemberOf, IsSameMember};
 ghost use Rattle.tag_space.specs.Forks.{
   AreKnown,
@@ -12,6 +12,7 @@ ghost use Rattle.tag_space.specs.Forks.{
   callers_space,
   childs_space,
   left_by,
+  others_of,
   IsChild,
   IsFirstThere,
   IsGroup,
@@ -69,7 +70,8 @@ pub struct NotForked {
 
 /// After fork(2): makes a child with RFPROC, and a new tag space with RFREND. A child is in its
 /// parent's space, but with RFREND it is the first in a new one. With RFREND alone the caller is,
-/// and its old member is spent. A new space has as many members as the old one.
+/// and its old member is spent. A new space has as many members as the old one. With RFNOTEG a child
+/// is the first of a new note group, and without RFPROC the caller is.
 ///
 /// Refuses, in this order, as `BadFlags` for any other flag, `NoProc` where no pid is left,
 /// `NoRendez` where no row for a new space is left, `NoProc` where the old space has had all its
@@ -105,7 +107,8 @@ pub fn rfork<'k, R: Wait>(
     ensures kept { IfOk result (λ forked. KeepsMember flags member forked.member) }
     ensures first { IfOk result (λ forked.
         IsFirstThere forked.space forked.member forked.child) }
-    ensures left { OnOk result (roster.new ≡ left_by roster.old space.now flags) }
+    ensures left { OnOk result
+        (roster.new ≡ left_by parent.old.process.pid roster.old space.now flags) }
 
     // The caller's member makes no call, and gives no other but the child's.
     ensures untouched { IfOk result (λ forked. IsUntouched flags member forked.member) }
@@ -116,25 +119,39 @@ pub fn rfork<'k, R: Wait>(
     // The parent is as it was.
     ensures parent { parent.new ≡ parent.old }
 {
+    let apart = flags.bits() >= Flags::RFNOTEG.bits();
+    let others = others(flags);
     let both = Flags::RFPROC.bits() + Flags::RFREND.bits();
-    if flags.bits() == Flags::NONE.bits() {
+    if others == Flags::NONE.bits() {
+        leave_group(roster, parent, apart);
         Ok(Forked {
             member,
             space: None,
             child: None,
             spent: None,
         })
-    } else if flags.bits() == Flags::RFPROC.bits() {
-        fork_inside(rt, roster, parent, space, member)
-    } else if flags.bits() == Flags::RFREND.bits() {
-        regroup(alloc, roster, space, member)
-    } else if flags.bits() == both {
-        fork_outside(alloc, roster, parent, space, member)
+    } else if others == Flags::RFPROC.bits() {
+        fork_inside(rt, roster, parent, space, member, apart)
+    } else if others == Flags::RFREND.bits() {
+        regroup(alloc, roster, parent, space, member, apart)
+    } else if others == both {
+        fork_outside(alloc, roster, parent, space, member, apart)
     } else {
         Err(NotForked {
             member,
             fault: Fault::BadFlags,
         })
+    }
+}
+
+// The flags but RFNOTEG.
+fn others(flags: Flags) -> u32
+    ensures { result ≡ others_of flags }
+{
+    if flags.bits() >= Flags::RFNOTEG.bits() {
+        flags.bits() - Flags::RFNOTEG.bits()
+    } else {
+        flags.bits()
     }
 }
 
@@ -145,6 +162,7 @@ fn fork_inside<'k, R: Wait>(
     parent: &mut Proc<'k>,
     space: &TagSpace,
     member: Member,
+    apart: bool,
 ) -> Result<Forked<'k>, NotForked>
     requires { IsMemberOf space.now member }
     ensures fault { IfErr result (λ refused.
@@ -159,7 +177,8 @@ fn fork_inside<'k, R: Wait>(
     ensures further { IfOk result (λ forked.
         HasFurther space.now member forked.member forked.child) }
     ensures spent { IfOk result (λ forked. forked.spent ≡ None) }
-    ensures left { OnOk result (roster.new ≡ one_pid_less roster.old) }
+    ensures left { OnOk result
+        (roster.new ≡ one_pid_less parent.old.process.pid apart roster.old) }
     ensures parent { parent.new ≡ parent.old }
 {
     let mut member = member;
@@ -174,7 +193,7 @@ fn fork_inside<'k, R: Wait>(
             member,
             space: None,
             child: Some(Child {
-                proc: next_child(roster, parent),
+                proc: next_child(roster, parent, apart),
                 member: childs,
             }),
             spent: None,
@@ -187,8 +206,10 @@ fn fork_inside<'k, R: Wait>(
 fn regroup<'k>(
     alloc: Global,
     roster: &mut Roster<'k>,
+    parent: &mut Proc<'k>,
     space: &TagSpace,
     member: Member,
+    apart: bool,
 ) -> Result<Forked<'k>, NotForked>
     ensures fault { IfErr result (λ refused.
         WhyNoGroup roster.old space.now.procs refused.fault) }
@@ -201,15 +222,20 @@ fn regroup<'k>(
     ensures first { IfOk result (λ forked.
         IsFirstThere forked.space forked.member forked.child) }
     ensures spent { IfOk result (λ forked. IsSpent member forked.spent) }
-    ensures left { OnOk result (roster.new ≡ rendez_less space.now.procs roster.old) }
+    ensures left { OnOk result (roster.new
+        ≡ regrouped parent.old.process.pid apart (rendez_less space.now.procs roster.old)) }
+    ensures parent { parent.new ≡ parent.old }
 {
     match space.new_group(alloc, roster) {
-        Ok(Opened { space, member: own }) => Ok(Forked {
-            member: own,
-            space: Some(space),
-            child: None,
-            spent: Some(SpentMember { member }),
-        }),
+        Ok(Opened { space, member: own }) => {
+            leave_group(roster, parent, apart);
+            Ok(Forked {
+                member: own,
+                space: Some(space),
+                child: None,
+                spent: Some(SpentMember { member }),
+            })
+        }
         Err(fault) => Err(NotForked { member, fault }),
     }
 }
@@ -221,6 +247,7 @@ fn fork_outside<'k>(
     parent: &mut Proc<'k>,
     space: &TagSpace,
     member: Member,
+    apart: bool,
 ) -> Result<Forked<'k>, NotForked>
     ensures fault { IfErr result (λ refused.
         WhyNotOutside roster.old space.now refused.fault) }
@@ -234,7 +261,8 @@ fn fork_outside<'k>(
     ensures first { IfOk result (λ forked.
         IsFirstThere forked.space forked.member forked.child) }
     ensures left { OnOk result
-        (roster.new ≡ one_pid_less (rendez_less space.now.procs roster.old)) }
+        (roster.new ≡ one_pid_less parent.old.process.pid apart
+        (rendez_less space.now.procs roster.old)) }
     ensures parent { parent.new ≡ parent.old }
 {
     if roster.left().pids == 0 {
@@ -253,7 +281,7 @@ fn fork_outside<'k>(
             member,
             space: Some(space),
             child: Some(Child {
-                proc: next_child(roster, parent),
+                proc: next_child(roster, parent, apart),
                 member: childs,
             }),
             spent: None,
@@ -262,15 +290,36 @@ fn fork_outside<'k>(
     }
 }
 
-// The next process.
-fn next_child<'k>(roster: &mut Roster<'k>, parent: &mut Proc<'k>) -> Proc<'k>
+// The next process, in its parent's note group or in one of its own.
+fn next_child<'k>(roster: &mut Roster<'k>, parent: &mut Proc<'k>, apart: bool) -> Proc<'k>
     requires { HasPid roster.old }
     ensures child { result ≡ next_process roster.old }
-    ensures left { roster.new ≡ one_pid_less roster.old }
+    ensures left { roster.new ≡ one_pid_less parent.old.process.pid apart roster.old }
     ensures parent { parent.new ≡ parent.old }
 {
-    match roster.rfork(parent, Flags::RFPROC) {
+    let made = if apart {
+        roster.rfork(
+            parent,
+            Flags::from_bits(Flags::RFPROC.bits() + Flags::RFNOTEG.bits()),
+        )
+    } else {
+        roster.rfork(parent, Flags::RFPROC)
+    };
+    match made {
         Ok(Some(child)) => child,
         Ok(None) | Err(_) => unreachable!(),
+    }
+}
+
+// The caller in a note group of its own, where one is asked for.
+fn leave_group<'k>(roster: &mut Roster<'k>, caller: &mut Proc<'k>, apart: bool)
+    ensures left { roster.new ≡ regrouped caller.old.process.pid apart roster.old }
+    ensures caller { caller.new ≡ caller.old }
+{
+    if apart {
+        match roster.rfork(caller, Flags::RFNOTEG) {
+            Ok(None) => {}
+            Ok(Some(_)) | Err(_) => unreachable!(),
+        }
     }
 }

@@ -1,6 +1,5 @@
 //! What holds of every tag space. Each law is a function that does nothing: its contract is the
 //! law.
-//! Before this: `group_object`, the machine that the laws speak of.
 ghost use Rattle.tag_space.specs.Laws.{GroupsAreSpaces, EachCallHasOneAnswer, LastMeetingIs};
 ghost use Rattle.tag_space.specs.Laws.{PairsAreMeetings, EachCallMeetsOnce, WaitingTagsDiffer};
 ghost use Rattle.tag_space.specs.Laws.{WhoLeftMeetsNobody, WhoIsWornMeetsNobody};

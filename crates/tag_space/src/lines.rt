@@ -1,5 +1,5 @@
 //! The lines of a space's table in one piece of memory, with room on both sides, so that only the
-//! shorter side moves where one comes or goes. Before this: `table`. After it: `group_object`.
+//! shorter side moves where one comes or goes.
 ghost use Rattle.std.specs.Prelude.{◌≤◌, ◌+◌, length};
 
 use std::alloc::{AllocError, Global};

@@ -1,4 +1,4 @@
-//! The call of rendezvous(2). Before this: `asking`. After it: `forking`.
+//! The call of rendezvous(2).
 ghost use Rattle.std.specs.Prelude.{◌≡◌, ◌+◌, ◌<◌, ◌≤◌};
 ghost use Rattle.rendez_words.specs.Words.{rendez_of};
 ghost use Rattle.sleep_wakeup.specs.Calls.{WhyNotSlept, Wakes};

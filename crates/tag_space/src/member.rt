@@ -1,4 +1,4 @@
-//! A member of a tag space. Before this: `group_object`. After it: `space`.
+//! A member of a tag space.
 ghost use Rattle.std.specs.Prelude.{◌≡◌};
 
 use crate::group_object::GroupObject;

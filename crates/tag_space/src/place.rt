@@ -1,4 +1,4 @@
-//! What a tag space keeps of a member. Before this: `limits`. After it: `group_object`.
+//! What a tag space keeps of a member.
 ghost use Rattle.std.specs.Prelude.{◌≡◌, ◌+◌, ◌<◌};
 ghost use Rattle.tag_space.specs.Group.{value_given};
 

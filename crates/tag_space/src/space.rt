@@ -1,4 +1,4 @@
-//! Tag spaces, and how they are made and joined. Before this: `member`. After it: `asking`.
+//! Tag spaces, and how they are made and joined.
 ghost use Rattle.std.specs.Prelude.{◌≡◌, ◌+◌, ◌<◌, ◌^◌};
 ghost use Rattle.kernel_lock.specs.Seats.{limit_of, opening_of};
 ghost use Rattle.tag_space.specs.Group.{group, opening};

@@ -131,18 +131,57 @@ fn pipe_scripts_are_answered(rt: HostRuntime) -> Result<(), Fail> {
 }
 
 #[test]
+fn stream_scripts_are_answered(rt: HostRuntime) -> Result<(), Fail> {
+    let rows: [Row<'_>; 6] = [
+        (b"limit 2 stream\n", b"", Ends::Well),
+        (
+            b"limit 4 stream\nwrite 0 616263\nwrite 1 6465\nread 4\nread 8\nread 8\n",
+            b"taken\ntaken\ngot 61626364\ngot 65\nempty\n",
+            Ends::Well,
+        ),
+        // Behind the last byte that a read has room for, an empty write stays.
+        (
+            b"limit 3 stream\nwrite 0 -\nwrite 0 61\nwrite 0 -\nwrite 0 62\nread 1\nwrite 0 62\n\
+              hangup\nread 8\nread 8\n",
+            b"taken\ntaken\ntaken\nfull\ngot 61\ntaken\nok\ngot 62\nend\n",
+            Ends::Well,
+        ),
+        // A read that gives nothing has passed the empty writes all the same.
+        (
+            b"limit 1 stream\nwrite 0 -\nread 8\nwrite 0 61\nread 8\n",
+            b"taken\nempty\ntaken\ngot 61\n",
+            Ends::Well,
+        ),
+        (
+            b"limit 4 stream\nwrite 0 6162\nwrite 0 -\nwrite 0 6364\nhangup\n\
+              read 3\nread 8\nread 8\nread 8\n",
+            b"taken\ntaken\ntaken\nok\ngot 616263\ngot 64\nend\nend\n",
+            Ends::Well,
+        ),
+        // What is left of a begun write is joined to the next one.
+        (
+            b"limit 1 stream\nwrite 0 616263\nread 1\nwrite 0 64\nread 0\nread 8\nread 8\n",
+            b"taken\ngot 61\ntaken\nbad count\ngot 626364\nempty\n",
+            Ends::Well,
+        ),
+    ];
+    assert_eq!(rt; first_wrong(&rt, rt.alloc(), &PIPE, &rows)?, None);
+    Ok(())
+}
+
+#[test]
 fn a_size_is_tested_before_a_hangup(rt: HostRuntime) -> Result<(), Fail> {
     let alloc = rt.alloc();
     let script = repeated(
         alloc,
         &[
             (b"limit 1\nread 0\nwrite 0 ".as_slice(), 1),
-            (b"00".as_slice(), 8_193),
+            (b"00".as_slice(), 65_537),
             (b"\nwrite 0 ".as_slice(), 1),
-            (b"00".as_slice(), 8_192),
+            (b"00".as_slice(), 65_536),
             (b"\nhangup\nwrite 0 ".as_slice(), 1),
-            (b"00".as_slice(), 8_193),
-            (b"\nread 9000\nread 1\n".as_slice(), 1),
+            (b"00".as_slice(), 65_537),
+            (b"\nread 70000\nread 1\n".as_slice(), 1),
         ],
     )?;
     let answers = repeated(
@@ -152,7 +191,7 @@ fn a_size_is_tested_before_a_hangup(rt: HostRuntime) -> Result<(), Fail> {
                 b"bad count\ntoo big\ntaken\nok\ntoo big\ngot ".as_slice(),
                 1,
             ),
-            (b"00".as_slice(), 8_192),
+            (b"00".as_slice(), 65_536),
             (b"\nend\n".as_slice(), 1),
         ],
     )?;
@@ -163,7 +202,7 @@ fn a_size_is_tested_before_a_hangup(rt: HostRuntime) -> Result<(), Fail> {
 
 #[test]
 fn a_pipe_script_ends_at_its_first_bad_line(rt: HostRuntime) -> Result<(), Fail> {
-    let rows: [Row<'_>; 35] = [
+    let rows: [Row<'_>; 42] = [
         (b"", b"", Ends::AtLine(1)),
         (b"\n", b"", Ends::AtLine(1)),
         (b"read 8\n", b"", Ends::AtLine(1)),
@@ -176,6 +215,13 @@ fn a_pipe_script_ends_at_its_first_bad_line(rt: HostRuntime) -> Result<(), Fail>
         (b"limit 2\r\n", b"", Ends::AtLine(1)),
         (b"limit 2", b"", Ends::AtLine(1)),
         (b"limit\n", b"", Ends::AtLine(1)),
+        (b"limit 2 streams\n", b"", Ends::AtLine(1)),
+        (b"limit 2 Stream\n", b"", Ends::AtLine(1)),
+        (b"limit 2  stream\n", b"", Ends::AtLine(1)),
+        (b"limit 2 stream \n", b"", Ends::AtLine(1)),
+        (b"limit 2 stream stream\n", b"", Ends::AtLine(1)),
+        (b"limit 0 stream\n", b"", Ends::AtLine(1)),
+        (b"limit stream\n", b"", Ends::AtLine(1)),
         (b"limit 2\nlimit 2\n", b"", Ends::AtLine(2)),
         (b"limit 2\n\n", b"", Ends::AtLine(2)),
         (b"limit 2\nread 8", b"", Ends::AtLine(2)),

@@ -52,7 +52,7 @@ fn a_pipe_that_is_hung_up_ends(rt: HostRuntime) -> Result<(), Fail> {
     assert_eq!(rt; lone.try_read(&mut eight), Ok(TryAnswer::End));
     assert_eq!(rt; lone.read(&rt, &mut eight), Ok(ReadAnswer::End));
     // The size is tested first, also where the direction is hung up.
-    let bytes = bytes_of(&rt, rt.alloc(), 0, 8_193);
+    let bytes = bytes_of(&rt, rt.alloc(), 0, 65_537);
     assert_eq!(rt;
         lone.write(&rt, rt.alloc(), bytes.as_slice()),
         Err(Fault::TooBig)
@@ -83,7 +83,7 @@ fn what_is_left_of_a_write_is_held(rt: HostRuntime) -> Result<(), Fail> {
 
 #[test]
 fn a_long_write_counts_what_was_taken(rt: HostRuntime) -> Result<(), Fail> {
-    for size in [0, 1, 8_191, 8_192, 8_193, 16_384, 20_000] {
+    for size in [0, 1, 65_535, 65_536, 65_537, 131_072, 140_000] {
         let sleep_wakeup::Opened { kernel, start } = kernel_of(&rt, rt.alloc(), 3, 4);
         let mut started = kernel.start(start);
         let Opened { pipe, start } = opened(&rt, rt.alloc(), &mut started.roster, 16, 1);
@@ -97,11 +97,11 @@ fn a_long_write_counts_what_was_taken(rt: HostRuntime) -> Result<(), Fail> {
             },
             "{size} bytes"
         );
-        let mut buffer = bytes_of(&rt, rt.alloc(), 0, 9_000);
+        let mut buffer = bytes_of(&rt, rt.alloc(), 0, 70_000);
         // Writes of the atomic size, and one of the rest; no bytes are one empty write.
         let mut left = size;
-        for _ in 0..size.div_ceil(8_192).max(1) {
-            let part = left.min(8_192);
+        for _ in 0..size.div_ceil(65_536).max(1) {
+            let part = left.min(65_536);
             assert_eq!(rt;
                 lone.read(&rt, buffer.as_mut_slice()),
                 Ok(ReadAnswer::Got(part)),
@@ -171,8 +171,8 @@ fn a_hangup_cuts_a_long_write(rt: HostRuntime) -> Result<(), Fail> {
     let mut started = kernel.start(start);
     let Opened { pipe, start } = opened(&rt, rt.alloc(), &mut started.roster, 1, 1);
     let Split { reader, writer } = lone_of(started, &pipe, start)?.split();
-    let bytes = bytes_of(&rt, rt.alloc(), 7, 20_000);
-    let mut buffer = bytes_of(&rt, rt.alloc(), 0, 8_192);
+    let bytes = bytes_of(&rt, rt.alloc(), 7, 140_000);
+    let mut buffer = bytes_of(&rt, rt.alloc(), 0, 65_536);
     let alloc = rt.alloc();
     let gate = Gate::new(2);
     let (written, slept) = join(
@@ -186,7 +186,7 @@ fn a_hangup_cuts_a_long_write(rt: HostRuntime) -> Result<(), Fail> {
     assert_eq!(rt;
         long,
         Long {
-            taken: 8_192,
+            taken: 65_536,
             fault: Some(Fault::Hungup),
         }
     );
@@ -196,7 +196,7 @@ fn a_hangup_cuts_a_long_write(rt: HostRuntime) -> Result<(), Fail> {
     } = writer;
     assert_eq!(rt; writer.notes(), closed());
     let Reader { mut proc, mut end } = reader;
-    for answer in [ReadAnswer::Got(8_192), ReadAnswer::End, ReadAnswer::End] {
+    for answer in [ReadAnswer::Got(65_536), ReadAnswer::End, ReadAnswer::End] {
         assert_eq!(rt; end.read(&rt, &mut proc, buffer.as_mut_slice()), Ok(answer));
     }
     Ok(())

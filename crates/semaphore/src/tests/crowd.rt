@@ -10,7 +10,7 @@ use sync_base::{Fault, Note, Pid};
 const PROCESSES: u64 = 8;
 
 /// How many units each process acquires.
-const UNITS: u64 = 12_500;
+const UNITS: u64 = 1_000;
 
 /// The units at first: fewer than processes.
 const OPENING: u32 = 3;

@@ -183,7 +183,7 @@ pub enum Act {
     InterruptAndRelease,
     /// A tick at this moment.
     Tick(u64),
-    /// A tick at the moment before this one, and then one at this.
+    /// A tick at the moment before this one, which is to end nothing, and then one at this.
     TickTwice(u64),
     /// A release, and then a tick at this moment.
     ReleaseAndTick(u64),
@@ -235,7 +235,9 @@ impl<'r, 's, 't, 'k, R: Wait> ActAt<'r, 's, 't, 'k, R> {
             Act::Tick(now) => self.tick(now),
             Act::TickTwice(now) => {
                 self.tick(now.saturating_sub(1));
-                if self.answer == 0 {
+                if self.answer > 0 {
+                    self.answer = u64::MAX;
+                } else {
                     self.tick(now);
                 }
             }

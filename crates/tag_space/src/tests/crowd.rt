@@ -22,7 +22,7 @@ const CALLERS: u64 = 8;
 const TAGS: u64 = 4;
 
 /// How many meetings there are, at least.
-const MEETINGS: u64 = 10_000;
+const MEETINGS: u64 = 2_000;
 
 /// What the callers and the poster tell each other, outside the space.
 #[derive(Drop)]
@@ -226,7 +226,12 @@ fn a_crowd_meets_in_pairs(rt: HostRuntime) -> Result<(), Fail> {
         jobs,
         &|job: Job| -> Work { job.make(&rt, alloc, &board) },
     )?;
-    let mut all = Vec::new(rt.alloc());
+    meet_in_pairs(&rt, alloc, done)
+}
+
+// Nothing was refused, some notes came in time, and each exchange has its other half.
+fn meet_in_pairs(rt: &impl Abort, alloc: Global, done: Vec<Work>) -> Result<(), Fail> {
+    let mut all = Vec::new(alloc);
     let mut interrupted = 0u64;
     for work in done {
         assert_eq!(rt; work.refused, 0);
@@ -239,7 +244,12 @@ fn a_crowd_meets_in_pairs(rt: HostRuntime) -> Result<(), Fail> {
     assert!(rt; all.len() as u64 >= 2 * MEETINGS);
     assert!(rt; interrupted > 0, "some notes came in time");
     all.sort_unstable();
-    // No value was given twice, and each exchange has its other half, under the same tag.
+    are_halves(rt, all.as_slice());
+    Ok(())
+}
+
+// No value was given twice, and each exchange has its other half, under the same tag.
+fn are_halves(rt: &impl Abort, all: &[Exchange]) {
     let mut last = None;
     for exchange in all.iter() {
         let half = Exchange {
@@ -254,5 +264,4 @@ fn a_crowd_meets_in_pairs(rt: HostRuntime) -> Result<(), Fail> {
         assert_eq!(rt; exchange.given % 256, exchange.got % 256);
         last = Some(exchange.given);
     }
-    Ok(())
 }

@@ -30,25 +30,30 @@ fn each_member_has_its_own_rendez(rt: HostRuntime) -> Result<(), Fail> {
     let second = forked(&rt, &space, &mut roster, &mut first);
     assert_eq!(rt; first.member.rendez(), RendezId(0));
     assert_eq!(rt; second.member.rendez(), RendezId(1));
-    // The space has had its two members.
-    assert!(rt;
-        matches!(
-            space.fork_member(&rt, &mut first.member),
-            Err(Fault::NoProc)
-        )
-    );
+    has_had_its_members(&rt, &space, &mut first);
+    one_group_more(&rt, rt.alloc(), &space, &mut roster)
+}
+
+// The space has had its two members.
+fn has_had_its_members<R: Wait + Abort>(rt: &R, space: &TagSpace, child: &mut Child)
+    requires { IsMemberOf space.now child.old.member }
+{
+    assert!(rt; matches!(space.fork_member(rt, &mut child.member), Err(Fault::NoProc)));
+}
+
+// Of three Rendez a group of the space takes two, and with one left there is no other.
+fn one_group_more(
+    rt: &impl Abort,
+    alloc: Global,
+    space: &TagSpace,
+    roster: &mut Roster,
+) -> Result<(), Fail> {
     let Opened {
         space: group,
         member,
-    } = grouped(&rt, rt.alloc(), &space, &mut roster)?;
+    } = grouped(rt, alloc, space, roster)?;
     assert_eq!(rt; member.rendez(), RendezId(2));
-    // One Rendez is left, and a group would need two.
-    assert!(rt;
-        matches!(
-            group.new_group(rt.alloc(), &mut roster),
-            Err(Fault::NoRendez)
-        )
-    );
+    assert!(rt; matches!(group.new_group(alloc, roster), Err(Fault::NoRendez)));
     assert_eq!(rt; roster.left(), Left { pids: 2, rendez: 1 });
     Ok(())
 }
@@ -222,15 +227,33 @@ fn a_child_with_rfrend_does_not_meet_its_parent(rt: HostRuntime) -> Result<(), F
     let poster = next(&rt, &mut roster, &mut parent);
     let interrupt = NoteSet::of(Note::Interrupt);
     assert_eq!(rt; parent.postnote(child.proc.pid(), interrupt), Ok(()));
-    // One waits in the old space, the child calls with the same tag and meets nobody, and then a
-    // note ends the wait.
+    do_not_meet(&rt, &space, sibling, &new, child, poster);
+    Ok(())
+}
+
+// One waits in the old space, the child calls with the same tag and meets nobody, and then a note
+// ends the wait.
+fn do_not_meet<R: Wait + Abort>(
+    rt: &R,
+    space: &TagSpace,
+    sibling: Child,
+    new: &TagSpace,
+    child: Child,
+    poster: Proc,
+)
+    requires member { IsMemberOf space.now sibling.member }
+    requires row { HasRow space.now sibling.proc.words }
+    requires childs_member { IsMemberOf new.now child.member }
+    requires childs_row { HasRow new.now child.proc.words }
+{
     let Child {
         mut proc,
         mut member,
     } = sibling;
+    let interrupt = NoteSet::of(Note::Interrupt);
     let mut meddler = Meddler {
-        rt: &rt,
-        space: &new,
+        rt,
+        space: new,
         poster,
         to: proc.pid(),
         note_at: 2,
@@ -241,11 +264,10 @@ fn a_child_with_rfrend_does_not_meet_its_parent(rt: HostRuntime) -> Result<(), F
         noted: false,
     };
     assert_eq!(rt;
-        space.rendezvous_probed(&rt, &mut proc, &mut member, TAG, 5, &mut meddler),
+        space.rendezvous_probed(rt, &mut proc, &mut member, TAG, 5, &mut meddler),
         Err(Fault::Interrupted(interrupt))
     );
     assert_eq!(rt; meddler.answer, Err(Fault::Interrupted(interrupt)));
-    Ok(())
 }
 
 #[test]
@@ -283,8 +305,13 @@ fn rfork_refuses_in_its_order(rt: HostRuntime) -> Result<(), Fail> {
     let no_proc = Some(Fault::NoProc);
     let no_rendez = Some(Fault::NoRendez);
     let rows = [
-        ((1, 1, 1), Flags::from_bits(4), bad),
-        ((1, 1, 1), Flags::from_bits(7), bad),
+        ((1, 1, 1), Flags::from_bits(8), bad),
+        ((1, 1, 1), Flags::from_bits(15), bad),
+        ((1, 1, 1), Flags::RFNOTEG, None),
+        ((1, 1, 1), Flags::from_bits(5), no_proc),
+        ((1, 1, 1), Flags::from_bits(6), no_rendez),
+        ((2, 1, 1), Flags::from_bits(7), no_rendez),
+        ((2, 2, 1), Flags::from_bits(7), None),
         ((1, 1, 1), Flags::NONE, None),
         ((1, 1, 1), Flags::RFPROC, no_proc),
         ((1, 1, 1), both(), no_proc),

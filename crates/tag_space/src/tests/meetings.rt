@@ -1,8 +1,12 @@
 //! Meetings of two processes, with the answers that rendezvous(2) gives.
-use crate::Child;
+ghost use Rattle.tag_space.specs.Members.{HasRow, IsMemberOf};
+
 use crate::tests::meddler::Meddler;
 use crate::tests::scene::{Scene, TAG, forked, meets, next, opened};
-use sleep_wakeup::{Kernel, Opened};
+use crate::{Child, TagSpace};
+use sleep_wakeup::{Kernel, Opened, Proc};
+use std::process::Abort;
+use std::sync::Wait;
 use std::test::Fail;
 use std::thread::join;
 use sync_base::{Fault, Note, NoteSet};
@@ -69,36 +73,53 @@ fn a_note_before_each_step_of_a_rendezvous(rt: HostRuntime) -> Result<(), Fail> 
         } = opened(&rt, rt.alloc(), &kernel, start, 2)?;
         let partner = forked(&rt, &space, &mut roster, &mut first);
         let poster = next(&rt, &mut roster, &mut first.proc);
-        let Child {
-            mut proc,
-            mut member,
-        } = first;
-        let mut meddler = Meddler {
-            rt: &rt,
-            space: &space,
-            poster,
-            to: proc.pid(),
-            note_at: row.note_at,
-            partner: Some(partner),
-            value: 9,
-            call_at: row.call_at,
-            answer: Err(Fault::BadArg),
-            noted: false,
-        };
-        let answer = space.rendezvous_probed(&rt, &mut proc, &mut member, TAG, 5, &mut meddler);
-        assert!(rt; meddler.noted, "the call passes the point");
-        if row.call_at == 0 {
-            meddler.note_partner(Note::Alarm);
-            meddler.call();
-        }
-        let at = (row.note_at, row.call_at);
-        assert_eq!(rt; answer, row.first, "a note and a partner at {at:?}");
-        assert_eq!(rt;
-            meddler.answer,
-            row.second,
-            "a note and a partner at {at:?}"
-        );
-        assert_eq!(rt; proc.notes(), row.pending, "a note and a partner at {at:?}");
+        answers_as(&rt, &space, first, partner, poster, row);
     }
     Ok(())
+}
+
+// A call with a note and a partner at the row's points is answered as the row says.
+fn answers_as<R: Wait + Abort>(
+    rt: &R,
+    space: &TagSpace,
+    first: Child,
+    partner: Child,
+    poster: Proc,
+    row: Row,
+)
+    requires member { IsMemberOf space.now first.member }
+    requires row { HasRow space.now first.proc.words }
+    requires partners_member { IsMemberOf space.now partner.member }
+    requires partners_row { HasRow space.now partner.proc.words }
+{
+    let Child {
+        mut proc,
+        mut member,
+    } = first;
+    let mut meddler = Meddler {
+        rt,
+        space,
+        poster,
+        to: proc.pid(),
+        note_at: row.note_at,
+        partner: Some(partner),
+        value: 9,
+        call_at: row.call_at,
+        answer: Err(Fault::BadArg),
+        noted: false,
+    };
+    let answer = space.rendezvous_probed(rt, &mut proc, &mut member, TAG, 5, &mut meddler);
+    assert!(rt; meddler.noted, "the call passes the point");
+    if row.call_at == 0 {
+        meddler.note_partner(Note::Alarm);
+        meddler.call();
+    }
+    let at = (row.note_at, row.call_at);
+    assert_eq!(rt; answer, row.first, "a note and a partner at {at:?}");
+    assert_eq!(rt;
+        meddler.answer,
+        row.second,
+        "a note and a partner at {at:?}"
+    );
+    assert_eq!(rt; proc.notes(), row.pending, "a note and a partner at {at:?}");
 }

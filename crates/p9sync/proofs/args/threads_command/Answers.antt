@@ -4,8 +4,8 @@ use Rattle.std.proofs.lemmas.Result.{IfOk-weaker}
 use Rattle.clap.specs.Simple.{App, app_of, new_app, on_top, with_rule}
 use Rattle.clap.specs.Walk.{rule_of}
 use Rattle.clap.specs.declared.builder.command.Command.TheViews.{out-Command}
-use Rattle.sync_base.specs.declared.limits.TheConstants.{ATOMIC_SIZE, MAX_WRITERS}
-use Rattle.crew.specs.declared.opts.TheConstants.{LEAST_SIZE, MAX_WRITES}
+use Rattle.sync_base.specs.declared.limits.TheConstants.{MAX_WRITERS}
+use Rattle.crew.specs.declared.opts.TheConstants.{LEAST_SIZE, MOST_SIZE, MAX_WRITES}
 use Rattle.p9sync.specs.Args.{number_between}
 use Rattle.p9sync.proofs.args.threads_command.Goals as goal
 
@@ -19,7 +19,7 @@ returns c =
     let writes_is : rule_of c.number_option-writes.result
     ≡ number_between 1 MAX_WRITES (codes "writes") = search rules in
     let size_is : rule_of c.number_option-size.result
-    ≡ number_between LEAST_SIZE ATOMIC_SIZE (codes "size") = search rules in
+    ≡ number_between LEAST_SIZE MOST_SIZE (codes "size") = search rules in
     let one_is = c.in_ok-arg.ensures.shape c.number_option-writers.ensures.local
     ∙ ap₂ with_rule none_is writers_is in
     let two_are = c.in_ok-arg-2.ensures.shape c.number_option-writes.ensures.local

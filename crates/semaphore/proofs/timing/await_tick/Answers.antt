@@ -4,7 +4,7 @@ use Rattle.sync_base.specs.declared.note.Note.TheVariants.{Expired}
 use Rattle.sync_base.specs.NoteSet.{holds}
 use Rattle.semaphore.specs.declared.acquiring.Stop.TheVariants.{Noted, Refused}
 use Rattle.semaphore.specs.declared.limits.TheConstants.{LAST_GRANT}
-use Rattle.semaphore.specs.Asking.{HasLeft, Left, rest_ending}
+use Rattle.semaphore.specs.Asking.{HasLeft, rest_ending}
 use Rattle.semaphore.specs.Deeds.{Calls, Ending, Slept}
 use Rattle.semaphore.specs.Seats.{stepped}
 use Rattle.semaphore.proofs.WaitLemmas.{awaits_well, awaits_noted, awaits_refused}
@@ -17,14 +17,14 @@ loop-preserved-in-None-rest g c =
     record {
       words = c.rest.ensures.words ∙ c.loop.invariant.words;
       pid = c.rest.ensures.pid ∙ c.loop.invariant.pid;
-      awaits = λ caller start now left rendez expired notes process calls.
+      awaits = λ caller start now left rendez expired notes cancelled process calls.
           awaits_well caller start (stepped c.loop.proc now) c.rest.new.proc.process
           (record left { notes = c.loop.notes })
-          (record { expired = expired ∙ asked; to_come = to_come })
+          (record { expired = expired ∙ asked; to_come = to_come; cancelled = cancelled })
           (subst
           (λ r. Slept r LAST_GRANT Ending.Well c.loop.proc.process c.rest.new.proc.process)
           (sym rendez) c.in-None-rest.ensures.slept)
-          (c.loop.invariant.awaits caller start now left rendez expired notes process calls);
+          (c.loop.invariant.awaits caller start now left rendez expired notes cancelled process calls);
     }
 
 pub loop-preserved-in-Some-Noted : goal.loop-preserved-in-Some-Noted
@@ -36,14 +36,14 @@ loop-preserved-in-Some-Noted g c =
     record {
       words = c.rest.ensures.words ∙ c.loop.invariant.words;
       pid = c.rest.ensures.pid ∙ c.loop.invariant.pid;
-      awaits = λ caller start now left rendez expired notes process calls.
+      awaits = λ caller start now left rendez expired notes cancelled process calls.
           subst
           (λ set. Calls caller start (stepped c.rest.new.proc now)
           (HasLeft caller (record left { notes = set })))
           (sym c.join-notes.ensures.value)
           (awaits_noted caller start (stepped c.loop.proc now) c.rest.new.proc.process
           (record left { notes = c.loop.notes }) set
-          (record { expired = expired ∙ asked; to_come = to_come })
+          (record { expired = expired ∙ asked; to_come = to_come; cancelled = cancelled })
           (subst
           (λ r. Slept r LAST_GRANT (Ending.Noted set) c.loop.proc.process c.rest.new.proc.process)
           (sym rendez)
@@ -51,7 +51,7 @@ loop-preserved-in-Some-Noted g c =
           (λ s. Slept c.args.rendez LAST_GRANT (rest_ending s) c.loop.proc.process
           c.rest.new.proc.process)
           came c.rest.ensures.slept))
-          (c.loop.invariant.awaits caller start now left rendez expired notes process calls));
+          (c.loop.invariant.awaits caller start now left rendez expired notes cancelled process calls));
     }
 
 pub loop-preserved : goal.loop-preserved
@@ -62,14 +62,14 @@ loop-preserved g c =
     record {
       words = c.notes.ensures.words ∙ (c.rest.ensures.words ∙ c.loop.invariant.words);
       pid = ap (λ p. p.pid) c.notes.ensures.taken ∙ (c.rest.ensures.pid ∙ c.loop.invariant.pid);
-      awaits = λ caller start now left rendez expired notes process calls.
+      awaits = λ caller start now left rendez expired notes cancelled process calls.
           subst
           (λ set. Calls caller start (stepped c.notes.new.self now)
           (HasLeft caller (record left { notes = set })))
           (sym c.join-notes-in-Some-Refused.ensures.value)
           (awaits_refused caller start (stepped c.loop.proc now) c.rest.new.proc.process
           c.notes.new.self.process (record left { notes = c.loop.notes })
-          c.notes.result (record { expired = expired ∙ asked; to_come = to_come })
+          c.notes.result (record { expired = expired ∙ asked; to_come = to_come; cancelled = cancelled })
           (subst
           (λ r. Slept r LAST_GRANT Ending.Double c.loop.proc.process c.rest.new.proc.process)
           (sym rendez)
@@ -78,5 +78,5 @@ loop-preserved g c =
           c.rest.new.proc.process)
           came c.rest.ensures.slept))
           c.notes.ensures.taken
-          (c.loop.invariant.awaits caller start now left rendez expired notes process calls));
+          (c.loop.invariant.awaits caller start now left rendez expired notes cancelled process calls));
     }

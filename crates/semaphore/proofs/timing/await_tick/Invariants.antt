@@ -1,5 +1,5 @@
 -- it did nothing but sleep and take notes since it began
-use Rattle.std.proofs.Common.{◌≡◌}
+use Rattle.std.proofs.Common.{◌≡◌, true}
 use Rattle.semaphore.specs.Asking.{HasLeft, Left}
 use Rattle.semaphore.specs.Deeds.{Calls, Caller, Standing}
 use Rattle.semaphore.specs.Seats.{stepped}
@@ -12,7 +12,7 @@ invariant-loop g l =
       pid : l.proc.process.pid ≡ l.initial.proc.process.pid;
       awaits : (caller : Caller) (start now : Standing) (left : Left) →
           caller.rendez ≡ l.rendez → left.expired ≡ l.expired → left.notes ≡ l.initial.notes →
-          now.process ≡ l.initial.proc.process → Calls caller start now (HasLeft caller left) →
+          left.cancelled ≡ true → now.process ≡ l.initial.proc.process → Calls caller start now (HasLeft caller left) →
           Calls caller start (stepped l.proc now)
           (HasLeft caller (record left { notes = l.notes }));
     }

@@ -1,6 +1,5 @@
-use Rattle.std.proofs.Common.{◌≡◌, Bool, ◌&&◌, not, ap, ◌∙◌}
-use Rattle.sync_base.specs.declared.note.Note.TheVariants.{Expired}
-use Rattle.sync_base.specs.NoteSet.{holds, only}
+use Rattle.std.proofs.Common.{◌&&◌, not, ap, ◌∙◌}
+use Rattle.sync_base.specs.NoteSet.{holds}
 use Rattle.semaphore.proofs.WaitLemmas.{others_are}
 use Rattle.semaphore.proofs.timing.others.Goals as goal
 

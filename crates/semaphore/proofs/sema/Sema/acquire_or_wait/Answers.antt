@@ -1,6 +1,5 @@
 -- It is answered at once; or it waits, leaves the line, and keeps what came.
 use Rattle.std.proofs.Common.{◌+◌, [], ◌∷◌, refl, sym, ap, ◌∙◌}
-use Rattle.kernel_lock.specs.Seats.{number_of}
 use Rattle.semaphore.specs.declared.sema_object.SemaCall.TheVariants.{Acquire}
 use Rattle.semaphore.specs.declared.sema_object.SemaReply.TheVariants.{Wait}
 use Rattle.semaphore.specs.Deeds.Deed.{Asks}
@@ -26,7 +25,7 @@ returns-in-Waits-clause-called g c =
     let slept = c.sleep_for_unit-stop in
     c.answer_wait.ensures.answered caller start
     (goes_on slept.new.proc c.leave_line-granted.new.seat start)
-    (ap (λ n. record { 0 = n }) (sym slept.ensures.pid)) refl
+    (ap (λ n. record { 0 = n }) (sym slept.ensures.pid)) refl refl
     (c.leave_line-granted.ensures.left caller start (goes_on slept.new.proc slept.new.seat start)
     (sym (slept.ensures.number ∙ c.in-Waits.ensures.number)) refl
     (slept.ensures.waited caller start start (Asks (Acquire caller.number) (Wait count) ∷ [])
@@ -35,4 +34,4 @@ returns-in-Waits-clause-called g c =
       rendez_is = ap (λ n. record { 0 = c.args.self.now.first + n }) (sym c.in-Waits.ensures.number);
       number_is = sym c.in-Waits.ensures.number;
     })
-    (did_ask caller start _ count c.in-Waits.ensures.served) (begins caller count)))
+    (did_ask caller start _ count c.in-Waits.ensures.served) (begins caller count refl)))

@@ -1,5 +1,5 @@
 -- It leaves, with a unit or without.
-use Rattle.std.proofs.Common.{Some, false, sym, subst}
+use Rattle.std.proofs.Common.{false, sym, subst}
 use Rattle.semaphore.specs.declared.sema_object.SemaCall.TheVariants.{Leave}
 use Rattle.semaphore.specs.Asking.{HasLeft, HasWaited, stopped_notes}
 use Rattle.semaphore.specs.Deeds.{Calls}
@@ -15,6 +15,7 @@ returns-in-Some-clause-left g c caller start now number seat calls =
       notes = stopped_notes stop;
       expired = false;
       stop = stop;
+      cancelled = false;
     })))
     (sym c.in-Some.is)
     (leaves_so caller start now _ c.in-Some.field-0 c.leave.result

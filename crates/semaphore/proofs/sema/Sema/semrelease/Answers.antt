@@ -1,6 +1,5 @@
 -- It was refused, or it released and then woke each that was named.
-use Rattle.std.proofs.Common.{refl, sym}
-use Rattle.kernel_lock.specs.Seats.{view_of}
+use Rattle.std.proofs.Common.{sym}
 use Rattle.semaphore.specs.declared.sema_object.SemaReply.TheVariants.{Value}
 use Rattle.semaphore.specs.Deeds.Deed.{Asks}
 use Rattle.semaphore.specs.declared.sema_object.SemaCall.TheVariants.{Release}

@@ -1,5 +1,5 @@
 -- Each round is a sleep and then, where that answered well, a question.
-use Rattle.std.proofs.Common.{None, sym, ◌∙◌, subst}
+use Rattle.std.proofs.Common.{sym, ◌∙◌, subst}
 use Rattle.kernel_lock.specs.Seats.{view_of}
 use Rattle.semaphore.specs.declared.sema_object.SemaCall.TheVariants.{Collect}
 use Rattle.semaphore.specs.Asking.{HasWaited, ending_of}

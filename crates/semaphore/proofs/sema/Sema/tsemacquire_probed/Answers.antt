@@ -14,7 +14,7 @@ use Rattle.semaphore.specs.Deeds.Deed.{Asks, Times}
 use Rattle.semaphore.specs.Definitions.{timer_definition}
 use Rattle.semaphore.specs.Seats.{asked, goes_on, stands_timed, stepped, timed, timed_caller, timers_seen}
 use Rattle.semaphore.specs.TimerHistory.{timer_meaning}
-use Rattle.semaphore.proofs.WaitLemmas.{cancels, did_ask, in_time_at_once, in_time_worn, sets_timer, tick_took, timed_as, waits_timed}
+use Rattle.semaphore.proofs.WaitLemmas.{cancels, did_ask, in_time_at_once, sets_timer, tick_took, timed_as, waits_timed}
 use Rattle.semaphore.proofs.sema.Sema.tsemacquire_probed.Goals as goal
 
 pub returns-in-Acquired-clause-called : goal.returns-in-Acquired-clause-called
@@ -77,9 +77,10 @@ returns-in-Waits-clause-called g c =
       notes = stopped_notes slept.result;
       expired = c.cancel-expired.result;
       stop = slept.result;
+      cancelled = true;
     })
     (ap (λ n. record { 0 = c.args.self.now.first + n }) (sym (c.leave_line-granted.ensures.number ∙ number))
-    ∙ sym c.rendez-rendez.ensures) refl (sym c.notes_of.ensures) refl
+    ∙ sym c.rendez-rendez.ensures) refl (sym c.notes_of.ensures) refl refl
     (cancels caller start gone (view_of c.cancel-expired.new.seat.seat) moment
     c.cancel-expired.result c.leave_line-granted.result (stopped_notes slept.result) slept.result
     refl cancelled

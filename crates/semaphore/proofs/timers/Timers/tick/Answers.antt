@@ -1,5 +1,5 @@
 -- Each round is an Expire and then, where a timer expired, a note.
-use Rattle.std.proofs.Common.{◌≡◌, false, nat_lt, IsTrue, sym, ap, ◌∙◌, subst}
+use Rattle.std.proofs.Common.{◌≡◌, false, nat_lt, IsTrue, sym, ◌∙◌, subst}
 use Rattle.kernel_lock.specs.Seats.{view_of}
 use Rattle.rendez_words.specs.Words.{procs_of}
 use Rattle.semaphore.specs.declared.timer_object.TimerCall.TheVariants.{Expire}
@@ -14,6 +14,7 @@ returns-in-None-clause-called g c =
     (stands_ticking c.args.proc.now c.args.timer.now)
     (stands_ticking c.loop-expired.proc c.loop-expired.timer) (view_of c.expire.new.seat.seat)
     c.args.self.now.procs (procs_of c.args.proc.now.words) c.args.now c.loop-expired.expired
+    c.loop-expired.auto.expired-end
     (timed_as (λ _. Expire c.args.now) _ _ _ (view_of c.loop-expired.timer.seat) _ _
     (sym c.loop-expired.invariant.number) (λ _. view_of c.loop-expired.timer.seat)
     c.in-None.ensures.served)

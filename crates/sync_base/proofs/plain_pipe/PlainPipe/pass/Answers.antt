@@ -1,18 +1,12 @@
-use Rattle.std.proofs.Common.{◌≡◌, ◌<◌, ◌≤◌, ◌-◌, length, get_or, subst, sym, ap, ◌∙◌, arith, rules}
-use Rattle.std.proofs.lemmas.Grind.{common_steps}
-use Rattle.sync_base.specs.PlainPipe.{Shows}
+-- in stream mode
+use Rattle.std.proofs.Common.{sym, ap, subst, ◌∙◌}
+use Rattle.sync_base.specs.PlainPipe.{Kept, Shows}
 use Rattle.sync_base.specs.Pipe.{after_read}
-use Rattle.sync_base.proofs.PlainPipeLemmas.{shows_used_up}
+use Rattle.sync_base.proofs.StreamLemmas.{shows_behind}
 use Rattle.sync_base.proofs.plain_pipe.PlainPipe.pass.Goals as goal
 
--- the first write is used up: its rest is no longer than what is passed
-pub returns : goal.returns
-returns c s shows =
-    let first = c.in-Some.first.now in
-    let kept = c.args.self.now in
-    let some : 0 < length kept.unread = search rules in
-    let is_first : first ≡ get_or kept.unread 0 first =
-    c.in-Some.ensures.lookup ∙ ap (λ k. get_or k.unread 0 first) c.self.view_is in
-    let used_up : length first.bytes - kept.offset ≤ c.args.most = grind (arith, common_steps) in
-    subst (λ k. Shows k (after_read c.args.most s)) (sym c.pass_first.ensures)
-    (shows_used_up kept s c.args.most first shows some is_first used_up)
+pub returns-in-Stream : goal.returns-in-Stream
+returns-in-Stream c s shows =
+    subst (λ k. Shows k (after_read c.args.most s)) (sym c.pass_bytes.ensures)
+    (shows_behind c.args.self.now s c.args.most shows
+    (ap (λ (kept : Kept). kept.mode) (sym c.self.view_is) ∙ c.in-Stream.is))

@@ -1,0 +1,152 @@
+-- What all ends of a crew come to.
+use Rattle.std.proofs.Common.{◌≡◌, ◌+◌, ◌++◌, ◌<◌, ℕ, zero, suc, List, [], ◌∷◌, length, map, refl, sym}
+use Rattle.std.proofs.Common.{◌∙◌, ap, subst, arith, Option, reverse}
+use Rattle.std.specs.Prelude.{take}
+use Rattle.std.specs.List.{AllByRecursion, AllZip}
+use Rattle.std.proofs.lemmas.List.{length-map}
+use Rattle.histories.specs.Account.{numbers_from}
+use Rattle.histories.proofs.ListLemmas.{all_weaker}
+use Rattle.sync_base.specs.Write.{Write}
+use Rattle.block_queue.specs.declared.queue.Queue.{Queue}
+use Rattle.block_queue.specs.Seats.{key_of}
+use Rattle.pipe_dev.specs.declared.closing.Held.{Held}
+use Rattle.pipe_dev.specs.declared.pipe.Lane.{Lane}
+use Rattle.pipe_dev.specs.Ends.{ReadSide, WriteSide, reading_of}
+use Rattle.pipe_dev.specs.Finishing.{GivesHeld, rest_bytes}
+use Rattle.pipe_dev.specs.Laws.{IsAllWritten}
+use Rattle.pipe_dev.specs.Openings.{IsLaneOf, AreNewEnds}
+use Rattle.pipe_dev.specs.Parts.{Part, whole_from, bytes_by}
+use Rattle.pipe_dev.specs.Reading.{seen_state}
+use Rattle.pipe_dev.specs.Sides.{HasWrittenJust}
+use Rattle.pipe_dev.proofs.SideLemmas.{new_ends_are_unused, calls_keep_all_ends}
+use Rattle.pipe_dev.proofs.SideLemmas.{finishes_find_accepted}
+use Rattle.example_headline.specs.declared.crew.Crew.{Crew}
+use Rattle.example_headline.specs.declared.reader.Reader.{Reader}
+use Rattle.example_headline.specs.declared.settling.Outcome.{Outcome}
+use Rattle.example_headline.specs.declared.settling.Written.{Written}
+use Rattle.example_headline.specs.declared.writer.Writer.{Writer}
+use Rattle.example_headline.specs.Crew.{IsReady, IsFresh, AreEnds, HasReadOn, HasWrittenOn}
+use Rattle.example_headline.specs.Crew.{CountsAll, KeepsAll, ends_of}
+use Rattle.example_headline.specs.Headline.{IsWholeAndOnce, AreTheirs, accepted_of}
+use Rattle.example_headline.proofs.CrewLemmas.{same_ends, still_counts}
+
+-- the ends of a new direction
+pub fresh_ends : (queue : Queue) (lane : Lane) (read : ReadSide) (writes : List WriteSide)
+    → IsLaneOf queue lane → AreNewEnds queue lane.row read writes → IsFresh read writes
+fresh_ends queue lane read writes is_lane new =
+    record {
+      ends = record {
+        all = new.all;
+        known = ap (λ row. row.writers) new.row_is
+            ∙ (is_lane.row_is.writers ∙ ap (λ q. (key_of q).writers) (sym new.queue_is));
+      };
+      unused = new_ends_are_unused queue lane read writes is_lane new;
+    }
+
+-- a crew that has worked is still ready
+pub still_ready : (old new : Crew) → IsReady old → HasReadOn old.reader new.reader
+    → AllZip HasWrittenOn old.writers.items new.writers.items → IsReady new
+still_ready old new ready reader writers =
+    record {
+      ends = record {
+        all = calls_keep_all_ends old.reader.end new.reader.end (ends_of old.writers.items)
+            (ends_of new.writers.items) reader.end
+            (same_ends old.writers.items new.writers.items writers) ready.ends.all;
+        known = ap (λ row. row.writers) reader.end.row
+            ∙ (ready.ends.known ∙ ap (λ q. (key_of q).writers) (sym reader.end.queue));
+      };
+      keeps = reader.keeps ready.keeps;
+      counts = still_counts old.writers.items new.writers.items writers ready.counts;
+    }
+
+-- what is told of a writer
+abbrev pub written_of : Writer → Written
+written_of writer = record { messages = writer.messages; accepted = writer.accepted }
+
+abbrev first_of : List ℕ → ℕ
+first_of [] = 0
+first_of (x ∷ xs) = x
+
+abbrev others_of : List ℕ → List ℕ
+others_of [] = []
+others_of (x ∷ xs) = xs
+
+pub length_numbers : (first count : ℕ) → length (numbers_from first count) ≡ count
+length_numbers first zero = refl
+length_numbers first (suc count) = ap suc (length_numbers (first + 1) count)
+
+-- each writer's pieces are what it counts
+pub their_pieces : (pieces : List Part) (first count : ℕ) (writers : List Writer)
+    → map (λ write. write.writer) (ends_of writers) ≡ numbers_from first count
+    → AllByRecursion (IsAllWritten pieces) (ends_of writers)
+    → AllByRecursion CountsAll writers
+    → AreTheirs first (map written_of writers) pieces
+their_pieces pieces first count [] order all counts = tt
+their_pieces pieces first zero (writer ∷ writers) order all counts = cc
+their_pieces pieces first (suc count) (writer ∷ writers) order all counts = (
+  ap (λ n. bytes_by n pieces) (sym (ap first_of order)) ∙ all.0 (accepted_of (written_of writer))
+      counts.0,
+  their_pieces pieces (first + 1) count writers (ap others_of order) all.1 counts.1,
+)
+
+-- a finish of all ends of a crew that is ready
+pub whole_and_once : (crew : Crew) (outcome : Outcome) → IsReady crew
+    → outcome.writers.items ≡ map written_of crew.writers.items
+    → outcome.got.items ≡ crew.reader.got.items
+    → GivesHeld crew.reader.end (ends_of crew.writers.items) outcome.held
+    → IsWholeAndOnce outcome
+whole_and_once crew outcome ready told got gives =
+    let read = crew.reader.end in
+    let writes = ends_of crew.writers.items in
+    let parts = ready.keeps.parts in
+    let found =
+    finishes_find_accepted read parts writes outcome.held ready.keeps.just gives in
+    let many : (key_of read.queue).writers ≡ length outcome.writers.items
+    = sym ready.ends.known
+    ∙ (sym (length_numbers 0 read.row.writers)
+    ∙ (sym (ap length ready.ends.all.order)
+    ∙ (length-map writes (λ (write : WriteSide). write.writer)
+    ∙ (length-map crew.writers.items (λ (writer : Writer). writer.end)
+    ∙ (sym (length-map crew.writers.items written_of) ∙ sym (ap length told)))))) in
+    record {
+      accepted = found.accepted;
+      parts = parts;
+      rest = read.rest;
+      place = (seen_state (key_of read.queue) (reading_of read parts)).read_whole;
+      got = ready.keeps.bytes ∙ sym got;
+      begun = sym (gives parts).rest;
+      whole = found.whole;
+      known = subst (λ (n : ℕ). AllByRecursion (λ (write : Write). write.writer < n) found.accepted)
+          many found.known;
+      theirs = subst (λ (writers : List Written). AreTheirs 0 writers (whole_from 0 found.accepted))
+          (sym told)
+          (their_pieces (whole_from 0 found.accepted) 0 read.row.writers crew.writers.items
+          ready.ends.all.order
+          (subst (λ (pieces : List Part). AllByRecursion (IsAllWritten pieces) writes) found.whole
+          found.theirs) ready.counts);
+    }
+
+-- a writer that has written nothing yet counts all
+pub all_count : (read : ReadSide) (writes : List WriteSide) (writers : List Writer) → IsFresh read writes
+    → ends_of writers ≡ writes → AllByRecursion (λ writer. writer.accepted ≡ 0) writers
+    → AllByRecursion CountsAll writers
+all_count read writes writers fresh ends none =
+    each writers
+    (subst (AllByRecursion (λ (write : WriteSide). HasWrittenJust write [])) (sym ends)
+    fresh.unused.written_none) none
+  where
+    each : (some : List Writer)
+        → AllByRecursion (λ (write : WriteSide). HasWrittenJust write []) (ends_of some)
+        → AllByRecursion (λ (writer : Writer). writer.accepted ≡ 0) some
+        → AllByRecursion CountsAll some
+    each [] unused zeros = tt
+    each (writer ∷ others) unused zeros = (
+      subst (HasWrittenJust writer.end)
+          (sym (ap (λ (n : ℕ). take n writer.messages.items) zeros.0)) unused.0,
+      each others unused.1 zeros.1,
+    )
+
+-- a list of no elements
+pub nothing_left : {A : Type 0} (xs : List A) → length xs ≡ 0 → xs ≡ []
+nothing_left [] none = refl
+nothing_left (x ∷ xs) none = cc

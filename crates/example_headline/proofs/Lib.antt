@@ -1,0 +1,2 @@
+pub mod CrewLemmas
+pub mod HeadlineLemmas

@@ -1,0 +1,30 @@
+-- all ends were given to writers, which have written nothing yet
+use Rattle.std.proofs.Common.{◌≡◌, ◌++◌, [], List, ◌∙◌, ap, subst, sym, rules, length}
+use Rattle.std.specs.Vec.Iter.{into_iter_items}
+use Rattle.std.proofs.lemmas.List.{append-nil}
+use Rattle.pipe_dev.specs.Ends.{WriteSide}
+use Rattle.example_headline.specs.Crew.{AreEnds, ends_of}
+use Rattle.example_headline.proofs.HeadlineLemmas.{all_count, nothing_left}
+use Rattle.example_headline.proofs.crew.muster.Goals as goal
+
+pub returns : goal.returns
+returns c =
+    let none : length (into_iter_items c.mustering.end-iterator) ≡ 0 = search rules in
+    let ended : into_iter_items c.mustering.end-iterator ≡ []
+    = nothing_left (into_iter_items c.mustering.end-iterator) none in
+    let all : ends_of c.mustering.writers.items ≡ c.args.writes.items
+    = sym (append-nil (ends_of c.mustering.writers.items))
+    ∙ (ap (λ (xs : List WriteSide). ends_of c.mustering.writers.items ++ xs) (sym ended)
+    ∙ c.mustering.invariant.given) in
+    record {
+      ready = record {
+        ends = subst (AreEnds c.args.read) (sym all) c.requires.fresh.ends;
+        keeps = record {
+          parts = [];
+          just = c.requires.fresh.unused.read_none;
+          bytes = search rules;
+        };
+        counts = all_count c.args.read c.args.writes.items c.mustering.writers.items
+            c.requires.fresh all c.mustering.invariant.none;
+      };
+    }

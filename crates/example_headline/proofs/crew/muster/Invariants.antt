@@ -1,0 +1,16 @@
+-- some ends are given to writers, and the others are left
+use Rattle.std.proofs.Common.{◌≡◌, ◌≤◌, ◌+◌, ◌++◌, length}
+use Rattle.std.specs.Vec.{vec_capacity}
+use Rattle.std.specs.Vec.Iter.{into_iter_items}
+use Rattle.std.specs.List.{AllByRecursion}
+use Rattle.example_headline.specs.Crew.{ends_of}
+use Rattle.example_headline.proofs.crew.muster.Given as goal
+
+abbrev pub invariant-mustering : goal.invariant-mustering
+invariant-mustering l =
+    record {
+      given : ends_of l.writers.items ++ into_iter_items l.end-iterator ≡ l.fn.writes.items;
+      none : AllByRecursion (λ writer. writer.accepted ≡ 0) l.writers.items;
+      room : length l.writers.items + length (into_iter_items l.end-iterator)
+          ≤ vec_capacity l.writers;
+    }

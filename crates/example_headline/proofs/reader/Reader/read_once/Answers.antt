@@ -1,0 +1,60 @@
+-- the part that was read is kept, and where none was read nothing is
+use Rattle.std.proofs.Common.{◌≡◌, ◌∷◌, ◌++◌, [], List, ℕ, arith, sym, ◌∙◌, ap, refl, subst, take, drop, length}
+use Rattle.std.specs.Prelude.{Result, Ok, Err}
+use Rattle.std.proofs.lemmas.List.{append-nil, take_at}
+use Rattle.sync_base.specs.declared.fault.Fault.{Fault}
+use Rattle.block_queue.specs.Seats.{key_of}
+use Rattle.pipe_dev.specs.declared.answers.ReadAnswer.{ReadAnswer}
+use Rattle.pipe_dev.specs.declared.answers.ReadAnswer.TheVariants as read
+use Rattle.pipe_dev.specs.ReadCalls.{Reads, reader_of}
+use Rattle.example_headline.proofs.CrewLemmas.{read_on, some_room}
+use Rattle.example_headline.proofs.reader.Reader.read_once.Goals as goal
+
+pub returns-in_err-count : goal.returns-in_err-count
+returns-in_err-count g c =
+    record {
+      on = read_on c.args.self.now _ c.args.self.now.proc c.read.new.proc
+          c.as_mut_slice.result.now (Err c.in_err-count.field-0.0) c.read.new.buffer
+          (some_room c.as_mut_slice.result.now 4
+          (c.as_mut_slice.ensures.len ∙ c.in_ok-buffer.ensures.len) (omega arith))
+          c.in_err-count.ensures.read c.in_err-count.ensures.end
+          (c.in_ok-reserve.ensures.items ∙ sym (append-nil c.args.self.now.got.items));
+    }
+
+pub returns-in-Got : goal.returns-in-Got
+returns-in-Got g c =
+    let piece : c.of.result ≡ take c.in-Got.count c.read.new.buffer =
+    c.of.ensures
+    ∙ (c.truncate.ensures.items
+    ∙ ap (take c.in-Got.count)
+    (take_at c.read.new.buffer (drop (length c.read.new.buffer) c.in_ok-buffer.buffer.items)
+    c.in_ok-buffer.buffer.len (c.read.auto.buffer ∙ c.as_mut_slice.ensures.len))) in
+    record {
+      on = read_on c.args.self.now _ c.args.self.now.proc c.read.new.proc
+          c.as_mut_slice.result.now (Ok (read.Got c.in-Got.count)) c.read.new.buffer
+          (some_room c.as_mut_slice.result.now 4
+          (c.as_mut_slice.ensures.len ∙ c.in_ok-buffer.ensures.len) (omega arith))
+          (subst (λ (answer : ReadAnswer).
+          Reads (key_of c.args.self.now.end.queue) c.args.self.now.end.row
+          (reader_of c.args.self.now.end c.args.self.now.proc) c.as_mut_slice.result.now
+          (Ok answer) (reader_of c.read.new.self c.read.new.proc) c.read.new.buffer) c.in-Got.is
+          c.in_ok-count.ensures.read) c.in_ok-count.ensures.end
+          (c.push_reserved.ensures.items
+          ∙ (ap (λ (xs : List (List ℕ)). xs ++ c.of.result ∷ []) c.in_ok-reserve.ensures.items
+          ∙ ap (λ (p : List ℕ). c.args.self.now.got.items ++ p ∷ []) piece));
+    }
+
+pub returns-in-End : goal.returns-in-End
+returns-in-End g c =
+    record {
+      on = read_on c.args.self.now _ c.args.self.now.proc c.read.new.proc
+          c.as_mut_slice.result.now (Ok read.End) c.read.new.buffer
+          (some_room c.as_mut_slice.result.now 4
+          (c.as_mut_slice.ensures.len ∙ c.in_ok-buffer.ensures.len) (omega arith))
+          (subst (λ (answer : ReadAnswer).
+          Reads (key_of c.args.self.now.end.queue) c.args.self.now.end.row
+          (reader_of c.args.self.now.end c.args.self.now.proc) c.as_mut_slice.result.now
+          (Ok answer) (reader_of c.read.new.self c.read.new.proc) c.read.new.buffer) c.in-End.is
+          c.in_ok-count.ensures.read) c.in_ok-count.ensures.end
+          (c.in_ok-reserve.ensures.items ∙ sym (append-nil c.args.self.now.got.items));
+    }

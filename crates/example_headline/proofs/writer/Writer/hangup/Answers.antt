@@ -1,0 +1,10 @@
+-- by the law of hangups of a write end
+use Rattle.std.proofs.Common.{refl}
+use Rattle.example_headline.proofs.CrewLemmas.{hung_write}
+use Rattle.example_headline.proofs.writer.Writer.hangup.Goals as goal
+
+pub returns : goal.returns
+returns c =
+    record {
+      on = hung_write c.args.self.now _ c.hangup.ensures.hung c.hangup.ensures.end refl refl;
+    }

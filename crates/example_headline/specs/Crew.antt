@@ -1,0 +1,55 @@
+-- What is known of a reader and of writers, before and after threads have them.
+use Rattle.std.specs.Prelude.{◌≡◌, List, ℕ, map, reverse, take}
+use Rattle.std.specs.List.{AllByRecursion}
+use Rattle.block_queue.specs.Seats.{key_of}
+use Rattle.pipe_dev.specs.Ends.{ReadSide, WriteSide, AreAllEnds, IsSameReadEnd, IsSameWriteEnd}
+use Rattle.pipe_dev.specs.Parts.{Part}
+use Rattle.pipe_dev.specs.Sides.{HasReadJust, HasWrittenJust, AreUnused}
+use Rattle.example_headline.specs.declared.crew.Crew.{Crew}
+use Rattle.example_headline.specs.declared.reader.Reader.{Reader}
+use Rattle.example_headline.specs.declared.writer.Writer.{Writer}
+
+-- the end has read just these parts, the oldest first
+pub record HasGot (read : ReadSide) (got : List (List ℕ)) : Type 0 where
+  pub parts : List Part
+  pub just : HasReadJust read parts
+  pub bytes : map (λ part. part.bytes) (reverse parts) ≡ got
+
+-- the reader keeps just what its end has read
+abbrev pub KeepsAll : Reader → Type 0
+KeepsAll reader = HasGot reader.end reader.got.items
+
+-- the writer counts just what its end has written
+abbrev pub CountsAll : Writer → Type 0
+CountsAll writer = HasWrittenJust writer.end (take writer.accepted writer.messages.items)
+
+-- the reader has read on: its end stays where it is, and it keeps all if it did
+pub record HasReadOn (old new : Reader) : Type 0 where
+  pub end : IsSameReadEnd old.end new.end
+  pub keeps : KeepsAll old → KeepsAll new
+
+-- the writer has written on: its end stays where it is, its messages are the same, and it counts
+-- all if it did
+pub record HasWrittenOn (old new : Writer) : Type 0 where
+  pub end : IsSameWriteEnd old.end new.end
+  pub messages : new.messages ≡ old.messages
+  pub counts : CountsAll old → CountsAll new
+
+-- these are all ends of one direction, which knows how many writers it has
+pub record AreEnds (read : ReadSide) (writes : List WriteSide) : Type 0 where
+  pub all : AreAllEnds read writes
+  pub known : read.row.writers ≡ (key_of read.queue).writers
+
+-- on which nothing was called
+pub record IsFresh (read : ReadSide) (writes : List WriteSide) : Type 0 where
+  pub ends : AreEnds read writes
+  pub unused : AreUnused read writes
+
+abbrev pub ends_of : List Writer → List WriteSide
+ends_of writers = map (λ writer. writer.end) writers
+
+-- the crew has all ends, the reader keeps all and each writer counts all
+pub record IsReady (crew : Crew) : Type 0 where
+  pub ends : AreEnds crew.reader.end (ends_of crew.writers.items)
+  pub keeps : KeepsAll crew.reader
+  pub counts : AllByRecursion CountsAll crew.writers.items

@@ -1,0 +1,2 @@
+pub mod Crew
+pub mod Headline

@@ -1,0 +1,78 @@
+//! A reader and writers who have all ends of one direction.
+ghost use Rattle.std.specs.Prelude.{IfOk};
+ghost use Rattle.std.specs.List.{AllZip};
+ghost use Rattle.example_headline.specs.Crew.{IsFresh, IsReady, HasReadOn, HasWrittenOn};
+
+use crate::reader::Reader;
+use crate::writer::Writer;
+use crate::writing::write_and_hang_up;
+use pipe_dev::{ReadEnd, WriteEnd};
+use sleep_wakeup::{Proc, Roster};
+use std::alloc::Global;
+use std::sync::Wait;
+use std::thread::{Threads, join_mut};
+use sync_base::{Fault, Flags, Piece};
+
+/// A reader and writers.
+#[derive(Drop)]
+pub struct Crew<'p> {
+    pub(crate) reader: Reader<'p>,
+    pub(crate) writers: Vec<Writer<'p>>,
+}
+
+/// Gives each end of a new direction to a process, and each writer its messages.
+pub fn muster<'p>(
+    alloc: Global,
+    roster: Roster<'p>,
+    reader: Proc<'p>,
+    read: ReadEnd<'p>,
+    writes: Vec<WriteEnd<'p>>,
+    messages: Vec<Vec<Piece>>,
+) -> Result<Crew<'p>, Fault>
+    requires fresh { IsFresh read writes.items }
+    ensures ready { IfOk result IsReady }
+{
+    let (mut roster, mut parent) = (roster, reader);
+    let mut messages = messages.into_iter();
+    let mut writers = Vec::with_capacity(alloc, writes.len())?;
+    'mustering: for end in writes {
+        let child = roster.rfork(&mut parent, Flags::RFPROC)?;
+        let (Some(proc), Some(messages)) = (child, messages.next()) else {
+            return Err(Fault::BadSize);
+        };
+        writers.push_reserved(Writer {
+            end,
+            proc,
+            messages,
+            accepted: 0,
+        });
+    }
+    let reader = Reader {
+        end: read,
+        proc: parent,
+        got: Vec::new(alloc),
+    };
+    Ok(Crew { reader, writers })
+}
+
+/// Writers and reader at once. The ends are lent to the threads, so what each did is known behind
+/// it.
+pub fn work<'p, R: Threads + Wait + Sync>(rt: &R, alloc: Global, crew: Crew<'p>) -> Crew<'p>
+    ensures reader { HasReadOn crew.entry.reader result.reader }
+    ensures writers { AllZip HasWrittenOn crew.entry.writers.items result.writers.items }
+{
+    let Crew {
+        mut reader,
+        mut writers,
+    } = crew;
+    join_mut(
+        rt,
+        &mut ||
+            ensures { AllZip HasWrittenOn writers.entry.items writers.exit.items }
+        { write_and_hang_up(rt, alloc, writers.as_mut_slice()) },
+        &mut ||
+            ensures { HasReadOn reader.entry reader.exit }
+        { reader.read_all(rt, alloc) },
+    );
+    Crew { reader, writers }
+}

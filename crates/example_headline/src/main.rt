@@ -1,0 +1,68 @@
+//! The headline of pipes over threads, proved by a caller from the contracts of `pipe_dev` alone.
+//!
+//! Three writers and a reader, each on a thread of its own, have the ends of one direction of a
+//! pipe. They write and read, the direction is hung up, and all ends are given back. The one
+//! contract is that of `run`: for each writer, what was read and what is still held is what was
+//! accepted of it, whole, in its order, contiguous and once.
+//! Read `writer`, `writing`, `reader`, `crew`; `settling`; and then `run`.
+#![tactic(auto)]
+
+mod crew;
+mod reader;
+mod run;
+mod settling;
+mod writer;
+mod writing;
+
+use crate::run::run;
+use crate::settling::Outcome;
+use std::alloc::Global;
+use std::io;
+use sync_base::{Fault, Piece};
+
+/// What each writer writes. A message is one write; the reader takes it in parts of four bytes.
+const MESSAGES: &[&[&[u8]]] = &[
+    &[b"a key", b"and another", b"", b"the last key"],
+    &[b"point", b"click"],
+    &[b"a frame of a window", b"and its size"],
+];
+
+/// A copy of all messages, for the writers to have.
+fn copied(alloc: Global) -> Result<Vec<Vec<Piece>>, Fault> {
+    let mut all = Vec::new(alloc);
+    for messages in MESSAGES {
+        let mut pieces = Vec::new(alloc);
+        for message in *messages {
+            pieces.push(Piece::of(Vec::from_slice(alloc, message)?))?;
+        }
+        all.push(pieces)?;
+    }
+    Ok(all)
+}
+
+/// How many bytes these are.
+fn count(pieces: &[Piece]) -> u64 {
+    let mut bytes = 0u64;
+    for piece in pieces {
+        bytes = bytes.saturating_add(piece.as_slice().len() as u64);
+    }
+    bytes
+}
+
+fn main(rt: HostRuntime) -> io::Result<()> {
+    let alloc = rt.alloc();
+    let told = match copied(alloc) {
+        Ok(messages) => run(&rt, alloc, 16, messages),
+        Err(fault) => Err(fault),
+    };
+    match told {
+        Ok(Outcome { writers, got, held }) => {
+            let (read, left) = (count(got.as_slice()), held.writes.len());
+            for written in writers.as_slice() {
+                println!(rt; "{} messages of a writer were accepted", written.accepted)?;
+            }
+            println!(rt; "{read} bytes were read, and {left} messages are held")
+        }
+        Err(fault) => println!(rt; "the run failed: {fault}"),
+    }
+}

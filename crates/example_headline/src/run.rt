@@ -1,0 +1,42 @@
+//! The whole run, and its one contract.
+ghost use Rattle.std.specs.Prelude.{IfOk};
+ghost use Rattle.example_headline.specs.Headline.{IsWholeAndOnce};
+
+use crate::crew::{muster, work};
+use crate::settling::{Outcome, settle};
+use pipe_dev::{Ends, Opened, Parts, Pipe};
+use sleep_wakeup::{Kernel, Started};
+use std::alloc::Global;
+use std::sync::Wait;
+use std::thread::Threads;
+use sync_base::limits::MAX_WRITERS;
+use sync_base::{Fault, Piece};
+
+/// A pipe of this limit, a writer on a thread for each of these lists of messages, and a reader;
+/// then a hangup and a finish.
+pub fn run<R: Threads + Wait + Sync>(
+    rt: &R,
+    alloc: Global,
+    limit: u64,
+    messages: Vec<Vec<Piece>>,
+) -> Result<Outcome, Fault>
+    // For each writer, what was read and what is held is what was accepted.
+    ensures whole { IfOk result IsWholeAndOnce }
+{
+    let writers = messages.len() as u64;
+    if writers > MAX_WRITERS {
+        return Err(Fault::BadSize);
+    }
+    let sleep_wakeup::Opened { kernel, start } = Kernel::new(
+        alloc,
+        writers + 1,
+        2 * (writers + 1),
+    )?;
+    let Started { mut roster, proc } = kernel.start(start);
+    let Opened { pipe, start } = Pipe::new(alloc, &mut roster, limit, writers)?;
+    let Ends { first, second } = pipe.ends(start);
+    let Parts { read, writes: _ } = first.parts();
+    let Parts { read: _, writes } = second.parts();
+    let crew = muster(alloc, roster, proc, read, writes, messages)?;
+    settle(alloc, work(rt, alloc, crew))
+}

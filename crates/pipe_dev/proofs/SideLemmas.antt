@@ -1,0 +1,242 @@
+-- What the calls of an end make of what it has read or written, and what a finish finds.
+use Rattle.std.proofs.Common.{◌≡◌, ◌+◌, ◌<◌, ◌++◌, ℕ, zero, suc, List, [], ◌∷◌, map, refl, sym}
+use Rattle.std.proofs.Common.{◌∙◌, ap, subst, arith, Option, inr}
+use Rattle.std.proofs.lemmas.List.{append-nil}
+use Rattle.std.specs.List.{AllByRecursion}
+use Rattle.histories.specs.Account.{numbers_from}
+use Rattle.histories.specs.declared.account.Account.{Account}
+use Rattle.histories.specs.History.{AreByBelow}
+use Rattle.histories.proofs.ListLemmas.{all_append}
+use Rattle.sync_base.specs.Write.{Write}
+use Rattle.block_queue.specs.declared.entry.Entry.{Entry}
+use Rattle.block_queue.specs.declared.entry.Entry.TheVariants.{Taken, Stood, Full, Hungup, Worn}
+use Rattle.block_queue.specs.declared.entry.Entry.TheVariants.{Block, NotYet, End, Hung}
+use Rattle.block_queue.specs.declared.queue.Queue.{Queue}
+use Rattle.block_queue.specs.declared.view.Key.{Key}
+use Rattle.block_queue.specs.History.{seat_of}
+use Rattle.block_queue.specs.Opening.{reader_account}
+use Rattle.block_queue.specs.Seats.{key_of}
+use Rattle.pipe_dev.specs.declared.row.Row.{Row}
+use Rattle.pipe_dev.specs.Chain.{ReadStep, IsMade, HasWritten, written_by}
+use Rattle.pipe_dev.specs.Chain.{AddsRead, AddsTry, AddsNone}
+use Rattle.pipe_dev.specs.Ends.{ReadSide, WriteSide, AreOfOne, IsSameReadEnd}
+use Rattle.pipe_dev.specs.Ends.{reading_of}
+use Rattle.pipe_dev.specs.Finishing.{left_state, holdings_of, shares_of}
+use Rattle.pipe_dev.specs.Openings.{IsNewWriteEnd}
+use Rattle.pipe_dev.specs.Parts.{Part}
+use Rattle.pipe_dev.specs.ReadCalls.{reader_of}
+use Rattle.pipe_dev.specs.Reading.{Reading, first_reading}
+use Rattle.pipe_dev.specs.Rounds.{Rounds}
+use Rattle.pipe_dev.specs.Sides.{HasReadJust, HasWrittenJust, AddsToRead, AreSameWriteEnds}
+use Rattle.pipe_dev.specs.SideLaws.{NewEndsAreUnused, ReadsAddToTheirEnd, TriesAddToTheirEnd}
+use Rattle.pipe_dev.specs.SideLaws.{ReadEndsHangUp, WritesAddToTheirEnd, WriteEndsHangUp}
+use Rattle.pipe_dev.specs.SideLaws.{CallsKeepAllEnds, FinishesFindAccepted}
+use Rattle.pipe_dev.specs.WriteCalls.{writer_of}
+use Rattle.pipe_dev.proofs.ChainLemmas.{reads_are_steps, tries_are_steps}
+use Rattle.pipe_dev.proofs.ChainLemmas.{each_write_is_read_whole_and_once}
+use Rattle.pipe_dev.proofs.LawLemmas.{all_accepted}
+use Rattle.pipe_dev.proofs.ReadingLemmas.{what_is_read_is_right}
+use Rattle.pipe_dev.proofs.WrittenLemmas.{new_ends_have_written_nothing}
+use Rattle.pipe_dev.proofs.WrittenLemmas.{writes_add_what_was_accepted, hangups_write_nothing}
+
+-- ---- a read end
+
+-- some steps of calls, one after the other
+pub record Steps (key : Key) (row : Row) (old new : Reading) : Type 0 where
+  pub times : ℕ
+  pub steps : Rounds (ReadStep key row) times old new
+
+-- steps behind steps
+then : (key : Key) (row : Row) (old between new : Reading) (times : ℕ) → Steps key row old between
+    → Rounds (ReadStep key row) times between new → Steps key row old new
+then key row old between new zero first rounds =
+    record {
+      times = first.times;
+      steps = subst (Rounds (ReadStep key row) first.times old) (sym rounds) first.steps;
+    }
+then key row old between new (suc times) first rounds =
+    let before = then key row old between rounds.between times first rounds.rounds in
+    record {
+      times = suc before.times;
+      steps = record {
+        between = rounds.between;
+        rounds = before.steps;
+        last = rounds.last;
+      };
+    }
+
+-- an end that stays where it is has read what it has read
+stays_read : (old new : ReadSide) (parts : List Part) → IsSameReadEnd old new
+    → IsMade (key_of old.queue) old.row (reading_of new parts) → HasReadJust new parts
+stays_read old new parts same made =
+    subst (λ (q : Queue). IsMade (key_of q) new.row (reading_of new parts)) (sym same.queue)
+    (subst (λ (r : Row). IsMade (key_of old.queue) r (reading_of new parts)) (sym same.row) made)
+
+-- steps add what they add
+steps_add : (Adds : List Part → List Part → Type 0) (old new : ReadSide)
+    (parts parts' : List Part) (times : ℕ) → HasReadJust old parts → IsSameReadEnd old new
+    → Adds parts parts'
+    → Rounds (ReadStep (key_of old.queue) old.row) times (reading_of old parts)
+    (reading_of new parts')
+    → AddsToRead Adds old parts new
+steps_add Adds old new parts parts' times made same adds rounds =
+    let all =
+    then (key_of old.queue) old.row
+    (first_reading (reader_account (key_of old.queue).writers)) (reading_of old parts)
+    (reading_of new parts') times
+    (record { times = made.times; steps = made.steps }) rounds in
+    record {
+      same = same;
+      parts' = parts';
+      added = adds;
+      just = stays_read old new parts' same
+          (record { first = made.first; times = all.times; steps = all.steps });
+    }
+
+pub reads_add : ReadsAddToTheirEnd
+reads_add old new before after buffer answer buffer' room reads same parts made =
+    let call =
+    reads_are_steps (key_of old.queue) old.row (reader_of old before) buffer answer
+    (reader_of new after) buffer' room reads parts in
+    steps_add (AddsRead answer buffer') old new parts call.parts' call.times made same call.added
+    call.steps
+
+pub tries_add : TriesAddToTheirEnd
+tries_add old new before after buffer answer buffer' room tries same parts made =
+    let call =
+    tries_are_steps (key_of old.queue) old.row (reader_of old before) buffer answer
+    (reader_of new after) buffer' room tries parts in
+    steps_add (AddsTry answer buffer') old new parts call.parts' call.times made same call.added
+    call.steps
+
+pub read_ends_hang_up : ReadEndsHangUp
+read_ends_hang_up old new enters rest same parts made =
+    steps_add AddsNone old new parts parts 1 made same refl
+    (record {
+      between = reading_of old parts;
+      rounds = refl;
+      last = inr
+          (record { entry = Hung 0; entered = enters; no_block = tt; rest = rest; parts = refl });
+    })
+
+-- ---- a write end
+
+pub writes_add : WritesAddToTheirEnd
+writes_add old new before after block answer writes same =
+    record {
+      same = same;
+      just = λ blocks written.
+          subst (λ (w : ℕ). HasWritten new.account w (blocks ++ written_by answer block))
+          (sym same.writer)
+          (writes_add_what_was_accepted (key_of old.queue) old.row old.writer block
+          (writer_of old before) answer (writer_of new after) writes blocks written);
+    }
+
+pub write_ends_hang_up : WriteEndsHangUp
+write_ends_hang_up old new enters same =
+    record {
+      same = same;
+      just = λ blocks written.
+          subst (λ (bs : List (List ℕ)). HasWritten new.account new.writer bs)
+          (sym (append-nil blocks))
+          (subst (λ (w : ℕ). HasWritten new.account w blocks) (sym same.writer)
+          (hangups_write_nothing (key_of old.queue) old.writer old.account new.account enters blocks
+          written));
+    }
+
+-- ---- all ends of a direction
+
+pub new_ends_are_unused : NewEndsAreUnused
+new_ends_are_unused queue lane read writes is_lane new =
+    record {
+      read_none = record {
+        first = ap (λ (q : Queue). (key_of q).first) new.queue_is ∙ is_lane.row_is.first;
+        times = 0;
+        steps = ap (λ (a : Account Entry). record { account = a; parts = []; rest = read.rest })
+            (new.unread
+            ∙ ap reader_account
+            (is_lane.row_is.writers
+            ∙ ap (λ (q : Queue). (key_of q).writers) (sym new.queue_is)))
+            ∙ ap (λ (r : Option Part). record {
+              account = reader_account (key_of read.queue).writers;
+              parts = [];
+              rest = r;
+            }) new.rest;
+      };
+      written_none = each writes new.unwritten;
+    }
+  where
+    each : (ends : List WriteSide) → AllByRecursion (IsNewWriteEnd queue lane.row) ends
+        → AllByRecursion (λ write. HasWrittenJust write []) ends
+    each [] unwritten = tt
+    each (write ∷ ends) unwritten = (
+      subst (λ (a : Account Entry). HasWritten a write.writer []) (sym unwritten.0.unused)
+          (new_ends_have_written_nothing write.writer),
+      each ends unwritten.1,
+    )
+
+-- ends of one direction are so after calls
+still_one : (read read' : ReadSide) (writes writes' : List WriteSide) → IsSameReadEnd read read'
+    → AreSameWriteEnds writes writes' → AllByRecursion (AreOfOne read) writes
+    → AllByRecursion (AreOfOne read') writes'
+still_one read read' [] [] same sames one = tt
+still_one read read' [] (new ∷ news) same sames one = absurd sames
+still_one read read' (old ∷ olds) [] same sames one = absurd sames
+still_one read read' (old ∷ olds) (new ∷ news) same sames one = (
+  record {
+    queue = sames.0.queue ∙ (one.0.queue ∙ sym same.queue);
+    row = sames.0.row ∙ (one.0.row ∙ sym same.row);
+  },
+  still_one read read' olds news same sames.1 one.1,
+)
+
+-- and their writers are in the same order
+same_order : (writes writes' : List WriteSide) → AreSameWriteEnds writes writes'
+    → map (λ write. write.writer) writes' ≡ map (λ write. write.writer) writes
+same_order [] [] sames = refl
+same_order [] (new ∷ news) sames = absurd sames
+same_order (old ∷ olds) [] sames = absurd sames
+same_order (old ∷ olds) (new ∷ news) sames =
+    ap (λ (w : ℕ). w ∷ map (λ (write : WriteSide). write.writer) news) sames.0.writer
+    ∙ ap (λ (ws : List ℕ). old.writer ∷ ws) (same_order olds news sames.1)
+
+pub calls_keep_all_ends : CallsKeepAllEnds
+calls_keep_all_ends read read' writes writes' same sames all =
+    record {
+      one = still_one read read' writes writes' same sames all.one;
+      order = same_order writes writes' sames
+          ∙ (all.order ∙ ap (λ (r : Row). numbers_from 0 r.writers) (sym same.row));
+    }
+
+-- ---- what a finish finds
+
+-- each accepted write is by a writer of the direction
+accepted_known : (key : Key) (history : List Entry)
+    → AreByBelow seat_of (key.writers + 1) history
+    → AllByRecursion (λ write. write.writer < key.writers) (left_state key history).accepted
+accepted_known key [] within = tt
+accepted_known key (Taken writer block number ∷ past) within =
+    all_append (λ (write : Write). write.writer < key.writers) (left_state key past).accepted
+    (record { writer = writer; bytes = block } ∷ []) (accepted_known key past within.1)
+    (omega (arith, within.0), tt)
+accepted_known key (Stood writer number ∷ past) within = accepted_known key past within.1
+accepted_known key (Full writer block number ∷ past) within = accepted_known key past within.1
+accepted_known key (Hungup writer block ∷ past) within = accepted_known key past within.1
+accepted_known key (Worn writer block ∷ past) within = accepted_known key past within.1
+accepted_known key (Block writer block number ∷ past) within = accepted_known key past within.1
+accepted_known key (NotYet number ∷ past) within = accepted_known key past within.1
+accepted_known key (End ∷ past) within = accepted_known key past within.1
+accepted_known key (Hung seat ∷ past) within = accepted_known key past within.1
+
+pub finishes_find_accepted : FinishesFindAccepted
+finishes_find_accepted read parts writes held made gives =
+    let key = key_of read.queue in
+    let right =
+    what_is_read_is_right key read.row (reading_of read parts) made in
+    record {
+      accepted = (left_state key (gives parts).history).accepted;
+      whole = all_accepted key (reading_of read parts) (shares_of writes) (holdings_of held) right
+          (gives parts);
+      known = accepted_known key (gives parts).history (gives parts).legal.within;
+      theirs = each_write_is_read_whole_and_once read parts writes held made gives;
+    }
