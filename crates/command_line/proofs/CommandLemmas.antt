@@ -1,14 +1,16 @@
 -- Which command lines `clap` takes, and that it refuses every other.
-use Rattle.std.proofs.Common.{◌≡◌, ℕ, Bool, true, false, ◌⊎◌, inl, inr, zero, suc, List, [], ◌∷◌, ◌++◌, length, fold, append_assoc, Option, None, Some, refl, sym, ◌∙◌, ap, ap₂, subst, codes, rules}
+use Rattle.std.proofs.Common.{◌≡◌, ℕ, Bool, true, false, ◌⊎◌, inl, inr, zero, suc, List, [], ◌∷◌}
+use Rattle.std.proofs.Common.{◌++◌, length, fold, append_assoc, Option, None, Some, refl, sym}
+use Rattle.std.proofs.Common.{◌∙◌, ap, ap₂, subst, codes, rules}
 use Rattle.std.proofs.Common.{arith, slice_get, option_map}
 use Rattle.std.specs.Str.{bytes_eq, chars}
 use Rattle.std.specs.Bool.{Decides}
 use Rattle.std.proofs.lemmas.Bool.Decides.{same_from_decides}
 use Rattle.std.proofs.lemmas.List.{append-nil}
-use Rattle.std.proofs.Math.Seq.{take-length}
 use Rattle.std.proofs.lemmas.Slice.Eq.{bytes_eq-Decides}
 use Rattle.clap.specs.Lexer.{long_of, short_of}
-use Rattle.clap.specs.Walk.{Names, Row, rows_of, Rule, Text, Walk, idle, walk, walk_from, walked, nothing_held, bundle_met, subcommand_met}
+use Rattle.clap.specs.Walk.{Names, Row, rows_of, Rule, Text, Walk, idle, walk, walk_from, walked}
+use Rattle.clap.specs.Walk.{nothing_held, bundle_met, subcommand_met}
 use Rattle.clap.specs.Simple.{Shape, built, entered, names_of, subcommand_of, subcommand_rows}
 use Rattle.clap.specs.declared.parser.matches.SubCommand.{SubCommand}
 use Rattle.clap.specs.declared.parser.matches.ArgMatches.TheViews.{out-SubCommand}
@@ -17,24 +19,26 @@ use Rattle.std.specs.Prelude.{Box}
 use Rattle.clap.specs.Kinds.{HasKind, Kinds, or_else}
 use Rattle.clap.specs.Values.{kind_of}
 use Rattle.clap.specs.Matches.{found_of, ReadsOne}
-use Rattle.clap.specs.ValueTests.{accepts, is_unsigned_in}
+use Rattle.clap.specs.ValueTests.{is_unsigned_in}
 use Rattle.clap.specs.declared.builder.value_parser.ValueParser.TheVariants as vp
 use Rattle.clap.proofs.ValueTestLemmas.{accepts-Accepts, Accepts-accepts}
-use Rattle.std.specs.Str.Parse.{ParsesUnsigned, digits_value, without_leading_plus}
+use Rattle.std.specs.Str.Parse.{ParsesUnsigned}
 use Rattle.std.specs.Prelude.{option_and_then, ◌-◌, ◌^◌, Ok}
 use Rattle.clap.specs.declared.error.Error.{Error}
 use Rattle.clap.specs.declared.error.kind.ErrorKind.TheVariants as kind
 use Rattle.clap.specs.Takes.{takes}
-use Rattle.clap.specs.Faults.{fault_of, is_simple_and_free, walk_fault, turn_fault, flags_fault, stray_fault, entered_fault}
+use Rattle.clap.specs.Faults.{fault_of, is_simple_and_free, walk_fault, turn_fault, flags_fault}
+use Rattle.clap.specs.Faults.{stray_fault, entered_fault}
 use Rattle.clap.proofs.OnLiterals.{clap_on_literals}
 use Rattle.command_line.specs.declared.task.NoTask.{NoTask}
 use Rattle.command_line.specs.declared.task.NoTask.TheVariants.{Refused}
 use Rattle.std.specs.Option.{ok_or, option_or}
 use Rattle.std.specs.Result.{IfOk, IfErr}
-use Rattle.std.specs.Prelude.{Result, Err, IfSome}
+use Rattle.std.specs.Prelude.{Result, Err}
 use Rattle.command_line.specs.declared.task.Task.{Task}
-use Rattle.command_line.specs.declared.task.Task.TheVariants.{Pipe, Replay, Threads}
-use Rattle.command_line.specs.CommandLine.{command_line, command_named, number_asked, script_asked, task_asked, task_named, threads_asked, threads_named}
+use Rattle.command_line.specs.CommandLine.{command_line, command_named, number_asked}
+use Rattle.command_line.specs.CommandLine.{script_asked, task_asked, task_named, threads_asked}
+use Rattle.command_line.specs.CommandLine.{threads_named}
 
 -- the command line is one of those that clap's clauses speak of exactly
 pub line_is_simple : is_simple_and_free command_line ≡ true
@@ -405,8 +409,10 @@ asks_for_script (name ∷ word ∷ rest) met none is = by_pipe (bytes_eq word (c
         (words_are (codes "--") (next ∷ more) same ends) none)).0
 
     by_end : bytes_eq word (codes "pipe") ≡ false → bytes_eq word (codes "replay") ≡ false
-        → bytes_eq word (codes "threads") ≡ false → (found : Bool) → bytes_eq word (codes "--") ≡ found → ⊥
-    by_end not_pipe not_replay not_threads true found = ends_alone (word_is word (codes "--") found) rest refl
+        → bytes_eq word (codes "threads") ≡ false → (found : Bool)
+        → bytes_eq word (codes "--") ≡ found → ⊥
+    by_end not_pipe not_replay not_threads true found =
+        ends_alone (word_is word (codes "--") found) rest refl
     by_end not_pipe not_replay not_threads false found =
         stray top names word refl (unmet not_pipe not_replay not_threads) found
         (both_none _ _ (both_none _ _ none).0).0
@@ -473,6 +479,7 @@ only_memory (k ∷ ks) error has none = absurd (cc)
 
 -- the subcommand that was entered, by its name and its rows
 module _ {Z : Type 0} where
+  -- the name and the rows are those that were found
   pub met_of_parts : (found : Option (Box SubCommand Z)) (name : Text) (rows : List Row)
       → option_map (λ b. (out-SubCommand (box_value b)).name.now) found ≡ Some name
       → option_map (λ p. p.1) (subcommand_rows found) ≡ Some rows
@@ -522,6 +529,7 @@ pub found_is : (asked found : Option Task) (r : Result Task NoTask) → asked �
 found_is asked (Some task) r same is = rw is same
 found_is asked None r same is = rw is tt
 
+-- and where no run was found none is asked for
 pub none_found : (asked found : Option Task) (r : Result Task NoTask) → asked ≡ found
     → r ≡ ok_or found Refused
     → IfErr r (λ no_task. no_task ≡ Refused → asked ≡ None)

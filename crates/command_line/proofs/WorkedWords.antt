@@ -1,5 +1,5 @@
 -- What some command lines ask for, computed from the definition.
-use Rattle.std.proofs.Common.{◌≡◌, List, ℕ, [], ◌∷◌, ◌++◌, refl, codes, true, false, Some, None}
+use Rattle.std.proofs.Common.{◌≡◌, List, ℕ, [], ◌∷◌, refl, codes, Some, None}
 use Rattle.clap.proofs.OnLiterals.{clap_on_literals}
 use Rattle.command_line.specs.declared.task.Task.TheVariants.{Pipe, Threads}
 use Rattle.command_line.specs.CommandLine.{task_asked}

@@ -3,7 +3,8 @@ ghost use Rattle.std.specs.Prelude.{◌≡◌, ◌↔◌, None, Some, map, IfErr
 ghost use Rattle.clap.specs.Walk.{rows_of};
 ghost use Rattle.clap.specs.Words.{found_of, kind_of};
 ghost use Rattle.clap.specs.declared.error.kind.ErrorKind.TheVariants as kind;
-ghost use Rattle.command_line.specs.CommandLine.{command_named, option_asked, opts_asked, task_asked};
+ghost use Rattle.command_line.specs.CommandLine.{command_named, option_asked, opts_asked};
+ghost use Rattle.command_line.specs.CommandLine.{task_asked};
 ghost use Rattle.command_line.specs.declared.task.NoTask.TheVariants as why;
 
 use crate::grammar::{SIZE, WRITERS, WRITES, command};
