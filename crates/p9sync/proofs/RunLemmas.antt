@@ -15,7 +15,7 @@ use Rattle.scripts.specs.Script.{Told}
 use Rattle.scripts.proofs.DeviceLemmas.{appends_nothing}
 use Rattle.p9sync.specs.ReportText.{report_line}
 use Rattle.p9sync.specs.declared.args.TheConstants.{FAULT}
-use Rattle.p9sync.specs.Args.{status_of, EndsRun, EndsTask, EndsThreads}
+use Rattle.p9sync.specs.Args.{status_of, EndsRun, EndsTask}
 
 -- a report of a run in which nothing was read
 abbrev nothing_read : ThreadsOpts → Report
