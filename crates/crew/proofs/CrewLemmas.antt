@@ -6,7 +6,7 @@ use Rattle.pipe_dev.specs.declared.answers.ReadAnswer.{ReadAnswer}
 use Rattle.pipe_dev.specs.declared.answers.ReadAnswer.TheVariants as read
 use Rattle.pipe_dev.specs.declared.row.Row.{Row}
 use Rattle.pipe_dev.specs.ReadCalls.{Reader, Reads, part_of}
-use Rattle.crew.specs.declared.opts.ThreadsOpts.{ThreadsOpts}
+use Rattle.sync_base.specs.declared.threads_opts.ThreadsOpts.{ThreadsOpts}
 use Rattle.crew.specs.declared.tally.Tally.{Tally}
 use Rattle.crew.specs.Tally.{AreOfOneRun, IsTallyOf}
 

@@ -1,7 +1,7 @@
 -- What the reader of a run on threads expects, and what it has counted.
 use Rattle.std.specs.Prelude.{◌≡◌, ◌+◌, ◌*◌, ◌<◌, ℕ, true, List, length, slice_get, slice_set, vec_len, Some}
 use Rattle.crew.specs.declared.opts.Report.{Report}
-use Rattle.crew.specs.declared.opts.ThreadsOpts.{ThreadsOpts}
+use Rattle.sync_base.specs.declared.threads_opts.ThreadsOpts.{ThreadsOpts}
 use Rattle.crew.specs.declared.tally.Tally.{Tally}
 use Rattle.crew.specs.Message.{message_of}
 

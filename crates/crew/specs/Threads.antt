@@ -1,8 +1,8 @@
 -- What a run on threads is asked for, and what it answers.
 use Rattle.std.specs.Prelude.{◌≡◌, ◌≤◌, ◌*◌, ℕ, Bool, true}
 use Rattle.sync_base.specs.declared.limits.TheConstants.{MAX_WRITERS}
-use Rattle.crew.specs.declared.opts.TheConstants.{LEAST_SIZE, MOST_SIZE, MAX_WRITES}
-use Rattle.crew.specs.declared.opts.ThreadsOpts.{ThreadsOpts}
+use Rattle.sync_base.specs.declared.limits.TheConstants.{LEAST_SIZE, MOST_SIZE, MAX_WRITES}
+use Rattle.sync_base.specs.declared.threads_opts.ThreadsOpts.{ThreadsOpts}
 use Rattle.crew.specs.declared.opts.Report.{Report}
 
 -- a number lies between two others

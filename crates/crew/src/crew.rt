@@ -6,13 +6,13 @@ ghost use Rattle.crew.specs.Threads.{AreWithin};
 
 use crate::gate::Gate;
 use crate::message::fill;
-use crate::opts::{Report, ThreadsOpts};
+use crate::opts::Report;
 use crate::tally::Tally;
 use pipe_dev::{ReadAnswer, ReadEnd, WriteEnd};
 use sleep_wakeup::{Proc, Roster};
 use std::alloc::Global;
 use std::sync::Wait;
-use sync_base::{Fault, Flags};
+use sync_base::{Fault, Flags, ThreadsOpts};
 
 /// A writer, before and after it writes.
 #[derive(Drop)]

@@ -10,7 +10,8 @@ mod tally;
 pub mod threads;
 
 pub use gate::{Gate, OpenGate};
-pub use opts::{Report, ThreadsOpts};
+pub use opts::Report;
+pub use sync_base::ThreadsOpts;
 pub use threads::run_threads;
 
 #[cfg(test)]

@@ -3,8 +3,10 @@
 ghost use Rattle.std.specs.Prelude.{◌≡◌, ◌≤◌, length};
 ghost use Rattle.crew.specs.Message.{message_of};
 
+use sync_base::limits::LEAST_SIZE;
+
 /// The bytes of a message's head: its writer, and its number among that writer's.
-pub const HEAD: usize = 16;
+pub const HEAD: usize = LEAST_SIZE as usize;
 
 /// Fills a message: its writer and its number, each as 8 bytes with the highest first, and then
 /// bytes equal to the number's remainder by 256.

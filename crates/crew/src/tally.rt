@@ -4,8 +4,9 @@ ghost use Rattle.crew.specs.declared.message.TheConstants.{HEAD};
 ghost use Rattle.crew.specs.Message.{message_of};
 
 use crate::message::{HEAD, fill, writer_of};
-use crate::opts::{Report, ThreadsOpts};
+use crate::opts::Report;
 use std::alloc::{AllocError, Global};
+use sync_base::ThreadsOpts;
 
 /// What the reader expects: the next message of each writer.
 #[derive(Drop)]
@@ -73,7 +74,7 @@ pub struct Tally {
 
 impl Tally {
     ghost use Rattle.std.specs.Prelude.{◌≡◌, IfOk, true};
-    ghost use Rattle.crew.specs.declared.opts.ThreadsOpts.{ThreadsOpts};
+    ghost use Rattle.sync_base.specs.declared.threads_opts.ThreadsOpts.{ThreadsOpts};
     ghost use Rattle.crew.specs.Tally.{AreOfOneRun, CountsNext, IsNewTally, IsTallyOf, Tells};
     ghost use Rattle.crew.specs.Threads.{AreWithin, IsReportOf};
 

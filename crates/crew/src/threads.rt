@@ -5,7 +5,7 @@ ghost use Rattle.crew.specs.Threads.{AreWithin, IsReportOf};
 
 use crate::crew::{Counted, Crew, Writer};
 use crate::gate::Gate;
-use crate::opts::{Report, ThreadsOpts};
+use crate::opts::{Report, is_within};
 use pipe_dev::{Ends, Parts, Pipe};
 use sleep_wakeup::{Kernel, Started};
 use std::alloc::Global;
@@ -14,7 +14,7 @@ use std::sync::atomic::AtomicBool;
 use std::sync::atomic::Ordering::SeqCst;
 use std::thread;
 use std::thread::{JoinHandle, Threads};
-use sync_base::Fault;
+use sync_base::{Fault, ThreadsOpts};
 
 /// How many writes the pipe holds that no read has begun.
 pub const LIMIT: u64 = 16;
@@ -37,7 +37,7 @@ pub fn run_threads<R: Threads + Wait + Sync, G: Gate + Sync>(
     // Otherwise it reports what was read.
     ensures report { IfOk result (IsReportOf opts) }
 {
-    if !opts.is_within() {
+    if !is_within(&opts) {
         return Err(Fault::BadArg);
     }
     let rendez = 2 * (1 + opts.writers);

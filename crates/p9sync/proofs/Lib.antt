@@ -1,2 +1,2 @@
-mod ArgsLemmas
-mod WorkedWords
+mod RunLemmas
+mod WorkedReports

@@ -1,7 +1,8 @@
 //! What every layer of the library speaks of: the names of processes, Rendez and tags, the notes,
 //! the flags of rfork, the faults, the limits, and a pipe for one thread.
 //! Read `ids`, `note`, `flags`, `limits`, `fault`; then `piece`, `answers`, `mode`, `plain_pipe`
-//! and what holds of it, `laws`; `probe` is for tests of calls.
+//! and what holds of it, `laws`; `threads_opts` is what a run on threads is asked for, and `probe`
+//! is for tests of calls.
 #![tactic(auto)]
 
 pub mod answers;
@@ -15,6 +16,7 @@ pub mod note;
 pub mod piece;
 pub mod plain_pipe;
 pub mod probe;
+pub mod threads_opts;
 
 pub use answers::{Lent, ReadAnswer, WriteAnswer};
 pub use fault::Fault;
@@ -25,6 +27,7 @@ pub use note::{Note, NoteSet};
 pub use piece::Piece;
 pub use plain_pipe::PlainPipe;
 pub use probe::{NoProbe, Probe};
+pub use threads_opts::ThreadsOpts;
 
 #[cfg(test)]
 mod tests;

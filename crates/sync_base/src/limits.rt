@@ -21,3 +21,12 @@ pub const TOP_LEVEL: u64 = u64::MAX;
 
 /// The number of the last write of a queue.
 pub const LAST_WRITE: u64 = 4_611_686_018_427_387_903;
+
+/// The most messages of one writer in a run on threads. The least is 1.
+pub const MAX_WRITES: u64 = 100_000;
+
+/// The least bytes of such a message: its head, which names its writer and its number.
+pub const LEAST_SIZE: u64 = 16;
+
+/// The most bytes of such a message. It is below the atomic size, so that a message is one write.
+pub const MOST_SIZE: u64 = 8_192;

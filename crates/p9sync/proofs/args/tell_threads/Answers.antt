@@ -1,6 +1,6 @@
 -- A report that is out of order was written whole, which is a front of it too.
 use Rattle.std.proofs.Common.{refl, inr}
-use Rattle.p9sync.proofs.ArgsLemmas.{whole_is_front}
+use Rattle.p9sync.proofs.RunLemmas.{whole_is_front}
 use Rattle.p9sync.proofs.args.tell_threads.Goals as goal
 
 pub returns-in-Ok-false-clause-ends : goal.returns-in-Ok-false-clause-ends

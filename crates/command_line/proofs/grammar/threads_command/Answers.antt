@@ -5,9 +5,9 @@ use Rattle.clap.specs.Simple.{App, app_of, new_app, on_top, with_rule}
 use Rattle.clap.specs.Walk.{rule_of}
 use Rattle.clap.specs.declared.builder.command.Command.TheViews.{out-Command}
 use Rattle.sync_base.specs.declared.limits.TheConstants.{MAX_WRITERS}
-use Rattle.crew.specs.declared.opts.TheConstants.{LEAST_SIZE, MOST_SIZE, MAX_WRITES}
-use Rattle.p9sync.specs.Args.{number_between}
-use Rattle.p9sync.proofs.args.threads_command.Goals as goal
+use Rattle.sync_base.specs.declared.limits.TheConstants.{LEAST_SIZE, MOST_SIZE, MAX_WRITES}
+use Rattle.command_line.specs.CommandLine.{number_between}
+use Rattle.command_line.proofs.grammar.threads_command.Goals as goal
 
 pub returns : goal.returns
 returns c =

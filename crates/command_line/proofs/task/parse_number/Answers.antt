@@ -1,12 +1,12 @@
 -- What `get_one` reads of the text that was found.
-use Rattle.std.proofs.Common.{◌≡◌, ◌∙◌, ap}
+use Rattle.std.proofs.Common.{◌∙◌, ap}
 use Rattle.std.specs.Prelude.{option_and_then}
 use Rattle.std.specs.Str.Parse.{ParsesUnsigned, ExplainsUnsignedError, HasUnsignedDigitsIfOk}
 use Rattle.clap.specs.Matches.{found_of}
 use Rattle.clap.proofs.WalkLemmas.{one_text-rows}
-use Rattle.p9sync.specs.Args.{number_asked}
-use Rattle.p9sync.proofs.ArgsLemmas.{option_read}
-use Rattle.p9sync.proofs.args.parse_number.Goals as goal
+use Rattle.command_line.specs.CommandLine.{number_asked}
+use Rattle.command_line.proofs.CommandLemmas.{option_read}
+use Rattle.command_line.proofs.task.parse_number.Goals as goal
 
 pub returns : goal.returns
 returns c =

@@ -2,8 +2,8 @@
 use Rattle.std.proofs.Common.{◌≡◌, ◌∙◌, rules, ap₂, codes}
 use Rattle.std.proofs.lemmas.Result.{IfOk-weaker}
 use Rattle.clap.specs.Simple.{app_of, shape_of, new_app, on_top, with_subcommand}
-use Rattle.p9sync.specs.Args.{needing_command, taking_nothing}
-use Rattle.p9sync.proofs.args.command.Goals as goal
+use Rattle.command_line.specs.CommandLine.{needing_command, taking_nothing}
+use Rattle.command_line.proofs.grammar.command.Goals as goal
 
 pub returns : goal.returns
 returns c =

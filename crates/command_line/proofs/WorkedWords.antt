@@ -1,10 +1,8 @@
--- What some command lines ask for, and what is said of some reports, computed from the definitions.
-use Rattle.std.proofs.Common.{◌≡◌, List, ℕ, [], ◌∷◌, ◌++◌, refl, codes, true, false, Some, None}
-use Rattle.std.specs.Fmt.{digits}
+-- What some command lines ask for, computed from the definition.
+use Rattle.std.proofs.Common.{◌≡◌, List, ℕ, [], ◌∷◌, refl, codes, Some, None}
 use Rattle.clap.proofs.OnLiterals.{clap_on_literals}
-use Rattle.p9sync.specs.declared.args.Task.TheVariants.{Pipe, Threads}
-use Rattle.p9sync.specs.Args.{task_asked}
-use Rattle.p9sync.specs.ReportText.{report_line}
+use Rattle.command_line.specs.declared.task.Task.TheVariants.{Pipe, Threads}
+use Rattle.command_line.specs.CommandLine.{task_asked}
 
 -- `threads` with these words behind it
 abbrev threads_with : List (List ℕ) → List (List ℕ)
@@ -55,13 +53,3 @@ a_word_too_many = refl
 -- a script is asked for by its command alone
 a_script : task_asked (codes "p9sync" ∷ codes "pipe" ∷ []) ≡ Some Pipe
 a_script = refl
-
-in_order : report_line (record { writers = 4; writes = 4000; bytes = 64000; in_order = true })
-    ≡ codes "writers 4 writes 4000 bytes 64000 in order" ++ 10 ∷ []
-unfolding digits
-in_order = refl
-
-out_of_order : report_line (record { writers = 1; writes = 0; bytes = 7; in_order = false })
-    ≡ codes "writers 1 writes 0 bytes 7 out of order" ++ 10 ∷ []
-unfolding digits
-out_of_order = refl

@@ -6,9 +6,10 @@ use Rattle.clap.specs.Walk.{rows_of}
 use Rattle.clap.specs.Matches.{found_of}
 use Rattle.clap.specs.Takes.{takes}
 use Rattle.clap.specs.Faults.{fault_of, is_simple_and_free}
-use Rattle.p9sync.specs.Args.{command_line}
-use Rattle.p9sync.proofs.ArgsLemmas.{asks_for, line_is_simple, met_of_parts, not_taken, found_is, none_found, only_memory}
-use Rattle.p9sync.proofs.args.task_of.Goals as goal
+use Rattle.command_line.specs.CommandLine.{command_line}
+use Rattle.command_line.proofs.CommandLemmas.{asks_for, line_is_simple, met_of_parts, not_taken}
+use Rattle.command_line.proofs.CommandLemmas.{found_is, none_found, only_memory}
+use Rattle.command_line.proofs.task.task_of.Goals as goal
 
 pub returns-in_err-matches-clause-refused : goal.returns-in_err-matches-clause-refused
 returns-in_err-matches-clause-refused g c =

@@ -1,14 +1,16 @@
 -- Which command lines `clap` takes, and that it refuses every other.
-use Rattle.std.proofs.Common.{◌≡◌, ℕ, Bool, true, false, ◌⊎◌, inl, inr, zero, suc, List, [], ◌∷◌, ◌++◌, length, fold, append_assoc, Option, None, Some, refl, sym, ◌∙◌, ap, ap₂, subst, codes, rules}
+use Rattle.std.proofs.Common.{◌≡◌, ℕ, Bool, true, false, ◌⊎◌, inl, inr, zero, suc, List, [], ◌∷◌}
+use Rattle.std.proofs.Common.{◌++◌, length, fold, append_assoc, Option, None, Some, refl, sym}
+use Rattle.std.proofs.Common.{◌∙◌, ap, ap₂, subst, codes, rules}
 use Rattle.std.proofs.Common.{arith, slice_get, option_map}
 use Rattle.std.specs.Str.{bytes_eq, chars}
 use Rattle.std.specs.Bool.{Decides}
 use Rattle.std.proofs.lemmas.Bool.Decides.{same_from_decides}
 use Rattle.std.proofs.lemmas.List.{append-nil}
-use Rattle.std.proofs.Math.Seq.{take-length}
 use Rattle.std.proofs.lemmas.Slice.Eq.{bytes_eq-Decides}
 use Rattle.clap.specs.Lexer.{long_of, short_of}
-use Rattle.clap.specs.Walk.{Names, Row, rows_of, Rule, Text, Walk, idle, walk, walk_from, walked, nothing_held, bundle_met, subcommand_met}
+use Rattle.clap.specs.Walk.{Names, Row, rows_of, Rule, Text, Walk, idle, walk, walk_from, walked}
+use Rattle.clap.specs.Walk.{nothing_held, bundle_met, subcommand_met}
 use Rattle.clap.specs.Simple.{Shape, built, entered, names_of, subcommand_of, subcommand_rows}
 use Rattle.clap.specs.declared.parser.matches.SubCommand.{SubCommand}
 use Rattle.clap.specs.declared.parser.matches.ArgMatches.TheViews.{out-SubCommand}
@@ -17,36 +19,26 @@ use Rattle.std.specs.Prelude.{Box}
 use Rattle.clap.specs.Kinds.{HasKind, Kinds, or_else}
 use Rattle.clap.specs.Values.{kind_of}
 use Rattle.clap.specs.Matches.{found_of, ReadsOne}
-use Rattle.clap.specs.ValueTests.{accepts, is_unsigned_in}
+use Rattle.clap.specs.ValueTests.{is_unsigned_in}
 use Rattle.clap.specs.declared.builder.value_parser.ValueParser.TheVariants as vp
 use Rattle.clap.proofs.ValueTestLemmas.{accepts-Accepts, Accepts-accepts}
-use Rattle.std.specs.Str.Parse.{ParsesUnsigned, digits_value, without_leading_plus}
+use Rattle.std.specs.Str.Parse.{ParsesUnsigned}
 use Rattle.std.specs.Prelude.{option_and_then, ◌-◌, ◌^◌, Ok}
 use Rattle.clap.specs.declared.error.Error.{Error}
 use Rattle.clap.specs.declared.error.kind.ErrorKind.TheVariants as kind
 use Rattle.clap.specs.Takes.{takes}
-use Rattle.clap.specs.Faults.{fault_of, is_simple_and_free, walk_fault, turn_fault, flags_fault, stray_fault, entered_fault}
+use Rattle.clap.specs.Faults.{fault_of, is_simple_and_free, walk_fault, turn_fault, flags_fault}
+use Rattle.clap.specs.Faults.{stray_fault, entered_fault}
 use Rattle.clap.proofs.OnLiterals.{clap_on_literals}
-use Rattle.p9sync.specs.declared.args.NoTask.{NoTask}
-use Rattle.p9sync.specs.declared.args.NoTask.TheVariants.{Refused}
+use Rattle.command_line.specs.declared.task.NoTask.{NoTask}
+use Rattle.command_line.specs.declared.task.NoTask.TheVariants.{Refused}
 use Rattle.std.specs.Option.{ok_or, option_or}
 use Rattle.std.specs.Result.{IfOk, IfErr}
-use Rattle.std.specs.Prelude.{Result, Err, IfSome}
-use Rattle.p9sync.specs.declared.args.Task.{Task}
-use Rattle.p9sync.specs.declared.args.Task.TheVariants.{Pipe, Replay, Threads}
-use Rattle.crew.specs.declared.opts.ThreadsOpts.{ThreadsOpts}
-use Rattle.crew.specs.declared.opts.Report.{Report}
-use Rattle.std.specs.Io.KnownBytes.{Appends}
-use Rattle.sync_base.specs.declared.fault.Fault.{Fault}
-use Rattle.scripts.specs.Device.{AppendsFront, WritesTold}
-use Rattle.scripts.specs.Script.{Told}
-use Rattle.p9sync.specs.ReportText.{report_line}
-use Rattle.crew.specs.Threads.{IsReportOf}
-use Rattle.scripts.specs.Lines.{is_word}
-use Rattle.p9sync.specs.declared.args.TheConstants.{FAULT}
-use Rattle.p9sync.specs.Args.{command_line, command_named, number_asked, script_asked, task_asked, task_named, threads_asked, threads_named, status_of, EndsRun, EndsTask, EndsThreads}
-use Rattle.sync_base.specs.declared.fault.Fault.TheVariants.{Memory}
-use Rattle.scripts.proofs.DeviceLemmas.{appends_nothing}
+use Rattle.std.specs.Prelude.{Result, Err}
+use Rattle.command_line.specs.declared.task.Task.{Task}
+use Rattle.command_line.specs.CommandLine.{command_line, command_named, number_asked}
+use Rattle.command_line.specs.CommandLine.{script_asked, task_asked, task_named, threads_asked}
+use Rattle.command_line.specs.CommandLine.{threads_named}
 
 -- the command line is one of those that clap's clauses speak of exactly
 pub line_is_simple : is_simple_and_free command_line ≡ true
@@ -54,7 +46,7 @@ unfolding clap_on_literals
 line_is_simple = refl
 
 -- Words spelled alike are one word, either way round.
-word_is : (word other : List ℕ) → is_word word other ≡ true → word ≡ other
+word_is : (word other : List ℕ) → bytes_eq word other ≡ true → word ≡ other
 word_is word other alike = (bytes_eq-Decides word other).0 alike
 
 bytes_eq-sym : (a b : List ℕ) → bytes_eq a b ≡ bytes_eq b a
@@ -68,17 +60,17 @@ bytes_eq-sym a b =
 -- a word that names a run is the word of that run
 named : (word : Text) (task : Task) → task_named word ≡ Some task
     → (word ≡ codes "pipe") ⊎ (word ≡ codes "replay")
-named word task is = by_pipe (is_word word (codes "pipe")) refl
+named word task is = by_pipe (bytes_eq word (codes "pipe")) refl
   where
-    by_replay : is_word word (codes "pipe") ≡ false → (found : Bool)
-        → is_word word (codes "replay") ≡ found → (word ≡ codes "pipe") ⊎ (word ≡ codes "replay")
+    by_replay : bytes_eq word (codes "pipe") ≡ false → (found : Bool)
+        → bytes_eq word (codes "replay") ≡ found → (word ≡ codes "pipe") ⊎ (word ≡ codes "replay")
     by_replay not_pipe true found = inr (word_is word (codes "replay") found)
     by_replay not_pipe false found = let bad = rw (not_pipe, found) at is in absurd (cc)
 
-    by_pipe : (found : Bool) → is_word word (codes "pipe") ≡ found
+    by_pipe : (found : Bool) → bytes_eq word (codes "pipe") ≡ found
         → (word ≡ codes "pipe") ⊎ (word ≡ codes "replay")
     by_pipe true found = inl (word_is word (codes "pipe") found)
-    by_pipe false found = by_replay found (is_word word (codes "replay")) refl
+    by_pipe false found = by_replay found (bytes_eq word (codes "replay")) refl
 
 -- each command line that asks for a run is taken
 pipe_is_taken : (name : Text) → takes command_line (name ∷ codes "pipe" ∷ []) ≡ true
@@ -110,14 +102,14 @@ is_taken (name ∷ word ∷ []) task asked = by_name (named word task asked)
         → takes command_line (name ∷ word ∷ []) ≡ true
     by_name (inl is) = rw is (pipe_is_taken name)
     by_name (inr is) = rw is (replay_is_taken name)
-is_taken (name ∷ word ∷ end ∷ []) task asked = by_end (is_word end (codes "--")) refl
+is_taken (name ∷ word ∷ end ∷ []) task asked = by_end (bytes_eq end (codes "--")) refl
   where
     by_name : end ≡ codes "--" → (word ≡ codes "pipe") ⊎ (word ≡ codes "replay")
         → takes command_line (name ∷ word ∷ end ∷ []) ≡ true
     by_name is_end (inl is) = rw (is_end, is) (pipe_end_is_taken name)
     by_name is_end (inr is) = rw (is_end, is) (replay_end_is_taken name)
 
-    by_end : (found : Bool) → is_word end (codes "--") ≡ found
+    by_end : (found : Bool) → bytes_eq end (codes "--") ≡ found
         → takes command_line (name ∷ word ∷ end ∷ []) ≡ true
     by_end true found = let asks : task_named word ≡ Some task = rw found at asked in
         by_name (word_is end (codes "--") found) (named word task asks)
@@ -161,7 +153,7 @@ some_fault s none = by_leaf s.is_leaf refl
 -- It may look like a long option, like short ones, or like a value.
 module _ (s : Shape) (subs : Names) (word : Text)
     (bare : s.rules ≡ []) (unmet : subcommand_met subs idle word ≡ None)
-    (other : is_word word (codes "--") ≡ false) where
+    (other : bytes_eq word (codes "--") ≡ false) where
   abbrev fault : Kinds
   fault = turn_fault s subs (walk_from nothing_held) word
 
@@ -232,7 +224,7 @@ takes_nothing : (s : Shape) (words : List Text) → s.rules ≡ []
     → (words ≡ []) ⊎ (words ≡ codes "--" ∷ [])
 unfolding walk_fault
 takes_nothing s [] bare none = inl refl
-takes_nothing s (word ∷ words) bare none = by_word (is_word word (codes "--")) refl
+takes_nothing s (word ∷ words) bare none = by_word (bytes_eq word (codes "--")) refl
   where
     first : turn_fault s [] (walk_from nothing_held) word ≡ []
     first = (both_none _ _ none).0
@@ -245,7 +237,7 @@ takes_nothing s (word ∷ words) bare none = by_word (is_word word (codes "--"))
         (subst (λ ws. walk_fault s [] (walk_from nothing_held) ws ≡ [])
         (ap₂ (λ w ws. w ∷ ws) is_end is) none))
 
-    by_word : (is_end : Bool) → is_word word (codes "--") ≡ is_end
+    by_word : (is_end : Bool) → bytes_eq word (codes "--") ≡ is_end
         → (word ∷ words ≡ []) ⊎ (word ∷ words ≡ codes "--" ∷ [])
     by_word true is = by_rest words refl (word_is word (codes "--") is)
     by_word false is = absurd (stray s [] word bare refl is first)
@@ -337,9 +329,9 @@ names_threads name rest =
 -- and ask for the run of no script
 no_script : (name : Text) (rest : List Text) → script_asked (name ∷ codes "threads" ∷ rest) ≡ None
 no_script name [] = refl
-no_script name (end ∷ []) = by_end (is_word end (codes "--")) refl
+no_script name (end ∷ []) = by_end (bytes_eq end (codes "--")) refl
   where
-    by_end : (found : Bool) → is_word end (codes "--") ≡ found
+    by_end : (found : Bool) → bytes_eq end (codes "--") ≡ found
         → script_asked (name ∷ codes "threads" ∷ end ∷ []) ≡ None
     by_end true is = rw is refl
     by_end false is = rw is refl
@@ -362,7 +354,7 @@ asks_for_script : (words : List Text) (met : Text) → fault_of command_line wor
 unfolding walk_fault
 asks_for_script [] met none is = absurd (no_words none)
 asks_for_script (name ∷ []) met none is = absurd (name_alone name none)
-asks_for_script (name ∷ word ∷ rest) met none is = by_pipe (is_word word (codes "pipe")) refl
+asks_for_script (name ∷ word ∷ rest) met none is = by_pipe (bytes_eq word (codes "pipe")) refl
   where
     in_place : (command : Text) → word ≡ command
         → fault_of command_line (name ∷ command ∷ rest) ≡ []
@@ -396,8 +388,8 @@ asks_for_script (name ∷ word ∷ rest) met none is = by_pipe (is_word word (co
         (names_threads name rest) (no_script name rest) is
 
     -- the word names no command
-    unmet : is_word word (codes "pipe") ≡ false → is_word word (codes "replay") ≡ false
-        → is_word word (codes "threads") ≡ false → subcommand_met names idle word ≡ None
+    unmet : bytes_eq word (codes "pipe") ≡ false → bytes_eq word (codes "replay") ≡ false
+        → bytes_eq word (codes "threads") ≡ false → subcommand_met names idle word ≡ None
     unmet not_pipe not_replay not_threads =
         rw (
           bytes_eq-sym (codes "pipe") word ∙ not_pipe,
@@ -416,35 +408,37 @@ asks_for_script (name ∷ word ∷ rest) met none is = by_pipe (is_word word (co
         (subst (λ words. fault_of command_line words ≡ [])
         (words_are (codes "--") (next ∷ more) same ends) none)).0
 
-    by_end : is_word word (codes "pipe") ≡ false → is_word word (codes "replay") ≡ false
-        → is_word word (codes "threads") ≡ false → (found : Bool) → is_word word (codes "--") ≡ found → ⊥
-    by_end not_pipe not_replay not_threads true found = ends_alone (word_is word (codes "--") found) rest refl
+    by_end : bytes_eq word (codes "pipe") ≡ false → bytes_eq word (codes "replay") ≡ false
+        → bytes_eq word (codes "threads") ≡ false → (found : Bool)
+        → bytes_eq word (codes "--") ≡ found → ⊥
+    by_end not_pipe not_replay not_threads true found =
+        ends_alone (word_is word (codes "--") found) rest refl
     by_end not_pipe not_replay not_threads false found =
         stray top names word refl (unmet not_pipe not_replay not_threads) found
         (both_none _ _ (both_none _ _ none).0).0
 
-    by_threads : is_word word (codes "pipe") ≡ false → is_word word (codes "replay") ≡ false
-        → (found : Bool) → is_word word (codes "threads") ≡ found
+    by_threads : bytes_eq word (codes "pipe") ≡ false → bytes_eq word (codes "replay") ≡ false
+        → (found : Bool) → bytes_eq word (codes "threads") ≡ found
         → script_asked (name ∷ word ∷ rest) ≡ task_named met
     by_threads not_pipe not_replay true found = as_threads (word_is word (codes "threads") found)
     by_threads not_pipe not_replay false found =
-        absurd (by_end not_pipe not_replay found (is_word word (codes "--")) refl)
+        absurd (by_end not_pipe not_replay found (bytes_eq word (codes "--")) refl)
 
-    by_replay : is_word word (codes "pipe") ≡ false → (found : Bool)
-        → is_word word (codes "replay") ≡ found
+    by_replay : bytes_eq word (codes "pipe") ≡ false → (found : Bool)
+        → bytes_eq word (codes "replay") ≡ found
         → script_asked (name ∷ word ∷ rest) ≡ task_named met
     by_replay not_pipe true found =
         let same = word_is word (codes "replay") found in
         as_replay same (behind_replay name rest (in_place _ same))
     by_replay not_pipe false found =
-        by_threads not_pipe found (is_word word (codes "threads")) refl
+        by_threads not_pipe found (bytes_eq word (codes "threads")) refl
 
-    by_pipe : (found : Bool) → is_word word (codes "pipe") ≡ found
+    by_pipe : (found : Bool) → bytes_eq word (codes "pipe") ≡ found
         → script_asked (name ∷ word ∷ rest) ≡ task_named met
     by_pipe true found =
         let same = word_is word (codes "pipe") found in
         as_pipe same (behind_pipe name rest (in_place _ same))
-    by_pipe false found = by_replay found (is_word word (codes "replay")) refl
+    by_pipe false found = by_replay found (bytes_eq word (codes "replay")) refl
 
 -- Words without a fault ask for the run of the command that they name, with what they give for its
 -- options.
@@ -485,6 +479,7 @@ only_memory (k ∷ ks) error has none = absurd (cc)
 
 -- the subcommand that was entered, by its name and its rows
 module _ {Z : Type 0} where
+  -- the name and the rows are those that were found
   pub met_of_parts : (found : Option (Box SubCommand Z)) (name : Text) (rows : List Row)
       → option_map (λ b. (out-SubCommand (box_value b)).name.now) found ≡ Some name
       → option_map (λ p. p.1) (subcommand_rows found) ≡ Some rows
@@ -534,59 +529,9 @@ pub found_is : (asked found : Option Task) (r : Result Task NoTask) → asked �
 found_is asked (Some task) r same is = rw is same
 found_is asked None r same is = rw is tt
 
+-- and where no run was found none is asked for
 pub none_found : (asked found : Option Task) (r : Result Task NoTask) → asked ≡ found
     → r ≡ ok_or found Refused
     → IfErr r (λ no_task. no_task ≡ Refused → asked ≡ None)
 none_found asked (Some task) r same is = rw is tt
 none_found asked None r same is = rw is (λ refused. same)
-
--- a report of a run in which nothing was read
-abbrev nothing_read : ThreadsOpts → Report
-nothing_read opts = record { writers = opts.writers; writes = 0; bytes = 0; in_order = false }
-
-pub no_report : (opts : ThreadsOpts) → IsReportOf opts (nothing_read opts)
-no_report opts = record { writers = refl; whole = λ yes. absurd (cc); most = λ yes. absurd (cc) }
-
--- a run that could not begin for want of memory has written nothing
-pub ends_for_memory : (asked : Option Task) (input held : Option (List ℕ)) (status : ℕ)
-    → status ≡ FAULT
-    → IfSome asked (λ task. EndsTask task input held held status)
-ends_for_memory None input held status is = tt
-ends_for_memory (Some Pipe) None held status is = tt
-ends_for_memory (Some Pipe) (Some all) held status is =
-    record { outcome = Err Memory; written = (0, appends_nothing held); status_is = is }
-ends_for_memory (Some Replay) None held status is = tt
-ends_for_memory (Some Replay) (Some all) held status is =
-    record { outcome = Err Memory; written = (0, appends_nothing held); status_is = is }
-ends_for_memory (Some (Threads opts)) input held status is = record {
-  report = nothing_read opts;
-  is_report = no_report opts;
-  ended = inr (is, (0, appends_nothing held));
-}
-
--- before a report is written nothing is
-pub unreported : (opts : ThreadsOpts) (held : Option (List ℕ))
-    → (report : Report) × IsReportOf opts report × AppendsFront held held (report_line report)
-unreported opts held = (nothing_read opts, no_report opts, (0, appends_nothing held))
-
--- what was written whole is a front of itself
-pub whole_is_front : (old new : Option (List ℕ)) (bytes : List ℕ) → Appends old new bytes
-    → AppendsFront old new bytes
-whole_is_front old new bytes whole =
-    (length bytes, subst (λ b. Appends old new b) (sym (take-length bytes)) whole)
-
--- a run of a script ends so, where it was asked for
-pub ends_script : (told : List ℕ → Told) (unread held written : Option (List ℕ))
-    (outcome : Result (Unit {0}) Fault) (status : ℕ)
-    → IfSome unread (λ input. WritesTold (told input) held written outcome)
-    → status ≡ status_of outcome
-    → IfSome unread (λ input. EndsRun (told input) held written status)
-ends_script told None held written outcome status runs is = tt
-ends_script told (Some input) held written outcome status runs is =
-    record { outcome = outcome; written = runs; status_is = is }
-
-pub ends_as : (asked : Option Task) (task : Task) (unread held written : Option (List ℕ))
-    (status : ℕ)
-    → asked ≡ Some task → EndsTask task unread held written status
-    → IfSome asked (λ t. EndsTask t unread held written status)
-ends_as asked task unread held written status is ends = rw is ends

@@ -1,0 +1,69 @@
+-- How the runs of the program end, as its status says it.
+use Rattle.std.proofs.Common.{◌≡◌, ℕ, List, length, Option, None, Some, refl, sym, subst, inr}
+use Rattle.std.proofs.Math.Seq.{take-length}
+use Rattle.std.specs.Prelude.{Result, Err, IfSome, false}
+use Rattle.std.specs.Io.KnownBytes.{Appends}
+use Rattle.sync_base.specs.declared.fault.Fault.{Fault}
+use Rattle.sync_base.specs.declared.fault.Fault.TheVariants.{Memory}
+use Rattle.sync_base.specs.declared.threads_opts.ThreadsOpts.{ThreadsOpts}
+use Rattle.command_line.specs.declared.task.Task.{Task}
+use Rattle.command_line.specs.declared.task.Task.TheVariants.{Pipe, Replay, Threads}
+use Rattle.crew.specs.declared.opts.Report.{Report}
+use Rattle.crew.specs.Threads.{IsReportOf}
+use Rattle.scripts.specs.Device.{AppendsFront, WritesTold}
+use Rattle.scripts.specs.Script.{Told}
+use Rattle.scripts.proofs.DeviceLemmas.{appends_nothing}
+use Rattle.p9sync.specs.ReportText.{report_line}
+use Rattle.p9sync.specs.declared.args.TheConstants.{FAULT}
+use Rattle.p9sync.specs.Args.{status_of, EndsRun, EndsTask}
+
+-- a report of a run in which nothing was read
+abbrev nothing_read : ThreadsOpts → Report
+nothing_read opts = record { writers = opts.writers; writes = 0; bytes = 0; in_order = false }
+
+pub no_report : (opts : ThreadsOpts) → IsReportOf opts (nothing_read opts)
+no_report opts = record { writers = refl; whole = λ yes. absurd (cc); most = λ yes. absurd (cc) }
+
+-- a run that could not begin for want of memory has written nothing
+pub ends_for_memory : (asked : Option Task) (input held : Option (List ℕ)) (status : ℕ)
+    → status ≡ FAULT
+    → IfSome asked (λ task. EndsTask task input held held status)
+ends_for_memory None input held status is = tt
+ends_for_memory (Some Pipe) None held status is = tt
+ends_for_memory (Some Pipe) (Some all) held status is =
+    record { outcome = Err Memory; written = (0, appends_nothing held); status_is = is }
+ends_for_memory (Some Replay) None held status is = tt
+ends_for_memory (Some Replay) (Some all) held status is =
+    record { outcome = Err Memory; written = (0, appends_nothing held); status_is = is }
+ends_for_memory (Some (Threads opts)) input held status is = record {
+  report = nothing_read opts;
+  is_report = no_report opts;
+  ended = inr (is, (0, appends_nothing held));
+}
+
+-- before a report is written nothing is
+pub unreported : (opts : ThreadsOpts) (held : Option (List ℕ))
+    → (report : Report) × IsReportOf opts report × AppendsFront held held (report_line report)
+unreported opts held = (nothing_read opts, no_report opts, (0, appends_nothing held))
+
+-- what was written whole is a front of itself
+pub whole_is_front : (old new : Option (List ℕ)) (bytes : List ℕ) → Appends old new bytes
+    → AppendsFront old new bytes
+whole_is_front old new bytes whole =
+    (length bytes, subst (λ b. Appends old new b) (sym (take-length bytes)) whole)
+
+-- a run of a script ends so, where it was asked for
+pub ends_script : (told : List ℕ → Told) (unread held written : Option (List ℕ))
+    (outcome : Result (Unit {0}) Fault) (status : ℕ)
+    → IfSome unread (λ input. WritesTold (told input) held written outcome)
+    → status ≡ status_of outcome
+    → IfSome unread (λ input. EndsRun (told input) held written status)
+ends_script told None held written outcome status runs is = tt
+ends_script told (Some input) held written outcome status runs is =
+    record { outcome = outcome; written = runs; status_is = is }
+
+pub ends_as : (asked : Option Task) (task : Task) (unread held written : Option (List ℕ))
+    (status : ℕ)
+    → asked ≡ Some task → EndsTask task unread held written status
+    → IfSome asked (λ t. EndsTask t unread held written status)
+ends_as asked task unread held written status is ends = rw is ends
