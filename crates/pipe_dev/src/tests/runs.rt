@@ -3,7 +3,7 @@
 ghost use Rattle.std.specs.Prelude.{⊤};
 
 use crate::tests::hands::{Gate, Reader, Writer, fork};
-use crate::{Ends, Opened, Parts, Pipe, ReadAnswer};
+use crate::{End, Ends, Opened, Pipe, ReadAnswer, ReadEnd, WriteEnd};
 use sleep_wakeup::{Kernel, Proc, Started};
 use std::alloc::{AllocError, Global};
 use std::process::Abort;
@@ -146,15 +146,31 @@ impl Read {
     }
 }
 
-/// Reads to the end.
+/// Counts what a read answered, and says whether there is more to read.
+fn read_on(read: &mut Read, answer: Result<ReadAnswer, Fault>, buffer: &[u8], size: usize) -> bool {
+    match answer {
+        Ok(ReadAnswer::Got(count)) => match buffer.get(..count) {
+            Some(piece) => read.count(piece, size),
+            None => read.good = false,
+        },
+        Ok(ReadAnswer::End) => return false,
+        Err(Fault::Interrupted(_)) => read.noted = read.noted.saturating_add(1),
+        Err(_) => {
+            read.good = false;
+            return false;
+        }
+    }
+    true
+}
+
+/// Reads to the end, and hangs up.
 fn read_all<R: Wait>(
     rt: &R,
     board: &Board,
-    reader: Reader,
-    mut buffer: Vec<u8>,
+    reader: &mut Reader,
+    buffer: &mut [u8],
     plan: Plan,
 ) -> Read {
-    let Reader { mut proc, mut end } = reader;
     let mut read = Read {
         all: 0,
         of: [0; 64],
@@ -162,26 +178,18 @@ fn read_all<R: Wait>(
         good: board.gate.pass(),
     };
     if !read.good {
-        end.hangup(&mut proc);
+        reader.end.hangup(&mut reader.proc);
     }
     for _ in rt.forever() {
         if read.all == plan.reader_hangs {
-            end.hangup(&mut proc);
+            reader.end.hangup(&mut reader.proc);
         }
-        match end.read(rt, &mut proc, buffer.as_mut_slice()) {
-            Ok(ReadAnswer::Got(count)) => match buffer.as_slice().get(..count) {
-                Some(piece) => read.count(piece, plan.size),
-                None => read.good = false,
-            },
-            Ok(ReadAnswer::End) => break,
-            Err(Fault::Interrupted(_)) => read.noted = read.noted.saturating_add(1),
-            Err(_) => {
-                end.hangup(&mut proc);
-                read.good = false;
-                break;
-            }
+        let answer = reader.end.read(rt, &mut reader.proc, buffer);
+        if !read_on(&mut read, answer, buffer, plan.size) {
+            break;
         }
     }
+    reader.end.hangup(&mut reader.proc);
     board.read.store(true, SeqCst);
     read
 }
@@ -208,12 +216,30 @@ impl Wrote {
     }
 }
 
-/// Writes all its messages, up to a hangup. A write that was refused is tried again. The writer that
-/// ends last hangs up.
-fn write_all<R: Wait>(rt: &R, alloc: Global, board: &Board, writer: Writer, plan: Plan) -> Wrote {
-    let Writer { mut proc, mut end } = writer;
+/// Writes its next message. A write that was refused is tried again.
+fn write_next<R: Wait>(
+    rt: &R,
+    alloc: Global,
+    writer: &mut Writer,
+    wrote: &Wrote,
+    size: usize,
+) -> Result<u64, Fault> {
+    let bytes = vec![in alloc; byte_of(wrote.writer, wrote.accepted); size]?;
+    writer
+        .end
+        .write(alloc, rt, &mut writer.proc, bytes.as_slice())
+}
+
+/// Writes all its messages, up to a hangup. The writer that ends last hangs up.
+fn write_all<R: Wait>(
+    rt: &R,
+    alloc: Global,
+    board: &Board,
+    writer: &mut Writer,
+    plan: Plan,
+) -> Wrote {
     let mut wrote = Wrote {
-        writer: end.writer(),
+        writer: writer.end.writer(),
         accepted: 0,
         last: 0,
         noted: 0,
@@ -222,31 +248,28 @@ fn write_all<R: Wait>(rt: &R, alloc: Global, board: &Board, writer: Writer, plan
         good: board.gate.pass(),
     };
     if !wrote.good {
-        end.hangup(&mut proc);
+        writer.end.hangup(&mut writer.proc);
     }
     for _ in rt.forever() {
         if wrote.is_over(plan) {
             break;
         }
         if wrote.writer == 0 && wrote.accepted == plan.writer_hangs {
-            end.hangup(&mut proc);
+            writer.end.hangup(&mut writer.proc);
         }
-        match vec![in alloc; byte_of(wrote.writer, wrote.accepted); plan.size] {
-            Ok(bytes) => wrote.count(end.write(alloc, rt, &mut proc, bytes.as_slice())),
-            Err(_) => wrote.count(Err(Fault::Memory)),
-        }
+        wrote.count(write_next(rt, alloc, writer, &wrote, plan.size));
     }
-    if proc.notes().has(Note::ClosedPipe) != wrote.hungup || wrote.refused > 4 {
+    if writer.proc.notes().has(Note::ClosedPipe) != wrote.hungup || wrote.refused > 4 {
         wrote.good = false;
     }
     if board.wrote.fetch_add(1, SeqCst).saturating_add(1) >= plan.writers {
-        end.hangup(&mut proc);
+        writer.end.hangup(&mut writer.proc);
     }
     wrote
 }
 
 /// Posts notes to all others until the reader has ended, and says how many.
-fn post(board: &Board, mut proc: Proc, plan: Plan) -> u64 {
+fn post(board: &Board, proc: &mut Proc, plan: Plan) -> u64 {
     let mut posted = 0u64;
     if !board.gate.pass() {
         return posted;
@@ -268,41 +291,70 @@ fn post(board: &Board, mut proc: Proc, plan: Plan) -> u64 {
 
 fn make_work<R: Wait>(rt: &R, alloc: Global, board: &Board, job: Job, plan: Plan) -> Work {
     match job {
-        Job::Read(reader, buffer) => Work::Read(read_all(rt, board, reader, buffer, plan)),
-        Job::Write(writer) => Work::Wrote(write_all(rt, alloc, board, writer, plan)),
-        Job::Post(proc) => Work::Posted(post(board, proc, plan)),
+        Job::Read(mut reader, mut buffer) => Work::Read(read_all(
+            rt,
+            board,
+            &mut reader,
+            buffer.as_mut_slice(),
+            plan,
+        )),
+        Job::Write(mut writer) => Work::Wrote(write_all(rt, alloc, board, &mut writer, plan)),
+        Job::Post(mut proc) => Work::Posted(post(board, &mut proc, plan)),
     }
+}
+
+/// The reader of a direction, as a process of its own.
+fn reading<'a>(
+    alloc: Global,
+    started: &mut Started<'a>,
+    end: ReadEnd<'a>,
+    size: usize,
+) -> Result<Job<'a>, Fault> {
+    let buffer = vec![in alloc; 0; size.max(1)]?;
+    let proc = fork(&mut started.roster, &mut started.proc)?;
+    Ok(Job::Read(Reader { proc, end }, buffer))
+}
+
+/// One of its writers.
+fn writing<'a>(started: &mut Started<'a>, end: WriteEnd<'a>) -> Result<Job<'a>, Fault> {
+    let proc = fork(&mut started.roster, &mut started.proc)?;
+    Ok(Job::Write(Writer { proc, end }))
+}
+
+/// Adds its writers.
+fn add_writers<'a>(
+    jobs: &mut Vec<Job<'a>>,
+    started: &mut Started<'a>,
+    ends: Vec<WriteEnd<'a>>,
+) -> Result<(), Fault> {
+    for end in ends {
+        jobs.push(writing(started, end)?)?;
+    }
+    Ok(())
+}
+
+/// Where an end is read.
+fn read_end(end: End<'_>) -> ReadEnd<'_> {
+    end.parts().read
+}
+
+/// Where an end is written.
+fn write_ends(end: End<'_>) -> Vec<WriteEnd<'_>> {
+    end.parts().writes
 }
 
 /// The direction from the second end to the first. The reader has the pid 1 and the writers those
 /// behind it.
 fn jobs_of<'a>(
     alloc: Global,
-    started: Started<'a>,
-    ends: Ends<'a>,
-    plan: Plan,
+    started: &mut Started<'a>,
+    end: ReadEnd<'a>,
+    writes: Vec<WriteEnd<'a>>,
+    size: usize,
 ) -> Result<Vec<Job<'a>>, Fault> {
-    let Started {
-        mut roster,
-        proc: mut poster,
-    } = started;
-    let Ends { first, second } = ends;
-    let Parts {
-        read: end,
-        writes: _,
-    } = first.parts();
-    let Parts { read: _, writes } = second.parts();
-    let buffer = vec![in alloc; 0; plan.size.max(1)]?;
-    let mut jobs = Vec::new(alloc);
-    let proc = fork(&mut roster, &mut poster)?;
-    jobs.push(Job::Read(Reader { proc, end }, buffer))?;
-    for end in writes {
-        let proc = fork(&mut roster, &mut poster)?;
-        jobs.push(Job::Write(Writer { proc, end }))?;
-    }
-    if plan.notes {
-        jobs.push(Job::Post(poster))?;
-    }
+    let mut jobs = Vec::with_capacity(alloc, writes.len().saturating_add(2))?;
+    jobs.push(reading(alloc, started, end, size)?)?;
+    add_writers(&mut jobs, started, writes)?;
     Ok(jobs)
 }
 
@@ -365,16 +417,13 @@ fn make_all<R: Threads + Wait + Sync>(
     )
 }
 
-fn make_run<R: Threads + Wait + Sync>(rt: &R, alloc: Global, plan: Plan) -> Result<Run, Fault> {
-    let procs = plan.writers.saturating_add(2);
-    let sleep_wakeup::Opened { kernel, start } = Kernel::new(
-        alloc,
-        procs,
-        procs.saturating_mul(2),
-    )?;
-    let mut started = kernel.start(start);
-    let Opened { pipe, start } = Pipe::new(alloc, &mut started.roster, plan.limit, plan.writers)?;
-    let jobs = jobs_of(alloc, started, pipe.ends(start), plan)?;
+/// Runs the jobs on threads, and adds up what came of them.
+fn run_jobs<R: Threads + Wait + Sync>(
+    rt: &R,
+    alloc: Global,
+    jobs: Vec<Job<'_>>,
+    plan: Plan,
+) -> Result<Run, Fault> {
     let board = Board {
         gate: Gate::new(jobs.len() as u64),
         wrote: AtomicU64::new(0),
@@ -385,6 +434,35 @@ fn make_run<R: Threads + Wait + Sync>(rt: &R, alloc: Global, plan: Plan) -> Resu
         run.add(work);
     }
     Ok(run)
+}
+
+/// The jobs of a plan in a kernel that was started.
+fn plan_jobs<'a>(
+    alloc: Global,
+    mut started: Started<'a>,
+    ends: Ends<'a>,
+    plan: Plan,
+) -> Result<Vec<Job<'a>>, Fault> {
+    let Ends { first, second } = ends;
+    let (end, writes) = (read_end(first), write_ends(second));
+    let mut jobs = jobs_of(alloc, &mut started, end, writes, plan.size)?;
+    if plan.notes {
+        jobs.push(Job::Post(started.proc))?;
+    }
+    Ok(jobs)
+}
+
+fn make_run<R: Threads + Wait + Sync>(rt: &R, alloc: Global, plan: Plan) -> Result<Run, Fault> {
+    let procs = plan.writers.saturating_add(2);
+    let sleep_wakeup::Opened { kernel, start } = Kernel::new(
+        alloc,
+        procs,
+        procs.saturating_mul(2),
+    )?;
+    let mut started = kernel.start(start);
+    let Opened { pipe, start } = Pipe::new(alloc, &mut started.roster, plan.limit, plan.writers)?;
+    let jobs = plan_jobs(alloc, started, pipe.ends(start), plan)?;
+    run_jobs(rt, alloc, jobs, plan)
 }
 
 /// Makes a run. Where a test makes an allocation fail that a run can't go on without, it is made
