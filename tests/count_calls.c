@@ -1,7 +1,8 @@
 // Counts the calls with which a thread waits, wakes and gives its processor away, and holds one thread back. For LD_PRELOAD.
 // Threads are numbered from 1 as they are started. HELD_THREAD does not begin before the thread FIRST_THREAD has slept once,
 // or has ended. As each thread ends, it appends a line to the file CALLS: its number, how often it yielded before it first
-// slept, how often it slept, how often it woke, and its other calls of the system.
+// slept, how often it slept, how often it woke, and its other calls of the system. The program's own thread, 0, does so at
+// each call of the system.
 #define _GNU_SOURCE
 #include <dlfcn.h>
 #include <linux/futex.h>
@@ -30,6 +31,16 @@ static long number(const char *name)
 	return text ? atol(text) : 0;
 }
 
+static void write_calls(void)
+{
+	FILE *calls = fopen(getenv("CALLS"), "a");
+
+	if (calls) {
+		fprintf(calls, "%ld %ld %ld %ld %ld\n", own, yields, sleeps, wakes, others);
+		fclose(calls);
+	}
+}
+
 long syscall(long call, ...)
 {
 	static long (*next)(long, ...);
@@ -51,6 +62,8 @@ long syscall(long call, ...)
 	} else {
 		others++;
 	}
+	if (own == 0)
+		write_calls();
 	return next(call, with[0], with[1], with[2], with[3], with[4], with[5]);
 }
 
@@ -75,11 +88,7 @@ static void *run_counted(void *it)
 	while (own == number("HELD_THREAD") && !has_slept[first] && !has_ended[first])
 		usleep(1000);
 	void *answer = start.run(start.with);
-	FILE *calls = fopen(getenv("CALLS"), "a");
-	if (calls) {
-		fprintf(calls, "%ld %ld %ld %ld %ld\n", own, yields, sleeps, wakes, others);
-		fclose(calls);
-	}
+	write_calls();
 	has_ended[own] = 1;
 	return answer;
 }

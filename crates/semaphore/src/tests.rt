@@ -18,6 +18,7 @@ mod opens;
 mod pages;
 mod plain_sema;
 mod plain_timers;
+mod points;
 mod random;
 mod times;
 

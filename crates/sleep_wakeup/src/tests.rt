@@ -22,7 +22,7 @@ mod visits;
 
 use note_at::{NoteAt, SleepAt};
 
-const ROUNDS: u64 = 5_000;
+const ROUNDS: u64 = 1_000;
 
 const INPUT: RendezId = RendezId(0);
 

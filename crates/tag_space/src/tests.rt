@@ -10,6 +10,7 @@ mod meddler;
 mod meetings;
 mod pages;
 mod partners;
+mod points;
 mod scene;
 mod spaces;
 

@@ -1,0 +1,322 @@
+//! The points that an acquire passes, as a whole list for each way through it, while another
+//! process acts at some of them. What that one is told, and which way the call then goes, tells
+//! which steps were made; so a point that is moved over such a step, doubled or left out is noticed.
+use crate::tests::member::{Act, ActAt, First, Member};
+use crate::{OpenedSema, OpenedTimers, Sema, Semacquired, Timers};
+use sleep_wakeup::{Kernel, Opened, Started};
+use std::alloc::Global;
+use std::process::Abort;
+use std::sync::Wait;
+use std::test::Fail;
+use sync_base::{Fault, Note, NoteSet, Probe};
+
+/// No call of these tests passes as many points.
+const MOST: usize = 8;
+
+type Points = [u64; MOST];
+
+/// The deadline of each acquire in time.
+const DEADLINE: u64 = 150;
+
+/// Records each point, and then acts.
+#[derive(Drop)]
+struct Recorder<'r, 's, 't, 'k, R: Wait> {
+    beside: ActAt<'r, 's, 't, 'k, R>,
+    points: Points,
+    passed: usize,
+}
+
+impl<R: Wait> Probe for Recorder<'_, '_, '_, '_, R> {
+    fn at(&mut self, point: u64) {
+        if self.passed < MOST {
+            self.points[self.passed] = point;
+            self.passed += 1;
+        }
+        self.beside.at(point);
+    }
+}
+
+/// How a unit is asked for.
+#[derive(Clone, Copy, Debug, PartialEq, Eq)]
+enum Call {
+    AtOnce,
+    Waiting,
+    InTime,
+}
+
+/// An acquire of a semaphore of this value, and what comes at its points. Where its Rendez was
+/// raised before, its sleeps end at once.
+#[derive(Clone, Copy)]
+struct Case {
+    call: Call,
+    value: u32,
+    raised: bool,
+    acts: [Act; 4],
+}
+
+/// What came of it: the points, the answer, which notes were pending behind it, what who acted was
+/// told, and whether a unit was left.
+#[derive(Clone, Copy, Debug, PartialEq, Eq)]
+struct Way {
+    points: Points,
+    answer: Result<Semacquired, Fault>,
+    pending: NoteSet,
+    told: u64,
+    left: bool,
+}
+
+fn called<R: Wait>(
+    rt: &R,
+    member: &mut Member,
+    call: Call,
+    probe: &mut Recorder<R>,
+) -> Result<Semacquired, Fault> {
+    match call {
+        Call::AtOnce => member.acquire_probed(rt, false, probe),
+        Call::Waiting => member.acquire_probed(rt, true, probe),
+        Call::InTime => match member.acquire_by_probed(rt, DEADLINE, probe) {
+            Ok(()) => Ok(Semacquired::Acquired),
+            Err(fault) => Err(fault),
+        },
+    }
+}
+
+// Acquires a unit while another process watches.
+fn watched<'s, 't, 'k, R: Wait>(
+    rt: &R,
+    member: &mut Member<'s, 't, 'k>,
+    other: Member<'s, 't, 'k>,
+    call: Call,
+    acts: [Act; 4],
+) -> Way {
+    let mut probe = Recorder {
+        beside: ActAt {
+            rt,
+            other,
+            to: member.pid(),
+            acts,
+            visits: [0; 4],
+            answer: 0,
+        },
+        points: [0; MOST],
+        passed: 0,
+    };
+    let answer = called(rt, member, call, &mut probe);
+    let points = probe.points;
+    Way {
+        points,
+        answer,
+        pending: member.notes(),
+        told: probe.beside.answer,
+        left: member.acquire(rt, false) == Ok(Semacquired::Acquired),
+    }
+}
+
+// The way of an acquire of a new semaphore.
+fn passes<R: Wait + Abort>(rt: &R, alloc: Global, case: Case) -> Result<Way, Fail> {
+    let Opened { kernel, start } = Kernel::new(alloc, 2, 2)?;
+    let Started { mut roster, proc } = kernel.start(start);
+    let OpenedTimers {
+        timers,
+        seat: timer,
+    } = Timers::new(alloc, 2)?;
+    let OpenedSema { sema, seat } = Sema::new(alloc, &mut roster, case.value, 2)?;
+    let mut member = Member::new(&sema, &timers, First { seat, timer, proc });
+    let Some(other) = member.fork(rt, &mut roster)? else {
+        panic!(rt; "RFPROC makes a child")
+    };
+    if case.raised {
+        assert!(rt; member.wake_own(1));
+    }
+    let acts = case.acts;
+    Ok(watched(rt, &mut member, other, case.call, acts))
+}
+
+fn points_of(points: &[u64]) -> Points {
+    let mut all = [0; MOST];
+    for (place, point) in points.iter().enumerate() {
+        if place < MOST {
+            all[place] = *point;
+        }
+    }
+    all
+}
+
+// An acquire that got its unit, with nobody beside it.
+fn acquired(points: &[u64]) -> Way {
+    Way {
+        points: points_of(points),
+        answer: Ok(Semacquired::Acquired),
+        pending: NoteSet::empty(),
+        told: 0,
+        left: false,
+    }
+}
+
+// An acquire that an interrupt ended, with nobody else beside it.
+fn interrupted(points: &[u64]) -> Way {
+    Way {
+        answer: Err(Fault::Interrupted(NoteSet::of(Note::Interrupt))),
+        ..acquired(points)
+    }
+}
+
+// These acts, each with the point at which it comes.
+fn at(acts: &[(u64, Act)]) -> [Act; 4] {
+    let mut all = [Act::Nothing; 4];
+    for (point, act) in acts.iter() {
+        for (place, own) in all.iter_mut().enumerate() {
+            if place as u64 + 1 == *point {
+                *own = *act;
+            }
+        }
+    }
+    all
+}
+
+// Each of these acts makes such an acquire go its way.
+fn check_ways<R: Wait + Abort>(
+    rt: &R,
+    alloc: Global,
+    case: Case,
+    ways: &[([Act; 4], Way)],
+) -> Result<(), Fail> {
+    for (row, (acts, way)) in ways.iter().enumerate() {
+        let acts = *acts;
+        assert_eq!(rt;
+            passes(rt, alloc, Case { acts, ..case })?,
+            *way,
+            "row {row}"
+        );
+    }
+    Ok(())
+}
+
+#[test]
+fn an_acquire_asks_between_its_first_and_last_point(rt: HostRuntime) -> Result<(), Fail> {
+    for call in [Call::AtOnce, Call::Waiting] {
+        let case = Case {
+            call,
+            value: 1,
+            raised: false,
+            acts: at(&[]),
+        };
+        let ways = [
+            (at(&[]), acquired(&[1, 4])),
+            (
+                at(&[(1, Act::Release)]),
+                Way {
+                    told: 2,
+                    left: true,
+                    ..acquired(&[1, 4])
+                },
+            ),
+            (
+                at(&[(4, Act::Release)]),
+                Way {
+                    told: 1,
+                    left: true,
+                    ..acquired(&[1, 4])
+                },
+            ),
+        ];
+        check_ways(&rt, rt.alloc(), case, &ways)?;
+    }
+    Ok(())
+}
+
+#[test]
+fn a_wait_that_notes_end_passes_each_point_once(rt: HostRuntime) -> Result<(), Fail> {
+    let points = [1, 2, 3, 4];
+    let case = Case {
+        call: Call::Waiting,
+        value: 0,
+        raised: false,
+        acts: at(&[]),
+    };
+    let released = Way {
+        pending: NoteSet::of(Note::Interrupt),
+        told: 1,
+        ..acquired(&points)
+    };
+    let ways = [
+        (at(&[(1, Act::Interrupt)]), interrupted(&points)),
+        (
+            at(&[(1, Act::Release)]),
+            Way {
+                told: 1,
+                ..acquired(&[1, 4])
+            },
+        ),
+        (at(&[(1, Act::Interrupt), (2, Act::Release)]), released),
+        (at(&[(1, Act::Interrupt), (3, Act::Release)]), released),
+        (
+            at(&[(1, Act::Interrupt), (4, Act::Release)]),
+            Way {
+                told: 1,
+                left: true,
+                ..interrupted(&points)
+            },
+        ),
+    ];
+    check_ways(&rt, rt.alloc(), case, &ways)
+}
+
+#[test]
+fn a_wait_sleeps_between_its_second_and_third_point(rt: HostRuntime) -> Result<(), Fail> {
+    let case = Case {
+        call: Call::Waiting,
+        value: 0,
+        raised: true,
+        acts: at(&[]),
+    };
+    let granted = Way {
+        told: 1,
+        ..acquired(&[1, 2, 3, 4])
+    };
+    let ways = [
+        (at(&[(2, Act::Interrupt)]), interrupted(&[1, 2, 3, 4])),
+        (at(&[(3, Act::Interrupt)]), interrupted(&[1, 2, 3, 2, 3, 4])),
+        (at(&[(2, Act::Release)]), granted),
+        (at(&[(3, Act::Release)]), granted),
+    ];
+    check_ways(&rt, rt.alloc(), case, &ways)
+}
+
+#[test]
+fn a_wait_in_time_passes_the_points_of_its_sleeps(rt: HostRuntime) -> Result<(), Fail> {
+    let case = Case {
+        call: Call::InTime,
+        value: 0,
+        raised: true,
+        acts: at(&[]),
+    };
+    let ended = Way {
+        told: 1,
+        answer: Err(Fault::TimedOut),
+        ..acquired(&[2, 3, 2, 3])
+    };
+    let ways = [
+        (at(&[(2, Act::Interrupt)]), interrupted(&[2, 3])),
+        (at(&[(3, Act::Interrupt)]), interrupted(&[2, 3, 2, 3])),
+        (
+            at(&[(3, Act::Release)]),
+            Way {
+                told: 1,
+                ..acquired(&[2, 3])
+            },
+        ),
+        (at(&[(3, Act::Tick(DEADLINE))]), ended),
+        (
+            at(&[(2, Act::Interrupt), (3, Act::Tick(DEADLINE))]),
+            Way {
+                told: 1,
+                ..interrupted(&[2, 3])
+            },
+        ),
+    ];
+    check_ways(&rt, rt.alloc(), case, &ways)?;
+    let case = Case { value: 1, ..case };
+    assert_eq!(rt; passes(&rt, rt.alloc(), case)?, acquired(&[]));
+    Ok(())
+}
