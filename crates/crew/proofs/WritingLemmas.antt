@@ -39,6 +39,7 @@ at_end_now : (key : Key) (row : Row) (old : Reader) (buffer : List ℕ) (new : R
 at_end_now key row old buffer new buffer' reads =
     ap (λ (a : Account Entry). is_at_end a.seen) reads.ended.0.entered.adds.new_is
 
+-- the same, of an answer that is the end
 pub at_end : (key : Key) (row : Row) (old : Reader) (buffer : List ℕ)
     (answer : Result ReadAnswer Fault) (new : Reader) (buffer' : List ℕ)
     → Reads key row old buffer answer new buffer' → answer ≡ Ok read.End
@@ -66,6 +67,7 @@ pub one_more : (size writer count : ℕ)
 one_more size writer count =
     let e : count + 1 ≡ suc count = omega arith in ap (messages_of size writer) e
 
+-- who wrote nothing has written on
 pub same_writer : (writer : Writer) → HasWrittenOn writer writer
 same_writer writer =
     record {
@@ -76,6 +78,7 @@ same_writer writer =
       counts = λ before counts. counts;
     }
 
+-- writing on, and then on
 pub then_written : (old between new : Writer) → HasWrittenOn old between
     → HasWrittenOn between new → HasWrittenOn old new
 then_written old between new first second =
