@@ -1,1 +1,2 @@
 mod CrewLemmas
+mod WritingLemmas

@@ -1,3 +1,4 @@
 pub mod Message
 pub mod Tally
 pub mod Threads
+pub mod Writing

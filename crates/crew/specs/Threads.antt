@@ -1,8 +1,10 @@
 -- What a run on threads is asked for, and what it answers.
-use Rattle.std.specs.Prelude.{◌≡◌, ◌≤◌, ◌*◌, ℕ, Bool, true}
+use Rattle.std.specs.Prelude.{◌≡◌, ◌≤◌, ◌*◌, ℕ, Bool, true, false, List, [], ◌∷◌}
 use Rattle.sync_base.specs.declared.limits.TheConstants.{MAX_WRITERS}
 use Rattle.sync_base.specs.declared.limits.TheConstants.{LEAST_SIZE, MOST_SIZE, MAX_WRITES}
 use Rattle.sync_base.specs.declared.threads_opts.ThreadsOpts.{ThreadsOpts}
+use Rattle.block_queue.specs.declared.entry.Entry.{Entry}
+use Rattle.block_queue.specs.declared.entry.Entry.TheVariants.{End, Hung}
 use Rattle.crew.specs.declared.opts.Report.{Report}
 
 -- a number lies between two others
@@ -22,3 +24,15 @@ pub record IsReportOf (opts : ThreadsOpts) (report : Report) : Type 0 where
   pub writers : report.writers ≡ opts.writers
   pub whole : report.in_order ≡ true → report.bytes ≡ report.writes * opts.size
   pub most : report.in_order ≡ true → report.writes ≤ opts.writers * opts.writes
+
+-- the newest entry that a reader has seen is its own, that nothing more will come
+abbrev pub is_at_end : List Entry → Bool
+is_at_end [] = false
+is_at_end (End ∷ past) = true
+is_at_end (other ∷ past) = false
+
+-- the newest entry that a writer has seen is a hangup
+abbrev pub is_hung : List Entry → Bool
+is_hung [] = false
+is_hung (Hung seat ∷ past) = true
+is_hung (other ∷ past) = false

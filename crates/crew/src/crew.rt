@@ -1,8 +1,10 @@
 //! What each thread of a run does.
-ghost use Rattle.std.specs.Prelude.{◌≤◌, vec_len};
+ghost use Rattle.std.specs.Prelude.{◌≡◌, ◌≤◌, true, vec_len, IsErrOf};
+ghost use Rattle.std.specs.Result.{ForOk};
+ghost use Rattle.sync_base.specs.declared.fault.Fault.TheVariants.{BadArg};
 ghost use Rattle.crew.specs.declared.message.TheConstants.{HEAD};
 ghost use Rattle.crew.specs.Tally.{IsTallyOf};
-ghost use Rattle.crew.specs.Threads.{AreWithin};
+ghost use Rattle.crew.specs.Threads.{is_at_end, is_hung};
 
 use crate::gate::Gate;
 use crate::message::fill;
@@ -20,15 +22,28 @@ pub struct Writer<'p> {
     proc: Proc<'p>,
     end: WriteEnd<'p>,
     pub(crate) number: u64,
-    writes: u64,
+    pub(crate) writes: u64,
+    /// How many of its messages were accepted, from the first on.
+    pub(crate) done: u64,
     message: Vec<u8>,
     wrote: Result<(), Fault>,
     ghost head: { HEAD ≤ vec_len message },
+    ghost few: { done ≤ writes },
+    ghost why: { ¬ IsErrOf wrote BadArg },
+}
+
+/// A writer that has hung its direction up.
+#[derive(Drop)]
+pub struct Gone<'p> {
+    pub(crate) end: WriteEnd<'p>,
+    pub(crate) ghost hung: { is_hung end.account.seen ≡ true },
 }
 
 impl<'p> Writer<'p> {
-    ghost use Rattle.std.specs.Prelude.{◌≡◌};
+    ghost use Rattle.std.specs.Prelude.{◌≡◌, ◌<◌, true, false, IfOk, IsErrOf};
+    ghost use Rattle.sync_base.specs.declared.fault.Fault.TheVariants.{BadArg};
     ghost use Rattle.crew.specs.Threads.{AreWithin};
+    ghost use Rattle.crew.specs.Writing.{HasWrittenOn, HasEnded, IsReadyWriter};
 
     // A new process with this end.
     fn new(
@@ -39,6 +54,8 @@ impl<'p> Writer<'p> {
         end: WriteEnd<'p>,
     ) -> Result<Writer<'p>, Fault>
         requires { AreWithin opts.now }
+        ensures new { IfOk result (IsReadyWriter opts.now) }
+        ensures fault { ¬ IsErrOf result BadArg }
     {
         let message = vec![in alloc; 0; opts.size as usize]?;
         let Some(proc) = roster.rfork(parent, Flags::RFPROC)? else {
@@ -49,55 +66,64 @@ impl<'p> Writer<'p> {
             number: end.writer(),
             end,
             writes: opts.writes,
+            done: 0,
             message,
             wrote: Ok(()),
         })
     }
 
     /// Writes its messages, one after the other, as far as the gate lets it.
+    #[tactic(auto, using(crate::proofs::WritingLemmas::same_writer))]
     pub fn write_all<R: Wait, G: Gate>(self, rt: &R, alloc: Global, gate: &G) -> Writer<'p>
-        ensures { result.number ≡ self.entry.number }
+        // Each message that it counts was accepted, whole and in its order.
+        ensures on { HasWrittenOn self.entry result }
+
+        // It stops at the last one, where the gate sends it away, and at a fault.
+        ensures ended { HasEnded G.may_stop gate.now result }
     {
-        let Writer {
-            mut proc,
-            mut end,
-            number,
-            writes,
-            mut message,
-            mut wrote,
-        } = self;
-        for write in 0..writes {
-            if !gate.pass(number, write) {
-                break;
-            }
-            fill(&mut message, number, write);
-            if let Err(fault) = end.write(alloc, rt, &mut proc, &message) {
-                wrote = Err(fault);
-                break;
-            }
+        let mut writer = self;
+        'writing: while writer.write_next(rt, alloc, gate) {}
+        writer
+    }
+
+    // Writes its next message, where it has one and the gate lets it.
+    fn write_next<R: Wait, G: Gate>(&mut self, rt: &R, alloc: Global, gate: &G) -> bool
+        ensures on { HasWrittenOn self.old self.new }
+        ensures more { result ≡ true → self.old.done < self.new.done }
+        ensures ended { result ≡ false → HasEnded G.may_stop gate.now self.new }
+    {
+        if self.wrote.is_err() || self.done >= self.writes || !gate.pass(self.number, self.done) {
+            return false;
         }
-        Writer {
-            proc,
-            end,
-            number,
-            writes,
-            message,
-            wrote,
+        fill(&mut self.message, self.number, self.done);
+        match self.end.write(alloc, rt, &mut self.proc, &self.message) {
+            Ok(_) => {
+                self.done += 1;
+                true
+            }
+            Err(fault) => {
+                self.wrote = Err(fault);
+                false
+            }
         }
     }
 
     /// Hangs the pipe up.
-    pub fn hangup(self) {
+    #[tactic(auto, using(crate::proofs::WritingLemmas::hung_now))]
+    pub fn hangup(self) -> Gone<'p> {
         let Writer {
             mut proc,
             mut end,
             ..
         } = self;
         end.hangup(&mut proc);
+        Gone { end }
     }
 
     /// Why it wrote no more, if a write was refused.
-    pub fn wrote(&self) -> Result<(), Fault> {
+    pub fn wrote(&self) -> Result<(), Fault>
+        ensures { ¬ IsErrOf result BadArg }
+    {
         self.wrote
     }
 }
@@ -116,15 +142,19 @@ pub struct Reader<'p> {
 /// What a reader has counted of a run with these options, and why it read no more, if it did not
 /// come to the end. What a thread returns is known by its type alone, so the options stand in it.
 #[derive(Drop)]
-pub struct Counted {
+pub struct Counted<'p> {
+    end: ReadEnd<'p>,
     opts: ThreadsOpts,
     tally: Tally,
     read: Result<(), Fault>,
     ghost of: { IsTallyOf opts tally },
+    ghost ended: { ForOk read (λ _. is_at_end end.account.seen ≡ true) },
+    ghost why: { ¬ IsErrOf read BadArg },
 }
 
 impl<'p> Reader<'p> {
-    ghost use Rattle.std.specs.Prelude.{◌≡◌, IfOk};
+    ghost use Rattle.std.specs.Prelude.{◌≡◌, IfOk, IsErrOf};
+    ghost use Rattle.sync_base.specs.declared.fault.Fault.TheVariants.{BadArg};
     ghost use Rattle.crew.specs.Tally.{AreOfOneRun};
     ghost use Rattle.crew.specs.Threads.{AreWithin};
 
@@ -136,7 +166,8 @@ impl<'p> Reader<'p> {
         end: ReadEnd<'p>,
     ) -> Result<Reader<'p>, Fault>
         requires { AreWithin opts.now }
-        ensures { IfOk result (λ reader. reader.opts ≡ opts.now) }
+        ensures opts { IfOk result (λ reader. reader.opts ≡ opts.now) }
+        ensures fault { ¬ IsErrOf result BadArg }
     {
         Ok(Reader {
             proc,
@@ -148,8 +179,8 @@ impl<'p> Reader<'p> {
     }
 
     /// Reads and counts until the end. Where it can read no more it hangs the pipe up.
-    #[tactic(auto, using(crate::proofs::CrewLemmas::answer_fits, crate::proofs::CrewLemmas::still_of))]
-    pub fn read_all<R: Wait>(self, rt: &R) -> Counted
+    #[tactic(auto, using(crate::proofs::CrewLemmas::answer_fits, crate::proofs::CrewLemmas::still_of, crate::proofs::WritingLemmas::at_end, crate::proofs::WritingLemmas::no_bad_read))]
+    pub fn read_all<R: Wait>(self, rt: &R) -> Counted<'p>
         ensures opts { result.opts ≡ self.entry.opts }
         ensures run { AreOfOneRun self.entry.tally result.tally }
     {
@@ -160,29 +191,42 @@ impl<'p> Reader<'p> {
             opts,
             mut tally,
         } = self;
-        let mut read = Ok(());
         'reading: for _ in rt.forever() {
             match end.read(rt, &mut proc, &mut buffer) {
                 Ok(ReadAnswer::Got(count)) => tally.count(&buffer[..count]),
-                Ok(ReadAnswer::End) => break,
+                Ok(ReadAnswer::End) => {
+                    return Counted {
+                        end,
+                        opts,
+                        tally,
+                        read: Ok(()),
+                    };
+                }
                 Err(fault) => {
                     end.hangup(&mut proc);
-                    read = Err(fault);
-                    break;
+                    return Counted {
+                        end,
+                        opts,
+                        tally,
+                        read: Err(fault),
+                    };
                 }
             }
         }
-        Counted { opts, tally, read }
+        unreachable!()
     }
 }
 
-impl Counted {
-    ghost use Rattle.std.specs.Prelude.{◌≡◌, Err, IfOk, IfErr};
+impl<'p> Counted<'p> {
+    ghost use Rattle.std.specs.Prelude.{◌≡◌, Err, IfOk, IfErr, IsErrOf};
+    ghost use Rattle.sync_base.specs.declared.fault.Fault.TheVariants.{BadArg};
     ghost use Rattle.crew.specs.Tally.{Tells};
     ghost use Rattle.crew.specs.Threads.{IsReportOf};
 
     /// Why it did not come to the end, if it did not.
-    pub fn read_to_end(&self) -> Result<(), Fault> {
+    pub fn read_to_end(&self) -> Result<(), Fault>
+        ensures { ¬ IsErrOf result BadArg }
+    {
         self.read
     }
 
@@ -190,6 +234,7 @@ impl Counted {
     /// counted for a run with other options.
     pub fn report(&self, opts: &ThreadsOpts) -> Result<Report, Fault>
         ensures fault { IfErr self.now.read (λ fault. result ≡ Err fault) }
+        ensures no_bad_arg { ¬ IsErrOf result BadArg }
         ensures told { IfOk result (Tells opts.now.writers self.now.tally) }
         ensures of { IfOk result (IsReportOf opts.now) }
     {
@@ -209,8 +254,12 @@ pub struct Crew<'p> {
 }
 
 impl<'p> Crew<'p> {
-    ghost use Rattle.std.specs.Prelude.{◌≡◌, IfOk};
+    ghost use Rattle.std.specs.Prelude.{◌≡◌, All, IfOk, IsErrOf};
+    ghost use Rattle.sync_base.specs.declared.fault.Fault.TheVariants.{BadArg};
+    ghost use Rattle.block_queue.specs.Seats.{key_of};
+    ghost use Rattle.crew.specs.declared.threads.TheConstants.{LIMIT};
     ghost use Rattle.crew.specs.Threads.{AreWithin};
+    ghost use Rattle.crew.specs.Writing.{IsReadyWriter};
 
     /// A reader at one end, and as many writers as there are at the other, each a process. All
     /// memory but that of the writes is taken here.
@@ -222,29 +271,40 @@ impl<'p> Crew<'p> {
         read: ReadEnd<'p>,
         writes: Vec<WriteEnd<'p>>,
     ) -> Result<Crew<'p>, Fault>
-        requires { AreWithin opts.now }
-        ensures { IfOk result (λ crew. crew.reader.opts ≡ opts.now) }
+        requires within { AreWithin opts.now }
+
+        // The pipe holds so many writes that no read has begun.
+        requires limit { (key_of read.queue).limit ≡ LIMIT }
+
+        // Each writer has all its messages to write.
+        ensures writers { IfOk result (λ crew.
+            All (IsReadyWriter opts.now) crew.writers.items) }
+        ensures reader { IfOk result (λ crew. crew.reader.opts ≡ opts.now) }
+        ensures fault { ¬ IsErrOf result BadArg }
     {
         let (mut roster, mut proc) = (roster, proc);
-        let writers = writers_at(alloc, opts, &mut roster, &mut proc, writes)?;
+        let writers = Crew::writers_at(alloc, opts, &mut roster, &mut proc, writes)?;
         let reader = Reader::new(alloc, opts, proc, read)?;
         Ok(Crew { reader, writers })
     }
-}
 
-// A writer at each of these ends.
-fn writers_at<'p>(
-    alloc: Global,
-    opts: &ThreadsOpts,
-    roster: &mut Roster<'p>,
-    parent: &mut Proc<'p>,
-    ends: Vec<WriteEnd<'p>>,
-) -> Result<Vec<Writer<'p>>, Fault>
-    requires { AreWithin opts.now }
-{
-    let mut writers = Vec::with_capacity(alloc, ends.len())?;
-    for end in ends {
-        writers.push(Writer::new(alloc, opts, roster, parent, end)?)?;
+    // A writer at each of these ends.
+    fn writers_at(
+        alloc: Global,
+        opts: &ThreadsOpts,
+        roster: &mut Roster<'p>,
+        parent: &mut Proc<'p>,
+        ends: Vec<WriteEnd<'p>>,
+    ) -> Result<Vec<Writer<'p>>, Fault>
+        requires { AreWithin opts.now }
+        ensures ready { IfOk result (λ writers.
+            All (IsReadyWriter opts.now) writers.items) }
+        ensures fault { ¬ IsErrOf result BadArg }
+    {
+        let mut writers = Vec::with_capacity(alloc, ends.len())?;
+        'seating: for end in ends {
+            writers.push(Writer::new(alloc, opts, roster, parent, end)?)?;
+        }
+        Ok(writers)
     }
-    Ok(writers)
 }

@@ -1,9 +1,10 @@
 //! Many writers and one reader, each on a thread of its own, on one direction of a pipe.
-ghost use Rattle.std.specs.Prelude.{◌≡◌, ⊤, IfOk, Err};
+ghost use Rattle.std.specs.Prelude.{◌≡◌, ◌≢◌, ◌↔◌, [], All, IfOk, IsErrOf, IsSome};
 ghost use Rattle.sync_base.specs.declared.fault.Fault.TheVariants.{BadArg};
 ghost use Rattle.crew.specs.Threads.{AreWithin, IsReportOf};
+ghost use Rattle.crew.specs.Writing.{HasWrittenOn, HasEnded, IsReadyWriter};
 
-use crate::crew::{Counted, Crew, Writer};
+use crate::crew::{Counted, Crew, Gone, Writer};
 use crate::gate::Gate;
 use crate::opts::{Report, is_within};
 use pipe_dev::{Ends, Parts, Pipe};
@@ -19,6 +20,8 @@ use sync_base::{Fault, ThreadsOpts};
 /// How many writes the pipe holds that no read has begun.
 pub const LIMIT: u64 = 16;
 
+const _: () = prove!(LIMIT == 16);
+
 /// Runs so many writers and one reader, each on a thread of its own, on one direction of a pipe:
 /// each writer writes its messages, which are those of `message`, and the reader reads until the
 /// end. It hangs the pipe up when all writers have returned, and answers what was read. It waits.
@@ -31,8 +34,8 @@ pub fn run_threads<R: Threads + Wait + Sync, G: Gate + Sync>(
     opts: ThreadsOpts,
     gate: &G,
 ) -> Result<Report, Fault>
-    // Refused first.
-    ensures bad_arg { (¬ AreWithin opts) → result ≡ Err BadArg }
+    // Refused first, and nothing else is refused so.
+    ensures bad_arg { IsErrOf result BadArg ↔ ¬ AreWithin opts }
 
     // Otherwise it reports what was read.
     ensures report { IfOk result (IsReportOf opts) }
@@ -59,7 +62,9 @@ fn run_crew<'p, R: Threads + Wait + Sync, G: Gate + Sync>(
     gate: &G,
     crew: Crew<'p>,
 ) -> Result<Report, Fault>
-    ensures { IfOk result (IsReportOf opts) }
+    requires writers { All (IsReadyWriter opts) crew.writers.items }
+    ensures fault { ¬ IsErrOf result BadArg }
+    ensures report { IfOk result (IsReportOf opts) }
 {
     let Crew { reader, writers } = crew;
     let called_off = AtomicBool::new(false);
@@ -68,34 +73,36 @@ fn run_crew<'p, R: Threads + Wait + Sync, G: Gate + Sync>(
         thread::scope_env(),
         rt,
         move |scope| -> Result<Counted, Fault>
-            // It asks nothing of its caller.
-            ensures { ⊤ }
+            ensures { ¬ IsErrOf result BadArg }
         {
             let mut running = Vec::with_capacity(alloc, writers.len())?;
             let Ok(reading) = scope.spawn(move || reader.read_all(rt)) else {
                 return Err(Fault::Device);
             };
-            let mut started = Ok(());
+            let mut all_started = true;
             for writer in writers {
                 match scope.spawn(
                     move || -> Writer
-                        ensures { result.number ≡ writer.entry.number }
+                        ensures { HasWrittenOn writer.entry result }
                     { write_unless(off, rt, alloc, gate, writer) },
                 ) {
                     Ok(handle) => running.push_reserved(handle),
                     Err(refused) => {
                         off.store(true, SeqCst);
                         (refused.value)().hangup();
-                        started = Err(Fault::Device);
+                        all_started = false;
                         break;
                     }
                 }
             }
-            let wrote = join_writers(rt, running);
+            let Joined { wrote, gone } = join_writers(rt, running);
             let counted = reading.join(rt);
-            started?;
+            if !all_started {
+                return Err(Fault::Device);
+            }
             counted.read_to_end()?;
             wrote?;
+            drop(gone);
             Ok(counted)
         },
     )?;
@@ -103,6 +110,7 @@ fn run_crew<'p, R: Threads + Wait + Sync, G: Gate + Sync>(
 }
 
 // Writes, unless the run is called off.
+#[tactic(auto, using(crate::proofs::WritingLemmas::same_writer))]
 fn write_unless<'p, R: Wait, G: Gate>(
     off: &AtomicBool,
     rt: &R,
@@ -110,7 +118,7 @@ fn write_unless<'p, R: Wait, G: Gate>(
     gate: &G,
     writer: Writer<'p>,
 ) -> Writer<'p>
-    ensures { result.number ≡ writer.entry.number }
+    ensures { HasWrittenOn writer.entry result }
 {
     if off.load(SeqCst) {
         return writer;
@@ -118,17 +126,41 @@ fn write_unless<'p, R: Wait, G: Gate>(
     writer.write_all(rt, alloc, gate)
 }
 
+// All writers have returned: why one of them wrote no more, and the one that hung the pipe up.
+#[derive(Drop)]
+struct Joined<'p> {
+    wrote: Result<(), Fault>,
+    gone: Option<Gone<'p>>,
+    ghost why: { ¬ IsErrOf wrote BadArg },
+}
+
+// The first of two faults, where there is one.
+fn first_fault(first: Result<(), Fault>, second: Result<(), Fault>) -> Result<(), Fault>
+    requires first { ¬ IsErrOf first BadArg }
+    requires second { ¬ IsErrOf second BadArg }
+    ensures { ¬ IsErrOf result BadArg }
+{
+    match first {
+        Ok(()) => second,
+        Err(fault) => Err(fault),
+    }
+}
+
 // Waits for all writers, and then hangs the pipe up.
-fn join_writers<'p, R: Threads>(rt: &R, running: Vec<JoinHandle<Writer<'p>>>) -> Result<(), Fault> {
+fn join_writers<'p, R: Threads>(rt: &R, running: Vec<JoinHandle<Writer<'p>>>) -> Joined<'p>
+    ensures hung { running.entry.items ≢ [] → IsSome result.gone }
+{
+    let mut running = running;
     let mut wrote = Ok(());
-    let mut last = None;
-    for handle in running {
-        let writer = handle.join(rt);
-        wrote = wrote.and(writer.wrote());
-        last = Some(writer);
+    let Some(last) = running.pop() else {
+        return Joined { wrote, gone: None };
+    };
+    'joining: for handle in running {
+        wrote = first_fault(wrote, handle.join(rt).wrote());
     }
-    if let Some(writer) = last {
-        writer.hangup();
+    let last = last.join(rt);
+    Joined {
+        wrote: first_fault(wrote, last.wrote()),
+        gone: Some(last.hangup()),
     }
-    wrote
 }

@@ -114,7 +114,7 @@ whole_and_once crew outcome ready told got gives =
       rest = read.rest;
       place = (seen_state (key_of read.queue) (reading_of read parts)).read_whole;
       got = ready.keeps.bytes ∙ sym got;
-      begun = sym (gives parts).rest;
+      begun = sym (gives parts).finishes.rest;
       whole = found.whole;
       known = subst (λ (n : ℕ). AllByRecursion (λ (write : Write). write.writer < n) found.accepted)
           many found.known;

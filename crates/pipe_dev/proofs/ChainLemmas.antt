@@ -243,4 +243,5 @@ each_write_is_read_whole_and_once read parts writes held made gives =
     each_write (found_at read parts held) writes
     (each_share_is_read_whole_and_once (key_of read.queue) (reading_of read parts)
     (shares_of writes) (holdings_of held)
-    (what_is_read_is_right (key_of read.queue) read.row (reading_of read parts) made) (gives parts))
+    (what_is_read_is_right (key_of read.queue) read.row (reading_of read parts) made)
+    (gives parts).finishes)

@@ -2,17 +2,20 @@
 use Rattle.std.proofs.Common.{◌≡◌, ℕ, List, [], ◌∷◌, length, map, Option, Some, refl, sym, ◌∙◌, ap}
 use Rattle.std.proofs.Common.{subst, arith}
 use Rattle.std.specs.List.{AllByRecursion}
+use Rattle.histories.specs.declared.account.Account.{Account}
+use Rattle.histories.specs.History.{IsPast}
+use Rattle.block_queue.specs.declared.entry.Entry.{Entry}
 use Rattle.block_queue.specs.declared.gather.Gathered.{Gathered}
 use Rattle.block_queue.specs.declared.queue.Queue.{Queue}
 use Rattle.block_queue.specs.declared.seats.PutSeat.{PutSeat}
-use Rattle.block_queue.specs.Gather.{AreAllSeats, Gathers}
+use Rattle.block_queue.specs.Gather.{AreAllSeats, AreTheirPasts, Gathers}
 use Rattle.block_queue.specs.Seats.{IsPutSeatOf, key_of, take_account}
 use Rattle.pipe_dev.specs.declared.closing.Held.{Held}
 use Rattle.pipe_dev.specs.declared.hand.ReadHand.{ReadHand}
 use Rattle.pipe_dev.specs.declared.row.Row.{Row}
 use Rattle.pipe_dev.specs.Ends.{ReadSide, WriteSide, AreAllEnds, IsReadHand, HasReadHand}
 use Rattle.pipe_dev.specs.Ends.{account_in, rest_in}
-use Rattle.pipe_dev.specs.Finishing.{GivesHeld, rest_bytes}
+use Rattle.pipe_dev.specs.Finishing.{GivesHeld, HaveSeen, rest_bytes}
 use Rattle.pipe_dev.specs.Seating.{IsHandOf, AreSeatsOf, side_of}
 use Rattle.pipe_dev.proofs.SeatingLemmas.{seats_back, hands_put, hands_none, sides_back}
 use Rattle.pipe_dev.proofs.SeatingLemmas.{numbers_back, shares_back, same_entries}
@@ -37,6 +40,17 @@ taken_apart queue row hands hand read view holds some =
           record { queue = queue; row = row; account = account_in h; rest = rest_in h }) some;
       holds = subst (HasReadHand queue row) some holds;
     }
+
+-- what the seats have seen is what their ends have seen
+pasts_back : (history : List Entry) (writes : List WriteSide) (seats : List PutSeat)
+    → AreSeatsOf writes seats → AreTheirPasts history seats → HaveSeen history writes
+pasts_back history [] [] are pasts = tt
+pasts_back history [] (seat ∷ seats) are pasts = absurd are
+pasts_back history (write ∷ writes) [] are pasts = absurd are
+pasts_back history (write ∷ writes) (seat ∷ seats) are pasts = (
+  subst (λ (a : Account Entry). IsPast a.seen history) are.0.account pasts.0,
+  pasts_back history writes seats are.1 pasts.1,
+)
 
 module _ (queue : Queue) (row : Row) (hand : ReadHand) (read : ReadSide)
     (apart : IsApart queue row hand read) (writes : List WriteSide) (all : AreAllEnds read writes)
@@ -69,16 +83,19 @@ module _ (queue : Queue) (row : Row) (hand : ReadHand) (read : ReadSide)
       (record { rest = rest; writes = gathered.blocks; hung = gathered.hung })
   gives_held gathered rest gathers rest_is =
       subst (λ (r : ReadSide). GivesHeld r writes held) (sym apart.side) (λ parts. record {
-        history = gathers.history;
-        legal = gathers.legal;
-        seen = gathers.past;
-        no_more_read = same_entries (take_account hand.seat).seen gathers.history 0
-            (take_account hand.seat).shares apart.holds.knows.mine gathers.mine
-            apart.holds.seat.own;
-        shares = shares_back gathers.history writes seats are gathers.puts_mine;
-        rest = rest_is ∙ ap (λ (r : ReadSide). rest_bytes r.rest) apart.side;
-        writes = gathers.blocks_are;
-        hung = gathers.hung;
+        finishes = record {
+          history = gathers.history;
+          legal = gathers.legal;
+          seen = gathers.past;
+          no_more_read = same_entries (take_account hand.seat).seen gathers.history 0
+              (take_account hand.seat).shares apart.holds.knows.mine gathers.mine
+              apart.holds.seat.own;
+          shares = shares_back gathers.history writes seats are gathers.puts_mine;
+          rest = rest_is ∙ ap (λ (r : ReadSide). rest_bytes r.rest) apart.side;
+          writes = gathers.blocks_are;
+          hung = gathers.hung;
+        };
+        writers_seen = pasts_back gathers.history writes seats are gathers.puts_past;
       })
     where
       held : Held

@@ -13,3 +13,4 @@ pub mod WorkedPipes
 pub mod LoneLemmas
 pub mod WorkedCalls
 pub mod SideLemmas
+pub mod WorkedOpenings

@@ -2,15 +2,18 @@
 use Rattle.std.proofs.Common.{◌≡◌, ℕ, zero, suc, ◌<◌, ◌≤◌, Bool, true, false, if◌then◌else◌, List}
 use Rattle.std.proofs.Common.{[], ◌∷◌, ◌++◌, length, take, drop, reverse, refl, sym, ◌∙◌, ap, subst}
 use Rattle.std.proofs.Common.{arith}
-use Rattle.std.specs.Prelude.{nat_le, Result}
+use Rattle.std.specs.Prelude.{◌↔◌, nat_le, Option, Some, None, Result, Ok, Err, IsErrOf}
 use Rattle.std.proofs.lemmas.Bool.Decides.{nat_tests}
 use Rattle.std.proofs.lemmas.List.{append_assoc, append-nil, reverse-append, length-drop}
 use Rattle.sync_base.specs.declared.fault.Fault.{Fault}
+use Rattle.sync_base.specs.declared.fault.Fault.TheVariants.{TooBig, NoRendez}
 use Rattle.sync_base.specs.declared.limits.TheConstants.{ATOMIC_SIZE}
+use Rattle.rendez_words.specs.declared.words.Words.{Words}
 use Rattle.block_queue.specs.declared.queue.Queue.{Queue}
 use Rattle.block_queue.specs.Seats.{key_of}
 use Rattle.pipe_dev.specs.declared.row.Row.{Row}
 use Rattle.pipe_dev.specs.Ends.{WriteSide, IsSameWriteEnd}
+use Rattle.pipe_dev.specs.Rendezes.{HasRow}
 use Rattle.pipe_dev.specs.WriteCalls.{Writer, Writes, atomic_writes, atomic_writes_in}
 
 le-true : (a b : ℕ) → a ≤ b → nat_le a b ≡ true
@@ -114,3 +117,51 @@ pub all_done : (bytes left : List ℕ) (done : List (List ℕ)) → length left 
 all_done bytes left done fits cut =
     sym (one_done done left [] (atomic_writes bytes) (cut_last bytes left done fits cut)
     ∙ append-nil (reverse (left ∷ done)))
+
+-- the answer of the write at which a long write ended
+abbrev answer_at : Option Fault → Result ℕ Fault
+answer_at None = Ok 0
+answer_at (Some why) = Err why
+
+abbrev fault_at : Result ℕ Fault → Option Fault
+fault_at (Ok number) = None
+fault_at (Err why) = Some why
+
+abbrev done_with : ℕ → Result ℕ Fault
+done_with number = Ok number
+
+ok_is_no_err : (number : ℕ) (why : Fault) → ¬ (Ok number ≡ Err why)
+ok_is_no_err number why is = cc
+
+none_is_not_some : {P : Type 0} (why : Fault) → None ≡ Some why → P
+none_is_not_some why is = cc
+
+-- a piece is not too big
+pub not_too_big : (size : ℕ) (why : Fault)
+    → (IsErrOf (answer_at (Some why)) TooBig ↔ (ATOMIC_SIZE < size)) → size ≤ ATOMIC_SIZE
+    → ¬ (Some why ≡ Some TooBig)
+not_too_big size why tells fits is =
+    let big = tells.0 (ap answer_at is) in absurd (omega (arith, big, fits))
+
+module _ (words now : Words) (row row' : Row) (same : now ≡ words) (same_row : row' ≡ row) where
+  moved : (answer : Result ℕ Fault) → (IsErrOf answer NoRendez ↔ ¬ HasRow now row')
+      → (IsErrOf answer NoRendez ↔ ¬ HasRow words row)
+  moved answer tells =
+      subst (λ (w : Words). IsErrOf answer NoRendez ↔ ¬ HasRow w row) same
+      (subst (λ (r : Row). IsErrOf answer NoRendez ↔ ¬ HasRow now r) same_row tells)
+
+  -- the long write is refused so where the piece was
+  pub told_alike : (why : Fault) → (IsErrOf (answer_at (Some why)) NoRendez ↔ ¬ HasRow now row')
+      → ((Some why ≡ Some NoRendez) ↔ ¬ HasRow words row)
+  told_alike why tells =
+      let at = moved (Err why) tells in
+      (λ is. at.0 (ap answer_at is), λ none. ap fault_at (at.1 none))
+
+  -- all was written, so nothing was refused
+  pub told_none : (number : ℕ) → (IsErrOf (done_with number) NoRendez ↔ ¬ HasRow now row')
+      → ((fault_at (done_with number) ≡ Some NoRendez) ↔ ¬ HasRow words row)
+  told_none number tells =
+      let at = moved (Ok number) tells in (
+        λ is. none_is_not_some NoRendez is,
+        λ none. absurd (ok_is_no_err number NoRendez (at.1 none)),
+      )

@@ -234,9 +234,9 @@ finishes_find_accepted read parts writes held made gives =
     let right =
     what_is_read_is_right key read.row (reading_of read parts) made in
     record {
-      accepted = (left_state key (gives parts).history).accepted;
+      accepted = (left_state key (gives parts).finishes.history).accepted;
       whole = all_accepted key (reading_of read parts) (shares_of writes) (holdings_of held) right
-          (gives parts);
-      known = accepted_known key (gives parts).history (gives parts).legal.within;
+          (gives parts).finishes;
+      known = accepted_known key (gives parts).finishes.history (gives parts).finishes.legal.within;
       theirs = each_write_is_read_whole_and_once read parts writes held made gives;
     }

@@ -331,8 +331,8 @@ finds_no_number = putter_enters LAST_WRITE (entry.Worn 0 b) [] [] [] tt refl ref
 abbrev at_rendez : ℕ → RendezId
 at_rendez number = record { 0 = number }
 
-abbrev row : Row
-row = record { first = 3; writers = 1; small = omega arith }
+abbrev rendez_row : Row
+rendez_row = record { first = 3; writers = 1; small = omega arith }
 
 abbrev woke : Process → ℕ → ℕ → Process
 woke before number level = finds_nobody (raises before (at_rendez number) level)
@@ -379,11 +379,12 @@ module _ (table : TableId) where
         fresh = λ knew. cc;
       }
 
-  sleeps_for_a_write : SleepsForWrite tight row (reader unread idle) (reader told reader_woken)
+  sleeps_for_a_write : SleepsForWrite tight rendez_row (reader unread idle)
+      (reader told reader_woken)
   sleeps_for_a_write =
       record { number = 0; found = finds_not_yet; slept = sleeps idle 3 0 no_notes }
 
-  wakes_the_writer : WakesWriters row 1 1 reader_woken (woke reader_woken 4 1)
+  wakes_the_writer : WakesWriters rendez_row 1 1 reader_woken (woke reader_woken 4 1)
   wakes_the_writer =
       record {
         between = reader_woken;
@@ -395,7 +396,7 @@ module _ (table : TableId) where
       }
 
   -- it slept once, and then got the write whole and woke its writer with the number 1
-  waits_and_reads : Reads tight row (reader unread idle) (0 ∷ 0 ∷ 0 ∷ []) (Ok (read.Got 2))
+  waits_and_reads : Reads tight rendez_row (reader unread idle) (0 ∷ 0 ∷ 0 ∷ []) (Ok (read.Got 2))
       (reader has_taken (woke reader_woken 4 1)) (97 ∷ 98 ∷ 0 ∷ [])
   waits_and_reads =
       record {
@@ -414,7 +415,8 @@ module _ (table : TableId) where
         };
       }
 
-  reads_to_the_end : Reads tight row (reader unread idle) b (Ok read.End) (reader has_ended idle) b
+  reads_to_the_end : Reads tight rendez_row (reader unread idle) b (Ok read.End)
+      (reader has_ended idle) b
   reads_to_the_end =
       record {
         times = 0;
@@ -426,7 +428,7 @@ module _ (table : TableId) where
         );
       }
 
-  read_is_interrupted : Reads tight row (reader unread idle) b
+  read_is_interrupted : Reads tight rendez_row (reader unread idle) b
       (Err (fault.Interrupted (only Interrupt))) (reader told (slept idle 3 0 (only Interrupt))) b
   read_is_interrupted =
       record {
@@ -443,7 +445,8 @@ module _ (table : TableId) where
         );
       }
 
-  read_sleeps_where_another_does : Reads tight row (reader unread idle) b (Err fault.DoubleSleep)
+  read_sleeps_where_another_does : Reads tight rendez_row (reader unread idle) b
+      (Err fault.DoubleSleep)
       (reader told (posts idle (at_rendez 3) 0 answer.DoubleSleep)) b
   read_sleeps_where_another_does =
       record {
@@ -453,27 +456,29 @@ module _ (table : TableId) where
         ended = (record { number = 0; found = finds_not_yet; failed = refl }, refl);
       }
 
-  read_of_no_bytes : Reads tight row (reader unread idle) [] (Err fault.BadCount)
+  read_of_no_bytes : Reads tight rendez_row (reader unread idle) [] (Err fault.BadCount)
       (reader unread idle) []
   read_of_no_bytes = record { same = refl; buffer_same = refl }
 
-  read_of_another_kernel : Reads tight row (reader unread idle) b (Err fault.NoRendez)
+  read_of_another_kernel : Reads tight rendez_row (reader unread idle) b (Err fault.NoRendez)
       (reader unread idle) b
   read_of_another_kernel = record { same = refl; buffer_same = refl }
 
-  refused_read_asks : Reads tight row (reader unread idle) b (Err fault.NoRendez)
+  refused_read_asks : Reads tight rendez_row (reader unread idle) b (Err fault.NoRendez)
       (reader told idle) b → ⊥
   refused_read_asks reads = let seen = ap (λ (r : Reader). r.account.seen) reads.same in cc
 
-  refused_read_writes_its_buffer : Reads tight row (reader unread idle) b (Err fault.BadCount)
+  refused_read_writes_its_buffer : Reads tight rendez_row (reader unread idle) b
+      (Err fault.BadCount)
       (reader unread idle) a → ⊥
   refused_read_writes_its_buffer reads = let bytes = reads.buffer_same in cc
 
   read_ends_for_want_of_memory : (new : Reader)
-      → Reads tight row (reader unread idle) b (Err fault.Memory) new b → ⊥
+      → Reads tight rendez_row (reader unread idle) b (Err fault.Memory) new b → ⊥
   read_ends_for_want_of_memory new reads = reads.ended.0.failed
 
-  read_tries_again_at_once : SleepsForWrite tight row (reader unread idle) (reader told idle) → ⊥
+  read_tries_again_at_once : SleepsForWrite tight rendez_row (reader unread idle)
+      (reader told idle) → ⊥
   read_tries_again_at_once sleeps =
       let trace = ap (λ (p : Process). p.trace) sleeps.slept.leaves.cleared in cc
 
@@ -486,7 +491,7 @@ module _ (table : TableId) where
   abbrev begun : Process → Reader
   begun process = record { account = has_taken; rest = Some second_byte; process = process }
 
-  tries_and_begins : Tries tight row (reader told reader_woken) (0 ∷ []) (try.Got 1)
+  tries_and_begins : Tries tight rendez_row (reader told reader_woken) (0 ∷ []) (try.Got 1)
       (begun (woke reader_woken 4 1)) (97 ∷ [])
   tries_and_begins =
       record {
@@ -500,7 +505,7 @@ module _ (table : TableId) where
         rest = refl;
       }
 
-  tries_and_goes_on : Tries tight row (begun idle) (0 ∷ 0 ∷ []) (try.Got 1)
+  tries_and_goes_on : Tries tight rendez_row (begun idle) (0 ∷ 0 ∷ []) (try.Got 1)
       (reader has_taken idle) (98 ∷ 0 ∷ [])
   tries_and_goes_on =
       record {
@@ -510,34 +515,35 @@ module _ (table : TableId) where
         rest = refl;
       }
 
-  tries_too_early : Tries tight row (reader unread idle) b try.NotYet (reader told idle) b
+  tries_too_early : Tries tight rendez_row (reader unread idle) b try.NotYet (reader told idle) b
   tries_too_early = (record { number = 0; found = finds_not_yet }, refl)
 
-  tries_at_the_end : Tries tight row (reader unread idle) b try.End (reader has_ended idle) b
+  tries_at_the_end : Tries tight rendez_row (reader unread idle) b try.End (reader has_ended idle) b
   tries_at_the_end =
       (record { none_left = refl; entered = finds_the_end; rest = refl; process = refl }, refl)
 
-  try_wakes_no_writer : Tries tight row (reader told idle) (0 ∷ []) (try.Got 1) (begun idle)
+  try_wakes_no_writer : Tries tight rendez_row (reader told idle) (0 ∷ []) (try.Got 1) (begun idle)
       (97 ∷ []) → ⊥
   try_wakes_no_writer tries = by tries.left tries.next
     where
       by : (left : Part) → GoesOn (reader told idle) left (begun idle)
-          ⊎ TakesOut tight row (reader told idle) left (begun idle) → ⊥
+          ⊎ TakesOut tight rendez_row (reader told idle) left (begun idle) → ⊥
       by left (inl goes) = let none = goes.left_is in cc
       by left (inr out) =
           is_not_idle out.woken.between (left.place + 1) out.woken.last.woken.ends
 
-  try_sleeps : Tries tight row (reader unread idle) b try.NotYet (reader told reader_woken) b → ⊥
+  try_sleeps : Tries tight rendez_row (reader unread idle) b try.NotYet
+      (reader told reader_woken) b → ⊥
   try_sleeps tries = let trace = ap (λ (p : Process). p.trace) tries.0.found.none.process in cc
 
-  try_at_the_end_fills_its_buffer : Tries tight row (reader unread idle) b try.End
+  try_at_the_end_fills_its_buffer : Tries tight rendez_row (reader unread idle) b try.End
       (reader has_ended idle) a → ⊥
   try_at_the_end_fills_its_buffer tries = let bytes = tries.1 in cc
 
   -- ---- what calls make of a read end
 
   -- two calls: nothing was there; and then one byte of two was read
-  made_by_two_calls : IsMade tight row
+  made_by_two_calls : IsMade tight rendez_row
       (record {
         account = has_taken;
         parts = record { place = 0; writer = 0; bytes = 97 ∷ [] } ∷ [];
@@ -582,13 +588,14 @@ module _ (table : TableId) where
         };
       }
 
-  made_of_nothing : IsMade tight row
+  made_of_nothing : IsMade tight rendez_row
       (record {
         account = unread;
         parts = record { place = 0; writer = 0; bytes = a } ∷ [];
         rest = None;
       }) → ⊥
-  made_of_nothing made = let whole = (what_is_read_is_right tight row _ made).right.whole in cc
+  made_of_nothing made =
+      let whole = (what_is_read_is_right tight rendez_row _ made).right.whole in cc
 
   abbrev nothing_read : Account Entry → Reading
   nothing_read account = record { account = account; parts = []; rest = None }
@@ -607,7 +614,7 @@ module _ (table : TableId) where
         parts = refl;
       }
 
-  made_by_an_end : IsMade tight row (nothing_read has_ended)
+  made_by_an_end : IsMade tight rendez_row (nothing_read has_ended)
   made_by_an_end =
       record {
         first = refl;
@@ -620,7 +627,7 @@ module _ (table : TableId) where
       }
 
   -- a call hung the direction up
-  made_by_a_hangup : IsMade tight row (nothing_read has_hung)
+  made_by_a_hangup : IsMade tight rendez_row (nothing_read has_hung)
   made_by_a_hangup =
       record {
         first = refl;
@@ -653,15 +660,15 @@ module _ (table : TableId) where
       let same : adds.entry ≡ entry.Block 0 a 1 = cc in
       subst IsNoBlock same adds.no_block
 
-  made_of_a_part_at_the_end : IsMade tight row
+  made_of_a_part_at_the_end : IsMade tight rendez_row
       (record { account = has_ended; parts = first_write ∷ []; rest = None }) → ⊥
   made_of_a_part_at_the_end made =
-      let whole = (what_is_read_is_right tight row _ made).right.whole in cc
+      let whole = (what_is_read_is_right tight rendez_row _ made).right.whole in cc
 
-  made_of_a_rest_at_a_hangup : IsMade tight row
+  made_of_a_rest_at_a_hangup : IsMade tight rendez_row
       (record { account = has_hung; parts = []; rest = Some first_write }) → ⊥
   made_of_a_rest_at_a_hangup made =
-      let whole = (what_is_read_is_right tight row _ made).right.whole in cc
+      let whole = (what_is_read_is_right tight rendez_row _ made).right.whole in cc
 
   -- ---- a write
 
@@ -675,7 +682,7 @@ module _ (table : TableId) where
   second_written = writer has_put_both (woke writer_woken 3 2)
 
   -- it found no room and slept once, and then was accepted and woke the reader with the number 2
-  waits_and_writes : Writes tight row 0 b (writer has_put idle) (Ok 2) second_written
+  waits_and_writes : Writes tight rendez_row 0 b (writer has_put idle) (Ok 2) second_written
   waits_and_writes =
       record {
         times = 1;
@@ -703,7 +710,7 @@ module _ (table : TableId) where
         };
       }
 
-  write_comes_too_late : Writes tight row 0 b (writer unwritten idle) (Err fault.Hungup)
+  write_comes_too_late : Writes tight rendez_row 0 b (writer unwritten idle) (Err fault.Hungup)
       (writer is_late (notes idle (pid_in idle) (only ClosedPipe)))
   write_comes_too_late =
       record {
@@ -713,7 +720,7 @@ module _ (table : TableId) where
         ended = record { entered = finds_the_hangup; knew = tt; noted = refl };
       }
 
-  numbers_are_worn_out : Writes (record tight { first = LAST_WRITE }) row 0 b
+  numbers_are_worn_out : Writes (record tight { first = LAST_WRITE }) rendez_row 0 b
       (writer unwritten idle) (Err fault.Worn) (writer is_worn idle)
   numbers_are_worn_out =
       record {
@@ -723,7 +730,7 @@ module _ (table : TableId) where
         ended = record { entered = finds_no_number; process = refl };
       }
 
-  write_is_interrupted : Writes tight row 0 b (writer has_put idle)
+  write_is_interrupted : Writes tight rendez_row 0 b (writer has_put idle)
       (Err (fault.Interrupted (only Interrupt)))
       (writer was_full (slept idle 4 0 (only Interrupt)))
   write_is_interrupted =
@@ -738,7 +745,7 @@ module _ (table : TableId) where
         };
       }
 
-  write_sleeps_where_another_does : Writes tight row 0 b (writer has_put idle)
+  write_sleeps_where_another_does : Writes tight rendez_row 0 b (writer has_put idle)
       (Err fault.DoubleSleep)
       (writer was_full (posts idle (at_rendez 4) 0 answer.DoubleSleep))
   write_sleeps_where_another_does =
@@ -753,30 +760,30 @@ module _ (table : TableId) where
         };
       }
 
-  write_is_too_big : Writes tight row 0 b (writer has_put idle) (Err fault.TooBig)
+  write_is_too_big : Writes tight rendez_row 0 b (writer has_put idle) (Err fault.TooBig)
       (writer has_put idle)
   write_is_too_big = refl
 
-  write_of_another_kernel : Writes tight row 0 b (writer has_put idle) (Err fault.NoRendez)
+  write_of_another_kernel : Writes tight rendez_row 0 b (writer has_put idle) (Err fault.NoRendez)
       (writer has_put idle)
   write_of_another_kernel = refl
 
-  write_finds_no_memory : Writes tight row 0 b (writer has_put idle) (Err fault.Memory)
+  write_finds_no_memory : Writes tight rendez_row 0 b (writer has_put idle) (Err fault.Memory)
       (writer has_put idle)
   write_finds_no_memory = refl
 
-  refused_write_asks : Writes tight row 0 b (writer has_put idle) (Err fault.NoRendez)
+  refused_write_asks : Writes tight rendez_row 0 b (writer has_put idle) (Err fault.NoRendez)
       (writer was_full idle) → ⊥
   refused_write_asks same = let seen = ap (λ (w : Writer). length w.account.seen) same in cc
 
-  late_write_posts_no_note : Writes tight row 0 b (writer unwritten idle) (Err fault.Hungup)
+  late_write_posts_no_note : Writes tight rendez_row 0 b (writer unwritten idle) (Err fault.Hungup)
       (writer is_late idle) → ⊥
   late_write_posts_no_note writes =
       let trace = ap (λ (p : Process). p.trace) writes.ended.noted in cc
 
   -- ---- a long write
 
-  fits_in_one : WritesLong tight row 0 b (writer has_put idle)
+  fits_in_one : WritesLong tight rendez_row 0 b (writer has_put idle)
       (record { taken = 1; fault = None }) second_written
   fits_in_one =
       record {
@@ -791,7 +798,7 @@ module _ (table : TableId) where
         ended = (refl, refl);
       }
 
-  stops_at_the_first : WritesLong tight row 0 b (writer has_put idle)
+  stops_at_the_first : WritesLong tight rendez_row 0 b (writer has_put idle)
       (record { taken = 0; fault = Some fault.NoRendez }) (writer has_put idle)
   stops_at_the_first =
       record {
@@ -802,7 +809,7 @@ module _ (table : TableId) where
         ended = (b, [], refl, refl);
       }
 
-  loses_count : (new : Writer) → WritesLong tight row 0 b (writer has_put idle)
+  loses_count : (new : Writer) → WritesLong tight rendez_row 0 b (writer has_put idle)
       (record { taken = 0; fault = None }) new → ⊥
   loses_count new long =
       let done : long.done ≡ b ∷ [] = sym (reverse-reverse long.done) ∙ ap reverse long.ended.1 in
@@ -811,9 +818,9 @@ module _ (table : TableId) where
 
   -- of two writes the second was refused
   stops_at_the_second : (bytes front back : List ℕ) → atomic_writes bytes ≡ front ∷ back ∷ []
-      → (old between new : Writer) → Writes tight row 0 front old (Ok 1) between
-      → Writes tight row 0 back between (Err fault.Hungup) new
-      → WritesLong tight row 0 bytes old
+      → (old between new : Writer) → Writes tight rendez_row 0 front old (Ok 1) between
+      → Writes tight rendez_row 0 back between (Err fault.Hungup) new
+      → WritesLong tight rendez_row 0 bytes old
       (record { taken = length front; fault = Some fault.Hungup }) new
   stops_at_the_second bytes front back cut old between new first second =
       record {
@@ -833,7 +840,7 @@ module _ (table : TableId) where
   abbrev all_woken : Process
   all_woken = woke (woke idle 3 TOP_LEVEL) 4 TOP_LEVEL
 
-  wakes_all : WakesAll row idle all_woken
+  wakes_all : WakesAll rendez_row idle all_woken
   wakes_all =
       record {
         between = woke idle 3 TOP_LEVEL;
@@ -857,21 +864,21 @@ module _ (table : TableId) where
       }
 
   module _ (words : Words) where
-    wakes_its_kernel : HasRow words row
-        → WakesIfKnown row (record { words = words; process = idle }) all_woken
+    wakes_its_kernel : HasRow words rendez_row
+        → WakesIfKnown rendez_row (record { words = words; process = idle }) all_woken
     wakes_its_kernel has = record { known = λ _. wakes_all; foreign = λ hasnt. absurd (hasnt has) }
 
-    wakes_no_other : ¬ HasRow words row
-        → WakesIfKnown row (record { words = words; process = idle }) idle
+    wakes_no_other : ¬ HasRow words rendez_row
+        → WakesIfKnown rendez_row (record { words = words; process = idle }) idle
     wakes_no_other hasnt = record { known = λ has. absurd (hasnt has); foreign = λ _. refl }
 
-    wakes_another_kernel : ¬ HasRow words row
-        → WakesIfKnown row (record { words = words; process = idle }) all_woken → ⊥
+    wakes_another_kernel : ¬ HasRow words rendez_row
+        → WakesIfKnown rendez_row (record { words = words; process = idle }) all_woken → ⊥
     wakes_another_kernel hasnt wakes =
         let trace = ap (λ (p : Process). p.trace) (wakes.foreign hasnt) in cc
 
-    wakes_nobody : HasRow words row
-        → WakesIfKnown row (record { words = words; process = idle }) idle → ⊥
+    wakes_nobody : HasRow words rendez_row
+        → WakesIfKnown rendez_row (record { words = words; process = idle }) idle → ⊥
     wakes_nobody has wakes =
         is_not_idle (wakes.known has).writers.between TOP_LEVEL
         (wakes.known has).writers.last.woken.ends
@@ -905,5 +912,5 @@ module _ (queue : Queue) (read_account : Account Entry) where
   out_of_order all = let order = all.order in cc
 
   of_another_direction : AreAllEnds read_side
-      (write_side two_writers 0 ∷ write_side row 1 ∷ []) → ⊥
+      (write_side two_writers 0 ∷ write_side rendez_row 1 ∷ []) → ⊥
   of_another_direction all = let rendez = ap (λ (r : Row). r.writers) all.one.1.0.row in cc

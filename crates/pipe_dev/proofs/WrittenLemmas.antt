@@ -24,7 +24,7 @@ use Rattle.pipe_dev.specs.CallLaws.{HangupsWriteNothing}
 use Rattle.pipe_dev.specs.Chain.{HasWritten, written_by}
 use Rattle.pipe_dev.specs.Finishing.{accepted_in}
 use Rattle.pipe_dev.specs.Rounds.{Rounds}
-use Rattle.pipe_dev.specs.WriteCalls.{Writer, Asks, EndsWrite, SleepsForRoom}
+use Rattle.pipe_dev.specs.WriteCalls.{Writer, Asks, EndsWrite, HasHang, SleepsForRoom}
 
 -- the seat knows these of the shares of this writer
 abbrev Are : ℕ → List (List ℕ) → List (Share Entry) → Type 0
@@ -153,3 +153,9 @@ writes_add_what_was_accepted key row writer block old (Err why) new wrote blocks
 pub hangups_write_nothing : HangupsWriteNothing
 hangups_write_nothing key writer old new enters blocks written =
     entered_none key (Hung (writer + 1)) old new writer blocks enters refl (λ mine. refl) written
+
+-- who hung up has seen a hangup
+pub sees_hang : (key : Key) (seat : ℕ) (old new : Account Entry) → Enters key (Hung seat) old new
+    → HasHang new.seen
+sees_hang key seat old new enters =
+    subst (λ (a : Account Entry). HasHang a.seen) (sym enters.adds.new_is) tt

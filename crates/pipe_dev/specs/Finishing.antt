@@ -63,8 +63,18 @@ pub record Finishes (key : Key) (reading : Reading) (writers : List (Share Entry
       drop (left_state key history).read_whole (left_state key history).accepted
   pub hung : held.hung ≡ (left_state key history).hung
 
+-- what each of these write ends has seen is a past of the history
+abbrev pub HaveSeen : List Entry → List WriteSide → Type 0
+HaveSeen history writes = AllByRecursion (λ write. IsPast write.account.seen history) writes
+
+-- all ends of a direction are given back, and the history is one of which the write ends too have
+-- seen pasts
+pub record FinishesEnds (read : ReadSide) (parts : List Part) (writes : List WriteSide)
+    (held : Held) : Type 0 where
+  pub finishes : Finishes (key_of read.queue) (reading_of read parts) (shares_of writes)
+      (holdings_of held)
+  pub writers_seen : HaveSeen finishes.history writes
+
 -- what a finish gave is what such ends hold, whatever parts the read end has read
 abbrev pub GivesHeld : ReadSide → List WriteSide → Held → Type 0
-GivesHeld read writes held =
-    (parts : List Part)
-    → Finishes (key_of read.queue) (reading_of read parts) (shares_of writes) (holdings_of held)
+GivesHeld read writes held = (parts : List Part) → FinishesEnds read parts writes held

@@ -5,13 +5,14 @@ ghost use Rattle.block_queue.specs.Meaning.{Enters};
 ghost use Rattle.block_queue.specs.Seats.{key_of, put_account, take_account};
 ghost use Rattle.pipe_dev.specs.Ends.{IsReadHand, IsWriteHand};
 ghost use Rattle.pipe_dev.specs.Rendezes.{WakesIfKnown};
+ghost use Rattle.pipe_dev.specs.WriteCalls.{HasHang};
 
 use crate::hand::ReadHand;
 use crate::read_end::ReadEnd;
 use crate::row::Row;
 use crate::waking::wake_all;
 use crate::write_end::WriteEnd;
-use block_queue::{PutSeat, Queue};
+use block_queue::{PutSeat, Queue, TakeSeat};
 use sleep_wakeup::Proc;
 
 impl<'p> ReadEnd<'p> {
@@ -66,6 +67,7 @@ impl<'p> WriteEnd<'p> {
     }
 }
 
+#[tactic(auto, using(crate::proofs::WrittenLemmas::sees_hang))]
 fn hang_read(queue: &Queue, row: &Row, hand: ReadHand, proc: &mut Proc<'_>) -> ReadHand
     requires hand { IsReadHand queue.now row.now hand }
     ensures hand { IsReadHand queue.now row.now result }
@@ -77,10 +79,11 @@ fn hang_read(queue: &Queue, row: &Row, hand: ReadHand, proc: &mut Proc<'_>) -> R
 {
     let ReadHand { mut seat, rest } = hand;
     queue.hang_take(&mut seat);
-    wake_all(proc, row);
+    wake_behind_take(proc, row, &seat);
     ReadHand { seat, rest }
 }
 
+#[tactic(auto, using(crate::proofs::WrittenLemmas::sees_hang))]
 fn hang_write(queue: &Queue, row: &Row, seat: PutSeat, proc: &mut Proc<'_>) -> PutSeat
     requires seat { IsWriteHand queue.now row.now seat.writer seat }
     ensures seat { IsWriteHand queue.now row.now seat.writer result }
@@ -91,6 +94,26 @@ fn hang_write(queue: &Queue, row: &Row, seat: PutSeat, proc: &mut Proc<'_>) -> P
 {
     let mut seat = seat;
     queue.hang_put(&mut seat);
-    wake_all(proc, row);
+    wake_behind_put(proc, row, &seat);
     seat
+}
+
+// Wakes both sides, behind a hangup that the reader's seat has seen.
+fn wake_behind_take(proc: &mut Proc<'_>, row: &Row, seat: &TakeSeat)
+    requires hung { HasHang (take_account seat.now).seen }
+    ensures woken { WakesIfKnown row.now proc.old proc.new.process }
+    ensures words { proc.new.words ≡ proc.old.words }
+{
+    let _ = seat;
+    wake_all(proc, row);
+}
+
+// Wakes both sides, behind a hangup that the writer's seat has seen.
+fn wake_behind_put(proc: &mut Proc<'_>, row: &Row, seat: &PutSeat)
+    requires hung { HasHang (put_account seat.now).seen }
+    ensures woken { WakesIfKnown row.now proc.old proc.new.process }
+    ensures words { proc.new.words ≡ proc.old.words }
+{
+    let _ = seat;
+    wake_all(proc, row);
 }

@@ -64,7 +64,8 @@ impl Pipe {
     ) -> Result<Opened<'p>, Fault>
         // Refused first, in this order, and then no Rendez is used up.
         ensures bad_size { IsErrOf result BadSize ↔ IsBadQueue limit writers }
-        ensures no_rendez { IsErrOf result NoRendez → ¬ HasRendez roster.old (rendez_for writers) }
+        ensures no_rendez { ¬ IsBadQueue limit writers
+            → (IsErrOf result NoRendez ↔ ¬ HasRendez roster.old (rendez_for writers)) }
         ensures faults { IfErr result (λ fault.
             (fault ≡ BadSize) ⊎ ((fault ≡ NoRendez) ⊎ (fault ≡ Memory))) }
         ensures refused { OnErr result (roster.new ≡ roster.old) }

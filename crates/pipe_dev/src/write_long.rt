@@ -7,13 +7,16 @@ use std::sync::Wait;
 use sync_base::limits::ATOMIC_SIZE;
 
 impl<'p> WriteEnd<'p> {
-    ghost use Rattle.std.specs.Prelude.{◌≡◌};
+    ghost use Rattle.std.specs.Prelude.{◌≡◌, ◌≢◌, ◌↔◌, Some};
+    ghost use Rattle.sync_base.specs.declared.fault.Fault.TheVariants.{TooBig, NoRendez};
     ghost use Rattle.block_queue.specs.Seats.{key_of};
     ghost use Rattle.pipe_dev.specs.Ends.{IsSameWriteEnd};
+    ghost use Rattle.pipe_dev.specs.Rendezes.{HasRow};
     ghost use Rattle.pipe_dev.specs.WriteCalls.{WritesLong, writer_of};
 
     /// Writes these bytes as writes of the atomic size, and one of the rest; no bytes are one empty
-    /// write. It waits as `write` does, and stops at the first fault.
+    /// write. It waits as `write` does, and stops at the first fault. None is `TooBig`; `NoRendez`
+    /// comes before any byte is taken.
     pub fn write_long<R: Wait>(
         &mut self,
         alloc: Global,
@@ -21,6 +24,13 @@ impl<'p> WriteEnd<'p> {
         proc: &mut Proc<'_>,
         bytes: &[u8],
     ) -> Long
+        // None of its writes is above the atomic size, and it is refused as `NoRendez` just where
+        // the process is of a kernel that has not all Rendez of the direction.
+        ensures too_big { result.fault ≢ Some TooBig }
+        ensures no_rendez { (result.fault ≡ Some NoRendez)
+            ↔ ¬ HasRow proc.old.words self.old.row }
+
+        // It wrote so, up to the first write that was not accepted.
         ensures wrote { WritesLong (key_of self.old.queue) self.old.row self.old.writer bytes.now
             (writer_of self.old proc.old) result (writer_of self.new proc.new) }
         ensures end { IsSameWriteEnd self.old self.new }

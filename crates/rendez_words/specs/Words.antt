@@ -86,7 +86,8 @@ IsOfWakeup (phase.Holding sleeper rendez level) done =
 IsOfWakeup other done = ⊥
 
 -- Own: whether a sleeper is still posted is read in the world of some run that has all steps of the
--- sleeper and of the raiser.
+-- sleeper and of the raiser. It has steps of other processes too, of which neither knows: where
+-- there is a third one it may have taken the sleeper.
 pub record IsChecked (words : Words) (sleeper raiser : Process) (released : Bool) : Type 0 where
   pub run : List Entry
   pub legal : IsRun (procs_of words) (rendez_of words) run

@@ -18,12 +18,17 @@ use sync_base::Pid;
 impl Words {
     /// Whether the sleeper is no longer posted. The receipt is one that was given with this seat.
     /// Both states come back as they were. Takes no memory and doesn't wait.
+    ///
+    /// It says nothing of who took the sleeper: a third process may have, whose wakeup has not
+    /// returned and whose steps neither of the two has seen. So a sleeper that is released, by a
+    /// receipt that alone would not do it, need not have its mark yet.
     pub fn released(&self, asleep: Asleep, seat: Seat, done: &Done) -> Checked
         requires asleep { IsProcessOf self.now asleep }
         requires seat { IsProcessOf self.now seat }
         requires done { HasReceipt seat done.now }
 
-        // The answer is what the posted word says.
+        // The answer is what the posted word says, behind the steps of the two and such steps of
+        // other processes as were made.
         ensures checked { IsChecked self.now asleep seat result.released }
 
         // After a wakeup of the sleeper's Rendez with a level above its threshold it is always yes.

@@ -18,6 +18,10 @@ struct Meeting {
 }
 
 impl Gate for Meeting {
+    ghost use Rattle.std.specs.Prelude.{⊤};
+
+    ghost may_stop = { λ _ _ _. ⊤ };
+
     fn pass(&self, _writer: u64, _write: u64) -> bool {
         self.come.fetch_add(1, SeqCst);
         for _ in 0..TURNS {
@@ -40,6 +44,10 @@ struct Turnstile {
 }
 
 impl Gate for Turnstile {
+    ghost use Rattle.std.specs.Prelude.{⊤};
+
+    ghost may_stop = { λ _ _ _. ⊤ };
+
     fn pass(&self, writer: u64, write: u64) -> bool {
         self.calls.fetch_add(1, SeqCst);
         !(writer == self.writer && write == self.write)
@@ -51,6 +59,10 @@ impl Gate for Turnstile {
 struct Wall;
 
 impl Gate for Wall {
+    ghost use Rattle.std.specs.Prelude.{⊤};
+
+    ghost may_stop = { λ _ _ _. ⊤ };
+
     fn pass(&self, _writer: u64, _write: u64) -> bool {
         false
     }
@@ -78,10 +90,12 @@ fn all_that_is_written_is_read_in_order(rt: HostRuntime) -> Result<(), Fail> {
     for (writers, writes, size) in [
         (1, 1, 16),
         (1, 500, 16),
+        (1, 1_001, 16),
         (2, 250, 17),
         (4, 250, 16),
         (4, 50, 8_192),
         (16, 25, 271),
+        (63, 8, 16),
         (64, 8, 16),
     ] {
         let report = run_threads(&rt, rt.alloc(), opts(writers, writes, size), &OpenGate);

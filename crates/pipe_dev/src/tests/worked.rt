@@ -82,6 +82,40 @@ fn what_is_left_of_a_write_is_held(rt: HostRuntime) -> Result<(), Fail> {
 }
 
 #[test]
+fn what_is_left_of_a_write_is_the_rest(rt: HostRuntime) -> Result<(), Fail> {
+    let sleep_wakeup::Opened { kernel, start } = kernel_of(&rt, rt.alloc(), 3, 4);
+    let mut started = kernel.start(start);
+    let Opened { pipe, start } = opened(&rt, rt.alloc(), &mut started.roster, 1, 1);
+    let mut lone = lone_of(started, &pipe, start)?;
+    let mut two = [0; 2];
+    assert_eq!(rt; lone.write(&rt, rt.alloc(), b"abc"), Ok(1));
+    assert_eq!(rt; lone.read(&rt, &mut two), Ok(ReadAnswer::Got(2)));
+    let Held { rest, writes, hung } = lone.finish(&rt, rt.alloc());
+    assert_eq!(rt; rest.as_slice(), b"c".as_slice());
+    assert!(rt; writes.is_empty() && !hung);
+    Ok(())
+}
+
+#[test]
+fn a_finish_behind_a_hangup_holds_nothing_that_was_read(rt: HostRuntime) -> Result<(), Fail> {
+    let sleep_wakeup::Opened { kernel, start } = kernel_of(&rt, rt.alloc(), 3, 4);
+    let mut started = kernel.start(start);
+    let Opened { pipe, start } = opened(&rt, rt.alloc(), &mut started.roster, 1, 1);
+    let mut lone = lone_of(started, &pipe, start)?;
+    let bytes = bytes_of(&rt, rt.alloc(), 7, 65_536);
+    let mut buffer = bytes_of(&rt, rt.alloc(), 0, 65_536);
+    assert_eq!(rt; lone.write(&rt, rt.alloc(), bytes.as_slice()), Ok(1));
+    lone.hang_read();
+    assert_eq!(rt; lone.write(&rt, rt.alloc(), b"d"), Err(Fault::Hungup));
+    for answer in [ReadAnswer::Got(65_536), ReadAnswer::End, ReadAnswer::End] {
+        assert_eq!(rt; lone.read(&rt, buffer.as_mut_slice()), Ok(answer));
+    }
+    let Held { rest, writes, hung } = lone.finish(&rt, rt.alloc());
+    assert!(rt; rest.as_slice().is_empty() && writes.is_empty() && hung);
+    Ok(())
+}
+
+#[test]
 fn a_long_write_counts_what_was_taken(rt: HostRuntime) -> Result<(), Fail> {
     for size in [0, 1, 65_535, 65_536, 65_537, 131_072, 140_000] {
         let sleep_wakeup::Opened { kernel, start } = kernel_of(&rt, rt.alloc(), 3, 4);

@@ -137,3 +137,44 @@ fn other_receipts_leave_the_sleeper_posted(rt: HostRuntime) -> Result<(), Fail> 
     assert!(rt; notes.is_empty());
     Ok(())
 }
+
+// A third process has taken the sleeper and not marked it yet, and the one who asks has a receipt
+// that would not do it. The sleeper is released all the same, and its mark comes later.
+#[test]
+fn a_third_process_may_have_taken_the_sleeper(rt: HostRuntime) -> Result<(), Fail> {
+    let Opened {
+        words,
+        seat,
+        mut pids,
+    } = open(&rt, rt.alloc(), 3, 1);
+    let (Ok(other), Ok(third)) = (words.split(&mut pids), words.split(&mut pids)) else {
+        panic!(rt; "two more processes")
+    };
+    let Ok(Returned { seat: other, done }) = wakeup(&words, other, FIRST, 0) else {
+        panic!(rt; "the Rendez exists")
+    };
+    let asleep = fall_asleep(&rt, &words, seat, FIRST);
+    let Checked {
+        asleep,
+        seat: other,
+        released,
+    } = words.released(asleep, other, &done);
+    assert!(rt; !released, "level 0 is not above 0");
+    let Ok(owing) = words.raise(third, FIRST, 1) else {
+        panic!(rt; "the Rendez exists")
+    };
+    let holding = match words.take(owing) {
+        TakeAnswer::Holding(holding) => holding,
+        TakeAnswer::Nobody(_) => panic!(rt; "the sleeper is posted"),
+    };
+    let Checked {
+        asleep,
+        seat: _,
+        released,
+    } = words.released(asleep, other, &done);
+    assert!(rt; released, "the third has taken it");
+    words.mark(holding);
+    let Cleared { seat: _, notes } = woken(&rt, &words, asleep);
+    assert!(rt; notes.is_empty());
+    Ok(())
+}

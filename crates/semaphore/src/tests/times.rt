@@ -5,15 +5,17 @@ use sleep_wakeup::{Kernel, Opened, Proc, Started};
 use std::alloc::Global;
 use std::process::Abort;
 use std::sync::Wait;
+use std::sync::atomic::AtomicBool;
+use std::sync::atomic::Ordering::SeqCst;
 use std::test::Fail;
-use std::thread::{Threads, join};
+use std::thread::{Threads, join, yield_now};
 use sync_base::{Fault, Flags, Note, NoteSet, Probe};
 
 /// The deadline of each wait.
 const DEADLINE: u64 = 150;
 
-/// How often a tick is tried before the other thread is given up.
-const TURNS: u64 = 10_000_000;
+/// For how many turns the other thread is awaited. At each it lets others run.
+const TURNS: u64 = 4_000_000;
 
 /// What a wait in time on a value of 0 came to.
 #[derive(Debug, Drop, PartialEq, Eq)]
@@ -264,27 +266,56 @@ fn a_tick_is_awaited_where_another_process_sleeps(rt: HostRuntime) -> Result<(),
     Ok(())
 }
 
-// Ticks until a timer ends. Where none does, a unit ends the wait.
-fn ticks<R: Wait>(rt: &R, mut member: Member) -> (u64, u64) {
-    let early = member.tick(rt, DEADLINE - 1);
-    for _ in 0..TURNS {
-        let ended = member.tick(rt, DEADLINE);
-        if ended > 0 {
-            return (early, ended);
+/// Says that a process sleeps for a unit in time: its timer stands.
+#[derive(Drop)]
+struct Standing<'a> {
+    stands: &'a AtomicBool,
+}
+
+impl Probe for Standing<'_> {
+    fn at(&mut self, point: u64) {
+        if point == 2 {
+            self.stands.store(true, SeqCst);
         }
-    }
-    match member.release(rt, 1) {
-        Ok(_) | Err(_) => (early, 0),
     }
 }
 
-// Waits on one thread, and ticks on another. Says which notes were pending then.
+// Whether another thread's timer stands, at last.
+fn comes_to_stand(stands: &AtomicBool) -> bool {
+    for _ in 0..TURNS {
+        if stands.load(SeqCst) {
+            return true;
+        }
+        yield_now();
+    }
+    false
+}
+
+// How many timers a tick ends before the deadline of the one that stands, and how many one at the
+// deadline. Where none does, a unit ends the wait.
+fn ticks<R: Wait>(rt: &R, mut member: Member, stands: &AtomicBool) -> (bool, u64, u64) {
+    let stood = comes_to_stand(stands);
+    let early = member.tick(rt, DEADLINE - 1);
+    let ended = member.tick(rt, DEADLINE);
+    if ended == 0 {
+        let _ = member.release(rt, 1);
+    }
+    (stood, early, ended)
+}
+
+// Waits on one thread, and ticks on another once its timer stands. Says which notes were pending
+// then.
 fn waits_and_ticks<'s, 't, 'k, R: Threads + Wait + Sync>(
     rt: &R,
     mut member: Member<'s, 't, 'k>,
     other: Member<'s, 't, 'k>,
-) -> (Result<(), Fault>, (u64, u64), NoteSet) {
-    let (answer, told) = join(rt, || member.acquire_by(rt, 100, 50), || ticks(rt, other));
+) -> (Result<(), Fault>, (bool, u64, u64), NoteSet) {
+    let stands = AtomicBool::new(false);
+    let (answer, told) = join(
+        rt,
+        || member.acquire_by_probed(rt, DEADLINE, &mut Standing { stands: &stands }),
+        || ticks(rt, other, &stands),
+    );
     (answer, told, member.notes())
 }
 
@@ -302,7 +333,7 @@ fn a_tick_ends_a_wait_of_another_thread(rt: HostRuntime) -> Result<(), Fail> {
         panic!(rt; "RFPROC makes a child")
     };
     let (answer, told, pending) = waits_and_ticks(&rt, member, other);
-    assert_eq!(rt; (answer, told), (Err(Fault::TimedOut), (0, 1)));
+    assert_eq!(rt; (answer, told), (Err(Fault::TimedOut), (true, 0, 1)));
     assert_eq!(rt; pending, NoteSet::empty());
     Ok(())
 }

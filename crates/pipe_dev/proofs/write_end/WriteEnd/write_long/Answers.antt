@@ -2,6 +2,7 @@
 use Rattle.std.proofs.Common.{arith, ◌∙◌, ◌∷◌, [], Ok, Err}
 use Rattle.pipe_dev.specs.WriteCalls.{atomic_writes, writer_of}
 use Rattle.pipe_dev.proofs.LongLemmas.{wrote_at, cut_next, cut_last, all_done, one_done}
+use Rattle.pipe_dev.proofs.LongLemmas.{not_too_big, told_alike, told_none}
 use Rattle.pipe_dev.proofs.write_end.WriteEnd.write_long.Goals as goal
 
 pub returns-in-Err-clause-wrote : goal.returns-in-Err-clause-wrote
@@ -98,3 +99,34 @@ returns-in-Err-write-clause-wrote g c =
             c.writing.invariant.end c.in-Err-write.ensures.wrote,
       );
     }
+
+pub returns-in-Err-clause-too_big : goal.returns-in-Err-clause-too_big
+returns-in-Err-clause-too_big g c =
+    let front_len = c.split_at.ensures.front_len in
+    not_too_big _ c.in-Err.fault c.in-Err.ensures.too_big (omega (arith, front_len))
+
+pub returns-in-Err-clause-no_rendez : goal.returns-in-Err-clause-no_rendez
+returns-in-Err-clause-no_rendez g c =
+    let front_len = c.split_at.ensures.front_len in
+    told_alike c.args.proc.now.words c.writing.proc.words c.args.self.now.row c.writing.self.row
+    c.writing.invariant.words c.writing.invariant.end.row c.in-Err.fault
+    (c.in-Err.ensures.no_rendez (omega (arith, front_len)))
+
+pub returns-in-Ok-clause-no_rendez : goal.returns-in-Ok-clause-no_rendez
+returns-in-Ok-clause-no_rendez g c =
+    let short = c.writing-test.false in
+    told_none c.args.proc.now.words c.writing.proc.words c.args.self.now.row c.writing.self.row
+    c.writing.invariant.words c.writing.invariant.end.row c.in-Ok.field-0
+    (c.in-Ok.ensures.no_rendez (omega (arith, short)))
+
+pub returns-in-Err-write-clause-too_big : goal.returns-in-Err-write-clause-too_big
+returns-in-Err-write-clause-too_big g c =
+    let short = c.writing-test.false in
+    not_too_big _ c.in-Err-write.fault c.in-Err-write.ensures.too_big (omega (arith, short))
+
+pub returns-in-Err-write-clause-no_rendez : goal.returns-in-Err-write-clause-no_rendez
+returns-in-Err-write-clause-no_rendez g c =
+    let short = c.writing-test.false in
+    told_alike c.args.proc.now.words c.writing.proc.words c.args.self.now.row c.writing.self.row
+    c.writing.invariant.words c.writing.invariant.end.row c.in-Err-write.fault
+    (c.in-Err-write.ensures.no_rendez (omega (arith, short)))

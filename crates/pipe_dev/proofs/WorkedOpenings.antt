@@ -1,0 +1,47 @@
+-- A new pipe worked out by its definitions alone: three writers in each direction, with the
+-- kernel's Rendez from number 10 on.
+use Rattle.std.proofs.Common.{◌≡◌, ◌+◌, ℕ, ap, refl, arith}
+use Rattle.rendez_words.specs.declared.words.Words.{Words}
+use Rattle.rendez_words.specs.Words.{rendez_of}
+use Rattle.block_queue.specs.declared.view.Key.{Key}
+use Rattle.block_queue.specs.Seats.{key_of}
+use Rattle.pipe_dev.specs.declared.pipe.Opened.{Opened}
+use Rattle.pipe_dev.specs.Openings.{Opens, HasRows, key_for, rendez_for}
+use Rattle.pipe_dev.specs.Rendezes.{reader_rendez, writer_rendez}
+
+-- it takes eight Rendez
+takes_eight : rendez_for 3 ≡ 8
+takes_eight = refl
+
+new_key : key_for 16 3 ≡ record { limit = 16; first = 0; writers = 3 }
+new_key = refl
+
+module _ (opened : Opened) (opens : Opens 16 3 10 opened) where
+  -- both directions hold 16 writes
+  there_limit : (key_of opened.pipe.there).limit ≡ 16
+  there_limit = ap (λ (key : Key). key.limit) opens.there_key
+
+  back_limit : (key_of opened.pipe.back).limit ≡ 16
+  back_limit = ap (λ (key : Key). key.limit) opens.back_key
+
+  -- the reader there waits on 10, and its last writer on 13; the reader back on 14, and its last
+  -- writer on 17
+  reader_there : reader_rendez opened.start.there.row ≡ record { 0 = 10 }
+  reader_there = ap (λ (n : ℕ). record { 0 = n }) opens.there_first
+
+  writer_there : writer_rendez opened.start.there.row 2 ≡ record { 0 = 13 }
+  writer_there = ap (λ (n : ℕ). record { 0 = n + 1 + 2 }) opens.there_first
+
+  reader_back : reader_rendez opened.start.back.row ≡ record { 0 = 14 }
+  reader_back = ap (λ (n : ℕ). record { 0 = n }) opens.back_first
+
+  writer_back : writer_rendez opened.start.back.row 2 ≡ record { 0 = 17 }
+  writer_back = ap (λ (n : ℕ). record { 0 = n + 1 + 2 }) opens.back_first
+
+  -- so no kernel of 17 Rendez has its rows
+  no_rows_of_17 : (words : Words) → rendez_of words ≡ 17 → opened.start.back.row.writers ≡ 3
+      → ¬ HasRows words opened
+  no_rows_of_17 words few three rows =
+      let first = opens.back_first in
+      let back = rows.back in
+      absurd (omega (arith, few, three, first, back))
