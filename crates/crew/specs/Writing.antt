@@ -3,7 +3,7 @@ use Rattle.std.specs.Prelude.{◌≡◌, ◌⊎◌, ◌++◌, ℕ, zero, suc, Li
 use Rattle.pipe_dev.specs.Ends.{IsSameWriteEnd}
 use Rattle.pipe_dev.specs.Sides.{HasWrittenJust}
 use Rattle.crew.specs.declared.crew.Writer.{Writer}
-use Rattle.crew.specs.declared.opts.ThreadsOpts.{ThreadsOpts}
+use Rattle.sync_base.specs.declared.threads_opts.ThreadsOpts.{ThreadsOpts}
 use Rattle.crew.specs.Message.{message_of}
 
 -- the first so many messages of this writer, each of this size
