@@ -1,11 +1,12 @@
 -- Lines that are read in one pass: words that are found one after the other make a line.
-use Rattle.std.proofs.Common.{◌≡◌, ℕ, suc, ◌+◌, ◌&&◌, Bool, true, false, not, List, [], ◌∷◌, ◌++◌, length, refl, ap, sym, subst, ◌∙◌, append_assoc, arith, length-append}
+use Rattle.std.proofs.Common.{◌≡◌, ℕ, suc, ◌+◌, ◌&&◌, Bool, true, false, not, List, [], ◌∷◌, ◌++◌, length, take, Some, None, Bor, refl, ap, sym, subst, ◌∙◌, append_assoc, arith, length-append}
 use Rattle.std.specs.List.{list_all}
+use Rattle.std.proofs.Math.Seq.{take-length}
 use Rattle.std.specs.Char.{is_ascii_digit}
 use Rattle.std.proofs.lemmas.List.Folds.{list_all-append}
 use Rattle.std.proofs.lemmas.Bool.Decides.{nat_tests}
-use Rattle.scripts.specs.declared.lines.TheConstants.{LINE_FEED, SPACE}
-use Rattle.scripts.specs.Lines.{is_line_feed, is_space, parts_of, all_but_last, last_of, lines_of, cut_line_of, words_of, BeginsWithNumber, BeginsWithLine}
+use Rattle.scripts.specs.declared.lines.TheConstants.{COMMA, LINE_FEED, SPACE}
+use Rattle.scripts.specs.Lines.{is_comma, is_line_feed, is_space, parts_of, all_but_last, last_of, lines_of, cut_line_of, words_of, BeginsWithNumber, BeginsWithLine, FirstNumber, LeadingNumber}
 use Rattle.scripts.specs.ScriptLaws.{lines_text}
 use Rattle.scripts.proofs.TextLemmas.{IsPlain, ArePlain, plain_lines, lines_text-lines}
 use Rattle.scripts.proofs.LineLemmas.{parts_of-part, parts_of-plain, parts_of-some, all_but_last-cons, last_of-cons}
@@ -36,6 +37,36 @@ digits_are_word word digits =
           digits;
       no_line_feed = passes_too is_ascii_digit
           (λ b. not (is_line_feed b)) (λ b is. grind (arith, nat_tests)) word digits;
+    }
+
+-- digits hold no comma
+pub digits_no_comma : (word : List ℕ) → list_all is_ascii_digit word ≡ true
+    → list_all (λ b. not (is_comma b)) word ≡ true
+digits_no_comma word digits =
+    passes_too is_ascii_digit (λ b. not (is_comma b)) (λ b is. grind (arith, nat_tests)) word digits
+
+-- a number that is all of a list
+pub first_number_all : (list : List ℕ) (n count : ℕ) → LeadingNumber list n count
+    → count ≡ length list → FirstNumber list (Some n) None
+first_number_all list n count lead all =
+    let whole : take count list ≡ list = ap (λ m. take m list) all ∙ take-length list in
+    record {
+      word = list;
+      parts = parts_of-plain is_comma list (digits_no_comma list (rw whole at lead.digits));
+      spells = sym (rw whole at lead.spells);
+    }
+
+-- a number before a comma
+pub first_number_before : (list : List ℕ) (n count : ℕ) (rest : Bor (List ℕ))
+    → LeadingNumber list n count → list ≡ take count list ++ COMMA ∷ rest.now
+    → FirstNumber list (Some n) (Some rest)
+first_number_before list n count rest lead split =
+    record {
+      word = take count list;
+      parts = ap (parts_of is_comma) split
+          ∙ parts_of-part is_comma (take count list) COMMA rest.now
+          (digits_no_comma (take count list) lead.digits) refl;
+      spells = sym lead.spells;
     }
 
 -- a word that a line feed follows is a line

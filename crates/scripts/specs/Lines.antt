@@ -96,6 +96,19 @@ pub record LeadingDigits (text : List ℕ) (number count : ℕ) : Type 0 where
   pub value : number ≡ decimal_value (take count text)
   pub small : number < 2 ^ 64
 
+-- the first bytes of the text are so many digits, and a word that spells this number
+pub record LeadingNumber (text : List ℕ) (number count : ℕ) : Type 0 where
+  pub within : count ≤ length text
+  pub digits : list_all is_ascii_digit (take count text) ≡ true
+  pub spells : number_of (take count text) ≡ Some number
+
+-- the first part of a list spells this number, or none, and this follows the comma behind it
+pub record FirstNumber (list : List ℕ) (number : Option ℕ) (rest : Option (Bor (List ℕ)))
+    : Type 0 where
+  pub word : List ℕ
+  pub parts : parts_of is_comma list ≡ word ∷ parts_behind is_comma rest
+  pub spells : number ≡ number_of word
+
 -- the text begins with a word that spells this number, and then this byte, before the rest
 pub record BeginsWithNumber (end : ℕ) (text : List ℕ) (number : ℕ) (rest : List ℕ) : Type 0 where
   pub word : List ℕ

@@ -217,6 +217,10 @@ schedule_language =
       farewell = λ state. lost_text state ++ LINE_FEED ∷ [];
     }
 
+-- a world stands for itself
+abbrev pub IsWorld : State → State → Type 0
+IsWorld world state = world ≡ state
+
 -- what a schedule says, as a function of its bytes
 abbrev pub schedule_told : List ℕ → Told
 schedule_told input = told schedule_language input

@@ -1,7 +1,7 @@
 //! The lines, words and numbers of a script.
-ghost use Rattle.std.specs.Prelude.{◌≡◌, false, ◌==◌, ◌∷◌, ◌+◌, ◌<◌, [], length, position, MatchOption, IfSome};
+ghost use Rattle.std.specs.Prelude.{◌≡◌, false, ◌==◌, ◌∷◌, ◌++◌, ◌+◌, ◌<◌, [], length, position, take, Some, MatchOption, IfSome};
 ghost use Rattle.std.specs.Char.{is_ascii_digit};
-ghost use Rattle.scripts.specs.Lines.{BeginsWithNumber, LeadingDigits, lines_of, cut_line_of, parts_of, parts_behind, words_of, words_behind, number_of, number_within, value_of};
+ghost use Rattle.scripts.specs.Lines.{BeginsWithNumber, LeadingDigits, LeadingNumber, FirstNumber, lines_of, cut_line_of, parts_of, parts_behind, words_of, words_behind, number_of, number_within, value_of};
 
 use memchr::memchr;
 
@@ -96,15 +96,83 @@ pub fn number_before(end: u8, text: &[u8]) -> Option<(u64, &[u8])>
     ensures { IfSome result (λ found.
         BeginsWithNumber end text.now found.0 found.1.now) }
 {
+    let (n, byte, rest) = number_at(text)?;
+    if byte != end {
+        return None;
+    }
+    Some((n, rest))
+}
+
+/// The number that a text begins with, the byte behind it, and what follows that byte.
+#[inline(always)]
+pub fn number_at(text: &[u8]) -> Option<(u64, u8, &[u8])>
+    ensures { IfSome result (λ found.
+        BeginsWithNumber found.1 text.now found.0 found.2.now) }
+{
+    let (n, count) = leading_word(text)?;
+    if count == text.len() {
+        return None;
+    }
+    let (byte, rest) = byte_behind(count, text);
+    Some((n, byte, rest))
+}
+
+/// The number that the first part of a list spells, if it spells one, and what follows the comma
+/// behind that part. It is looked for in one pass first.
+#[inline(always)]
+pub fn next_number(list: &[u8]) -> (Option<u64>, Option<&[u8]>)
+    ensures first { FirstNumber list.now result.0 result.1 }
+    ensures shorter { IfSome result.1 (λ rest. length rest.now < length list.now) }
+{
+    match number_part(list) {
+        Some((n, rest)) => (Some(n), rest),
+        None => {
+            let (word, rest) = next_part(COMMA, list);
+            (number(word), rest)
+        }
+    }
+}
+
+/// The number that the first part of a list spells, and what follows the comma behind it, in one
+/// pass; nothing where it finds none on the way.
+#[inline(always)]
+fn number_part(list: &[u8]) -> Option<(u64, Option<&[u8]>)>
+    ensures first { IfSome result (λ found. FirstNumber list.now (Some found.0) found.1) }
+    ensures shorter { IfSome result (λ found. IfSome found.1 (λ rest.
+        length rest.now < length list.now)) }
+{
+    let (n, count) = leading_word(list)?;
+    if count == list.len() {
+        return Some((n, None));
+    }
+    let (byte, rest) = byte_behind(count, list);
+    match byte {
+        COMMA => Some((n, Some(rest))),
+        _ => None,
+    }
+}
+
+/// The byte behind so many, and what follows it.
+#[inline(always)]
+fn byte_behind(count: usize, text: &[u8]) -> (u8, &[u8])
+    requires { count < length text.now }
+    ensures { text.now ≡ take count text.now ++ result.0 ∷ result.1.now }
+{
+    (text[count], &text[count + 1..])
+}
+
+/// The number that the first digits of a text spell, with no zero in front but for the number 0,
+/// and how many they are.
+#[inline(always)]
+fn leading_word(text: &[u8]) -> Option<(u64, usize)>
+    ensures { IfSome result (λ found. LeadingNumber text.now found.0 found.1) }
+{
     let (n, count) = leading_number(text)?;
     match &text[..count] {
         [] | [ZERO, _, ..] => return None,
         _ => {}
     }
-    if count == text.len() || text[count] != end {
-        return None;
-    }
-    Some((n, &text[count + 1..]))
+    Some((n, count))
 }
 
 /// The number that the first digits of a text spell, and how many they are.

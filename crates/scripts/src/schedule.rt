@@ -1,20 +1,22 @@
 //! Schedules: each line is an event of the sleep core, answered by its world.
-ghost use Rattle.std.specs.Prelude.{◌≡◌, ◌∷◌, [], ◌++◌, List, ℕ, Some, OnOk};
+ghost use Rattle.std.specs.Prelude.{◌≡◌, ◌∷◌, [], ◌++◌, List, ℕ, Some, IfOk, OnOk};
+ghost use Rattle.sleep_core.specs.declared.event.Event.TheVariants.{Note};
 ghost use Rattle.sleep_core.specs.State.{State};
 ghost use Rattle.sleep_core.specs.Step.{answer_to, world_after};
 ghost use Rattle.scripts.specs.EventText.{event_text};
 ghost use Rattle.scripts.specs.declared.lines.TheConstants.{LINE_FEED};
-ghost use Rattle.scripts.specs.GroupNote.{PostsEach};
-ghost use Rattle.scripts.specs.Schedule.{pids_of, schedule_language};
+ghost use Rattle.scripts.specs.GroupNote.{PostsEach, listed};
+ghost use Rattle.scripts.specs.Schedule.{IsWorld, schedule_language};
+ghost use Rattle.scripts.specs.Script.{AnswersFirst, IsShorter};
 
 use crate::event_line::{event_at, parse_event, parse_size};
 use crate::event_text::push_event_answer;
 use crate::group_line::{GroupNote, group_at, parse_group};
-use crate::lines::{COMMA, next_part, number};
+use crate::lines::next_number;
 use crate::script::{MAX_LINE, Script};
 use sleep_core::{Event, World};
 use std::alloc::{AllocError, Global};
-use sync_base::Pid;
+use sync_base::{NoteSet, Pid};
 
 /// A schedule while it runs.
 #[derive(Drop)]
@@ -57,15 +59,7 @@ impl Script for Schedule {
         output: &mut Vec<u8>,
     ) -> Result<Option<&'t [u8]>, AllocError> {
         let Some((event, rest)) = event_at(text) else {
-            let Some((group, rest)) = group_at(text) else {
-                return Ok(None);
-            };
-            let taken = text.len() - rest.len();
-            if taken > MAX_LINE {
-                return Ok(None);
-            }
-            answer_group(&mut self.world, group, output)?;
-            return Ok(Some(rest));
+            return answer_first_group(&mut self.world, text, output);
         };
         if text.len() - rest.len() > MAX_LINE {
             return Ok(None);
@@ -83,8 +77,7 @@ impl Script for Schedule {
     }
 }
 
-/// Does an event, and writes the answer. The one call of both is here, so that the compiler makes
-/// the step and its answer in words one function.
+/// Does an event, and writes the answer. The step and its answer in words are one function here.
 #[inline(never)]
 fn answer_event(world: &mut World, event: Event, output: &mut Vec<u8>) -> Result<(), AllocError>
     ensures after { world.new ≡ world_after world.old event }
@@ -94,24 +87,76 @@ fn answer_event(world: &mut World, event: Event, output: &mut Vec<u8>) -> Result
     push_event_answer(output, world.step(event))
 }
 
+/// The quick way of a line `notepg`. As a function of its own it has the registers to itself.
+#[inline(never)]
+fn answer_first_group<'t>(
+    world: &mut World,
+    text: &'t [u8],
+    output: &mut Vec<u8>,
+) -> Result<Option<&'t [u8]>, AllocError>
+    ensures answered { IfOk result (λ rest. AnswersFirst IsWorld schedule_language world.old
+        text.entry.now output.old.items rest world.new output.new.items) }
+    ensures shorter { IfOk result (λ rest. IsShorter rest text.entry.now) }
+{
+    let Some((group, rest)) = group_at(text) else {
+        return Ok(None);
+    };
+    let taken = text.len() - rest.len();
+    if taken > MAX_LINE {
+        return Ok(None);
+    }
+    post_each(world, group, output)?;
+    Ok(Some(rest))
+}
+
 /// Posts the notes to each process of a group in turn, and writes the answers.
+#[inline(never)]
 fn answer_group(
     world: &mut World,
     group: GroupNote<'_>,
     output: &mut Vec<u8>,
 ) -> Result<(), AllocError>
-    ensures { (pids : List ℕ) → pids_of group.entry.pids.now ≡ Some pids → OnOk result (PostsEach
+    ensures { (pids : List ℕ) → listed group.entry.pids ≡ Some pids → OnOk result (PostsEach
         group.entry.notes pids world.old world.new output.old.items output.new.items) }
 {
-    let mut rest = Some(group.pids);
+    post_each(world, group, output)
+}
+
+/// The same, within a function that has more to do.
+#[inline(always)]
+fn post_each(
+    world: &mut World,
+    group: GroupNote<'_>,
+    output: &mut Vec<u8>,
+) -> Result<(), AllocError>
+    ensures { (pids : List ℕ) → listed group.entry.pids ≡ Some pids → OnOk result (PostsEach
+        group.entry.notes pids world.old world.new output.old.items output.new.items) }
+{
+    let notes = group.notes;
+    answer_note(world, Pid(group.pids.first), notes, output)?;
+    let mut rest = group.pids.others;
     while let Some(text) = rest {
-        let (word, after) = next_part(COMMA, text);
-        if let Some(pid) = number(word) {
-            let pid = Pid(pid);
-            let notes = group.notes;
-            answer_event(world, Event::Note { pid, notes }, output)?;
+        let (number, after) = next_number(text);
+        if let Some(pid) = number {
+            answer_note(world, Pid(pid), notes, output)?;
         }
         rest = after;
     }
     Ok(())
+}
+
+/// Posts notes to a process, and writes the answer. Of the step and its answer in words the
+/// compiler leaves here what a note needs.
+#[inline(always)]
+fn answer_note(
+    world: &mut World,
+    pid: Pid,
+    notes: NoteSet,
+    output: &mut Vec<u8>,
+) -> Result<(), AllocError>
+    ensures after { world.new ≡ world_after world.old (Note pid notes) }
+    ensures text { OnOk result (output.new.items
+        ≡ output.old.items ++ event_text (answer_to world.old (Note pid notes)) ++ LINE_FEED ∷ []) }
+{
+    push_event_answer(output, world.step(Event::Note { pid, notes }))
 }

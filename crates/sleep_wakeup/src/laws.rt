@@ -1,7 +1,8 @@
 //! What the definitions of the calls forbid, and what they allow.
-ghost use Rattle.std.specs.Prelude.{◌≡◌, ◌≢◌, ◌+◌, ℕ, [], ◌∷◌, Some, None};
+ghost use Rattle.std.specs.Prelude.{◌≡◌, ◌≢◌, ◌+◌, ℕ, [], ◌∷◌, Some, None, true, not, length};
 ghost use Rattle.rendez_words.specs.Process.{TableId};
 ghost use Rattle.sync_base.specs.declared.flags.Flags.{Flags};
+ghost use Rattle.sync_base.specs.Flags.{bits_of};
 ghost use Rattle.sync_base.specs.declared.fault.Fault.TheVariants.{Interrupted};
 ghost use Rattle.sync_base.specs.declared.note.Note.TheVariants.{Interrupt, Alarm};
 ghost use Rattle.sync_base.specs.NoteSet.{no_notes, only};
@@ -22,7 +23,8 @@ ghost use Rattle.sleep_wakeup.specs.Forks.{AsksNobody, AsksChild, asks_group, Fo
 ghost use Rattle.sleep_wakeup.specs.Groups.{AreGroups, first_group, group_of, begins, follows};
 ghost use Rattle.sleep_wakeup.specs.Groups.{leaves, notes_each};
 ghost use Rattle.sleep_wakeup.specs.Broken.{four_in_two, noted};
-ghost use Rattle.sleep_wakeup.specs.Kernel.{Unused, next_process, one_pid_less, rendez_less};
+ghost use Rattle.sleep_wakeup.specs.Kernel.{HasGroup, Unused, next_process, one_pid_less};
+ghost use Rattle.sleep_wakeup.specs.Kernel.{regrouped, rendez_less};
 
 /// Steps that are no sleep: each would be one if a sentence of its definition were gone.
 pub fn sleeps_can_be_broken()
@@ -109,7 +111,8 @@ pub fn wakeups_can_be_kept()
         → Wakes (after table []) (rendez 0) 1 (after table marks_the_sleeper) done }
 {}
 
-/// No pid and no Rendez is given twice, and none is lost.
+/// No pid and no Rendez is given twice, and none is lost. A process is in the group that the flags
+/// say, be it the child or the caller.
 pub fn forks_can_be_broken()
     ensures gives_a_pid_twice { (unused : Unused) (flags : Flags) (parent : ℕ)
         → ¬ (Forks parent unused flags (Some (next_process unused)) unused) }
@@ -123,17 +126,27 @@ pub fn forks_can_be_broken()
         → AsksNobody flags
         → ¬ (Forks parent unused flags (Some (next_process unused))
         (one_pid_less parent (asks_group flags) unused)) }
+    ensures child_is_in_another_group { (unused : Unused) (flags : Flags) → AsksChild flags
+        → unused.groups ≡ first_group → ¬ (Forks 0 unused flags (Some (next_process unused))
+        (one_pid_less 0 (not (asks_group flags)) unused)) }
+    ensures caller_stays { (unused : Unused) (flags : Flags) → bits_of flags ≡ 4
+        → unused.groups ≡ four_in_two → ¬ (Forks 1 unused flags None unused) }
+    ensures caller_leaves_unasked { (unused : Unused) (flags : Flags) → bits_of flags ≡ 0
+        → unused.groups ≡ four_in_two
+        → ¬ (Forks 1 unused flags None (regrouped 1 true unused)) }
     ensures row_is_one_too_short { (unused : Unused) (count : ℕ)
         → rendez_less count unused ≢ rendez_less (count + 1) unused }
 {}
 
-/// Process 1 is a child in its parent's group, 2 is the first of another, and 3 is its child. Then
-/// 1 leaves the first group, and 2 stays where others are, and 0 stays, alone.
+/// Process 1 is a child in its parent's group, 2 is the first of another, and 3 is its child; then
+/// a child of 1 joins, or 1 or 3 leaves its group. 0, left alone, stays.
 pub fn groups_by_example()
     ensures shared { follows 0 1 first_group ≡ (0 ∷ 1 ∷ []) ∷ [] }
     ensures apart { begins 2 ((0 ∷ 1 ∷ []) ∷ []) ≡ (2 ∷ []) ∷ (0 ∷ 1 ∷ []) ∷ [] }
     ensures further { follows 2 3 ((2 ∷ []) ∷ (0 ∷ 1 ∷ []) ∷ []) ≡ four_in_two }
+    ensures joins_it { follows 1 4 four_in_two ≡ (2 ∷ 3 ∷ []) ∷ (0 ∷ 1 ∷ 4 ∷ []) ∷ [] }
     ensures leaves_it { leaves 1 four_in_two ≡ (1 ∷ []) ∷ (2 ∷ 3 ∷ []) ∷ (0 ∷ []) ∷ [] }
+    ensures leaves_the_first { leaves 3 four_in_two ≡ (3 ∷ []) ∷ (2 ∷ []) ∷ (0 ∷ 1 ∷ []) ∷ [] }
     ensures is_alone { leaves 0 ((1 ∷ []) ∷ (2 ∷ 3 ∷ []) ∷ (0 ∷ []) ∷ [])
         ≡ (1 ∷ []) ∷ (2 ∷ 3 ∷ []) ∷ (0 ∷ []) ∷ [] }
     ensures is_nowhere { leaves 7 four_in_two ≡ four_in_two }
@@ -143,24 +156,31 @@ pub fn groups_by_example()
 {}
 
 /// Lists of pids that are no groups: a pid stands twice, in one or in two; one is missing; one was
-/// not given; a group falls.
+/// not given; a group falls, the first one or a later one.
 pub fn groups_can_be_broken()
     ensures stands_twice { ¬ (AreGroups ((0 ∷ 0 ∷ []) ∷ []) 1) }
     ensures stands_in_two { ¬ (AreGroups ((0 ∷ 1 ∷ []) ∷ (1 ∷ []) ∷ []) 2) }
     ensures one_is_missing { ¬ (AreGroups ((0 ∷ []) ∷ []) 2) }
     ensures was_not_given { ¬ (AreGroups ((0 ∷ 1 ∷ []) ∷ []) 1) }
     ensures falls { ¬ (AreGroups ((1 ∷ 0 ∷ []) ∷ []) 2) }
+    ensures falls_later { ¬ (AreGroups ((0 ∷ []) ∷ (2 ∷ 1 ∷ []) ∷ []) 3) }
 {}
 
-/// A note to the group of pid 1 is two notes, to pid 0 and then to pid 1; one of them, or both in
-/// the other order, or one to another process is no note to that group.
+/// A note to the group of pid 1 is two notes, to pid 0 and then to pid 1; one of them, or one
+/// twice, or both in the other order, or notes to others are no note to that group. Pid 4 is in
+/// none.
 pub fn group_notes_can_be_broken()
     ensures leaves_out_a_member { (table : TableId) → notes_each (after table [])
         (group_of 1 four_in_two) (only Alarm) ≢ after table (noted 0 ∷ []) }
     ensures posts_in_another_order { (table : TableId) → notes_each (after table [])
         (group_of 1 four_in_two) (only Alarm) ≢ after table (noted 0 ∷ noted 1 ∷ []) }
+    ensures posts_twice { (table : TableId) → notes_each (after table [])
+        (group_of 1 four_in_two) (only Alarm) ≢ after table (noted 1 ∷ noted 0 ∷ noted 0 ∷ []) }
     ensures posts_to_another_group { (table : TableId) → notes_each (after table [])
         (group_of 1 four_in_two) (only Alarm) ≢ after table (noted 3 ∷ noted 2 ∷ []) }
     ensures is_kept { (table : TableId) → notes_each (after table [])
         (group_of 1 four_in_two) (only Alarm) ≡ after table (noted 1 ∷ noted 0 ∷ []) }
+    ensures is_counted { (unused : Unused) → unused.groups ≡ four_in_two
+        → HasGroup unused 1 × (length (group_of 1 unused.groups) ≡ 2) }
+    ensures is_refused { (unused : Unused) → unused.groups ≡ four_in_two → ¬ HasGroup unused 4 }
 {}

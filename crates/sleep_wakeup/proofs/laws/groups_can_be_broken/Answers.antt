@@ -16,3 +16,6 @@ returns-clause-was_not_given c = λ are. let bad : 1 ≡ 0 = are.once 1 in omega
 
 pub returns-clause-falls : goal.returns-clause-falls
 returns-clause-falls c = λ are. let bad = are.rise.0.1.0 in omega (arith, bad)
+
+pub returns-clause-falls_later : goal.returns-clause-falls_later
+returns-clause-falls_later c = λ are. let bad = are.rise.1.0.1.0 in omega (arith, bad)

@@ -16,5 +16,5 @@ returns c s same =
     c.answer_group.new.output.items)
     (sym (group_answered s c.args.line.now _ _ refl asked.ask)) (
       rw (← same) posts.after,
-      rw (← same) (group_written _ _ _ _ _ _ c.in-Some-parse_group.group.pids.now posts asked.written),
+      rw (← same) (group_written _ c.in-Some-parse_group.group.pids _ _ _ _ _ posts asked.written),
     )

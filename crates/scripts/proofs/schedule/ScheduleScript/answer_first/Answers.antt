@@ -4,10 +4,9 @@ use Rattle.scripts.specs.declared.schedule.Schedule.{Schedule}
 use Rattle.scripts.proofs.OnePassLemmas.{begins_length}
 use Rattle.sleep_core.specs.Step.{answer_to, world_after}
 use Rattle.scripts.specs.EventText.{event_text}
-use Rattle.scripts.specs.Schedule.{answered, notes_to, schedule_language}
+use Rattle.scripts.specs.Schedule.{schedule_language}
 use Rattle.scripts.proofs.ScriptLemmas.{found_answered}
-use Rattle.scripts.proofs.ScheduleLemmas.{event_answered}
-use Rattle.scripts.proofs.GroupLemmas.{group_answered, group_written}
+use Rattle.scripts.proofs.ScheduleLemmas.{event_answered, world_first}
 use Rattle.scripts.proofs.schedule.ScheduleScript.answer_first.Goals as goal
 
 pub returns-clause-answered : goal.returns-clause-answered
@@ -31,14 +30,4 @@ returns-clause-shorter c =
 
 pub returns-in_default-clause-answered : goal.returns-in_default-clause-answered
 returns-in_default-clause-answered c s same =
-    let found = c.in-Some-group_at.ensures in
-    let asked = found.asked in
-    let posts = c.in_ok-answer_group.ensures asked.pids asked.written in
-    found_answered (λ (schedule : Schedule) (state : State). schedule.world ≡ state)
-    schedule_language s _ _ _ found.words _ _
-    (answered s (notes_to c.in-Some-group_at.group.notes asked.pids))
-    found.begins c.if-taken-gt-MAX_LINE.false
-    (group_answered s found.begins.line found.words _ found.begins.words_are asked.ask)
-    (rw (← same) posts.after)
-    (rw (← same)
-    (group_written _ _ _ _ _ _ c.in-Some-group_at.group.pids.now posts asked.written))
+    world_first s _ _ _ _ _ (rw same at c.answer_first_group.ensures.answered)
