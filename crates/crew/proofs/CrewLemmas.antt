@@ -5,7 +5,8 @@ use Rattle.block_queue.specs.declared.view.Key.{Key}
 use Rattle.pipe_dev.specs.declared.answers.ReadAnswer.{ReadAnswer}
 use Rattle.pipe_dev.specs.declared.answers.ReadAnswer.TheVariants as read
 use Rattle.pipe_dev.specs.declared.row.Row.{Row}
-use Rattle.pipe_dev.specs.ReadCalls.{Reader, Reads, part_of}
+use Rattle.pipe_dev.specs.Parts.{part_of}
+use Rattle.pipe_dev.specs.ReadCalls.{Reader, Reads}
 use Rattle.crew.specs.declared.opts.ThreadsOpts.{ThreadsOpts}
 use Rattle.crew.specs.declared.tally.Tally.{Tally}
 use Rattle.crew.specs.Tally.{AreOfOneRun, IsTallyOf}

@@ -1,11 +1,13 @@
 pub mod PartLemmas
 pub mod LawLemmas
 pub mod RoundLemmas
-pub mod CallLemmas
 pub mod LongLemmas
 pub mod SeatingLemmas
 pub mod FinishLemmas
 pub mod ReadingLemmas
+pub mod FillLemmas
+pub mod ModeLemmas
+pub mod CallLemmas
 pub mod WrittenLemmas
 pub mod ChainLemmas
 pub mod WaitLemmas

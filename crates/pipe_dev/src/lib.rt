@@ -7,6 +7,7 @@ pub mod answers;
 pub mod begun;
 pub mod closing;
 pub mod end;
+pub mod filling;
 mod hand;
 mod hanging;
 pub mod laws;
