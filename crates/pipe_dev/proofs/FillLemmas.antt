@@ -1,5 +1,5 @@
 -- How a read fills its buffer, one part after the other.
-use Rattle.std.proofs.Common.{◌≡◌, ◌≢◌, ◌⊎◌, inl, inr, ℕ, zero, suc, ◌+◌, ◌-◌, ◌*◌, ◌<◌, ◌≤◌, Bool, true}
+use Rattle.std.proofs.Common.{◌≡◌, ◌≢◌, ◌⊎◌, inl, inr, ℕ, suc, ◌+◌, ◌-◌, ◌*◌, ◌<◌, ◌≤◌, Bool, true}
 use Rattle.std.proofs.Common.{false, nat_lt, List, [], ◌∷◌, ◌++◌, length, take, drop, Option, None}
 use Rattle.std.proofs.Common.{Some, refl, sym, ◌∙◌, ap, subst, arith, length-append, length-drop}
 use Rattle.std.proofs.Common.{drop-drop}
@@ -34,7 +34,7 @@ use Rattle.pipe_dev.specs.Finishing.{left_state}
 use Rattle.pipe_dev.specs.Parts.{Part, part_of, rest_of, bytes_of}
 use Rattle.pipe_dev.specs.Rounds.{Rounds}
 use Rattle.pipe_dev.proofs.ReadingLemmas.{since_accepts}
-use Rattle.pipe_dev.proofs.RoundLemmas.{entered_right, entered_legal}
+use Rattle.pipe_dev.proofs.RoundLemmas.{entered_right}
 
 -- ---- one part
 

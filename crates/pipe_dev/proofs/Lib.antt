@@ -14,4 +14,5 @@ pub mod WaitLemmas
 pub mod WorkedPipes
 pub mod LoneLemmas
 pub mod WorkedCalls
+pub mod WorkedFills
 pub mod SideLemmas

@@ -1,6 +1,6 @@
 -- What a read that goes on as its mode says comes to in message mode: one part, or nothing.
-use Rattle.std.proofs.Common.{◌≡◌, ◌≢◌, ◌⊎◌, inl, inr, ℕ, zero, suc, ◌+◌, ◌<◌, Bool, true, false, nat_lt}
-use Rattle.std.proofs.Common.{List, [], ◌∷◌, length, Option, None, Some, refl, sym, ◌∙◌, ap, subst}
+use Rattle.std.proofs.Common.{◌≡◌, ◌⊎◌, inl, inr, ℕ, zero, suc, ◌+◌, Bool, true, false, nat_lt}
+use Rattle.std.proofs.Common.{List, [], ◌∷◌, length, Option, refl, sym, ◌∙◌, ap, subst}
 use Rattle.std.proofs.Common.{arith, if◌then◌else◌, ◌-◌, drop}
 use Rattle.std.specs.Prelude.{Result, Ok, Err}
 use Rattle.std.proofs.lemmas.Bool.Decides.{nat_tests}
@@ -25,15 +25,15 @@ use Rattle.pipe_dev.specs.declared.filling.Stop.TheVariants as stop
 use Rattle.pipe_dev.specs.declared.reading.Found.{Found}
 use Rattle.pipe_dev.specs.declared.reading.Found.TheVariants as found
 use Rattle.pipe_dev.specs.declared.row.Row.{Row}
-use Rattle.pipe_dev.specs.Filling.{Taker, TakesPart, TakesMore, Filling, Extent, Lending, begins}
-use Rattle.pipe_dev.specs.Filling.{IsLeft, IsTakenOut, FindsNothing, FindsNotThere, StopsAt, FillsUp}
+use Rattle.pipe_dev.specs.Filling.{Taker, TakesPart, TakesMore, Filling, Lending, begins}
+use Rattle.pipe_dev.specs.Filling.{IsLeft, IsTakenOut, FindsNothing, FindsNotThere}
 use Rattle.pipe_dev.specs.Filling.{has_none, goes_further, number_of, last_number, IsFilledBy}
-use Rattle.pipe_dev.specs.Parts.{Part, part_of, rest_of, bytes_of}
+use Rattle.pipe_dev.specs.Parts.{Part, part_of, bytes_of}
 use Rattle.pipe_dev.specs.ReadCalls.{Reader, GoesOn, TakesOut, Gets, FindsNone, FindsNotYet, FindsEnd}
 use Rattle.pipe_dev.specs.ReadCalls.{SleepsForWrite, FailsForWrite, EndsRead, KeepsTrying, Reads, Tries}
-use Rattle.pipe_dev.specs.ReadCalls.{IsFilled, IsNotYet, IsNotYetOn, InMode}
+use Rattle.pipe_dev.specs.ReadCalls.{IsNotYet, IsNotYetOn, InMode}
 use Rattle.pipe_dev.specs.ReadCalls.{Calling, calling, came_to, TriesOn, GivesBytes, SleepsOn, FailsOn}
-use Rattle.pipe_dev.specs.ReadCalls.{EndsOn, KeepsReading, lending_of, is_got, is_got_by}
+use Rattle.pipe_dev.specs.ReadCalls.{EndsOn, KeepsReading, lending_of, is_got}
 use Rattle.pipe_dev.specs.ReadSteps.{found_at, found_of, answer_of}
 use Rattle.pipe_dev.specs.Rendezes.{WakesWith, WakesWriters, reader_rendez}
 use Rattle.pipe_dev.specs.Rounds.{Rounds, FailsAsleep}

@@ -1,5 +1,5 @@
 -- What the calls of a read end do, after pipe(2), pipe(3) and read(2).
-use Rattle.std.specs.Prelude.{◌≡◌, ◌⊎◌, ◌+◌, ◌++◌, ◌<◌, ℕ, nat_lt, Bool, true}
+use Rattle.std.specs.Prelude.{◌≡◌, ◌⊎◌, ◌+◌, ◌++◌, ℕ, nat_lt, Bool, true}
 use Rattle.std.specs.Prelude.{List, length, drop}
 use Rattle.std.specs.Prelude.{Option, Some, None, Result, Ok, Err}
 use Rattle.histories.specs.declared.account.Account.{Account}
@@ -28,7 +28,7 @@ use Rattle.pipe_dev.specs.declared.filling.Stop.TheVariants as stop
 use Rattle.pipe_dev.specs.declared.hand.ReadHand.{ReadHand}
 use Rattle.pipe_dev.specs.declared.row.Row.{Row}
 use Rattle.pipe_dev.specs.Ends.{ReadSide}
-use Rattle.pipe_dev.specs.Filling.{Taker, Lending, FillsUp, last_number}
+use Rattle.pipe_dev.specs.Filling.{Lending, FillsUp, last_number}
 use Rattle.pipe_dev.specs.Parts.{Part, part_of, rest_of}
 use Rattle.pipe_dev.specs.Rendezes.{reader_rendez, WakesWriters, WakesWith}
 use Rattle.pipe_dev.specs.Rounds.{Rounds, FailsAsleep}

@@ -26,12 +26,14 @@ impl<'p> ReadEnd<'p> {
     ghost use Rattle.pipe_dev.specs.Rendezes.{HasRow};
 
     /// Reads what is next: fills the buffer, up to its end or to the end of one write, whichever
-    /// comes first. Where nothing is there yet it waits. Takes no memory.
+    /// comes first. In stream mode it goes on from write to write while its buffer has room, and
+    /// passes the empty ones. Where nothing is there yet it waits. Takes no memory.
     ///
     /// `End` where the direction is hung up and all is read. Refuses, in this order, as `BadCount`
     /// for a buffer of no bytes, as `NoRendez` where the process is of another kernel, which has
     /// not all Rendez of the direction, and where it would wait as `DoubleSleep` and `Interrupted`.
-    /// A read that took a write out wakes each writer with its number. After pipe(3) and read(2).
+    /// A read that took a write out wakes each writer with its number, in stream mode with that of
+    /// the last one. After pipe(3) and read(2).
     #[tactic(auto, using(crate::proofs::ModeLemmas::reads_by_mode))]
     pub fn read<R: Wait>(
         &mut self,

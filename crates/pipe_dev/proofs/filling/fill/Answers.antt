@@ -1,8 +1,8 @@
 -- a part more, and no more
-use Rattle.std.proofs.Common.{refl, sym, ap, subst, ◌+◌, ◌<◌, nat_lt, length}
+use Rattle.std.proofs.Common.{sym, ap, subst, ◌+◌, ◌<◌, nat_lt, length}
 use Rattle.block_queue.specs.Seats.{key_of}
 use Rattle.pipe_dev.specs.FillSteps.{lending_with, taker_with}
-use Rattle.pipe_dev.proofs.FillLemmas.{begun_so_far, next_so_far, given_part, goes_on_behind}
+use Rattle.pipe_dev.proofs.FillLemmas.{next_so_far, given_part, goes_on_behind}
 use Rattle.pipe_dev.proofs.FillLemmas.{enough_so_far, not_yet_so_far, end_so_far, next_is_nearer}
 use Rattle.pipe_dev.proofs.FillLemmas.{left_to_take}
 use Rattle.pipe_dev.proofs.FillLemmas.{SoFar, room_of, back_of}

@@ -1,5 +1,5 @@
 -- a part of what is left, or of the write that was taken out
-use Rattle.std.proofs.Common.{refl, sym, ◌∙◌, ap, inl, inr, length, Some, None, Option}
+use Rattle.std.proofs.Common.{refl, sym, ◌∙◌, ap, inl, inr, length, Some, Option}
 use Rattle.block_queue.specs.Seats.{key_of, take_account}
 use Rattle.pipe_dev.specs.Filling.{number_of}
 use Rattle.pipe_dev.specs.Parts.{Part, part_of}

@@ -1,5 +1,5 @@
 -- one round more
-use Rattle.std.proofs.Common.{suc, ◌∙◌, subst, sym}
+use Rattle.std.proofs.Common.{suc, ◌∙◌, subst}
 use Rattle.block_queue.specs.Seats.{key_of}
 use Rattle.pipe_dev.specs.ReadCalls.{calling, reader_with}
 use Rattle.pipe_dev.specs.ReadSteps.{IfSlept}
