@@ -5,12 +5,15 @@ use Rattle.std.specs.Prelude.{Result, Ok, Err, take, slice_get, slice_index_or}
 use Rattle.std.specs.List.{AllByRecursion, AllZip}
 use Rattle.std.proofs.lemmas.List.{append-nil, map-append, reverse-append}
 use Rattle.sync_base.specs.declared.fault.Fault.{Fault}
+use Rattle.sync_base.specs.declared.mode.Mode.{Mode}
+use Rattle.sync_base.specs.declared.mode.Mode.TheVariants.{Message}
 use Rattle.sleep_wakeup.specs.Kernel.{Running}
 use Rattle.block_queue.specs.declared.entry.Entry.TheVariants.{Hung}
 use Rattle.block_queue.specs.Meaning.{Enters}
 use Rattle.block_queue.specs.Seats.{key_of}
 use Rattle.pipe_dev.specs.declared.answers.ReadAnswer.{ReadAnswer}
 use Rattle.pipe_dev.specs.declared.answers.ReadAnswer.TheVariants as read
+use Rattle.pipe_dev.specs.declared.row.Row.{Row}
 use Rattle.pipe_dev.specs.Chain.{AddsRead, written_by}
 use Rattle.pipe_dev.specs.Ends.{WriteSide, IsSameReadEnd, IsSameWriteEnd}
 use Rattle.pipe_dev.specs.Parts.{Part}
@@ -35,7 +38,7 @@ bytes_of parts = map (λ part. part.bytes) (reverse parts)
 
 -- so the parts and their bytes grow alike
 grown : (answer : Result ReadAnswer Fault) (buffer : List ℕ) (parts parts' : List Part)
-    → AddsRead answer buffer parts parts'
+    → AddsRead Message answer buffer parts parts'
     → bytes_of parts' ≡ bytes_of parts ++ got_by answer buffer
 grown (Ok (read.Got count)) buffer parts parts' adds =
     ap bytes_of adds.parts_are
@@ -62,9 +65,12 @@ read_on old new before after buffer answer buffer' room reads same got =
           reads_add old.end new.end before after buffer answer buffer' room reads same kept.parts
           kept.just in
           record {
+            mode = ap (λ (r : Row). r.mode) same.row ∙ kept.mode;
             parts = call.parts';
             just = call.just;
-            bytes = grown answer buffer' kept.parts call.parts' call.added
+            bytes = grown answer buffer' kept.parts call.parts'
+                (subst (λ (m : Mode). AddsRead m answer buffer' kept.parts call.parts') kept.mode
+                call.added)
                 ∙ (ap (λ (xs : List (List ℕ)). xs ++ got_by answer buffer') kept.bytes ∙ sym got);
           };
     }
@@ -79,6 +85,7 @@ hung_read old new enters rest same got =
       keeps = λ kept.
           let call = read_ends_hang_up old.end new.end enters rest same kept.parts kept.just in
           record {
+            mode = ap (λ (r : Row). r.mode) same.row ∙ kept.mode;
             parts = call.parts';
             just = call.just;
             bytes = ap bytes_of call.added ∙ (kept.bytes ∙ sym got);

@@ -6,6 +6,7 @@ use Rattle.std.specs.List.{AllByRecursion, AllZip}
 use Rattle.std.proofs.lemmas.List.{length-map}
 use Rattle.histories.specs.Account.{numbers_from}
 use Rattle.histories.proofs.ListLemmas.{all_weaker}
+use Rattle.sync_base.specs.declared.mode.Mode.TheVariants.{Message}
 use Rattle.sync_base.specs.Write.{Write}
 use Rattle.block_queue.specs.declared.queue.Queue.{Queue}
 use Rattle.block_queue.specs.Seats.{key_of}
@@ -32,14 +33,16 @@ use Rattle.example_headline.proofs.CrewLemmas.{same_ends, still_counts}
 
 -- the ends of a new direction
 pub fresh_ends : (queue : Queue) (lane : Lane) (read : ReadSide) (writes : List WriteSide)
-    → IsLaneOf queue lane → AreNewEnds queue lane.row read writes → IsFresh read writes
-fresh_ends queue lane read writes is_lane new =
+    → IsLaneOf queue lane → lane.row.mode ≡ Message → AreNewEnds queue lane.row read writes
+    → IsFresh read writes
+fresh_ends queue lane read writes is_lane mode new =
     record {
       ends = record {
         all = new.all;
         known = ap (λ row. row.writers) new.row_is
             ∙ (is_lane.row_is.writers ∙ ap (λ q. (key_of q).writers) (sym new.queue_is));
       };
+      mode = ap (λ row. row.mode) new.row_is ∙ mode;
       unused = new_ends_are_unused queue lane read writes is_lane new;
     }
 

@@ -1,6 +1,7 @@
 -- What is known of a reader and of writers, before and after threads have them.
 use Rattle.std.specs.Prelude.{◌≡◌, List, ℕ, map, reverse, take}
 use Rattle.std.specs.List.{AllByRecursion}
+use Rattle.sync_base.specs.declared.mode.Mode.TheVariants.{Message}
 use Rattle.block_queue.specs.Seats.{key_of}
 use Rattle.pipe_dev.specs.Ends.{ReadSide, WriteSide, AreAllEnds, IsSameReadEnd, IsSameWriteEnd}
 use Rattle.pipe_dev.specs.Parts.{Part}
@@ -9,8 +10,9 @@ use Rattle.example_headline.specs.declared.crew.Crew.{Crew}
 use Rattle.example_headline.specs.declared.reader.Reader.{Reader}
 use Rattle.example_headline.specs.declared.writer.Writer.{Writer}
 
--- the end has read just these parts, the oldest first
+-- the end has read just these parts of messages, the oldest first
 pub record HasGot (read : ReadSide) (got : List (List ℕ)) : Type 0 where
+  pub mode : read.row.mode ≡ Message
   pub parts : List Part
   pub just : HasReadJust read parts
   pub bytes : map (λ part. part.bytes) (reverse parts) ≡ got
@@ -40,9 +42,10 @@ pub record AreEnds (read : ReadSide) (writes : List WriteSide) : Type 0 where
   pub all : AreAllEnds read writes
   pub known : read.row.writers ≡ (key_of read.queue).writers
 
--- on which nothing was called
+-- on which nothing was called, and whose reads stop at the end of a write
 pub record IsFresh (read : ReadSide) (writes : List WriteSide) : Type 0 where
   pub ends : AreEnds read writes
+  pub mode : read.row.mode ≡ Message
   pub unused : AreUnused read writes
 
 abbrev pub ends_of : List Writer → List WriteSide

@@ -1,56 +1,93 @@
 -- What the rounds of a read and of a write come to.
-use Rattle.std.proofs.Common.{◌≡◌, ℕ, ◌<◌, List, refl, subst, arith}
+use Rattle.std.proofs.Common.{◌≡◌, ℕ, ◌≢◌, ◌<◌, List, [], ◌∷◌, length, ap, refl, subst, arith, true}
 use Rattle.std.specs.Prelude.{Err}
 use Rattle.sync_base.specs.declared.fault.Fault.{Fault}
 use Rattle.sync_base.specs.declared.fault.Fault.TheVariants as fault
 use Rattle.sync_base.specs.declared.ids.RendezId.{RendezId}
 use Rattle.rendez_words.specs.declared.words.Words.{Words}
 use Rattle.rendez_words.specs.Process.{Process}
-use Rattle.sleep_wakeup.specs.Calls.{WhyNotSlept}
+use Rattle.sync_base.specs.NoteSet.{no_notes}
+use Rattle.sleep_wakeup.specs.Calls.{WhyNotSlept, Sleeps}
 use Rattle.histories.specs.declared.account.Account.{Account}
 use Rattle.block_queue.specs.declared.entry.Entry.{Entry}
 use Rattle.block_queue.specs.declared.view.Key.{Key}
 use Rattle.pipe_dev.specs.declared.row.Row.{Row}
-use Rattle.pipe_dev.specs.ReadCalls.{Reader, FindsNotYet, FailsForWrite}
+use Rattle.pipe_dev.specs.declared.filling.Came.{Came}
+use Rattle.pipe_dev.specs.declared.filling.Stop.TheVariants as stop
+use Rattle.pipe_dev.specs.declared.reading.Found.TheVariants as found
+use Rattle.pipe_dev.specs.ReadCalls.{Calling, calling, came_to, TriesOn, GivesBytes, SleepsOn}
+use Rattle.pipe_dev.specs.ReadCalls.{FailsOn, is_got}
+use Rattle.pipe_dev.specs.ReadSteps.{found_of}
 use Rattle.pipe_dev.specs.Rendezes.{HasRow, reader_rendez, writer_rendez}
 use Rattle.pipe_dev.specs.WriteCalls.{Writer, FindsFull, FailsForRoom, EndsWrite, IsAsked}
+use Rattle.pipe_dev.proofs.ModeLemmas.{got_at, not_yet_at, end_at}
 use Rattle.pipe_dev.proofs.RoundLemmas.{fails_asleep, not_yet_low, full_low}
 
--- nothing was done but the try: so it is before the sleep
-found_before : (key : Key) (number : ℕ) (old between : Reader) (after : Process)
-    → FindsNotYet key number old between
-    → FindsNotYet key number old (record between { process = old.process })
-found_before key number old between after found =
+-- a buffer with room stays one
+pub still_some : (xs ys : List ℕ) → length ys ≡ length xs → xs ≢ [] → ys ≢ []
+still_some [] ys same some none = some refl
+still_some (x ∷ xs) ys same some none =
+    let size : length ys ≡ 0 = ap length none in
+    absurd (omega (arith, size, same))
+
+-- what a try is answered, by how far it came
+pub tried_bytes : (key : Key) (row : Row) (old : Calling) (came : Came) (count : ℕ) (new : Calling)
+    → TriesOn key row old came new → found_of came ≡ found.Got count
+    → GivesBytes key row old count new
+tried_bytes key row old came count new tried is =
+    let got = got_at came.count came.stop count is in
     record {
-      none = record {
-        none_left = found.none.none_left;
-        entered = found.none.entered;
-        rest = found.none.rest;
-        process = refl;
-      };
-      fresh = found.fresh;
+      why = came.stop;
+      tried = subst (λ (n : ℕ). TriesOn key row old (came_to n came.stop) new) got.0 tried;
+      got = subst (λ (n : ℕ). is_got (came_to n came.stop) ≡ true) got.0 got.1;
     }
 
--- the sleep of a read did not end well
-pub read_fails : (words words' : Words) (key : Key) (row : Row) (old between : Reader)
-    (number : ℕ) (rendez : RendezId) (after : Process) (why : Fault) → key.first ≡ 0
-    → HasRow words row → words' ≡ words → rendez ≡ reader_rendez row
-    → FindsNotYet key number old between
-    → WhyNotSlept words' between.process rendez number after why
-    → FailsForWrite key row old why (record between { process = after })
-read_fails words words' key row old between number rendez after why first has words_are is found
-    told =
+pub tried_not_yet : (key : Key) (row : Row) (old : Calling) (came : Came) (number : ℕ)
+    (new : Calling) → TriesOn key row old came new → found_of came ≡ found.NotYet number
+    → TriesOn key row old (came_to 0 (stop.NotYet number)) new
+tried_not_yet key row old came number new tried is =
+    subst (λ (c : Came). TriesOn key row old c new) (not_yet_at came.count came.stop number is) tried
+
+pub tried_end : (key : Key) (row : Row) (old : Calling) (came : Came) (new : Calling)
+    → TriesOn key row old came new → found_of came ≡ found.End
+    → TriesOn key row old (came_to 0 stop.End) new
+tried_end key row old came new tried is =
+    subst (λ (c : Came). TriesOn key row old c new) (end_at came.count came.stop is) tried
+
+-- a try that gave no byte, and a sleep
+pub sleeps_on : (key : Key) (row : Row) (old between : Calling) (came : Came) (number : ℕ)
+    (rendez : RendezId) (after : Process) → TriesOn key row old came between
+    → found_of came ≡ found.NotYet number → rendez ≡ reader_rendez row
+    → Sleeps between.reader.process rendez number no_notes after
+    → SleepsOn key row old (calling (record between.reader { process = after }) between.buffer)
+sleeps_on key row old between came number rendez after tried told is slept =
     record {
       number = number;
-      found = found_before key number old between after found;
-      failed = fails_asleep words old.process (reader_rendez row) number after why
+      before = between.reader.process;
+      tried = tried_not_yet key row old came number between tried told;
+      slept = subst (λ (r : RendezId). Sleeps between.reader.process r number no_notes after) is
+          slept;
+    }
+
+-- and one that did not end well
+pub fails_on : (words : Words) (key : Key) (row : Row) (old between : Calling) (came : Came)
+    (number : ℕ) (rendez : RendezId) (after : Process) (why : Fault) → key.first ≡ 0
+    → HasRow words row → rendez ≡ reader_rendez row
+    → TriesOn key row old came between → found_of came ≡ found.NotYet number
+    → WhyNotSlept words between.reader.process rendez number after why
+    → FailsOn key row old why (calling (record between.reader { process = after }) between.buffer)
+fails_on words key row old between came number rendez after why first has is tried told failed =
+    let none = tried_not_yet key row old came number between tried told in
+    record {
+      number = number;
+      before = between.reader.process;
+      tried = none;
+      failed = fails_asleep words between.reader.process (reader_rendez row) number after why
           (omega (arith, has))
-          (not_yet_low key number old.account between.account first found.none.entered)
-          (subst (λ (w : Words). WhyNotSlept w old.process (reader_rendez row) number after why)
-          words_are
-          (subst (λ (r : RendezId). WhyNotSlept words' old.process r number after why) is
-          (subst (λ (p : Process). WhyNotSlept words' p rendez number after why) found.none.process
-          told)));
+          (not_yet_low key number none.fills.filling.taker.account between.reader.account first
+          none.fills.stopped.1.nothing.entered)
+          (subst (λ (r : RendezId). WhyNotSlept words between.reader.process r number after why) is
+          failed);
     }
 
 -- such a fault is answered by no other step of a write

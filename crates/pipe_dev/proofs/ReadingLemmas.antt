@@ -23,12 +23,12 @@ use Rattle.block_queue.specs.Places.{IsQueueState}
 use Rattle.block_queue.proofs.RuleMoves.{history_fits}
 use Rattle.block_queue.proofs.SeatLemmas.{entered_own}
 use Rattle.block_queue.proofs.StateLemmas.{begun_is}
-use Rattle.pipe_dev.specs.declared.row.Row.{Row}
 use Rattle.pipe_dev.specs.CallLaws.{WhatIsReadIsRight}
-use Rattle.pipe_dev.specs.Chain.{AddsPart, AddsNothing, ReadStep, IsNoBlock, reader_in}
+use Rattle.pipe_dev.specs.Chain.{AddsPart, AddsNothing, ReadStep, IsNoBlock, taker_in}
 use Rattle.pipe_dev.specs.Finishing.{left_state}
 use Rattle.pipe_dev.specs.Parts.{Part, pieces_of, continued, with_part, whole_from, whole_at}
-use Rattle.pipe_dev.specs.ReadCalls.{GoesOn, TakesOut, part_of, rest_of}
+use Rattle.pipe_dev.specs.Filling.{IsLeft, IsTakenOut}
+use Rattle.pipe_dev.specs.Parts.{part_of, rest_of}
 use Rattle.pipe_dev.specs.Reading.{Reading, IsReading, IsRight, IsRest, seen_state, first_reading}
 use Rattle.pipe_dev.specs.Rounds.{Rounds}
 use Rattle.pipe_dev.proofs.LawLemmas.{OnlyAccepts, only_accepts, none_since, read_within}
@@ -148,7 +148,7 @@ still_right before after parts rest accepts within right =
     }
 
 -- others did since what they did, and no block was taken out
-since_accepts : (key : Key) (entry : Entry) (old new : Account Entry)
+pub since_accepts : (key : Key) (entry : Entry) (old new : Account Entry)
     → IsTrue (has_number old.shares 0)
     → KnowsQueue key old → (enters : Enters key entry old new)
     → OnlyAccepts (left_state key old.seen) (left_state key enters.adds.past)
@@ -246,31 +246,21 @@ takes_right key past left parts most some next place right =
     taken = length-take-le k accepted
         (let within = slice_get_within accepted k write next in omega (arith, within))
 
-got_right : (key : Key) (row : Row) (old new : Reading) → key.first ≡ 0 → IsReading key old
-    → (adds : AddsPart key row old new) → IsReading key new
-got_right key row old new first is adds = by adds.got.next
+got_right : (key : Key) (old new : Reading) → key.first ≡ 0 → IsReading key old
+    → (adds : AddsPart key old new) → IsReading key new
+got_right key old new first is adds = by adds.taken.next
   where
     left : Part
-    left = adds.got.left
+    left = adds.taken.left
 
-    most : ℕ
-    most = length adds.buffer
-
-    some : 0 < most
-    some = room adds.buffer adds.some_room
-      where
-        room : (buffer : List ℕ) → buffer ≢ [] → 0 < length buffer
-        room [] empty = absurd (empty refl)
-        room (byte ∷ bytes) empty = omega arith
-
-    now : (s : PipeState) → IsRight s (part_of most left ∷ old.parts) (rest_of most left)
+    now : (s : PipeState) → IsRight s (part_of adds.room left ∷ old.parts) (rest_of adds.room left)
         → IsRight s new.parts new.rest
     now s right =
-        subst (λ (r : Option Part). IsRight s new.parts r) (sym adds.got.rest)
-        (subst (λ (ps : List Part). IsRight s ps (rest_of most left)) (sym adds.parts) right)
+        subst (λ (r : Option Part). IsRight s new.parts r) (sym adds.taken.rest)
+        (subst (λ (ps : List Part). IsRight s ps (rest_of adds.room left))
+        (sym (adds.parts ∙ ap (λ (p : Part). p ∷ old.parts) adds.taken.part_is)) right)
 
-    by : GoesOn (reader_in old adds.before) left (reader_in new adds.after)
-        ⊎ TakesOut key row (reader_in old adds.before) left (reader_in new adds.after)
+    by : IsLeft (taker_in old) left (taker_in new) ⊎ IsTakenOut key (taker_in old) left (taker_in new)
         → IsReading key new
     by (inl goes) =
         record {
@@ -279,7 +269,8 @@ got_right key row old new first is adds = by adds.got.next
           knows = subst (λ (a : Account Entry). KnowsQueue key a) (sym goes.account) is.knows;
           right = subst (λ (a : Account Entry). IsRight (left_state key a.seen) new.parts new.rest)
               (sym goes.account)
-              (now (seen_state key old) (goes_on_right (seen_state key old) left old.parts most some
+              (now (seen_state key old)
+              (goes_on_right (seen_state key old) left old.parts adds.room adds.some_room
               (subst (λ (r : Option Part). IsRight (seen_state key old) old.parts r) goes.left_is
               is.right)));
         }
@@ -298,17 +289,17 @@ got_right key row old new first is adds = by adds.got.next
           right = subst (λ (h : List Entry). IsRight (left_state key h) new.parts new.rest)
               (sym (seen_now key entry old.account new.account enters))
               (now (left_state key (entry ∷ enters.adds.past))
-              (takes_right key enters.adds.past left old.parts most some right.may.next
-              (omega (arith, begun, number, first))
+              (takes_right key enters.adds.past left old.parts adds.room adds.some_room
+              right.may.next (omega (arith, begun, number, first))
               (subst (λ (r : Option Part). IsRight (left_state key enters.adds.past) old.parts r)
               takes.none_left
               (right_before key entry old new.account is enters))));
         }
 
-one_step : (key : Key) (row : Row) (old new : Reading) → key.first ≡ 0 → IsReading key old
-    → ReadStep key row old new → IsReading key new
-one_step key row old new first is (inl adds) = got_right key row old new first is adds
-one_step key row old new first is (inr adds) = nothing_read key old new is adds
+one_step : (key : Key) (old new : Reading) → key.first ≡ 0 → IsReading key old
+    → ReadStep key old new → IsReading key new
+one_step key old new first is (inl adds) = got_right key old new first is adds
+one_step key old new first is (inr adds) = nothing_read key old new is adds
 
 first_right : (key : Key) → IsReading key (first_reading (reader_account key.writers))
 first_right key =
@@ -318,15 +309,15 @@ first_right key =
       right = record { whole = refl; some_left = tt };
     }
 
-all_steps : (key : Key) (row : Row) (times : ℕ) (reading : Reading) → key.first ≡ 0
-    → Rounds (ReadStep key row) times (first_reading (reader_account key.writers)) reading
+all_steps : (key : Key) (times : ℕ) (reading : Reading) → key.first ≡ 0
+    → Rounds (ReadStep key) times (first_reading (reader_account key.writers)) reading
     → IsReading key reading
-all_steps key row zero reading first steps =
+all_steps key zero reading first steps =
     subst (λ (r : Reading). IsReading key r) (sym steps) (first_right key)
-all_steps key row (suc times) reading first steps =
-    one_step key row steps.between reading first
-    (all_steps key row times steps.between first steps.rounds) steps.last
+all_steps key (suc times) reading first steps =
+    one_step key steps.between reading first
+    (all_steps key times steps.between first steps.rounds) steps.last
 
 pub what_is_read_is_right : WhatIsReadIsRight
-what_is_read_is_right key row reading made =
-    all_steps key row made.times reading made.first made.steps
+what_is_read_is_right key reading made =
+    all_steps key made.times reading made.first made.steps

@@ -42,20 +42,20 @@ use Rattle.pipe_dev.proofs.WrittenLemmas.{writes_add_what_was_accepted, hangups_
 -- ---- a read end
 
 -- some steps of calls, one after the other
-pub record Steps (key : Key) (row : Row) (old new : Reading) : Type 0 where
+pub record Steps (key : Key) (old new : Reading) : Type 0 where
   pub times : ℕ
-  pub steps : Rounds (ReadStep key row) times old new
+  pub steps : Rounds (ReadStep key) times old new
 
 -- steps behind steps
-then : (key : Key) (row : Row) (old between new : Reading) (times : ℕ) → Steps key row old between
-    → Rounds (ReadStep key row) times between new → Steps key row old new
-then key row old between new zero first rounds =
+then : (key : Key) (old between new : Reading) (times : ℕ) → Steps key old between
+    → Rounds (ReadStep key) times between new → Steps key old new
+then key old between new zero first rounds =
     record {
       times = first.times;
-      steps = subst (Rounds (ReadStep key row) first.times old) (sym rounds) first.steps;
+      steps = subst (Rounds (ReadStep key) first.times old) (sym rounds) first.steps;
     }
-then key row old between new (suc times) first rounds =
-    let before = then key row old between rounds.between times first rounds.rounds in
+then key old between new (suc times) first rounds =
+    let before = then key old between rounds.between times first rounds.rounds in
     record {
       times = suc before.times;
       steps = record {
@@ -67,21 +67,20 @@ then key row old between new (suc times) first rounds =
 
 -- an end that stays where it is has read what it has read
 stays_read : (old new : ReadSide) (parts : List Part) → IsSameReadEnd old new
-    → IsMade (key_of old.queue) old.row (reading_of new parts) → HasReadJust new parts
+    → IsMade (key_of old.queue) (reading_of new parts) → HasReadJust new parts
 stays_read old new parts same made =
-    subst (λ (q : Queue). IsMade (key_of q) new.row (reading_of new parts)) (sym same.queue)
-    (subst (λ (r : Row). IsMade (key_of old.queue) r (reading_of new parts)) (sym same.row) made)
+    subst (λ (q : Queue). IsMade (key_of q) (reading_of new parts)) (sym same.queue) made
 
 -- steps add what they add
 steps_add : (Adds : List Part → List Part → Type 0) (old new : ReadSide)
     (parts parts' : List Part) (times : ℕ) → HasReadJust old parts → IsSameReadEnd old new
     → Adds parts parts'
-    → Rounds (ReadStep (key_of old.queue) old.row) times (reading_of old parts)
+    → Rounds (ReadStep (key_of old.queue)) times (reading_of old parts)
     (reading_of new parts')
     → AddsToRead Adds old parts new
 steps_add Adds old new parts parts' times made same adds rounds =
     let all =
-    then (key_of old.queue) old.row
+    then (key_of old.queue)
     (first_reading (reader_account (key_of old.queue).writers)) (reading_of old parts)
     (reading_of new parts') times
     (record { times = made.times; steps = made.steps }) rounds in
@@ -98,7 +97,7 @@ reads_add old new before after buffer answer buffer' room reads same parts made 
     let call =
     reads_are_steps (key_of old.queue) old.row (reader_of old before) buffer answer
     (reader_of new after) buffer' room reads parts in
-    steps_add (AddsRead answer buffer') old new parts call.parts' call.times made same call.added
+    steps_add (AddsRead old.row.mode answer buffer') old new parts call.parts' call.times made same call.added
     call.steps
 
 pub tries_add : TriesAddToTheirEnd
@@ -106,7 +105,7 @@ tries_add old new before after buffer answer buffer' room tries same parts made 
     let call =
     tries_are_steps (key_of old.queue) old.row (reader_of old before) buffer answer
     (reader_of new after) buffer' room tries parts in
-    steps_add (AddsTry answer buffer') old new parts call.parts' call.times made same call.added
+    steps_add (AddsTry old.row.mode answer buffer') old new parts call.parts' call.times made same call.added
     call.steps
 
 pub read_ends_hang_up : ReadEndsHangUp
@@ -232,7 +231,7 @@ pub finishes_find_accepted : FinishesFindAccepted
 finishes_find_accepted read parts writes held made gives =
     let key = key_of read.queue in
     let right =
-    what_is_read_is_right key read.row (reading_of read parts) made in
+    what_is_read_is_right key (reading_of read parts) made in
     record {
       accepted = (left_state key (gives parts).finishes.history).accepted;
       whole = all_accepted key (reading_of read parts) (shares_of writes) (holdings_of held) right

@@ -18,9 +18,10 @@ use Rattle.rendez_words.specs.Steps.{raises, takes}
 use Rattle.rendez_words.proofs.LawLemmas.{receipts_release}
 use Rattle.sleep_wakeup.specs.Calls.{Ends}
 use Rattle.pipe_dev.specs.declared.row.Row.{Row}
-use Rattle.pipe_dev.specs.Rendezes.{WakesOne, WakesWriters, reader_rendez, writer_rendez}
+use Rattle.pipe_dev.specs.Rendezes.{WakesOne, WakesWriters, WakesWith}
+use Rattle.pipe_dev.specs.Rendezes.{reader_rendez, writer_rendez}
 use Rattle.pipe_dev.specs.WaitLaws.{HasGoneOn, WritesWakeTheReader, ReadsWakeEachWriter}
-use Rattle.pipe_dev.specs.WaitLaws.{HangupsWakeAll}
+use Rattle.pipe_dev.specs.WaitLaws.{HangupsWakeAll, TriesWakeEachWriter}
 
 -- what has returned stays so
 returned_cons : (deed : Option Deed) (past : List Deed) (rendez level : ℕ)
@@ -149,6 +150,13 @@ pub reads_wake_each_writer : ReadsWakeEachWriter
 reads_wake_each_writer sizes s shows key row old new left takes gone writer low =
     releases sizes s shows new.process (writer_rendez row writer) (left.place + 1) gone
     (each_woken row row.writers (left.place + 1) old.process new.process takes.woken writer low)
+
+pub tries_wake_each_writer : TriesWakeEachWriter
+tries_wake_each_writer sizes s shows key row old came new tries gone number is writer low =
+    releases sizes s shows new.reader.process (writer_rendez row writer) number gone
+    (each_woken row row.writers number old.reader.process new.reader.process
+    (subst (λ (n : Option ℕ). WakesWith row n old.reader.process new.reader.process) is
+    tries.woken) writer low)
 
 pub hangups_wake_all : HangupsWakeAll
 hangups_wake_all sizes s shows row before after wakes gone =

@@ -11,6 +11,7 @@ use Rattle.histories.specs.History.{IsHistory, entries_by}
 use Rattle.sync_base.specs.declared.fault.Fault.TheVariants as fault
 use Rattle.sync_base.specs.declared.ids.RendezId.{RendezId}
 use Rattle.sync_base.specs.declared.limits.TheConstants.{LAST_WRITE, TOP_LEVEL}
+use Rattle.sync_base.specs.declared.mode.Mode.TheVariants.{Message}
 use Rattle.sync_base.specs.declared.note.Note.TheVariants.{Interrupt, ClosedPipe}
 use Rattle.sync_base.specs.declared.note.NoteSet.{NoteSet}
 use Rattle.sync_base.specs.NoteSet.{no_notes, only}
@@ -332,7 +333,7 @@ abbrev at_rendez : ℕ → RendezId
 at_rendez number = record { 0 = number }
 
 abbrev rendez_row : Row
-rendez_row = record { first = 3; writers = 1; small = omega arith }
+rendez_row = record { first = 3; writers = 1; mode = Message; small = omega arith }
 
 abbrev woke : Process → ℕ → ℕ → Process
 woke before number level = finds_nobody (raises before (at_rendez number) level)
@@ -543,7 +544,7 @@ module _ (table : TableId) where
   -- ---- what calls make of a read end
 
   -- two calls: nothing was there; and then one byte of two was read
-  made_by_two_calls : IsMade tight rendez_row
+  made_by_two_calls : IsMade tight
       (record {
         account = has_taken;
         parts = record { place = 0; writer = 0; bytes = 97 ∷ [] } ∷ [];
@@ -567,20 +568,13 @@ module _ (table : TableId) where
             };
           };
           last = inl record {
-            before = reader_woken;
-            after = woke reader_woken 4 1;
-            buffer = 0 ∷ [];
-            buffer' = 97 ∷ [];
-            count = 1;
-            some_room = λ none. cc;
-            got = record {
+            room = 1;
+            some_room = omega arith;
+            part = record { place = 0; writer = 0; bytes = 97 ∷ [] };
+            taken = record {
               left = record { place = 0; writer = 0; bytes = a };
-              next = inr record {
-                none_left = refl;
-                taken = takes_out;
-                woken = wakes_the_writer;
-              };
-              filled = record { count_is = refl; bytes = refl };
+              next = inr record { none_left = refl; taken = takes_out };
+              part_is = refl;
               rest = refl;
             };
             parts = refl;
@@ -588,14 +582,13 @@ module _ (table : TableId) where
         };
       }
 
-  made_of_nothing : IsMade tight rendez_row
+  made_of_nothing : IsMade tight
       (record {
         account = unread;
         parts = record { place = 0; writer = 0; bytes = a } ∷ [];
         rest = None;
       }) → ⊥
-  made_of_nothing made =
-      let whole = (what_is_read_is_right tight rendez_row _ made).right.whole in cc
+  made_of_nothing made = let whole = (what_is_read_is_right tight _ made).right.whole in cc
 
   abbrev nothing_read : Account Entry → Reading
   nothing_read account = record { account = account; parts = []; rest = None }
@@ -614,7 +607,7 @@ module _ (table : TableId) where
         parts = refl;
       }
 
-  made_by_an_end : IsMade tight rendez_row (nothing_read has_ended)
+  made_by_an_end : IsMade tight (nothing_read has_ended)
   made_by_an_end =
       record {
         first = refl;
@@ -627,7 +620,7 @@ module _ (table : TableId) where
       }
 
   -- a call hung the direction up
-  made_by_a_hangup : IsMade tight rendez_row (nothing_read has_hung)
+  made_by_a_hangup : IsMade tight (nothing_read has_hung)
   made_by_a_hangup =
       record {
         first = refl;
@@ -660,15 +653,15 @@ module _ (table : TableId) where
       let same : adds.entry ≡ entry.Block 0 a 1 = cc in
       subst IsNoBlock same adds.no_block
 
-  made_of_a_part_at_the_end : IsMade tight rendez_row
+  made_of_a_part_at_the_end : IsMade tight
       (record { account = has_ended; parts = first_write ∷ []; rest = None }) → ⊥
   made_of_a_part_at_the_end made =
-      let whole = (what_is_read_is_right tight rendez_row _ made).right.whole in cc
+      let whole = (what_is_read_is_right tight _ made).right.whole in cc
 
-  made_of_a_rest_at_a_hangup : IsMade tight rendez_row
+  made_of_a_rest_at_a_hangup : IsMade tight
       (record { account = has_hung; parts = []; rest = Some first_write }) → ⊥
   made_of_a_rest_at_a_hangup made =
-      let whole = (what_is_read_is_right tight rendez_row _ made).right.whole in cc
+      let whole = (what_is_read_is_right tight _ made).right.whole in cc
 
   -- ---- a write
 
@@ -887,7 +880,7 @@ module _ (table : TableId) where
 
 module _ (queue : Queue) (read_account : Account Entry) where
   abbrev two_writers : Row
-  two_writers = record { first = 3; writers = 2; small = omega arith }
+  two_writers = record { first = 3; writers = 2; mode = Message; small = omega arith }
 
   abbrev read_side : ReadSide
   read_side =

@@ -18,8 +18,8 @@ use Rattle.pipe_dev.specs.declared.row.Row.{Row}
 use Rattle.pipe_dev.specs.Chain.{HasWritten, AddsOne, written_by, IsNoBlock}
 use Rattle.pipe_dev.specs.Finishing.{Finishes, Holdings}
 use Rattle.pipe_dev.specs.Laws.{NoWriteAfterHangup, read_and_held}
-use Rattle.pipe_dev.specs.Parts.{Part, pieces_of, bytes_by}
-use Rattle.pipe_dev.specs.ReadCalls.{Reader, Gets, GoesOn, TakesOut, IsFilled, part_of, rest_of}
+use Rattle.pipe_dev.specs.Parts.{Part, pieces_of, bytes_by, part_of, rest_of}
+use Rattle.pipe_dev.specs.ReadCalls.{Reader, Gets, GoesOn, TakesOut, IsFilled}
 use Rattle.pipe_dev.specs.Reading.{IsRight}
 use Rattle.pipe_dev.specs.Rendezes.{WakesOne, WakesWriters, reader_rendez}
 use Rattle.pipe_dev.specs.Rounds.{FailsAsleep}
@@ -180,7 +180,7 @@ module _ (before_all : Process) where
   woke before rendez level = finds_nobody (raises before rendez level)
 
   abbrev two_writers : Row
-  two_writers = record { first = 3; writers = 2; small = omega arith }
+  two_writers = record { first = 3; writers = 2; mode = Message; small = omega arith }
 
   wakes_one : WakesOne idle (reader_rendez two_writers) 5 (woke idle (record { 0 = 3 }) 5)
   wakes_one =

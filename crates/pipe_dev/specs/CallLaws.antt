@@ -23,25 +23,25 @@ ReadsAreSteps =
     (key : Key) (row : Row) (old : Reader) (buffer : List ℕ) (answer : Result ReadAnswer Fault)
     (new : Reader) (buffer' : List ℕ) → buffer ≢ []
     → Reads key row old buffer answer new buffer'
-    → (parts : List Part) → IsOfSteps key row (AddsRead answer buffer') old parts new
+    → (parts : List Part) → IsOfSteps key (AddsRead row.mode answer buffer') old parts new
 
 abbrev pub TriesAreSteps : Type 0
 TriesAreSteps =
     (key : Key) (row : Row) (old : Reader) (buffer : List ℕ) (answer : TryAnswer)
     (new : Reader) (buffer' : List ℕ) → buffer ≢ []
     → Tries key row old buffer answer new buffer'
-    → (parts : List Part) → IsOfSteps key row (AddsTry answer buffer') old parts new
+    → (parts : List Part) → IsOfSteps key (AddsTry row.mode answer buffer') old parts new
 
 abbrev pub HangupsAreSteps : Type 0
 HangupsAreSteps =
-    (key : Key) (row : Row) (old new : Reader)
+    (key : Key) (old new : Reader)
     → Enters key (Hung 0) old.account new.account → new.rest ≡ old.rest
-    → (parts : List Part) → IsOfSteps key row AddsNone old parts new
+    → (parts : List Part) → IsOfSteps key AddsNone old parts new
 
 -- what such steps make of a read end of a new pipe has read just what it took out
 abbrev pub WhatIsReadIsRight : Type 0
 WhatIsReadIsRight =
-    (key : Key) (row : Row) (reading : Reading) → IsMade key row reading → IsReading key reading
+    (key : Key) (reading : Reading) → IsMade key reading → IsReading key reading
 
 -- a new write end has written nothing; a write adds its bytes exactly where it answers a number;
 -- and a hangup adds nothing

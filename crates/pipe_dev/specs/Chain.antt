@@ -1,12 +1,13 @@
 -- What the calls of the ends make, one after the other: of a read end what it has read, and of a
 -- write end what it has written.
-use Rattle.std.specs.Prelude.{◌≡◌, ◌≢◌, ◌⊎◌, ◌+◌, ℕ, ⊤, List, [], ◌∷◌, length, take, IsTrue}
+use Rattle.std.specs.Prelude.{◌≡◌, ◌⊎◌, ◌+◌, ◌<◌, ℕ, ⊤, List, [], ◌∷◌, ◌++◌, take, IsTrue}
 use Rattle.std.specs.Prelude.{Result, Ok, Err}
 use Rattle.std.specs.List.{AllByRecursion}
 use Rattle.histories.specs.declared.account.Account.{Account}
 use Rattle.histories.specs.Account.{has_number}
 use Rattle.sync_base.specs.declared.fault.Fault.{Fault}
-use Rattle.rendez_words.specs.Process.{Process}
+use Rattle.sync_base.specs.declared.mode.Mode.{Mode}
+use Rattle.sync_base.specs.declared.mode.Mode.TheVariants.{Message, Stream}
 use Rattle.block_queue.specs.declared.entry.Entry.{Entry}
 use Rattle.block_queue.specs.declared.entry.Entry.TheVariants.{Block}
 use Rattle.block_queue.specs.declared.view.Key.{Key}
@@ -16,10 +17,10 @@ use Rattle.pipe_dev.specs.declared.answers.ReadAnswer.{ReadAnswer}
 use Rattle.pipe_dev.specs.declared.answers.ReadAnswer.TheVariants as read
 use Rattle.pipe_dev.specs.declared.answers.TryAnswer.{TryAnswer}
 use Rattle.pipe_dev.specs.declared.answers.TryAnswer.TheVariants as try
-use Rattle.pipe_dev.specs.declared.row.Row.{Row}
+use Rattle.pipe_dev.specs.Filling.{Taker, TakesPart}
 use Rattle.pipe_dev.specs.Finishing.{accepted_in}
-use Rattle.pipe_dev.specs.Parts.{Part}
-use Rattle.pipe_dev.specs.ReadCalls.{Reader, Gets, part_of}
+use Rattle.pipe_dev.specs.Parts.{Part, bytes_of}
+use Rattle.pipe_dev.specs.ReadCalls.{Reader}
 use Rattle.pipe_dev.specs.Reading.{Reading, first_reading}
 use Rattle.pipe_dev.specs.Rounds.{Rounds}
 
@@ -30,20 +31,16 @@ abbrev pub reading_at : Reader → List Part → Reading
 reading_at reader parts =
     record { account = reader.account; parts = parts; rest = reader.rest }
 
-abbrev pub reader_in : Reading → Process → Reader
-reader_in reading process =
-    record { account = reading.account; rest = reading.rest; process = process }
+abbrev pub taker_in : Reading → Taker
+taker_in reading = record { account = reading.account; rest = reading.rest }
 
--- a call got a part, for which its buffer has room
-pub record AddsPart (key : Key) (row : Row) (old new : Reading) : Type 0 where
-  pub before : Process
-  pub after : Process
-  pub buffer : List ℕ
-  pub buffer' : List ℕ
-  pub count : ℕ
-  pub some_room : buffer ≢ []
-  pub got : Gets key row (reader_in old before) buffer count (reader_in new after) buffer'
-  pub parts : new.parts ≡ part_of (length buffer) got.left ∷ old.parts
+-- a part was read, for which there was room
+pub record AddsPart (key : Key) (old new : Reading) : Type 0 where
+  pub room : ℕ
+  pub some_room : 0 < room
+  pub part : Part
+  pub taken : TakesPart key room (taker_in old) part (taker_in new)
+  pub parts : new.parts ≡ part ∷ old.parts
 
 -- the entry takes no block out
 abbrev pub IsNoBlock : Entry → Type 0
@@ -58,14 +55,14 @@ pub record AddsNothing (key : Key) (old new : Reading) : Type 0 where
   pub rest : new.rest ≡ old.rest
   pub parts : new.parts ≡ old.parts
 
-abbrev pub ReadStep : Key → Row → Reading → Reading → Type 0
-ReadStep key row old new = AddsPart key row old new ⊎ AddsNothing key old new
+abbrev pub ReadStep : Key → Reading → Reading → Type 0
+ReadStep key old new = AddsPart key old new ⊎ AddsNothing key old new
 
 -- calls made this of a read end of a new pipe, whose writes are numbered from 1 on
-pub record IsMade (key : Key) (row : Row) (reading : Reading) : Type 0 where
+pub record IsMade (key : Key) (reading : Reading) : Type 0 where
   pub first : key.first ≡ 0
   pub times : ℕ
-  pub steps : Rounds (ReadStep key row) times (first_reading (reader_account key.writers)) reading
+  pub steps : Rounds (ReadStep key) times (first_reading (reader_account key.writers)) reading
 
 -- one part more, whose bytes stand in the buffer
 pub record AddsOne (count : ℕ) (buffer' : List ℕ) (parts parts' : List Part) : Type 0 where
@@ -73,27 +70,43 @@ pub record AddsOne (count : ℕ) (buffer' : List ℕ) (parts parts' : List Part)
   pub bytes : part.bytes ≡ take count buffer'
   pub parts_are : parts' ≡ part ∷ parts
 
--- what an answer adds to the parts: one where it gave bytes, and else nothing
-abbrev pub AddsRead : Result ReadAnswer Fault → List ℕ → List Part → List Part → Type 0
-AddsRead (Ok (read.Got count)) buffer' parts parts' = AddsOne count buffer' parts parts'
-AddsRead (Ok read.End) buffer' parts parts' = parts' ≡ parts
-AddsRead (Err why) buffer' parts parts' = parts' ≡ parts
+-- Some parts more, whose bytes are these, one part behind the other. Own: a stream read adds them; a
+-- part of no bytes is of an empty write that was passed.
+pub record AddsParts (bytes : List ℕ) (parts parts' : List Part) : Type 0 where
+  pub added : List Part
+  pub bytes_are : bytes_of added ≡ bytes
+  pub parts_are : parts' ≡ added ++ parts
 
-abbrev pub AddsTry : TryAnswer → List ℕ → List Part → List Part → Type 0
-AddsTry (try.Got count) buffer' parts parts' = AddsOne count buffer' parts parts'
-AddsTry try.NotYet buffer' parts parts' = parts' ≡ parts
-AddsTry try.End buffer' parts parts' = parts' ≡ parts
+-- What an answer adds to the parts. In message mode: one where it gave bytes, and else nothing. In
+-- stream mode: those of the bytes that it gave, and else of the empty writes that it passed.
+abbrev pub AddsRead :
+    Mode → Result ReadAnswer Fault → List ℕ → List Part → List Part → Type 0
+AddsRead Message (Ok (read.Got count)) buffer' parts parts' = AddsOne count buffer' parts parts'
+AddsRead Message (Ok read.End) buffer' parts parts' = parts' ≡ parts
+AddsRead Message (Err why) buffer' parts parts' = parts' ≡ parts
+AddsRead Stream (Ok (read.Got count)) buffer' parts parts' =
+    AddsParts (take count buffer') parts parts'
+AddsRead Stream (Ok read.End) buffer' parts parts' = AddsParts [] parts parts'
+AddsRead Stream (Err why) buffer' parts parts' = AddsParts [] parts parts'
+
+abbrev pub AddsTry : Mode → TryAnswer → List ℕ → List Part → List Part → Type 0
+AddsTry Message (try.Got count) buffer' parts parts' = AddsOne count buffer' parts parts'
+AddsTry Message try.NotYet buffer' parts parts' = parts' ≡ parts
+AddsTry Message try.End buffer' parts parts' = parts' ≡ parts
+AddsTry Stream (try.Got count) buffer' parts parts' = AddsParts (take count buffer') parts parts'
+AddsTry Stream try.NotYet buffer' parts parts' = AddsParts [] parts parts'
+AddsTry Stream try.End buffer' parts parts' = AddsParts [] parts parts'
 
 abbrev pub AddsNone : List Part → List Part → Type 0
 AddsNone parts parts' = parts' ≡ parts
 
 -- a call is such steps, which add this to the parts
-pub record IsOfSteps (key : Key) (row : Row) (Adds : List Part → List Part → Type 0)
+pub record IsOfSteps (key : Key) (Adds : List Part → List Part → Type 0)
     (old : Reader) (parts : List Part) (new : Reader) : Type 0 where
   pub parts' : List Part
   pub added : Adds parts parts'
   pub times : ℕ
-  pub steps : Rounds (ReadStep key row) times (reading_at old parts) (reading_at new parts')
+  pub steps : Rounds (ReadStep key) times (reading_at old parts) (reading_at new parts')
 
 -- ---- a write end
 

@@ -56,7 +56,7 @@ found_at read parts held =
 abbrev pub EachWriteIsReadWholeAndOnce : Type 0
 EachWriteIsReadWholeAndOnce =
     (read : ReadSide) (parts : List Part) (writes : List WriteSide) (held : Held)
-    → IsMade (key_of read.queue) read.row (reading_of read parts)
+    → IsMade (key_of read.queue) (reading_of read parts)
     → GivesHeld read writes held
     → AllByRecursion (IsAllWritten (found_at read parts held)) writes
 

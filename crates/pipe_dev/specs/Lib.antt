@@ -4,6 +4,8 @@ pub mod Rendezes
 pub mod Ends
 pub mod Openings
 pub mod Rounds
+pub mod Filling
+pub mod FillSteps
 pub mod ReadCalls
 pub mod WriteCalls
 pub mod ReadSteps

@@ -3,6 +3,8 @@ use Rattle.std.specs.Prelude.{◌≡◌, ◌≤◌, ℕ, ◌+◌, ◌*◌, [], L
 use Rattle.std.specs.List.{AllByRecursion}
 use Rattle.std.specs.Vec.{vec_capacity}
 use Rattle.histories.specs.Account.{numbers_from}
+use Rattle.sync_base.specs.declared.mode.Mode.{Mode}
+use Rattle.sync_base.specs.declared.mode.Mode.TheVariants.{Message, Stream}
 use Rattle.rendez_words.specs.declared.words.Words.{Words}
 use Rattle.block_queue.specs.declared.queue.Queue.{Queue}
 use Rattle.block_queue.specs.declared.seats.PutSeat.{PutSeat}
@@ -46,13 +48,23 @@ pub record IsStartOf (pipe : Pipe) (start : PipeStart) : Type 0 where
   pub there : IsLaneOf pipe.there start.there
   pub back : IsLaneOf pipe.back start.back
 
--- a new pipe of this size, with its Rendez in a row from this number on: first those of the one
+-- a new pipe of this size and mode, with its Rendez in a row from this number on: first those of the one
 -- direction, and then those of the other
-pub record Opens (limit writers first : ℕ) (opened : Opened) : Type 0 where
+pub record OpensIn (mode : Mode) (limit writers first : ℕ) (opened : Opened) : Type 0 where
   pub there_key : key_of opened.pipe.there ≡ key_for limit writers
   pub back_key : key_of opened.pipe.back ≡ key_for limit writers
   pub there_first : opened.start.there.row.first ≡ first
   pub back_first : opened.start.back.row.first ≡ first + 1 + writers
+  pub there_mode : opened.start.there.row.mode ≡ mode
+  pub back_mode : opened.start.back.row.mode ≡ mode
+
+-- a new pipe, whose reads stop at the end of a write
+abbrev pub Opens : ℕ → ℕ → ℕ → Opened → Type 0
+Opens limit writers first opened = OpensIn Message limit writers first opened
+
+-- a new pipe, whose reads go on from write to write
+abbrev pub OpensStream : ℕ → ℕ → ℕ → Opened → Type 0
+OpensStream limit writers first opened = OpensIn Stream limit writers first opened
 
 -- its Rendez are the kernel's
 pub record HasRows (words : Words) (opened : Opened) : Type 0 where

@@ -1,7 +1,7 @@
 -- What a reader got of a direction, part by part, the newest first; and the pieces that the parts
 -- of one write make.
-use Rattle.std.specs.Prelude.{◌==◌, ◌&&◌, ◌+◌, ℕ, Bool, true, false, not, if◌then◌else◌}
-use Rattle.std.specs.Prelude.{List, [], ◌∷◌, ◌++◌, map, Option, Some, None}
+use Rattle.std.specs.Prelude.{◌==◌, ◌&&◌, ◌+◌, ℕ, Bool, true, false, not, if◌then◌else◌, nat_le}
+use Rattle.std.specs.Prelude.{List, [], ◌∷◌, ◌++◌, length, take, drop, map, Option, Some, None}
 use Rattle.std.specs.List.{filter}
 use Rattle.sync_base.specs.Write.{Write}
 
@@ -11,6 +11,16 @@ pub record Part : Type 0 where
   pub place : ℕ
   pub writer : ℕ
   pub bytes : List ℕ
+
+-- After pipe(3). What a read of at most so many bytes gives of what is left of a write, and what
+-- it leaves: a write that is used up is read whole.
+abbrev pub part_of : ℕ → Part → Part
+part_of most left = record left { bytes = take most left.bytes }
+
+abbrev pub rest_of : ℕ → Part → Option Part
+rest_of most left =
+    if nat_le (length left.bytes) most then None
+    else Some (record left { bytes = drop most left.bytes })
 
 abbrev pub is_empty : List ℕ → Bool
 is_empty [] = true
@@ -56,3 +66,8 @@ continued (Some rest) parts = rest ∷ parts
 abbrev pub bytes_by : ℕ → List Part → List (List ℕ)
 bytes_by writer pieces =
     map (λ piece. piece.bytes) (filter (λ piece. piece.writer == writer) pieces)
+
+-- the bytes of parts, the newest first, one part behind the other
+abbrev pub bytes_of : List Part → List ℕ
+bytes_of [] = []
+bytes_of (part ∷ parts) = bytes_of parts ++ part.bytes

@@ -1,9 +1,12 @@
 -- What the calls of a read end do, after pipe(2), pipe(3) and read(2).
-use Rattle.std.specs.Prelude.{◌≡◌, ◌⊎◌, ◌+◌, ◌++◌, ℕ, nat_le, List, length, take, drop}
-use Rattle.std.specs.Prelude.{Option, Some, None, Result, Ok, Err, if◌then◌else◌}
+use Rattle.std.specs.Prelude.{◌≡◌, ◌⊎◌, ◌+◌, ◌++◌, ℕ, nat_lt, Bool, true}
+use Rattle.std.specs.Prelude.{List, length, drop}
+use Rattle.std.specs.Prelude.{Option, Some, None, Result, Ok, Err}
 use Rattle.histories.specs.declared.account.Account.{Account}
 use Rattle.sync_base.specs.declared.fault.Fault.{Fault}
 use Rattle.sync_base.specs.declared.fault.Fault.TheVariants as fault
+use Rattle.sync_base.specs.declared.mode.Mode.{Mode}
+use Rattle.sync_base.specs.declared.mode.Mode.TheVariants.{Message, Stream}
 use Rattle.sync_base.specs.NoteSet.{no_notes}
 use Rattle.rendez_words.specs.Process.{Process}
 use Rattle.sleep_wakeup.specs.Calls.{Sleeps}
@@ -19,11 +22,15 @@ use Rattle.pipe_dev.specs.declared.answers.ReadAnswer.{ReadAnswer}
 use Rattle.pipe_dev.specs.declared.answers.ReadAnswer.TheVariants as read
 use Rattle.pipe_dev.specs.declared.answers.TryAnswer.{TryAnswer}
 use Rattle.pipe_dev.specs.declared.answers.TryAnswer.TheVariants as try
+use Rattle.pipe_dev.specs.declared.filling.Came.{Came}
+use Rattle.pipe_dev.specs.declared.filling.Stop.{Stop}
+use Rattle.pipe_dev.specs.declared.filling.Stop.TheVariants as stop
 use Rattle.pipe_dev.specs.declared.hand.ReadHand.{ReadHand}
 use Rattle.pipe_dev.specs.declared.row.Row.{Row}
 use Rattle.pipe_dev.specs.Ends.{ReadSide}
-use Rattle.pipe_dev.specs.Parts.{Part}
-use Rattle.pipe_dev.specs.Rendezes.{reader_rendez, WakesWriters}
+use Rattle.pipe_dev.specs.Filling.{Lending, FillsUp, last_number}
+use Rattle.pipe_dev.specs.Parts.{Part, part_of, rest_of}
+use Rattle.pipe_dev.specs.Rendezes.{reader_rendez, WakesWriters, WakesWith}
 use Rattle.pipe_dev.specs.Rounds.{Rounds, FailsAsleep}
 
 -- the reader between two steps of a call: what its seat knows, what is left of a write that was
@@ -38,16 +45,6 @@ reader_of side proc =
     record { account = side.account; rest = side.rest; process = proc.process }
 
 -- ---- the bytes
-
--- After pipe(3). What a read of at most so many bytes gives of what is left of a write, and what
--- it leaves: a write that is used up is read whole.
-abbrev pub part_of : ℕ → Part → Part
-part_of most left = record left { bytes = take most left.bytes }
-
-abbrev pub rest_of : ℕ → Part → Option Part
-rest_of most left =
-    if nat_le (length left.bytes) most then None
-    else Some (record left { bytes = drop most left.bytes })
 
 -- the buffer has the bytes of the part in front, and is as it was behind them
 pub record IsFilled (part : Part) (buffer buffer' : List ℕ) (count : ℕ) : Type 0 where
@@ -101,12 +98,6 @@ pub record IsNotYet (key : Key) (old new : Reader) : Type 0 where
   pub number : ℕ
   pub found : FindsNotYet key number old new
 
--- what a read that does not wait did, by its answer
-abbrev pub Tries : Key → Row → Reader → List ℕ → TryAnswer → Reader → List ℕ → Type 0
-Tries key row old buffer (try.Got count) new buffer' = Gets key row old buffer count new buffer'
-Tries key row old buffer try.NotYet new buffer' = IsNotYet key old new × (buffer' ≡ buffer)
-Tries key row old buffer try.End new buffer' = FindsEnd key old new × (buffer' ≡ buffer)
-
 -- ---- a read that waits
 
 -- it was answered NotYet, and slept on its own Rendez with the number of that answer, and well
@@ -145,15 +136,117 @@ pub record IsUntouchedRead (old : Reader) (buffer : List ℕ) (new : Reader) (bu
   pub same : new ≡ old
   pub buffer_same : buffer' ≡ buffer
 
+-- the reader that has this hand
+abbrev pub reader_with : ReadHand → Running → Reader
+reader_with hand proc =
+    record { account = take_account hand.seat; rest = hand.rest; process = proc.process }
+
+-- ---- in either mode
+
+-- a reader and the buffer that its call fills
+pub record Calling : Type 0 where
+  pub reader : Reader
+  pub buffer : List ℕ
+
+abbrev pub calling : Reader → List ℕ → Calling
+calling reader buffer = record { reader = reader; buffer = buffer }
+
+abbrev pub lending_of : Calling → Lending
+lending_of call =
+    record {
+      taker = record { account = call.reader.account; rest = call.reader.rest };
+      buffer = call.buffer;
+    }
+
+abbrev pub came_to : ℕ → Stop → Came
+came_to count why = record { count = count; stop = why }
+
+-- One try, in the mode of the direction. It filled the buffer part by part, up to where it stopped;
+-- and where it took writes out it then woke each writer, with the number of the last of them.
+pub record TriesOn (key : Key) (row : Row) (old : Calling) (came : Came) (new : Calling) :
+    Type 0 where
+  pub fills : FillsUp key row.mode (lending_of old) came (lending_of new)
+  pub woken : WakesWith row (last_number old.reader.rest fills.filling.parts)
+      old.reader.process new.reader.process
+
+-- whether a try that came so far is answered Got: it had enough, or it gave a byte at least
+abbrev pub is_got_by : Stop → Bool → Bool
+is_got_by stop.Enough some = true
+is_got_by (stop.NotYet number) some = some
+is_got_by stop.End some = some
+
+abbrev pub is_got : Came → Bool
+is_got came = is_got_by came.stop (nat_lt 0 came.count)
+
+-- Got: so many bytes
+pub record GivesBytes (key : Key) (row : Row) (old : Calling) (count : ℕ) (new : Calling) :
+    Type 0 where
+  pub why : Stop
+  pub tried : TriesOn key row old (came_to count why) new
+  pub got : is_got (came_to count why) ≡ true
+
+-- It gave no byte, for the next write was not there yet; it has passed the empty writes that it
+-- met, and slept on its own Rendez with the number of that answer, and well.
+pub record SleepsOn (key : Key) (row : Row) (old new : Calling) : Type 0 where
+  pub number : ℕ
+  pub before : Process
+  pub tried : TriesOn key row old (came_to 0 (stop.NotYet number))
+      (calling (record new.reader { process = before }) new.buffer)
+  pub slept : Sleeps before (reader_rendez row) number no_notes new.reader.process
+
+-- the sleep did not end well
+pub record FailsOn (key : Key) (row : Row) (old : Calling) (why : Fault) (new : Calling) :
+    Type 0 where
+  pub number : ℕ
+  pub before : Process
+  pub tried : TriesOn key row old (came_to 0 (stop.NotYet number))
+      (calling (record new.reader { process = before }) new.buffer)
+  pub failed : FailsAsleep before (reader_rendez row) number new.reader.process why
+
+-- how a read ends
+abbrev pub EndsOn : Key → Row → Calling → Result ReadAnswer Fault → Calling → Type 0
+EndsOn key row old (Ok (read.Got count)) new = GivesBytes key row old count new
+EndsOn key row old (Ok read.End) new = TriesOn key row old (came_to 0 stop.End) new
+EndsOn key row old (Err why) new = FailsOn key row old why new
+
+-- some times it gave no byte and slept; and then it ended
+pub record KeepsReading (key : Key) (row : Row) (old : Calling)
+    (answer : Result ReadAnswer Fault) (new : Calling) : Type 0 where
+  pub times : ℕ
+  pub between : Calling
+  pub slept : Rounds (SleepsOn key row) times old between
+  pub ended : EndsOn key row between answer new
+
+-- a try that was answered NotYet, with some number
+pub record IsNotYetOn (key : Key) (row : Row) (old new : Calling) : Type 0 where
+  pub number : ℕ
+  pub tried : TriesOn key row old (came_to 0 (stop.NotYet number)) new
+
+-- ---- by mode
+
+-- the one in message mode, the other in stream mode
+abbrev pub InMode : Mode → Type 0 → Type 0 → Type 0
+InMode Message OfMessages OfStream = OfMessages
+InMode Stream OfMessages OfStream = OfStream
+
+-- what a read that does not wait did, by its answer
+abbrev pub Tries : Key → Row → Reader → List ℕ → TryAnswer → Reader → List ℕ → Type 0
+Tries key row old buffer (try.Got count) new buffer' =
+    InMode row.mode (Gets key row old buffer count new buffer')
+    (GivesBytes key row (calling old buffer) count (calling new buffer'))
+Tries key row old buffer try.NotYet new buffer' =
+    InMode row.mode (IsNotYet key old new × (buffer' ≡ buffer))
+    (IsNotYetOn key row (calling old buffer) (calling new buffer'))
+Tries key row old buffer try.End new buffer' =
+    InMode row.mode (FindsEnd key old new × (buffer' ≡ buffer))
+    (TriesOn key row (calling old buffer) (came_to 0 stop.End) (calling new buffer'))
+
 -- What a read did, by its answer. Own: a read into a buffer of no bytes is refused first, and then
 -- one by a process of another kernel; they do nothing.
 abbrev pub Reads :
     Key → Row → Reader → List ℕ → Result ReadAnswer Fault → Reader → List ℕ → Type 0
 Reads key row old buffer (Err fault.BadCount) new buffer' = IsUntouchedRead old buffer new buffer'
 Reads key row old buffer (Err fault.NoRendez) new buffer' = IsUntouchedRead old buffer new buffer'
-Reads key row old buffer answer new buffer' = KeepsTrying key row old buffer answer new buffer'
-
--- the reader that has this hand
-abbrev pub reader_with : ReadHand → Running → Reader
-reader_with hand proc =
-    record { account = take_account hand.seat; rest = hand.rest; process = proc.process }
+Reads key row old buffer answer new buffer' =
+    InMode row.mode (KeepsTrying key row old buffer answer new buffer')
+    (KeepsReading key row (calling old buffer) answer (calling new buffer'))

@@ -1,30 +1,42 @@
 -- What the steps of a read come to.
-use Rattle.std.specs.Prelude.{◌≡◌, List, ℕ, Option, Some, None, ⊤, Result}
+use Rattle.std.specs.Prelude.{ℕ, nat_lt, if◌then◌else◌, Option, Some, None, ⊤, Result}
 use Rattle.sync_base.specs.declared.fault.Fault.{Fault}
 use Rattle.block_queue.specs.declared.view.Key.{Key}
 use Rattle.pipe_dev.specs.declared.answers.ReadAnswer.{ReadAnswer}
+use Rattle.pipe_dev.specs.declared.answers.TryAnswer.{TryAnswer}
+use Rattle.pipe_dev.specs.declared.answers.TryAnswer.TheVariants as try
+use Rattle.pipe_dev.specs.declared.filling.Came.{Came}
+use Rattle.pipe_dev.specs.declared.filling.Stop.{Stop}
+use Rattle.pipe_dev.specs.declared.filling.Stop.TheVariants as stop
 use Rattle.pipe_dev.specs.declared.reading.Found.{Found}
-use Rattle.pipe_dev.specs.declared.reading.Found.TheVariants.{Got, NotYet, End}
+use Rattle.pipe_dev.specs.declared.reading.Found.TheVariants as found
 use Rattle.pipe_dev.specs.declared.row.Row.{Row}
-use Rattle.pipe_dev.specs.ReadCalls.{Reader, Gets, FindsNotYet, FindsEnd, SleepsForWrite, EndsRead}
+use Rattle.pipe_dev.specs.ReadCalls.{Calling, EndsOn, SleepsOn}
 
--- what one try did, by what it found
-abbrev pub TriesOnce : Key → Row → Reader → List ℕ → Found → Reader → List ℕ → Type 0
-TriesOnce key row old buffer (Got count) new buffer' = Gets key row old buffer count new buffer'
-TriesOnce key row old buffer (NotYet number) new buffer' =
-    FindsNotYet key number old new × (buffer' ≡ buffer)
-TriesOnce key row old buffer End new buffer' = FindsEnd key old new × (buffer' ≡ buffer)
+-- what a try is answered: bytes, or why there are none
+abbrev pub found_at : ℕ → Stop → Found
+found_at count stop.Enough = found.Got count
+found_at count (stop.NotYet number) =
+    if nat_lt 0 count then found.Got count else found.NotYet number
+found_at count stop.End = if nat_lt 0 count then found.Got count else found.End
+
+abbrev pub found_of : Came → Found
+found_of came = found_at came.count came.stop
+
+-- what a read that does not wait is answered of it
+abbrev pub answer_of : Found → TryAnswer
+answer_of (found.Got count) = try.Got count
+answer_of (found.NotYet number) = try.NotYet
+answer_of found.End = try.End
 
 -- the round ended the read
-abbrev pub IfOver : Option (Result ReadAnswer Fault) → Key → Row → Reader → List ℕ → Reader →
-    List ℕ → Type 0
-IfOver (Some answer) key row old buffer new buffer' =
-    EndsRead key row old buffer answer new buffer'
-IfOver None key row old buffer new buffer' = ⊤
+abbrev pub IfOver :
+    Option (Result ReadAnswer Fault) → Key → Row → Calling → Calling → Type 0
+IfOver (Some answer) key row old new = EndsOn key row old answer new
+IfOver None key row old new = ⊤
 
--- the round found nothing and slept
-abbrev pub IfSlept : Option (Result ReadAnswer Fault) → Key → Row → Reader → List ℕ → Reader →
-    List ℕ → Type 0
-IfSlept (Some answer) key row old buffer new buffer' = ⊤
-IfSlept None key row old buffer new buffer' =
-    SleepsForWrite key row old new × (buffer' ≡ buffer)
+-- the round gave no byte and slept
+abbrev pub IfSlept :
+    Option (Result ReadAnswer Fault) → Key → Row → Calling → Calling → Type 0
+IfSlept (Some answer) key row old new = ⊤
+IfSlept None key row old new = SleepsOn key row old new

@@ -1,5 +1,5 @@
 -- The Rendez of a direction, and who is woken there.
-use Rattle.std.specs.Prelude.{◌≡◌, ℕ, zero, suc, ◌+◌, ◌≤◌}
+use Rattle.std.specs.Prelude.{◌≡◌, ℕ, zero, suc, ◌+◌, ◌≤◌, Option, None, Some}
 use Rattle.sync_base.specs.declared.ids.RendezId.{RendezId}
 use Rattle.sync_base.specs.declared.limits.TheConstants.{TOP_LEVEL}
 use Rattle.rendez_words.specs.declared.states.Done.{Done}
@@ -40,6 +40,12 @@ abbrev pub WakesWriters : Row → ℕ → ℕ → Process → Process → Type 0
 WakesWriters row zero level before after = after ≡ before
 WakesWriters row (suc count) level before after =
     WakesNext (WakesWriters row count level before) row count level after
+
+-- each writer was woken with this number, if there is one, and else nobody
+abbrev pub WakesWith : Row → Option ℕ → Process → Process → Type 0
+WakesWith row None before after = after ≡ before
+WakesWith row (Some number) before after =
+    WakesWriters row row.writers number before after
 
 -- a hangup wakes both sides: the reader, and then each writer
 pub record WakesAll (row : Row) (before after : Process) : Type 0 where

@@ -36,7 +36,7 @@ ReadsAddToTheirEnd =
     (reader_of new after) buffer'
     → IsSameReadEnd old new
     → (parts : List Part) → HasReadJust old parts
-    → AddsToRead (AddsRead answer buffer') old parts new
+    → AddsToRead (AddsRead old.row.mode answer buffer') old parts new
 
 abbrev pub TriesAddToTheirEnd : Type 0
 TriesAddToTheirEnd =
@@ -46,7 +46,7 @@ TriesAddToTheirEnd =
     (reader_of new after) buffer'
     → IsSameReadEnd old new
     → (parts : List Part) → HasReadJust old parts
-    → AddsToRead (AddsTry answer buffer') old parts new
+    → AddsToRead (AddsTry old.row.mode answer buffer') old parts new
 
 abbrev pub ReadEndsHangUp : Type 0
 ReadEndsHangUp =

@@ -12,7 +12,7 @@ use Rattle.pipe_dev.specs.Parts.{Part, whole_from}
 
 -- the read end has read just these parts since its pipe was made, the newest first
 abbrev pub HasReadJust : ReadSide → List Part → Type 0
-HasReadJust read parts = IsMade (key_of read.queue) read.row (reading_of read parts)
+HasReadJust read parts = IsMade (key_of read.queue) (reading_of read parts)
 
 -- the write end has written just these since its pipe was made, the oldest first
 abbrev pub HasWrittenJust : WriteSide → List (List ℕ) → Type 0

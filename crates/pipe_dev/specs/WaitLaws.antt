@@ -1,6 +1,6 @@
 -- No wakeup of a pipe is lost: who waits for a write or for room is taken out of the Rendez by the
 -- wakeup of the call that made its condition true, once that call has returned.
-use Rattle.std.specs.Prelude.{◌≡◌, ◌+◌, ◌<◌, ℕ, List}
+use Rattle.std.specs.Prelude.{◌≡◌, ◌+◌, ◌<◌, ℕ, List, Some}
 use mathlib.Core.Option.{some}
 use lib.ListN.{get_elem?}
 use Rattle.histories.specs.History.{IsPast}
@@ -17,7 +17,9 @@ use Rattle.rendez_words.specs.Rule.{ShowsCore}
 use Rattle.block_queue.specs.declared.view.Key.{Key}
 use Rattle.pipe_dev.specs.declared.row.Row.{Row}
 use Rattle.pipe_dev.specs.Parts.{Part}
-use Rattle.pipe_dev.specs.ReadCalls.{Reader, TakesOut}
+use Rattle.pipe_dev.specs.declared.filling.Came.{Came}
+use Rattle.pipe_dev.specs.Filling.{last_number}
+use Rattle.pipe_dev.specs.ReadCalls.{Reader, TakesOut, Calling, TriesOn}
 use Rattle.pipe_dev.specs.Rendezes.{WakesAll, reader_rendez, writer_rendez}
 use Rattle.pipe_dev.specs.WriteCalls.{Writer, Accepts}
 
@@ -46,6 +48,18 @@ ReadsWakeEachWriter =
     → (writer : ℕ) → writer < row.writers
     → ReleasesBelow (world_of sizes.procs sizes.rendez shows.run) (writer_rendez row writer)
     (left.place + 1)
+
+-- So with each writer's Rendez and the number of the last write that a try took out, in either mode,
+-- once that try has returned.
+abbrev pub TriesWakeEachWriter : Type 0
+TriesWakeEachWriter =
+    (sizes : Sizes) (s : _) (shows : ShowsCore sizes s)
+    → (key : Key) (row : Row) (old : Calling) (came : Came) (new : Calling)
+    → (tries : TriesOn key row old came new) → HasGoneOn s.views new.reader.process
+    → (number : ℕ) → last_number old.reader.rest tries.fills.filling.parts ≡ Some number
+    → (writer : ℕ) → writer < row.writers
+    → ReleasesBelow (world_of sizes.procs sizes.rendez shows.run) (writer_rendez row writer)
+    number
 
 -- a hangup releases everybody on these Rendez
 pub record ReleasesAll (state : State) (row : Row) : Type 0 where

@@ -1,7 +1,7 @@
 //! What callers of an end are told.
 use sync_base::Fault;
 
-/// What a read was answered.
+/// What a read was answered. In stream mode its bytes may be of many writes.
 #[derive(Clone, Copy, Debug, PartialEq, Eq)]
 pub enum ReadAnswer {
     /// So many bytes of one write are in the buffer.

@@ -40,7 +40,8 @@ pub(crate) struct Given {
 
 impl Begun {
     ghost use Rattle.std.specs.Prelude.{◌≡◌, ◌≢◌, ◌≤◌, ◌<◌, [], length, IfOk};
-    ghost use Rattle.pipe_dev.specs.ReadCalls.{IsFilled, part_of, rest_of};
+    ghost use Rattle.pipe_dev.specs.Parts.{part_of, rest_of};
+    ghost use Rattle.pipe_dev.specs.ReadCalls.{IsFilled};
 
     /// A write of which nothing was read.
     pub(crate) fn whole(block: Piece, writer: u64, place: u64) -> Begun

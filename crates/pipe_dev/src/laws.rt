@@ -17,10 +17,12 @@ ghost use Rattle.pipe_dev.specs.Laws.{
 ghost use Rattle.pipe_dev.specs.WaitLaws.{
   WritesWakeTheReader,
   ReadsWakeEachWriter,
+  TriesWakeEachWriter,
   HangupsWakeAll,
 };
 
-/// Each call of a read end adds one part for the bytes that it got and nothing else, and what was
+/// Each call of a read end adds one part for the bytes that it got and nothing else; in stream mode
+/// it adds the parts that join to them, and of what has no bytes parts that are empty. What was
 /// read stays right.
 pub fn calls_read_what_they_answer()
     ensures reads { ReadsAreSteps }
@@ -47,5 +49,6 @@ pub fn each_write_is_read_whole_and_once()
     ensures accepted { NoneIsAcceptedAfterHangup }
     ensures reader_woken { WritesWakeTheReader }
     ensures writers_woken { ReadsWakeEachWriter }
+    ensures tries_woken { TriesWakeEachWriter }
     ensures all_woken { HangupsWakeAll }
 {}

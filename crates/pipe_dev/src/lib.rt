@@ -1,5 +1,5 @@
 //! Two-way pipes between processes, after pipe(2) and pipe(3).
-//! Read `row`, `waking`; `begun`, `hand`, `answers`; `read_end`, `reading`; `write_end`, `writing`,
+//! Read `row`, `waking`; `begun`, `hand`, `answers`; `read_end`, `filling`, `reading`; `write_end`, `writing`,
 //! `write_long`; `hanging`; `pipe`, `end`; `closing`; and then `laws`, the headline, and `side_laws`.
 #![tactic(auto)]
 
@@ -7,6 +7,7 @@ pub mod answers;
 pub mod begun;
 pub mod closing;
 pub mod end;
+pub mod filling;
 mod hand;
 mod hanging;
 pub mod laws;

@@ -11,8 +11,8 @@ use crate::write_end::WriteEnd;
 use block_queue::{PutSeat, Queue, TakeSeat};
 use sleep_wakeup::Roster;
 use std::alloc::Global;
-use sync_base::Fault;
 use sync_base::limits::{MAX_PIPE_LIMIT, MAX_WRITERS};
+use sync_base::{Fault, Mode};
 
 /// Two directions between two ends, after pipe(3).
 #[derive(Drop)]
@@ -50,10 +50,12 @@ impl Pipe {
     ghost use Rattle.sync_base.specs.declared.fault.Fault.TheVariants.{BadSize, NoRendez, Memory};
     ghost use Rattle.block_queue.specs.Opening.{IsBadQueue};
     ghost use Rattle.sleep_wakeup.specs.Kernel.{HasRendez, rendez_less};
-    ghost use Rattle.pipe_dev.specs.Openings.{Opens, HasRows, IsStartOf, rendez_for};
+    ghost use Rattle.pipe_dev.specs.Openings.{Opens, OpensStream, OpensIn, HasRows};
+    ghost use Rattle.pipe_dev.specs.Openings.{IsStartOf, rendez_for};
 
     /// A new pipe, each of whose directions holds at most `limit` writes that no read has begun and
-    /// has so many writers. It takes `2 * (1 + writers)` Rendez of the kernel. Doesn't wait.
+    /// has so many writers. A read stops at the end of a write. It takes `2 * (1 + writers)` Rendez of
+    /// the kernel. Doesn't wait.
     ///
     /// Refuses, in this order, as `BadSize`, `NoRendez` and `Memory`.
     pub fn new<'p>(
@@ -77,6 +79,60 @@ impl Pipe {
         ensures rows { IfOk result (HasRows roster.old.words) }
         ensures given { OnOk result (roster.new ≡ rendez_less (rendez_for writers) roster.old) }
     {
+        Pipe::open(alloc, roster, Mode::Message, limit, writers)
+    }
+
+    /// A new pipe in stream mode: a read goes on from write to write, and passes the empty ones that
+    /// it meets. It takes as many Rendez, and doesn't wait.
+    ///
+    /// Refuses, in this order, as `BadSize`, `NoRendez` and `Memory`.
+    pub fn new_stream<'p>(
+        alloc: Global,
+        roster: &mut Roster<'_>,
+        limit: u64,
+        writers: u64,
+    ) -> Result<Opened<'p>, Fault>
+        // Refused first, in this order, and then no Rendez is used up.
+        ensures bad_size { IsErrOf result BadSize ↔ IsBadQueue limit writers }
+        ensures no_rendez { ¬ IsBadQueue limit writers
+            → (IsErrOf result NoRendez ↔ ¬ HasRendez roster.old (rendez_for writers)) }
+        ensures faults { IfErr result (λ fault.
+            (fault ≡ BadSize) ⊎ ((fault ≡ NoRendez) ⊎ (fault ≡ Memory))) }
+        ensures refused { OnErr result (roster.new ≡ roster.old) }
+
+        // Otherwise a pipe on which nothing was called, with Rendez that nobody was given.
+        ensures allowed { OnOk result (HasRendez roster.old (rendez_for writers)) }
+        ensures opened { IfOk result (OpensStream limit writers roster.old.rendez) }
+        ensures start { IfOk result (λ opened. IsStartOf opened.pipe opened.start) }
+        ensures rows { IfOk result (HasRows roster.old.words) }
+        ensures given { OnOk result (roster.new ≡ rendez_less (rendez_for writers) roster.old) }
+    {
+        Pipe::open(alloc, roster, Mode::Stream, limit, writers)
+    }
+
+    // A new pipe, both of whose directions are read in this mode.
+    fn open<'p>(
+        alloc: Global,
+        roster: &mut Roster<'_>,
+        mode: Mode,
+        limit: u64,
+        writers: u64,
+    ) -> Result<Opened<'p>, Fault>
+        // Refused first, in this order, and then no Rendez is used up.
+        ensures bad_size { IsErrOf result BadSize ↔ IsBadQueue limit writers }
+        ensures no_rendez { ¬ IsBadQueue limit writers
+            → (IsErrOf result NoRendez ↔ ¬ HasRendez roster.old (rendez_for writers)) }
+        ensures faults { IfErr result (λ fault.
+            (fault ≡ BadSize) ⊎ ((fault ≡ NoRendez) ⊎ (fault ≡ Memory))) }
+        ensures refused { OnErr result (roster.new ≡ roster.old) }
+
+        // Otherwise a pipe on which nothing was called, with Rendez that nobody was given.
+        ensures allowed { OnOk result (HasRendez roster.old (rendez_for writers)) }
+        ensures opened { IfOk result (OpensIn mode limit writers roster.old.rendez) }
+        ensures start { IfOk result (λ opened. IsStartOf opened.pipe opened.start) }
+        ensures rows { IfOk result (HasRows roster.old.words) }
+        ensures given { OnOk result (roster.new ≡ rendez_less (rendez_for writers) roster.old) }
+    {
         if limit == 0 || limit > MAX_PIPE_LIMIT || writers == 0 || writers > MAX_WRITERS {
             return Err(Fault::BadSize);
         }
@@ -87,10 +143,15 @@ impl Pipe {
         let there = Way::new(alloc, limit, writers)?;
         let back = Way::new(alloc, limit, writers)?;
         let first = roster.row(count)?.0;
-        let there = there.laid(Row { first, writers });
+        let there = there.laid(Row {
+            first,
+            writers,
+            mode,
+        });
         let back = back.laid(Row {
             first: first + 1 + writers,
             writers,
+            mode,
         });
         Ok(Opened {
             pipe: Pipe {

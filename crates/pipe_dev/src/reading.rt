@@ -1,18 +1,18 @@
 //! How a direction is read.
-ghost use Rattle.std.specs.Prelude.{◌≡◌, ◌≢◌, [], Some, None};
+ghost use Rattle.std.specs.Prelude.{◌≡◌, ◌≢◌, []};
 ghost use Rattle.block_queue.specs.Seats.{key_of};
 ghost use Rattle.pipe_dev.specs.Ends.{IsReadHand};
-ghost use Rattle.pipe_dev.specs.ReadCalls.{KeepsTrying, reader_with};
-ghost use Rattle.pipe_dev.specs.ReadSteps.{TriesOnce, IfOver, IfSlept};
+ghost use Rattle.pipe_dev.specs.ReadCalls.{KeepsReading, Tries, TriesOn, calling, reader_with};
+ghost use Rattle.pipe_dev.specs.ReadSteps.{IfOver, IfSlept, answer_of, found_of};
 ghost use Rattle.pipe_dev.specs.Rendezes.{HasRow};
 
 use crate::answers::{ReadAnswer, TryAnswer};
-use crate::begun::{Begun, Given};
+use crate::filling::{Came, Filled, Stop, fill};
 use crate::hand::ReadHand;
 use crate::read_end::ReadEnd;
 use crate::row::Row;
 use crate::waking::wake_writers;
-use block_queue::{Queue, TakeAnswer, TakeSeat};
+use block_queue::Queue;
 use sleep_wakeup::Proc;
 use std::sync::Wait;
 use sync_base::Fault;
@@ -26,12 +26,15 @@ impl<'p> ReadEnd<'p> {
     ghost use Rattle.pipe_dev.specs.Rendezes.{HasRow};
 
     /// Reads what is next: fills the buffer, up to its end or to the end of one write, whichever
-    /// comes first. Where nothing is there yet it waits. Takes no memory.
+    /// comes first. In stream mode it goes on from write to write while its buffer has room, and
+    /// passes the empty ones. Where nothing is there yet it waits. Takes no memory.
     ///
     /// `End` where the direction is hung up and all is read. Refuses, in this order, as `BadCount`
     /// for a buffer of no bytes, as `NoRendez` where the process is of another kernel, which has
     /// not all Rendez of the direction, and where it would wait as `DoubleSleep` and `Interrupted`.
-    /// A read that took a write out wakes each writer with its number. After pipe(3) and read(2).
+    /// A read that took a write out wakes each writer with its number, in stream mode with that of
+    /// the last one. After pipe(3) and read(2).
+    #[tactic(auto, using(crate::proofs::ModeLemmas::reads_by_mode))]
     pub fn read<R: Wait>(
         &mut self,
         rt: &R,
@@ -97,13 +100,9 @@ impl<'p> ReadEnd<'p> {
         let Some(hand) = self.hand.take() else {
             unreachable!()
         };
-        let Tried { hand, found } = try_with(self.queue, &self.row, hand, proc, buffer);
+        let Answered { hand, answer } = try_once(self.queue, &self.row, hand, proc, buffer);
         self.hand = Some(hand);
-        Ok(match found {
-            Found::Got(count) => TryAnswer::Got(count),
-            Found::NotYet(_) => TryAnswer::NotYet,
-            Found::End => TryAnswer::End,
-        })
+        Ok(answer)
     }
 }
 
@@ -122,10 +121,17 @@ pub(crate) enum Found {
     End,
 }
 
+// A read that does not wait is over.
+#[derive(Drop)]
+struct Answered {
+    hand: ReadHand,
+    answer: TryAnswer,
+}
+
 #[derive(Drop)]
 struct Tried {
     hand: ReadHand,
-    found: Found,
+    came: Came,
 }
 
 // How far one round of a read came: it is over, or it slept.
@@ -146,11 +152,12 @@ fn read_with<R: Wait>(
 ) -> Done
     requires hand { IsReadHand queue.now row.now hand }
     requires kernel { HasRow proc.old.words row.now }
+    requires room { buffer.old ≢ [] }
     ensures hand { IsReadHand queue.now row.now result.hand }
     ensures words { proc.new.words ≡ proc.old.words }
-    ensures read { KeepsTrying (key_of queue.now) row.now
-        (reader_with hand proc.old) buffer.old result.answer
-        (reader_with result.hand proc.new) buffer.new }
+    ensures read { KeepsReading (key_of queue.now) row.now
+        (calling (reader_with hand proc.old) buffer.old) result.answer
+        (calling (reader_with result.hand proc.new) buffer.new) }
 {
     let mut hand = hand;
     'reading: for _ in rt.forever() {
@@ -175,17 +182,18 @@ fn read_round<R: Wait>(
 ) -> Round
     requires hand { IsReadHand queue.now row.now hand }
     requires kernel { HasRow proc.old.words row.now }
+    requires room { buffer.old ≢ [] }
     ensures hand { IsReadHand queue.now row.now result.hand }
     ensures words { proc.new.words ≡ proc.old.words }
     ensures over { IfOver result.over (key_of queue.now) row.now
-        (reader_with hand proc.old) buffer.old
-        (reader_with result.hand proc.new) buffer.new }
+        (calling (reader_with hand proc.old) buffer.old)
+        (calling (reader_with result.hand proc.new) buffer.new) }
     ensures slept { IfSlept result.over (key_of queue.now) row.now
-        (reader_with hand proc.old) buffer.old
-        (reader_with result.hand proc.new) buffer.new }
+        (calling (reader_with hand proc.old) buffer.old)
+        (calling (reader_with result.hand proc.new) buffer.new) }
 {
-    let Tried { hand, found } = try_with(queue, row, hand, proc, buffer);
-    match found {
+    let Tried { hand, came } = try_with(queue, row, hand, proc, buffer);
+    match found_by(came) {
         Found::Got(count) => Round {
             hand,
             over: Some(Ok(ReadAnswer::Got(count))),
@@ -204,7 +212,65 @@ fn read_round<R: Wait>(
     }
 }
 
-// One try: what is left of a write that was begun, or else the next write.
+// What a try that came so far found: it got what it has read, and if that is nothing it is told why
+// it went no further.
+fn found_by(came: Came) -> Found
+    ensures { result ≡ found_of came }
+{
+    let Came { count, stop } = came;
+    match stop {
+        Stop::Enough => Found::Got(count),
+        Stop::NotYet(number) => {
+            if count > 0 {
+                Found::Got(count)
+            } else {
+                Found::NotYet(number)
+            }
+        }
+        Stop::End => {
+            if count > 0 {
+                Found::Got(count)
+            } else {
+                Found::End
+            }
+        }
+    }
+}
+
+// One try, and what it is answered.
+fn try_once(
+    queue: &Queue,
+    row: &Row,
+    hand: ReadHand,
+    proc: &mut Proc<'_>,
+    buffer: &mut [u8],
+) -> Answered
+    requires hand { IsReadHand queue.now row.now hand }
+    requires kernel { HasRow proc.old.words row.now }
+    requires room { buffer.old ≢ [] }
+    ensures hand { IsReadHand queue.now row.now result.hand }
+    ensures words { proc.new.words ≡ proc.old.words }
+    ensures tried { Tries (key_of queue.now) row.now (reader_with hand proc.old) buffer.old
+        result.answer (reader_with result.hand proc.new) buffer.new }
+{
+    let Tried { hand, came } = try_with(queue, row, hand, proc, buffer);
+    let answer = answer_to(came);
+    Answered { hand, answer }
+}
+
+// What a read that does not wait is answered.
+fn answer_to(came: Came) -> TryAnswer
+    ensures { result ≡ answer_of (found_of came) }
+{
+    match found_by(came) {
+        Found::Got(count) => TryAnswer::Got(count),
+        Found::NotYet(_) => TryAnswer::NotYet,
+        Found::End => TryAnswer::End,
+    }
+}
+
+// One try: what is left of a write that was begun, or else the next write, and so on as far as it
+// goes. Then it wakes each writer with the number of the last write that it took out.
 fn try_with(
     queue: &Queue,
     row: &Row,
@@ -214,61 +280,16 @@ fn try_with(
 ) -> Tried
     requires hand { IsReadHand queue.now row.now hand }
     requires kernel { HasRow proc.old.words row.now }
+    requires room { buffer.old ≢ [] }
     ensures hand { IsReadHand queue.now row.now result.hand }
     ensures words { proc.new.words ≡ proc.old.words }
-    ensures tried { TriesOnce (key_of queue.now) row.now
-        (reader_with hand proc.old) buffer.old result.found
-        (reader_with result.hand proc.new) buffer.new }
+    ensures tried { TriesOn (key_of queue.now) row.now
+        (calling (reader_with hand proc.old) buffer.old) result.came
+        (calling (reader_with result.hand proc.new) buffer.new) }
 {
-    let ReadHand { mut seat, rest } = hand;
-    match rest {
-        Some(begun) => {
-            let Given { count, left, spare } = begun.give(buffer);
-            seat.spare.keep(spare);
-            Tried {
-                hand: ReadHand { seat, rest: left },
-                found: Found::Got(count),
-            }
-        }
-        None => try_next(queue, row, seat, proc, buffer),
+    let Filled { hand, took, came } = fill(queue, row, hand, buffer);
+    if let Some(number) = took {
+        wake_writers(proc, row, number);
     }
-}
-
-// No write was begun: takes the next one out.
-fn try_next(
-    queue: &Queue,
-    row: &Row,
-    seat: TakeSeat,
-    proc: &mut Proc<'_>,
-    buffer: &mut [u8],
-) -> Tried
-    requires hand { IsReadHand queue.now row.now (record { seat = seat; rest = None }) }
-    requires kernel { HasRow proc.old.words row.now }
-    ensures hand { IsReadHand queue.now row.now result.hand }
-    ensures words { proc.new.words ≡ proc.old.words }
-    ensures tried { TriesOnce (key_of queue.now) row.now
-        (reader_with (record { seat = seat; rest = None }) proc.old) buffer.old result.found
-        (reader_with result.hand proc.new) buffer.new }
-{
-    let mut seat = seat;
-    match queue.take(&mut seat) {
-        TakeAnswer::Block(block, writer, number) => {
-            wake_writers(proc, row, number);
-            let whole = Begun::whole(block, writer, number - 1);
-            let Given { count, left, spare } = whole.give(buffer);
-            seat.spare.keep(spare);
-            Tried {
-                hand: ReadHand { seat, rest: left },
-                found: Found::Got(count),
-            }
-        }
-        TakeAnswer::NotYet(number) => Tried {
-            hand: ReadHand { seat, rest: None },
-            found: Found::NotYet(number),
-        },
-        TakeAnswer::End => Tried {
-            hand: ReadHand { seat, rest: None },
-            found: Found::End,
-        },
-    }
+    Tried { hand, came }
 }

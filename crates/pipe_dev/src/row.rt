@@ -1,14 +1,16 @@
-//! The Rendez of a direction.
+//! The Rendez of a direction, and how it is read.
 ghost use Rattle.std.specs.Prelude.{◌≡◌, ◌+◌, ◌<◌, ◌^◌};
 
 use sleep_wakeup::Proc;
-use sync_base::RendezId;
+use sync_base::{Mode, RendezId};
 
-/// The Rendez of a direction: the reader's, and behind it one for each writer, in order.
+/// The Rendez of a direction: the reader's, and behind it one for each writer, in order. And whether
+/// a read of it stops at the end of a write.
 #[derive(Clone, Copy, Drop)]
 pub struct Row {
     pub(crate) first: u64,
     pub(crate) writers: u64,
+    pub(crate) mode: Mode,
     ghost small: { first + 1 + writers < 2 ^ 64 },
 }
 

@@ -11,4 +11,5 @@ mod noted;
 mod pages;
 mod runs;
 mod scene;
+mod streams;
 mod worked;

@@ -192,6 +192,11 @@ impl<'a> Lone<'a> {
         room_of(&mut self.write, alloc)
     }
 
+    /// Posts these notes to the reader.
+    pub fn note_reader(&mut self, notes: NoteSet) {
+        self.reader.put_back(notes)
+    }
+
     /// Posts these notes to the writer.
     pub fn note_writer(&mut self, notes: NoteSet) {
         self.writer.put_back(notes)

@@ -30,3 +30,27 @@ pub fn opened<'p>(
         }
     }
 }
+
+/// The same in stream mode.
+pub fn opened_stream<'p>(
+    rt: &impl Abort,
+    alloc: Global,
+    roster: &mut Roster<'_>,
+    limit: u64,
+    writers: u64,
+) -> Opened<'p>
+    ensures { IsStartOf result.pipe result.start }
+{
+    let left = roster.left();
+    match Pipe::new_stream(alloc, roster, limit, writers) {
+        Ok(opened) => opened,
+        Err(fault) => {
+            assert_eq!(rt; fault, Fault::Memory);
+            assert_eq!(rt; roster.left(), left);
+            match Pipe::new_stream(alloc, roster, limit, writers) {
+                Ok(opened) => opened,
+                Err(_) => panic!(rt; "no memory where no allocation fails"),
+            }
+        }
+    }
+}

@@ -20,6 +20,7 @@ returns c =
       ready = record {
         ends = subst (AreEnds c.args.read) (sym all) c.requires.fresh.ends;
         keeps = record {
+          mode = c.requires.fresh.mode;
           parts = [];
           just = c.requires.fresh.unused.read_none;
           bytes = search rules;

@@ -13,6 +13,7 @@ muster-requires g c =
     let writes = c.ends-first.result.second.writes.items in
     let new : IsFresh read writes =
     fresh_ends c.in_ok-pipe.field-0.pipe.there c.in_ok-pipe.field-0.start.there read writes start.there
+    c.in_ok-pipe.ensures.opened.there_mode
     c.ends-first.ensures.there in
     record {
       fresh = subst (λ (r : ReadSide). IsFresh r c.parts-writes.result.writes.items)

@@ -1,25 +1,49 @@
--- a sleep that did not end well is one of this call
-use Rattle.std.proofs.Common.{subst}
+-- a try that gave no byte, and its sleep
+use Rattle.std.proofs.Common.{sym, ◌∙◌, subst}
 use Rattle.block_queue.specs.Seats.{key_of}
-use Rattle.pipe_dev.specs.ReadCalls.{reader_with}
-use Rattle.pipe_dev.specs.ReadSteps.{TriesOnce}
-use Rattle.pipe_dev.specs.declared.reading.Found.{Found}
-use Rattle.pipe_dev.proofs.CallLemmas.{read_fails}
+use Rattle.pipe_dev.specs.ReadCalls.{calling, reader_with}
+use Rattle.pipe_dev.specs.Rendezes.{HasRow}
+use Rattle.pipe_dev.proofs.CallLemmas.{tried_bytes, tried_end, sleeps_on, fails_on}
 use Rattle.pipe_dev.proofs.reading.read_round.Goals as goal
+
+pub returns-in-Got-clause-over : goal.returns-in-Got-clause-over
+returns-in-Got-clause-over g c =
+    tried_bytes (key_of c.args.queue.now) c.args.row.now
+    (calling (reader_with c.args.hand c.args.proc.now) c.args.buffer.now)
+    c.try_with-hand.result.came c.in-Got.count
+    (calling (reader_with c.try_with-hand.result.hand c.try_with-hand.new.proc)
+    c.try_with-hand.new.buffer)
+    c.try_with-hand.ensures.tried
+    (sym c.found_by.ensures ∙ c.in-Got.is)
+
+pub returns-in-End-clause-over : goal.returns-in-End-clause-over
+returns-in-End-clause-over g c =
+    tried_end (key_of c.args.queue.now) c.args.row.now
+    (calling (reader_with c.args.hand c.args.proc.now) c.args.buffer.now)
+    c.try_with-hand.result.came
+    (calling (reader_with c.try_with-hand.result.hand c.try_with-hand.new.proc)
+    c.try_with-hand.new.buffer)
+    c.try_with-hand.ensures.tried
+    (sym c.found_by.ensures ∙ c.in-End.is)
+
+pub returns-in-Ok-clause-slept : goal.returns-in-Ok-clause-slept
+returns-in-Ok-clause-slept g c =
+    sleeps_on (key_of c.args.queue.now) c.args.row.now
+    (calling (reader_with c.args.hand c.args.proc.now) c.args.buffer.now)
+    (calling (reader_with c.try_with-hand.result.hand c.try_with-hand.new.proc)
+    c.try_with-hand.new.buffer)
+    c.try_with-hand.result.came c.in-NotYet.number c.reader.result c.sleep.new.self.process
+    c.try_with-hand.ensures.tried
+    (sym c.found_by.ensures ∙ c.in-NotYet.is) c.reader.ensures c.in-Ok.ensures.slept
 
 pub returns-in-Err-clause-over : goal.returns-in-Err-clause-over
 returns-in-Err-clause-over g c =
-    let key = key_of c.args.queue.now in
-    let old = reader_with c.args.hand c.args.proc.now in
-    let between = reader_with c.try_with-hand.result.hand c.try_with-hand.new.proc in
-    let found =
-    subst (λ (f : Found). TriesOnce key c.args.row.now old c.args.buffer.now f between
+    fails_on c.try_with-hand.new.proc.words (key_of c.args.queue.now) c.args.row.now
+    (calling (reader_with c.args.hand c.args.proc.now) c.args.buffer.now)
+    (calling (reader_with c.try_with-hand.result.hand c.try_with-hand.new.proc)
     c.try_with-hand.new.buffer)
-    c.in-NotYet.is c.try_with-hand.ensures.tried in (
-      read_fails c.args.proc.now.words c.try_with-hand.new.proc.words key c.args.row.now old between
-          c.in-NotYet.number c.reader.result
-          c.sleep.new.self.process c.in-Err.fault c.requires.hand.row_is.first c.requires.kernel
-          c.try_with-hand.ensures.words
-          c.reader.ensures found.0 c.in-Err.ensures.fault,
-      found.1,
-    )
+    c.try_with-hand.result.came c.in-NotYet.number c.reader.result c.sleep.new.self.process
+    c.in-Err.fault c.requires.hand.row_is.first
+    (subst (λ w. HasRow w c.args.row.now) (sym c.try_with-hand.ensures.words) c.requires.kernel)
+    c.reader.ensures c.try_with-hand.ensures.tried
+    (sym c.found_by.ensures ∙ c.in-NotYet.is) c.in-Err.ensures.fault

@@ -1,0 +1,493 @@
+-- How a read fills its buffer, one part after the other.
+use Rattle.std.proofs.Common.{◌≡◌, ◌≢◌, ◌⊎◌, inl, inr, ℕ, suc, ◌+◌, ◌-◌, ◌*◌, ◌<◌, ◌≤◌, Bool, true}
+use Rattle.std.proofs.Common.{false, nat_lt, List, [], ◌∷◌, ◌++◌, length, take, drop, Option, None}
+use Rattle.std.proofs.Common.{Some, refl, sym, ◌∙◌, ap, subst, arith, length-append, length-drop}
+use Rattle.std.proofs.Common.{drop-drop}
+use borrow.Rule.Slice.PartMut.{mid_of, put_mid, put_same, same_len_mid}
+use Rattle.std.specs.Prelude.{IsTrue, nat_le, if◌then◌else◌}
+use Rattle.std.proofs.lemmas.Bool.Decides.{nat_tests}
+use Rattle.std.proofs.lemmas.List.{append_assoc, take_at, drop_at, length-take-le, length-take}
+use Rattle.std.proofs.lemmas.List.{take_all, drop_all, append-nil}
+use Rattle.histories.specs.declared.account.Account.{Account}
+use Rattle.histories.specs.Account.{has_number}
+use Rattle.sync_base.specs.declared.limits.TheConstants.{LAST_WRITE}
+use Rattle.sync_base.specs.declared.mode.Mode.{Mode}
+use Rattle.sync_base.specs.declared.mode.Mode.TheVariants.{Message, Stream}
+use Rattle.sync_base.specs.Pipe.{by_mode}
+use Rattle.block_queue.specs.declared.entry.Entry.{Entry}
+use Rattle.block_queue.specs.declared.entry.Entry.TheVariants as entry
+use Rattle.block_queue.specs.declared.view.Key.{Key}
+use Rattle.block_queue.specs.Meaning.{Enters, KnowsQueue, queue_after}
+use Rattle.block_queue.specs.Places.{IsQueueState}
+use Rattle.block_queue.proofs.RuleMoves.{history_fits}
+use Rattle.pipe_dev.specs.Filling.{Taker, TakesPart, TakesMore, Filling, Lending, begins}
+use Rattle.pipe_dev.specs.Filling.{IsLeft, IsTakenOut}
+use Rattle.pipe_dev.specs.Filling.{IsFilledBy, has_none, goes_further, number_of, last_number}
+use Rattle.pipe_dev.specs.Filling.{StopsAt, FindsNotThere, FindsNothing}
+use Rattle.pipe_dev.specs.FillSteps.{GivesPart, GivesNext, HasFilled}
+use Rattle.pipe_dev.specs.declared.filling.Next.{Next}
+use Rattle.pipe_dev.specs.declared.filling.Next.TheVariants as next
+use Rattle.pipe_dev.specs.declared.filling.Stop.{Stop}
+use Rattle.pipe_dev.specs.declared.filling.Stop.TheVariants as stop
+use Rattle.pipe_dev.specs.declared.hand.ReadHand.{ReadHand}
+use Rattle.pipe_dev.specs.Finishing.{left_state}
+use Rattle.pipe_dev.specs.Parts.{Part, part_of, rest_of, bytes_of}
+use Rattle.pipe_dev.specs.Rounds.{Rounds}
+use Rattle.pipe_dev.proofs.ReadingLemmas.{since_accepts}
+use Rattle.pipe_dev.proofs.RoundLemmas.{entered_right}
+
+-- ---- one part
+
+-- what was taken out is a write at the place below its number
+pub taken_whole : (key : Key) (old new : Account Entry) (writer : ℕ) (block : List ℕ) (number : ℕ)
+    (whole : Part) → whole ≡ record { place = number - 1; writer = writer; bytes = block }
+    → Enters key (entry.Block writer block number) old new
+    → Enters key (entry.Block whole.writer whole.bytes (whole.place + 1)) old new
+taken_whole key old new writer block number whole is enters =
+    let right = (entered_right key (entry.Block writer block number) old new enters).may.number_is in
+    let same : number ≡ number - 1 + 1 = omega (arith, right) in
+    subst (λ (w : Part). Enters key (entry.Block w.writer w.bytes (w.place + 1)) old new) (sym is)
+    (subst (λ (n : ℕ). Enters key (entry.Block writer block n) old new) same enters)
+
+pub whole_number : (key : Key) (old new : Account Entry) (writer : ℕ) (block : List ℕ) (number : ℕ)
+    (whole : Part) → whole ≡ record { place = number - 1; writer = writer; bytes = block }
+    → Enters key (entry.Block writer block number) old new → number ≡ whole.place + 1
+whole_number key old new writer block number whole is enters =
+    let right = (entered_right key (entry.Block writer block number) old new enters).may.number_is in
+    let place : whole.place ≡ number - 1 = ap (λ (w : Part). w.place) is in
+    omega (arith, right, place)
+
+-- a part of which something is left fills its room
+rest_or_full : (room : ℕ) (left : Part)
+    → (rest_of room left ≡ None) ⊎ (length (part_of room left).bytes ≡ room)
+rest_or_full room left = by (nat_le (length left.bytes) room) refl
+  where
+    by : (b : Bool) → nat_le (length left.bytes) room ≡ b
+        → ((if b then None else Some (record left { bytes = drop room left.bytes })) ≡ None)
+        ⊎ (length (part_of room left).bytes ≡ room)
+    by true is = inl refl
+    by false is =
+        let above : room < length left.bytes = grind (arith, nat_tests) in
+        inr (length-take-le room left.bytes (omega (arith, above)))
+
+-- ---- so many parts
+
+-- the parts that a read has read, as far as it has come
+pub record SoFar (key : Key) (mode : Mode) (first now : Lending) (took : Option ℕ) (count : ℕ)
+    (further : Bool) : Type 0 where
+  pub times : ℕ
+  pub filling : Filling
+  pub taken : Rounds (TakesMore key (record { mode = mode; room = length first.buffer })) times
+      (begins first.taker) filling
+  pub taker_is : now.taker ≡ filling.taker
+  pub took_is : took ≡ last_number first.taker.rest filling.parts
+  pub filled : IsFilledBy (bytes_of filling.parts) first.buffer now.buffer count
+  pub size : length now.buffer ≡ length first.buffer
+  pub fits : count ≤ length first.buffer
+  pub further_is : further ≡
+      goes_further (record { mode = mode; room = length first.buffer }) filling.parts
+  pub rest_none : (filling ≡ begins first.taker)
+      ⊎ ((has_none filling.parts ≡ false) × (further ≡ true → now.taker.rest ≡ None))
+
+some_room : (buffer : List ℕ) → buffer ≢ [] → 0 < length buffer
+some_room [] some = absurd (some refl)
+some_room (byte ∷ bytes) some = omega arith
+
+-- it has begun
+pub begun_so_far : (key : Key) (mode : Mode) (first : Lending) → first.buffer ≢ []
+    → SoFar key mode first first None 0 true
+begun_so_far key mode first some =
+    record {
+      times = 0;
+      filling = begins first.taker;
+      taken = refl;
+      taker_is = refl;
+      took_is = refl;
+      filled = record { count_is = refl; bytes_are = refl };
+      size = refl;
+      fits = omega arith;
+      further_is = by mode;
+      rest_none = inl refl;
+    }
+  where
+    by : (m : Mode) → true
+        ≡ goes_further (record { mode = m; room = length first.buffer }) []
+    by Message = refl
+    by Stream = let room = some_room first.buffer some in grind (arith, nat_tests)
+
+last_more : (begun : Option Part) (part : Part) (parts : List Part) → has_none parts ≡ false
+    → last_number begun (part ∷ parts) ≡ Some (part.place + 1)
+last_more begun part [] none = cc
+last_more begun part (other ∷ parts) none = refl
+
+-- the bytes of a part more
+filled_more : (bytes : List ℕ) (part : List ℕ) (first now now' room : List ℕ) (count more : ℕ)
+    → IsFilledBy bytes first now count → IsFilledBy part (drop count now) room more
+    → now' ≡ take count now ++ room
+    → IsFilledBy (bytes ++ part) first now' (count + more)
+filled_more bytes part first now now' room count more before filled is =
+    let count_is : length bytes ≡ count = sym before.count_is in
+    let front : take count now ≡ bytes =
+    ap (take count) before.bytes_are ∙ take_at bytes (drop count first) count count_is in
+    let behind : drop count now ≡ drop count first =
+    ap (drop count) before.bytes_are ∙ drop_at bytes (drop count first) count count_is in
+    record {
+      count_is =
+          let many = length-append bytes part in
+          let before_is = before.count_is in
+          let more_is = filled.count_is in
+          omega (arith, many, before_is, more_is);
+      bytes_are =
+          is
+          ∙ (ap (λ (xs : List ℕ). xs ++ room) front
+          ∙ (ap (λ (xs : List ℕ). bytes ++ xs)
+          (filled.bytes_are
+          ∙ ap (λ (xs : List ℕ). part ++ xs)
+          (ap (drop more) behind ∙ drop-drop more count first))
+          ∙ sym (append_assoc bytes part (drop (count + more) first))));
+    }
+
+-- whether it goes on behind a part, as the code tests it
+abbrev pub goes_on_behind : Mode → ℕ → List ℕ → Bool
+goes_on_behind mode count buffer = by_mode mode false (nat_lt count (length buffer))
+
+-- where it goes on behind a part, nothing of the part's write is left
+pub none_behind : (key : Key) (mode : Mode) (first now new : Lending) (room : List ℕ)
+    (took number : Option ℕ) (count more : ℕ) (further : Bool)
+    → SoFar key mode first now took count true
+    → GivesPart key (record { taker = now.taker; buffer = drop count now.buffer }) more number
+    (record { taker = new.taker; buffer = room })
+    → length new.buffer ≡ length now.buffer
+    → further ≡ goes_on_behind mode (count + more) new.buffer
+    → further ≡ true → new.taker.rest ≡ None
+none_behind key mode first now new room took number count more further so_far gives size on goes =
+    by (rest_or_full (length (drop count now.buffer)) gives.taken.left)
+  where
+    by : (rest_of (length (drop count now.buffer)) gives.taken.left ≡ None)
+        ⊎ (length (part_of (length (drop count now.buffer)) gives.taken.left).bytes
+        ≡ length (drop count now.buffer))
+        → new.taker.rest ≡ None
+    by (inl none) = gives.taken.rest ∙ none
+    by (inr full) = absurd (never mode (sym goes ∙ on))
+      where
+        never : (m : Mode) → true ≡ goes_on_behind m (count + more) new.buffer → ⊥
+        never Message says = cc
+        never Stream says =
+            let is = ap (λ (p : Part). length p.bytes) gives.taken.part_is in
+            let more_is = gives.filled.count_is in
+            let fits_first = so_far.fits in
+            let size_first = so_far.size in
+            let dropped = length-drop count now.buffer in
+            let f = full in
+            let same = size in
+            let says_more : count + more < length new.buffer = grind (arith, nat_tests) in
+            omega (arith, f, is, more_is, fits_first, size_first, dropped, same, says_more)
+
+-- it has read a part more
+pub more_so_far : (key : Key) (mode : Mode) (first now new : Lending) (room : List ℕ)
+    (took number : Option ℕ) (count more : ℕ) (further : Bool)
+    → SoFar key mode first now took count true
+    → GivesPart key (record { taker = now.taker; buffer = drop count now.buffer }) more number
+    (record { taker = new.taker; buffer = room })
+    → new.buffer ≡ take count now.buffer ++ room
+    → length new.buffer ≡ length now.buffer
+    → further ≡ goes_on_behind mode (count + more) new.buffer
+    → SoFar key mode first new number (count + more) further
+more_so_far key mode first now new room took number count more further so_far gives buffer size on =
+    record {
+      times = suc so_far.times;
+      filling = after;
+      taken = record {
+        between = so_far.filling;
+        rounds = so_far.taken;
+        last = record {
+          further = sym so_far.further_is;
+          part = part;
+          taken = subst (λ (t : Taker). TakesPart key left_room t part new.taker) so_far.taker_is
+              (subst (λ (n : ℕ). TakesPart key n now.taker part new.taker) room_is gives.taken);
+          parts = refl;
+        };
+      };
+      taker_is = refl;
+      took_is = gives.number_is ∙ number_at so_far.rest_none;
+      filled = filled;
+      size = size ∙ so_far.size;
+      fits = omega (arith, so_far.fits, so_far.size, fits, gives.filled.count_is, dropped);
+      further_is = on ∙ on_is mode;
+      rest_none = inr (
+        refl,
+        none_behind key mode first now new room took number count more further so_far gives size
+            on,
+      );
+    }
+  where
+    part : Part
+    part = gives.part
+
+    after : Filling
+    after = record { taker = new.taker; parts = part ∷ so_far.filling.parts }
+
+    before : List ℕ
+    before = bytes_of so_far.filling.parts
+
+    left_room : ℕ
+    left_room = length first.buffer - length before
+
+    dropped : length (drop count now.buffer) ≡ length now.buffer - count
+    dropped = length-drop count now.buffer
+
+    room_is : length (drop count now.buffer) ≡ left_room
+    room_is =
+        let count_is = so_far.filled.count_is in
+        let size_is = so_far.size in
+        let d = dropped in
+        omega (arith, d, count_is, size_is)
+
+    fits : length part.bytes ≤ length (drop count now.buffer)
+    fits =
+        let is = ap (λ (p : Part). length p.bytes) gives.taken.part_is in
+        let taken = length-take (length (drop count now.buffer)) gives.taken.left.bytes in
+        omega (arith, is, taken)
+
+    filled : IsFilledBy (bytes_of after.parts) first.buffer new.buffer (count + more)
+    filled =
+        filled_more before part.bytes first.buffer now.buffer new.buffer room count more
+        so_far.filled gives.filled buffer
+
+    number_at : (so_far.filling ≡ begins first.taker)
+        ⊎ ((has_none so_far.filling.parts ≡ false) × (true ≡ true → now.taker.rest ≡ None))
+        → number_of now.taker.rest part ≡ last_number first.taker.rest after.parts
+    number_at (inl begun) =
+        ap (λ (t : Taker). number_of t.rest part)
+        (so_far.taker_is ∙ ap (λ (f : Filling). f.taker) begun)
+        ∙ sym (ap (λ (f : Filling). last_number first.taker.rest (part ∷ f.parts)) begun)
+    number_at (inr some) =
+        ap (λ (r : Option Part). number_of r part) (some.1 refl)
+        ∙ sym (last_more first.taker.rest part so_far.filling.parts some.0)
+
+    on_is : (m : Mode) → goes_on_behind m (count + more) new.buffer
+        ≡ goes_further (record { mode = m; room = length first.buffer }) after.parts
+    on_is Message = refl
+    on_is Stream =
+        ap (λ (n : ℕ). nat_lt n (length new.buffer)) filled.count_is
+        ∙ ap (nat_lt (length (bytes_of after.parts))) (size ∙ so_far.size)
+
+-- ---- it comes to an end
+
+-- one where a write is begun
+pub rests : Option Part → ℕ
+rests None = 0
+rests (Some left) = 1
+
+-- how many writes can still be taken out, and whether one is begun
+pub writes_left : Key → Taker → ℕ
+writes_left key taker =
+    2 * (LAST_WRITE - (left_state key taker.account.seen).read_whole) + rests taker.rest
+
+-- where it goes on
+abbrev pub left_to_take : Key → Taker → Bool → ℕ
+left_to_take key taker true = suc (writes_left key taker)
+left_to_take key taker false = 0
+
+-- a write that was taken out is read whole, and there are no more than there are numbers
+pub one_more_whole : (key : Key) (writer : ℕ) (block : List ℕ) (number : ℕ)
+    (old new : Account Entry) → key.first ≡ 0 → IsTrue (has_number old.shares 0)
+    → KnowsQueue key old → Enters key (entry.Block writer block number) old new
+    → ((left_state key new.seen).read_whole ≡ (left_state key old.seen).read_whole + 1)
+    × ((left_state key new.seen).read_whole ≤ LAST_WRITE)
+one_more_whole key writer block number old new first own knows enters =
+    let made = entry.Block writer block number in
+    let accepts = since_accepts key made old new own knows enters in
+    let seen : new.seen ≡ made ∷ enters.adds.past
+    = ap (λ (a : Account Entry). a.seen) enters.adds.new_is in
+    let whole = ap (λ (h : List Entry). (left_state key h).read_whole) seen in
+    let read = accepts.read in
+    let fits : IsQueueState key.limit key.first (queue_after key new.seen)
+    = history_fits key new.seen (omega (arith, first)) enters.knows.history.legal in
+    let within = fits.within in
+    let given = fits.given in
+    (omega (arith, whole, read), omega (arith, within, given))
+
+none_is : (rest : Option Part) → rest ≡ None → rests rest ≡ 0
+unfolding rests
+none_is rest none = ap rests none
+
+one_is : (rest : Option Part) (left : Part) → rest ≡ Some left → rests rest ≡ 1
+unfolding rests
+one_is rest left some = ap rests some
+
+-- a read that has no part begun behind it has fewer writes to take out
+pub takes_fewer : (key : Key) (room : ℕ) (old new : Taker) (part : Part) → key.first ≡ 0
+    → IsTrue (has_number old.account.shares 0) → KnowsQueue key old.account
+    → TakesPart key room old part new → new.rest ≡ None → writes_left key new < writes_left key old
+unfolding writes_left
+takes_fewer key room old new part first own knows takes none = by takes.next
+  where
+    none_now : rests new.rest ≡ 0
+    none_now = none_is new.rest none
+
+    by : IsLeft old takes.left new ⊎ IsTakenOut key old takes.left new
+        → writes_left key new < writes_left key old
+    by (inl goes) =
+        let one : rests old.rest ≡ 1 = one_is old.rest takes.left goes.left_is in
+        let same = ap (λ (a : Account Entry). (left_state key a.seen).read_whole) goes.account in
+        let now = none_now in
+        omega (arith, one, same, now)
+    by (inr out) =
+        let left = takes.left in
+        let whole =
+        one_more_whole key left.writer left.bytes (left.place + 1) old.account new.account first own
+        knows out.taken in
+        let one = whole.0 in
+        let low = whole.1 in
+        let now = none_now in
+        omega (arith, one, low, now)
+
+-- where it goes on behind a part, nothing of the part's write is left
+pub comes_nearer : (key : Key) (room : ℕ) (old new : Taker) (part : Part) (further : Bool)
+    → key.first ≡ 0 → IsTrue (has_number old.account.shares 0) → KnowsQueue key old.account
+    → TakesPart key room old part new → (further ≡ true → new.rest ≡ None)
+    → left_to_take key new further < left_to_take key old true
+comes_nearer key room old new part true first own knows takes none =
+    let fewer = takes_fewer key room old new part first own knows takes (none refl) in
+    omega (arith, fewer)
+comes_nearer key room old new part false first own knows takes none = omega arith
+
+-- ---- what the code's steps make of it
+
+-- the room behind what was read is all of the buffer behind it
+room_all : (count : ℕ) (buffer : List ℕ)
+    → mid_of count (length buffer - count) buffer ≡ drop count buffer
+room_all count buffer =
+    let size = length-drop count buffer in
+    take_all (length buffer - count) (drop count buffer) (omega (arith, size))
+
+back_all : (count : ℕ) (buffer room : List ℕ)
+    → put_mid count (length buffer - count) buffer room ≡ take count buffer ++ room
+back_all count buffer room =
+    let size = length-drop count buffer in
+    ap (λ xs. take count buffer ++ xs)
+    (ap (λ ys. room ++ ys)
+    (drop_all (length buffer - count) (drop count buffer) (omega (arith, size)))
+    ∙ append-nil room)
+
+abbrev pub room_of : Lending → ℕ → Lending
+room_of now count =
+    record {
+      taker = now.taker;
+      buffer = mid_of count (length now.buffer - count) now.buffer;
+    }
+
+abbrev pub back_of : Lending → ℕ → Taker → List ℕ → Lending
+back_of now count new room =
+    record { taker = new; buffer = put_mid count (length now.buffer - count) now.buffer room }
+
+pub given_part : (key : Key) (old new : Lending) (given : Next) (more : ℕ) (number : Option ℕ)
+    → given ≡ next.Part more number → GivesNext key old given new
+    → GivesPart key old more number new
+given_part key old new given more number is gives =
+    subst (λ (n : Next). GivesNext key old n new) is gives
+
+-- a part more
+pub next_so_far : (key : Key) (mode : Mode) (first now : Lending) (new : Taker) (room : List ℕ)
+    (took number : Option ℕ) (count more : ℕ) (further : Bool)
+    → SoFar key mode first now took count true
+    → GivesPart key (room_of now count) more number (record { taker = new; buffer = room })
+    → length room ≡ length (mid_of count (length now.buffer - count) now.buffer)
+    → further ≡ goes_on_behind mode (count + more) (back_of now count new room).buffer
+    → SoFar key mode first (back_of now count new room) number (count + more) further
+next_so_far key mode first now new room took number count more further so_far gives size on =
+    more_so_far key mode first now (back_of now count new room) room took number count more further
+    so_far
+    (subst (λ (xs : List ℕ). GivesPart key (record { taker = now.taker; buffer = xs }) more number
+    (record { taker = new; buffer = room })) (room_all count now.buffer) gives)
+    (back_all count now.buffer room)
+    (same_len_mid count (length now.buffer - count) now.buffer room size) on
+
+-- so it comes to an end
+pub next_is_nearer : (key : Key) (mode : Mode) (first now : Lending) (new : Taker) (room : List ℕ)
+    (took number : Option ℕ) (count more : ℕ) (further : Bool) → key.first ≡ 0
+    → IsTrue (has_number now.taker.account.shares 0) → KnowsQueue key now.taker.account
+    → SoFar key mode first now took count true
+    → GivesPart key (room_of now count) more number (record { taker = new; buffer = room })
+    → length room ≡ length (mid_of count (length now.buffer - count) now.buffer)
+    → further ≡ goes_on_behind mode (count + more) (back_of now count new room).buffer
+    → left_to_take key new further < left_to_take key now.taker true
+next_is_nearer key mode first now new room took number count more further numbered own knows so_far
+    gives size on =
+    let given = subst (λ (xs : List ℕ). GivesPart key (record { taker = now.taker; buffer = xs })
+    more number (record { taker = new; buffer = room })) (room_all count now.buffer) gives in
+    comes_nearer key (length (drop count now.buffer)) now.taker new given.part further numbered own
+    knows given.taken
+    (none_behind key mode first now (back_of now count new room) room took number count more
+    further so_far given (same_len_mid count (length now.buffer - count) now.buffer room size) on)
+
+-- and no more
+ends_so_far : (key : Key) (mode : Mode) (first now new : Lending) (took : Option ℕ) (count : ℕ)
+    (further : Bool) (hand : ReadHand) (why : Stop) → (so_far : SoFar key mode first now took count further)
+    → new.buffer ≡ now.buffer
+    → StopsAt key (record { mode = mode; room = length first.buffer }) why so_far.filling new.taker
+    → HasFilled key mode first
+    (record { hand = hand; took = took; came = record { count = count; stop = why } }) new
+ends_so_far key mode first now new took count further hand why so_far buffer stops =
+    record {
+      fills = record {
+        times = so_far.times;
+        filling = so_far.filling;
+        taken = so_far.taken;
+        stopped = stops;
+        filled = record {
+          count_is = so_far.filled.count_is;
+          bytes_are = buffer ∙ so_far.filled.bytes_are;
+        };
+      };
+      took = so_far.took_is;
+    }
+
+pub enough_so_far : (key : Key) (mode : Mode) (first now : Lending) (took : Option ℕ) (count : ℕ)
+    (further : Bool) (hand : ReadHand) → SoFar key mode first now took count further
+    → further ≡ false
+    → HasFilled key mode first
+    (record { hand = hand; took = took; came = record { count = count; stop = stop.Enough } }) now
+enough_so_far key mode first now took count further hand so_far enough =
+    ends_so_far key mode first now now took count further hand stop.Enough so_far refl
+    (sym so_far.further_is ∙ enough, so_far.taker_is)
+
+pub not_yet_so_far : (key : Key) (mode : Mode) (first now : Lending) (new : Taker)
+    (room : List ℕ) (took : Option ℕ) (count number : ℕ) (hand : ReadHand) (given : Next)
+    → SoFar key mode first now took count true → given ≡ next.NotYet number
+    → GivesNext key (room_of now count) given (record { taker = new; buffer = room })
+    → HasFilled key mode first
+    (record {
+      hand = hand;
+      took = took;
+      came = record { count = count; stop = stop.NotYet number };
+    }) (back_of now count new room)
+not_yet_so_far key mode first now new room took count number hand given so_far is gives =
+    let found = subst (λ (n : Next). GivesNext key (room_of now count) n
+    (record { taker = new; buffer = room })) is gives in
+    ends_so_far key mode first now (back_of now count new room) took count true hand
+    (stop.NotYet number) so_far
+    (ap (put_mid count (length now.buffer - count) now.buffer) found.1
+    ∙ put_same count (length now.buffer - count) now.buffer) (
+      sym so_far.further_is,
+      subst (λ (t : Taker). FindsNotThere key number t new) so_far.taker_is found.0,
+    )
+
+pub end_so_far : (key : Key) (mode : Mode) (first now : Lending) (new : Taker)
+    (room : List ℕ) (took : Option ℕ) (count : ℕ) (hand : ReadHand) (given : Next)
+    → SoFar key mode first now took count true → given ≡ next.End
+    → GivesNext key (room_of now count) given (record { taker = new; buffer = room })
+    → HasFilled key mode first
+    (record { hand = hand; took = took; came = record { count = count; stop = stop.End } })
+    (back_of now count new room)
+end_so_far key mode first now new room took count hand given so_far is gives =
+    let found = subst (λ (n : Next). GivesNext key (room_of now count) n
+    (record { taker = new; buffer = room })) is gives in
+    ends_so_far key mode first now (back_of now count new room) took count true hand
+    stop.End so_far
+    (ap (put_mid count (length now.buffer - count) now.buffer) found.1
+    ∙ put_same count (length now.buffer - count) now.buffer) (
+      sym so_far.further_is,
+      subst (λ (t : Taker). FindsNothing key entry.End t new) so_far.taker_is found.0,
+    )

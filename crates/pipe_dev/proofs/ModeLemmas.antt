@@ -1,0 +1,487 @@
+-- What a read that goes on as its mode says comes to in message mode: one part, or nothing.
+use Rattle.std.proofs.Common.{◌≡◌, ◌⊎◌, inl, inr, ℕ, zero, suc, ◌+◌, Bool, true, false, nat_lt}
+use Rattle.std.proofs.Common.{List, [], ◌∷◌, length, Option, refl, sym, ◌∙◌, ap, subst}
+use Rattle.std.proofs.Common.{arith, if◌then◌else◌, ◌-◌, drop}
+use Rattle.std.specs.Prelude.{Result, Ok, Err}
+use Rattle.std.proofs.lemmas.Bool.Decides.{nat_tests}
+use Rattle.histories.specs.declared.account.Account.{Account}
+use Rattle.sync_base.specs.declared.fault.Fault.{Fault}
+use Rattle.sync_base.specs.declared.fault.Fault.TheVariants as fault
+use Rattle.sync_base.specs.declared.mode.Mode.{Mode}
+use Rattle.sync_base.specs.declared.mode.Mode.TheVariants.{Message, Stream}
+use Rattle.sync_base.specs.NoteSet.{no_notes}
+use Rattle.rendez_words.specs.Process.{Process}
+use Rattle.sleep_wakeup.specs.Calls.{Sleeps}
+use Rattle.block_queue.specs.declared.entry.Entry.{Entry}
+use Rattle.block_queue.specs.declared.entry.Entry.TheVariants as entry
+use Rattle.block_queue.specs.declared.view.Key.{Key}
+use Rattle.block_queue.specs.Meaning.{Enters}
+use Rattle.pipe_dev.specs.declared.answers.ReadAnswer.{ReadAnswer}
+use Rattle.pipe_dev.specs.declared.answers.ReadAnswer.TheVariants as read
+use Rattle.pipe_dev.specs.declared.answers.TryAnswer.{TryAnswer}
+use Rattle.pipe_dev.specs.declared.filling.Came.{Came}
+use Rattle.pipe_dev.specs.declared.filling.Stop.{Stop}
+use Rattle.pipe_dev.specs.declared.filling.Stop.TheVariants as stop
+use Rattle.pipe_dev.specs.declared.reading.Found.{Found}
+use Rattle.pipe_dev.specs.declared.reading.Found.TheVariants as found
+use Rattle.pipe_dev.specs.declared.row.Row.{Row}
+use Rattle.pipe_dev.specs.Filling.{Taker, TakesPart, TakesMore, Filling, Lending, begins}
+use Rattle.pipe_dev.specs.Filling.{IsLeft, IsTakenOut, FindsNothing, FindsNotThere}
+use Rattle.pipe_dev.specs.Filling.{has_none, goes_further, number_of, last_number, IsFilledBy}
+use Rattle.pipe_dev.specs.Parts.{Part, part_of, bytes_of}
+use Rattle.pipe_dev.specs.ReadCalls.{Reader, GoesOn, TakesOut, Gets, FindsNone, FindsNotYet, FindsEnd}
+use Rattle.pipe_dev.specs.ReadCalls.{SleepsForWrite, FailsForWrite, EndsRead, KeepsTrying, Reads, Tries}
+use Rattle.pipe_dev.specs.ReadCalls.{IsNotYet, IsNotYetOn, InMode}
+use Rattle.pipe_dev.specs.ReadCalls.{Calling, calling, came_to, TriesOn, GivesBytes, SleepsOn, FailsOn}
+use Rattle.pipe_dev.specs.ReadCalls.{EndsOn, KeepsReading, lending_of, is_got}
+use Rattle.pipe_dev.specs.ReadSteps.{found_at, found_of, answer_of}
+use Rattle.pipe_dev.specs.Rendezes.{WakesWith, WakesWriters, reader_rendez}
+use Rattle.pipe_dev.specs.Rounds.{Rounds, FailsAsleep}
+
+-- ---- by what a try is answered
+
+-- bytes are told where it gave some or had enough
+pub got_at : (count : ℕ) (why : Stop) (got : ℕ) → found_at count why ≡ found.Got got
+    → (count ≡ got) × (is_got (came_to count why) ≡ true)
+got_at count stop.Enough got is = (let same : count ≡ got = cc in same, refl)
+got_at count (stop.NotYet number) got is = by (nat_lt 0 count) is
+  where
+    by : (b : Bool) → (if b then found.Got count else found.NotYet number) ≡ found.Got got
+        → (count ≡ got) × (b ≡ true)
+    by true told = (let same : count ≡ got = cc in same, refl)
+    by false told = cc
+got_at count stop.End got is = by (nat_lt 0 count) is
+  where
+    by : (b : Bool) → (if b then found.Got count else found.End) ≡ found.Got got
+        → (count ≡ got) × (b ≡ true)
+    by true told = (let same : count ≡ got = cc in same, refl)
+    by false told = cc
+
+no_count : (count : ℕ) → nat_lt 0 count ≡ false → count ≡ 0
+no_count count none = grind (arith, nat_tests)
+
+-- and else why there are none
+pub not_yet_at : (count : ℕ) (why : Stop) (number : ℕ) → found_at count why ≡ found.NotYet number
+    → came_to count why ≡ came_to 0 (stop.NotYet number)
+not_yet_at count stop.Enough number is = cc
+not_yet_at count (stop.NotYet other) number is = by (nat_lt 0 count) refl is
+  where
+    by : (b : Bool) → nat_lt 0 count ≡ b
+        → (if b then found.Got count else found.NotYet other) ≡ found.NotYet number
+        → came_to count (stop.NotYet other) ≡ came_to 0 (stop.NotYet number)
+    by true some told = cc
+    by false some told =
+        let same : other ≡ number = cc in
+        ap (λ n. came_to n (stop.NotYet other)) (no_count count some)
+        ∙ ap (λ n. came_to 0 (stop.NotYet n)) same
+not_yet_at count stop.End number is = by (nat_lt 0 count) is
+  where
+    by : (b : Bool) → (if b then found.Got count else found.End) ≡ found.NotYet number
+        → came_to count stop.End ≡ came_to 0 (stop.NotYet number)
+    by true told = cc
+    by false told = cc
+
+pub end_at : (count : ℕ) (why : Stop) → found_at count why ≡ found.End
+    → came_to count why ≡ came_to 0 stop.End
+end_at count stop.Enough is = cc
+end_at count (stop.NotYet number) is = by (nat_lt 0 count) is
+  where
+    by : (b : Bool) → (if b then found.Got count else found.NotYet number) ≡ found.End
+        → came_to count (stop.NotYet number) ≡ came_to 0 stop.End
+    by true told = cc
+    by false told = cc
+end_at count stop.End is = by (nat_lt 0 count) refl is
+  where
+    by : (b : Bool) → nat_lt 0 count ≡ b
+        → (if b then found.Got count else found.End) ≡ found.End
+        → came_to count stop.End ≡ came_to 0 stop.End
+    by true some told = cc
+    by false some told = ap (λ n. came_to n stop.End) (no_count count some)
+
+-- ---- in message mode
+
+-- one part was read
+pub record ReadsOne (key : Key) (old : Lending) (filling : Filling) : Type 0 where
+  pub part : Part
+  pub taken : TakesPart key (length old.buffer) old.taker part filling.taker
+  pub parts : filling.parts ≡ part ∷ []
+
+in_message : (mode : Mode) (room : ℕ) (parts : List Part) → mode ≡ Message
+    → goes_further (record { mode = mode; room = room }) parts ≡ has_none parts
+in_message mode room parts is =
+    ap (λ (m : Mode). goes_further (record { mode = m; room = room }) parts) is
+
+all_room : (room : ℕ) → room - 0 ≡ room
+all_room room = omega arith
+
+-- so many parts are one or none
+one_or_none : (key : Key) (mode : Mode) (old : Lending) → mode ≡ Message → (times : ℕ)
+    (filling : Filling)
+    → Rounds (TakesMore key (record { mode = mode; room = length old.buffer })) times
+    (begins old.taker) filling
+    → (filling ≡ begins old.taker) ⊎ ReadsOne key old filling
+one_or_none key mode old is zero filling taken = inl taken
+one_or_none key mode old is (suc zero) filling taken =
+    inr record {
+      part = taken.last.part;
+      taken = subst (λ (n : ℕ). TakesPart key n old.taker taken.last.part filling.taker)
+          (all_room (length old.buffer))
+          (subst (λ (f : Filling). TakesPart key (length old.buffer - length (bytes_of f.parts))
+          f.taker taken.last.part filling.taker) taken.rounds taken.last.taken);
+      parts = taken.last.parts ∙ ap (λ (f : Filling). taken.last.part ∷ f.parts) taken.rounds;
+    }
+one_or_none key mode old is (suc (suc times)) filling taken =
+    let has = ap has_none taken.rounds.last.parts in
+    let goes = sym (in_message mode (length old.buffer) taken.between.parts is) in
+    let further = taken.last.further in
+    let no : false ≡ true = sym has ∙ (goes ∙ further) in
+    cc
+
+-- a try that had enough has one part, and wakes with its number where it was taken out
+one_got : (key : Key) (row : Row) (old : Calling) (count : ℕ) (new : Calling) (filling : Filling)
+    → ReadsOne key (lending_of old) filling → (lending_of new).taker ≡ filling.taker
+    → IsFilledBy (bytes_of filling.parts) old.buffer new.buffer count
+    → WakesWith row (last_number old.reader.rest filling.parts) old.reader.process
+    new.reader.process
+    → Gets key row old.reader old.buffer count new.reader new.buffer
+one_got key row old count new filling one taker filled woken =
+    record {
+      left = left;
+      next = by one.taken.next;
+      filled = record { count_is = got.count_is; bytes = got.bytes_are };
+      rest = ap (λ (t : Taker). t.rest) taker ∙ one.taken.rest;
+    }
+  where
+    left : Part
+    left = one.taken.left
+
+    account : new.reader.account ≡ filling.taker.account
+    account = ap (λ (t : Taker). t.account) taker
+
+    got : IsFilledBy (part_of (length old.buffer) left).bytes old.buffer new.buffer count
+    got =
+        subst (λ (p : Part). IsFilledBy p.bytes old.buffer new.buffer count) one.taken.part_is
+        (subst (λ (ps : List Part). IsFilledBy (bytes_of ps) old.buffer new.buffer count) one.parts
+        filled)
+
+    woken_one : WakesWith row (number_of old.reader.rest one.part) old.reader.process
+        new.reader.process
+    woken_one =
+        subst (λ (ps : List Part). WakesWith row (last_number old.reader.rest ps)
+        old.reader.process new.reader.process) one.parts woken
+
+    by : IsLeft (lending_of old).taker left filling.taker
+        ⊎ IsTakenOut key (lending_of old).taker left filling.taker
+        → GoesOn old.reader left new.reader ⊎ TakesOut key row old.reader left new.reader
+    by (inl goes) =
+        inl record {
+          left_is = goes.left_is;
+          account = account ∙ goes.account;
+          process = subst (λ (r : Option Part). WakesWith row (number_of r one.part)
+              old.reader.process new.reader.process) goes.left_is woken_one;
+        }
+    by (inr out) =
+        inr record {
+          none_left = out.none_left;
+          taken = subst (λ (a : Account Entry). Enters key
+              (entry.Block left.writer left.bytes (left.place + 1)) old.reader.account a)
+              (sym account) out.taken;
+          woken = subst (λ (p : Part). WakesWriters row row.writers (p.place + 1)
+              old.reader.process new.reader.process) one.taken.part_is
+              (subst (λ (r : Option Part). WakesWith row (number_of r one.part)
+              old.reader.process new.reader.process) out.none_left woken_one);
+        }
+
+pub message_gets : (key : Key) (row : Row) (old : Calling) (count : ℕ) (new : Calling)
+    → row.mode ≡ Message → TriesOn key row old (came_to count stop.Enough) new
+    → Gets key row old.reader old.buffer count new.reader new.buffer
+message_gets key row old count new is tries =
+    by
+    (one_or_none key row.mode (lending_of old) is tries.fills.times tries.fills.filling
+    tries.fills.taken)
+  where
+    by : (tries.fills.filling ≡ begins (lending_of old).taker)
+        ⊎ ReadsOne key (lending_of old) tries.fills.filling
+        → Gets key row old.reader old.buffer count new.reader new.buffer
+    by (inl none) =
+        let has = ap (λ (f : Filling). has_none f.parts) none in
+        let goes = in_message row.mode (length old.buffer) tries.fills.filling.parts is in
+        let stopped = tries.fills.stopped.0 in
+        let no : true ≡ false = sym has ∙ (sym goes ∙ stopped) in
+        cc
+    by (inr one) =
+        one_got key row old count new tries.fills.filling one tries.fills.stopped.1
+        tries.fills.filled tries.woken
+
+-- a try that went on and found nothing has no part
+nothing_before : (key : Key) (row : Row) (old : Calling) (filling : Filling) (times : ℕ)
+    → row.mode ≡ Message
+    → Rounds (TakesMore key (record { mode = row.mode; room = length old.buffer })) times
+    (begins (lending_of old).taker) filling
+    → goes_further (record { mode = row.mode; room = length old.buffer }) filling.parts ≡ true
+    → filling ≡ begins (lending_of old).taker
+nothing_before key row old filling times is taken further =
+    by (one_or_none key row.mode (lending_of old) is times filling taken)
+  where
+    by : (filling ≡ begins (lending_of old).taker) ⊎ ReadsOne key (lending_of old) filling
+        → filling ≡ begins (lending_of old).taker
+    by (inl none) = none
+    by (inr one) =
+        let has = ap has_none one.parts in
+        let goes = in_message row.mode (length old.buffer) filling.parts is in
+        let no : false ≡ true = sym has ∙ (sym goes ∙ further) in
+        cc
+
+-- so its buffer is as it was, and nobody was woken
+record DidNothing (old : Calling) (count : ℕ) (new : Calling) : Type 0 where
+  count_is : count ≡ 0
+  buffer : new.buffer ≡ old.buffer
+  process : new.reader.process ≡ old.reader.process
+
+did_nothing : (row : Row) (old : Calling) (count : ℕ) (new : Calling) (filling : Filling)
+    → filling ≡ begins (lending_of old).taker
+    → IsFilledBy (bytes_of filling.parts) old.buffer new.buffer count
+    → WakesWith row (last_number old.reader.rest filling.parts) old.reader.process
+    new.reader.process
+    → DidNothing old count new
+did_nothing row old count new filling none filled woken =
+    let empty = subst (λ (f : Filling). IsFilledBy (bytes_of f.parts) old.buffer new.buffer count)
+    none filled in
+    record {
+      count_is = empty.count_is;
+      buffer = empty.bytes_are ∙ ap (λ n. drop n old.buffer) empty.count_is;
+      process = subst (λ (f : Filling). WakesWith row (last_number old.reader.rest f.parts)
+          old.reader.process new.reader.process) none woken;
+    }
+
+finds_none : (key : Key) (made : Entry) (old new : Calling) (filling : Filling)
+    → filling ≡ begins (lending_of old).taker
+    → FindsNothing key made filling.taker (lending_of new).taker
+    → new.reader.process ≡ old.reader.process → FindsNone key made old.reader new.reader
+finds_none key made old new filling none finds process =
+    let here = subst (λ (f : Filling). FindsNothing key made f.taker (lending_of new).taker) none
+    finds in
+    record {
+      none_left = here.none_left;
+      entered = here.entered;
+      rest = here.rest;
+      process = process;
+    }
+
+-- a try that was told why
+pub record MessageNotYet (key : Key) (number : ℕ) (old : Calling) (count : ℕ) (new : Calling) :
+    Type 0 where
+  pub found : FindsNotYet key number old.reader new.reader
+  pub buffer : new.buffer ≡ old.buffer
+  pub count_is : count ≡ 0
+
+pub message_not_yet : (key : Key) (row : Row) (old : Calling) (count number : ℕ) (new : Calling)
+    → row.mode ≡ Message → TriesOn key row old (came_to count (stop.NotYet number)) new
+    → MessageNotYet key number old count new
+message_not_yet key row old count number new is tries =
+    let fills = tries.fills in
+    let none = nothing_before key row old fills.filling fills.times is fills.taken
+    fills.stopped.0 in
+    let did = did_nothing row old count new fills.filling none fills.filled tries.woken in
+    record {
+      found = record {
+        none = finds_none key (entry.NotYet number) old new fills.filling none
+            fills.stopped.1.nothing did.process;
+        fresh = (subst (λ (f : Filling). FindsNotThere key number f.taker (lending_of new).taker)
+            none fills.stopped.1).fresh;
+      };
+      buffer = did.buffer;
+      count_is = did.count_is;
+    }
+
+pub record MessageEnd (key : Key) (old : Calling) (count : ℕ) (new : Calling) : Type 0 where
+  pub found : FindsEnd key old.reader new.reader
+  pub buffer : new.buffer ≡ old.buffer
+  pub count_is : count ≡ 0
+
+pub message_end : (key : Key) (row : Row) (old : Calling) (count : ℕ) (new : Calling)
+    → row.mode ≡ Message → TriesOn key row old (came_to count stop.End) new
+    → MessageEnd key old count new
+message_end key row old count new is tries =
+    let fills = tries.fills in
+    let none = nothing_before key row old fills.filling fills.times is fills.taken
+    fills.stopped.0 in
+    let did = did_nothing row old count new fills.filling none fills.filled tries.woken in
+    record {
+      found = finds_none key entry.End old new fills.filling none fills.stopped.1 did.process;
+      buffer = did.buffer;
+      count_is = did.count_is;
+    }
+
+-- bytes that are told of a message are those of one
+pub message_bytes : (key : Key) (row : Row) (old : Calling) (count : ℕ) (new : Calling)
+    → row.mode ≡ Message → GivesBytes key row old count new
+    → Gets key row old.reader old.buffer count new.reader new.buffer
+message_bytes key row old count new is gives = by gives.why gives.tried gives.got
+  where
+    by : (why : Stop) → TriesOn key row old (came_to count why) new
+        → is_got (came_to count why) ≡ true
+        → Gets key row old.reader old.buffer count new.reader new.buffer
+    by stop.Enough tried got = message_gets key row old count new is tried
+    by (stop.NotYet number) tried got =
+        let none = (message_not_yet key row old count number new is tried).count_is in
+        let no : false ≡ true = ap (nat_lt 0) (sym none) ∙ got in
+        cc
+    by stop.End tried got =
+        let none = (message_end key row old count new is tried).count_is in
+        let no : false ≡ true = ap (nat_lt 0) (sym none) ∙ got in
+        cc
+
+-- ---- a read that waits
+
+-- a sleep of a read of messages
+slept_message : (key : Key) (row : Row) (old new : Calling) → row.mode ≡ Message
+    → SleepsOn key row old new
+    → SleepsForWrite key row old.reader new.reader × (new.buffer ≡ old.buffer)
+slept_message key row old new is sleeps =
+    let told = message_not_yet key row old 0 sleeps.number
+    (calling (record new.reader { process = sleeps.before }) new.buffer) is sleeps.tried in (
+      record {
+        number = sleeps.number;
+        found = record {
+          none = record {
+            none_left = told.found.none.none_left;
+            entered = told.found.none.entered;
+            rest = told.found.none.rest;
+            process = refl;
+          };
+          fresh = told.found.fresh;
+        };
+        slept = subst (λ (p : Process). Sleeps p (reader_rendez row) sleeps.number no_notes
+            new.reader.process) told.found.none.process sleeps.slept;
+      },
+      told.buffer,
+    )
+
+slept_messages : (key : Key) (row : Row) (times : ℕ) (old new : Calling) → row.mode ≡ Message
+    → Rounds (SleepsOn key row) times old new
+    → Rounds (SleepsForWrite key row) times old.reader new.reader × (new.buffer ≡ old.buffer)
+slept_messages key row zero old new is rounds =
+    (ap (λ (c : Calling). c.reader) rounds, ap (λ (c : Calling). c.buffer) rounds)
+slept_messages key row (suc times) old new is rounds =
+    let before = slept_messages key row times old rounds.between is rounds.rounds in
+    let last = slept_message key row rounds.between new is rounds.last in (
+      record { between = rounds.between.reader; rounds = before.0; last = last.0 },
+      last.1 ∙ before.1,
+    )
+
+-- a sleep that did not end well
+failed_message : (key : Key) (row : Row) (old : Calling) (why : Fault) (new : Calling)
+    → row.mode ≡ Message → FailsOn key row old why new
+    → FailsForWrite key row old.reader why new.reader × (new.buffer ≡ old.buffer)
+failed_message key row old why new is fails =
+    let told = message_not_yet key row old 0 fails.number
+    (calling (record new.reader { process = fails.before }) new.buffer) is fails.tried in (
+      record {
+        number = fails.number;
+        found = record {
+          none = record {
+            none_left = told.found.none.none_left;
+            entered = told.found.none.entered;
+            rest = told.found.none.rest;
+            process = refl;
+          };
+          fresh = told.found.fresh;
+        };
+        failed = subst (λ (p : Process). FailsAsleep p (reader_rendez row) fails.number
+            new.reader.process why) told.found.none.process fails.failed;
+      },
+      told.buffer,
+    )
+
+ends_message : (key : Key) (row : Row) (old : Calling) (buffer : List ℕ)
+    (answer : Result ReadAnswer Fault) (new : Calling) → row.mode ≡ Message
+    → old.buffer ≡ buffer → EndsOn key row old answer new
+    → EndsRead key row old.reader buffer answer new.reader new.buffer
+ends_message key row old buffer (Ok (read.Got count)) new is same ends =
+    subst (λ (xs : List ℕ). Gets key row old.reader xs count new.reader new.buffer) same
+    (message_bytes key row old count new is ends)
+ends_message key row old buffer (Ok read.End) new is same ends =
+    let told = message_end key row old 0 new is ends in (told.found, told.buffer ∙ same)
+ends_message key row old buffer (Err why) new is same ends =
+    let told = failed_message key row old why new is ends in (told.0, told.1 ∙ same)
+
+pub keeps_trying : (key : Key) (row : Row) (old : Calling) (answer : Result ReadAnswer Fault)
+    (new : Calling) → row.mode ≡ Message → KeepsReading key row old answer new
+    → KeepsTrying key row old.reader old.buffer answer new.reader new.buffer
+keeps_trying key row old answer new is reads =
+    let slept = slept_messages key row reads.times old reads.between is reads.slept in
+    record {
+      times = reads.times;
+      between = reads.between.reader;
+      slept = slept.0;
+      ended = ends_message key row reads.between old.buffer answer new is slept.1 reads.ended;
+    }
+
+-- what is so in each mode
+in_mode : (mode : Mode) (OfMessages OfStream : Type 0) → (mode ≡ Message → OfMessages) → OfStream
+    → InMode mode OfMessages OfStream
+in_mode Message OfMessages OfStream of_messages of_stream = of_messages refl
+in_mode Stream OfMessages OfStream of_messages of_stream = of_stream
+
+by_its_mode : (key : Key) (row : Row) (old : Reader) (buffer : List ℕ)
+    (answer : Result ReadAnswer Fault) (new : Reader) (buffer' : List ℕ)
+    → KeepsReading key row (calling old buffer) answer (calling new buffer')
+    → InMode row.mode (KeepsTrying key row old buffer answer new buffer')
+    (KeepsReading key row (calling old buffer) answer (calling new buffer'))
+by_its_mode key row old buffer answer new buffer' reads =
+    in_mode row.mode (KeepsTrying key row old buffer answer new buffer')
+    (KeepsReading key row (calling old buffer) answer (calling new buffer'))
+    (λ is. keeps_trying key row (calling old buffer) answer (calling new buffer') is reads) reads
+
+-- a read that asked the queue is answered by no refusal that comes first
+pub reads_by_mode : (key : Key) (row : Row) (old : Reader) (buffer : List ℕ)
+    (answer : Result ReadAnswer Fault) (new : Reader) (buffer' : List ℕ)
+    → KeepsReading key row (calling old buffer) answer (calling new buffer')
+    → Reads key row old buffer answer new buffer'
+reads_by_mode key row old buffer (Ok answer) new buffer' reads =
+    by_its_mode key row old buffer (Ok answer) new buffer' reads
+reads_by_mode key row old buffer (Err fault.BadCount) new buffer' reads = absurd reads.ended.failed
+reads_by_mode key row old buffer (Err fault.NoRendez) new buffer' reads = absurd reads.ended.failed
+reads_by_mode key row old buffer (Err why) new buffer' reads =
+    by_its_mode key row old buffer (Err why) new buffer' reads
+
+tries_in_mode : (key : Key) (row : Row) (old : Reader) (buffer : List ℕ) (count : ℕ) (why : Stop)
+    (told : Found) (new : Reader) (buffer' : List ℕ) → found_at count why ≡ told
+    → TriesOn key row (calling old buffer) (came_to count why) (calling new buffer')
+    → Tries key row old buffer (answer_of told) new buffer'
+tries_in_mode key row old buffer count why (found.Got got) new buffer' is tried =
+    let said = got_at count why got is in
+    let gives : GivesBytes key row (calling old buffer) got (calling new buffer') = record {
+      why = why;
+      tried = subst (λ (n : ℕ). TriesOn key row (calling old buffer) (came_to n why)
+          (calling new buffer')) said.0 tried;
+      got = subst (λ (n : ℕ). is_got (came_to n why) ≡ true) said.0 said.1;
+    } in
+    in_mode row.mode (Gets key row old buffer got new buffer')
+    (GivesBytes key row (calling old buffer) got (calling new buffer'))
+    (λ mode. message_bytes key row (calling old buffer) got (calling new buffer') mode gives) gives
+tries_in_mode key row old buffer count why (found.NotYet number) new buffer' is tried =
+    let none = subst (λ (c : Came). TriesOn key row (calling old buffer) c (calling new buffer'))
+    (not_yet_at count why number is) tried in
+    in_mode row.mode (IsNotYet key old new × (buffer' ≡ buffer))
+    (IsNotYetOn key row (calling old buffer) (calling new buffer'))
+    (λ mode. let said = message_not_yet key row (calling old buffer) 0 number
+    (calling new buffer') mode none in (record { number = number; found = said.found }, said.buffer))
+    (record { number = number; tried = none })
+tries_in_mode key row old buffer count why found.End new buffer' is tried =
+    let none = subst (λ (c : Came). TriesOn key row (calling old buffer) c (calling new buffer'))
+    (end_at count why is) tried in
+    in_mode row.mode (FindsEnd key old new × (buffer' ≡ buffer))
+    (TriesOn key row (calling old buffer) (came_to 0 stop.End) (calling new buffer'))
+    (λ mode. let said = message_end key row (calling old buffer) 0 (calling new buffer') mode
+    none in (said.found, said.buffer)) none
+
+-- a read that does not wait
+pub tries_by_mode : (key : Key) (row : Row) (old : Reader) (buffer : List ℕ) (came : Came)
+    (answer : TryAnswer) (new : Reader) (buffer' : List ℕ)
+    → TriesOn key row (calling old buffer) came (calling new buffer')
+    → answer ≡ answer_of (found_of came) → Tries key row old buffer answer new buffer'
+tries_by_mode key row old buffer came answer new buffer' tried is =
+    subst (λ (a : TryAnswer). Tries key row old buffer a new buffer') (sym is)
+    (tries_in_mode key row old buffer came.count came.stop (found_of came) new buffer' refl tried)

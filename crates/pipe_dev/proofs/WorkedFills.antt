@@ -1,0 +1,478 @@
+-- Reads that go on as their mode says, worked out by the definitions alone: each row is used, and the
+-- shortest reads that break one are refused.
+use Rattle.std.proofs.Common.{◌≡◌, inl, inr, ℕ, true, false, List, [], ◌∷◌, ◌++◌}
+use Rattle.std.proofs.Common.{Some, None, refl, ap, arith}
+use Rattle.std.specs.Prelude.{Ok, Err}
+use Rattle.histories.specs.declared.account.Account.{Account}
+use Rattle.histories.specs.Account.{AreByOthers}
+use Rattle.histories.specs.Changes.{entered_account}
+use Rattle.histories.specs.History.{IsHistory, entries_by}
+use Rattle.sync_base.specs.declared.fault.Fault.TheVariants as fault
+use Rattle.sync_base.specs.declared.ids.RendezId.{RendezId}
+use Rattle.sync_base.specs.declared.mode.Mode.TheVariants.{Message, Stream}
+use Rattle.rendez_words.specs.Process.{Process, TableId}
+use Rattle.rendez_words.specs.Steps.{raises, finds_nobody}
+use Rattle.sleep_wakeup.specs.Calls.{Ends}
+use Rattle.block_queue.specs.declared.entry.Entry.{Entry}
+use Rattle.block_queue.specs.declared.entry.Entry.TheVariants as entry
+use Rattle.block_queue.specs.declared.view.Key.{Key}
+use Rattle.block_queue.specs.History.{seat_of, opening_state}
+use Rattle.block_queue.specs.Meaning.{Enters, queue_meaning}
+use Rattle.pipe_dev.specs.declared.answers.ReadAnswer.TheVariants as read
+use Rattle.pipe_dev.specs.declared.answers.TryAnswer.TheVariants as try
+use Rattle.pipe_dev.specs.declared.filling.Stop.TheVariants as stop
+use Rattle.pipe_dev.specs.declared.row.Row.{Row}
+use Rattle.pipe_dev.specs.Chain.{AddsRead, AddsTry}
+use Rattle.pipe_dev.specs.Filling.{Taker, TakesMore, Extent, Filling, StopsAt, begins}
+use Rattle.pipe_dev.specs.Filling.{IsFilledBy, goes_further, last_number}
+use Rattle.pipe_dev.specs.Parts.{Part, bytes_of, rest_of}
+use Rattle.pipe_dev.specs.ReadCalls.{Reader, Reads, Tries, TriesOn, calling}
+use Rattle.pipe_dev.specs.ReadCalls.{came_to, is_got}
+use Rattle.pipe_dev.specs.Rendezes.{WakesWriters, WakesWith}
+
+abbrev a : List ℕ
+a = 97 ∷ 98 ∷ []
+
+abbrev b : List ℕ
+b = 99 ∷ []
+
+abbrev part : ℕ → List ℕ → Part
+part place bytes = record { place = place; writer = 0; bytes = bytes }
+
+-- ---- whether a read goes on
+
+abbrev messages : ℕ → Extent
+messages room = record { mode = Message; room = room }
+
+abbrev stream : ℕ → Extent
+stream room = record { mode = Stream; room = room }
+
+message_is_begun : goes_further (messages 4) [] ≡ true
+message_is_begun = refl
+
+-- a message ends a read, also one of no bytes
+message_ends : goes_further (messages 4) (part 0 a ∷ []) ≡ false
+message_ends = refl
+
+empty_message_ends : goes_further (messages 4) (part 0 [] ∷ []) ≡ false
+empty_message_ends = refl
+
+-- a stream goes on behind a write and behind an empty one
+stream_goes_on : goes_further (stream 4) (part 1 [] ∷ part 0 a ∷ []) ≡ true
+stream_goes_on = refl
+
+-- and not behind its last byte
+stream_is_full : goes_further (stream 2) (part 0 a ∷ []) ≡ false
+stream_is_full = refl
+
+-- the oldest bytes come first
+bytes_in_order : bytes_of (part 2 b ∷ part 1 [] ∷ part 0 a ∷ []) ≡ 97 ∷ 98 ∷ 99 ∷ []
+bytes_in_order = refl
+
+-- ---- who is woken with which number
+
+takes_nothing_out : last_number None [] ≡ None
+takes_nothing_out = refl
+
+takes_one_out : last_number None (part 4 a ∷ []) ≡ Some 5
+takes_one_out = refl
+
+-- what is left of a write that was begun wakes nobody again
+goes_on_in_a_write : last_number (Some (part 4 a)) (part 4 a ∷ []) ≡ None
+goes_on_in_a_write = refl
+
+-- the last one counts, and not the first
+wakes_with_the_last : last_number None (part 6 b ∷ part 5 [] ∷ part 4 a ∷ []) ≡ Some 7
+wakes_with_the_last = refl
+
+goes_on_and_takes_out : last_number (Some (part 4 a)) (part 5 b ∷ part 4 a ∷ []) ≡ Some 6
+goes_on_and_takes_out = refl
+
+-- ---- what a try is answered
+
+full_is_got : is_got (came_to 2 stop.Enough) ≡ true
+full_is_got = refl
+
+some_bytes_are_got : is_got (came_to 1 (stop.NotYet 1)) ≡ true
+some_bytes_are_got = refl
+
+none_are_not : is_got (came_to 0 stop.End) ≡ false
+none_are_not = refl
+
+-- ---- what a call adds
+
+adds_all_parts : AddsRead Stream (Ok (read.Got 3)) (97 ∷ 98 ∷ 99 ∷ 0 ∷ []) []
+    (part 2 b ∷ part 1 [] ∷ part 0 a ∷ [])
+adds_all_parts =
+    record {
+      added = part 2 b ∷ part 1 [] ∷ part 0 a ∷ [];
+      bytes_are = refl;
+      parts_are = refl;
+    }
+
+adds_what_it_passed : AddsRead Stream (Err fault.DoubleSleep) [] [] (part 0 [] ∷ [])
+adds_what_it_passed = record { added = part 0 [] ∷ []; bytes_are = refl; parts_are = refl }
+
+-- a call that gave no byte read none
+end_adds_no_byte : AddsRead Stream (Ok read.End) [] [] (part 0 b ∷ []) → ⊥
+end_adds_no_byte adds = by adds.added adds.parts_are adds.bytes_are
+  where
+    by : (added : List Part) → part 0 b ∷ [] ≡ added ++ [] → bytes_of added ≡ [] → ⊥
+    by [] is none = cc
+    by (p ∷ []) is none = let same : p ≡ part 0 b = cc in let bytes = ap (λ (q : Part). q.bytes) same in cc
+    by (p ∷ q ∷ added) is none = cc
+
+not_yet_adds_no_byte : AddsTry Stream try.NotYet [] [] (part 0 [] ∷ [])
+not_yet_adds_no_byte = record { added = part 0 [] ∷ []; bytes_are = refl; parts_are = refl }
+
+-- ---- a whole direction: two bytes, an empty write and one byte more
+
+abbrev loose : Key
+loose = record { limit = 4; first = 0; writers = 1 }
+
+abbrev IsRun : List Entry → Type 0
+IsRun history = IsHistory (queue_meaning 0) (opening_state 4) 2 history
+
+abbrev taker : List Entry → List Entry → Account Entry
+taker mine seen =
+    record {
+      number = 0;
+      shares = record { number = 0; mine = mine } ∷ [];
+      seen = seen;
+      gave = 1 ∷ [];
+    }
+
+enters : (made : Entry) (since mine seen : List Entry)
+    → AreByOthers seat_of (taker mine seen).shares since
+    → entries_by seat_of 0 (since ++ seen) ≡ mine
+    → entries_by seat_of 0 (made ∷ since ++ seen) ≡ made ∷ mine
+    → taker (made ∷ mine) (made ∷ since ++ seen)
+    ≡ entered_account seat_of made (since ++ seen) (taker mine seen)
+    → IsRun (made ∷ since ++ seen)
+    → Enters loose made (taker mine seen) (taker (made ∷ mine) (made ∷ since ++ seen))
+enters made since mine seen others before after is run =
+    record {
+      adds = record {
+        past = since ++ seen;
+        looked = record {
+          since = since;
+          history_is = refl;
+          by_others = others;
+          mine = (record { entries = before }, tt);
+          alone = λ all. let no : false ≡ true = all.gave.0 in cc;
+        };
+        new_is = is;
+      };
+      knows = record {
+        history = run;
+        mine = (record { entries = after }, tt);
+        different = (tt, tt);
+        numbers = (omega arith, tt);
+        gave = (omega arith, tt);
+      };
+    }
+
+abbrev written : List Entry
+written =
+    entry.Stood 0 3 ∷ entry.Taken 0 b 3 ∷ entry.Stood 0 2 ∷ entry.Taken 0 [] 2
+    ∷ entry.Stood 0 1 ∷ entry.Taken 0 a 1 ∷ []
+
+abbrev first_out : List Entry
+first_out = entry.Block 0 a 1 ∷ written
+
+abbrev second_out : List Entry
+second_out = entry.Block 0 [] 2 ∷ first_out
+
+abbrev third_out : List Entry
+third_out = entry.Block 0 b 3 ∷ second_out
+
+abbrev none_there : List Entry
+none_there = entry.NotYet 3 ∷ third_out
+
+run_written : IsRun written
+run_written =
+    record {
+      legal = (
+        record { may = tt; in_turn = refl },
+        (
+          record {
+            may = record { may = (refl, omega arith); number_is = refl; given = omega arith };
+            in_turn = refl;
+          },
+          (
+            record { may = tt; in_turn = refl },
+            (
+              record {
+                may = record { may = (refl, omega arith); number_is = refl; given = omega arith };
+                in_turn = refl;
+              },
+              (
+                record { may = tt; in_turn = refl },
+                (
+                  record {
+                    may =
+                        record { may = (refl, omega arith); number_is = refl; given = omega arith };
+                    in_turn = refl;
+                  },
+                  tt,
+                ),
+              ),
+            ),
+          ),
+        ),
+      );
+      within = (
+        omega arith,
+        (omega arith, (omega arith, (omega arith, (omega arith, (omega arith, tt))))),
+      );
+    }
+
+run_first : IsRun first_out
+run_first =
+    record {
+      legal = (
+        record { may = record { next = refl; number_is = refl }; in_turn = refl },
+        run_written.legal,
+      );
+      within = (omega arith, run_written.within);
+    }
+
+run_second : IsRun second_out
+run_second =
+    record {
+      legal = (
+        record { may = record { next = refl; number_is = refl }; in_turn = refl },
+        run_first.legal,
+      );
+      within = (omega arith, run_first.within);
+    }
+
+run_third : IsRun third_out
+run_third =
+    record {
+      legal = (
+        record { may = record { next = refl; number_is = refl }; in_turn = refl },
+        run_second.legal,
+      );
+      within = (omega arith, run_second.within);
+    }
+
+run_none : IsRun none_there
+run_none =
+    record {
+      legal = (
+        record { may = record { none = inl refl; number_is = refl }; in_turn = refl },
+        run_third.legal,
+      );
+      within = (omega arith, run_third.within);
+    }
+
+abbrev unread : Account Entry
+unread = taker [] []
+
+abbrev one_out : Account Entry
+one_out = taker (entry.Block 0 a 1 ∷ []) first_out
+
+abbrev two_out : Account Entry
+two_out = taker (entry.Block 0 [] 2 ∷ entry.Block 0 a 1 ∷ []) second_out
+
+abbrev all_out : Account Entry
+all_out = taker (entry.Block 0 b 3 ∷ entry.Block 0 [] 2 ∷ entry.Block 0 a 1 ∷ []) third_out
+
+abbrev told : Account Entry
+told =
+    taker (entry.NotYet 3 ∷ entry.Block 0 b 3 ∷ entry.Block 0 [] 2 ∷ entry.Block 0 a 1 ∷ [])
+    none_there
+
+takes_first : Enters loose (entry.Block 0 a 1) unread one_out
+takes_first =
+    enters (entry.Block 0 a 1) written [] [] (refl, (refl, (refl, (refl, (refl, (refl, tt)))))) refl
+    refl refl run_first
+
+takes_second : Enters loose (entry.Block 0 [] 2) one_out two_out
+takes_second =
+    enters (entry.Block 0 [] 2) [] (entry.Block 0 a 1 ∷ []) first_out tt refl refl refl run_second
+
+takes_third : Enters loose (entry.Block 0 b 3) two_out all_out
+takes_third =
+    enters (entry.Block 0 b 3) [] (entry.Block 0 [] 2 ∷ entry.Block 0 a 1 ∷ []) second_out tt refl
+    refl refl run_third
+
+finds_none : Enters loose (entry.NotYet 3) all_out told
+finds_none =
+    enters (entry.NotYet 3) [] (entry.Block 0 b 3 ∷ entry.Block 0 [] 2 ∷ entry.Block 0 a 1 ∷ [])
+    third_out tt refl refl refl run_none
+
+abbrev free : Account Entry → Taker
+free account = record { account = account; rest = None }
+
+abbrev filling : Account Entry → List Part → Filling
+filling account parts = record { taker = free account; parts = parts }
+
+-- the first write, with room for all of it
+fills_first : TakesMore loose (stream 4) (begins (free unread))
+    (filling one_out (part 0 a ∷ []))
+fills_first =
+    record {
+      further = refl;
+      part = part 0 a;
+      taken = record {
+        left = part 0 a;
+        next = inr record { none_left = refl; taken = takes_first };
+        part_is = refl;
+        rest = refl;
+      };
+      parts = refl;
+    }
+
+-- then the empty one, which is passed
+fills_second : TakesMore loose (stream 4) (filling one_out (part 0 a ∷ []))
+    (filling two_out (part 1 [] ∷ part 0 a ∷ []))
+fills_second =
+    record {
+      further = refl;
+      part = part 1 [];
+      taken = record {
+        left = part 1 [];
+        next = inr record { none_left = refl; taken = takes_second };
+        part_is = refl;
+        rest = refl;
+      };
+      parts = refl;
+    }
+
+-- and then the last
+fills_third : TakesMore loose (stream 4) (filling two_out (part 1 [] ∷ part 0 a ∷ []))
+    (filling all_out (part 2 b ∷ part 1 [] ∷ part 0 a ∷ []))
+fills_third =
+    record {
+      further = refl;
+      part = part 2 b;
+      taken = record {
+        left = part 2 b;
+        next = inr record { none_left = refl; taken = takes_third };
+        part_is = refl;
+        rest = refl;
+      };
+      parts = refl;
+    }
+
+-- a read of two bytes is full behind the first write, and passes no empty one
+passes_behind_its_last_byte : TakesMore loose (stream 2) (filling one_out (part 0 a ∷ []))
+    (filling two_out (part 1 [] ∷ part 0 a ∷ [])) → ⊥
+passes_behind_its_last_byte takes = let further : false ≡ true = takes.further in cc
+
+-- a read of messages joins none
+joins_two_messages : TakesMore loose (messages 4) (filling one_out (part 0 a ∷ []))
+    (filling two_out (part 1 [] ∷ part 0 a ∷ [])) → ⊥
+joins_two_messages takes = let further : false ≡ true = takes.further in cc
+
+-- a read with room does not stop at the first write
+stops_at_the_first : StopsAt loose (stream 4) stop.Enough (filling one_out (part 0 a ∷ []))
+    (free one_out) → ⊥
+stops_at_the_first stops = let enough : true ≡ false = stops.0 in cc
+
+-- a full read asks no more
+asks_when_full : StopsAt loose (stream 3) (stop.NotYet 3)
+    (filling all_out (part 2 b ∷ part 1 [] ∷ part 0 a ∷ [])) (free told) → ⊥
+asks_when_full stops = let further : false ≡ true = stops.0 in cc
+
+-- an empty write gives no byte
+counts_an_empty_write : IsFilledBy (bytes_of (part 0 [] ∷ [])) (0 ∷ []) (0 ∷ []) 1 → ⊥
+counts_an_empty_write filled = let count = filled.count_is in cc
+
+-- what is left of a write behind a part is kept
+keeps_the_rest : rest_of 1 (part 0 a) ≡ Some (part 0 (98 ∷ []))
+keeps_the_rest = refl
+
+loses_a_byte : rest_of 1 (part 0 a) ≡ None → ⊥
+loses_a_byte none = cc
+
+-- ---- a try, and a read
+
+abbrev row : Row
+row = record { first = 3; writers = 1; mode = Stream; small = omega arith }
+
+abbrev at_rendez : ℕ → RendezId
+at_rendez number = record { 0 = number }
+
+abbrev woke : Process → ℕ → Process
+woke before level = finds_nobody (raises before (at_rendez 4) level)
+
+module _ (table : TableId) where
+  abbrev idle : Process
+  idle = record { table = table; pid = 0; trace = [] }
+
+  abbrev reader : Account Entry → Process → Reader
+  reader account process = record { account = account; rest = None; process = process }
+
+  abbrev zeros : List ℕ
+  zeros = 0 ∷ 0 ∷ 0 ∷ 0 ∷ []
+
+  wakes_with_three : WakesWriters row 1 3 idle (woke idle 3)
+  wakes_with_three =
+      record {
+        between = idle;
+        others = refl;
+        last = record {
+          receipt = record { rendez = at_rendez 4; level = 3 };
+          woken = record { ends = inl refl; rendez_is = refl; level_is = refl; receipt = inl refl };
+        };
+      }
+
+  -- it joined all three writes, was told that no more are there, and then woke its writer once
+  joins_all : TriesOn loose row (calling (reader unread idle) zeros)
+      (came_to 3 (stop.NotYet 3))
+      (calling (reader told (woke idle 3)) (97 ∷ 98 ∷ 99 ∷ 0 ∷ []))
+  joins_all =
+      record {
+        fills = record {
+          times = 3;
+          filling = filling all_out (part 2 b ∷ part 1 [] ∷ part 0 a ∷ []);
+          taken = record {
+            between = filling two_out (part 1 [] ∷ part 0 a ∷ []);
+            rounds = record {
+              between = filling one_out (part 0 a ∷ []);
+              rounds = record {
+                between = begins (free unread);
+                rounds = refl;
+                last = fills_first;
+              };
+              last = fills_second;
+            };
+            last = fills_third;
+          };
+          stopped = (
+            refl,
+            record {
+              nothing = record { none_left = refl; entered = finds_none; rest = refl };
+              fresh = λ knew. cc;
+            },
+          );
+          filled = record { count_is = refl; bytes_are = refl };
+        };
+        woken = wakes_with_three;
+      }
+
+  -- so it is answered
+  answers_all : Tries loose row (reader unread idle) zeros (try.Got 3)
+      (reader told (woke idle 3)) (97 ∷ 98 ∷ 99 ∷ 0 ∷ [])
+  answers_all = record { why = stop.NotYet 3; tried = joins_all; got = refl }
+
+  reads_all : Reads loose row (reader unread idle) zeros (Ok (read.Got 3))
+      (reader told (woke idle 3)) (97 ∷ 98 ∷ 99 ∷ 0 ∷ [])
+  reads_all =
+      record {
+        times = 0;
+        between = calling (reader unread idle) zeros;
+        slept = refl;
+        ended = answers_all;
+      }
+
+  -- a try that wakes nobody, or with the number of the first write, is none
+  not_woken : WakesWith row (last_number None (part 2 b ∷ part 1 [] ∷ part 0 a ∷ [])) idle idle → ⊥
+  not_woken woken = by woken.last.woken.ends
+    where
+      by : Ends (raises woken.between (at_rendez 4) 3) idle → ⊥
+      by (inl nobody) = let trace = ap (λ (p : Process). p.trace) nobody in cc
+      by (inr sleeper) = let trace = ap (λ (p : Process). p.trace) sleeper.1 in cc

@@ -1,0 +1,44 @@
+-- What the steps of filling a buffer come to.
+use Rattle.std.specs.Prelude.{◌≡◌, ℕ, List, Option}
+use Rattle.block_queue.specs.declared.view.Key.{Key}
+use Rattle.block_queue.specs.declared.entry.Entry.TheVariants as entry
+use Rattle.block_queue.specs.Seats.{take_account}
+use Rattle.sync_base.specs.declared.mode.Mode.{Mode}
+use Rattle.pipe_dev.specs.declared.filling.Filled.{Filled}
+use Rattle.pipe_dev.specs.declared.filling.Next.{Next}
+use Rattle.pipe_dev.specs.declared.filling.Next.TheVariants as next
+use Rattle.pipe_dev.specs.declared.hand.ReadHand.{ReadHand}
+use Rattle.pipe_dev.specs.Filling.{Taker, TakesPart, FindsNothing, FindsNotThere, Lending}
+use Rattle.pipe_dev.specs.Filling.{IsFilledBy, FillsUp, number_of, last_number}
+use Rattle.pipe_dev.specs.Parts.{Part}
+use Rattle.std.specs.Prelude.{length}
+
+-- the end that has this hand
+abbrev pub taker_with : ReadHand → Taker
+taker_with hand = record { account = take_account hand.seat; rest = hand.rest }
+
+-- and the buffer that its read fills
+abbrev pub lending_with : ReadHand → List ℕ → Lending
+lending_with hand buffer = record { taker = taker_with hand; buffer = buffer }
+
+-- one part was read, with the number of its write where that was taken out for it
+pub record GivesPart (key : Key) (old : Lending) (count : ℕ) (number : Option ℕ)
+    (new : Lending) : Type 0 where
+  pub part : Part
+  pub taken : TakesPart key (length old.buffer) old.taker part new.taker
+  pub filled : IsFilledBy part.bytes old.buffer new.buffer count
+  pub number_is : number ≡ number_of old.taker.rest part
+
+-- what one step did
+abbrev pub GivesNext : Key → Lending → Next → Lending → Type 0
+GivesNext key old (next.Part count number) new = GivesPart key old count number new
+GivesNext key old (next.NotYet number) new =
+    FindsNotThere key number old.taker new.taker × (new.buffer ≡ old.buffer)
+GivesNext key old next.End new =
+    FindsNothing key entry.End old.taker new.taker × (new.buffer ≡ old.buffer)
+
+-- the buffer was filled, and the number of the last write that was taken out is known
+pub record HasFilled (key : Key) (mode : Mode) (old : Lending) (filled : Filled)
+    (new : Lending) : Type 0 where
+  pub fills : FillsUp key mode old filled.came new
+  pub took : filled.took ≡ last_number old.taker.rest fills.filling.parts

@@ -1,0 +1,136 @@
+//! How a read fills its buffer, part by part, in either mode. Nobody is woken here.
+ghost use Rattle.std.specs.Prelude.{◌≡◌, ◌≢◌, []};
+ghost use Rattle.block_queue.specs.Seats.{key_of};
+ghost use Rattle.pipe_dev.specs.Ends.{IsReadHand};
+ghost use Rattle.pipe_dev.specs.FillSteps.{GivesNext, HasFilled, lending_with};
+
+use crate::begun::{Begun, Given};
+use crate::hand::ReadHand;
+use crate::row::Row;
+use block_queue::{Queue, TakeAnswer};
+use sync_base::Mode;
+
+/// Why a read went no further.
+#[derive(Clone, Copy, Drop)]
+pub enum Stop {
+    /// It has a message, or in stream mode its buffer is full.
+    Enough,
+    /// The next write is not there yet. The reader sleeps with this number.
+    NotYet(u64),
+    /// All is read, and the direction is hung up.
+    End,
+}
+
+/// How far a read came: how many bytes it gave, and why it went no further.
+#[derive(Clone, Copy, Drop)]
+pub struct Came {
+    pub(crate) count: usize,
+    pub(crate) stop: Stop,
+}
+
+/// What a read made of its end and its buffer, and the number of the last write that it took out.
+#[derive(Drop)]
+pub(crate) struct Filled {
+    pub(crate) hand: ReadHand,
+    pub(crate) took: Option<u64>,
+    pub(crate) came: Came,
+}
+
+// One part more, with the number of its write where that was taken out for it; or none.
+#[derive(Clone, Copy, Drop)]
+pub(crate) enum Next {
+    Part(usize, Option<u64>),
+    NotYet(u64),
+    End,
+}
+
+#[derive(Drop)]
+pub(crate) struct Step {
+    hand: ReadHand,
+    next: Next,
+}
+
+/// Reads part by part: in message mode one, and in stream mode as far as the buffer has room.
+pub(crate) fn fill(queue: &Queue, row: &Row, hand: ReadHand, buffer: &mut [u8]) -> Filled
+    requires hand { IsReadHand queue.now row.now hand }
+    requires room { buffer.old ≢ [] }
+    ensures hand { IsReadHand queue.now row.now result.hand }
+    ensures filled { HasFilled (key_of queue.now) row.now.mode (lending_with hand buffer.old)
+        result (lending_with result.hand buffer.new) }
+{
+    let mut hand = hand;
+    let mut count: usize = 0;
+    let mut took = None;
+    let mut further = true;
+    'filling: while further {
+        let Step { hand: now, next } = take_part(queue, row, hand, &mut buffer[count..]);
+        hand = now;
+        match next {
+            Next::Part(more, number) => {
+                count += more;
+                took = number;
+                further = match row.mode {
+                    Mode::Message => false,
+                    Mode::Stream => count < buffer.len(),
+                };
+            }
+            Next::NotYet(number) => {
+                let stop = Stop::NotYet(number);
+                return Filled {
+                    hand,
+                    took,
+                    came: Came { count, stop },
+                };
+            }
+            Next::End => {
+                let stop = Stop::End;
+                return Filled {
+                    hand,
+                    took,
+                    came: Came { count, stop },
+                };
+            }
+        }
+    }
+    let stop = Stop::Enough;
+    Filled {
+        hand,
+        took,
+        came: Came { count, stop },
+    }
+}
+
+// One part: of what is left of a write that was begun, or else of the next write.
+fn take_part(queue: &Queue, row: &Row, hand: ReadHand, room: &mut [u8]) -> Step
+    requires hand { IsReadHand queue.now row.now hand }
+    ensures hand { IsReadHand queue.now row.now result.hand }
+    ensures next { GivesNext (key_of queue.now) (lending_with hand room.old) result.next
+        (lending_with result.hand room.new) }
+{
+    let ReadHand { mut seat, rest } = hand;
+    if let Some(begun) = rest {
+        let Given { count, left, spare } = begun.give(room);
+        seat.spare.keep(spare);
+        return Step {
+            hand: ReadHand { seat, rest: left },
+            next: Next::Part(count, None),
+        };
+    }
+    let next = match queue.take(&mut seat) {
+        TakeAnswer::Block(block, writer, number) => {
+            let whole = Begun::whole(block, writer, number - 1);
+            let Given { count, left, spare } = whole.give(room);
+            seat.spare.keep(spare);
+            return Step {
+                hand: ReadHand { seat, rest: left },
+                next: Next::Part(count, Some(number)),
+            };
+        }
+        TakeAnswer::NotYet(number) => Next::NotYet(number),
+        TakeAnswer::End => Next::End,
+    };
+    Step {
+        hand: ReadHand { seat, rest: None },
+        next,
+    }
+}
