@@ -25,9 +25,9 @@ use sync_base::limits::MAX_PIPE_LIMIT;
 use sync_base::{Fault, Piece};
 
 /// How many writes all writers try together in a run.
-const WRITES: u64 = 500;
+const WRITES: u64 = 100;
 
-const LIMITS: [u64; 5] = [1, 2, 3, 16, 256];
+const LIMITS: [u64; 5] = [1, 2, 3, 16, 64];
 
 const MOST_WRITERS: u64 = 8;
 

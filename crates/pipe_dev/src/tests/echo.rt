@@ -11,7 +11,7 @@ use std::test::Fail;
 use std::thread::{Threads, join};
 use sync_base::Fault;
 
-const MESSAGES: u64 = 10_000;
+const MESSAGES: u64 = 1_000;
 
 /// A process that has one whole end, with one writer.
 #[derive(Drop)]
