@@ -1,7 +1,7 @@
 -- Reads that go on as their mode says, worked out by the definitions alone: each row is used, and the
 -- shortest reads that break one are refused.
-use Rattle.std.proofs.Common.{◌≡◌, inl, inr, ℕ, true, false, List, [], ◌∷◌, ◌++◌}
-use Rattle.std.proofs.Common.{Some, None, refl, ap, arith}
+use Rattle.std.proofs.Common.{◌≡◌, ◌≢◌, inl, inr, ℕ, true, false, List, [], ◌∷◌, ◌++◌}
+use Rattle.std.proofs.Common.{Some, None, refl, sym, ◌∙◌, ap, arith, length, length-append}
 use Rattle.std.specs.Prelude.{Ok, Err}
 use Rattle.histories.specs.declared.account.Account.{Account}
 use Rattle.histories.specs.Account.{AreByOthers}
@@ -10,9 +10,13 @@ use Rattle.histories.specs.History.{IsHistory, entries_by}
 use Rattle.sync_base.specs.declared.fault.Fault.TheVariants as fault
 use Rattle.sync_base.specs.declared.ids.RendezId.{RendezId}
 use Rattle.sync_base.specs.declared.mode.Mode.TheVariants.{Message, Stream}
+use Rattle.sync_base.specs.declared.note.Note.TheVariants.{Interrupt}
+use Rattle.sync_base.specs.declared.note.NoteSet.{NoteSet}
+use Rattle.sync_base.specs.NoteSet.{no_notes, only}
+use Rattle.sleep_core.specs.declared.answer.Answer.TheVariants as answer
 use Rattle.rendez_words.specs.Process.{Process, TableId}
-use Rattle.rendez_words.specs.Steps.{raises, finds_nobody}
-use Rattle.sleep_wakeup.specs.Calls.{Ends}
+use Rattle.rendez_words.specs.Steps.{posts, tests, clears, raises, finds_nobody}
+use Rattle.sleep_wakeup.specs.Calls.{Ends, Sleeps}
 use Rattle.block_queue.specs.declared.entry.Entry.{Entry}
 use Rattle.block_queue.specs.declared.entry.Entry.TheVariants as entry
 use Rattle.block_queue.specs.declared.view.Key.{Key}
@@ -26,7 +30,7 @@ use Rattle.pipe_dev.specs.Chain.{AddsRead, AddsTry}
 use Rattle.pipe_dev.specs.Filling.{Taker, TakesMore, Extent, Filling, StopsAt, begins}
 use Rattle.pipe_dev.specs.Filling.{IsFilledBy, goes_further, last_number}
 use Rattle.pipe_dev.specs.Parts.{Part, bytes_of, rest_of}
-use Rattle.pipe_dev.specs.ReadCalls.{Reader, Reads, Tries, TriesOn, calling}
+use Rattle.pipe_dev.specs.ReadCalls.{Reader, Reads, Tries, TriesOn, SleepsOn, calling}
 use Rattle.pipe_dev.specs.ReadCalls.{came_to, is_got}
 use Rattle.pipe_dev.specs.Rendezes.{WakesWriters, WakesWith}
 
@@ -399,6 +403,88 @@ at_rendez number = record { 0 = number }
 abbrev woke : Process → ℕ → Process
 woke before level = finds_nobody (raises before (at_rendez 4) level)
 
+abbrev slept : Process → ℕ → ℕ → NoteSet → Process
+slept before number threshold set =
+    clears (tests (posts before (at_rendez number) threshold answer.Posted) answer.Leaving) set
+
+sleeps : (before : Process) (number threshold : ℕ) (set : NoteSet)
+    → Sleeps before (at_rendez number) threshold set (slept before number threshold set)
+sleeps before number threshold set =
+    record {
+      tested = answer.Leaving;
+      leaves = record { waiting = []; of_wait = tt; cleared = refl };
+      cause = λ none. inl refl;
+    }
+
+has_notes : only Interrupt ≢ no_notes
+has_notes none = let held = ap (λ (set : NoteSet). set.interrupt) none in cc
+
+-- another direction: an empty write alone, and one that is hung up
+abbrev empty_written : List Entry
+empty_written = entry.Stood 0 1 ∷ entry.Taken 0 [] 1 ∷ []
+
+abbrev empty_out : List Entry
+empty_out = entry.Block 0 [] 1 ∷ empty_written
+
+run_empty_out : IsRun empty_out
+run_empty_out =
+    record {
+      legal = (
+        record { may = record { next = refl; number_is = refl }; in_turn = refl },
+        (
+          record { may = tt; in_turn = refl },
+          (
+            record {
+              may = record { may = (refl, omega arith); number_is = refl; given = omega arith };
+              in_turn = refl;
+            },
+            tt,
+          ),
+        ),
+      );
+      within = (omega arith, (omega arith, (omega arith, tt)));
+    }
+
+run_nothing : IsRun (entry.NotYet 1 ∷ empty_out)
+run_nothing =
+    record {
+      legal = (
+        record { may = record { none = inl refl; number_is = refl }; in_turn = refl },
+        run_empty_out.legal,
+      );
+      within = (omega arith, run_empty_out.within);
+    }
+
+run_ended : IsRun (entry.End ∷ entry.Hung 1 ∷ [])
+run_ended =
+    record {
+      legal = (
+        record { may = (refl, refl); in_turn = refl },
+        (record { may = tt; in_turn = refl }, tt),
+      );
+      within = (omega arith, (omega arith, tt));
+    }
+
+abbrev passed : Account Entry
+passed = taker (entry.Block 0 [] 1 ∷ []) empty_out
+
+abbrev told_empty : Account Entry
+told_empty = taker (entry.NotYet 1 ∷ entry.Block 0 [] 1 ∷ []) (entry.NotYet 1 ∷ empty_out)
+
+abbrev has_ended : Account Entry
+has_ended = taker (entry.End ∷ []) (entry.End ∷ entry.Hung 1 ∷ [])
+
+takes_empty : Enters loose (entry.Block 0 [] 1) unread passed
+takes_empty =
+    enters (entry.Block 0 [] 1) empty_written [] [] (refl, (refl, tt)) refl refl refl run_empty_out
+
+finds_nothing : Enters loose (entry.NotYet 1) passed told_empty
+finds_nothing =
+    enters (entry.NotYet 1) [] (entry.Block 0 [] 1 ∷ []) empty_out tt refl refl refl run_nothing
+
+finds_the_end : Enters loose entry.End unread has_ended
+finds_the_end = enters entry.End (entry.Hung 1 ∷ []) [] [] (refl, tt) refl refl refl run_ended
+
 module _ (table : TableId) where
   abbrev idle : Process
   idle = record { table = table; pid = 0; trace = [] }
@@ -476,3 +562,210 @@ module _ (table : TableId) where
       by : Ends (raises woken.between (at_rendez 4) 3) idle → ⊥
       by (inl nobody) = let trace = ap (λ (p : Process). p.trace) nobody in cc
       by (inr sleeper) = let trace = ap (λ (p : Process). p.trace) sleeper.1 in cc
+
+  -- ---- a write that is begun, and what is left of it
+
+  wakes_with_one : WakesWriters row 1 1 idle (woke idle 1)
+  wakes_with_one =
+      record {
+        between = idle;
+        others = refl;
+        last = record {
+          receipt = record { rendez = at_rendez 4; level = 1 };
+          woken = record { ends = inl refl; rendez_is = refl; level_is = refl; receipt = inl refl };
+        };
+      }
+
+  abbrev second_byte : Part
+  second_byte = part 0 (98 ∷ [])
+
+  abbrev begun : Process → Reader
+  begun process = record { account = one_out; rest = Some second_byte; process = process }
+
+  -- one byte of the first write fills its buffer, and the other is kept
+  begins_a_write : TriesOn loose row (calling (reader unread idle) (0 ∷ [])) (came_to 1 stop.Enough)
+      (calling (begun (woke idle 1)) (97 ∷ []))
+  begins_a_write =
+      record {
+        fills = record {
+          times = 1;
+          filling = record {
+            taker = record { account = one_out; rest = Some second_byte };
+            parts = part 0 (97 ∷ []) ∷ [];
+          };
+          taken = record {
+            between = begins (free unread);
+            rounds = refl;
+            last = record {
+              further = refl;
+              part = part 0 (97 ∷ []);
+              taken = record {
+                left = part 0 a;
+                next = inr record { none_left = refl; taken = takes_first };
+                part_is = refl;
+                rest = refl;
+              };
+              parts = refl;
+            };
+          };
+          stopped = (refl, refl);
+          filled = record { count_is = refl; bytes_are = refl };
+        };
+        woken = wakes_with_one;
+      }
+
+  -- the other is read next, and nobody is woken for it
+  goes_on_in_it : TriesOn loose row (calling (begun idle) (0 ∷ [])) (came_to 1 stop.Enough)
+      (calling (reader one_out idle) (98 ∷ []))
+  goes_on_in_it =
+      record {
+        fills = record {
+          times = 1;
+          filling = filling one_out (second_byte ∷ []);
+          taken = record {
+            between = begins (record { account = one_out; rest = Some second_byte });
+            rounds = refl;
+            last = record {
+              further = refl;
+              part = second_byte;
+              taken = record {
+                left = second_byte;
+                next = inl record { left_is = refl; account = refl };
+                part_is = refl;
+                rest = refl;
+              };
+              parts = refl;
+            };
+          };
+          stopped = (refl, refl);
+          filled = record { count_is = refl; bytes_are = refl };
+        };
+        woken = refl;
+      }
+
+  tries_a_byte : Tries loose row (begun idle) (0 ∷ []) (try.Got 1) (reader one_out idle) (98 ∷ [])
+  tries_a_byte = record { why = stop.Enough; tried = goes_on_in_it; got = refl }
+
+  -- ---- no byte
+
+  -- an empty write was passed, for which the writer was woken
+  passes_an_empty_write : TriesOn loose row (calling (reader unread idle) b)
+      (came_to 0 (stop.NotYet 1)) (calling (reader told_empty (woke idle 1)) b)
+  passes_an_empty_write =
+      record {
+        fills = record {
+          times = 1;
+          filling = filling passed (part 0 [] ∷ []);
+          taken = record {
+            between = begins (free unread);
+            rounds = refl;
+            last = record {
+              further = refl;
+              part = part 0 [];
+              taken = record {
+                left = part 0 [];
+                next = inr record { none_left = refl; taken = takes_empty };
+                part_is = refl;
+                rest = refl;
+              };
+              parts = refl;
+            };
+          };
+          stopped = (
+            refl,
+            record {
+              nothing = record { none_left = refl; entered = finds_nothing; rest = refl };
+              fresh = λ knew. cc;
+            },
+          );
+          filled = record { count_is = refl; bytes_are = refl };
+        };
+        woken = wakes_with_one;
+      }
+
+  tries_too_early : Tries loose row (reader unread idle) b try.NotYet
+      (reader told_empty (woke idle 1)) b
+  tries_too_early = record { number = 1; tried = passes_an_empty_write }
+
+  -- it wakes first, and then sleeps with the number that it was told
+  passes_and_sleeps : SleepsOn loose row (calling (reader unread idle) b)
+      (calling (reader told_empty (slept (woke idle 1) 3 1 no_notes)) b)
+  passes_and_sleeps =
+      record {
+        number = 1;
+        before = woke idle 1;
+        tried = passes_an_empty_write;
+        slept = sleeps (woke idle 1) 3 1 no_notes;
+      }
+
+  read_is_interrupted : Reads loose row (reader unread idle) b
+      (Err (fault.Interrupted (only Interrupt)))
+      (reader told_empty (slept (woke idle 1) 3 1 (only Interrupt))) b
+  read_is_interrupted =
+      record {
+        times = 0;
+        between = calling (reader unread idle) b;
+        slept = refl;
+        ended = record {
+          number = 1;
+          before = woke idle 1;
+          tried = passes_an_empty_write;
+          failed = (sleeps (woke idle 1) 3 1 (only Interrupt), has_notes);
+        };
+      }
+
+  read_sleeps_where_another_does : Reads loose row (reader unread idle) b (Err fault.DoubleSleep)
+      (reader told_empty (posts (woke idle 1) (at_rendez 3) 1 answer.DoubleSleep)) b
+  read_sleeps_where_another_does =
+      record {
+        times = 0;
+        between = calling (reader unread idle) b;
+        slept = refl;
+        ended = record {
+          number = 1;
+          before = woke idle 1;
+          tried = passes_an_empty_write;
+          failed = refl;
+        };
+      }
+
+  finds_an_end : TriesOn loose row (calling (reader unread idle) b) (came_to 0 stop.End)
+      (calling (reader has_ended idle) b)
+  finds_an_end =
+      record {
+        fills = record {
+          times = 0;
+          filling = begins (free unread);
+          taken = refl;
+          stopped = (refl, record { none_left = refl; entered = finds_the_end; rest = refl });
+          filled = record { count_is = refl; bytes_are = refl };
+        };
+        woken = refl;
+      }
+
+  tries_at_the_end : Tries loose row (reader unread idle) b try.End (reader has_ended idle) b
+  tries_at_the_end = finds_an_end
+
+  reads_to_the_end : Reads loose row (reader unread idle) b (Ok read.End) (reader has_ended idle) b
+  reads_to_the_end =
+      record {
+        times = 0;
+        between = calling (reader unread idle) b;
+        slept = refl;
+        ended = finds_an_end;
+      }
+
+  -- an end has no byte
+  end_fills_its_buffer : (new : Reader)
+      → Tries loose row (reader unread idle) b try.End new a → ⊥
+  end_fills_its_buffer new tries =
+      let filled = tries.fills.filled in
+      let none : length (bytes_of tries.fills.filling.parts) ≡ 0 = sym filled.count_is in
+      let size = ap length filled.bytes_are
+      ∙ length-append (bytes_of tries.fills.filling.parts) b in
+      absurd (omega (arith, none, size))
+
+  -- a read that is refused at once did nothing
+  refused_read_passes : Reads loose row (reader unread idle) b (Err fault.NoRendez)
+      (reader passed idle) b → ⊥
+  refused_read_passes reads = let seen = ap (λ (r : Reader). r.account.seen) reads.same in cc
