@@ -26,13 +26,21 @@ got_fits key row old buffer count new buffer' reads = by row.mode reads
     by Message trying =
         let filled = trying.ended.filled in
         let bytes = (part_of (length buffer) trying.ended.left).bytes in
-        omega (arith, filled.count_is, ap length filled.bytes,
-        length-append bytes (drop count buffer))
+        omega (
+          arith,
+          filled.count_is,
+          ap length filled.bytes,
+          length-append bytes (drop count buffer),
+        )
     by Stream reading =
         let filled = reading.ended.tried.fills.filled in
         let bytes = bytes_of reading.ended.tried.fills.filling.parts in
-        omega (arith, filled.count_is, ap length filled.bytes_are,
-        length-append bytes (drop count reading.between.buffer))
+        omega (
+          arith,
+          filled.count_is,
+          ap length filled.bytes_are,
+          length-append bytes (drop count reading.between.buffer),
+        )
 
 pub answer_fits : (key : Key) (row : Row) (old : Reader) (buffer : List ℕ)
     (answer : Result ReadAnswer Fault) (count : ℕ) (new : Reader) (buffer' : List ℕ)
