@@ -42,12 +42,15 @@ tried_bytes key row old came count new tried is =
       got = subst (λ (n : ℕ). is_got (came_to n came.stop) ≡ true) got.0 got.1;
     }
 
+-- no byte, for the next write is not there yet
 pub tried_not_yet : (key : Key) (row : Row) (old : Calling) (came : Came) (number : ℕ)
     (new : Calling) → TriesOn key row old came new → found_of came ≡ found.NotYet number
     → TriesOn key row old (came_to 0 (stop.NotYet number)) new
 tried_not_yet key row old came number new tried is =
-    subst (λ (c : Came). TriesOn key row old c new) (not_yet_at came.count came.stop number is) tried
+    subst (λ (c : Came). TriesOn key row old c new)
+    (not_yet_at came.count came.stop number is) tried
 
+-- no byte, for no more will come
 pub tried_end : (key : Key) (row : Row) (old : Calling) (came : Came) (new : Calling)
     → TriesOn key row old came new → found_of came ≡ found.End
     → TriesOn key row old (came_to 0 stop.End) new

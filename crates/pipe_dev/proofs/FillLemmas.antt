@@ -44,16 +44,19 @@ pub taken_whole : (key : Key) (old new : Account Entry) (writer : ℕ) (block : 
     → Enters key (entry.Block writer block number) old new
     → Enters key (entry.Block whole.writer whole.bytes (whole.place + 1)) old new
 taken_whole key old new writer block number whole is enters =
-    let right = (entered_right key (entry.Block writer block number) old new enters).may.number_is in
+    let right =
+    (entered_right key (entry.Block writer block number) old new enters).may.number_is in
     let same : number ≡ number - 1 + 1 = omega (arith, right) in
     subst (λ (w : Part). Enters key (entry.Block w.writer w.bytes (w.place + 1)) old new) (sym is)
     (subst (λ (n : ℕ). Enters key (entry.Block writer block n) old new) same enters)
 
+-- and its number is the next one
 pub whole_number : (key : Key) (old new : Account Entry) (writer : ℕ) (block : List ℕ) (number : ℕ)
     (whole : Part) → whole ≡ record { place = number - 1; writer = writer; bytes = block }
     → Enters key (entry.Block writer block number) old new → number ≡ whole.place + 1
 whole_number key old new writer block number whole is enters =
-    let right = (entered_right key (entry.Block writer block number) old new enters).may.number_is in
+    let right =
+    (entered_right key (entry.Block writer block number) old new enters).may.number_is in
     let place : whole.place ≡ number - 1 = ap (λ (w : Part). w.place) is in
     omega (arith, right, place)
 
@@ -371,6 +374,7 @@ back_all count buffer room =
     (drop_all (length buffer - count) (drop count buffer) (omega (arith, size)))
     ∙ append-nil room)
 
+-- the end and the room that is left of its buffer
 abbrev pub room_of : Lending → ℕ → Lending
 room_of now count =
     record {
@@ -378,10 +382,12 @@ room_of now count =
       buffer = mid_of count (length now.buffer - count) now.buffer;
     }
 
+-- the end and its buffer, with that room filled
 abbrev pub back_of : Lending → ℕ → Taker → List ℕ → Lending
 back_of now count new room =
     record { taker = new; buffer = put_mid count (length now.buffer - count) now.buffer room }
 
+-- a step that gave a part
 pub given_part : (key : Key) (old new : Lending) (given : Next) (more : ℕ) (number : Option ℕ)
     → given ≡ next.Part more number → GivesNext key old given new
     → GivesPart key old more number new
@@ -424,7 +430,8 @@ next_is_nearer key mode first now new room took number count more further number
 
 -- and no more
 ends_so_far : (key : Key) (mode : Mode) (first now new : Lending) (took : Option ℕ) (count : ℕ)
-    (further : Bool) (hand : ReadHand) (why : Stop) → (so_far : SoFar key mode first now took count further)
+    (further : Bool) (hand : ReadHand) (why : Stop)
+    → (so_far : SoFar key mode first now took count further)
     → new.buffer ≡ now.buffer
     → StopsAt key (record { mode = mode; room = length first.buffer }) why so_far.filling new.taker
     → HasFilled key mode first
@@ -444,6 +451,7 @@ ends_so_far key mode first now new took count further hand why so_far buffer sto
       took = so_far.took_is;
     }
 
+-- it has enough
 pub enough_so_far : (key : Key) (mode : Mode) (first now : Lending) (took : Option ℕ) (count : ℕ)
     (further : Bool) (hand : ReadHand) → SoFar key mode first now took count further
     → further ≡ false
@@ -453,6 +461,7 @@ enough_so_far key mode first now took count further hand so_far enough =
     ends_so_far key mode first now now took count further hand stop.Enough so_far refl
     (sym so_far.further_is ∙ enough, so_far.taker_is)
 
+-- the next write is not there yet
 pub not_yet_so_far : (key : Key) (mode : Mode) (first now : Lending) (new : Taker)
     (room : List ℕ) (took : Option ℕ) (count number : ℕ) (hand : ReadHand) (given : Next)
     → SoFar key mode first now took count true → given ≡ next.NotYet number
@@ -474,6 +483,7 @@ not_yet_so_far key mode first now new room took count number hand given so_far i
       subst (λ (t : Taker). FindsNotThere key number t new) so_far.taker_is found.0,
     )
 
+-- or no more will come
 pub end_so_far : (key : Key) (mode : Mode) (first now : Lending) (new : Taker)
     (room : List ℕ) (took : Option ℕ) (count : ℕ) (hand : ReadHand) (given : Next)
     → SoFar key mode first now took count true → given ≡ next.End

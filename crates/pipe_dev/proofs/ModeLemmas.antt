@@ -29,10 +29,13 @@ use Rattle.pipe_dev.specs.Filling.{Taker, TakesPart, TakesMore, Filling, Lending
 use Rattle.pipe_dev.specs.Filling.{IsLeft, IsTakenOut, FindsNothing, FindsNotThere}
 use Rattle.pipe_dev.specs.Filling.{has_none, goes_further, number_of, last_number, IsFilledBy}
 use Rattle.pipe_dev.specs.Parts.{Part, part_of, bytes_of}
-use Rattle.pipe_dev.specs.ReadCalls.{Reader, GoesOn, TakesOut, Gets, FindsNone, FindsNotYet, FindsEnd}
-use Rattle.pipe_dev.specs.ReadCalls.{SleepsForWrite, FailsForWrite, EndsRead, KeepsTrying, Reads, Tries}
+use Rattle.pipe_dev.specs.ReadCalls.{Reader, GoesOn, TakesOut, Gets, FindsNone, FindsNotYet}
+use Rattle.pipe_dev.specs.ReadCalls.{FindsEnd}
+use Rattle.pipe_dev.specs.ReadCalls.{SleepsForWrite, FailsForWrite, EndsRead, KeepsTrying}
+use Rattle.pipe_dev.specs.ReadCalls.{Reads, Tries}
 use Rattle.pipe_dev.specs.ReadCalls.{IsNotYet, IsNotYetOn, InMode}
-use Rattle.pipe_dev.specs.ReadCalls.{Calling, calling, came_to, TriesOn, GivesBytes, SleepsOn, FailsOn}
+use Rattle.pipe_dev.specs.ReadCalls.{Calling, calling, came_to, TriesOn, GivesBytes}
+use Rattle.pipe_dev.specs.ReadCalls.{SleepsOn, FailsOn}
 use Rattle.pipe_dev.specs.ReadCalls.{EndsOn, KeepsReading, lending_of, is_got}
 use Rattle.pipe_dev.specs.ReadSteps.{found_at, found_of, answer_of}
 use Rattle.pipe_dev.specs.Rendezes.{WakesWith, WakesWriters, reader_rendez}
@@ -81,6 +84,7 @@ not_yet_at count stop.End number is = by (nat_lt 0 count) is
     by true told = cc
     by false told = cc
 
+-- the end is told where nothing was read
 pub end_at : (count : ℕ) (why : Stop) → found_at count why ≡ found.End
     → came_to count why ≡ came_to 0 stop.End
 end_at count stop.Enough is = cc
@@ -102,9 +106,9 @@ end_at count stop.End is = by (nat_lt 0 count) refl is
 
 -- one part was read
 pub record ReadsOne (key : Key) (old : Lending) (filling : Filling) : Type 0 where
-  pub part : Part
-  pub taken : TakesPart key (length old.buffer) old.taker part filling.taker
-  pub parts : filling.parts ≡ part ∷ []
+  part : Part
+  taken : TakesPart key (length old.buffer) old.taker part filling.taker
+  parts : filling.parts ≡ part ∷ []
 
 in_message : (mode : Mode) (room : ℕ) (parts : List Part) → mode ≡ Message
     → goes_further (record { mode = mode; room = room }) parts ≡ has_none parts
@@ -192,6 +196,7 @@ one_got key row old count new filling one taker filled woken =
               old.reader.process new.reader.process) out.none_left woken_one);
         }
 
+-- so a try of messages that had enough gets one
 pub message_gets : (key : Key) (row : Row) (old : Calling) (count : ℕ) (new : Calling)
     → row.mode ≡ Message → TriesOn key row old (came_to count stop.Enough) new
     → Gets key row old.reader old.buffer count new.reader new.buffer
@@ -271,10 +276,11 @@ finds_none key made old new filling none finds process =
 -- a try that was told why
 pub record MessageNotYet (key : Key) (number : ℕ) (old : Calling) (count : ℕ) (new : Calling) :
     Type 0 where
-  pub found : FindsNotYet key number old.reader new.reader
-  pub buffer : new.buffer ≡ old.buffer
-  pub count_is : count ≡ 0
+  found : FindsNotYet key number old.reader new.reader
+  buffer : new.buffer ≡ old.buffer
+  count_is : count ≡ 0
 
+-- one that was told of no write did nothing else
 pub message_not_yet : (key : Key) (row : Row) (old : Calling) (count number : ℕ) (new : Calling)
     → row.mode ≡ Message → TriesOn key row old (came_to count (stop.NotYet number)) new
     → MessageNotYet key number old count new
@@ -294,11 +300,13 @@ message_not_yet key row old count number new is tries =
       count_is = did.count_is;
     }
 
+-- a try that was told of the end
 pub record MessageEnd (key : Key) (old : Calling) (count : ℕ) (new : Calling) : Type 0 where
-  pub found : FindsEnd key old.reader new.reader
-  pub buffer : new.buffer ≡ old.buffer
-  pub count_is : count ≡ 0
+  found : FindsEnd key old.reader new.reader
+  buffer : new.buffer ≡ old.buffer
+  count_is : count ≡ 0
 
+-- nor did one that was told of the end
 pub message_end : (key : Key) (row : Row) (old : Calling) (count : ℕ) (new : Calling)
     → row.mode ≡ Message → TriesOn key row old (came_to count stop.End) new
     → MessageEnd key old count new
@@ -406,6 +414,7 @@ ends_message key row old buffer (Ok read.End) new is same ends =
 ends_message key row old buffer (Err why) new is same ends =
     let told = failed_message key row old why new is ends in (told.0, told.1 ∙ same)
 
+-- a read of messages that goes on as its mode says keeps trying
 pub keeps_trying : (key : Key) (row : Row) (old : Calling) (answer : Result ReadAnswer Fault)
     (new : Calling) → row.mode ≡ Message → KeepsReading key row old answer new
     → KeepsTrying key row old.reader old.buffer answer new.reader new.buffer

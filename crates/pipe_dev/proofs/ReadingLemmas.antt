@@ -260,7 +260,8 @@ got_right key old new first is adds = by adds.taken.next
         (subst (λ (ps : List Part). IsRight s ps (rest_of adds.room left))
         (sym (adds.parts ∙ ap (λ (p : Part). p ∷ old.parts) adds.taken.part_is)) right)
 
-    by : IsLeft (taker_in old) left (taker_in new) ⊎ IsTakenOut key (taker_in old) left (taker_in new)
+    by : IsLeft (taker_in old) left (taker_in new)
+        ⊎ IsTakenOut key (taker_in old) left (taker_in new)
         → IsReading key new
     by (inl goes) =
         record {

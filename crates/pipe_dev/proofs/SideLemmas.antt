@@ -97,7 +97,8 @@ reads_add old new before after buffer answer buffer' room reads same parts made 
     let call =
     reads_are_steps (key_of old.queue) old.row (reader_of old before) buffer answer
     (reader_of new after) buffer' room reads parts in
-    steps_add (AddsRead old.row.mode answer buffer') old new parts call.parts' call.times made same call.added
+    steps_add (AddsRead old.row.mode answer buffer') old new parts call.parts' call.times made same
+    call.added
     call.steps
 
 pub tries_add : TriesAddToTheirEnd
@@ -105,7 +106,8 @@ tries_add old new before after buffer answer buffer' room tries same parts made 
     let call =
     tries_are_steps (key_of old.queue) old.row (reader_of old before) buffer answer
     (reader_of new after) buffer' room tries parts in
-    steps_add (AddsTry old.row.mode answer buffer') old new parts call.parts' call.times made same call.added
+    steps_add (AddsTry old.row.mode answer buffer') old new parts call.parts' call.times made same
+    call.added
     call.steps
 
 pub read_ends_hang_up : ReadEndsHangUp

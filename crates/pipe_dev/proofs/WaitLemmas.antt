@@ -151,6 +151,7 @@ reads_wake_each_writer sizes s shows key row old new left takes gone writer low 
     releases sizes s shows new.process (writer_rendez row writer) (left.place + 1) gone
     (each_woken row row.writers (left.place + 1) old.process new.process takes.woken writer low)
 
+-- so of a try that took writes out
 pub tries_wake_each_writer : TriesWakeEachWriter
 tries_wake_each_writer sizes s shows key row old came new tries gone number is writer low =
     releases sizes s shows new.reader.process (writer_rendez row writer) number gone

@@ -1,5 +1,5 @@
--- Reads that go on as their mode says, worked out by the definitions alone: each row is used, and the
--- shortest reads that break one are refused.
+-- Reads that go on as their mode says, worked out by the definitions alone: each row is used, and
+-- the shortest reads that break one are refused.
 use Rattle.std.proofs.Common.{◌≡◌, ◌≢◌, inl, inr, ℕ, true, false, List, [], ◌∷◌, ◌++◌}
 use Rattle.std.proofs.Common.{Some, None, refl, sym, ◌∙◌, ap, arith, length, length-append}
 use Rattle.std.specs.Prelude.{Ok, Err}
@@ -123,7 +123,10 @@ end_adds_no_byte adds = by adds.added adds.parts_are adds.bytes_are
   where
     by : (added : List Part) → part 0 b ∷ [] ≡ added ++ [] → bytes_of added ≡ [] → ⊥
     by [] is none = cc
-    by (p ∷ []) is none = let same : p ≡ part 0 b = cc in let bytes = ap (λ (q : Part). q.bytes) same in cc
+    by (p ∷ []) is none =
+        let same : p ≡ part 0 b = cc in
+        let bytes = ap (λ (q : Part). q.bytes) same in
+        cc
     by (p ∷ q ∷ added) is none = cc
 
 not_yet_adds_no_byte : AddsTry Stream try.NotYet [] [] (part 0 [] ∷ [])

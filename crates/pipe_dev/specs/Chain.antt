@@ -70,8 +70,8 @@ pub record AddsOne (count : ℕ) (buffer' : List ℕ) (parts parts' : List Part)
   pub bytes : part.bytes ≡ take count buffer'
   pub parts_are : parts' ≡ part ∷ parts
 
--- Some parts more, whose bytes are these, one part behind the other. Own: a stream read adds them; a
--- part of no bytes is of an empty write that was passed.
+-- Some parts more, whose bytes are these, one part behind the other. Own: a stream read adds them;
+-- a part of no bytes is of an empty write that was passed.
 pub record AddsParts (bytes : List ℕ) (parts parts' : List Part) : Type 0 where
   pub added : List Part
   pub bytes_are : bytes_of added ≡ bytes

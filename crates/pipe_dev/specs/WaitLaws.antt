@@ -49,8 +49,8 @@ ReadsWakeEachWriter =
     → ReleasesBelow (world_of sizes.procs sizes.rendez shows.run) (writer_rendez row writer)
     (left.place + 1)
 
--- So with each writer's Rendez and the number of the last write that a try took out, in either mode,
--- once that try has returned.
+-- So with each writer's Rendez and the number of the last write that a try took out, in either
+-- mode, once that try has returned.
 abbrev pub TriesWakeEachWriter : Type 0
 TriesWakeEachWriter =
     (sizes : Sizes) (s : _) (shows : ShowsCore sizes s)

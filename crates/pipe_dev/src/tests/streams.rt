@@ -1,4 +1,5 @@
-//! Worked runs of a direction in stream mode: what a read joins, what it passes, and what it leaves.
+//! Worked runs of a direction in stream mode: what a read joins, what it passes, and what it
+//! leaves.
 use crate::tests::hands::{Gate, Reader, Writer, write_again};
 use crate::tests::kernels::kernel_of;
 use crate::tests::lone::{Split, lone_of};

@@ -15,7 +15,8 @@ returns-clause-tried c =
       fills = filled.fills;
       woken = elim c.match-took.branch [
         | in-Some w ↦ subst (λ p. WakesWith row last before p.process) (sym w.proc-is)
-            (subst (λ n. WakesWith row n before w.wake_writers.new.proc.process) (sym w.in-Some.is ∙ filled.took)
+            (subst (λ n. WakesWith row n before w.wake_writers.new.proc.process)
+            (sym w.in-Some.is ∙ filled.took)
             w.wake_writers.ensures.woken)
         | in_default w ↦ subst (λ p. WakesWith row last before p.process) (sym w.proc-is)
             (subst (λ n. WakesWith row n before before) (sym w.in_default.is ∙ filled.took)
