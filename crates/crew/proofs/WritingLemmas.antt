@@ -7,6 +7,8 @@ use Rattle.std.proofs.Math.Seq.{take-append_seam}
 use Rattle.histories.specs.declared.account.Account.{Account}
 use Rattle.sync_base.specs.declared.fault.Fault.{Fault}
 use Rattle.sync_base.specs.declared.fault.Fault.TheVariants.{BadArg}
+use Rattle.sync_base.specs.declared.mode.Mode.{Mode}
+use Rattle.sync_base.specs.declared.mode.Mode.TheVariants.{Message, Stream}
 use Rattle.sleep_wakeup.specs.Kernel.{Running}
 use Rattle.block_queue.specs.declared.entry.Entry.{Entry}
 use Rattle.block_queue.specs.declared.entry.Entry.TheVariants.{Hung}
@@ -18,7 +20,7 @@ use Rattle.pipe_dev.specs.declared.answers.ReadAnswer.TheVariants as read
 use Rattle.pipe_dev.specs.declared.row.Row.{Row}
 use Rattle.pipe_dev.specs.Chain.{written_by}
 use Rattle.pipe_dev.specs.Ends.{IsSameWriteEnd}
-use Rattle.pipe_dev.specs.ReadCalls.{Reader, Reads}
+use Rattle.pipe_dev.specs.ReadCalls.{Reader, Reads, InMode, KeepsTrying, KeepsReading, calling}
 use Rattle.pipe_dev.specs.Sides.{HasWrittenJust}
 use Rattle.pipe_dev.specs.WriteCalls.{Writes, writer_of}
 use Rattle.pipe_dev.proofs.SideLemmas.{writes_add}
@@ -36,8 +38,17 @@ hung_now key seat old new enters = ap (λ (a : Account Entry). is_hung a.seen) e
 at_end_now : (key : Key) (row : Row) (old : Reader) (buffer : List ℕ) (new : Reader)
     (buffer' : List ℕ) → Reads key row old buffer (Ok read.End) new buffer'
     → is_at_end new.account.seen ≡ true
-at_end_now key row old buffer new buffer' reads =
-    ap (λ (a : Account Entry). is_at_end a.seen) reads.ended.0.entered.adds.new_is
+at_end_now key row old buffer new buffer' reads = by row.mode reads
+  where
+    by : (mode : Mode)
+        → InMode mode (KeepsTrying key row old buffer (Ok read.End) new buffer')
+        (KeepsReading key row (calling old buffer) (Ok read.End) (calling new buffer'))
+        → is_at_end new.account.seen ≡ true
+    by Message trying =
+        ap (λ (a : Account Entry). is_at_end a.seen) trying.ended.0.entered.adds.new_is
+    by Stream reading =
+        ap (λ (a : Account Entry). is_at_end a.seen)
+        reading.ended.fills.stopped.1.entered.adds.new_is
 
 -- the same, of an answer that is the end
 pub at_end : (key : Key) (row : Row) (old : Reader) (buffer : List ℕ)
@@ -49,12 +60,23 @@ at_end key row old buffer answer new buffer' reads is =
     (subst (λ (a : Result ReadAnswer Fault). Reads key row old buffer a new buffer') is reads)
 
 -- no read is refused as a bad argument
+never_bad : (key : Key) (row : Row) (old : Reader) (buffer : List ℕ) (new : Reader)
+    (buffer' : List ℕ) → Reads key row old buffer (Err BadArg) new buffer' → ⊥
+never_bad key row old buffer new buffer' reads = by row.mode reads
+  where
+    by : (mode : Mode)
+        → InMode mode (KeepsTrying key row old buffer (Err BadArg) new buffer')
+        (KeepsReading key row (calling old buffer) (Err BadArg) (calling new buffer')) → ⊥
+    by Message trying = trying.ended.0.failed
+    by Stream reading = reading.ended.failed
+
+-- the same, of an answer that is one
 pub no_bad_read : (key : Key) (row : Row) (old : Reader) (buffer : List ℕ)
     (answer : Result ReadAnswer Fault) (new : Reader) (buffer' : List ℕ)
     → Reads key row old buffer answer new buffer' → ¬ (answer ≡ Err BadArg)
 no_bad_read key row old buffer answer new buffer' reads is =
-    (subst (λ (a : Result ReadAnswer Fault). Reads key row old buffer a new buffer') is
-    reads).ended.0.failed
+    never_bad key row old buffer new buffer'
+    (subst (λ (a : Result ReadAnswer Fault). Reads key row old buffer a new buffer') is reads)
 
 -- what is taken of a list that goes on behind it
 pub kept_items : (len : ℕ) (xs ys : List ℕ) → length xs ≡ len → take len (xs ++ ys) ≡ xs
