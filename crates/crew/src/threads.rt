@@ -1,10 +1,11 @@
 //! Many writers and one reader, each on a thread of its own, on one direction of a pipe.
-ghost use Rattle.std.specs.Prelude.{◌≡◌, ◌≢◌, ◌↔◌, [], All, IfOk, IsErrOf, IsSome};
+ghost use Rattle.std.specs.Prelude.{◌≡◌, ◌≢◌, ◌≤◌, ◌+◌, ◌↔◌, [], length, All, IfOk, IsErrOf, IsSome};
+ghost use Rattle.std.specs.Vec.{vec_capacity};
 ghost use Rattle.sync_base.specs.declared.fault.Fault.TheVariants.{BadArg};
 ghost use Rattle.crew.specs.Threads.{AreWithin, IsReportOf};
 ghost use Rattle.crew.specs.Writing.{HasWrittenOn, HasEnded, IsReadyWriter};
 
-use crate::crew::{Counted, Crew, Gone, Writer};
+use crate::crew::{Counted, Crew, Gone, Reader, Writer};
 use crate::gate::Gate;
 use crate::opts::{Report, is_within};
 use pipe_dev::{Ends, Parts, Pipe};
@@ -14,7 +15,7 @@ use std::sync::Wait;
 use std::sync::atomic::AtomicBool;
 use std::sync::atomic::Ordering::SeqCst;
 use std::thread;
-use std::thread::{JoinHandle, Threads};
+use std::thread::{JoinHandle, Scope, Threads};
 use sync_base::{Fault, ThreadsOpts};
 
 /// How many writes the pipe holds that no read has begun.
@@ -75,27 +76,15 @@ fn run_crew<'p, R: Threads + Wait + Sync, G: Gate + Sync>(
         move |scope| -> Result<Counted, Fault>
             ensures { ¬ IsErrOf result BadArg }
         {
-            let mut running = Vec::with_capacity(alloc, writers.len())?;
-            let Ok(reading) = scope.spawn(move || reader.read_all(rt)) else {
+            let handles = Vec::with_capacity(alloc, writers.len())?;
+            let Some(reading) = start_reader(scope, rt, reader) else {
                 return Err(Fault::Device);
             };
-            let mut all_started = true;
-            for writer in writers {
-                match scope.spawn(
-                    move || -> Writer
-                        ensures { HasWrittenOn writer.entry result }
-                    { write_unless(off, rt, alloc, gate, writer) },
-                ) {
-                    Ok(handle) => running.push_reserved(handle),
-                    Err(refused) => {
-                        off.store(true, SeqCst);
-                        (refused.value)().hangup();
-                        all_started = false;
-                        break;
-                    }
-                }
-            }
-            let Joined { wrote, gone } = join_writers(rt, running);
+            let Running {
+                handles,
+                all_started,
+            } = start_writers(scope, off, rt, alloc, gate, writers, handles);
+            let Joined { wrote, gone } = join_writers(rt, handles);
             let counted = reading.join(rt);
             if !all_started {
                 return Err(Fault::Device);
@@ -107,6 +96,62 @@ fn run_crew<'p, R: Threads + Wait + Sync, G: Gate + Sync>(
         },
     )?;
     counted.report(&opts)
+}
+
+// Starts the reader on a thread, if one can be started.
+fn start_reader<'s, 'p: 's, E, R: Wait + Sync>(
+    scope: &Scope<'s, E>,
+    rt: &'s R,
+    reader: Reader<'p>,
+) -> Option<JoinHandle<Counted<'p>>> {
+    match scope.spawn(move || reader.read_all(rt)) {
+        Ok(reading) => Some(reading),
+        Err(_) => None,
+    }
+}
+
+// The writers that run on threads, and whether those are all that were to.
+#[derive(Drop)]
+struct Running<'p> {
+    handles: Vec<JoinHandle<Writer<'p>>>,
+    all_started: bool,
+}
+
+// Starts each writer on a thread. Where one can't be started it hangs the pipe up, and the run is
+// called off.
+fn start_writers<'s, 'p: 's, E, R: Wait + Sync, G: Gate + Sync>(
+    scope: &Scope<'s, E>,
+    off: &'s AtomicBool,
+    rt: &'s R,
+    alloc: Global,
+    gate: &'s G,
+    writers: Vec<Writer<'p>>,
+    handles: Vec<JoinHandle<Writer<'p>>>,
+) -> Running<'p>
+    requires room { length handles.items + length writers.items ≤ vec_capacity handles }
+{
+    let mut handles = handles;
+    for writer in writers {
+        match scope.spawn(
+            move || -> Writer
+                ensures { HasWrittenOn writer.entry result }
+            { write_unless(off, rt, alloc, gate, writer) },
+        ) {
+            Ok(handle) => handles.push_reserved(handle),
+            Err(refused) => {
+                off.store(true, SeqCst);
+                (refused.value)().hangup();
+                return Running {
+                    handles,
+                    all_started: false,
+                };
+            }
+        }
+    }
+    Running {
+        handles,
+        all_started: true,
+    }
 }
 
 // Writes, unless the run is called off.

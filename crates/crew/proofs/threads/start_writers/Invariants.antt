@@ -2,8 +2,8 @@
 use Rattle.std.proofs.Common.{◌≤◌, ◌+◌, length}
 use Rattle.std.specs.Vec.{vec_capacity}
 use Rattle.std.specs.Vec.Iter.{into_iter_items}
-use Rattle.crew.proofs.threads.fn.run_crew.scope.Given as goal
+use Rattle.crew.proofs.threads.start_writers.Given as goal
 
 abbrev pub invariant-loop-writer : goal.invariant-loop-writer
 invariant-loop-writer g l =
-    length l.running.items + length (into_iter_items l.writer-iterator) ≤ vec_capacity l.running
+    length l.handles.items + length (into_iter_items l.writer-iterator) ≤ vec_capacity l.handles
