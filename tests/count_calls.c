@@ -13,7 +13,7 @@
 #include <sys/syscall.h>
 #include <unistd.h>
 
-enum { THREADS = 80 };
+enum { THREADS = 256 };
 
 struct start {
 	void *(*run)(void *);
