@@ -1,12 +1,13 @@
 -- Short histories and accounts, computed: each definition is used, and each has an example that
 -- would come out otherwise without it.
 use Rattle.std.proofs.Common.{◌≡◌, ℕ, ◌+◌, ◌<◌, ◌≤◌, true, false, List, [], ◌∷◌, map}
-use Rattle.std.proofs.Common.{refl, arith}
+use Rattle.std.proofs.Common.{refl, arith, ap, sym, ◌∙◌, length, ◌++◌}
 use Rattle.histories.specs.declared.account.Account.{Account}
 use Rattle.histories.specs.History.{Meaning, IsPast, IsLegal, entries_by, state_after}
 use Rattle.histories.specs.Account.{HasAllNumbers, numbers_from}
 use Rattle.histories.specs.Account.{longer_of, shorter_of, share_after, unused_share}
 use Rattle.histories.specs.Changes.{child_account, entered_account, joined_account, parent_account}
+use Rattle.histories.specs.Changes.{AddsEntry, GivesNumber, JoinsAccounts, LooksAt}
 
 -- a jar of coins: a seat puts coins in, or takes some that are there
 data Deed : Type 0 where
@@ -115,3 +116,75 @@ longer_is_second = refl
 
 shorter_is_first : shorter_of (puts 0 2 ∷ []) day ≡ puts 0 2 ∷ []
 shorter_is_first = refl
+
+-- ---- what a call may not have made of an account
+
+-- seat 1 once it has made this entry, and nothing else was made
+abbrev second_put : Account Deed
+second_put = entered_account by (puts 1 3) [] second
+
+-- a join that forgets a number, or what was seen, is none
+a_number_is_forgotten : JoinsAccounts second_put third second_put → ⊥
+a_number_is_forgotten joins =
+    let one = ap (λ (account : Account Deed). length account.shares) joins.joined_is in
+    omega (arith, one)
+
+not_behind : (since : List Deed) (entry : Deed) → [] ≡ since ++ entry ∷ [] → ⊥
+not_behind [] entry is = cc
+not_behind (newer ∷ since) entry is = cc
+
+the_first_is_forgotten : (joined : Account Deed) → joined.seen ≡ []
+    → JoinsAccounts second_put third joined → ⊥
+the_first_is_forgotten joined none joins =
+    not_behind joins.first_past.since (puts 1 3) (sym none ∙ joins.first_past.new_is)
+
+the_second_is_forgotten : (joined : Account Deed) → joined.seen ≡ []
+    → JoinsAccounts third second_put joined → ⊥
+the_second_is_forgotten joined none joins =
+    not_behind joins.second_past.since (puts 1 3) (sym none ∙ joins.second_past.new_is)
+
+-- one call makes one entry
+nothing_is_made : AddsEntry by (puts 1 3) second second → ⊥
+nothing_is_made adds =
+    let grew : [] ≡ puts 1 3 ∷ adds.past = ap (λ (account : Account Deed). account.seen) adds.new_is in
+    cc
+
+-- and begins no history anew
+a_history_is_begun_anew : AddsEntry by (puts 1 3) second_put second_put → ⊥
+a_history_is_begun_anew adds =
+    let seen : puts 1 3 ∷ [] ≡ puts 1 3 ∷ adds.past =
+    ap (λ (account : Account Deed). account.seen) adds.new_is in
+    let past : [] ≡ adds.past = cc in
+    not_behind adds.looked.since (puts 1 3) (past ∙ adds.looked.history_is)
+
+-- a number that is given is the next one, and its parent tells of it
+abbrev alone : Account Deed
+alone = record { number = 0; shares = unused_share 0 ∷ []; seen = []; gave = [] }
+
+a_number_is_passed_over : (new : Account Deed) → GivesNumber by alone new (child_account 2 alone) → ⊥
+a_number_is_passed_over new gives =
+    let out : false ≡ true = gives.next.all (record { first = refl; gave = tt }) 1 (omega arith) in cc
+
+a_number_is_given_secretly : GivesNumber by alone alone (child_account 1 alone) → ⊥
+a_number_is_given_secretly gives =
+    let told = ap (λ (account : Account Deed). length account.gave) gives.parent_is in
+    omega (arith, told)
+
+a_child_knows_more : GivesNumber by alone (parent_account 1 alone)
+    (record { number = 1; shares = unused_share 1 ∷ []; seen = day; gave = [] }) → ⊥
+a_child_knows_more gives =
+    let seen : day ≡ [] = ap (λ (account : Account Deed). account.seen) gives.child_is in cc
+
+-- a look begins no history anew, misses no entry where the seat has all numbers, and finds none of
+-- the seat's own that the seat does not know
+a_look_forgets : LooksAt by [] second_put → ⊥
+a_look_forgets looks = not_behind looks.since (puts 1 3) looks.history_is
+
+a_look_of_all_misses_one : LooksAt by (puts 1 3 ∷ []) alone → ⊥
+a_look_of_all_misses_one looks =
+    let none = looks.alone (record { first = refl; gave = tt }) in
+    let is : puts 1 3 ∷ [] ≡ [] = looks.history_is ∙ ap (λ (since : List Deed). since ++ []) none in cc
+
+an_entry_of_its_own_is_news : LooksAt by (puts 1 3 ∷ []) second → ⊥
+an_entry_of_its_own_is_news looks =
+    let own : puts 1 3 ∷ [] ≡ [] = looks.mine.0.entries in cc

@@ -1,10 +1,12 @@
 -- A counter under a lock, computed: each definition of what a history and a seat may be is used,
 -- with an example that would come out otherwise without it.
 use Rattle.std.proofs.Common.{◌≡◌, ℕ, zero, suc, ◌+◌, ◌<◌, true, false, List, [], ◌∷◌, refl, arith}
-use Rattle.std.proofs.Common.{Option, Some, None}
+use Rattle.std.proofs.Common.{Option, Some, None, ap, subst, ◌∙◌, ◌++◌, length}
 use Rattle.histories.specs.History.{IsLegal, state_after, entries_by}
+use Rattle.histories.specs.declared.account.Account.{Account}
 use Rattle.histories.specs.Account.{HasAllNumbers, unused_share, first_account}
-use Rattle.histories.specs.Changes.{IsNext}
+use Rattle.histories.specs.Changes.{IsNext, LooksAt, child_account}
+use Rattle.kernel_lock.specs.Calls.{IsNew, Serves, GivesSeat, RefusesSeat, JoinsSeats, EndsHistory}
 use Rattle.kernel_lock.specs.declared.view.Served.{Served}
 use Rattle.kernel_lock.specs.declared.view.Stage.TheVariants.{Outside}
 use Rattle.kernel_lock.specs.declared.view.View.{View}
@@ -119,3 +121,115 @@ the_next =
   where
     zero_only : (number : ℕ) → number < 1 → number ≡ 0
     zero_only number below = omega arith
+
+-- ---- what no call does: each breaks one row
+
+-- the first seat, which has made these requests and given these numbers, and knows of so many seats
+abbrev seat : List (Served ℕ ℕ) → List ℕ → ℕ → View ℕ ℕ ℕ
+seat mine gave given =
+    record {
+      key = None;
+      account = record {
+        number = 0;
+        shares = record { number = 0; mine = mine } ∷ [];
+        seen = mine;
+        gave = gave;
+      };
+      given = given;
+      stage = Outside;
+    }
+
+-- the seat with the number 1, which knows of so many seats
+abbrev child : ℕ → View ℕ ℕ ℕ
+child given =
+    record {
+      key = None;
+      account = child_account 1 (first_account 0);
+      given = given;
+      stage = Outside;
+    }
+
+abbrev adds_three : List (Served ℕ ℕ)
+adds_three = served 0 3 8 ∷ []
+
+abbrev adds_three_wrongly : List (Served ℕ ℕ)
+adds_three_wrongly = served 0 3 9 ∷ []
+
+-- a seat that has all numbers looked at no more than it had seen
+no_more : (mine : List (Served ℕ ℕ)) (history : List (Served ℕ ℕ))
+    → LooksAt server history (seat mine [] 1).account → history ≡ mine
+no_more mine history looked =
+    looked.history_is
+    ∙ ap (λ (since : List (Served ℕ ℕ)). since ++ mine)
+    (looked.alone (record { first = refl; gave = tt }))
+
+-- an end that forgets the request, and one of a history that is not legal
+the_request_is_forgotten : EndsHistory counter 5 1 (seat adds_three [] 1) 5 → ⊥
+the_request_is_forgotten ends =
+    let is = no_more adds_three ends.history ends.looked in
+    let left : 5 ≡ 8 = ends.object_is
+    ∙ ap (λ (history : List (Served ℕ ℕ)). state_after (meaning_of counter) 5 history) is in
+    omega (arith, left)
+
+the_reply_is_wrong : EndsHistory counter 5 1 (seat adds_three_wrongly [] 1) 8 → ⊥
+the_reply_is_wrong ends =
+    let is = no_more adds_three_wrongly ends.history ends.looked in
+    let legal = subst (λ (history : List (Served ℕ ℕ)). IsLegal (meaning_of counter) 5 history) is
+    ends.legal.legal in
+    let wrong : 9 ≡ 8 = legal.0.reply in
+    omega (arith, wrong)
+
+-- a new seat that was at work, and one that knows of another
+a_new_seat_was_at_work : IsNew 0 [] 1 (seat adds_three [] 1) → ⊥
+a_new_seat_was_at_work new =
+    let seen = ap (λ (account : Account (Served ℕ ℕ)). length account.seen) new.account in
+    omega (arith, seen)
+
+a_new_seat_knows_of_another : IsNew {Object = ℕ} 0 [] 1 (seat [] [] 2) → ⊥
+a_new_seat_knows_of_another new = let given = new.given_is in omega (arith, given)
+
+-- a request that no history has, and one that makes the seat forget a split
+no_request : Serves (served 0 3 8) (seat [] [] 1) (seat [] [] 1) → ⊥
+no_request serves =
+    let seen = ap (λ (account : Account (Served ℕ ℕ)). length account.seen) serves.account.new_is in
+    omega (arith, seen)
+
+a_split_is_forgotten : Serves (served 0 3 8) (seat [] [] 2) (seat adds_three [] 1) → ⊥
+a_split_is_forgotten serves = let given = serves.given in omega (arith, given)
+
+-- a split past the limit, behind the seat's back, of a number that is known to be given
+past_the_limit : GivesSeat 1 (seat [] [] 1) (seat [] (1 ∷ []) 2) (child 2) → ⊥
+past_the_limit gives = let limit = gives.limit_is in omega (arith, limit)
+
+a_number_that_was_given : GivesSeat 9 (seat [] [] 2) (seat [] (1 ∷ []) 2) (child 2) → ⊥
+a_number_that_was_given gives = let later = gives.later in omega (arith, later)
+
+the_parent_tells_nobody : GivesSeat 9 (seat [] [] 1) (seat [] [] 2) (child 2) → ⊥
+the_parent_tells_nobody gives =
+    let gave = ap (λ (account : Account (Served ℕ ℕ)). length account.gave) gives.account.parent_is in
+    omega (arith, gave)
+
+the_parent_forgets : GivesSeat 9 (seat [] [] 1) (seat [] (1 ∷ []) 1) (child 2) → ⊥
+the_parent_forgets gives = let given = gives.given in omega (arith, given)
+
+the_child_forgets : GivesSeat 9 (seat [] [] 1) (seat [] (1 ∷ []) 2) (child 1) → ⊥
+the_child_forgets gives = let given = gives.child_given in omega (arith, given)
+
+-- a split that is refused though a seat is left, or that gives a number all the same
+refused_too_early : RefusesSeat 2 (seat [] [] 1) (seat [] [] 2) → ⊥
+refused_too_early refuses =
+    let out : false ≡ true = refuses.next.all (record { first = refl; gave = tt }) 1 (omega arith) in cc
+
+refused_and_given : RefusesSeat 1 (seat [] [] 1) (seat [] (1 ∷ []) 1) → ⊥
+refused_and_given refuses =
+    let gave = ap (λ (view : View ℕ ℕ ℕ). length view.account.gave) refuses.same in
+    omega (arith, gave)
+
+-- a join that forgets the second, and one that forgets what the second knew
+the_second_is_forgotten : JoinsSeats (seat [] (1 ∷ []) 2) (child 2) (seat [] (1 ∷ []) 2) → ⊥
+the_second_is_forgotten joins =
+    let shares = ap (λ (account : Account (Served ℕ ℕ)). length account.shares) joins.account.joined_is in
+    omega (arith, shares)
+
+what_it_knew_is_forgotten : JoinsSeats (seat [] (1 ∷ []) 2) (child 3) (seat [] (1 ∷ []) 2) → ⊥
+what_it_knew_is_forgotten joins = let given : 2 ≡ 3 = joins.given in omega (arith, given)

@@ -1,5 +1,4 @@
--- Calls of the ends worked out by the definitions alone: each row is used, and short calls that
--- they refuse.
+-- Calls of the ends worked out by the definitions alone, and short calls that they refuse.
 use Rattle.std.proofs.Common.{◌≡◌, ◌≢◌, ◌⊎◌, ◌+◌, ℕ, false, true, List, [], ◌∷◌, ◌++◌, Some, None}
 use Rattle.std.proofs.Common.{refl, sym, ◌∙◌, inl, inr, ap, subst, arith, length, reverse}
 use Rattle.std.specs.Prelude.{Ok, Err}

@@ -1,5 +1,5 @@
--- Reads that go on as their mode says, worked out by the definitions alone: each row is used, and
--- the shortest reads that break one are refused.
+-- Reads that go on as their mode says, worked out by the definitions alone, and the shortest reads
+-- that are refused.
 use Rattle.std.proofs.Common.{◌≡◌, ◌≢◌, inl, inr, ℕ, true, false, List, [], ◌∷◌, ◌++◌}
 use Rattle.std.proofs.Common.{Some, None, refl, sym, ◌∙◌, ap, arith, length, length-append}
 use Rattle.std.specs.Prelude.{Ok, Err}

@@ -15,3 +15,6 @@ mod TournamentLemmas
 mod WaitLemmas
 mod WorkedCalls
 mod WorkedUnits
+pub mod Broken
+pub mod BrokenCalls
+pub mod BrokenTimers

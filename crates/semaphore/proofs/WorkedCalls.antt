@@ -1,5 +1,4 @@
--- Calls computed from the definitions alone: each row is used, and each promise is broken by an
--- example that breaks that row alone.
+-- Calls computed from the definitions alone, and calls that break a promise: each by one row of it.
 use Rattle.std.proofs.Common.{◌≡◌, inl, inr, ℕ, true, false, List, [], ◌∷◌, map, Some, Ok, Err, refl, ap, arith}
 use Rattle.std.specs.List.{AllByRecursion}
 use Rattle.histories.specs.History.{IsLegal}
@@ -16,9 +15,9 @@ use Rattle.semaphore.specs.declared.timer_object.Timer.TheVariants.{Unset}
 use Rattle.semaphore.specs.declared.timer_object.TimerCall.TheVariants.{Add, Expire, Cancel}
 use Rattle.semaphore.specs.declared.timer_object.TimerReply.TheVariants as told
 use Rattle.semaphore.specs.Acquiring.{Acquires, AcquiresInTime, TimersSeen, IsOfAcquire, MayRest, RestsInTurn, SleepsBetween, IsPutBack}
-use Rattle.semaphore.specs.BrokenCalls as broken
-use Rattle.semaphore.specs.BrokenTimers as timers
-use Rattle.semaphore.specs.BrokenCalls.{waiter, timed_waiter, interrupt, pid, begun}
+use Rattle.semaphore.proofs.BrokenCalls as broken
+use Rattle.semaphore.proofs.BrokenTimers as timers
+use Rattle.semaphore.proofs.BrokenCalls.{waiter, timed_waiter, interrupt, pid, begun}
 use Rattle.semaphore.specs.Deeds.{Caller, Deed}
 use Rattle.semaphore.specs.Deeds.Deed.{Asks, Times, Rests, Rouses, Posts, Drains}
 use Rattle.semaphore.specs.Deeds.Ending.{Well, Noted, Double}
@@ -28,7 +27,7 @@ use Rattle.semaphore.specs.TimerHistory.{TimerEntry, timer_meaning, WasTaken, ha
 use Rattle.semaphore.specs.Seats.{is_waiting}
 use Rattle.semaphore.specs.Turns.{turn_of, is_whole}
 use Rattle.semaphore.specs.Turns.Turn.{Fresh, Answered, Untimed, Told, Woken, Stopped, Out, Awaiting, Refused, Ready, Kept, Astray}
-use Rattle.semaphore.specs.Broken.{entry}
+use Rattle.semaphore.proofs.Broken.{entry}
 
 -- ---- calls that keep their promises
 

@@ -1,5 +1,4 @@
--- Runs of semaphores and timers, computed from the definitions alone: each row is used, and each
--- has an example that would come out otherwise without it.
+-- Runs of semaphores and timers, computed from the definitions alone, and histories that are none.
 use Rattle.std.proofs.Common.{◌≡◌, ℕ, List, [], ◌∷◌, refl}
 use Rattle.histories.specs.History.{state_after, IsLegal}
 use Rattle.semaphore.specs.declared.limits.TheConstants.{MAX_VALUE, LAST_GRANT}
@@ -18,7 +17,7 @@ use Rattle.sync_base.specs.declared.ids.Pid.{Pid}
 use Rattle.semaphore.specs.Units.{SemaState, opening, answer_to, after, passed}
 use Rattle.semaphore.specs.Timers as timers
 use Rattle.semaphore.specs.SemaHistory.{SemaEntry, sema_meaning, released, taken, collected}
-use Rattle.semaphore.specs.Broken.{entry, loses_a_granted_unit, gives_a_unit_twice, grants_out_of_order, passes_the_limit, adds_what_it_refused}
+use Rattle.semaphore.proofs.Broken.{entry, loses_a_granted_unit, gives_a_unit_twice, grants_out_of_order, passes_the_limit, adds_what_it_refused}
 
 -- the limits
 the_limits : (MAX_VALUE ≡ 2147483647) × (LAST_GRANT ≡ 18446744073709551614)

@@ -1,8 +1,5 @@
 pub mod Acquiring
 pub mod Asking
-pub mod Broken
-pub mod BrokenCalls
-pub mod BrokenTimers
 pub mod Deeds
 pub mod Definitions
 pub mod Due

@@ -25,3 +25,4 @@ pub mod KeptHistory
 pub mod OwnWakeups
 pub mod OwnCauses
 pub mod OversleepLemmas
+pub mod NewestWakeup

@@ -1,7 +1,7 @@
 -- Short histories that break a promise, each by one of its rows alone, and some that break none.
 -- They are written newest first, as every history, and told oldest first. No run shows one that
 -- breaks a promise.
-use Rattle.std.specs.Prelude.{true, false, Some, None, List, [], ◌∷◌}
+use Rattle.std.specs.Prelude.{ℕ, true, false, Some, None, List, [], ◌∷◌}
 use Rattle.sync_base.specs.declared.note.Note.TheVariants.{Interrupt, Alarm}
 use Rattle.sync_base.specs.declared.note.NoteSet.{NoteSet}
 use Rattle.sync_base.specs.NoteSet.{no_notes, only}
@@ -204,3 +204,22 @@ leaves_as_it_was_marked =
 abbrev pub leaves_as_it_was_noted : List Deed
 leaves_as_it_was_noted =
     Left 0 (Some (only Interrupt)) ∷ Withdrew 0 ∷ Noted 0 (only Interrupt) ∷ falls_asleep
+
+-- ---- The same of any processes, Rendez, thresholds, levels and notes.
+
+-- a process falls asleep in a Rendez
+abbrev pub falls_asleep_in : ℕ → ℕ → ℕ → List Deed
+falls_asleep_in pid rendez threshold = Fell pid ∷ Began pid rendez threshold ∷ []
+
+-- the wakeup of a Rendez finds nobody, behind this past
+abbrev pub finds_nobody_in : ℕ → ℕ → ℕ → List Deed → List Deed
+finds_nobody_in raiser rendez level past = Missed raiser ∷ Raised raiser rendez level ∷ past
+
+-- it takes a process, behind this past
+abbrev pub takes_in : ℕ → ℕ → ℕ → ℕ → List Deed → List Deed
+takes_in raiser sleeper rendez level past = Took raiser sleeper ∷ Raised raiser rendez level ∷ past
+
+-- notes come to a process that is asleep, and it withdraws
+abbrev pub is_noted_in : ℕ → ℕ → ℕ → NoteSet → List Deed
+is_noted_in pid rendez threshold set =
+    Withdrew pid ∷ Noted pid set ∷ falls_asleep_in pid rendez threshold

@@ -1,6 +1,12 @@
 //! What holds of every world, every event and every run. Each law is a function with an empty body,
 //! whose contract says it.
+ghost use Rattle.std.specs.Prelude.{◌≡◌, ◌≢◌, ◌<◌, ◌≤◌, ℕ, List, [], ◌∷◌, ◌++◌, Some, None};
+ghost use Rattle.sync_base.specs.declared.note.NoteSet.{NoteSet};
+ghost use Rattle.sync_base.specs.NoteSet.{no_notes, joined};
 ghost use Rattle.sleep_core.specs.OwnLaws.{OwnSleepsEndForACause};
+ghost use Rattle.sleep_core.specs.History.{Deed};
+ghost use Rattle.sleep_core.specs.History.Deed.{Raised, Missed, Marked, Left, Noted, Drained};
+ghost use Rattle.sleep_core.specs.Broken.{falls_asleep_in, finds_nobody_in, takes_in, is_noted_in};
 ghost use Rattle.sleep_core.specs.Broken.{overlooks_the_sleeper, test_misses_the_level};
 ghost use Rattle.sleep_core.specs.Broken.{posts_over_a_sleeper, overlooks_among_others};
 ghost use Rattle.sleep_core.specs.Broken.{takes_the_sleeper, misses_who_withdrew, misses_who_left};
@@ -199,4 +205,69 @@ pub fn promises_can_be_kept()
     ensures leaves_as_its_test_passed { EachSleepIsCaused leaves_as_its_test_passed }
     ensures leaves_as_it_was_marked { EachSleepIsCaused leaves_as_it_was_marked }
     ensures leaves_as_it_was_noted { EachSleepIsCaused leaves_as_it_was_noted }
+{}
+
+/// The promises speak of every process, Rendez, threshold, level and note alike: one that spoke of
+/// some alone, or let a part of the notes be told, would let one of these histories pass.
+pub fn promises_can_be_broken_by_anybody()
+    // A wakeup is lost.
+    ensures overlooks { (sleeper raiser rendez threshold level : ℕ) → threshold < level
+        → LosesWakeup
+        (finds_nobody_in raiser rendez level (falls_asleep_in sleeper rendez threshold)) }
+    ensures test_misses { (sleeper raiser rendez threshold level : ℕ) → threshold < level
+        → LosesWakeup
+        (falls_asleep_in sleeper rendez threshold ++ finds_nobody_in raiser rendez level []) }
+
+    // A wakeup takes what it may not, or finds nobody where somebody is.
+    ensures misses { (sleeper raiser rendez threshold level : ℕ) → ¬ (TakesAreRight
+        (finds_nobody_in raiser rendez level (falls_asleep_in sleeper rendez threshold))) }
+    ensures takes_elsewhere { (sleeper raiser at rendez threshold level : ℕ) → at ≢ rendez
+        → ¬ (TakesAreRight
+        (takes_in raiser sleeper rendez level (falls_asleep_in sleeper at threshold))) }
+    ensures takes_an_idle_process { (sleeper raiser rendez level : ℕ)
+        → ¬ (TakesAreRight (takes_in raiser sleeper rendez level [])) }
+    ensures takes_before_it_raises { (raiser rendez level : ℕ)
+        → ¬ (TakesAreRight (Raised raiser rendez level ∷ Missed raiser ∷ [])) }
+
+    // A mark is stray.
+    ensures marks_another { (sleeper other raiser rendez threshold level : ℕ) → sleeper ≢ other
+        → ¬ (NoMarkIsStray (Marked raiser other
+        ∷ takes_in raiser sleeper rendez level (falls_asleep_in sleeper rendez threshold))) }
+    ensures marks_anothers_sleeper { (sleeper other raiser rendez threshold level : ℕ)
+        → other ≢ raiser → ¬ (NoMarkIsStray (Marked raiser sleeper
+        ∷ takes_in other sleeper rendez level (falls_asleep_in sleeper rendez threshold))) }
+    ensures marks_twice { (sleeper raiser : ℕ) (past : List Deed)
+        → ¬ (NoMarkIsStray (Marked raiser sleeper ∷ Marked raiser sleeper ∷ past)) }
+
+    // A process is told of notes that are not just those that were pending.
+    ensures tells_others { (pid rendez threshold : ℕ) (set told : NoteSet) → told ≢ set
+        → ¬ (AreNotesRight (Left pid (Some told) ∷ is_noted_in pid rendez threshold set)) }
+    ensures tells_none { (pid rendez threshold : ℕ) (set : NoteSet) → set ≢ no_notes
+        → ¬ (AreNotesRight (Left pid None ∷ is_noted_in pid rendez threshold set)) }
+    ensures drains_others { (pid : ℕ) (set told : NoteSet) → told ≢ set
+        → ¬ (AreNotesRight (Drained pid told ∷ Noted pid set ∷ [])) }
+    ensures drains_a_part { (pid : ℕ) (first second told : NoteSet) → told ≢ joined first second
+        → ¬ (AreNotesRight (Drained pid told ∷ Noted pid second ∷ Noted pid first ∷ [])) }
+
+    // A sleep ends without notes and for no cause.
+    ensures leaves_for_no_cause { (pid rendez threshold : ℕ)
+        → ¬ (EachSleepIsCaused (Left pid None ∷ falls_asleep_in pid rendez threshold)) }
+{}
+
+/// And they forbid no process, Rendez, threshold, level and note what they allow another.
+pub fn promises_can_be_kept_by_anybody()
+    ensures takes { (sleeper raiser rendez threshold level : ℕ) → ¬ (LosesWakeup
+        (Marked raiser sleeper
+        ∷ takes_in raiser sleeper rendez level (falls_asleep_in sleeper rendez threshold))) }
+    ensures low_level { (sleeper raiser rendez threshold level : ℕ) → level ≤ threshold
+        → ¬ (LosesWakeup
+        (finds_nobody_in raiser rendez level (falls_asleep_in sleeper rendez threshold))) }
+    ensures takes_right { (sleeper raiser rendez threshold level : ℕ) → TakesAreRight
+        (Marked raiser sleeper
+        ∷ takes_in raiser sleeper rendez level (falls_asleep_in sleeper rendez threshold)) }
+    ensures marks { (sleeper raiser rendez threshold level : ℕ) → NoMarkIsStray
+        (Marked raiser sleeper
+        ∷ takes_in raiser sleeper rendez level (falls_asleep_in sleeper rendez threshold)) }
+    ensures tells { (pid rendez threshold : ℕ) (set : NoteSet) → set ≢ no_notes
+        → AreNotesRight (Left pid (Some set) ∷ is_noted_in pid rendez threshold set) }
 {}

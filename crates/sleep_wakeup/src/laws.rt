@@ -3,7 +3,9 @@ ghost use Rattle.std.specs.Prelude.{◌≡◌, ◌≢◌, ◌+◌, ℕ, [], ◌�
 ghost use Rattle.rendez_words.specs.Process.{TableId};
 ghost use Rattle.sync_base.specs.declared.flags.Flags.{Flags};
 ghost use Rattle.sync_base.specs.Flags.{bits_of};
-ghost use Rattle.sync_base.specs.declared.fault.Fault.TheVariants.{Interrupted};
+ghost use Rattle.sync_base.specs.declared.fault.Fault.TheVariants.{Interrupted, Worn, NoRendez};
+ghost use Rattle.sync_base.specs.declared.fault.Fault.TheVariants.{BadFlags, BadLevel, NoProc};
+ghost use Rattle.sync_base.specs.declared.fault.Fault.TheVariants.{DoubleSleep};
 ghost use Rattle.sync_base.specs.declared.note.Note.TheVariants.{Interrupt, Alarm};
 ghost use Rattle.sync_base.specs.NoteSet.{no_notes, only};
 ghost use Rattle.rendez_words.specs.declared.words.Words.{Words};
@@ -19,7 +21,8 @@ ghost use Rattle.sleep_wakeup.specs.Broken.{takes_twice, never_marks, marks_anot
 ghost use Rattle.sleep_wakeup.specs.Broken.{raises_elsewhere, raises_to_another_level};
 ghost use Rattle.sleep_wakeup.specs.Broken.{finds_nobody, marks_the_sleeper};
 ghost use Rattle.sleep_wakeup.specs.Calls.{Sleeps, Wakes, WhyNotSlept};
-ghost use Rattle.sleep_wakeup.specs.Forks.{AsksNobody, AsksChild, asks_group, Forks};
+ghost use Rattle.sleep_wakeup.specs.Forks.{AsksNobody, AsksChild, asks_group, Forks, HasPid};
+ghost use Rattle.sleep_wakeup.specs.Forks.{WhyNotForked};
 ghost use Rattle.sleep_wakeup.specs.Groups.{AreGroups, first_group, group_of, begins, follows};
 ghost use Rattle.sleep_wakeup.specs.Groups.{leaves, notes_each};
 ghost use Rattle.sleep_wakeup.specs.Broken.{four_in_two, noted};
@@ -101,6 +104,29 @@ pub fn wakeups_can_be_broken()
         → ¬ (Wakes (after table []) (rendez 0) 1 (after table finds_nobody) (done_at 0 2)) }
     ensures has_a_receipt_elsewhere { (table : TableId)
         → ¬ (Wakes (after table []) (rendez 0) 1 (after table finds_nobody) (done_at 1 1)) }
+{}
+
+/// Refusals for which there is no reason, and ones that leave a step behind or are of another call.
+pub fn refusals_can_be_broken()
+    ensures sleep_is_worn { (words : Words) (table : TableId)
+        → ¬ (WhyNotSlept words (after table []) (rendez 0) 0 (after table []) Worn) }
+    ensures sleep_leaves_a_step { (words : Words) (table : TableId)
+        → ¬ (WhyNotSlept words (after table []) (rendez 0) 0 (after table finds_nobody)
+        NoRendez) }
+    ensures sleep_finds_no_level { (words : Words) (table : TableId)
+        → ¬ (WhyNotSlept words (after table []) (rendez 0) 0 (after table []) BadLevel) }
+    ensures double_sleep_is_not_kept { (words : Words) (table : TableId)
+        → ¬ (WhyNotSlept words (after table []) (rendez 0) 0 (after table []) DoubleSleep) }
+    ensures fork_finds_no_rendez { (unused : Unused) (flags : Flags)
+        → ¬ (WhyNotForked unused flags NoRendez) }
+    ensures child_has_bad_flags { (unused : Unused) (flags : Flags) → AsksChild flags
+        → ¬ (WhyNotForked unused flags BadFlags) }
+    ensures nobody_has_bad_flags { (unused : Unused) (flags : Flags) → AsksNobody flags
+        → ¬ (WhyNotForked unused flags BadFlags) }
+    ensures nobody_wants_a_pid { (unused : Unused) (flags : Flags) → bits_of flags ≡ 0
+        → ¬ (WhyNotForked unused flags NoProc) }
+    ensures pid_is_left { (unused : Unused) (flags : Flags) → HasPid unused
+        → ¬ (WhyNotForked unused flags NoProc) }
 {}
 
 /// Steps that are a wakeup.

@@ -19,3 +19,4 @@ mod PartnerLemmas
 mod JoinLemmas
 mod TwoLemmas
 mod WorkedCalls
+mod WorkedWalks

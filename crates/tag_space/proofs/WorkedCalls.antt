@@ -1,5 +1,4 @@
--- What comes of calls in the worked histories, and what rfork does by its flags, computed. Each
--- definition has an example that would come out otherwise without a row of it.
+-- What comes of calls in the worked histories, and what rfork does by its flags, computed.
 use Rattle.std.proofs.Common.{◌≡◌, ◌⊎◌, ℕ, true, false, List, [], ◌∷◌, length, refl, inl, inr, arith, Some, None}
 use Rattle.std.proofs.Common.{Ok, Err, ap, sym, ◌∙◌, ◌≢◌, ◌++◌}
 use Rattle.std.proofs.lemmas.Bool.{false≢true}

@@ -1,5 +1,4 @@
--- Short histories of tag spaces, computed. Each row of the definitions is used, and each promise has
--- a history that would break it.
+-- Short histories of tag spaces, computed, and for each promise a history that would break it.
 use Rattle.std.proofs.Common.{◌≡◌, ℕ, List, [], ◌∷◌, refl, ap, arith, Some}
 use Rattle.histories.specs.History.{IsLegal}
 use Rattle.tag_space.specs.declared.calls.GroupCall.{GroupCall}

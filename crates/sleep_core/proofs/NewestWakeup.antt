@@ -1,0 +1,20 @@
+-- The newest wakeup of a process is the one that it has just begun.
+use Rattle.std.proofs.Common.{◌≡◌, ℕ, List, ◌∷◌, refl}
+use Rattle.std.proofs.Common.{Option, Some}
+use Rattle.std.proofs.lemmas.Bool.Decides.{Decides-eqb}
+use Rattle.sleep_core.specs.History.{Deed, begun_wakeup}
+use Rattle.sleep_core.specs.History.Deed.{Raised}
+use Rattle.sleep_core.specs.Promises.{owed_wakeup}
+use Rattle.sleep_core.specs.Table.{Wakeup}
+
+-- the wakeup of this Rendez with this level
+abbrev pub its : ℕ → ℕ → Option Wakeup
+its rendez level = Some (record { rendez = rendez; level = level })
+
+pub has_begun : (raiser rendez level : ℕ) (past : List Deed)
+    → begun_wakeup raiser (Raised raiser rendez level ∷ past) ≡ its rendez level
+has_begun raiser rendez level past = rw ((Decides-eqb raiser raiser).1 refl) refl
+
+pub owes : (raiser rendez level : ℕ) (past : List Deed)
+    → owed_wakeup raiser (Raised raiser rendez level ∷ past) ≡ its rendez level
+owes raiser rendez level past = rw ((Decides-eqb raiser raiser).1 refl) refl
