@@ -1,0 +1,51 @@
+-- What clauses of a program may cite, under this crate's name alone. A file whose name two crates
+-- have has the name of what it speaks of before it.
+pub mod Words
+pub mod Pools
+pub mod Pipes
+-- notes and flags, and where a process is
+pub use Rattle.sync_base.specs.NoteSet
+pub use Rattle.sync_base.specs.Flags
+pub use Rattle.rendez_words.specs.Process
+pub use Rattle.rendez_words.specs.Steps
+pub use Rattle.rendez_words.specs.Words as RendezWords
+-- a kernel and its processes
+pub use Rattle.sleep_core.specs.Limits as KernelLimits
+pub use Rattle.sleep_wakeup.specs.Kernel
+pub use Rattle.sleep_wakeup.specs.Starts
+pub use Rattle.sleep_wakeup.specs.Forks
+pub use Rattle.sleep_wakeup.specs.Groups
+pub use Rattle.sleep_wakeup.specs.Calls as SleepCalls
+-- pipes
+pub use Rattle.block_queue.specs.Meaning as QueueMeaning
+pub use Rattle.block_queue.specs.Opening as QueueOpening
+pub use Rattle.block_queue.specs.Seats as QueueSeats
+pub use Rattle.pipe_dev.specs.Ends
+pub use Rattle.pipe_dev.specs.Finishing
+pub use Rattle.pipe_dev.specs.Laws as PipeLaws
+pub use Rattle.pipe_dev.specs.Openings
+pub use Rattle.pipe_dev.specs.ReadCalls
+pub use Rattle.pipe_dev.specs.Rendezes
+pub use Rattle.pipe_dev.specs.Sides
+pub use Rattle.pipe_dev.specs.WriteCalls
+-- seats at an object under a lock
+pub use Rattle.kernel_lock.specs.Calls as LockCalls
+pub use Rattle.kernel_lock.specs.Seats as LockSeats
+-- semaphores and timers
+pub use Rattle.semaphore.specs.Acquiring
+pub use Rattle.semaphore.specs.Deeds
+pub use Rattle.semaphore.specs.Opening as SemaOpening
+pub use Rattle.semaphore.specs.Procs
+pub use Rattle.semaphore.specs.Releasing
+pub use Rattle.semaphore.specs.Seats as SemaSeats
+pub use Rattle.semaphore.specs.SemaLaws
+pub use Rattle.semaphore.specs.Ticking
+pub use Rattle.semaphore.specs.TimerLaws
+pub use Rattle.semaphore.specs.Timers
+-- tag spaces
+pub use Rattle.tag_space.specs.Forks as SpaceForks
+pub use Rattle.tag_space.specs.Laws as SpaceLaws
+pub use Rattle.tag_space.specs.Members
+pub use Rattle.tag_space.specs.Outcome
+pub use Rattle.tag_space.specs.Spaces
+pub use Rattle.tag_space.specs.Walk

@@ -1,0 +1,146 @@
+-- What clauses see of a pool, and of those who hold its units.
+use Rattle.std.specs.Prelude.{◌≡◌, ◌⊎◌, ⊤, ℕ, Bool, false, if◌then◌else◌, List, length}
+use Rattle.std.specs.Prelude.{Option, Some, None, Result, Ok, Err}
+use Rattle.std.specs.List.{AllByRecursion}
+use Rattle.sync_base.specs.declared.fault.Fault.{Fault}
+use Rattle.sync_base.specs.declared.fault.Fault.TheVariants as fault
+use Rattle.sleep_wakeup.specs.Forks.{HasPid}
+use Rattle.sleep_wakeup.specs.Kernel.{Running, Unused, next_process, one_pid_less}
+use Rattle.rendez_words.specs.declared.words.Words.{Words}
+use Rattle.kernel_lock.specs.Seats.{number_of, Splits, KnowsAllGiven}
+use Rattle.semaphore.specs.declared.acquiring.Semacquired.{Semacquired}
+use Rattle.semaphore.specs.declared.acquiring.Semacquired.TheVariants as sema
+use Rattle.semaphore.specs.declared.sema.Sema.{Sema}
+use Rattle.semaphore.specs.declared.sema.SemaSeat.{SemaSeat}
+use Rattle.semaphore.specs.Deeds.{Caller, Standing}
+use Rattle.semaphore.specs.Seats.{HasRow, IsNewSema, IsSemaSeatOf, caller_at, stands}
+
+-- a pool: its semaphore, and the first seat as long as nobody has it
+pub record Pooled : Type 0 where
+  pub sema : Sema
+  pub spare : Option SemaSeat
+
+-- a process with a seat at the semaphore of a pool
+pub record Holding : Type 0 where
+  pub sema : Sema
+  pub running : Running
+  pub seat : SemaSeat
+
+-- the Rendez of this semaphore are so many from this one on
+pub record IsRowOf (sema : Sema) (first procs : ℕ) : Type 0 where
+  pub first_is : sema.first ≡ first
+  pub procs_are : sema.procs ≡ procs
+
+-- nobody has the seat, or it is one of the semaphore's that waits for nothing
+abbrev pub IsSpareOf : Sema → Option SemaSeat → Type 0
+IsSpareOf sema None = ⊤
+IsSpareOf sema (Some seat) = IsSemaSeatOf sema seat
+
+-- the seat is one of the semaphore's that waits for nothing, and its Rendez are of this kernel
+pub record IsSeated (sema : Sema) (words : Words) (seat : SemaSeat) : Type 0 where
+  pub seat_is : IsSemaSeatOf sema seat
+  pub row : HasRow sema words
+
+-- a pool of a new semaphore, whose first seat nobody has
+abbrev pub IsNewPool : Unused → ℕ → ℕ → Pooled → Type 0
+IsNewPool roster value procs pool =
+    (seat : SemaSeat) × IsNewSema roster value procs pool.sema seat × (pool.spare ≡ Some seat)
+
+-- ---- who holds
+
+-- who calls
+abbrev pub holder : Holding → Caller
+holder holding = caller_at holding.sema holding.running holding.seat
+
+-- where it stands
+abbrev pub stands_holding : Holding → Standing
+stands_holding holding = stands holding.running holding.seat
+
+-- the same process of the same kernel, with the same seat at the same semaphore
+pub record IsSameHolder (old new : Holding) : Type 0 where
+  pub sema_is : new.sema ≡ old.sema
+  pub words_are : new.running.words ≡ old.running.words
+  pub number_is : number_of new.seat.seat ≡ number_of old.seat.seat
+
+-- it is seated: its own calls need no more
+abbrev pub IsSeatedHolder : Holding → Type 0
+IsSeatedHolder holding = IsSeated holding.sema holding.running.words holding.seat
+
+-- what semacquire answers where it waits
+abbrev pub got : Result ⊤ Fault → Result Semacquired Fault
+got (Ok unit) = Ok sema.Acquired
+got (Err fault) = Err fault
+
+-- and where it does not
+abbrev pub got_now : Bool → Result Semacquired Fault
+got_now now = Ok (if now then sema.Acquired else sema.NotNow)
+
+-- why a process can't be the first to hold: its kernel has not all Rendez of the pool, or somebody
+-- was the first
+abbrev pub WhyNotFirst : Pooled → Running → Fault → Type 0
+WhyNotFirst pool running fault.NoRendez = ¬ HasRow pool.sema running.words
+WhyNotFirst pool running fault.NoProc = HasRow pool.sema running.words × (pool.spare ≡ None)
+WhyNotFirst pool running other = ⊥
+
+-- the process has the seat that nobody had
+pub record IsFirstHolder (pool : Pooled) (running : Running) (holding : Holding) : Type 0 where
+  pub sema_is : holding.sema ≡ pool.sema
+  pub running_is : holding.running ≡ running
+  pub seat_is : Some holding.seat ≡ pool.spare
+
+-- ---- who holds next
+
+-- the process and the semaphore are as they were
+pub record IsSameParent (old new : Holding) : Type 0 where
+  pub sema_is : new.sema ≡ old.sema
+  pub running_is : new.running ≡ old.running
+
+-- the process has a seat of the same semaphore, which was given to no other
+pub record IsFurtherHolder (old new : Holding) (running : Running) (child : Holding) : Type 0 where
+  pub sema_is : child.sema ≡ old.sema
+  pub running_is : child.running ≡ running
+  pub given : Splits old.sema.lock old.seat.seat new.seat.seat child.seat.seat
+
+-- all seats were given, as far as the seat can know
+abbrev pub KnowsNoSeat : Holding → Holding → Type 0
+KnowsNoSeat old new = KnowsAllGiven old.sema.lock old.seat.seat new.seat.seat
+
+-- why a process can't hold as well: its kernel has not all Rendez of the pool, or all seats were
+-- given
+abbrev pub WhyNotJoined : Holding → Holding → Running → Fault → Type 0
+WhyNotJoined old new running fault.NoRendez =
+    (¬ HasRow old.sema running.words) × (new ≡ old)
+WhyNotJoined old new running fault.NoProc = HasRow old.sema running.words × KnowsNoSeat old new
+WhyNotJoined old new running other = ⊥
+
+-- the next process of a roster holds as well
+pub record ForksHolder (before : Unused) (old new : Holding) (child : Holding) (after : Unused) :
+    Type 0 where
+  pub pid : HasPid before
+  pub further : IsFurtherHolder old new (next_process before) child
+  pub roster : after ≡ one_pid_less old.running.process.pid false before
+
+-- Why it does not: no pid is left, or all seats were given, and then no pid is used up. Or the
+-- roster is of another kernel, which has not all Rendez of the pool.
+abbrev pub WhyNoFork : Unused → Holding → Holding → Unused → Fault → Type 0
+WhyNoFork before old new after fault.NoProc =
+    (after ≡ before) × (((¬ HasPid before) × (new ≡ old)) ⊎ (HasPid before × KnowsNoSeat old new))
+WhyNoFork before old new after fault.NoRendez = HasPid before × (¬ HasRow old.sema before.words)
+WhyNoFork before old new after other = ⊥
+
+-- ---- all at once
+
+-- so many hold units of this semaphore, in the kernel of this roster but for the one that was first
+pub record AreHolders (sema : Sema) (running : Running) (unused : Unused) (count : ℕ)
+    (holders : List Holding) : Type 0 where
+  pub count_is : length holders ≡ count
+  pub at_sema : AllByRecursion (λ holding. holding.sema ≡ sema) holders
+  pub kernels : AllByRecursion (λ holding.
+      (holding.running ≡ running) ⊎ (holding.running.words ≡ unused.words)) holders
+
+-- what may stand against it: too few pids or seats, a kernel that has not all Rendez, no memory
+abbrev pub IsNoHolders : Fault → Type 0
+IsNoHolders fault.NoProc = ⊤
+IsNoHolders fault.NoRendez = ⊤
+IsNoHolders fault.Memory = ⊤
+IsNoHolders other = ⊥

@@ -1,0 +1,37 @@
+//! All that a program names: the library's types and calls in one order, and processes that have
+//! what belongs together.
+//! Read the lists below from the top: what every call speaks of; a kernel and its processes; pipes,
+//! with `pipes`; semaphores, with `pool`; timers; tag spaces; and what else a caller may prove.
+#![tactic(auto)]
+
+pub mod pipes;
+pub mod pool;
+
+// What every call speaks of.
+pub use sync_base::{Fault, Flags, Mode, Note, NoteSet, Pid, Piece, RendezId, Tag, limits};
+
+// A kernel and its processes: sleep, wakeup, notes and rfork.
+pub use sleep_wakeup::{Done, Kernel, Left, Opened as OpenedKernel, Proc, Roster, Start, Started};
+
+// Pipes, and processes that have an end of one.
+pub use crate::pipes::{Reader, Writer, fork_writers};
+pub use pipe_dev::{
+    End, Ends, Held, Long, Opened as OpenedPipe, Parts, Pipe, PipeStart, ReadAnswer, ReadEnd,
+    StoredBlock, TryAnswer, Unfinished, WriteEnd, finish,
+};
+
+// Semaphores, and processes that hold their units.
+pub use crate::pool::{Holder, Pool};
+pub use semaphore::{OpenedSema, Sema, SemaSeat, Semacquired};
+
+// Timers, for waits that end.
+pub use semaphore::{OpenedTimers, TimerSeat, Timers};
+
+// Tag spaces: rendezvous, and rfork of them.
+pub use tag_space::meeting::INTERRUPTED;
+pub use tag_space::{
+    Child, Forked, Member, NotForked, Opened as OpenedSpace, SpentMember, TagSpace, rfork,
+};
+
+// What a caller has beside: a pipe for one thread, and probes for tests of calls.
+pub use sync_base::{NoProbe, PlainPipe, Probe};

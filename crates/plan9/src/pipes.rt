@@ -1,0 +1,216 @@
+//! Processes that have an end of a pipe: what each call asks for besides its bytes is in the type.
+ghost use Rattle.std.specs.Prelude.{◌≡◌, length, IfOk, IfErr, OnErr};
+ghost use Rattle.plan9.specs.Pipes.{HaveEnds, WhyNoWriters};
+
+use pipe_dev::{Long, ReadAnswer, ReadEnd, TryAnswer, WriteEnd};
+use sleep_wakeup::{Proc, Roster};
+use std::alloc::Global;
+use std::sync::Wait;
+use sync_base::{Fault, Flags};
+
+/// A process that has a read end. One thread has it at a time, and may hand it to another.
+#[derive(Drop)]
+pub struct Reader<'p, 'k> {
+    pub end: ReadEnd<'p>,
+    pub proc: Proc<'k>,
+}
+
+/// A process that has a write end. One thread has it at a time, and may hand it to another.
+#[derive(Drop)]
+pub struct Writer<'p, 'k> {
+    pub end: WriteEnd<'p>,
+    pub proc: Proc<'k>,
+}
+
+impl<'p, 'k> Reader<'p, 'k> {
+    ghost use Rattle.std.specs.Prelude.{◌≡◌, ◌≢◌, ◌↔◌, ◌⊎◌, [], IsErrOf, IfOk, IfErr, OnErr};
+    ghost use Rattle.sync_base.specs.declared.fault.Fault.TheVariants.{BadCount, NoRendez};
+    ghost use Rattle.block_queue.specs.declared.entry.Entry.TheVariants.{Hung};
+    ghost use Rattle.block_queue.specs.Meaning.{Enters};
+    ghost use Rattle.block_queue.specs.Seats.{key_of};
+    ghost use Rattle.pipe_dev.specs.Ends.{IsSameReadEnd};
+    ghost use Rattle.pipe_dev.specs.ReadCalls.{Reads, Tries, IsUntouchedRead, reader_of};
+    ghost use Rattle.pipe_dev.specs.Rendezes.{HasRow, WakesIfKnown};
+
+    /// A process with a read end. Takes no memory and doesn't wait.
+    pub fn new(end: ReadEnd<'p>, proc: Proc<'k>) -> Reader<'p, 'k>
+        ensures end { result.end ≡ end.entry }
+        ensures proc { result.proc ≡ proc.entry }
+    {
+        Reader { end, proc }
+    }
+
+    /// Reads what is next: fills the buffer, up to its end or to the end of one write, whichever
+    /// comes first. In stream mode it goes on from write to write while its buffer has room, and
+    /// passes the empty ones. Where nothing is there yet it waits. Takes no memory.
+    ///
+    /// `End` where the direction is hung up and all is read. Refuses, in this order, as `BadCount`
+    /// for a buffer of no bytes, as `NoRendez` where the process is of another kernel, which has
+    /// not all Rendez of the direction, and where it would wait as `DoubleSleep` and `Interrupted`.
+    /// A read that took a write out wakes each writer with its number, in stream mode with that of
+    /// the last one. After pipe(3) and read(2).
+    pub fn read<R: Wait>(&mut self, rt: &R, buffer: &mut [u8]) -> Result<ReadAnswer, Fault>
+        // A buffer of no bytes is refused first, and then a process of a kernel that has not all
+        // Rendez of the direction.
+        ensures bad_count { IsErrOf result BadCount ↔ (buffer.old ≡ []) }
+        ensures no_rendez { buffer.old ≢ []
+            → (IsErrOf result NoRendez ↔ ¬ HasRow self.old.proc.words self.old.end.row) }
+
+        // It read, slept and woke so, or did nothing.
+        ensures read { Reads (key_of self.old.end.queue) self.old.end.row
+            (reader_of self.old.end self.old.proc) buffer.old result
+            (reader_of self.new.end self.new.proc) buffer.new }
+        ensures end { IsSameReadEnd self.old.end self.new.end }
+        ensures words { self.new.proc.words ≡ self.old.proc.words }
+    {
+        self.end.read(rt, &mut self.proc, buffer)
+    }
+
+    /// A `read` that does not wait: `NotYet` where nothing is there yet. Takes no memory.
+    ///
+    /// Refuses, in this order, as `BadCount` for a buffer of no bytes and as `NoRendez` where the
+    /// process is of another kernel, which has not all Rendez of the direction.
+    pub fn try_read(&mut self, buffer: &mut [u8]) -> Result<TryAnswer, Fault>
+        // A buffer of no bytes is refused first, and then a process of a kernel that has not all
+        // Rendez of the direction; nothing is done then.
+        ensures bad_count { IsErrOf result BadCount ↔ (buffer.old ≡ []) }
+        ensures no_rendez { buffer.old ≢ []
+            → (IsErrOf result NoRendez ↔ ¬ HasRow self.old.proc.words self.old.end.row) }
+        ensures fault { IfErr result (λ fault. (fault ≡ BadCount) ⊎ (fault ≡ NoRendez)) }
+        ensures refused { OnErr result (IsUntouchedRead
+            (reader_of self.old.end self.old.proc) buffer.old
+            (reader_of self.new.end self.new.proc) buffer.new) }
+
+        // Otherwise it read and woke so.
+        ensures tried { IfOk result (λ answer. Tries (key_of self.old.end.queue) self.old.end.row
+            (reader_of self.old.end self.old.proc) buffer.old answer
+            (reader_of self.new.end self.new.proc) buffer.new) }
+        ensures end { IsSameReadEnd self.old.end self.new.end }
+        ensures words { self.new.proc.words ≡ self.old.proc.words }
+    {
+        self.end.try_read(&mut self.proc, buffer)
+    }
+
+    /// Hangs its direction up, for all writers and for good, and wakes both sides. What was
+    /// accepted stays readable. A second hangup wakes again. A process of another kernel, which has
+    /// not all Rendez of the direction, hangs it up and wakes nobody. Takes no memory and doesn't
+    /// wait. After pipe(2).
+    pub fn hangup(&mut self)
+        ensures hung { Enters (key_of self.old.end.queue) (Hung 0)
+            self.old.end.account self.new.end.account }
+        ensures rest { self.new.end.rest ≡ self.old.end.rest }
+        ensures woken { WakesIfKnown self.old.end.row self.old.proc self.new.proc.process }
+        ensures end { IsSameReadEnd self.old.end self.new.end }
+        ensures words { self.new.proc.words ≡ self.old.proc.words }
+    {
+        self.end.hangup(&mut self.proc)
+    }
+}
+
+impl<'p, 'k> Writer<'p, 'k> {
+    ghost use Rattle.std.specs.Prelude.{◌≡◌, ◌≢◌, ◌+◌, ◌<◌, ◌≤◌, ◌↔◌, length, IsErrOf, Some};
+    ghost use Rattle.sync_base.specs.declared.fault.Fault.TheVariants.{TooBig, NoRendez};
+    ghost use Rattle.sync_base.specs.declared.limits.TheConstants.{ATOMIC_SIZE};
+    ghost use Rattle.block_queue.specs.declared.entry.Entry.TheVariants.{Hung};
+    ghost use Rattle.block_queue.specs.Meaning.{Enters};
+    ghost use Rattle.block_queue.specs.Seats.{key_of};
+    ghost use Rattle.pipe_dev.specs.Ends.{IsSameWriteEnd};
+    ghost use Rattle.pipe_dev.specs.Rendezes.{HasRow, WakesIfKnown};
+    ghost use Rattle.pipe_dev.specs.WriteCalls.{Writes, WritesLong, writer_of};
+
+    /// A process with a write end. Takes no memory and doesn't wait.
+    pub fn new(end: WriteEnd<'p>, proc: Proc<'k>) -> Writer<'p, 'k>
+        ensures end { result.end ≡ end.entry }
+        ensures proc { result.proc ≡ proc.entry }
+    {
+        Writer { end, proc }
+    }
+
+    /// Writes these bytes as one write, which is read whole and in one piece, and answers its
+    /// number. Where there is no room it waits. Memory is taken for the bytes.
+    ///
+    /// Refuses, in this order, as `TooBig` above the atomic size, as `NoRendez` where the process
+    /// is of another kernel, which has not all Rendez of the direction, as `Memory`, as `Hungup`
+    /// where the direction is hung up, and then the note of a write on a closed pipe is posted to
+    /// the process; as `Worn` where the last number is given, and where it would wait as
+    /// `DoubleSleep` and `Interrupted`. A write that was accepted wakes the reader with its number.
+    /// After pipe(3) and write(2).
+    pub fn write<R: Wait>(&mut self, alloc: Global, rt: &R, bytes: &[u8]) -> Result<u64, Fault>
+        // A write above the atomic size is refused first, and then a process of a kernel that has
+        // not all Rendez of the direction.
+        ensures too_big { IsErrOf result TooBig ↔ (ATOMIC_SIZE < length bytes.now) }
+        ensures no_rendez { length bytes.now ≤ ATOMIC_SIZE
+            → (IsErrOf result NoRendez ↔ ¬ HasRow self.old.proc.words self.old.end.row) }
+
+        // It wrote, slept and woke so, or did nothing.
+        ensures wrote { Writes (key_of self.old.end.queue) self.old.end.row self.old.end.writer
+            bytes.now (writer_of self.old.end self.old.proc) result
+            (writer_of self.new.end self.new.proc) }
+        ensures end { IsSameWriteEnd self.old.end self.new.end }
+        ensures words { self.new.proc.words ≡ self.old.proc.words }
+    {
+        self.end.write(alloc, rt, &mut self.proc, bytes)
+    }
+
+    /// Writes these bytes as writes of the atomic size, and one of the rest; no bytes are one empty
+    /// write. It waits as `write` does, and stops at the first fault. None is `TooBig`; `NoRendez`
+    /// comes before any byte is taken.
+    pub fn write_long<R: Wait>(&mut self, alloc: Global, rt: &R, bytes: &[u8]) -> Long
+        // None of its writes is above the atomic size, and it is refused as `NoRendez` just where
+        // the process is of a kernel that has not all Rendez of the direction.
+        ensures too_big { result.fault ≢ Some TooBig }
+        ensures no_rendez { (result.fault ≡ Some NoRendez)
+            ↔ ¬ HasRow self.old.proc.words self.old.end.row }
+
+        // It wrote so, up to the first write that was not accepted.
+        ensures wrote { WritesLong (key_of self.old.end.queue) self.old.end.row
+            self.old.end.writer bytes.now (writer_of self.old.end self.old.proc) result
+            (writer_of self.new.end self.new.proc) }
+        ensures end { IsSameWriteEnd self.old.end self.new.end }
+        ensures words { self.new.proc.words ≡ self.old.proc.words }
+    {
+        self.end.write_long(alloc, rt, &mut self.proc, bytes)
+    }
+
+    /// Hangs its direction up, for all writers and for good, and wakes both sides. What was
+    /// accepted stays readable. A second hangup wakes again. A process of another kernel, which has
+    /// not all Rendez of the direction, hangs it up and wakes nobody. Takes no memory and doesn't
+    /// wait. After pipe(2).
+    pub fn hangup(&mut self)
+        ensures hung { Enters (key_of self.old.end.queue) (Hung (self.old.end.writer + 1))
+            self.old.end.account self.new.end.account }
+        ensures woken { WakesIfKnown self.old.end.row self.old.proc self.new.proc.process }
+        ensures end { IsSameWriteEnd self.old.end self.new.end }
+        ensures words { self.new.proc.words ≡ self.old.proc.words }
+    {
+        self.end.hangup(&mut self.proc)
+    }
+}
+
+/// Gives each of these ends to a child of this process, in its note group.
+/// Refuses, in this order, as `NoProc` where fewer pids are left and as `Memory`, and then no
+/// process is made. Doesn't wait.
+pub fn fork_writers<'p, 'k>(
+    alloc: Global,
+    roster: &mut Roster<'k>,
+    parent: &mut Proc<'k>,
+    ends: Vec<WriteEnd<'p>>,
+) -> Result<Vec<Writer<'p, 'k>>, Fault>
+    ensures fault { IfErr result (WhyNoWriters roster.old (length ends.entry.items)) }
+    ensures refused { OnErr result (roster.new ≡ roster.old) }
+    ensures made { IfOk result (λ made.
+        HaveEnds roster.old parent.old.process.pid ends.entry.items made.items roster.new) }
+    ensures parent { parent.new ≡ parent.old }
+{
+    if roster.left().pids < ends.len() as u64 {
+        return Err(Fault::NoProc);
+    }
+    let mut writers = Vec::with_capacity(alloc, ends.len())?;
+    'forking: for end in ends {
+        let Ok(Some(proc)) = roster.rfork(parent, Flags::RFPROC) else {
+            unreachable!()
+        };
+        writers.push_reserved(Writer { end, proc });
+    }
+    Ok(writers)
+}

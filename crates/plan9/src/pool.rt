@@ -1,0 +1,356 @@
+//! A pool of units, and processes that hold them: each has its process, its seat and the
+//! semaphore together.
+ghost use Rattle.std.specs.Prelude.{◌≡◌, ◌≤◌, ◌+◌, ◌↔◌, true};
+ghost use Rattle.rendez_words.specs.Words.{rendez_of};
+
+use semaphore::{OpenedSema, Sema, SemaSeat, Semacquired};
+use sleep_wakeup::{Proc, Roster};
+use std::alloc::Global;
+use std::marker::Model;
+use std::sync::Wait;
+use sync_base::{Fault, Flags, NoteSet, Pid, RendezId};
+
+/// A pool of units: a semaphore, and its first seat as long as nobody has it.
+#[derive(Drop)]
+pub struct Pool {
+    sema: Sema,
+    spare: Option<SemaSeat>,
+    first: u64,
+    procs: u64,
+}
+
+impl Model for Pool {
+    ghost use Rattle.plan9.specs.Pools.{Pooled, IsRowOf, IsSpareOf};
+
+    ghost Value = { Pooled };
+
+    ghost view = { λ pool. record { sema = pool.sema; spare = pool.spare } };
+
+    ghost invariant = { λ pool. record {
+      row : IsRowOf pool.sema pool.first pool.procs;
+      spare : IsSpareOf pool.sema pool.spare;
+    } };
+}
+
+/// A process with a seat at a pool. One thread has it at a time, and may hand it to another.
+#[derive(Drop)]
+pub struct Holder<'s, 'k> {
+    sema: &'s Sema,
+    first: u64,
+    procs: u64,
+    seat: SemaSeat,
+    proc: Proc<'k>,
+}
+
+impl<'s, 'k> Model for Holder<'s, 'k> {
+    ghost use Rattle.plan9.specs.Pools.{Holding, IsRowOf, IsSeated};
+
+    ghost Value = { Holding };
+
+    ghost view = { λ holder. record {
+      sema = holder.sema.now;
+      running = holder.proc;
+      seat = holder.seat;
+    } };
+
+    ghost invariant = { λ holder. record {
+      row : IsRowOf holder.sema.now holder.first holder.procs;
+      seated : IsSeated holder.sema.now holder.proc.words holder.seat;
+    } };
+}
+
+impl Pool {
+    ghost use Rattle.std.specs.Prelude.{◌≡◌, ◌≤◌, Some, IfOk, IfErr, OnOk, OnErr};
+    ghost use Rattle.sync_base.specs.declared.fault.Fault.TheVariants.{NoProc, NoRendez};
+    ghost use Rattle.sleep_wakeup.specs.Kernel.{HasRendez, rendez_less};
+    ghost use Rattle.semaphore.specs.declared.limits.TheConstants.{MAX_VALUE};
+    ghost use Rattle.semaphore.specs.Opening.{WhyNotOpened};
+    ghost use Rattle.semaphore.specs.Procs.{IsProcCount};
+    ghost use Rattle.plan9.specs.Pools.{
+      AreHolders,
+      IsFirstHolder,
+      IsNewPool,
+      IsNoHolders,
+      WhyNotFirst,
+    };
+
+    /// A pool of so many units for so many processes. It takes as many Rendez as there are
+    /// processes. Refuses, in this order, as `BadArg` where the units are above 2,147,483,647,
+    /// `NoProc` where the processes are not from 1 to 1,024, `NoRendez` and `Memory`. Doesn't wait.
+    pub fn new(
+        alloc: Global,
+        roster: &mut Roster<'_>,
+        value: u32,
+        procs: u64,
+    ) -> Result<Pool, Fault>
+        // Refused first, and then no Rendez is used up.
+        ensures in_range { OnOk result ((value ≤ MAX_VALUE) × IsProcCount procs) }
+        ensures room { OnOk result (HasRendez roster.old procs) }
+        ensures fault { IfErr result (WhyNotOpened roster.old value procs) }
+        ensures refused { OnErr result (roster.new ≡ roster.old) }
+
+        // Otherwise nobody has called it, and nobody has its first seat.
+        ensures opened { IfOk result (IsNewPool roster.old value procs) }
+        ensures given { OnOk result (roster.new ≡ rendez_less procs roster.old) }
+    {
+        let OpenedSema { sema, seat } = Sema::new(alloc, roster, value, procs)?;
+        let RendezId(first) = sema.rendez(&seat);
+        Ok(Pool {
+            sema,
+            spare: Some(seat),
+            first,
+            procs,
+        })
+    }
+
+    /// The first to hold units of this pool. Refuses, in this order, as `NoRendez` a process of
+    /// another kernel, which has not all Rendez of the pool, and as `NoProc` where somebody was
+    /// the first before. Takes no memory and doesn't wait.
+    pub fn first<'s, 'k>(&'s mut self, proc: Proc<'k>) -> Result<Holder<'s, 'k>, Fault>
+        ensures fault { IfErr result (WhyNotFirst self.old proc.entry) }
+        ensures first { IfOk result (IsFirstHolder self.old proc.entry) }
+    {
+        if !has_row(&proc, self.first, self.procs) {
+            return Err(Fault::NoRendez);
+        }
+        match self.spare.take() {
+            None => Err(Fault::NoProc),
+            Some(seat) => Ok(Holder {
+                sema: &self.sema,
+                first: self.first,
+                procs: self.procs,
+                seat,
+                proc,
+            }),
+        }
+    }
+
+    /// So many processes that hold units of this pool: this one, and children of it in its note
+    /// group. Takes memory for the list, and waits for the semaphore's lock.
+    ///
+    /// Refuses, in this order, before a process is made, as `NoProc` where the count is 0 or above
+    /// the processes of the pool, or fewer pids are left; as `Memory`; as `first` does; and then as
+    /// `fork` does.
+    pub fn holders<'s, 'k, R: Wait>(
+        &'s mut self,
+        alloc: Global,
+        rt: &R,
+        roster: &mut Roster<'k>,
+        proc: Proc<'k>,
+        count: u64,
+    ) -> Result<Vec<Holder<'s, 'k>>, Fault>
+        ensures fault { IfErr result IsNoHolders }
+        ensures holders { IfOk result (λ holders.
+            AreHolders self.old.sema proc.entry roster.old count holders.items) }
+    {
+        if count == 0 || count > self.procs || roster.left().pids < count - 1 {
+            return Err(Fault::NoProc);
+        }
+        let mut holders = Vec::with_capacity(alloc, count as usize)?;
+        let mut first = self.first(proc)?;
+        'forking: for _ in 1..count {
+            holders.push_reserved(first.fork(rt, roster)?);
+        }
+        holders.push_reserved(first);
+        Ok(holders)
+    }
+}
+
+// Whether the kernel of the process has so many Rendez from this one on.
+fn has_row(proc: &Proc<'_>, first: u64, procs: u64) -> bool
+    ensures { result ≡ true ↔ first + procs ≤ rendez_of proc.now.words }
+{
+    let count = proc.rendez_count();
+    first <= count && procs <= count - first
+}
+
+impl<'s, 'k> Holder<'s, 'k> {
+    ghost use Rattle.std.specs.Prelude.{◌≡◌, ◌<◌, ◌≤◌, true, false, IfOk, IfErr, OnOk, OnErr};
+    ghost use Rattle.sync_base.specs.declared.fault.Fault.TheVariants.{NoProc};
+    ghost use Rattle.rendez_words.specs.Steps.{notes, drains};
+    ghost use Rattle.rendez_words.specs.Words.{procs_of};
+    ghost use Rattle.semaphore.specs.Acquiring.{Semacquires};
+    ghost use Rattle.semaphore.specs.Deeds.{Calls};
+    ghost use Rattle.semaphore.specs.Releasing.{Releases};
+    ghost use Rattle.plan9.specs.Pools.{
+      ForksHolder,
+      IsFurtherHolder,
+      IsSameHolder,
+      IsSameParent,
+      IsSeatedHolder,
+      WhyNoFork,
+      WhyNotJoined,
+      got,
+      got_now,
+      holder,
+      stands_holding,
+    };
+
+    /// Takes a unit, and waits where there is none. After semacquire(2).
+    ///
+    /// Refuses, in this order, as `Worn` where the seat's grants are worn out and it would wait,
+    /// `DoubleSleep` where another process sleeps in the seat's Rendez, and `Interrupted` with the
+    /// notes that ended the wait, which are no longer pending; a refused call has got no unit.
+    /// Where a unit was granted before the notes came, it has that unit, and the notes are pending
+    /// again. Takes no memory.
+    pub fn acquire<R: Wait>(&mut self, rt: &R) -> Result<(), Fault>
+        ensures same { IsSameHolder self.old self.new }
+        ensures called { Calls (holder self.old) (stands_holding self.old)
+            (stands_holding self.new) (Semacquires true (holder self.old) (got result)) }
+    {
+        match self
+            .sema
+            .semacquire(rt, &mut self.proc, &mut self.seat, true)
+        {
+            Ok(Semacquired::Acquired) => Ok(()),
+            Ok(Semacquired::NotNow) => unreachable!(),
+            Err(fault) => Err(fault),
+        }
+    }
+
+    /// Takes a unit if there is one now, and says whether it did. It waits for the semaphore's
+    /// lock. Takes no memory.
+    pub fn try_acquire<R: Wait>(&mut self, rt: &R) -> bool
+        ensures same { IsSameHolder self.old self.new }
+        ensures called { Calls (holder self.old) (stands_holding self.old)
+            (stands_holding self.new) (Semacquires false (holder self.old) (got_now result)) }
+    {
+        match self
+            .sema
+            .semacquire(rt, &mut self.proc, &mut self.seat, false)
+        {
+            Ok(Semacquired::Acquired) => true,
+            Ok(Semacquired::NotNow) => false,
+            Err(_) => unreachable!(),
+        }
+    }
+
+    /// Adds so many units, and answers the value after the addition, before units pass to those
+    /// who wait, the first to come first. Each who was granted a unit is woken. After semrelease
+    /// in semacquire(2).
+    ///
+    /// Refuses as `BadArg`, and adds nothing, where the value would be above 2,147,483,647.
+    /// It waits for the semaphore's lock. Takes no memory.
+    pub fn release<R: Wait>(&mut self, rt: &R, count: u32) -> Result<u32, Fault>
+        ensures same { IsSameHolder self.old self.new }
+        ensures called { Calls (holder self.old) (stands_holding self.old)
+            (stands_holding self.new) (Releases self.old.sema.first count result) }
+    {
+        self.sema
+            .semrelease(rt, &mut self.proc, &mut self.seat, count)
+    }
+
+    /// Another process that holds as well, with a seat of its own.
+    /// Refuses, in this order, as `NoRendez` a process of another kernel, which has not all Rendez
+    /// of the pool, and as `NoProc` where the pool has had all its processes. It waits for the
+    /// semaphore's lock. Takes no memory.
+    pub fn join<R: Wait>(&mut self, rt: &R, proc: Proc<'k>) -> Result<Holder<'s, 'k>, Fault>
+        ensures same { IsSameParent self.old self.new }
+        ensures fault { IfErr result (WhyNotJoined self.old self.new proc.entry) }
+        ensures further { IfOk result (IsFurtherHolder self.old self.new proc.entry) }
+    {
+        let knows_pool = has_row(&proc, self.first, self.procs);
+        if !knows_pool {
+            return Err(Fault::NoRendez);
+        }
+        let seat = self.sema.split(rt, &mut self.seat)?;
+        Ok(Holder {
+            sema: self.sema,
+            first: self.first,
+            procs: self.procs,
+            seat,
+            proc,
+        })
+    }
+
+    /// A child of this process, in its note group, that holds as well.
+    /// Refuses as `NoProc` where no pid is left or the pool has had all its processes, and then
+    /// nothing is used up; and as `NoRendez` where the roster is of another kernel, which has not
+    /// all Rendez of the pool. It waits for the semaphore's lock. Takes no memory.
+    pub fn fork<R: Wait>(
+        &mut self,
+        rt: &R,
+        roster: &mut Roster<'k>,
+    ) -> Result<Holder<'s, 'k>, Fault>
+        ensures same { IsSameParent self.old self.new }
+        ensures fault { IfErr result (WhyNoFork roster.old self.old self.new roster.new) }
+        ensures forked { IfOk result (λ child.
+            ForksHolder roster.old self.old self.new child roster.new) }
+    {
+        if roster.left().pids == 0 {
+            return Err(Fault::NoProc);
+        }
+        let given = self.sema.split(rt, &mut self.seat)?;
+        let Ok(Some(proc)) = roster.rfork(&mut self.proc, Flags::RFPROC) else {
+            unreachable!()
+        };
+        if !has_row(&proc, self.first, self.procs) {
+            return Err(Fault::NoRendez);
+        }
+        Ok(Holder {
+            sema: self.sema,
+            first: self.first,
+            procs: self.procs,
+            seat: given,
+            proc,
+        })
+    }
+
+    /// The pid of its process. Takes no memory and doesn't wait.
+    pub fn pid(&self) -> Pid
+        ensures { result.0 ≡ self.now.running.process.pid }
+    {
+        self.proc.pid()
+    }
+
+    /// Posts notes to a process, which end its sleep or are pending until its next one. After
+    /// postnote(2).
+    /// Refuses as `NoProc`. Takes no memory and doesn't wait.
+    pub fn postnote(&mut self, pid: Pid, set: NoteSet) -> Result<(), Fault>
+        // Refused first, and then nothing changes.
+        ensures allowed { OnOk result (pid.0 < procs_of self.old.running.words) }
+        ensures fault { IfErr result (λ fault. fault ≡ NoProc) }
+        ensures refused { OnErr result (procs_of self.old.running.words ≤ pid.0) }
+        ensures same { OnErr result (self.new ≡ self.old) }
+
+        // Otherwise the notes are pending.
+        ensures noted { OnOk result (self.new.running.process
+            ≡ notes self.old.running.process pid set) }
+        ensures holder { IsSameHolder self.old self.new }
+        ensures seat { self.new.seat ≡ self.old.seat }
+    {
+        self.proc.postnote(pid, set)
+    }
+
+    /// Takes the notes that are pending. Takes no memory and doesn't wait.
+    pub fn notes(&mut self) -> NoteSet
+        ensures taken { self.new.running.process ≡ drains self.old.running.process result }
+        ensures holder { IsSameHolder self.old self.new }
+        ensures seat { self.new.seat ≡ self.old.seat }
+    {
+        self.proc.notes()
+    }
+
+    /// Its process. The seat is given up: nobody can have it any more. Takes no memory and doesn't
+    /// wait.
+    pub fn into_proc(self) -> Proc<'k>
+        ensures { result ≡ self.entry.running }
+    {
+        let Holder {
+            sema: _,
+            first: _,
+            procs: _,
+            seat: _,
+            proc,
+        } = self;
+        proc
+    }
+
+    /// Its seat is one of its semaphore's, whose Rendez are of its kernel: so each call of it may
+    /// be made.
+    pub fn is_seated(&self)
+        ensures { IsSeatedHolder self.now }
+    {
+        let _seat = &self.seat;
+    }
+}
