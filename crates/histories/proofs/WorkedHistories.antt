@@ -146,7 +146,8 @@ the_second_is_forgotten joined none joins =
 -- one call makes one entry
 nothing_is_made : AddsEntry by (puts 1 3) second second → ⊥
 nothing_is_made adds =
-    let grew : [] ≡ puts 1 3 ∷ adds.past = ap (λ (account : Account Deed). account.seen) adds.new_is in
+    let grew : [] ≡ puts 1 3 ∷ adds.past =
+    ap (λ (account : Account Deed). account.seen) adds.new_is in
     cc
 
 -- and begins no history anew
@@ -161,9 +162,12 @@ a_history_is_begun_anew adds =
 abbrev alone : Account Deed
 alone = record { number = 0; shares = unused_share 0 ∷ []; seen = []; gave = [] }
 
-a_number_is_passed_over : (new : Account Deed) → GivesNumber by alone new (child_account 2 alone) → ⊥
+a_number_is_passed_over : (new : Account Deed)
+    → GivesNumber by alone new (child_account 2 alone) → ⊥
 a_number_is_passed_over new gives =
-    let out : false ≡ true = gives.next.all (record { first = refl; gave = tt }) 1 (omega arith) in cc
+    let out : false ≡ true =
+    gives.next.all (record { first = refl; gave = tt }) 1 (omega arith) in
+    cc
 
 a_number_is_given_secretly : GivesNumber by alone alone (child_account 1 alone) → ⊥
 a_number_is_given_secretly gives =
@@ -183,7 +187,9 @@ a_look_forgets looks = not_behind looks.since (puts 1 3) looks.history_is
 a_look_of_all_misses_one : LooksAt by (puts 1 3 ∷ []) alone → ⊥
 a_look_of_all_misses_one looks =
     let none = looks.alone (record { first = refl; gave = tt }) in
-    let is : puts 1 3 ∷ [] ≡ [] = looks.history_is ∙ ap (λ (since : List Deed). since ++ []) none in cc
+    let is : puts 1 3 ∷ [] ≡ [] =
+    looks.history_is ∙ ap (λ (since : List Deed). since ++ []) none in
+    cc
 
 an_entry_of_its_own_is_news : LooksAt by (puts 1 3 ∷ []) second → ⊥
 an_entry_of_its_own_is_news looks =

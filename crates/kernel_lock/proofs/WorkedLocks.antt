@@ -206,7 +206,8 @@ a_number_that_was_given gives = let later = gives.later in omega (arith, later)
 
 the_parent_tells_nobody : GivesSeat 9 (seat [] [] 1) (seat [] [] 2) (child 2) → ⊥
 the_parent_tells_nobody gives =
-    let gave = ap (λ (account : Account (Served ℕ ℕ)). length account.gave) gives.account.parent_is in
+    let gave =
+    ap (λ (account : Account (Served ℕ ℕ)). length account.gave) gives.account.parent_is in
     omega (arith, gave)
 
 the_parent_forgets : GivesSeat 9 (seat [] [] 1) (seat [] (1 ∷ []) 1) (child 2) → ⊥
@@ -218,7 +219,9 @@ the_child_forgets gives = let given = gives.child_given in omega (arith, given)
 -- a split that is refused though a seat is left, or that gives a number all the same
 refused_too_early : RefusesSeat 2 (seat [] [] 1) (seat [] [] 2) → ⊥
 refused_too_early refuses =
-    let out : false ≡ true = refuses.next.all (record { first = refl; gave = tt }) 1 (omega arith) in cc
+    let out : false ≡ true =
+    refuses.next.all (record { first = refl; gave = tt }) 1 (omega arith) in
+    cc
 
 refused_and_given : RefusesSeat 1 (seat [] [] 1) (seat [] (1 ∷ []) 1) → ⊥
 refused_and_given refuses =
@@ -228,7 +231,8 @@ refused_and_given refuses =
 -- a join that forgets the second, and one that forgets what the second knew
 the_second_is_forgotten : JoinsSeats (seat [] (1 ∷ []) 2) (child 2) (seat [] (1 ∷ []) 2) → ⊥
 the_second_is_forgotten joins =
-    let shares = ap (λ (account : Account (Served ℕ ℕ)). length account.shares) joins.account.joined_is in
+    let shares =
+    ap (λ (account : Account (Served ℕ ℕ)). length account.shares) joins.account.joined_is in
     omega (arith, shares)
 
 what_it_knew_is_forgotten : JoinsSeats (seat [] (1 ∷ []) 2) (child 3) (seat [] (1 ∷ []) 2) → ⊥

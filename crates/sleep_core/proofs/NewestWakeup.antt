@@ -11,10 +11,12 @@ use Rattle.sleep_core.specs.Table.{Wakeup}
 abbrev pub its : ℕ → ℕ → Option Wakeup
 its rendez level = Some (record { rendez = rendez; level = level })
 
+-- as what it began
 pub has_begun : (raiser rendez level : ℕ) (past : List Deed)
     → begun_wakeup raiser (Raised raiser rendez level ∷ past) ≡ its rendez level
 has_begun raiser rendez level past = rw ((Decides-eqb raiser raiser).1 refl) refl
 
+-- and as what it owes
 pub owes : (raiser rendez level : ℕ) (past : List Deed)
     → owed_wakeup raiser (Raised raiser rendez level ∷ past) ≡ its rendez level
 owes raiser rendez level past = rw ((Decides-eqb raiser raiser).1 refl) refl
