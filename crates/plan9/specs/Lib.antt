@@ -3,6 +3,7 @@
 pub mod Words
 pub mod Pools
 pub mod Pipes
+pub mod Watches
 -- notes and flags, and where a process is
 pub use Rattle.sync_base.specs.NoteSet
 pub use Rattle.sync_base.specs.Flags

@@ -1,9 +1,11 @@
 //! All that a program names: the library's types and calls in one order, and processes that have
 //! what belongs together.
 //! Read the lists below from the top: what every call speaks of; a kernel and its processes; pipes,
-//! with `pipes`; semaphores, with `pool`; timers; tag spaces; and what else a caller may prove.
+//! with `pipes`; semaphores, with `pool`; timers, with `clock`; tag spaces; and what else a caller
+//! may prove.
 #![tactic(auto)]
 
+pub mod clock;
 pub mod pipes;
 pub mod pool;
 
@@ -24,7 +26,8 @@ pub use pipe_dev::{
 pub use crate::pool::{Holder, Pool};
 pub use semaphore::{OpenedSema, Sema, SemaSeat, Semacquired};
 
-// Timers, for waits that end.
+// Timers, for waits that end, and seats that have them.
+pub use crate::clock::{Clock, Watch};
 pub use semaphore::{OpenedTimers, TimerSeat, Timers};
 
 // Tag spaces: rendezvous, and rfork of them.

@@ -3,6 +3,7 @@
 ghost use Rattle.std.specs.Prelude.{◌≡◌, ◌≤◌, ◌+◌, ◌↔◌, true};
 ghost use Rattle.rendez_words.specs.Words.{rendez_of};
 
+use crate::clock::Watch;
 use semaphore::{OpenedSema, Sema, SemaSeat, Semacquired};
 use sleep_wakeup::{Proc, Roster};
 use std::alloc::Global;
@@ -169,9 +170,12 @@ impl<'s, 'k> Holder<'s, 'k> {
     ghost use Rattle.sync_base.specs.declared.fault.Fault.TheVariants.{NoProc};
     ghost use Rattle.rendez_words.specs.Steps.{notes, drains};
     ghost use Rattle.rendez_words.specs.Words.{procs_of};
-    ghost use Rattle.semaphore.specs.Acquiring.{Semacquires};
+    ghost use Rattle.semaphore.specs.Acquiring.{AcquiresInTime, Semacquires};
     ghost use Rattle.semaphore.specs.Deeds.{Calls};
     ghost use Rattle.semaphore.specs.Releasing.{Releases};
+    ghost use Rattle.semaphore.specs.Seats.{timers_seen};
+    ghost use Rattle.semaphore.specs.Timers.{deadline_of};
+    ghost use Rattle.plan9.specs.Watches.{IsSameWatch, stands_watching, timed_holder};
     ghost use Rattle.plan9.specs.Pools.{
       ForksHolder,
       IsFurtherHolder,
@@ -223,6 +227,41 @@ impl<'s, 'k> Holder<'s, 'k> {
             Ok(Semacquired::NotNow) => false,
             Err(_) => unreachable!(),
         }
+    }
+
+    /// Takes a unit. Where there is none it waits until a tick of the clock at the moment `now` +
+    /// `ms` or later; that moment is at most `u64::MAX`. After tsemacquire in semacquire(2); the
+    /// tick is the library's own.
+    ///
+    /// Refuses, in this order, as `Worn` and `DoubleSleep` as `acquire` does, `Interrupted` with
+    /// the notes that ended the wait, and `TimedOut` where a tick did so and no other note came; a
+    /// refused call has got no unit. With any other answer other notes that came are pending
+    /// again. Where a tick has taken its timer, it waits for that tick's note before it answers, so
+    /// that no late expiry reaches a later sleep. Takes no memory.
+    pub fn acquire_within<R: Wait>(
+        &mut self,
+        rt: &R,
+        watch: &mut Watch<'_>,
+        now: u64,
+        ms: u32,
+    ) -> Result<(), Fault>
+        ensures same { IsSameHolder self.old self.new }
+        ensures watch { IsSameWatch watch.old watch.new }
+        ensures called { let moment = deadline_of now ms in
+            let caller = timed_holder self.old watch.old moment in
+            Calls caller (stands_watching self.old watch.old)
+            (stands_watching self.new watch.new)
+            (AcquiresInTime caller (timers_seen watch.old.timers watch.new.seat) moment result) }
+    {
+        self.sema.tsemacquire(
+            rt,
+            &mut self.proc,
+            &mut self.seat,
+            watch.timers,
+            &mut watch.seat,
+            now,
+            ms,
+        )
     }
 
     /// Adds so many units, and answers the value after the addition, before units pass to those

@@ -1,0 +1,63 @@
+-- What clauses see of a clock, and of a seat at its timers.
+use Rattle.std.specs.Prelude.{◌≡◌, ⊤, ℕ, Option, Some, None}
+use Rattle.sync_base.specs.declared.fault.Fault.{Fault}
+use Rattle.sync_base.specs.declared.fault.Fault.TheVariants as fault
+use Rattle.kernel_lock.specs.Seats.{number_of, Splits, KnowsAllGiven}
+use Rattle.semaphore.specs.declared.timers.Timers.{Timers}
+use Rattle.semaphore.specs.declared.timers.TimerSeat.{TimerSeat}
+use Rattle.semaphore.specs.Deeds.{Caller, Standing}
+use Rattle.semaphore.specs.Seats.{AreNewTimers, IsTimerSeatOf, stands_timed, timed_caller}
+use Rattle.plan9.specs.Pools.{Holding}
+
+-- a clock: its timers, and the first seat as long as nobody has it
+pub record Clocked : Type 0 where
+  pub timers : Timers
+  pub spare : Option TimerSeat
+
+-- a seat, with its timers
+pub record Watching : Type 0 where
+  pub timers : Timers
+  pub seat : TimerSeat
+
+-- nobody has the seat, or it is one of the timers' whose timer is cancelled
+abbrev pub IsSpareTimer : Timers → Option TimerSeat → Type 0
+IsSpareTimer timers None = ⊤
+IsSpareTimer timers (Some seat) = IsTimerSeatOf timers seat
+
+-- a clock of new timers, whose first seat nobody has
+abbrev pub IsNewClock : ℕ → Clocked → Type 0
+IsNewClock procs clock =
+    (seat : TimerSeat) × AreNewTimers procs clock.timers seat × (clock.spare ≡ Some seat)
+
+-- somebody had the first seat before
+abbrev pub IsTaken : Clocked → Fault → Type 0
+IsTaken clock fault.NoProc = clock.spare ≡ None
+IsTaken clock other = ⊥
+
+-- the first seat, which nobody had
+pub record IsFirstWatch (clock : Clocked) (watch : Watching) : Type 0 where
+  pub timers_are : watch.timers ≡ clock.timers
+  pub seat_is : Some watch.seat ≡ clock.spare
+
+-- the same seat at the same timers
+pub record IsSameWatch (old new : Watching) : Type 0 where
+  pub timers_are : new.timers ≡ old.timers
+  pub number_is : number_of new.seat.seat ≡ number_of old.seat.seat
+
+-- a seat of the same timers that was given to no other
+pub record IsFurtherWatch (old new child : Watching) : Type 0 where
+  pub timers_are : child.timers ≡ old.timers
+  pub given : Splits old.timers.lock old.seat.seat new.seat.seat child.seat.seat
+
+-- all seats were given, as far as the seat can know
+abbrev pub WhyNoWatch : Watching → Watching → Fault → Type 0
+WhyNoWatch old new fault.NoProc = KnowsAllGiven old.timers.lock old.seat.seat new.seat.seat
+WhyNoWatch old new other = ⊥
+
+-- who holds and watches, until a moment, and where it stands
+abbrev pub timed_holder : Holding → Watching → ℕ → Caller
+timed_holder holding watch moment =
+    timed_caller holding.sema holding.running holding.seat watch.seat moment
+
+abbrev pub stands_watching : Holding → Watching → Standing
+stands_watching holding watch = stands_timed holding.running holding.seat watch.seat

@@ -1,0 +1,119 @@
+//! A clock that is told the time, and seats at its timers: each has the timers with it.
+use semaphore::{OpenedTimers, TimerSeat, Timers};
+use sleep_wakeup::Proc;
+use std::alloc::Global;
+use std::marker::Model;
+use std::sync::Wait;
+use sync_base::Fault;
+
+/// A clock: timers, and their first seat as long as nobody has it.
+#[derive(Drop)]
+pub struct Clock {
+    timers: Timers,
+    spare: Option<TimerSeat>,
+}
+
+impl Model for Clock {
+    ghost use Rattle.plan9.specs.Watches.{Clocked, IsSpareTimer};
+
+    ghost Value = { Clocked };
+
+    ghost view = { λ clock. record { timers = clock.timers; spare = clock.spare } };
+
+    ghost invariant = { λ clock. IsSpareTimer clock.timers clock.spare };
+}
+
+/// A seat at the timers of a clock, with one timer. `Holder::acquire_within` waits by it, and who
+/// knows the time tells it with `tick`. One thread has it at a time.
+#[derive(Drop)]
+pub struct Watch<'t> {
+    pub(crate) timers: &'t Timers,
+    pub(crate) seat: TimerSeat,
+}
+
+impl<'t> Model for Watch<'t> {
+    ghost use Rattle.semaphore.specs.Seats.{IsTimerSeatOf};
+    ghost use Rattle.plan9.specs.Watches.{Watching};
+
+    ghost Value = { Watching };
+
+    ghost view = { λ watch. record { timers = watch.timers.now; seat = watch.seat } };
+
+    ghost invariant = { λ watch. IsTimerSeatOf watch.timers.now watch.seat };
+}
+
+impl Clock {
+    ghost use Rattle.std.specs.Prelude.{IfOk, IfErr, OnOk};
+    ghost use Rattle.semaphore.specs.Procs.{IsProcCount};
+    ghost use Rattle.semaphore.specs.Timers.{WhyNoTimers};
+    ghost use Rattle.plan9.specs.Watches.{IsFirstWatch, IsNewClock, IsTaken};
+
+    /// A clock for so many processes, who ticks too. Refuses, in this order, as `NoProc` where they
+    /// are not from 1 to 1,024, and `Memory`. Doesn't wait.
+    pub fn new(alloc: Global, procs: u64) -> Result<Clock, Fault>
+        // Refused first.
+        ensures in_range { OnOk result (IsProcCount procs) }
+        ensures fault { IfErr result (WhyNoTimers procs) }
+
+        // Otherwise nobody has called it, and nobody has its first seat.
+        ensures opened { IfOk result (IsNewClock procs) }
+    {
+        let OpenedTimers { timers, seat } = Timers::new(alloc, procs)?;
+        Ok(Clock {
+            timers,
+            spare: Some(seat),
+        })
+    }
+
+    /// The first seat. Refuses as `NoProc` where somebody had it before. Takes no memory and
+    /// doesn't wait.
+    pub fn first<'t>(&'t mut self) -> Result<Watch<'t>, Fault>
+        ensures fault { IfErr result (IsTaken self.old) }
+        ensures first { IfOk result (IsFirstWatch self.old) }
+    {
+        match self.spare.take() {
+            None => Err(Fault::NoProc),
+            Some(seat) => Ok(Watch {
+                timers: &self.timers,
+                seat,
+            }),
+        }
+    }
+}
+
+impl<'t> Watch<'t> {
+    ghost use Rattle.std.specs.Prelude.{◌≡◌, IfOk, IfErr};
+    ghost use Rattle.rendez_words.specs.Words.{procs_of};
+    ghost use Rattle.semaphore.specs.Deeds.{Calls};
+    ghost use Rattle.semaphore.specs.Seats.{stands_ticking, ticker};
+    ghost use Rattle.semaphore.specs.Ticking.{Ticks};
+    ghost use Rattle.plan9.specs.Watches.{IsFurtherWatch, IsSameWatch, WhyNoWatch};
+
+    /// A further seat, for another process. Refuses as `NoProc` where the clock has had all its
+    /// processes. It waits for the timers' lock. Takes no memory.
+    pub fn split<R: Wait>(&mut self, rt: &R) -> Result<Watch<'t>, Fault>
+        ensures same { self.new.timers ≡ self.old.timers }
+        ensures fault { IfErr result (WhyNoWatch self.old self.new) }
+        ensures further { IfOk result (IsFurtherWatch self.old self.new) }
+    {
+        let seat = self.timers.split(rt, &mut self.seat)?;
+        Ok(Watch {
+            timers: self.timers,
+            seat,
+        })
+    }
+
+    /// Tells that it is now this moment: each timer whose deadline is come expires, and its process
+    /// is posted the note `expired`. Answers how many expired: at most as many as there are
+    /// processes. Own; tsemacquire in semacquire(2) has a clock of its own.
+    /// It waits for the timers' lock. Takes no memory.
+    pub fn tick<R: Wait>(&mut self, rt: &R, proc: &mut Proc<'_>, now: u64) -> u64
+        ensures same { IsSameWatch self.old self.new }
+        ensures words { proc.new.words ≡ proc.old.words }
+        ensures called { Calls (ticker proc.old self.old.seat)
+            (stands_ticking proc.old self.old.seat) (stands_ticking proc.new self.new.seat)
+            (Ticks self.old.timers.procs (procs_of proc.old.words) now result) }
+    {
+        self.timers.tick(rt, proc, &mut self.seat, now)
+    }
+}
