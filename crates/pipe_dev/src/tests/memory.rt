@@ -1,5 +1,6 @@
 //! A write for which there is no memory takes nothing and wakes nobody. Once each place of a pipe
-//! was used, a write finds the memory of a block that was read, and asks for more where it is longer.
+//! was used, a write finds the memory of a block that was read, and asks for more where it is
+//! longer.
 use crate::tests::kernels::{bytes_of, kernel_of};
 use crate::tests::lone::{Lone, lone_of};
 use crate::tests::scene::opened;
