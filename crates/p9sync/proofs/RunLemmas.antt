@@ -1,7 +1,7 @@
 -- How the runs of the program end, as its status says it.
-use Rattle.std.proofs.Common.{◌≡◌, ℕ, List, length, Option, None, Some, refl, sym, subst, inr}
+use Rattle.std.proofs.Common.{◌≡◌, ℕ, List, length, Option, None, Some, refl, sym, subst, inl, inr}
 use Rattle.std.proofs.Math.Seq.{take-length}
-use Rattle.std.specs.Prelude.{Result, Err, IfSome, false}
+use Rattle.std.specs.Prelude.{Result, Ok, Err, IfOk, OnErr, IsOk, IfSome, Bool, true, false}
 use Rattle.std.specs.Io.KnownBytes.{Appends}
 use Rattle.sync_base.specs.declared.fault.Fault.{Fault}
 use Rattle.sync_base.specs.declared.fault.Fault.TheVariants.{Memory}
@@ -14,8 +14,8 @@ use Rattle.scripts.specs.Device.{AppendsFront, WritesTold}
 use Rattle.scripts.specs.Script.{Told}
 use Rattle.scripts.proofs.DeviceLemmas.{appends_nothing}
 use Rattle.p9sync.specs.ReportText.{report_line}
-use Rattle.p9sync.specs.declared.args.TheConstants.{FAULT}
-use Rattle.p9sync.specs.Args.{status_of, EndsRun, EndsTask}
+use Rattle.p9sync.specs.declared.args.TheConstants.{GOOD, FAULT}
+use Rattle.p9sync.specs.Args.{status_of, status_of_threads, EndsRun, EndsTask, EndsThreads}
 
 -- a report of a run in which nothing was read
 abbrev nothing_read : ThreadsOpts → Report
@@ -67,3 +67,34 @@ pub ends_as : (asked : Option Task) (task : Task) (unread held written : Option 
     → asked ≡ Some task → EndsTask task unread held written status
     → IfSome asked (λ t. EndsTask t unread held written status)
 ends_as asked task unread held written status is ends = rw is ends
+
+-- a run on threads ends as its outcome says
+pub ends_threads : (opts : ThreadsOpts) (held written : Option (List ℕ))
+    (outcome : Result Bool Fault) (status : ℕ)
+    → IfOk outcome (λ good. (report : Report) × IsReportOf opts report
+    × (report.in_order ≡ good) × Appends held written (report_line report))
+    → OnErr outcome ((report : Report) × IsReportOf opts report
+    × AppendsFront held written (report_line report))
+    → status ≡ status_of_threads outcome
+    → EndsThreads opts held written status
+ends_threads opts held written (Ok true) status good failed is = record {
+  report = good.0;
+  is_report = good.1;
+  ended = inl (is, good.2, good.3);
+}
+ends_threads opts held written (Ok false) status good failed is = record {
+  report = good.0;
+  is_report = good.1;
+  ended = inr (is, whole_is_front held written (report_line good.0) good.3);
+}
+ends_threads opts held written (Err fault) status good failed is = record {
+  report = failed.0;
+  is_report = failed.1;
+  ended = inr (is, failed.2);
+}
+
+-- where it ended well, it had an outcome
+pub good_is_ok : (outcome : Result Bool Fault) (status : ℕ)
+    → status ≡ status_of_threads outcome → status ≡ GOOD → IsOk outcome
+good_is_ok (Ok in_order) status is good = refl
+good_is_ok (Err fault) status is good = absurd (cc)

@@ -1,5 +1,6 @@
 -- How a run that a command line asks for ends.
-use Rattle.std.specs.Prelude.{◌≡◌, ◌⊎◌, ⊤, ℕ, List, true, Option, IfSome, Result, Ok, Err}
+use Rattle.std.specs.Prelude.{◌≡◌, ◌⊎◌, ⊤, ℕ, List, Bool, true, false}
+use Rattle.std.specs.Prelude.{Option, IfSome, Result, Ok, Err}
 use Rattle.std.specs.Io.KnownBytes.{Appends}
 use Rattle.sync_base.specs.declared.fault.Fault.{Fault}
 use Rattle.sync_base.specs.declared.threads_opts.ThreadsOpts.{ThreadsOpts}
@@ -18,6 +19,12 @@ use Rattle.crew.specs.Threads.{IsReportOf}
 abbrev pub status_of : Result (Unit {0}) Fault → ℕ
 status_of (Ok done) = GOOD
 status_of (Err fault) = FAULT
+
+-- the same of a run on threads, which says whether it was in order
+abbrev pub status_of_threads : Result Bool Fault → ℕ
+status_of_threads (Ok true) = GOOD
+status_of_threads (Ok false) = FAULT
+status_of_threads (Err fault) = FAULT
 
 -- A run that was to say this ended with this status. With the status of a good run all was written
 -- and no line is at fault; with the status of a fault all was written and a line is at fault, or a

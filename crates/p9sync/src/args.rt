@@ -7,7 +7,13 @@ ghost use Rattle.scripts.specs.Device.{AppendsFront, TakesAtMost};
 ghost use Rattle.crew.specs.declared.opts.Report.{Report};
 ghost use Rattle.crew.specs.Threads.{IsReportOf};
 ghost use Rattle.command_line.specs.CommandLine.{task_asked};
-ghost use Rattle.p9sync.specs.Args.{status_of, EndsTask, EndsThreads, ReadsNothing};
+ghost use Rattle.p9sync.specs.Args.{
+  status_of,
+  status_of_threads,
+  EndsTask,
+  EndsThreads,
+  ReadsNothing,
+};
 ghost use Rattle.p9sync.specs.ReportText.{report_line};
 
 use crate::report_text::push_report;
@@ -105,8 +111,7 @@ pub fn end<E: Write>(outcome: Result<(), Fault>, err: &mut E) -> u8
     }
 }
 
-/// Runs writers and a reader, and says what was read. What is out of order ends as a fault of which
-/// `err` says nothing.
+/// Runs writers and a reader, and says what was read.
 fn tell_threads<T: Threads + Wait + Sync, O: Write, E: Write>(
     rt: &T,
     alloc: Global,
@@ -117,7 +122,15 @@ fn tell_threads<T: Threads + Wait + Sync, O: Write, E: Write>(
     ensures ends { EndsThreads opts (O.contents out.old) (O.contents out.new) result }
     ensures silent { result ≡ GOOD → Keeps (E.contents err.old) (E.contents err.new) }
 {
-    match write_threads(rt, alloc, opts, out) {
+    end_threads(write_threads(rt, alloc, opts, out), err)
+}
+
+/// Ends a run on threads. What is out of order ends as a fault does, and `err` says nothing of it.
+fn end_threads<E: Write>(outcome: Result<bool, Fault>, err: &mut E) -> u8
+    ensures status { result ≡ status_of_threads outcome }
+    ensures silent { IsOk outcome → Keeps (E.contents err.old) (E.contents err.new) }
+{
+    match outcome {
         Ok(true) => GOOD,
         Ok(false) => FAULT,
         Err(fault) => end(Err(fault), err),

@@ -15,7 +15,7 @@ use std::alloc::Global;
 use std::marker::Model;
 use std::process::Abort;
 use std::sync::Wait;
-use sync_base::{Fault, NoteSet, Piece};
+use sync_base::{Fault, Note, NoteSet, Piece, Probe, RendezId};
 
 /// A process that reads and one that writes, with all ends of the direction.
 #[derive(Drop)]
@@ -128,6 +128,34 @@ fn room_of(end: &mut WriteEnd<'_>, alloc: Global) -> usize
     room_in(seat, alloc)
 }
 
+// Whether a sleep tested the level of its Rendez and fell asleep.
+#[derive(Drop)]
+struct Looks {
+    asleep: bool,
+}
+
+impl Probe for Looks {
+    fn at(&mut self, point: u64) {
+        if point == 3 {
+            self.asleep = true;
+        }
+    }
+}
+
+// How many of the pipe's four Rendez a wakeup came to. A note ends each sleep that asks.
+fn woken_by<R: Wait>(rt: &R, asker: &mut Proc<'_>) -> u64 {
+    let mut woken = 0_u64;
+    for rendez in 0..4 {
+        let mut looks = Looks { asleep: false };
+        asker.put_back(NoteSet::of(Note::Alarm));
+        let _ = asker.sleep_probed(rt, RendezId(rendez), 0, &mut looks);
+        if !looks.asleep {
+            woken = woken.saturating_add(1);
+        }
+    }
+    woken
+}
+
 impl<'a> Lone<'a> {
     /// Each of the two.
     pub fn split(self) -> Split<'a> {
@@ -190,6 +218,11 @@ impl<'a> Lone<'a> {
     /// How many bytes the memory has room for that the writer keeps for its next block.
     pub fn room(&mut self, alloc: Global) -> usize {
         room_of(&mut self.write, alloc)
+    }
+
+    /// How many of the pipe's four Rendez a wakeup came to.
+    pub fn woken<R: Wait>(&mut self, rt: &R) -> u64 {
+        woken_by(rt, &mut self.reader)
     }
 
     /// Posts these notes to the reader.

@@ -1,13 +1,12 @@
--- A report that is out of order was written whole, which is a front of it too.
-use Rattle.std.proofs.Common.{refl, inr}
-use Rattle.p9sync.proofs.RunLemmas.{whole_is_front}
+-- A run on threads ends as its outcome says.
+use Rattle.p9sync.proofs.RunLemmas.{ends_threads, good_is_ok}
 use Rattle.p9sync.proofs.args.tell_threads.Goals as goal
 
-pub returns-in-Ok-false-clause-ends : goal.returns-in-Ok-false-clause-ends
-returns-in-Ok-false-clause-ends g c =
-    let good = c.in-Ok-false.ensures.good in
-    record {
-      report = good.0;
-      is_report = good.1;
-      ended = inr (refl, whole_is_front _ _ _ good.3);
-    }
+pub returns-clause-ends : goal.returns-clause-ends
+returns-clause-ends g c =
+    ends_threads _ _ _ c.write_threads.result _ c.write_threads.ensures.good
+    c.write_threads.ensures.failed c.end_threads.ensures.status
+
+pub returns-clause-silent : goal.returns-clause-silent
+returns-clause-silent g c = λ good.
+    c.end_threads.ensures.silent (good_is_ok _ _ c.end_threads.ensures.status good)
