@@ -128,7 +128,9 @@ front_lines-sound {S} language is_cut (line ∷ lines) more some none =
 
 -- What holds of each state that a first line opens, and stays at each answer.
 pub record Stays {S : Type 0} (language : Language S) (P : S → Type 0) : Type 0 where
+  -- it holds of the state that a first line opens
   pub opened : (line : List ℕ) (s : S) → language.opened_by line ≡ Some s → P s
+  -- a line that is answered leaves a state of which it holds again
   pub answered : (s : S) (line : List ℕ) (answered : Answered S) → P s
       → language.answer_to s line ≡ Some answered → P answered.after
 
@@ -220,6 +222,7 @@ farewell_lines {S} language P stays is_cut (line ∷ lines) =
 pub record Leaves {S : Type 0} (language : Language S) (s : S) (n : ℕ) (lines : List (List ℕ))
     (told : Told) (m : ℕ) : Type 0 where
   pub k : ℕ
+  -- its number is that of the first line and so many more
   pub is : m ≡ n + k
   pub within : k ≤ length lines
   pub output : told.output ≡ (told_from (without_farewell language) false s n (take k lines)).output
@@ -270,6 +273,7 @@ fault_leaves {S} language is_cut s n (line ∷ lines) m h =
 pub record LeavesFirst {S : Type 0} (language : Language S) (lines : List (List ℕ)) (told : Told)
     (m : ℕ) : Type 0 where
   pub k : ℕ
+  -- its number is one above that
   pub is : m ≡ suc k
   pub within : k ≤ length lines
   pub output : told.output ≡ (lines_told (without_farewell language) false (take k lines)).output

@@ -1,3 +1,4 @@
+-- A front of the input that is as long as a script may be tells what the whole input does.
 use Rattle.std.proofs.Common.{subst, take}
 use Rattle.scripts.specs.declared.script.TheConstants.{MAX_SCRIPT}
 use Rattle.scripts.specs.Device.{Tells}
