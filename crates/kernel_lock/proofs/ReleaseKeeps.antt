@@ -23,7 +23,7 @@ use Rattle.kernel_lock.specs.View.{account_of, history_with, outside_view}
 use Rattle.kernel_lock.proofs.RuleLemmas.{lock_moves, rule_after}
 
 module _ {Object : Type 0} where
-  -- the slot's first value is one object: two lists that are the same begin with the same
+  -- where two lists of slots are the same, the first holds the same object in both
   pub same_guarded : (guarded other : Guarded Object) (xs ys : List (ℕ × Slot Object)) →
       (0, Some guarded) ∷ xs ≡ (0, Some other) ∷ ys → guarded ≡ other
   same_guarded guarded other xs ys same =

@@ -21,7 +21,7 @@ use Rattle.p9sync.specs.Args.{status_of, EndsRun, EndsTask}
 abbrev nothing_read : ThreadsOpts → Report
 nothing_read opts = record { writers = opts.writers; writes = 0; bytes = 0; in_order = false }
 
--- a report in which nothing was read is one of the run that was asked for
+-- a report in which nothing was read is one that a run with any options may give
 pub no_report : (opts : ThreadsOpts) → IsReportOf opts (nothing_read opts)
 no_report opts = record { writers = refl; whole = λ yes. absurd (cc); most = λ yes. absurd (cc) }
 

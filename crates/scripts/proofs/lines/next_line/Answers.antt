@@ -1,4 +1,4 @@
--- The lines are the one before the first line feed and those behind it; with none the text is cut.
+-- Before the first line feed stands the first line and behind it the others; with none, there is none.
 use Rattle.std.proofs.Common.{sym}
 use Rattle.scripts.proofs.LineLemmas.{lines_of-at, cut_line_of-at, lines_of-missing, cut_line_of-missing}
 use Rattle.scripts.proofs.lines.next_line.Goals as goal
