@@ -131,7 +131,7 @@ pub record Core (s : State) (history : List Deed) : Type 0 where
       → returned_of s rendez ≤ threshold
   -- the notes in the flags are those that the history has pending
   pub notes : (pid : ℕ) → (flags_of s pid).notes ≡ pending history pid
-  -- no process was marked but one that a wakeup took
+  -- each wakeup marked a process that it had taken, and that had neither left nor been marked
   pub marks_due : NoMarkIsStray history
   -- each sleep ended with just the notes that were pending
   pub notes_right : AreNotesRight history
