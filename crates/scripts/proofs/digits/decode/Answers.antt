@@ -1,4 +1,4 @@
--- Two digits make a byte behind those before; where one of them is none, the whole is no number.
+-- Where no digit is none, each two of them make the byte that goes behind those before.
 use Rattle.std.proofs.Common.{◌<◌, ◌+◌, ◌*◌, ◌∙◌, get_or, length, refl, arith}
 use Rattle.std.proofs.lemmas.Bool.Decides.{nat_tests}
 use Rattle.hex.proofs.Pairs.{decode_step, decode_done}
