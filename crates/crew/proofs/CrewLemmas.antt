@@ -42,6 +42,7 @@ got_fits key row old buffer count new buffer' reads = by row.mode reads
           length-append bytes (drop count reading.between.buffer),
         )
 
+-- a read that answers how many bytes it got has got no more than its buffer holds
 pub answer_fits : (key : Key) (row : Row) (old : Reader) (buffer : List ℕ)
     (answer : Result ReadAnswer Fault) (count : ℕ) (new : Reader) (buffer' : List ℕ)
     → Reads key row old buffer answer new buffer' → answer ≡ Ok (read.Got count)

@@ -75,6 +75,7 @@ read_on old new before after buffer answer buffer' room reads same got =
           };
     }
 
+-- a reader that hung up has read on: its end has read no more, and it keeps what it had got
 pub hung_read : (old new : Reader)
     → Enters (key_of old.end.queue) (Hung 0) old.end.account new.end.account
     → new.end.rest ≡ old.end.rest → IsSameReadEnd old.end new.end → new.got.items ≡ old.got.items
@@ -92,9 +93,11 @@ hung_read old new enters rest same got =
           };
     }
 
+-- a reader that made no call has read on
 pub same_reader : (reader : Reader) → HasReadOn reader reader
 same_reader reader = record { end = record { queue = refl; row = refl }; keeps = λ kept. kept }
 
+-- whoever read on, and then read on again, has read on
 pub read_then : (old between new : Reader) → HasReadOn old between → HasReadOn between new
     → HasReadOn old new
 read_then old between new first second =
@@ -131,6 +134,7 @@ written_on old new before after block answer writes same messages count =
           (take old.accepted old.messages.items) counts);
     }
 
+-- a writer that hung up has written on: its messages are the same, and no more are accepted
 pub hung_write : (old new : Writer)
     → Enters (key_of old.end.queue) (Hung (old.end.writer + 1)) old.end.account new.end.account
     → IsSameWriteEnd old.end new.end → new.messages ≡ old.messages
@@ -147,6 +151,7 @@ hung_write old new enters same messages count =
           (take old.accepted old.messages.items) counts);
     }
 
+-- a writer that made no call has written on
 pub same_writer : (writer : Writer) → HasWrittenOn writer writer
 same_writer writer =
     record {
@@ -155,6 +160,7 @@ same_writer writer =
       counts = λ counts. counts;
     }
 
+-- whoever wrote on, and then wrote on again, has written on
 pub write_then : (old between new : Writer) → HasWrittenOn old between → HasWrittenOn between new
     → HasWrittenOn old new
 write_then old between new first second =
@@ -183,6 +189,7 @@ at_each (old ∷ olds) (new ∷ news) many each = (
   at_each olds news (omega (arith, many)) (λ i d low. each (suc i) d (omega (arith, low))),
 )
 
+-- where each writer wrote on, and then on again, each has written on
 pub each_then : (olds betweens news : List Writer) → AllZip HasWrittenOn olds betweens
     → AllZip HasWrittenOn betweens news → AllZip HasWrittenOn olds news
 each_then [] [] [] first second = tt
@@ -195,6 +202,7 @@ each_then (old ∷ olds) (between ∷ betweens) (new ∷ news) first second = (
   each_then olds betweens news first.1 second.1,
 )
 
+-- writers that count all that they wrote still do when they have written on
 pub still_counts : (olds news : List Writer) → AllZip HasWrittenOn olds news
     → AllByRecursion CountsAll olds → AllByRecursion CountsAll news
 still_counts [] [] on counts = tt
@@ -203,6 +211,7 @@ still_counts (old ∷ olds) [] on counts = absurd on
 still_counts (old ∷ olds) (new ∷ news) on counts =
     (on.0.counts counts.0, still_counts olds news on.1 counts.1)
 
+-- writers that have written on have the same ends of the same queue
 pub same_ends : (olds news : List Writer) → AllZip HasWrittenOn olds news
     → AllZip IsSameWriteEnd (ends_of olds) (ends_of news)
 same_ends [] [] on = tt

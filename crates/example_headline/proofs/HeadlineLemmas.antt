@@ -74,6 +74,7 @@ abbrev others_of : List ℕ → List ℕ
 others_of [] = []
 others_of (x ∷ xs) = xs
 
+-- a list of so many numbers from the first on has that length
 pub length_numbers : (first count : ℕ) → length (numbers_from first count) ≡ count
 length_numbers first zero = refl
 length_numbers first (suc count) = ap suc (length_numbers (first + 1) count)

@@ -45,6 +45,7 @@ listed_first number (x ∷ xs) ys has = head (eqb x number) has (listed_first nu
     head true has rest = refl
     head false has rest = rest has
 
+-- a number that stands in the second list stands in the two behind one another
 pub listed_second : (number : ℕ) (xs ys : List ℕ) →
     list_any (λ other. eqb other number) ys ≡ true →
     list_any (λ other. eqb other number) (xs ++ ys) ≡ true
@@ -56,6 +57,7 @@ listed_second number (x ∷ xs) ys has = head (eqb x number) (listed_second numb
     head true has = refl
     head false has = has
 
+-- two lists of different numbers that share none are different numbers behind one another
 pub different_append : (xs ys : List ℕ) → AreDifferent xs → AreDifferent ys →
     AllByRecursion (λ x. AllByRecursion (λ y. x ≢ y) ys) xs → AreDifferent (xs ++ ys)
 different_append [] ys one two apart = two
@@ -66,6 +68,7 @@ different_append (x ∷ xs) ys one two apart = (
 
 -- ---- numbers from one on
 
+-- so many numbers from the first on are at least the first, and below the first and the count
 pub all_from : (first count : ℕ) →
     AllByRecursion (λ n. (first ≤ n) × (n < first + count)) (numbers_from first count)
 all_from first zero = tt
@@ -77,6 +80,7 @@ all_from first (suc count) = (
       (numbers_from (first + 1) count) (all_from (first + 1) count),
 )
 
+-- the numbers from the first on are all different
 pub different_from : (first count : ℕ) → AreDifferent (numbers_from first count)
 different_from first zero = tt
 different_from first (suc count) = (
@@ -86,6 +90,7 @@ different_from first (suc count) = (
   different_from (first + 1) count,
 )
 
+-- each number between is one of the numbers from the first on
 pub listed_from : (first count number : ℕ) → first ≤ number → number < first + count →
     list_any (λ other. eqb other number) (numbers_from first count) ≡ true
 listed_from first zero number above below = absurd (omega arith)
@@ -96,6 +101,7 @@ listed_from first (suc count) number above below =
 
 -- ---- numbers of a seat
 
+-- shares made for these numbers have these numbers
 pub numbers_in-unused : (Entry : Type 0) (numbers : List ℕ) →
     numbers_in (map (unused_share {Entry = Entry}) numbers) ≡ numbers
 numbers_in-unused Entry [] = refl
@@ -117,6 +123,7 @@ module _ {Entry : Type 0} where
           subst P same all.0
       first false is has rest = rest has
 
+  -- the numbers of two lists of shares stand behind one another as the shares do
   pub numbers_in-append : (xs ys : List (Share Entry)) →
       numbers_in (xs ++ ys) ≡ numbers_in xs ++ numbers_in ys
   numbers_in-append [] ys = refl
@@ -160,6 +167,7 @@ module _ {Entry : Type 0} where
       here [] apart = apart.0
       here (share ∷ shares) apart = here shares apart.1
 
+  -- numbers that all differ still do where one share is left out
   pub without_different : (front back : List (Share Entry)) (out : Share Entry) →
       AreDifferent (numbers_in (front ++ out ∷ back)) → AreDifferent (numbers_in (front ++ back))
   without_different [] back out different = different.1
@@ -178,11 +186,16 @@ module _ {Entry : Type 0} where
 
   -- of two pasts of a history the longer one
   pub record Compares (first second history : List Entry) : Type 0 where
+    -- the first is a past of the longer
     pub first_past : IsPast first (longer_of first second)
+    -- the second is a past of the longer
     pub second_past : IsPast second (longer_of first second)
+    -- the longer is a past of the history
     pub longer : IsPast (longer_of first second) history
+    -- and the shorter is
     pub shorter : IsPast (shorter_of first second) history
 
+  -- two pasts of one history: each is a past of the longer, and both stay pasts of the history
   pub compares : (first second history : List Entry) → IsPast first history →
       IsPast second history → Compares first second history
   compares first second history one two = by_length (nat_lt (length first) (length second)) refl
@@ -209,12 +222,14 @@ module _ {Entry : Type 0} where
 module _ {Entry : Type 0} (by : Entry → ℕ) where
   -- ---- an entry more
 
+  -- an entry changes no number of the seat that makes it
   pub numbers_in-share_after : (entry : Entry) (shares : List (Share Entry)) →
       numbers_in (map (share_after by entry) shares) ≡ numbers_in shares
   numbers_in-share_after entry [] = refl
   numbers_in-share_after entry (share ∷ shares) =
       ap (λ (numbers : List ℕ). share.number ∷ numbers) (numbers_in-share_after entry shares)
 
+  -- a seat has the same numbers before an entry and after it
   pub has_number-share_after : (entry : Entry) (shares : List (Share Entry)) (number : ℕ) →
       has_number (map (share_after by entry) shares) number ≡ has_number shares number
   has_number-share_after entry [] number = refl
@@ -230,6 +245,7 @@ module _ {Entry : Type 0} (by : Entry → ℕ) where
             has.entries;
       }
 
+  -- where each share has its entries of the past, each has them of the past with one entry more
   pub all_gain : (past : List Entry) (entry : Entry) (shares : List (Share Entry)) →
       AllByRecursion (HasItsEntries by past) shares →
       AllByRecursion (HasItsEntries by (entry ∷ past)) (map (share_after by entry) shares)
@@ -312,6 +328,7 @@ module _ {Entry : Type 0} (by : Entry → ℕ) where
       behind [] ys e = e
       behind (x ∷ xs) ys e = cc
 
+  -- shares that have their entries of an older and of a newer history have them of one between
   pub all_between : (old middle new : List Entry) → IsPast old middle → IsPast middle new →
       (shares : List (Share Entry)) → AllByRecursion (HasItsEntries by old) shares →
       AllByRecursion (HasItsEntries by new) shares →

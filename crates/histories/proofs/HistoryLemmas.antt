@@ -7,6 +7,7 @@ use Rattle.histories.specs.History.{IsHistory}
 use Rattle.histories.proofs.ListLemmas.{all_weaker, past_all, nothing_before}
 
 module _ {Entry : Type 0} (by : Entry → ℕ) where
+  -- the entries by a number in two parts of a history are those of each, in the same order
   pub entries_by-append : (number : ℕ) (xs ys : List Entry) →
       entries_by by number (xs ++ ys) ≡ entries_by by number xs ++ entries_by by number ys
   entries_by-append number xs ys = filter-append (λ (entry : Entry). eqb (by entry) number) xs ys
@@ -33,6 +34,7 @@ module _ {Entry : Type 0} (by : Entry → ℕ) where
       nothing_before (entries_by by number since) (entries_by by number past)
       (sym (entries_by-append number since past) ∙ same)
 
+  -- entries by numbers below a bound are by numbers below any larger one
   pub by_below_weaker : (small large : ℕ) (entries : List Entry) → small ≤ large →
       AreByBelow by small entries → AreByBelow by large entries
   by_below_weaker small large entries le below =
@@ -46,11 +48,13 @@ module _ {State Entry : Type 0} (meaning : Meaning State Entry) (opening : State
   legal_past [] past legal = legal
   legal_past (entry ∷ since) past legal = legal_past since past legal.1
 
+  -- each past of a legal history is legal
   pub past_legal : (old new : List Entry) → IsPast old new → IsLegal meaning opening new →
       IsLegal meaning opening old
   past_legal old new past legal =
       legal_past past.since old (subst (IsLegal meaning opening) past.new_is legal)
 
+  -- each past of a history of seats below the limit is one too
   pub past_history : (limit : ℕ) (old new : List Entry) → IsPast old new →
       IsHistory meaning opening limit new → IsHistory meaning opening limit old
   past_history limit old new past history =
@@ -68,6 +72,7 @@ module _ {State Entry : Type 0} (meaning : Meaning State Entry) where
   state_after-append opening (entry ∷ since) past =
       ap (λ (state : State). meaning.after state entry) (state_after-append opening since past)
 
+  -- entries that are legal from the state that a past leaves make a legal history with that past
   pub legal_append : (opening : State) (since past : List Entry) → IsLegal meaning opening past →
       IsLegal meaning (state_after meaning opening past) since →
       IsLegal meaning opening (since ++ past)

@@ -11,12 +11,14 @@ use Rattle.histories.specs.Image.{IsImage, share_image, account_image}
 use Rattle.histories.proofs.ListLemmas.{all_map, all_weaker}
 
 module _ {Entry Entry' : Type 0} (image : Entry → Entry') where
+  -- a seat has the same numbers in the image
   pub numbers_in-image : (shares : List (Share Entry)) →
       numbers_in (map (share_image image) shares) ≡ numbers_in shares
   numbers_in-image [] = refl
   numbers_in-image (share ∷ shares) =
       ap (λ (numbers : List ℕ). share.number ∷ numbers) (numbers_in-image shares)
 
+  -- whether a seat has a number, its image says as well
   pub has_number-image : (shares : List (Share Entry)) (number : ℕ) →
       has_number (map (share_image image) shares) number ≡ has_number shares number
   has_number-image [] number = refl
@@ -36,6 +38,7 @@ module _ {State Entry State' Entry' : Type 0} (Shows : State → State' → Type
       is.after (state_after meaning opening past) (state_after meaning' opening' (map image past))
       entry (image_shows opening opening' shows past legal.1) legal.0
 
+  -- the image of a legal history is legal, from an opening that the first one shows
   pub image_legal : (opening : State) (opening' : State') → Shows opening opening' →
       (entries : List Entry) → IsLegal meaning opening entries →
       IsLegal meaning' opening' (map image entries)
@@ -67,6 +70,7 @@ module _ {State Entry State' Entry' : Type 0} (Shows : State → State' → Type
       pushed true = refl
       pushed false = refl
 
+  -- the image of entries by numbers below a bound is by numbers below it
   pub image_below : (bound : ℕ) (entries : List Entry) → AreByBelow meaning.by bound entries →
       AreByBelow meaning'.by bound (map image entries)
   image_below bound entries below =

@@ -14,6 +14,7 @@ use Rattle.histories.specs.History.{IsPast}
 module _ {A : Type 0} where
   -- ---- what is true of each element
 
+  -- what is true of each element of two lists is true of each of the two behind one another
   pub all_append : (P : A → Type 0) (xs ys : List A) → AllByRecursion P xs → AllByRecursion P ys →
       AllByRecursion P (xs ++ ys)
   all_append P [] ys all more = more
@@ -31,16 +32,19 @@ module _ {A : Type 0} where
   all_since P [] ys all = tt
   all_since P (x ∷ xs) ys all = (all.0, all_since P xs ys all.1)
 
+  -- what follows from a thing that is true of each element is true of each
   pub all_weaker : (P Q : A → Type 0) → ((x : A) → P x → Q x) → (xs : List A) →
       AllByRecursion P xs → AllByRecursion Q xs
   all_weaker P Q weaker [] all = tt
   all_weaker P Q weaker (x ∷ xs) all = (weaker x all.0, all_weaker P Q weaker xs all.1)
 
+  -- what follows from two things that are true of each element is true of each
   pub all_both : (P Q R : A → Type 0) → ((x : A) → P x → Q x → R x) → (xs : List A) →
       AllByRecursion P xs → AllByRecursion Q xs → AllByRecursion R xs
   all_both P Q R both [] all also = tt
   all_both P Q R both (x ∷ xs) all also = (both x all.0 also.0, all_both P Q R both xs all.1 also.1)
 
+  -- what is true of each element's image is true of each element of the list of images
   pub all_map : {B : Type 0} (P : B → Type 0) (f : A → B) (xs : List A) →
       AllByRecursion (λ x. P (f x)) xs → AllByRecursion P (map f xs)
   all_map P f [] all = tt
@@ -54,9 +58,11 @@ module _ {A : Type 0} where
 
   -- ---- pasts
 
+  -- each history is a past of itself
   pub past_refl : (xs : List A) → IsPast xs xs
   past_refl xs = record { since = []; new_is = refl }
 
+  -- the empty history is a past of each
   pub past_nil : (xs : List A) → IsPast [] xs
   past_nil xs = record { since = xs; new_is = sym (append-nil xs) }
 
@@ -69,9 +75,11 @@ module _ {A : Type 0} where
             ∙ sym (append_assoc more past.since old);
       }
 
+  -- a past stays one when the history gets an entry more
   pub past_cons : (old new : List A) (x : A) → IsPast old new → IsPast old (x ∷ new)
   past_cons old new x past = past_append old new (x ∷ []) past
 
+  -- a past of a past is a past
   pub past_trans : (xs ys zs : List A) → IsPast xs ys → IsPast ys zs → IsPast xs zs
   past_trans xs ys zs first second =
       let longer = past_append xs ys second.since first in
@@ -132,6 +140,7 @@ module _ {A : Type 0} where
           after true rest = refl
           after false rest = rest
 
+  -- the image of a past is a past of the image
   pub past_map : {B : Type 0} (f : A → B) (old new : List A) → IsPast old new →
       IsPast (map f old) (map f new)
   past_map f old new past =
@@ -140,6 +149,7 @@ module _ {A : Type 0} where
         new_is = ap (map f) past.new_is ∙ map-append f past.since old;
       }
 
+  -- where a list with another in front is as it was, the other is empty
   pub nothing_before : (xs ys : List A) → xs ++ ys ≡ ys → xs ≡ []
   nothing_before [] ys e = refl
   nothing_before (x ∷ xs) ys e = absurd (omega (arith, simp length-append at (ap length e)))
@@ -157,12 +167,14 @@ module _ {A : Type 0} where
       ⊎_elim (λ t. inl (ap suc t.0, t.1)) (λ t. inr ((λ h. t.0 (let n = h in omega arith)), t.1))
       (at_set xs i j a b e)
 
+  -- a place that the list has holds what was set there
   pub set_here : (l : List A) (i : ℕ) (a b : A) → get_elem? l i ≡ some b →
       get_elem? (set l i a) i ≡ some a
   set_here [] i a b e = absurd (some-ne-none b (sym e))
   set_here (x ∷ xs) zero a b e = refl
   set_here (x ∷ xs) (suc i) a b e = set_here xs i a b e
 
+  -- setting one place leaves each other place as it was
   pub set_else : (l : List A) (i j : ℕ) (a : A) → j ≢ i → get_elem? (set l i a) j ≡ get_elem? l j
   set_else [] i j a n = refl
   set_else (x ∷ xs) zero zero a n = absurd (n refl)
@@ -179,6 +191,7 @@ module _ {A : Type 0} where
   at_end (x ∷ xs) a b (suc j) e =
       ⊎_elim (λ h. inl h) (λ h. inr (h.0, ap suc h.1)) (at_end xs a b j e)
 
+  -- what stands at a place still does when the list is made longer behind
   pub at_longer : (l more : List A) (i : ℕ) (a : A) → get_elem? l i ≡ some a →
       get_elem? (l ++ more) i ≡ some a
   at_longer [] more i a e = absurd (some-ne-none a (sym e))

@@ -374,6 +374,7 @@ module _ {View Entry : Type 0} (by : Entry → ℕ) (account_of : View → Accou
           tells = still.2;
         })
 
+    -- when the next number goes to a new seat behind the others, all seats still fit the history
     pub seats_split : AreSeats by account_of (ledger_gave giver (length
         (set views id parent)) ledger)
         (set views id parent ++ child ∷ [])
@@ -534,6 +535,7 @@ module _ {View Entry : Type 0} (by : Entry → ℕ) (account_of : View → Accou
               tells = ap (λ (a : Account Entry). has_given a number) joined_is ∙ has;
             }
 
+    -- when one seat takes the numbers of another, which is spent, all seats still fit the history
     pub seats_join : AreSeats by account_of (ledger_joined id other ledger)
         (set (set views id joined) other spent)
     seats_join =
@@ -702,6 +704,8 @@ module _ {View Entry : Type 0} (by : Entry → ℕ) (account_of : View → Accou
           tells = still.2;
         })
 
+    -- when a number goes from its seat to a new one behind the others, all seats still fit the
+    -- history
     pub seats_hand : AreSeats by account_of
         (ledger_handed kept handed.number (length (set views id parent)) ledger)
         (set views id parent ++ child ∷ [])

@@ -89,6 +89,7 @@ module _ {Object State Request Reply : Type 0}
           },
         )
 
+    -- exchanging 0 for 1 in the word keeps the rule; where 0 was found the seat has the lock
     pub acquire_keeps : table.Allows (IsOneHistory definition key) slots id me 0
         (λ n. either (eqb n 0) 1 n) (λ found after. HasAcquired definition me found after)
     acquire_keeps s rule _ at _ = dite (ℕ_discrete word 0)

@@ -21,6 +21,7 @@ use Rattle.kernel_lock.proofs.RuleLemmas.{lock_moves}
 
 module _ {Object State Request Reply : Type 0}
     (definition : Definition Object State Request Reply) where
+  -- a seat that is inside and knows of room below the limit may give the next number to a new seat
   pub divide_keeps : (key : Key Object) (id : ℕ) (before : View Object Request Reply)
       (history : List (Served Request Reply)) → before.stage ≡ Inside history →
       before.given < key.limit → HasOwn before →

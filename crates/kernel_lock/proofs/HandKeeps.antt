@@ -23,6 +23,7 @@ use Rattle.kernel_lock.proofs.RuleLemmas.{lock_stays}
 
 module _ {Object State Request Reply : Type 0}
     (definition : Definition Object State Request Reply) where
+  -- a seat outside that has two numbers may hand the second to a new seat, and all still fit
   pub hand_keeps : (key : Key Object) (id : ℕ) (before : View Object Request Reply) →
       before.stage ≡ Outside → HasSecond before →
       table.Splits (IsOneHistory definition key) id before (handing_view before)

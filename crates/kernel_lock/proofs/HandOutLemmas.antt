@@ -54,16 +54,26 @@ module _ {Object Request Reply : Type 0} where
   pub record HandsOut (lock : Locked Object Request Reply) (number : ℕ)
       (stepper : Stepper Object Request Reply) (others : List (LockSeat Object Request Reply))
       (capacity : ℕ) : Type 0 where
+    -- so many numbers are still to be handed out
     pub count : ℕ
+    -- with those that were handed out they are all that the lock may give
     pub count_is : number + count ≡ lock.limit
+    -- the lock's first seat opened with every number below the limit
     pub whole : lock.table.shared.key.more + 1 ≡ lock.limit
+    -- a seat was made for each number from 1 to the one before this
     pub length_is : number ≡ length others + 1
+    -- the list has room for a seat for each number but 0
     pub capacity_is : capacity ≡ lock.table.shared.key.more
+    -- the seat that hands out is one of the lock's
     pub table : stepper.table_id ≡ lock.table.shared.table_id
+    -- that seat has 0 and the numbers from this one on, and no slot
     pub me_is : stepper.me ≡ (left_view lock.table.shared.key number count, [])
+    -- each seat that was made is one of the lock's
     pub seats : AllByRecursion (IsSeatOf lock) others
+    -- and they are numbered from 1 on, each new
     pub next : AreNextSeats 1 lock.limit others
 
+  -- before the first number is handed out, the first seat has them all and no other seat is made
   pub hands_first : (lock : Locked Object Request Reply) (stepper : Stepper Object Request Reply)
       (others : List (LockSeat Object Request Reply)) (capacity : ℕ)
       (view : View Object Request Reply) →
@@ -101,12 +111,14 @@ module _ {Object Request Reply : Type 0} where
   module _ (lock : Locked Object Request Reply) (number : ℕ)
       (stepper : Stepper Object Request Reply) (others : List (LockSeat Object Request Reply))
       (capacity : ℕ) (so_far : HandsOut lock number stepper others capacity) where
+    -- while a number is left, the first seat has a second number to hand over
     pub has_second : number < lock.limit → HasSecond stepper.me.0
     has_second below =
         let length_is = so_far.length_is in
         second_of lock.table.shared.key lock.limit number so_far.count stepper.me so_far.count_is
         below (omega arith) so_far.me_is
 
+    -- the seat that hands out is one of the lock's, however far it has come
     pub hands_stepper : IsStepperOf lock stepper
     hands_stepper =
         record {
@@ -114,6 +126,7 @@ module _ {Object Request Reply : Type 0} where
           key = ap (λ (me : Me Object Request Reply). me.0.key) so_far.me_is;
         }
 
+    -- the seat that hands out is outside and has no slot, however far it has come
     pub hands_outside : IsOutside stepper
     hands_outside =
         record {
@@ -121,6 +134,7 @@ module _ {Object Request Reply : Type 0} where
           no_slot = ap (λ (me : Me Object Request Reply). me.1) so_far.me_is;
         }
 
+    -- while a number is left, the list of seats has room for one more
     pub has_room : number < lock.limit → length others < capacity
     has_room below =
         let length_is = so_far.length_is in
@@ -262,6 +276,7 @@ module _ {Object State Request Reply : Type 0}
         gave = all;
       }
 
+  -- each of the other seats of a new lock knows a legal history: the empty one
   pub next_know : (lock : Locked Object Request Reply) (number given : ℕ)
       (seats : List (LockSeat Object Request Reply)) → AreNextSeats number given seats →
       number + length seats ≤ limit_of lock → AllByRecursion (SeesHistory definition lock) seats
@@ -271,6 +286,8 @@ module _ {Object State Request Reply : Type 0}
     next_know lock (number + 1) given seats next.1 (omega arith),
   )
 
+  -- the first seat of a new lock knows a legal history, the empty one, and gave numbers below the
+  -- limit
   pub first_knows : (lock : Locked Object Request Reply) (seat : LockSeat Object Request Reply)
       (more : ℕ) → IsFirstSeat more seat → more + 1 ≤ limit_of lock →
       SeesHistory definition lock seat

@@ -16,6 +16,7 @@ use Rattle.kernel_lock.proofs.RuleLemmas.{lock_stays}
 
 module _ {Object State Request Reply : Type 0}
     (definition : Definition Object State Request Reply) where
+  -- of two seats one may be made that has the numbers of both, while the other is spent
   pub merge_keeps : (key : Key Object) (id : ℕ) (first : View Object Request Reply) (other : ℕ)
       (second : View Object Request Reply) →
       table.Joins (IsOneHistory definition key) id first other second (joined_view first second)

@@ -47,6 +47,7 @@ module _ {Object State Request Reply : Type 0}
           (some-injective (first_view key) view at) record { given = omega arith; stage = tt }
       each_seat (suc seat) view at = absurd (some-ne-none view (sym at))
 
+  -- a table with word 0, the object in its slot and the first seat alone fits the empty history
   pub opened_keeps : (key : Key Object) (guarded : Guarded Object) (slots : List (Slot Object)) →
       slots ≡ Some guarded ∷ [] → guarded.object ≡ key.opening.value →
       guarded.next ≡ key.more + 1 → key.more < key.limit →

@@ -23,6 +23,7 @@ use Rattle.kernel_lock.specs.View.{account_of, history_with, outside_view}
 use Rattle.kernel_lock.proofs.RuleLemmas.{lock_moves, rule_after}
 
 module _ {Object : Type 0} where
+  -- where two lists of slots are the same, the first holds the same object in both
   pub same_guarded : (guarded other : Guarded Object) (xs ys : List (ℕ × Slot Object)) →
       (0, Some guarded) ∷ xs ≡ (0, Some other) ∷ ys → guarded ≡ other
   same_guarded guarded other xs ys same =
@@ -87,6 +88,7 @@ module _ {Object State Request Reply : Type 0}
     outside_fits now history None given = record { given = given; stage = tt }
     outside_fits now history (Some served) given = record { given = given; stage = tt }
 
+  -- storing 0 keeps the rule where what lies in the slot is what the history and the request leave
   pub release_keeps : (key : Key Object) (served : Option (Served Request Reply)) (slots id : ℕ)
       (me : Me Object Request Reply) → 0 < slots → IsDue definition key served me →
       table.Allows (IsOneHistory definition key) slots id me 0 (λ _. 0)

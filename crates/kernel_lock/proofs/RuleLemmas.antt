@@ -65,6 +65,7 @@ module _ {Request Reply : Type 0} where
       }
   stage_stays now owner parent seat given (Joining other) fits = fits
 
+  -- a seat that fits the lock still fits where numbers change their owner or their parent
   pub lock_stays : {Object : Type 0} (now : Standing Request Reply) (owner parent : ℕ → ℕ)
       (seat : ℕ) (view : View Object Request Reply) → FitsLock now seat view →
       FitsLock
@@ -82,6 +83,7 @@ module _ {Request Reply : Type 0} where
 
 module _ {Object State Request Reply : Type 0}
     (definition : Definition Object State Request Reply) where
+  -- the lock's table at any moment: its words, its slots, and what each seat knows
   abbrev pub Table : Type 0
   Table = table.State (Option (Guarded Object)) (View Object Request Reply)
 

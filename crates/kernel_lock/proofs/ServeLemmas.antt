@@ -42,15 +42,21 @@ module _ {Object Request Reply : Type 0} where
 pub record HasServed {Object State Request Reply : Type 0}
     (definition : Definition Object State Request Reply) (key : Key Object)
     (served : Served Request Reply) (before after : Me Object Request Reply) : Type 0 where
+  -- the seat is still one of this lock's
   pub key_is : after.0.key ≡ Some key
+  -- it is outside again
   pub stage_is : after.0.stage ≡ Outside
+  -- it has no slot
   pub no_slot : after.1 ≡ []
+  -- its request stands behind a past that ends what it had seen
   pub serves : Serves served before.0 after.0
+  -- and what it has seen now is a legal history, with its own requests once each
   pub knows : KnowsHistory (meaning_of definition) (opening_state definition key) key.limit
       after.0.account
 
 module _ {Object State Request Reply : Type 0}
     (definition : Definition Object State Request Reply) where
+  -- a seat that had no slot and took the lock has the object's slot alone
   pub takes_slot : (before after : Me Object Request Reply) → before.1 ≡ [] →
       TakesLock definition before after → HasOnly after
   takes_slot before after none taken =
@@ -94,6 +100,7 @@ module _ {Object State Request Reply : Type 0}
     known : after.0 ≡ inside_view taken.history taken.guarded.next before.0
     known = ap (λ (me : Me Object Request Reply). me.0) answered.after_is ∙ taken.view_is
 
+    -- after the object answered right, the slot holds what the history and that request leave
     pub serving_is_due : IsDue definition key (Some served) after
     serving_is_due =
         record {
@@ -156,6 +163,7 @@ module _ {Object State Request Reply : Type 0}
           gave = finds.knows.gave;
         }
 
+    -- the lock taken, the request answered and the lock given back make one served request
     pub has_served : (final : Me Object Request Reply) → HasReleased (Some served) after final →
         HasServed definition key served before final
     has_served final released =

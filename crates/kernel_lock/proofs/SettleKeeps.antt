@@ -19,6 +19,7 @@ use Rattle.kernel_lock.proofs.RuleLemmas.{sits, knows_history}
 
 module _ {Object State Request Reply : Type 0}
     (definition : Definition Object State Request Reply) where
+  -- a look at the word keeps the rule, and tells that the shorter history is a past of the longer
   pub settle_keeps : (key : Key Object) (slots id : ℕ) (me : Me Object Request Reply) →
       me.0.key ≡ Some key → table.Allows (IsOneHistory definition key) slots id me 0 (λ n. n)
       (λ _ after. HasSettled definition me after)
@@ -80,6 +81,8 @@ module _ {Object State Request Reply : Type 0}
         has.other second.account.seen (ap Joining short) (rw long least),
       )
 
+  -- a join that has settled makes one seat of two, each of which had seen a past of what that has
+  -- seen
   pub merges : (key : Key Object) (first second : View Object Request Reply)
       (after : Me Object Request Reply) (slots : List (ℕ × Slot Object)) →
       first.key ≡ Some key → HasSettled definition (joined_view first second, slots) after →

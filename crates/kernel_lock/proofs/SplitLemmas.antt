@@ -24,6 +24,7 @@ use Rattle.kernel_lock.proofs.ReleaseKeeps.{same_guarded}
 
 module _ {Object State Request Reply : Type 0}
     (definition : Definition Object State Request Reply) where
+  -- a seat that took the lock is inside, and knows that the number beside the object is the next
   pub is_inside : (before after : Me Object Request Reply) → before.1 ≡ [] →
       TakesLock definition before after → IsInsideWith after
   is_inside before after none taken =
@@ -124,6 +125,7 @@ module _ {Object State Request Reply : Type 0}
     Stays None = after.0 ≡ middle.0
     Stays (Some child) = IsChild lock middle.0 after.0 child
 
+    -- a child says that the seat inside is its parent; no child, that the seat is as it was
     pub stays : (o : Option (LockSeat Object Request Reply)) →
         IfSome o (IsChild lock middle.0 after.0) → IfNone o (after.0 ≡ middle.0) → Stays o
     stays None is same = same
@@ -144,6 +146,7 @@ module _ {Object State Request Reply : Type 0}
         ap (λ (v : View Object Request Reply). v.stage)
         (stay.parent ∙ ap parent_view taken.view_is)
 
+    -- a split served nothing, so the object in the slot is still what the history leaves
     pub split_is_due : (o : Option (LockSeat Object Request Reply)) → Stays o →
         IsDue definition key None after
     split_is_due o stay =
@@ -162,6 +165,7 @@ module _ {Object State Request Reply : Type 0}
         }
 
     module _ (final : Me Object Request Reply) (released : HasReleased None after final) where
+      -- after the release the seat has no slot
       pub no_slot : final.1 ≡ []
       no_slot = released.slots_are ∙ ap rest kept.left_is
 
@@ -186,11 +190,13 @@ module _ {Object State Request Reply : Type 0}
           ∙ ap (λ (stage : Stage Request Reply).
           record before.0 { given = taken.guarded.next; stage = stage }) (sym outside)
 
+      -- after the release the seat is still one of this lock's
       pub final_key : (o : Option (LockSeat Object Request Reply)) → Stays o →
           final.0.key ≡ Some key
       final_key o stay =
           ap (λ (v : View Object Request Reply). v.key) (final_is o stay) ∙ given_key o stay
 
+      -- after the release the seat is outside
       pub final_stage : (o : Option (LockSeat Object Request Reply)) → Stays o →
           final.0.stage ≡ Outside
       final_stage o stay = ap (λ (v : View Object Request Reply). v.stage) (final_is o stay)
@@ -201,6 +207,8 @@ module _ {Object State Request Reply : Type 0}
           subst (λ (n : ℕ). n < key.limit)
           (ap (λ (v : View Object Request Reply). v.given) taken.view_is) is.room
 
+      -- with a child or without, what the seat has seen is a legal history, with its own requests
+      -- once each
       pub gives_knows : (o : Option (LockSeat Object Request Reply)) → Stays o →
           KnowsHistory (meaning_of definition) (opening_state definition key) key.limit
           final.0.account
@@ -223,6 +231,7 @@ module _ {Object State Request Reply : Type 0}
             gave = (room child stay, knows.gave);
           }
 
+      -- a child is a seat of the same lock
       pub gives_child : (o : Option (LockSeat Object Request Reply)) → Stays o →
           IfSome o (IsSeatOf lock)
       gives_child None stay = tt
@@ -235,6 +244,7 @@ module _ {Object State Request Reply : Type 0}
       child_is child is =
           child_view_is lock middle.0 after.0 child is ∙ ap child_view taken.view_is
 
+      -- a child has the next number, which its parent gave, and has seen what that has
       pub gives_seat : (o : Option (LockSeat Object Request Reply)) → Stays o →
           IfSome o (λ child. GivesSeat (limit_of lock) before.0 final.0 (view_of child))
       gives_seat None stay = tt
@@ -277,6 +287,8 @@ module _ {Object State Request Reply : Type 0}
             gave = tt;
           }
 
+      -- no child where all numbers were given: the next is the limit, which is all that the seat
+      -- learned
       pub gives_none : (o : Option (LockSeat Object Request Reply)) → Stays o →
           IfNone o (limit_of lock ≤ middle.0.given) →
           IfNone o (RefusesSeat (limit_of lock) before.0 final.0)

@@ -9,6 +9,7 @@ use Rattle.kernel_lock.proofs.RuleLemmas.{sits}
 
 module _ {Object State Request Reply : Type 0}
     (definition : Definition Object State Request Reply) where
+  -- a load of the word keeps the rule, and the seat stays as it was
   pub watch_keeps : (key : Key Object) (slots id : ℕ) (me : Me Object Request Reply) →
       table.Allows (IsOneHistory definition key) slots id me 0 (λ n. n)
       (λ _ after. HasWatched me after)

@@ -21,6 +21,7 @@ use Rattle.p9sync.specs.Args.{status_of, status_of_threads, EndsRun, EndsTask, E
 abbrev nothing_read : ThreadsOpts → Report
 nothing_read opts = record { writers = opts.writers; writes = 0; bytes = 0; in_order = false }
 
+-- a report in which nothing was read is one that a run with any options may give
 pub no_report : (opts : ThreadsOpts) → IsReportOf opts (nothing_read opts)
 no_report opts = record { writers = refl; whole = λ yes. absurd (cc); most = λ yes. absurd (cc) }
 
@@ -62,6 +63,7 @@ ends_script told None held written outcome status runs is = tt
 ends_script told (Some input) held written outcome status runs is =
     record { outcome = outcome; written = runs; status_is = is }
 
+-- a run ends as its task does, where that task is the one that was asked for
 pub ends_as : (asked : Option Task) (task : Task) (unread held written : Option (List ℕ))
     (status : ℕ)
     → asked ≡ Some task → EndsTask task unread held written status

@@ -63,8 +63,11 @@ moves_over written rest bytes n whole = append_assoc written (take n rest) (drop
 
 -- while bytes are written: what was written, and what is left
 pub record IsWriting (old now : Option (List ℕ)) (bytes rest : List ℕ) : Type 0 where
+  -- the bytes that were written so far
   pub written : List ℕ
+  -- with what is left they are all that is to be written
   pub whole : written ++ rest ≡ bytes
+  -- the writer has them behind what it had
   pub appended : Appends old now written
 
 -- before the first write all is left

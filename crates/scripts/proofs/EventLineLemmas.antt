@@ -17,6 +17,7 @@ lone_pid-more : (pid : List ℕ) (words : List (List ℕ)) → 0 < length words
 lone_pid-more pid [] some = absurd (omega arith)
 lone_pid-more pid (word ∷ words) some = refl
 
+-- a process with a word behind it is no lone process
 pub lone_pid-long : (pid rest : List ℕ) → lone_pid (pid ∷ words_of rest) ≡ None
 lone_pid-long pid rest = lone_pid-more pid (words_of rest) (parts_of-some is_space rest)
 
@@ -26,6 +27,7 @@ note_of-more : (pid kinds : List ℕ) (words : List (List ℕ)) → 0 < length w
 note_of-more pid kinds [] some = absurd (omega arith)
 note_of-more pid kinds (word ∷ words) some = refl
 
+-- a process and its kinds with a word behind them are no note
 pub note_of-long : (pid kinds rest : List ℕ) → note_of (pid ∷ kinds ∷ words_of rest) ≡ None
 note_of-long pid kinds rest = note_of-more pid kinds (words_of rest) (parts_of-some is_space rest)
 
@@ -35,6 +37,7 @@ operands_of-more : (pid rendez level : List ℕ) (words : List (List ℕ)) → 0
 operands_of-more pid rendez level [] some = absurd (omega arith)
 operands_of-more pid rendez level (word ∷ words) some = refl
 
+-- a process, a Rendez and a level with a word behind them are no operands
 pub operands_of-long : (pid rendez level rest : List ℕ)
     → operands_of (pid ∷ rendez ∷ level ∷ words_of rest) ≡ None
 operands_of-long pid rendez level rest =
@@ -46,6 +49,7 @@ size_of-more : (verb procs rendez : List ℕ) (words : List (List ℕ)) → 0 < 
 size_of-more verb procs rendez [] some = absurd (omega arith)
 size_of-more verb procs rendez (word ∷ words) some = refl
 
+-- a verb and two numbers with a word behind them are no size of a world
 pub size_of-long : (verb procs rendez rest : List ℕ)
     → size_of (verb ∷ procs ∷ rendez ∷ words_of rest) ≡ None
 size_of-long verb procs rendez rest =

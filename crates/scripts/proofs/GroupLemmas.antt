@@ -25,11 +25,16 @@ use Rattle.scripts.proofs.OnePassLemmas.{IsWord, digits_are_word, digits_no_comm
 -- So many of the notes were posted: they and those to the processes in these words are all.
 pub record Posting (notes : NoteSet) (pids : List ℕ) (world now : State) (old new : List ℕ)
     (words : List (List ℕ)) : Type 0 where
+  -- the process that was posted to last, if any was
   pub before : Option ℕ
+  -- the processes that are still to be posted to
   pub left : List ℕ
+  -- the words to come are those processes, and rise behind it
   pub written : rising_behind before words ≡ Some left
+  -- the notes to them lead to the same world as all notes do from the first
   pub after : world_after_all now (notes_to notes left)
       ≡ world_after_all world (notes_to notes pids)
+  -- what is written, with their answers to come, is all that is owed
   pub text : new ++ lines_text (answer_lines now (notes_to notes left))
       ≡ old ++ lines_text (answer_lines world (notes_to notes pids))
 
@@ -176,6 +181,7 @@ group_of-more : (verb pids kinds : List ℕ) (words : List (List ℕ)) → 0 < l
 group_of-more verb pids kinds [] some = absurd (omega arith)
 group_of-more verb pids kinds (word ∷ words) some = refl
 
+-- a group with its kinds and a word behind them is no group
 pub group_of-long : (verb pids kinds rest : List ℕ)
     → group_of (verb ∷ pids ∷ kinds ∷ words_of rest) ≡ None
 group_of-long verb pids kinds rest =

@@ -13,7 +13,9 @@ use Rattle.scripts.proofs.LineLemmas.{parts_of-part, parts_of-plain, parts_of-so
 
 -- what has neither a space nor a line feed in it
 pub record IsWord (word : List ℕ) : Type 0 where
+  -- none of its bytes is a space
   pub no_space : list_all (λ b. not (is_space b)) word ≡ true
+  -- and none is a line feed
   pub no_line_feed : list_all (λ b. not (is_line_feed b)) word ≡ true
 
 -- what passes one test passes another

@@ -29,6 +29,7 @@ hangup_of-more : (words : List (List ℕ)) → 0 < length words → hangup_of wo
 hangup_of-more [] some = absurd (omega arith)
 hangup_of-more (word ∷ words) some = refl
 
+-- a hangup takes no word
 pub hangup_of-long : (rest : List ℕ) → hangup_of (words_of rest) ≡ None
 hangup_of-long rest = hangup_of-more (words_of rest) (parts_of-some is_space rest)
 
@@ -38,6 +39,7 @@ read_of-more : (most : List ℕ) (words : List (List ℕ)) → 0 < length words
 read_of-more most [] some = absurd (omega arith)
 read_of-more most (word ∷ words) some = refl
 
+-- a read with a word behind its number is no read
 pub read_of-long : (most rest : List ℕ) → read_of (most ∷ words_of rest) ≡ None
 read_of-long most rest = read_of-more most (words_of rest) (parts_of-some is_space rest)
 
@@ -47,6 +49,7 @@ mode_of-more : (word : List ℕ) (words : List (List ℕ)) → 0 < length words
 mode_of-more word [] some = absurd (omega arith)
 mode_of-more word (next ∷ words) some = refl
 
+-- a mode with a word behind it is no mode
 pub mode_of-long : (word : List ℕ) (rest : Option (Bor (List ℕ))) → is_some rest ≡ true
     → mode_of (word ∷ words_behind rest) ≡ None
 mode_of-long word None some = cc
@@ -59,6 +62,7 @@ write_of-more : (writer bytes : List ℕ) (words : List (List ℕ)) → 0 < leng
 write_of-more writer bytes [] some = absurd (omega arith)
 write_of-more writer bytes (word ∷ words) some = refl
 
+-- a write with a word behind its bytes is no write
 pub write_of-long : (writer bytes : List ℕ) (rest : Option (Bor (List ℕ))) → is_some rest ≡ true
     → write_of (writer ∷ bytes ∷ words_behind rest) ≡ None
 write_of-long writer bytes None some = cc

@@ -17,6 +17,7 @@ some_is : (p : ℕ → Bool) (bs : List ℕ) (k : ℕ) → k < length bs → pos
     → position p bs ≡ Some k
 some_is p bs k within is = grind (arith, nat_tests)
 
+-- a search that tells the first byte of a kind, or that there is none, tells its position
 pub first_place : (p : ℕ → Bool) (bs : List ℕ) (r : Option ℕ) → IsFirstByte p bs r
     → r ≡ position p bs
 first_place p bs None nowhere =

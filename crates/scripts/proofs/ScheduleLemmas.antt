@@ -21,9 +21,13 @@ use Rattle.scripts.proofs.ScriptLawLemmas.{farewell_kept}
 
 -- events lead to this world from one of some size
 pub record IsReached (state : State) : Type 0 where
+  -- so many processes are in that world
   pub procs : ℕ
+  -- and so many Rendez
   pub rendez : ℕ
+  -- the events that were made in it
   pub events : List Event
+  -- they lead from its opening to this state
   pub is : state ≡ world_after_all (opening procs rendez) events
 
 -- some events more

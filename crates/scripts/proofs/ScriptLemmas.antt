@@ -39,12 +39,17 @@ told_front language input text is_front =
 pub record GoesOn {T S : Type 0} (stands : T → S → Type 0) (language : Language S)
     (too_long : Bool) (cut : List ℕ) (said : Told) (old now : Option (List ℕ)) (t : T) (number : ℕ)
     (held rest : List ℕ) : Type 0 where
+  -- the state to which the lines so far have come
   pub state : S
+  -- the script stands for that state
   pub stands_now : stands t state
+  -- the lines to come end as the whole text does: cut short by the same bytes, or by none
   pub cut_is : cut_line_of rest ≡ cut
+  -- what was written, what is held back and what the lines to come answer are all that is owed
   pub writing : IsWriting old now said.output
       (held ++ (told_from language (too_long || nat_lt 0 (length cut)) state number
       (lines_of rest)).output)
+  -- the whole is at fault where the lines to come are
   pub fault : said.fault ≡ (told_from language (too_long || nat_lt 0 (length cut)) state number
       (lines_of rest)).fault
 
@@ -126,6 +131,7 @@ writes_held old now next bytes held more so_far appends =
       appended = appends_then old now next so_far.written held so_far.appended appends;
     }
 
+-- once what was held back is written nothing is held back, and the lines to come go on as before
 pub goes_written : {T S : Type 0} (stands : T → S → Type 0) (language : Language S)
     (too_long : Bool) (cut : List ℕ) (said : Told) (old now next : Option (List ℕ)) (t : T)
     (number : ℕ) (held rest none : List ℕ)

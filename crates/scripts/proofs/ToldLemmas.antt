@@ -128,7 +128,9 @@ front_lines-sound {S} language is_cut (line ∷ lines) more some none =
 
 -- What holds of each state that a first line opens, and stays at each answer.
 pub record Stays {S : Type 0} (language : Language S) (P : S → Type 0) : Type 0 where
+  -- it holds of the state that a first line opens
   pub opened : (line : List ℕ) (s : S) → language.opened_by line ≡ Some s → P s
+  -- a line that is answered leaves a state of which it holds again
   pub answered : (s : S) (line : List ℕ) (answered : Answered S) → P s
       → language.answer_to s line ≡ Some answered → P answered.after
 
@@ -219,10 +221,15 @@ farewell_lines {S} language P stays is_cut (line ∷ lines) =
 -- are written
 pub record Leaves {S : Type 0} (language : Language S) (s : S) (n : ℕ) (lines : List (List ℕ))
     (told : Told) (m : ℕ) : Type 0 where
+  -- so many lines stand before the one at fault
   pub k : ℕ
+  -- its number is that of the first line and so many more
   pub is : m ≡ n + k
+  -- there are as many lines as that
   pub within : k ≤ length lines
+  -- what was told is what those lines answer, with no farewell
   pub output : told.output ≡ (told_from (without_farewell language) false s n (take k lines)).output
+  -- those lines alone have no fault
   pub fault : (told_from language false s n (take k lines)).fault ≡ None
 
 -- the line at fault is the first of these
@@ -269,10 +276,15 @@ fault_leaves {S} language is_cut s n (line ∷ lines) m h =
 -- the same of all lines: the first k open a state where there are any
 pub record LeavesFirst {S : Type 0} (language : Language S) (lines : List (List ℕ)) (told : Told)
     (m : ℕ) : Type 0 where
+  -- so many lines stand before the one at fault
   pub k : ℕ
+  -- its number is one above that
   pub is : m ≡ suc k
+  -- there are as many lines as that
   pub within : k ≤ length lines
+  -- what was told is what those lines answer, with no farewell
   pub output : told.output ≡ (lines_told (without_farewell language) false (take k lines)).output
+  -- where there are any, those lines alone have no fault
   pub fault : 0 < k → (lines_told language false (take k lines)).fault ≡ None
 
 -- the line at fault is the first of all

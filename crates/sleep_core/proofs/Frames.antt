@@ -22,6 +22,7 @@ if_same a p x y same = by_test (eqb_tells a p)
     by_test (inl here) = ap (λ b. if b then x else y) here.0
     by_test (inr there) = absurd (there.1 (sym same))
 
+-- a choice that asks whether two numbers are one takes its second branch where they differ
 pub if_other : {X : Type 0} (a p : ℕ) (x y : X) → p ≢ a → (if a == p then x else y) ≡ y
 if_other a p x y differ = by_test (eqb_tells a p)
   where
@@ -81,18 +82,27 @@ fits_each before after h mover stage in_range own others pid = by_pid (same_or_n
 
 -- what a step leaves true for this process
 pub record Frame (before after : State) (h later : List Deed) (pid : ℕ) : Type 0 where
+  -- its token is where it was
   pub same_token : token later pid ≡ token h pid
+  -- a sleep that went on goes on
   pub still_in : (rendez threshold : ℕ) → IsStillIn h pid rendez threshold
       → IsStillIn later pid rendez threshold
+  -- if it fell asleep in it, it still has
   pub fallen : (rendez threshold : ℕ) → HasFallen h pid rendez threshold
       → HasFallen later pid rendez threshold
+  -- a cause for which its sleep may end stays one
   pub caused : IsCaused h pid → IsCaused later pid
+  -- notes that it had are not taken from it
   pub noted : has_notes (flags_of before pid).notes ≡ true
       → has_notes (flags_of after pid).notes ≡ true
+  -- its newest wakeup is the one that it was
   pub begun : begun_wakeup pid later ≡ begun_wakeup pid h
+  -- no level falls
   pub level : (rendez : ℕ) → level_of before rendez ≤ level_of after rendez
+  -- a sleeper that it holds it still holds
   pub held : (sleeper : ℕ) → token h sleeper ≡ WithRaiser pid → IsHeld h pid sleeper
       → (token later sleeper ≡ WithRaiser pid) × IsHeld later pid sleeper
+  -- whoever fell asleep in the step did so with a threshold that the level was not above
   pub newly : (rendez other above : ℕ) → HasFallen later other rendez above
       → HasFallen h other rendez above ⊎ (level_of before rendez ≤ above)
 

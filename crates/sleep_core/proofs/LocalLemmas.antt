@@ -43,6 +43,7 @@ word_at-with_phase s pid stage (LevelOf r) = refl
 word_at-with_phase s pid stage (FlagsOf p) = refl
 word_at-with_phase s pid stage NoCell = refl
 
+-- to count a wakeup as returned changes no word that events read
 pub word_at-with_returned : (s : State) (wakeup : Option Wakeup) (cell : Cell)
     → word_at (with_returned s wakeup) cell ≡ word_at s cell
 word_at-with_returned s None cell = refl

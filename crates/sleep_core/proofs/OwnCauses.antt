@@ -134,6 +134,7 @@ each-own procs rendez (entry ∷ past) run pid each =
         subst (λ b. EachSleepIsCaused (history_of (cond b (entry ∷ own pid past) (own pid past))))
         (sym differ.0) before
 
+-- a process finds the cause for which its sleep ended among its own events that are kept
 pub own_sleeps_end_for_a_cause : OwnSleepsEndForACause
 own_sleeps_end_for_a_cause procs rendez past run pid =
     subst EachSleepIsCaused (sym (history_of-kept (own pid past)))

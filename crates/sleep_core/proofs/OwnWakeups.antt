@@ -54,6 +54,7 @@ begun-others (Some (Raised by rendez level)) maker pid h by_maker differ =
 begun-others (Some deed) maker pid h by_maker differ = refl
 begun-others None maker pid h by_maker differ = refl
 
+-- the newest wakeup that a process began is the same by its own events as by all
 pub begun-own : (procs rendez : ℕ) (past : List Entry) → IsRun procs rendez past → (pid : ℕ)
     → begun_wakeup pid (history_of (own pid past)) ≡ begun_wakeup pid (history_of past)
 begun-own procs rendez [] run pid = refl

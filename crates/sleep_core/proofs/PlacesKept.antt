@@ -28,7 +28,9 @@ use Rattle.sleep_core.proofs.CoreRuns.{core_of_run}
 
 -- whose token is in its flags has its mark, and whose token a raiser has is held by it
 pub record Placed (s : State) (h : List Deed) : Type 0 where
+  -- a process whose token is in its flags has its mark set
   pub marked : (pid : ℕ) → token h pid ≡ InFlags → (flags_of s pid).wake ≡ true
+  -- a process whose token a raiser has is the one that the raiser's phase names
   pub held : (pid raiser : ℕ) → token h pid ≡ WithRaiser raiser
       → IsHolding pid (phase_of s raiser)
 

@@ -11,7 +11,9 @@ use Rattle.sleep_core.proofs.TableMoves.{table_moves}
 
 -- a world of so many processes and Rendez
 pub record HasSize (procs rendez : ℕ) (s : State) : Type 0 where
+  -- it has a phase for each process
   pub phases : length s.phases ≡ procs
+  -- it has a word for each Rendez in which a process may be posted
   pub posted : length s.posted ≡ rendez
 
 size_kept : (procs rendez : ℕ) (s : State) {deed : Option Deed} {after : State} → Move s deed after

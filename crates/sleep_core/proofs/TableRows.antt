@@ -186,6 +186,7 @@ pub post_bad_level : (s : State) (pid : Pid) (rendez : RendezId) (word : ℕ)
 post_bad_level s pid rendez word due =
     told_row s (Post pid rendez TOP_LEVEL) phase.Idle (Number word) answer.BadLevel due refl
 
+-- a post where the word of the Rendez names a process is a second sleep, and changes nothing
 pub post_double_sleep : (s : State) (pid : Pid) (rendez : RendezId) (threshold word : ℕ)
     → threshold ≢ TOP_LEVEL → word ≢ nobody
     → IsDue s (Post pid rendez threshold) phase.Idle (Number word)
@@ -194,6 +195,7 @@ post_double_sleep s pid rendez threshold word low taken due =
     told_row s (Post pid rendez threshold) phase.Idle (Number word) answer.DoubleSleep due
     (rw (test_differs threshold TOP_LEVEL low, test_differs word nobody taken) refl)
 
+-- a post where the word of the Rendez names nobody writes the process there
 pub post_posted : (s : State) (pid : Pid) (rendez : RendezId) (threshold : ℕ)
     → threshold ≢ TOP_LEVEL → IsDue s (Post pid rendez threshold) phase.Idle (Number nobody)
     → DoesRow s (Post pid rendez threshold) phase.Idle answer.Posted (Number (posted_as pid.0))
@@ -211,6 +213,7 @@ test_leaving s pid rendez threshold level above due =
     told_row s (Test pid) (phase.Posted rendez threshold) (Number level) answer.Leaving due
     (rw (test_below threshold level above) refl)
 
+-- a test that finds the level not above the threshold lets the process sleep
 pub test_asleep : (s : State) (pid : Pid) (rendez : RendezId) (threshold level : ℕ)
     → level ≤ threshold → IsDue s (Test pid) (phase.Posted rendez threshold) (Number level)
     → DoesRow s (Test pid) (phase.Posted rendez threshold) answer.Asleep (Number level)
@@ -227,6 +230,7 @@ look_woken s pid rendez threshold flags wake due =
     told_row s (Look pid) (phase.Asleep rendez threshold) (Flags flags) answer.Woken due
     (rw wake refl)
 
+-- a look that finds notes and no mark sends the sleeper off to leave
 pub look_leaving : (s : State) (pid : Pid) (rendez : RendezId) (threshold : ℕ) (flags : ProcFlags)
     → flags.wake ≡ false → has_notes flags.notes ≡ true
     → IsDue s (Look pid) (phase.Asleep rendez threshold) (Flags flags)
@@ -236,6 +240,7 @@ look_leaving s pid rendez threshold flags unmarked noted due =
     told_row s (Look pid) (phase.Asleep rendez threshold) (Flags flags) answer.Leaving due
     (rw (unmarked, noted) refl)
 
+-- a look that finds neither a mark nor notes leaves the sleeper parked
 pub look_parked : (s : State) (pid : Pid) (rendez : RendezId) (threshold : ℕ) (flags : ProcFlags)
     → flags.wake ≡ false → has_notes flags.notes ≡ false
     → IsDue s (Look pid) (phase.Asleep rendez threshold) (Flags flags)
@@ -252,6 +257,7 @@ pub look_mark_woken : (s : State) (pid : Pid) (flags : ProcFlags) → flags.wake
 look_mark_woken s pid flags wake due =
     told_row s (Look pid) phase.Awaiting (Flags flags) answer.Woken due (rw wake refl)
 
+-- whoever awaits its mark and does not find it stays parked, whatever its notes
 pub look_mark_parked : (s : State) (pid : Pid) (flags : ProcFlags) → flags.wake ≡ false
     → IsDue s (Look pid) phase.Awaiting (Flags flags)
     → DoesRow s (Look pid) phase.Awaiting answer.Parked (Flags flags) phase.Awaiting
@@ -269,6 +275,7 @@ withdraw_out s pid rendez due =
     (told_row s (Withdraw pid) (phase.Leaving rendez) (Number (posted_as pid.0)) answer.Out due
     (rw (test_same (posted_as pid.0)) refl))
 
+-- a withdrawal that finds the word not its own has to await the mark: a wakeup took it out
 pub withdraw_awaiting : (s : State) (pid : Pid) (rendez : RendezId) (word : ℕ)
     → word ≢ posted_as pid.0 → IsDue s (Withdraw pid) (phase.Leaving rendez) (Number word)
     → DoesRow s (Withdraw pid) (phase.Leaving rendez) answer.Awaiting (Number word) phase.Awaiting
@@ -286,6 +293,7 @@ pub clear_out_cleared : (s : State) (pid : Pid) (flags : ProcFlags) → has_note
 clear_out_cleared s pid flags none due =
     told_row s (Clear pid) phase.Out (Flags flags) answer.Cleared due (rw none refl)
 
+-- a sleep that was withdrawn ends with the notes that stood there, and the flags are cleared
 pub clear_out_interrupted : (s : State) (pid : Pid) (flags : ProcFlags)
     → has_notes flags.notes ≡ true → IsDue s (Clear pid) phase.Out (Flags flags)
     → DoesRow s (Clear pid) phase.Out (answer.Interrupted flags.notes) (Flags no_flags) phase.Idle
@@ -293,12 +301,14 @@ clear_out_interrupted s pid flags some due =
     told_row s (Clear pid) phase.Out (Flags flags) (answer.Interrupted flags.notes) due
     (rw some refl)
 
+-- a sleep that was woken, with no notes there, ends well, and the flags are cleared
 pub clear_woken_cleared : (s : State) (pid : Pid) (flags : ProcFlags)
     → has_notes flags.notes ≡ false → IsDue s (Clear pid) phase.Woken (Flags flags)
     → DoesRow s (Clear pid) phase.Woken answer.Cleared (Flags no_flags) phase.Idle
 clear_woken_cleared s pid flags none due =
     told_row s (Clear pid) phase.Woken (Flags flags) answer.Cleared due (rw none refl)
 
+-- a sleep that was woken ends with the notes that stood there, and the flags are cleared
 pub clear_woken_interrupted : (s : State) (pid : Pid) (flags : ProcFlags)
     → has_notes flags.notes ≡ true → IsDue s (Clear pid) phase.Woken (Flags flags)
     → DoesRow s (Clear pid) phase.Woken (answer.Interrupted flags.notes) (Flags no_flags) phase.Idle
@@ -321,6 +331,7 @@ pub take_nobody : (s : State) (pid : Pid) (rendez : RendezId) (level : ℕ)
 take_nobody s pid rendez level due =
     told_row s (Take pid) (phase.Owing rendez level) (Number nobody) answer.Nobody due refl
 
+-- a take that finds a process posted empties the word, and the raiser holds that process
 pub take_holding : (s : State) (pid sleeper : Pid) (rendez : RendezId) (level : ℕ)
     → IsDue s (Take pid) (phase.Owing rendez level) (Number (posted_as sleeper.0))
     → DoesRow s (Take pid) (phase.Owing rendez level) (answer.Holding sleeper) (Number nobody)
@@ -365,6 +376,7 @@ check_posted s pid rendez threshold due =
     told_row s (Check pid) (phase.Asleep rendez threshold) (Number (posted_as pid.0))
     answer.Posted due (rw (test_same (posted_as pid.0)) refl)
 
+-- a check that finds the word not its own tells the sleeper that a wakeup took it out
 pub check_released : (s : State) (pid : Pid) (rendez : RendezId) (threshold word : ℕ)
     → word ≢ posted_as pid.0
     → IsDue s (Check pid) (phase.Asleep rendez threshold) (Number word)

@@ -1,3 +1,5 @@
+-- A number that was given is told by the seat of a lower one, and so down to 0: nobody else has
+-- one.
 use Rattle.histories.proofs.AloneLemmas.{has_every_number, no_other_has_one, knows_whole}
 use Rattle.histories.proofs.laws.all_numbers_know_all.Goals as goal
 

@@ -1,3 +1,4 @@
+-- After each call the seat is still one of the lock's.
 use Rattle.kernel_lock.specs.Seats.{IsSeatOf}
 use Rattle.kernel_lock.proofs.tests.contend.Given as goal
 

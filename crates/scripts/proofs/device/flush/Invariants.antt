@@ -1,3 +1,4 @@
+-- A flush that was interrupted has written nothing, so the writer has what it had.
 use Rattle.std.specs.Io.KnownBytes.{Keeps}
 use Rattle.scripts.proofs.device.flush.Given as goal
 

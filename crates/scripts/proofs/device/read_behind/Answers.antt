@@ -1,3 +1,4 @@
+-- What the reader gave stands behind what was there, and nothing else does.
 use Rattle.std.proofs.Common.{arith}
 use Rattle.std.proofs.lemmas.Grind.{common_steps}
 use Rattle.scripts.proofs.DeviceLemmas.{gives_behind}

@@ -1,0 +1,1 @@
+-- Nothing is left to answer: each goal follows from what the loop keeps of the input.

@@ -1,3 +1,4 @@
+-- The input is what was taken so far, and at most a byte more than the longest script.
 use Rattle.std.proofs.Common.{◌+◌, ◌≤◌, vec_len}
 use Rattle.std.specs.Io.KnownBytes.{Consumes}
 use Rattle.scripts.specs.declared.script.TheConstants.{MAX_SCRIPT}

@@ -1,3 +1,4 @@
+-- What was written and what is left are all the bytes.
 use Rattle.scripts.proofs.DeviceLemmas.{IsWriting}
 use Rattle.scripts.proofs.device.write_whole.Given as goal
 

@@ -1,3 +1,4 @@
+-- Where no digit is none, each two of them make the byte that goes behind those before.
 use Rattle.std.proofs.Common.{◌<◌, ◌+◌, ◌*◌, ◌∙◌, get_or, length, refl, arith}
 use Rattle.std.proofs.lemmas.Bool.Decides.{nat_tests}
 use Rattle.hex.proofs.Pairs.{decode_step, decode_done}

@@ -1,3 +1,4 @@
+-- Where no digit was none, the bytes so far are those of the digits so far.
 use Rattle.std.proofs.Common.{◌≡◌, ◌<◌, ◌*◌, take, drop}
 use Rattle.hex.specs.Hex.{decode_pairs}
 use Rattle.hex.proofs.Pairs.{prepend}

@@ -1,3 +1,4 @@
+-- The table agrees with the definition at each of the 256 bytes.
 use Rattle.std.proofs.Common.{refl, arith}
 use Rattle.scripts.specs.declared.digits.TheConstants.{VALUES}
 use Rattle.scripts.specs.Digits.{value_or_none}

@@ -1,3 +1,4 @@
+-- Three numbers, the last of which ends the line, are the words of the operands.
 use Rattle.std.proofs.Common.{[], ◌∷◌, refl}
 use Rattle.scripts.proofs.OnePassLemmas.{ends_line, behind_number}
 use Rattle.scripts.proofs.event_line.operands_at.Goals as goal

@@ -1,3 +1,4 @@
+-- Numbers, bytes and kinds that were printed are read back as what they were.
 use Rattle.scripts.proofs.ReadBackLemmas.{numbers_read_back, bytes_read_back, kinds_read_back}
 use Rattle.scripts.proofs.laws.printed_is_read_back.Goals as goal
 

@@ -1,3 +1,4 @@
+-- What the search answers is the first place of the byte.
 use Rattle.std.proofs.Common.{◌==◌}
 use Rattle.scripts.proofs.PlaceLemmas.{first_place}
 use Rattle.scripts.proofs.lines.place_of.Goals as goal

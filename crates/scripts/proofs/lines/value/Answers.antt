@@ -1,3 +1,4 @@
+-- A number that overflows at some digit is 2^64 at least, whatever digits follow.
 use Rattle.std.proofs.Common.{◌≡◌, ◌*◌, ◌+◌, ◌-◌, ◌≤◌, ◌^◌, get_or, sym, ◌∙◌, arith, true}
 use Rattle.std.specs.List.{list_all}
 use Rattle.std.specs.Char.{is_ascii_digit}

@@ -1,3 +1,4 @@
+-- The verb that was found and the words behind it are a line, and ask for this operation.
 use Rattle.std.proofs.Common.{◌∷◌, [], codes, ap, refl}
 use Rattle.std.specs.Option.{option_map}
 use Rattle.scripts.specs.PipeScript.{Reads}

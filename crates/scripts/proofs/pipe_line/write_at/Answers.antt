@@ -1,3 +1,4 @@
+-- A writer and bytes that end the line are the words of the write.
 use Rattle.std.proofs.Common.{[], ◌∷◌, arith}
 use Rattle.scripts.proofs.OnePassLemmas.{behind_number}
 use Rattle.scripts.proofs.PipeLineLemmas.{bytes_line, writes_of}

@@ -1,3 +1,4 @@
+-- The line that was cut off is the first of the text, and is answered as the language says.
 use Rattle.std.proofs.Common.{◌≡◌, true, arith}
 use Rattle.std.proofs.lemmas.Grind.{common_steps}
 use Rattle.scripts.proofs.ScriptLemmas.{line_answered}

@@ -1,3 +1,4 @@
+-- What was written, what is held back and what the lines to come say make what all lines say.
 use Rattle.std.proofs.Common.{◌+◌, ◌≤◌, ◌||◌, nat_lt, length}
 use Rattle.scripts.specs.Lines.{lines_of, cut_line_of}
 use Rattle.scripts.specs.Script.{told_from}

@@ -1,3 +1,4 @@
+-- All that is told stands in a front as long as a script may be, and in whether more follows it.
 use Rattle.std.proofs.Common.{subst, take}
 use Rattle.scripts.specs.declared.script.TheConstants.{MAX_SCRIPT}
 use Rattle.scripts.specs.Device.{Tells}

@@ -1,3 +1,4 @@
+-- The exchange is the step Acquire, which keeps the rule.
 use Rattle.std.proofs.Common.{rules}
 use Rattle.kernel_lock.proofs.AcquireKeeps.{acquire_keeps}
 use Rattle.kernel_lock.proofs.locked.Locked.acquire.Goals as goal

@@ -1,3 +1,4 @@
+-- The seat sits down with the numbers that it stood up with: a served request gives and takes none.
 use Rattle.std.proofs.Common.{ap, ◌∙◌}
 use Rattle.kernel_lock.proofs.SeatLemmas.{sits_again}
 use Rattle.kernel_lock.proofs.ServeLemmas.{keeps_numbers}

@@ -1,3 +1,4 @@
+-- Whoever took the lock has the object, which is what the history that it finds inside leaves.
 use Rattle.kernel_lock.proofs.SeatLemmas.{ends}
 use Rattle.kernel_lock.proofs.ServeLemmas.{takes_slot}
 use Rattle.kernel_lock.proofs.locked.Locked.close.Goals as goal

@@ -1,3 +1,4 @@
+-- The split is the step Divide, which keeps the rule: there is room, and the seat is inside.
 use Rattle.std.proofs.Common.{rules}
 use Rattle.kernel_lock.proofs.DivideKeeps.{divide_keeps}
 use Rattle.kernel_lock.proofs.locked.Locked.divide.Goals as goal

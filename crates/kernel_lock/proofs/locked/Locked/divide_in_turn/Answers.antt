@@ -1,3 +1,4 @@
+-- Taking the lock, the next number and the release tell together what a split gives or refuses.
 use Rattle.std.proofs.Common.{subst, sym, ◌∙◌}
 use Rattle.kernel_lock.specs.View.{HasOwn}
 use Rattle.kernel_lock.proofs.SplitLemmas.{is_inside, stays, split_is_due, no_slot, final_key}

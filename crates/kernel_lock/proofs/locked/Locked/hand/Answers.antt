@@ -1,3 +1,4 @@
+-- The split is the step Hand, which keeps the rule: the seat is outside and has two numbers.
 use Rattle.std.proofs.Common.{rules}
 use Rattle.kernel_lock.proofs.HandKeeps.{hand_keeps}
 use Rattle.kernel_lock.proofs.locked.Locked.hand.Goals as goal

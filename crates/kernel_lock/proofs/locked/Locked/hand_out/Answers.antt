@@ -1,3 +1,4 @@
+-- Each round hands the next number to a seat behind those made; in the end the first has 0 alone.
 use Rattle.std.proofs.Common.{refl, ap, ◌∙◌, arith}
 use Rattle.kernel_lock.proofs.HandOutLemmas.{hands_first, hands_stepper, hands_outside}
 use Rattle.kernel_lock.proofs.HandOutLemmas.{has_second, hands_next, hands_last}

@@ -1,3 +1,4 @@
+-- The numbers below this one were handed out, to the seats in the list.
 use Rattle.std.proofs.Common.{vec_capacity}
 use Rattle.kernel_lock.proofs.HandOutLemmas.{HandsOut}
 use Rattle.kernel_lock.proofs.locked.Locked.hand_out.Given as goal

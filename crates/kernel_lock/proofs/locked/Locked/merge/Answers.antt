@@ -1,3 +1,5 @@
+-- The join and the load are the steps Merge and Settle; the second tells how the two histories
+-- compare.
 use Rattle.std.proofs.Common.{rules, ap, subst, ◌∙◌}
 use Rattle.kernel_lock.specs.Steps.{HasSettled}
 use Rattle.kernel_lock.proofs.MergeKeeps.{merge_keeps}

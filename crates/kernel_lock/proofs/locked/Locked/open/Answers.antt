@@ -1,3 +1,5 @@
+-- The rule holds of a new table, and one that was refused gives the slots back with the object in
+-- them.
 use Rattle.std.proofs.Common.{refl, sym, ◌∙◌}
 use Rattle.kernel_lock.proofs.OpeningKeeps.{opened_keeps}
 use Rattle.kernel_lock.proofs.locked.Locked.open.Goals as goal

@@ -1,3 +1,5 @@
+-- The object answered in its slot, so the release is due, and all three steps are one served
+-- request.
 use Rattle.std.proofs.Common.{Some, sym, subst, ◌∙◌}
 use Rattle.kernel_lock.specs.Steps.{IsDue, HasReleased}
 use Rattle.kernel_lock.proofs.ServeLemmas.{takes_slot, serving_is_due, has_served}

@@ -1,3 +1,4 @@
+-- A seat that stands up still has its own number, which the step Divide asks for.
 use Rattle.std.proofs.Common.{ap}
 use Rattle.kernel_lock.proofs.SeatLemmas.{stands_own}
 use Rattle.kernel_lock.proofs.locked.Locked.split.Goals as goal

@@ -1,3 +1,4 @@
+-- While the lock is not got, neither what the seat knows nor what it has changes.
 use Rattle.std.proofs.Common.{◌≡◌}
 use Rattle.kernel_lock.specs.Steppers.{IsSameStepper}
 use Rattle.kernel_lock.proofs.locked.Locked.take.Given as goal

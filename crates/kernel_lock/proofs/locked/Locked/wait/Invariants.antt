@@ -1,3 +1,4 @@
+-- Looking at the word changes neither what the seat knows nor what it has.
 use Rattle.std.proofs.Common.{◌≡◌}
 use Rattle.kernel_lock.specs.Steppers.{IsSameStepper}
 use Rattle.kernel_lock.proofs.locked.Locked.wait.Given as goal

@@ -1,3 +1,4 @@
+-- A word behind a hangup is one too many.
 use Rattle.std.proofs.Common.{ap, ◌∙◌}
 use Rattle.scripts.specs.Lines.{words_behind}
 use Rattle.scripts.specs.PipeScript.{hangup_of}

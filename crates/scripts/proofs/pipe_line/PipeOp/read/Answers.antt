@@ -1,3 +1,4 @@
+-- A word behind the number is one too many.
 use Rattle.std.proofs.Common.{ap, ◌∷◌, ◌∙◌}
 use Rattle.scripts.specs.Lines.{words_behind}
 use Rattle.scripts.specs.PipeScript.{read_of}

@@ -1,3 +1,4 @@
+-- A word behind the bytes is one too many.
 use Rattle.std.proofs.Common.{ap, ◌∷◌, ◌∙◌, sym}
 use Rattle.scripts.specs.Lines.{words_behind}
 use Rattle.scripts.specs.PipeScript.{write_of}

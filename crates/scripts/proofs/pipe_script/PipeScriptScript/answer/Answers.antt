@@ -1,3 +1,4 @@
+-- The line asks for this operation, and its answer is the language's.
 use Rattle.scripts.proofs.PipeLineLemmas.{answers_op}
 use Rattle.scripts.proofs.pipe_script.PipeScriptScript.answer.Goals as goal
 

@@ -1,3 +1,4 @@
+-- The first line of the text asks for the operation that was found, and is answered as that is.
 use Rattle.std.proofs.Common.{arith}
 use Rattle.scripts.proofs.OnePassLemmas.{begins_length}
 use Rattle.sync_base.specs.Pipe.{PipeState}

@@ -1,3 +1,4 @@
+-- A line to a group is answered by each of its notes in turn, as the language says.
 use Rattle.std.proofs.Common.{◌≡◌, Option, true, refl, sym, subst}
 use Rattle.sleep_core.specs.State.{State}
 use Rattle.scripts.specs.declared.schedule.Schedule.{Schedule}

@@ -1,3 +1,4 @@
+-- The first line of the text asks for the event that was found, and is answered as that is.
 use Rattle.std.proofs.Common.{◌≡◌, arith}
 use Rattle.sleep_core.specs.State.{State}
 use Rattle.scripts.specs.declared.schedule.Schedule.{Schedule}

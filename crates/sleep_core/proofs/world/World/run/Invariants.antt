@@ -1,3 +1,4 @@
+-- The events so far were answered, and those to come go on from the world that they left.
 use Rattle.std.proofs.Common.{◌≡◌, ◌≤◌, ◌++◌, length, drop, vec_len, vec_capacity}
 use Rattle.sleep_core.specs.Runs.{answers_to_all, world_after_all}
 use Rattle.sleep_core.proofs.world.World.run.Given as goal
