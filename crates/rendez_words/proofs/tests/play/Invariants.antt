@@ -1,3 +1,4 @@
+-- No round takes the seat from its process, or the process from its words.
 use Rattle.rendez_words.specs.Words.{IsProcessOf}
 use Rattle.rendez_words.proofs.tests.play.Given as goal
 
