@@ -591,7 +591,7 @@ count_within_total (suc count) numbers none_empty =
     none_empty number some (omega (arith, within))) in
     omega (arith, first, rest)
 
--- there are no more groups than numbers, for none is empty
+-- there are no more groups than there is room for pids, for none is empty
 pub count_within : (numbers : List ℕ) (count given : ℕ) → AreNumbers numbers count given
     → count ≤ length numbers
 count_within numbers count given are =
