@@ -42,7 +42,7 @@ module _ (key : Key) (t : QueueTable) (rule : IsOneQueue key t) (id : ℕ) (befo
   abbrev pub state_now : QueueState
   state_now = queue_after key rule.ledger.history
 
-  -- it is one that a legal history can leave
+  -- what is so in each state that a legal history leaves is so in it
   pub state_fits : IsQueueState key.limit key.first state_now
   state_fits = history_fits key rule.ledger.history rule.first_given rule.legal
 

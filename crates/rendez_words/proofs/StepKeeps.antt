@@ -49,11 +49,11 @@ pub record Comes (sizes : Sizes) (run : List Entry) (event : Event) (part : Part
   pub stage : Phase
   -- the word that it finds
   pub found : Word
-  -- the steps that the process has made give that phase
+  -- it is the phase that the steps of the process give; a note comes in any
   pub in_stage : IsStage part.trace event stage
   -- the word is the one that the world has in the event's cell
   pub found_is : found ≡ word_at (world_of sizes.procs sizes.rendez run) (cell_of event stage)
-  -- that cell is one of these sizes
+  -- a world of these sizes has that cell
   pub there : IsCellIn sizes (cell_of event stage)
   -- the world answers the event as its row of the table says
   pub answered : answer_to (world_of sizes.procs sizes.rendez run) event ≡ reply event stage found
@@ -196,7 +196,7 @@ step_keeps_at sizes slots id part event word does step s rule _ at _ = (
     mine : IsSeated sizes.procs (entry ∷ rule.run) rule.owner id after
     mine = record { pid_in = seated.pid_in; owner_is = seated.owner_is; trace_is = trace }
 
--- a step by a process's seat keeps the rule, and the seat has the event behind its steps
+-- a step by a process's seat keeps the rule, and the seat has made the step's event
 pub step_keeps : (sizes : Sizes) (slots id : ℕ) (me : Seated) (part : Part) (event : Event)
     (word : ℕ) (does : ℕ → ℕ) → me ≡ (view.Process part, []) → IsStep sizes event part word does
     → table.Allows (ShowsCore sizes) slots id me word does
