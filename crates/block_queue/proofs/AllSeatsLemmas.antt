@@ -24,6 +24,7 @@ use Rattle.block_queue.specs.Seats.{IsPutSeatOf, IsSameSeat, put_account, take_a
 
 -- ---- what a call leaves of its seat
 
+-- an entry leaves its seat the number that it has and those that it gave
 pub enters_same : (key : Key) (made : Entry) (old new : Account Entry) → Enters key made old new →
     IsSameSeat old new
 enters_same key made old new enters =
@@ -32,11 +33,13 @@ enters_same key made old new enters =
       gave = ap (λ (a : Account Entry). a.gave) enters.adds.new_is;
     }
 
+-- two calls that leave a seat its numbers leave them one after the other too
 pub same_then : (old between new : Account Entry) → IsSameSeat old between →
     IsSameSeat between new → IsSameSeat old new
 same_then old between new first second =
     record { number = second.number ∙ first.number; gave = second.gave ∙ first.gave }
 
+-- a put leaves its seat its numbers, whatever it is answered
 pub puts_same : (key : Key) (writer : ℕ) (block : List ℕ) (old new : Account Entry)
     (answer : PutAnswer) → Puts key writer block old new answer → IsSameSeat old new
 puts_same key writer block old new (put.Taken number) stands =
@@ -50,6 +53,7 @@ puts_same key writer block old new (put.Hungup back) refuses =
 puts_same key writer block old new (put.Worn back) refuses =
     enters_same key (entry.Worn writer block) old new refuses.refused
 
+-- a take leaves its seat its numbers, whatever it is answered
 pub takes_same : (key : Key) (old new : Account Entry) (answer : TakeAnswer) →
     Takes key old new answer → IsSameSeat old new
 takes_same key old new (take.Block block writer number) enters =
@@ -100,6 +104,7 @@ none_given first [] are = tt
 none_given first (seat ∷ puts) are =
     ((are 0 seat refl).1, none_given (first + 1) puts (order_behind first seat puts are))
 
+-- the reader's seat and those it gave numbers to, in the writers' order, are all seats of the queue
 pub all_in_order : (take : TakeSeat) (puts : List PutSeat) →
     (take_account take).gave ≡ numbers_from 1 (length puts) → AreInOrder 0 puts →
     AreAllSeats take puts
@@ -124,6 +129,7 @@ seats_from queue [] each = tt
 seats_from queue (seat ∷ seats) each =
     (each 0 seat refl, seats_from queue seats (λ place other at. each (suc place) other at))
 
+-- each new writer's seat is a writer's seat of its queue
 pub new_are_seats : (queue : Queue) (count : ℕ) (puts : List PutSeat) →
     AreNewPutSeats queue count puts → AllByRecursion (IsPutSeatOf queue) puts
 new_are_seats queue count puts are =
@@ -134,6 +140,7 @@ pub all_after_take : (old new : TakeSeat) (puts : List PutSeat) → AreAllSeats 
     IsSameSeat (take_account old) (take_account new) → AreAllSeats new puts
 all_after_take old new puts are same = record { order = same.gave ∙ are.order; none = are.none }
 
+-- all seats are all seats after a call of one writer
 pub all_after_put : (take : TakeSeat) (front back : List PutSeat) (old new : PutSeat) →
     AreAllSeats take (front ++ old ∷ back) → new.writer ≡ old.writer →
     IsSameSeat (put_account old) (put_account new) → AreAllSeats take (front ++ new ∷ back)

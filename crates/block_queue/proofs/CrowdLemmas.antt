@@ -13,11 +13,13 @@ use Rattle.block_queue.specs.Seats.{IsPutSeatOf}
 
 -- ---- of each element, said both ways
 
+-- what is so of each element by recursion is so of it at each place
 pub each_all : {A : Type 0} (P : A → Type 0) (xs : List A) → AllByRecursion P xs → All P xs
 each_all P [] all i d below = absurd (omega arith)
 each_all P (x ∷ xs) all zero d below = all.0
 each_all P (x ∷ xs) all (suc i) d below = each_all P xs all.1 i d (omega arith)
 
+-- what is so at each place is so of each element by recursion
 pub all_each : {A : Type 0} (P : A → Type 0) (xs : List A) → All P xs → AllByRecursion P xs
 all_each P [] each = tt
 all_each P (x ∷ xs) each =
@@ -25,16 +27,19 @@ all_each P (x ∷ xs) each =
 
 -- ---- the last element
 
+-- what is so of a whole list is so of its last element and of those in front
 pub all_last : {A : Type 0} (P : A → Type 0) (all front : List A) (last : A) →
     all ≡ front ++ last ∷ [] → AllByRecursion P all → P last × AllByRecursion P front
 all_last P all front last is has =
     let both : AllByRecursion P (front ++ last ∷ []) = subst (AllByRecursion P) is has in
     ((all_past P front (last ∷ []) both).0, all_since P front (last ∷ []) both)
 
+-- what is so of a list and of one element more is so of both together
 pub all_more : {A : Type 0} (P : A → Type 0) (front : List A) (last : A) →
     AllByRecursion P front → P last → AllByRecursion P (front ++ last ∷ [])
 all_more P front last all has = all_append P front (last ∷ []) all (has, tt)
 
+-- a list of one element is its last
 pub only_one : {A : Type 0} (all front : List A) (last : A) → all ≡ front ++ last ∷ [] →
     length all ≡ 1 → all ≡ last ∷ []
 only_one all [] last is one = is
@@ -58,6 +63,7 @@ numbers_of-snoc [] seat = refl
 numbers_of-snoc (x ∷ seats) seat =
     ap (λ (ns : List ℕ). (x.writer + 1) ∷ ns) (numbers_of-snoc seats seat)
 
+-- seats in the order of their numbers are so with the seat of the next writer behind them
 pub order_more : (seats : List PutSeat) (seat : PutSeat) →
     numbers_of seats ≡ numbers_from 1 (length seats) → seat.writer ≡ length seats →
     numbers_of (seats ++ seat ∷ []) ≡ numbers_from 1 (length (seats ++ seat ∷ []))

@@ -118,6 +118,7 @@ module _ (key : Key) (id : ℕ) (first : View) (other : ℕ) (second : View) (ow
             stage = tt;
           }
 
+  -- a seat that is joined to another gives it its numbers, and the rule stays
   pub join_keeps : table.Joins (IsOneQueue key) id first other second (joined_view first second) spent_view
   join_keeps t rule at apart there = join_parts t rule at apart (sym (set_else t.views id other (joined_view first second) apart) ∙ there)
 
@@ -150,5 +151,6 @@ module _ (key : Key) (slots id : ℕ) (me : Seated) (own : has_number me.0.accou
       same_view : record me.0 { stage = Free } ≡ me.0
       same_view = ap (λ (z : Stage). record me.0 { stage = z }) (sym stage)
 
+  -- a load of the tail by the reader changes nothing, and tells a seat with all numbers the state
   pub survey_keeps : table.Allows (IsOneQueue key) slots id me 0 (λ n. n) (HasSurveyed key me)
   survey_keeps t rule _ at _ = let both = survey_result t rule at in (me.0, table.keeps, tt, both.0, both.1)

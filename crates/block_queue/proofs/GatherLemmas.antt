@@ -63,9 +63,11 @@ module _ (key : Key) (account : Account Entry) (left : ℕ) (is : IsLeft key acc
       let no : None ≡ Some (get_or s.pipe.accepted s.pipe.read_whole (record { writer = 0; bytes = [] })) = sym none ∙ at in
       cc
 
+  -- a seat with all numbers is not told the end while a write is left
   pub not_ended : (new : Account Entry) → Enters key entry.End account new → ⊥
   not_ended new enters = let told = behind_all key entry.End account new is.all enters in there told.1.may.1
 
+  -- nor is it told that the next write is not there yet
   pub not_waiting : (number : ℕ) (new : Account Entry) → Enters key (entry.NotYet number) account new → ⊥
   not_waiting number new enters =
       let told = behind_all key (entry.NotYet number) account new is.all enters in
@@ -91,6 +93,7 @@ module _ (key : Key) (account : Account Entry) (left : ℕ) (is : IsLeft key acc
         may.number_is,
       )
 
+  -- a block that it takes makes the number of the last begun write one more
   pub begun_more : key.first ≤ LAST_WRITE → (write : Write) (number : ℕ) (new : Account Entry) → Enters key (entry.Block write.writer write.bytes number) account new
       → begun_number key.first (queue_after key new.seen).pipe ≡ begun_number key.first s.pipe + 1
   begun_more given write number new enters =
@@ -155,11 +158,13 @@ blocks_left key number (write ∷ writes) history legal all =
 
 -- ---- the loop of takes
 
+-- before the first take nothing is emptied
 pub none_emptied : (key : Key) (left : ℕ) (account : Account Entry) (blocks : List Write) → blocks ≡ [] → IsLeft key account left → IsEmptying key left account account blocks
 none_emptied key left account blocks none is =
     subst (IsEmptying key left account account) (sym none)
     record { few = omega arith; is_left = subst (IsLeft key account) (omega arith) is; seen = refl; begun = omega arith }
 
+-- a take of the next block adds its write behind those that were taken before
 pub one_emptied : (key : Key) (left : ℕ) (old now new : Account Entry) (blocks : List Write) (write : Write) (number : ℕ) → key.first ≤ LAST_WRITE → length blocks < left → IsEmptying key left old now blocks
     → Enters key (entry.Block write.writer write.bytes number) now new → IsEmptying key left old new (blocks ++ write ∷ [])
 one_emptied key left old now new blocks write number given more is enters =
@@ -176,6 +181,7 @@ one_emptied key left old now new blocks write number given more is enters =
       begun = begun ∙ ap (λ (n : ℕ). n + 1) is.begun ∙ omega arith;
     }
 
+-- once as many blocks were taken as were left, the queue is empty
 pub all_emptied : (key : Key) (left : ℕ) (old now : Account Entry) (blocks : List Write) → IsEmptying key left old now blocks → left ≤ length blocks → Empties key left old now blocks
 all_emptied key left old now blocks is all = let few = is.few in record { seen = is.seen; none = subst (IsLeft key now) (omega arith) is.is_left }
 
@@ -204,6 +210,7 @@ last_number seat n (x ∷ xs) has = of (eqb (x.writer + 1) n) has (last_number s
     of false has rest = rest has
 
 module _ (queue : Queue) (puts : List PutSeat) (old : Account Entry) where
+  -- before the first join the reader's seat has its own number, and all writers are to be joined
   pub none_joined : has_number old.shares 0 ≡ true → AllByRecursion (λ seat. (put_account seat).gave ≡ []) puts → IsJoining puts old puts old
   none_joined own none =
       record {
@@ -234,6 +241,7 @@ module _ (queue : Queue) (puts : List PutSeat) (old : Account Entry) where
             inside back (front ++ n ∷ []) (is ∙ sym (append_assoc front (n ∷ []) back)),
           )
 
+  -- a join of the last writer's seat leaves those in front of it to be joined
   pub one_joined : (now joined : Account Entry) (rest front : List PutSeat) (seat : PutSeat) → rest ≡ front ++ seat ∷ [] → IsJoining puts old rest now
       → joined ≡ joined_account now (put_account seat) → has_number (put_account seat).shares (seat.writer + 1) ≡ true → IsJoining puts old front joined
   one_joined now joined rest front seat rest_is is joined_is own =
@@ -270,6 +278,7 @@ module _ (queue : Queue) (puts : List PutSeat) (old : Account Entry) where
               (λ same. or_left (has_number (put_account seat).shares n) (list_any (λ other. eqb other n) (numbers_of front)) (ap (has_number (put_account seat).shares) (sym same) ∙ own))
               (last_number seat n front has)
 
+  -- where no writer is left, the seat has joined all of them
   pub all_joined : (now : Account Entry) → IsJoining puts old [] now → HasJoined puts old now
   all_joined now is =
       record {
@@ -288,10 +297,12 @@ module _ (queue : Queue) (puts : List PutSeat) (old : Account Entry) where
 
 -- ---- whose pasts the joined seat tells
 
+-- before the first join a seat tells its own past, and the writers tell theirs
 pub none_told : (puts : List PutSeat) (old : View) → TellsPasts puts old puts old
 none_told puts old =
     record { reader = λ history saw. saw.seen; writers = λ history saw pasts. pasts }
 
+-- a seat that joins another's tells the past of that writer too
 pub one_told : (puts : List PutSeat) (old now joined : View) (rest front : List PutSeat)
     (seat : PutSeat) → rest ≡ front ++ seat ∷ [] → TellsPasts puts old rest now →
     joined ≡ joined_view now (put_view seat) → TellsPasts puts old front joined
@@ -350,14 +361,18 @@ module _ (key : Key) (view : View) (found : ℕ) (own : HasAllNumbers view.accou
           let low : leb MARK found ≡ false = grind (arith, nat_tests) in
           (omega arith, low ∙ sym unhung)
 
+  -- no more writes were taken than the tail counts
   pub taken_within : view.taken ≤ found % MARK
   taken_within = let within = fits.within in let taken = told.taken in let accepted = tail_parts.0 in omega arith
 
+  -- what is left fits in the queue
   pub left_within : found % MARK - view.taken ≤ key.limit
   left_within = let room = fits.room in let taken = told.taken in let accepted = tail_parts.0 in omega arith
 
+  -- as many writes are left as the tail counts above those that were taken
   pub is_left : IsLeft key view.account (found % MARK - view.taken)
   is_left = record { all = own; knows = knows; puts = told.puts; left_is = let within = fits.within in let taken = told.taken in let accepted = tail_parts.0 in omega arith }
 
+  -- the mark of the tail says whether the queue is hung up
   pub hung_is : leb MARK found ≡ final.pipe.hung
   hung_is = tail_parts.1

@@ -108,5 +108,6 @@ module _ (key : Key) (id : ℕ) (before : View) (zero_share share : Share Entry)
             stage = tt;
           }
 
+  -- a seat that hands its second number to a new one splits in two, and the rule stays
   pub hand_keeps : table.Splits (IsOneQueue key) id before (keeper_view before) (handed_view before)
   hand_keeps t rule at = hand_parts t rule at

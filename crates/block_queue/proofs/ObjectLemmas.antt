@@ -306,6 +306,7 @@ module _ (first : ℕ) (kept : Kept) (s : QueueState) (by : ℕ) (shows : Shows 
         };
       }
 
+-- each call on the sequential queue is answered as a direction answers it
 pub each_call_is_right : EachCallIsRight
 each_call_is_right first kept s by (Put writer block) shows =
     put_right first kept s by shows writer block
@@ -328,6 +329,7 @@ new_shows limit first low =
       given = omega arith;
     }
 
+-- each history of the object is a legal one of the queue, and what it keeps shows what is left
 pub objects_are_queues : ObjectsAreQueues
 objects_are_queues limit first [] low legal = (tt, new_shows limit first low)
 objects_are_queues limit first (served ∷ past) low legal =

@@ -77,6 +77,7 @@ module _ (key : Key) (some_room : 0 < key.limit) (given : key.first ≤ LAST_WRI
             full = λ write at stored there. absurd (no_write count write at);
           }
 
+  -- words of zero, empty slots and the one seat that has all numbers keep the rule
   pub opening_keeps : IsOneQueue key (table.opening (replicate (key.limit + 1) 0) (replicate key.limit None) (first_view key))
   opening_keeps =
       record {

@@ -24,6 +24,7 @@ left_numbers writers done more =
 left_shares : (writers done : ℕ) → done < writers → (handing_view writers done).account.shares ≡ unused_share 0 ∷ unused_share (done + 1) ∷ map unused_share (numbers_from (done + 1 + 1) (writers - (done + 1)))
 left_shares writers done more = ap (λ (numbers : List ℕ). unused_share 0 ∷ map unused_share numbers) (left_numbers writers done more)
 
+-- while a writer has no seat, the reader's seat has a second number to hand on
 pub next_to_hand : (writers done : ℕ) (view : View) → view ≡ handing_view writers done → done < writers → HasToHand view
 next_to_hand writers done view is more =
     subst HasToHand (sym is)
@@ -37,6 +38,7 @@ next_to_hand writers done view is more =
       stage_is = refl;
     }
 
+-- once it is handed on, the reader's seat is as with one writer more done
 pub handed_on : (writers done : ℕ) → done < writers → keeper_view (handing_view writers done) ≡ handing_view writers (done + 1)
 handed_on writers done more = ap (λ (shares : List (Share Entry)). record (handing_view writers done) { account = record (handing_view writers done).account { shares = without_second shares } }) (left_shares writers done more)
 
@@ -44,6 +46,7 @@ handed_is : (writers done : ℕ) → done < writers → (handed_view (handing_vi
 handed_is writers done more =
     ap (λ (shares : List (Share Entry)). record { number = (second_share shares).number; shares = second_share shares ∷ []; seen = []; gave = [] }) (left_shares writers done more)
 
+-- a seat that got the number of its writer is a new seat of that writer
 pub new_put_seat : (queue : Queue) (seat : PutSeat) (view : View) → seat.badge.table_id ≡ queue.table.shared.table_id → seat.badge.views ≡ view ∷ [] → seat.writer < queue.key.writers → view ≡ handed_view (handing_view queue.key.writers seat.writer)
     → IsNewPutSeat queue seat.writer seat
 new_put_seat queue seat view table views below is =
@@ -62,6 +65,7 @@ new_put_seat queue seat view table views below is =
       account_is = account;
     }
 
+-- a new seat behind the new seats of the writers before it
 pub one_more_seat : (queue : Queue) (count : ℕ) (seats : List PutSeat) (seat : PutSeat) → AreNewPutSeats queue count seats → IsNewPutSeat queue count seat → AreNewPutSeats queue (count + 1) (seats ++ seat ∷ [])
 one_more_seat queue count seats seat are is =
     record {
@@ -77,6 +81,7 @@ one_more_seat queue count seats seat are is =
           are.each writer other (sym (slice_get_snoc seats seat writer less) ∙ at));
     }
 
+-- before the first hand there are no new seats
 pub no_seats : (queue : Queue) (seats : List PutSeat) → seats ≡ [] → AreNewPutSeats queue 0 seats
 no_seats queue seats none =
     subst (AreNewPutSeats queue 0) (sym none)

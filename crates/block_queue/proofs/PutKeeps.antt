@@ -136,6 +136,7 @@ module _ (asked : Asked) (slots id : ℕ) (me : Seated) (own : has_number me.0.a
         of true hung = tail_hungup hung
         of false unhung = dite (ℕ_discrete (key.first + length s.pipe.accepted) LAST_WRITE) (λ last. tail_worn unhung last) (λ other. tail_counted unhung other)
 
+  -- a load of the tail by a free writer keeps the rule, and tells how many writes were accepted
   pub put_tail_keeps : me.0.stage ≡ Free → table.Allows (IsOneQueue asked.key) slots id me 0 (λ n. n) (HasPutTail asked me)
   put_tail_keeps stage t rule _ at _ = tail_result stage t rule at
 
@@ -226,6 +227,7 @@ module _ (asked : Asked) (slots id : ℕ) (me : Seated) (own : has_number me.0.a
         (put_sequence key.limit key.first s₂ rule.out t.words t.homes rule.words asked.count rule.some_room fits₂ counted.accepted low))
         (λ high. sequence_passed (lt_of_not-le high))
 
+  -- a load of the place's sequence word keeps the rule, and tells whether the place is free
   pub put_sequence_keeps : me.0.stage ≡ Counted asked.count → table.Allows (IsOneQueue asked.key) slots id me (sequence_of (place_of asked.key.limit asked.count)) (λ n. n) (HasPutSequence asked me)
   put_sequence_keeps stage t rule _ at _ = sequence_result stage t rule at
 
@@ -255,8 +257,11 @@ module _ (asked : Asked) (slots id : ℕ) (me : Seated) (own : has_number me.0.a
     accepted_view count = entered_view (entry.Taken writer block (key.first + count + 1)) rule.ledger.history (Storing count writer block) me.0.taken me.0
 
     record Accepts (count : ℕ) : Type 0 where
+      -- the slot of the write's place is at home, and empty
       pub home : get_elem? t.homes (place_of key.limit count) ≡ some (some None)
+      -- the rule stays with the tail one more, the slot with the writer, and the writer storing
       pub keeps : IsOneQueue key record { words = set t.words 0 (count + 1); homes = set t.homes (place_of key.limit count) none; views = set t.views id (accepted_view count) }
+      -- the writer's entry says that its write was accepted, and with which number
       pub told : HasEntered key (entry.Taken writer block (key.first + count + 1)) (Storing count writer block) me.0 (accepted_view count)
 
     last_accepts : s₃.pipe.hung ≡ false → length s₃.pipe.accepted ≡ asked.count → Accepts (length s₃.pipe.accepted)
@@ -336,6 +341,7 @@ module _ (asked : Asked) (slots id : ℕ) (me : Seated) (own : has_number me.0.a
             let tail : tail₃ ≡ length s₃.pipe.accepted = rule.words.tail ∙ rw unhung refl in
             accept_wins unhung (sym tail ∙ found) found
 
+  -- an exchange of the tail keeps the rule; the write is accepted where the count was still so
   pub accept_keeps : me.0.stage ≡ Placed asked.count → table.Allows (IsOneQueue asked.key) slots id me 0 (λ n. either (eqb n asked.count) (asked.count + 1) n) (HasAccepted asked me)
   accept_keeps stage t rule _ at _ = accept_result stage t rule at
 
@@ -399,6 +405,7 @@ module _ (asked : Asked) (slots id : ℕ) (me : Seated) (own : has_number me.0.a
       },
     )
 
+  -- a store of the sequence word brings the slot back with the block, and the write stands
   pub store_keeps : me.0.stage ≡ Storing asked.count asked.write.writer asked.write.bytes → me.1 ≡ (place_of asked.key.limit asked.count, Some asked.write) ∷ []
       → table.Allows (IsOneQueue asked.key) slots id me (sequence_of (place_of asked.key.limit asked.count)) (λ _. stored_word asked.key.limit asked.count) (λ _ after. HasStored asked me after)
   store_keeps stage slots_are t rule _ at _ = store_result stage slots_are t rule at

@@ -24,6 +24,7 @@ use Rattle.block_queue.specs.Rule.{IsOneQueue, FitsView, account_of}
 use Rattle.block_queue.proofs.StateLemmas.{opening_fits, entry_fits}
 use Rattle.block_queue.proofs.ViewMoves.{Grows, same_grows, others_fit}
 
+-- the words, slots and views that the rule of a queue is about
 abbrev pub QueueTable : Type 0
 QueueTable = table.State (Option Write) View
 
@@ -37,18 +38,23 @@ still_pasts : (history : List Entry) (entry : Entry) (pasts : List (List Entry))
 still_pasts history entry pasts all = all_weaker (λ (past : List Entry). IsPast past history) (λ past. IsPast past (entry ∷ history)) (λ past is. past_cons past history entry is) pasts all
 
 module _ (key : Key) (t : QueueTable) (rule : IsOneQueue key t) (id : ℕ) (before : View) (at : get_elem? t.views id ≡ some before) where
+  -- the state that the history of the table leaves
   abbrev pub state_now : QueueState
   state_now = queue_after key rule.ledger.history
 
+  -- what is so in each state that a legal history leaves is so in it
   pub state_fits : IsQueueState key.limit key.first state_now
   state_fits = history_fits key rule.ledger.history rule.first_given rule.legal
 
+  -- what the seat knows fits what is written of all seats
   pub own_ledger : FitsLedger seat_of rule.ledger id before.account
   own_ledger = rule.seats.each_seat id before at
 
+  -- the seat's view fits the state
   pub own_view : FitsView key.limit key.first state_now rule.out (rule.ledger.owner 0) id before
   own_view = rule.views id before at
 
+  -- a number that the seat has is its own
   pub owned_number : (number : ℕ) → has_number before.account.shares number ≡ true → IsOwned rule.ledger id number
   owned_number number has = number_is_owned seat_of rule.ledger id number before.account own_ledger has
 
@@ -135,6 +141,7 @@ module _ (key : Key) (t : QueueTable) (rule : IsOneQueue key t) (id : ℕ) (befo
 
 -- the puts of a seat's numbers after an entry of it
 module _ (putting putting' : ℕ → Option ℕ) (due : ℕ → Option ℕ) (entry : Entry) where
+  -- what is so of the puts of a seat's numbers is so after an entry, which leaves it its numbers
   pub puts_after : (shares : List (Share Entry)) → AllByRecursion (λ share. putting' share.number ≡ due share.number) shares
       → AllByRecursion (λ share. putting' share.number ≡ due share.number) (map (share_after seat_of entry) shares)
   puts_after shares all =

@@ -20,9 +20,11 @@ pub entered_own : (key : Key) (made : Entry) (old new : Account Entry) (number :
 entered_own key made old new number enters has =
     subst (λ (a : Account Entry). has_number a.shares number ≡ true) (sym enters.adds.new_is) (has_number-share_after seat_of made old.shares number ∙ has)
 
+-- an entry leaves its seat the number that it acts by
 pub entered_number : (key : Key) (made : Entry) (old new : Account Entry) → Enters key made old new → new.number ≡ old.number
 entered_number key made old new enters = ap (λ (a : Account Entry). a.number) enters.adds.new_is
 
+-- a seat that made an entry stands where it stood, with its number
 pub entered_place : (queue : Queue) (old new : Place) (number : ℕ) (made : Entry) (key : Key) → IsPlaceOf queue old number → IsSamePlace old new → Enters key made old.me.0.account new.me.0.account → IsPlaceOf queue new number
 entered_place queue old new number made key is same enters =
     record { table = same.table ∙ is.table; own = entered_own key made old.me.0.account new.me.0.account number enters is.own }
@@ -51,6 +53,7 @@ steps_on queue old new number is same account =
 
 -- ---- a seat that sits down
 
+-- a writer's seat that stands up to step is a free one, with its writer's number
 pub stands_put : (queue : Queue) (seat : PutSeat) (place : Place) → IsPutSeatOf queue seat → place.table_id ≡ seat.badge.table_id → place.me ≡ (put_view seat, []) → IsFreePlaceOf queue place (seat.writer + 1)
 stands_put queue seat place is table me =
     record {
@@ -61,6 +64,7 @@ stands_put queue seat place is table me =
       no_slot = ap (λ (m : Seated). m.1) me;
     }
 
+-- a free one with a writer's number sits down as that writer's seat
 pub sits_put : (queue : Queue) (seat : PutSeat) (place : Place) → seat.writer < queue.key.writers → IsFreePlaceOf queue place (seat.writer + 1) → seat.badge.table_id ≡ place.table_id → seat.badge.views ≡ place.me.0 ∷ [] → IsPutSeatOf queue seat
 sits_put queue seat place writer free table views =
     let view : put_view seat ≡ place.me.0 = ap head_view views in
@@ -73,6 +77,7 @@ sits_put queue seat place writer free table views =
       stage = ap (λ (v : View). v.stage) view ∙ free.stage;
     }
 
+-- the reader's seat that stands up to step is a free one, with number 0
 pub stands_take : (queue : Queue) (seat : TakeSeat) (place : Place) → IsTakeSeatOf queue seat → place.table_id ≡ seat.badge.table_id → place.me ≡ (take_view seat, []) → IsFreePlaceOf queue place 0
 stands_take queue seat place is table me =
     record {
@@ -83,6 +88,7 @@ stands_take queue seat place is table me =
       no_slot = ap (λ (m : Seated). m.1) me;
     }
 
+-- a free one with number 0 sits down as the reader's seat
 pub sits_take : (queue : Queue) (seat : TakeSeat) (place : Place) → IsFreePlaceOf queue place 0 → seat.badge.table_id ≡ place.table_id → seat.badge.views ≡ place.me.0 ∷ [] → seat.taken ≡ place.me.0.taken → IsTakeSeatOf queue seat
 sits_take queue seat place free table views taken =
     let view : take_view seat ≡ place.me.0 = ap head_view views in

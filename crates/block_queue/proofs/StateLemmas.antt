@@ -15,6 +15,7 @@ use Rattle.block_queue.specs.declared.entry.Entry.TheVariants.{Taken, Stood, Ful
 pub begun_is : (s : PipeState) → s.offset ≡ 0 → begun_of s ≡ s.read_whole
 begun_is s whole = rw whole refl
 
+-- what is so in each state of a queue is so in that of a new one
 pub opening_fits : (limit first : ℕ) → first ≤ LAST_WRITE → IsQueueState limit first (opening_state limit)
 opening_fits limit first low = record { limit_is = refl; whole = refl; within = omega arith; room = omega arith; given = omega arith }
 

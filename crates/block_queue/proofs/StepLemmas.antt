@@ -36,11 +36,13 @@ module _ (key : Key) (t : QueueTable) (rule : IsOneQueue key t) (id : ℕ) (befo
       all_weaker (λ (share : Share Entry). (state_now key t rule id before at).putting share.number ≡ put_at key.first before.stage share.number) (λ share. (state_now key t rule id before at).putting share.number ≡ None)
       (λ share put. put ∙ no_put share.number) before.account.shares (own_view key t rule id before at).puts
 
+  -- nor is one under way by any of its numbers
   pub no_put_by : (number : ℕ) → has_number before.account.shares number ≡ true → (state_now key t rule id before at).putting number ≡ None
   no_put_by number has = number_has (λ n. (state_now key t rule id before at).putting n ≡ None) number before.account.shares no_puts has
 
   -- the seat goes on, and adds no entry
   module _ (stage : Stage) (still : is_moving stage ≡ false) (none : (number : ℕ) → put_at key.first stage number ≡ None) (number : ℕ) (has : has_number before.account.shares number ≡ true) where
+    -- a seat that comes to another stage, where it still puts and moves nothing, keeps the rule
     pub goes_on : FitsStage key.limit key.first (state_now key t rule id before at) before.account.shares (rule.ledger.owner 0) id stage → IsOneQueue key record { words = t.words; homes = t.homes; views = set t.views id (staged_view stage before) }
     goes_on fits =
         rule_stays key t rule id before at (staged_view stage before) rule.out t.words t.homes number has refl refl (λ other. refl) rule.words
@@ -53,9 +55,11 @@ module _ (key : Key) (t : QueueTable) (rule : IsOneQueue key t) (id : ℕ) (befo
 
   -- the seat adds an entry that changes nothing else
   module _ (entry : Entry) (has : has_number before.account.shares (seat_of entry) ≡ true) (right : IsRight key.first (state_now key t rule id before at) entry) (same : after_entry (state_now key t rule id before at) entry ≡ state_now key t rule id before at) where
+    -- what the seat knows behind such an entry; it is free
     abbrev pub refused_view : View
     refused_view = entered_view entry rule.ledger.history Free before.taken before
 
+    -- such an entry keeps the rule, with words and slots as they were
     pub refusal_keeps : IsOneQueue key record { words = t.words; homes = t.homes; views = set t.views id refused_view }
     refusal_keeps =
         rule_enters key t rule id before at entry refused_view rule.out t.words t.homes has right refl refl
@@ -70,5 +74,6 @@ module _ (key : Key) (t : QueueTable) (rule : IsOneQueue key t) (id : ℕ) (befo
           stage = tt;
         })
 
+    -- and the seat is told it
     pub refusal_tells : HasEntered key entry Free before refused_view
     refusal_tells = record { enters = entry_told key t rule id before at entry has right; stage_is = refl; taken_is = refl }

@@ -244,12 +244,15 @@ module _ (key : Key) (slots id : ℕ) (me : Seated) where
         },
       )
 
+  -- a load of the tail by the free reader keeps the rule, and tells the end, or that it may look on
   pub take_tail_keeps : has_number me.0.account.shares 0 ≡ true → me.0.stage ≡ Free → table.Allows (IsOneQueue key) slots id me 0 (λ n. n) (HasTakeTail key me)
   take_tail_keeps own stage t rule _ at _ = tail_result own t rule at stage
 
+  -- a load of the next place's sequence word keeps the rule, and tells if the write stands
   pub take_sequence_keeps : has_number me.0.account.shares 0 ≡ true → (found : Bool) → me.0.stage ≡ Looking found → table.Allows (IsOneQueue key) slots id me (sequence_of (place_of key.limit me.0.taken)) (λ n. n) (HasTakeSequence key me)
   take_sequence_keeps own found stage t rule _ at _ = sequence_result own t rule at found stage
 
+  -- a store of the sequence word brings the slot back empty: the place is free, a lap later
   pub free_keeps : has_number me.0.account.shares 0 ≡ true → (write : Write) → me.0.stage ≡ Moving write.writer write.bytes → me.1 ≡ (place_of key.limit me.0.taken, None) ∷ []
       → table.Allows (IsOneQueue key) slots id me (sequence_of (place_of key.limit me.0.taken)) (λ _. stored_word key.limit me.0.taken + 1) (λ _ after. HasFreed key write me after)
   free_keeps own write stage slots_are t rule _ at _ = free_result own t rule at write stage slots_are
@@ -292,5 +295,6 @@ module _ (key : Key) (slots id : ℕ) (me : Seated) where
       record { entered = record { enters = entry_told key t rule id me.0 at (entry.Hung me.0.account.number) own hung_right; stage_is = refl; taken_is = refl }; slots = refl },
     )
 
+  -- the mark set on the tail keeps the rule, and is a hangup by the seat
   pub hang_keeps : has_number me.0.account.shares me.0.account.number ≡ true → me.0.stage ≡ Free → table.Allows (IsOneQueue key) slots id me 0 (λ n. bit_or n MARK) (λ _ after. HasHung key me after)
   hang_keeps own stage t rule _ at _ = hang_result own stage t rule at

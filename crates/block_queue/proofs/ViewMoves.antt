@@ -21,12 +21,19 @@ use Rattle.block_queue.proofs.WordMoves.{slice_get_snoc, put_else, put_here, sam
 
 -- what an entry by this number does to the state, as far as other seats rely on it
 pub record Grows (first : ℕ) (s s' : QueueState) (number : ℕ) : Type 0 where
+  -- the puts by all other numbers are as they were
   pub puts : (n : ℕ) → n ≢ number → s'.putting n ≡ s.putting n
+  -- no accepted write is lost
   pub longer : length s.pipe.accepted ≤ length s'.pipe.accepted
+  -- each accepted write keeps its place
   pub kept : (c : ℕ) (write : Write) → slice_get s.pipe.accepted c ≡ Some write → slice_get s'.pipe.accepted c ≡ Some write
+  -- a write that was stored stays stored
   pub stored : (c : ℕ) (write : Write) → slice_get s.pipe.accepted c ≡ Some write → IsUnstored first s' write c → IsUnstored first s write c
+  -- the reader takes none back
   pub begun : s.pipe.read_whole ≤ s'.pipe.read_whole
+  -- the reader does not go past a write that is not stored
   pub passed : (c : ℕ) (write : Write) → slice_get s.pipe.accepted c ≡ Some write → IsUnstored first s write c → s.pipe.read_whole ≤ c → s'.pipe.read_whole ≤ c
+  -- by a number other than the reader's nothing is read
   pub reader : number ≢ 0 → s'.pipe.read_whole ≡ s.pipe.read_whole
 
 module _ (limit first : ℕ) (s s' : QueueState) (out out' : Bool) (ledger : Ledger Entry) (number seat : ℕ) (view : View) (grows : Grows first s s' number) (still : number ≢ 0 → out' ≡ out) (other : seat ≢ ledger.owner number) (owns : FitsLedger seat_of ledger seat view.account) (fits : FitsView limit first s out (ledger.owner 0) seat view) where
@@ -67,6 +74,7 @@ module _ (limit first : ℕ) (s s' : QueueState) (out out' : Bool) (ledger : Led
         stored = λ unstored. fits.stored (grows.stored s.pipe.read_whole write fits.write_is (unstored ∙ ap (λ (n : ℕ). Some (first + n + 1)) read));
       }
 
+  -- what another seat knows fits the state after the entry as it did before
   pub others_fit : FitsView limit first s' out' (ledger.owner 0) seat view
   others_fit =
       record {
@@ -80,6 +88,7 @@ module _ (limit first : ℕ) (s s' : QueueState) (out out' : Bool) (ledger : Led
 
 -- ---- each entry
 
+-- an entry that changes nothing takes nothing from other seats
 pub same_grows : (first : ℕ) (s : QueueState) (number : ℕ) → Grows first s s number
 same_grows first s number =
     record {
@@ -92,6 +101,7 @@ same_grows first s number =
       reader = λ other. refl;
     }
 
+-- nor does a hangup
 pub hung_grows : (first : ℕ) (s : QueueState) (seat : ℕ) → Grows first s (after_entry s (Hung seat)) seat
 hung_grows first s seat =
     record {
@@ -104,6 +114,7 @@ hung_grows first s seat =
       reader = λ other. refl;
     }
 
+-- nor does the entry that a writer's write stands
 pub stood_grows : (first : ℕ) (s : QueueState) (writer number : ℕ) → Grows first s (after_entry s (Stood writer number)) (writer + 1)
 stood_grows first s writer number =
     record {
@@ -118,6 +129,7 @@ stood_grows first s writer number =
       reader = λ other. refl;
     }
 
+-- nor does the entry that a writer's write was accepted
 pub taken_grows : (first : ℕ) (s : QueueState) (writer : ℕ) (block : List ℕ) → Grows first s (after_entry s (Taken writer block (first + length s.pipe.accepted + 1))) (writer + 1)
 taken_grows first s writer block =
     record {
@@ -142,6 +154,7 @@ taken_grows first s writer block =
     write : Write
     write = record { writer = writer; bytes = block }
 
+-- nor does the entry of a block that was read, where it was stored
 pub block_grows : (first : ℕ) (s : QueueState) (write : Write) (number : ℕ) → slice_get s.pipe.accepted s.pipe.read_whole ≡ Some write → (IsUnstored first s write s.pipe.read_whole → ⊥)
     → Grows first s (after_entry s (Block write.writer write.bytes number)) 0
 block_grows first s write number at stored =

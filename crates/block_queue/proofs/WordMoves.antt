@@ -23,15 +23,18 @@ use Rattle.block_queue.proofs.PlaceLemmas.{accepted_or_free, unstored_or_stored,
 
 -- ---- lists
 
+-- an element more behind a list leaves each place what it has
 pub slice_get_snoc : {A : Type 0} (xs : List A) (x : A) (i : ℕ) → i < length xs → slice_get (xs ++ x ∷ []) i ≡ slice_get xs i
 slice_get_snoc [] x i below = absurd (omega arith)
 slice_get_snoc (y ∷ xs) x zero below = refl
 slice_get_snoc (y ∷ xs) x (suc i) below = slice_get_snoc xs x i (omega arith)
 
+-- at the place of the old length stands the new element
 pub slice_get_last : {A : Type 0} (xs : List A) (x : A) → slice_get (xs ++ x ∷ []) (length xs) ≡ Some x
 slice_get_last [] x = refl
 slice_get_last (y ∷ xs) x = slice_get_last xs x
 
+-- two that are there and equal are of equal values
 pub same_some : {A : Type 0} (a b : A) → Some a ≡ Some b → a ≡ b
 same_some a b same = cc
 
@@ -39,11 +42,13 @@ same_some a b same = cc
 pub put_here : (seat : ℕ) (number : Option ℕ) (putting : ℕ → Option ℕ) → with_put seat number putting seat ≡ number
 put_here seat number putting = rw (eq-eqb seat seat refl) refl
 
+-- the puts of all other seats are as they were
 pub put_else : (seat other : ℕ) (number : Option ℕ) (putting : ℕ → Option ℕ) → other ≢ seat → with_put seat number putting other ≡ putting other
 put_else seat other number putting apart = rw (ne_eqb other seat apart) refl
 
 -- ---- the mark
 
+-- the mark on a word below it adds itself
 pub marked : (n : ℕ) → n < MARK → bit_or n MARK ≡ n + MARK
 marked n low =
     let bit : bit_and n MARK ≡ n / 2 ^ 63 % 2 * 2 ^ 63 = and_pow n 63 in
@@ -51,6 +56,7 @@ marked n low =
     let both : bit_or n MARK + bit_and n MARK ≡ n + MARK = or_add_and n MARK in
     omega arith
 
+-- a marked word is not changed by the mark
 pub marked_again : (n : ℕ) → n < MARK → bit_or (n + MARK) MARK ≡ n + MARK
 marked_again n low =
     let bit : bit_and (n + MARK) MARK ≡ (n + MARK) / 2 ^ 63 % 2 * 2 ^ 63 = and_pow (n + MARK) 63 in
@@ -204,6 +210,7 @@ module _ (limit first : ℕ) (s : QueueState) (out : Bool) (words : List ℕ) (h
         let less : c < last = let long = longer in omega arith in
         (sym (slice_get_snoc s.pipe.accepted write c less) ∙ at, less)
 
+    -- an accepted write makes the tail one more, and its place's slot goes to the writer
     pub put_accepts : AreWords limit first (after_entry s (Taken writer block (first + length s.pipe.accepted + 1))) out (set words 0 (length s.pipe.accepted + 1)) (set homes (place_of limit (length s.pipe.accepted)) none)
     put_accepts =
         record {
@@ -265,6 +272,7 @@ module _ (limit first : ℕ) (s : QueueState) (out : Bool) (words : List ℕ) (h
         (λ same. let none_is : None ≡ Some (first + c + 1) = sym (put_here (write.writer + 1) None s.putting) ∙ ap stood.putting (sym same) ∙ unstored in cc)
         (λ apart. (apart, sym (put_else (write.writer + 1) (other.writer + 1) None s.putting apart) ∙ unstored))
 
+    -- a write that stands has its block in its place's slot, and the sequence word says so
     pub put_stands : AreWords limit first (after_entry s (Stood write.writer (first + a + 1))) out (set words (sequence_of (place_of limit a)) (stored_word limit a)) (set homes (place_of limit a) (some (Some write)))
     put_stands =
         record {
@@ -298,6 +306,7 @@ module _ (limit first : ℕ) (s : QueueState) (out : Bool) (words : List ℕ) (h
 
   -- ---- a block is taken out
 
+  -- a block that was taken out leaves its slot empty, and the sequence word a lap later
   pub take_frees : (writer : ℕ) (block : List ℕ) (number : ℕ) → s.pipe.read_whole < length s.pipe.accepted
       → AreWords limit first (after_entry s (Block writer block number)) false (set words (sequence_of (place_of limit s.pipe.read_whole)) (stored_word limit s.pipe.read_whole + 1)) (set homes (place_of limit s.pipe.read_whole) (some None))
   take_frees writer block number some_write =
@@ -345,6 +354,7 @@ module _ (limit first : ℕ) (s : QueueState) (out : Bool) (words : List ℕ) (h
 
   -- ---- the queue is hung up
 
+  -- a hangup sets the mark on the tail, and changes no other word and no slot
   pub hang_marks : (seat : ℕ) → AreWords limit first (after_entry s (Hung seat)) out (set words 0 (bit_or (get_or words 0 0) MARK)) homes
   hang_marks seat =
       record {

@@ -481,6 +481,7 @@ refused_steps key why old new buffer' parts Stream same =
     no_step key (AddsRead Stream (Err why) buffer') old new parts same
     (record { added = []; bytes_are = refl; parts_are = refl })
 
+-- each read is steps of its end, and adds the parts whose bytes it got in its buffer
 pub reads_are_steps : ReadsAreSteps
 reads_are_steps key row old buffer (Ok answer) new buffer' room reads parts =
     by_mode_steps key row old buffer (Ok answer) new buffer' room row.mode reads parts
@@ -554,6 +555,7 @@ tried_end key row old buffer new buffer' room Stream tries parts =
     added_steps key (AddsTry Stream try.End buffer') old new parts [] (λ parts' adds. adds)
     (try_adds key row (calling old buffer) 0 stop.End (calling new buffer') parts room tries)
 
+-- and so is each read that does not wait
 pub tries_are_steps : TriesAreSteps
 tries_are_steps key row old buffer (try.Got count) new buffer' room tries parts =
     tried_got key row old buffer count new buffer' room row.mode tries parts
@@ -562,6 +564,7 @@ tries_are_steps key row old buffer try.NotYet new buffer' room tries parts =
 tries_are_steps key row old buffer try.End new buffer' room tries parts =
     tried_end key row old buffer new buffer' room row.mode tries parts
 
+-- a hangup by the reader is one step of its end, and adds no part
 pub hangups_are_steps : HangupsAreSteps
 hangups_are_steps key old new enters rest parts =
     record {
@@ -611,6 +614,8 @@ each_write pieces (write ∷ writes) all = (
       (all_past (IsAllOfWriter pieces) write.account.shares (shares_of writes) all),
 )
 
+-- what was read and what a finish gives are each write end's writes that were answered a number,
+-- in its order, each whole and once
 pub each_write_is_read_whole_and_once : EachWriteIsReadWholeAndOnce
 each_write_is_read_whole_and_once read parts writes held made gives =
     each_write (found_at read parts held) writes

@@ -78,17 +78,27 @@ rest_or_full room left = by (nat_le (length left.bytes) room) refl
 -- the parts that a read has read, as far as it has come
 pub record SoFar (key : Key) (mode : Mode) (first now : Lending) (took : Option ℕ) (count : ℕ)
     (further : Bool) : Type 0 where
+  -- how many parts it has read
   pub times : ℕ
+  -- the parts that it has read, and the end as they leave it
   pub filling : Filling
+  -- they were read one after the other, each into the room that the ones before it left
   pub taken : Rounds (TakesMore key (record { mode = mode; room = length first.buffer })) times
       (begins first.taker) filling
+  -- the end is as the last part left it
   pub taker_is : now.taker ≡ filling.taker
+  -- the number kept is that of the last write that was taken out
   pub took_is : took ≡ last_number first.taker.rest filling.parts
+  -- the bytes of the parts stand in front in the buffer, and behind them it is as it was
   pub filled : IsFilledBy (bytes_of filling.parts) first.buffer now.buffer count
+  -- the buffer is as long as it was
   pub size : length now.buffer ≡ length first.buffer
+  -- no more bytes were given than the buffer has room for
   pub fits : count ≤ length first.buffer
+  -- whether it goes on is told by its mode, the room and the parts
   pub further_is : further ≡
       goes_further (record { mode = mode; room = length first.buffer }) filling.parts
+  -- it has just begun; or it has a part, and if it goes on nothing is left of a write
   pub rest_none : (filling ≡ begins first.taker)
       ⊎ ((has_none filling.parts ≡ false) × (further ≡ true → now.taker.rest ≡ None))
 

@@ -27,9 +27,12 @@ read_side queue row hand =
 
 -- an end that was taken apart
 pub record IsApart (queue : Queue) (row : Row) (hand : ReadHand) (read : ReadSide) : Type 0 where
+  -- the read end is the one that this hand makes with its queue and its Rendez
   pub side : read ≡ read_side queue row hand
+  -- the hand holds a seat of this queue, and has what a hand of its reader has
   pub holds : IsReadHand queue row hand
 
+-- a read end whose hand is there is made of its queue, its Rendez and that hand
 pub taken_apart : (queue : Queue) (row : Row) (hands : Option ReadHand) (hand : ReadHand)
     (read : ReadSide)
     → record { queue = queue; row = row; account = account_in hands; rest = rest_in hands } ≡ read
@@ -58,12 +61,15 @@ module _ (queue : Queue) (row : Row) (hand : ReadHand) (read : ReadSide)
   all_of_hand : AreAllEnds (read_side queue row hand) writes
   all_of_hand = subst (λ (r : ReadSide). AreAllEnds r writes) apart.side all
 
+  -- each seat given back is what a write end of the read end's direction holds
   pub their_hands : AllByRecursion (IsHandOf queue row) seats
   their_hands = seats_back (read_side queue row hand) writes seats all_of_hand.one are
 
+  -- each seat given back is a writer's seat of this queue
   pub their_seats : AllByRecursion (IsPutSeatOf queue) seats
   their_seats = hands_put queue row seats their_hands
 
+  -- these are all seats of the queue: the reader's and every writer's, in order
   pub all_seats : AreAllSeats hand.seat seats
   all_seats =
       record {
@@ -71,12 +77,14 @@ module _ (queue : Queue) (row : Row) (hand : ReadHand) (read : ReadSide)
         none = hands_none queue row seats their_hands;
       }
 
+  -- the write ends that are made of these seats again are those that were given
   pub their_sides : (ends : List WriteSide) (again : List PutSeat) → again ≡ seats
       → ends ≡ map (side_of queue row) again → ends ≡ writes
   their_sides ends again same is =
       is ∙ (ap (map (side_of queue row)) same
       ∙ sides_back (read_side queue row hand) writes seats all_of_hand.one are)
 
+  -- what is gathered of all seats, behind the rest of the begun write, is what a finish gives
   pub gives_held : (gathered : Gathered) (rest : List ℕ)
       → Gathers (key_of queue) hand.seat seats gathered → rest ≡ rest_bytes read.rest
       → GivesHeld read writes
@@ -101,6 +109,7 @@ module _ (queue : Queue) (row : Row) (hand : ReadHand) (read : ReadSide)
       held : Held
       held = record { rest = rest; writes = gathered.blocks; hung = gathered.hung }
 
+-- there are as many seats as write ends that held them
 pub as_many : (writes : List WriteSide) (seats : List PutSeat) → AreSeatsOf writes seats
     → length seats ≡ length writes
 as_many [] [] are = refl

@@ -53,8 +53,11 @@ read_within key (Hung seat ∷ past) legal = read_within key past legal.1
 
 -- what others did since: they read nothing, and accepted writes came behind the others
 pub record OnlyAccepts (before after : PipeState) : Type 0 where
+  -- no more writes were read than before
   pub read : after.read_whole ≡ before.read_whole
+  -- the writes that were accepted since
   pub more : List Write
+  -- they stand behind all that were accepted before
   pub accepted : after.accepted ≡ before.accepted ++ more
 
 -- of entries of which none is by the number, none of the older ones is
@@ -246,6 +249,7 @@ all_accepted key reading writers held right finishes = by finishes.seen.since fi
         ∙ whole_from-cut (left_state key seen).read_whole (left_state key finishes.history).accepted
         within_all))
 
+-- what was read and is held is for each writer the bytes of what its entries say was accepted
 pub each_share_is_read_whole_and_once : EachShareIsReadWholeAndOnce
 each_share_is_read_whole_and_once key reading writers held right finishes =
     all writers finishes.shares
@@ -291,5 +295,6 @@ none_after key (NotYet number ∷ past) legal = none_after key past legal.1
 none_after key (End ∷ past) legal = none_after key past legal.1
 none_after key (Hung seat ∷ past) legal = none_after key past legal.1
 
+-- in no legal history of a direction a write was accepted after a hangup
 pub none_is_accepted_after_hangup : NoneIsAcceptedAfterHangup
 none_is_accepted_after_hangup key history legal = none_after key history legal.legal

@@ -4,12 +4,14 @@ use Rattle.histories.specs.Account.{numbers_from}
 use Rattle.pipe_dev.specs.declared.row.Row.{Row}
 use Rattle.pipe_dev.specs.Ends.{ReadSide, WriteSide, AreAllEnds, IsSameReadEnd, IsSameWriteEnd}
 
+-- where no write end stands before this one, it and the read end are all ends
 pub only_one : (read : ReadSide) (writes front : List WriteSide) (write : WriteSide)
     → AreAllEnds read writes → writes ≡ front ++ write ∷ [] → length front ≡ 0
     → AreAllEnds read (write ∷ [])
 only_one read writes [] write all is none = subst (AreAllEnds read) is all
 only_one read writes (first ∷ front) write all is none = absurd (omega (arith, none))
 
+-- a call of the read end that stays where it is leaves the two all ends
 pub still_read : (old new : ReadSide) (write : WriteSide)
     → AreAllEnds old (write ∷ []) → IsSameReadEnd old new → AreAllEnds new (write ∷ [])
 still_read old new write all same =
@@ -24,6 +26,7 @@ still_read old new write all same =
       order = all.order ∙ ap (λ (row : Row). numbers_from 0 row.writers) (sym same.row);
     }
 
+-- and so does a call of the write end
 pub still_written : (read : ReadSide) (old new : WriteSide)
     → AreAllEnds read (old ∷ []) → IsSameWriteEnd old new → AreAllEnds read (new ∷ [])
 still_written read old new all same =
@@ -35,6 +38,7 @@ still_written read old new all same =
       order = ap (λ (writer : ℕ). writer ∷ []) same.writer ∙ all.order;
     }
 
+-- and so do calls of both
 pub still_both : (read read' : ReadSide) (write write' : WriteSide)
     → AreAllEnds read (write ∷ []) → IsSameReadEnd read read' → IsSameWriteEnd write write'
     → AreAllEnds read' (write' ∷ [])

@@ -58,9 +58,11 @@ enough_fuel (suc fuel) (suc more) bytes low low' =
         ap (λ blocks. take ATOMIC_SIZE bytes ∷ blocks)
         (rest (omega (arith, low, long, dropped)) (omega (arith, low', long, dropped)))
 
+-- bytes of no more than the atomic size are one write
 pub last_write : (bytes : List ℕ) → length bytes ≤ ATOMIC_SIZE → atomic_writes bytes ≡ bytes ∷ []
 last_write bytes fits = one_write (length bytes) bytes fits
 
+-- of more bytes the first write has the atomic size, and the others are those of the bytes behind
 pub next_atomic : (bytes : List ℕ) → ATOMIC_SIZE < length bytes
     → atomic_writes bytes ≡ take ATOMIC_SIZE bytes ∷ atomic_writes (drop ATOMIC_SIZE bytes)
 next_atomic bytes long = by (length bytes) refl
@@ -105,12 +107,14 @@ cut_next bytes left front back done long front_is back_is cut =
     ∙ (ap (λ (x : List ℕ). reverse done ++ x ∷ atomic_writes (drop ATOMIC_SIZE left)) (sym front_is)
     ∙ ap (λ (x : List ℕ). reverse done ++ front ∷ atomic_writes x) (sym back_is)))
 
+-- where what is left fits in one write, it is the last one behind those that are done
 pub cut_last : (bytes left : List ℕ) (done : List (List ℕ)) → length left ≤ ATOMIC_SIZE
     → atomic_writes bytes ≡ reverse done ++ atomic_writes left
     → atomic_writes bytes ≡ reverse done ++ left ∷ []
 cut_last bytes left done fits cut = cut
     ∙ ap (λ blocks. reverse done ++ blocks) (last_write left fits)
 
+-- and with it the writes that are done are all of the long write, in order
 pub all_done : (bytes left : List ℕ) (done : List (List ℕ)) → length left ≤ ATOMIC_SIZE
     → atomic_writes bytes ≡ reverse done ++ atomic_writes left
     → reverse (left ∷ done) ≡ atomic_writes bytes

@@ -36,6 +36,7 @@ is_empty-append : (xs ys : List ℕ) → is_empty xs ≡ false → is_empty (xs 
 is_empty-append [] ys some = cc
 is_empty-append (x ∷ xs) ys some = refl
 
+-- of any list but the empty one the test for emptiness is false
 pub is_empty_not : (xs : List ℕ) → xs ≢ [] → is_empty xs ≡ false
 is_empty_not [] some = absurd (some refl)
 is_empty_not (x ∷ xs) some = refl
@@ -91,9 +92,13 @@ begins part piece past differ =
 
 -- two parts of one write, the second behind the first
 pub record AreOfOneWrite (first second : Part) : Type 0 where
+  -- they are of the same place
   pub place : first.place ≡ second.place
+  -- they are of the same writer
   pub writer : first.writer ≡ second.writer
+  -- the first has a byte
   pub first_some : is_empty first.bytes ≡ false
+  -- the second has a byte
   pub second_some : is_empty second.bytes ≡ false
 
 one_goes_on : (first second : Part) → AreOfOneWrite first second → goes_on first second ≡ true
@@ -162,6 +167,7 @@ all_last : (P : Part → Type 0) (xs : List Part) (x : Part) → AllByRecursion 
 all_last P [] x all = all.0
 all_last P (y ∷ xs) x all = all_last P xs x all.1
 
+-- what stands first in a list stands last in its reverse
 pub reverse-cons : (x : Part) (xs : List Part) → reverse (x ∷ xs) ≡ reverse xs ++ x ∷ []
 reverse-cons x xs = reverse-append (x ∷ []) xs
 

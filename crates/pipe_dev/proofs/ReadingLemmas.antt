@@ -319,6 +319,7 @@ all_steps key (suc times) reading first steps =
     one_step key steps.between reading first
     (all_steps key times steps.between first steps.rounds) steps.last
 
+-- what calls make of the read end of a new pipe has read just what it took out
 pub what_is_read_is_right : WhatIsReadIsRight
 what_is_read_is_right key reading made =
     all_steps key made.times reading made.first made.steps

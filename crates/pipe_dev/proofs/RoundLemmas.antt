@@ -56,6 +56,7 @@ entered_right key entry old new enters =
     (subst (λ (account : Account Entry). KnowsQueue key account) enters.adds.new_is
     enters.knows).history.legal.0
 
+-- what was seen before a new entry is a legal history
 pub entered_legal : (key : Key) (entry : Entry) (old new : Account Entry)
     → (enters : Enters key entry old new)
     → IsLegal (queue_meaning key.first) (opening_state key.limit) enters.adds.past
@@ -75,6 +76,7 @@ begun_low key history first legal =
     let given = fits.given in
     omega (arith, begun, within, given)
 
+-- the number that a reader is told where there is no write yet is below the level of a hangup
 pub not_yet_low : (key : Key) (number : ℕ) (old new : Account Entry) → key.first ≡ 0
     → Enters key (entry.NotYet number) old new → number < TOP_LEVEL
 not_yet_low key number old new first enters =
@@ -82,6 +84,7 @@ not_yet_low key number old new first enters =
     (sym (entered_right key (entry.NotYet number) old new enters).may.number_is)
     (begun_low key enters.adds.past first (entered_legal key (entry.NotYet number) old new enters))
 
+-- the number that a writer is told where the queue is full is below the level of a hangup
 pub full_low : (key : Key) (writer : ℕ) (block : List ℕ) (number : ℕ) (old new : Account Entry)
     → key.first ≡ 0 → Enters key (entry.Full writer block number) old new → number < TOP_LEVEL
 full_low key writer block number old new first enters =
@@ -104,6 +107,7 @@ has_hang key (NotYet number ∷ past) hung = has_hang key past hung
 has_hang key (End ∷ past) hung = has_hang key past hung
 has_hang key (Hung seat ∷ past) hung = tt
 
+-- a writer that is answered Hungup has seen who hung the direction up
 pub hungup_knew : (key : Key) (writer : ℕ) (block : List ℕ) (old new : Account Entry)
     → Enters key (entry.Hungup writer block) old new → HasHang new.seen
 hungup_knew key writer block old new enters =

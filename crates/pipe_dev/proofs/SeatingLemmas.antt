@@ -32,6 +32,7 @@ numbers_below first zero bound low = tt
 numbers_below first (suc count) bound low =
     (omega (arith, low), numbers_below (first + 1) count bound (omega (arith, low)))
 
+-- what the reader's account knows at the opening is right of its queue
 pub reader_knows : (key : Key) → KnowsQueue key (reader_account key.writers)
 reader_knows key =
     record {
@@ -42,6 +43,7 @@ reader_knows key =
       gave = numbers_below 1 key.writers (key.writers + 1) (omega arith);
     }
 
+-- and so is what the new account of one of its writers knows
 pub writer_knows : (key : Key) (writer : ℕ) → writer < key.writers
     → KnowsQueue key (new_account (writer + 1))
 writer_knows key writer low =
@@ -84,6 +86,7 @@ all_to_give queue row first (seat ∷ seats) row_is each = (
       (each (suc place) other there)),
 )
 
+-- new seats, one for each writer from this one on, are in the writers' order
 pub writers_in_order : (queue : Queue) (first : ℕ) (seats : List PutSeat)
     → ((place : ℕ) (seat : PutSeat) → slice_get seats place ≡ Some seat
     → IsNewPutSeat queue (first + place) seat)
@@ -99,6 +102,7 @@ writers_in_order queue first (seat ∷ seats) each =
 
 -- ---- the ends of a new direction
 
+-- seats that are to be given make new write ends of the direction
 pub new_writes : (queue : Queue) (row : Row) (seats : List PutSeat)
     → AllByRecursion (IsSeatToGive queue row) seats
     → AllByRecursion (IsNewWriteEnd queue row) (map (side_of queue row) seats)
@@ -108,11 +112,13 @@ new_writes queue row (seat ∷ seats) all = (
   new_writes queue row seats all.1,
 )
 
+-- write ends made with the queue and the Rendez of a read end are of one direction with it
 pub new_one : (read : ReadSide) (seats : List PutSeat)
     → AllByRecursion (AreOfOne read) (map (side_of read.queue read.row) seats)
 new_one read [] = tt
 new_one read (seat ∷ seats) = (record { queue = refl; row = refl }, new_one read seats)
 
+-- write ends made of seats are in the order of the seats' writers
 pub new_order : (queue : Queue) (row : Row) (seats : List PutSeat)
     → map (λ write. write.writer) (map (side_of queue row) seats) ≡ map (λ seat. seat.writer) seats
 new_order queue row [] = refl
@@ -121,6 +127,7 @@ new_order queue row (seat ∷ seats) =
 
 -- ---- all ends of a direction that are given back
 
+-- the seats of write ends of one direction with a read end are what its write ends hold
 pub seats_back : (read : ReadSide) (writes : List WriteSide) (seats : List PutSeat)
     → AllByRecursion (AreOfOne read) writes → AreSeatsOf writes seats
     → AllByRecursion (IsHandOf read.queue read.row) seats
@@ -135,11 +142,13 @@ seats_back read (write ∷ writes) (seat ∷ seats) one are = (
   seats_back read writes seats one.1 are.1,
 )
 
+-- a seat that a write end holds is a writer's seat of its queue
 pub hands_put : (queue : Queue) (row : Row) (seats : List PutSeat)
     → AllByRecursion (IsHandOf queue row) seats → AllByRecursion (IsPutSeatOf queue) seats
 hands_put queue row =
     all_weaker (IsHandOf queue row) (IsPutSeatOf queue) (λ seat hand. hand.seat_is)
 
+-- a seat that a write end holds has no numbers that were given away
 pub hands_none : (queue : Queue) (row : Row) (seats : List PutSeat)
     → AllByRecursion (IsHandOf queue row) seats
     → AllByRecursion (λ seat. (put_account seat).gave ≡ []) seats
@@ -183,6 +192,7 @@ numbers_are (write ∷ writes) (seat ∷ seats) are =
     ap (λ (n : ℕ). (n + 1) ∷ numbers_of seats) are.0.hand.writer_is
     ∙ ap (λ (ns : List ℕ). (write.writer + 1) ∷ ns) (numbers_are writes seats are.1)
 
+-- the seats of all write ends, in order, have the numbers from 1 to the count of writers
 pub numbers_back : (writers : ℕ) (writes : List WriteSide) (seats : List PutSeat)
     → map (λ write. write.writer) writes ≡ numbers_from 0 writers → AreSeatsOf writes seats
     → numbers_from 1 writers ≡ numbers_of seats

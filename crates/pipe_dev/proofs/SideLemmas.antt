@@ -43,7 +43,9 @@ use Rattle.pipe_dev.proofs.WrittenLemmas.{writes_add_what_was_accepted, hangups_
 
 -- some steps of calls, one after the other
 pub record Steps (key : Key) (old new : Reading) : Type 0 where
+  -- how many steps they are
   pub times : ℕ
+  -- each is a step of a call, and together they lead from the old to the new
   pub steps : Rounds (ReadStep key) times old new
 
 -- steps behind steps
@@ -92,6 +94,7 @@ steps_add Adds old new parts parts' times made same adds rounds =
           (record { first = made.first; times = all.times; steps = all.steps });
     }
 
+-- a read adds to what its end has read just what it answers, and the end stays where it is
 pub reads_add : ReadsAddToTheirEnd
 reads_add old new before after buffer answer buffer' room reads same parts made =
     let call =
@@ -101,6 +104,7 @@ reads_add old new before after buffer answer buffer' room reads same parts made 
     call.added
     call.steps
 
+-- and so does a read that does not wait
 pub tries_add : TriesAddToTheirEnd
 tries_add old new before after buffer answer buffer' room tries same parts made =
     let call =
@@ -110,6 +114,7 @@ tries_add old new before after buffer answer buffer' room tries same parts made 
     call.added
     call.steps
 
+-- a hangup by the reader adds nothing to what its end has read
 pub read_ends_hang_up : ReadEndsHangUp
 read_ends_hang_up old new enters rest same parts made =
     steps_add AddsNone old new parts parts 1 made same refl
@@ -122,6 +127,7 @@ read_ends_hang_up old new enters rest same parts made =
 
 -- ---- a write end
 
+-- a write adds its bytes to what its end has written exactly where it answers a number
 pub writes_add : WritesAddToTheirEnd
 writes_add old new before after block answer writes same =
     record {
@@ -133,6 +139,7 @@ writes_add old new before after block answer writes same =
           (writer_of old before) answer (writer_of new after) writes blocks written);
     }
 
+-- a hangup by a writer adds nothing to what its end has written
 pub write_ends_hang_up : WriteEndsHangUp
 write_ends_hang_up old new enters same =
     record {
@@ -147,6 +154,7 @@ write_ends_hang_up old new enters same =
 
 -- ---- all ends of a direction
 
+-- the ends of a new direction have read and written nothing
 pub new_ends_are_unused : NewEndsAreUnused
 new_ends_are_unused queue lane read writes is_lane new =
     record {
@@ -201,6 +209,7 @@ same_order (old ∷ olds) (new ∷ news) sames =
     ap (λ (w : ℕ). w ∷ map (λ (write : WriteSide). write.writer) news) sames.0.writer
     ∙ ap (λ (ws : List ℕ). old.writer ∷ ws) (same_order olds news sames.1)
 
+-- ends that were all ends of a direction are so after any calls
 pub calls_keep_all_ends : CallsKeepAllEnds
 calls_keep_all_ends read read' writes writes' same sames all =
     record {
@@ -229,6 +238,7 @@ accepted_known key (NotYet number ∷ past) within = accepted_known key past wit
 accepted_known key (End ∷ past) within = accepted_known key past within.1
 accepted_known key (Hung seat ∷ past) within = accepted_known key past within.1
 
+-- a finish of all ends finds each accepted write, whole and once and in the order of acceptance
 pub finishes_find_accepted : FinishesFindAccepted
 finishes_find_accepted read parts writes held made gives =
     let key = key_of read.queue in

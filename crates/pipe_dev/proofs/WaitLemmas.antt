@@ -141,11 +141,15 @@ releases sizes s shows after rendez level gone returned =
     (subst (λ (trace : List Entry). Has rendez level trace) (sym gone.since.new_is)
     (has_since gone.since.since after.trace rendez level returned))
 
+-- once a write has returned, whoever fell asleep on the reader's Rendez below its number is not
+-- posted there
 pub writes_wake_the_reader : WritesWakeTheReader
 writes_wake_the_reader sizes s shows key row writer block number old new accepts gone =
     releases sizes s shows new.process (reader_rendez row) number gone
     (has_woken old.process (reader_rendez row) number new.process accepts.woken)
 
+-- once a read that took a write out has returned, whoever fell asleep on a writer's Rendez below
+-- the number of that write is not posted there
 pub reads_wake_each_writer : ReadsWakeEachWriter
 reads_wake_each_writer sizes s shows key row old new left takes gone writer low =
     releases sizes s shows new.process (writer_rendez row writer) (left.place + 1) gone
@@ -159,6 +163,7 @@ tries_wake_each_writer sizes s shows key row old came new tries gone number is w
     (subst (λ (n : Option ℕ). WakesWith row n old.reader.process new.reader.process) is
     tries.woken) writer low)
 
+-- once a hangup has returned, whoever fell asleep on a Rendez of the direction is not posted there
 pub hangups_wake_all : HangupsWakeAll
 hangups_wake_all sizes s shows row before after wakes gone =
     record {

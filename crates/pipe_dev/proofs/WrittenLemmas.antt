@@ -127,6 +127,7 @@ untouched old new writer blocks same written =
     (subst (λ (bs : List (List ℕ)). HasWritten old.account writer bs) (sym (append-nil blocks))
     written)
 
+-- the account of a new write end knows of no accepted write
 pub new_ends_have_written_nothing : NewEndsHaveWrittenNothing
 new_ends_have_written_nothing writer =
     record { own = itself (eqb_tells (writer + 1) (writer + 1)); are = (λ _. refl, tt) }
@@ -137,6 +138,7 @@ new_ends_have_written_nothing writer =
     itself (inl same) = ap (λ b. b || false) same.0
     itself (inr differ) = absurd (differ.1 refl)
 
+-- a write's bytes come behind what was written exactly where it is answered a number
 pub writes_add_what_was_accepted : WritesAddWhatWasAccepted
 writes_add_what_was_accepted key row writer block old (Ok number) new wrote blocks written =
     asked key row writer block old (Ok number) new blocks wrote written
@@ -150,6 +152,7 @@ writes_add_what_was_accepted key row writer block old (Err fault.Memory) new wro
 writes_add_what_was_accepted key row writer block old (Err why) new wrote blocks written =
     asked key row writer block old (Err why) new blocks wrote written
 
+-- after a hangup by a writer it has written what it had written before
 pub hangups_write_nothing : HangupsWriteNothing
 hangups_write_nothing key writer old new enters blocks written =
     entered_none key (Hung (writer + 1)) old new writer blocks enters refl (λ mine. refl) written

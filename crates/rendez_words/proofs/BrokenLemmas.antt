@@ -119,6 +119,7 @@ no_stranger_is_posted shows =
     let found = said (with_procs 1) stranger_is_posted shows (PostedOf 0) (omega arith) in
     omega (arith, found, sizes.sound.posted 0, sizes.procs_stay)
 
+-- and no seat is one of a process that the world has not
 pub no_stranger_has_a_seat : ¬ (ShowsCore (with_procs 1) stranger_has_a_seat)
 no_stranger_has_a_seat shows = let seated = shows.each_seat 0 (known 1 []) refl in
     omega (arith, seated.pid_in)

@@ -117,6 +117,7 @@ check_keeps sizes slots id sleeper raiser event word check step s rule _ at _ = 
           differ = seated.differ;
         }
 
+-- a check by a joined seat, which is not kept in its steps, keeps the rule and changes no word
 pub check_allowed : (sizes key : Sizes) (slots id : ℕ) (me : Seated) (event : Event) (word : ℕ)
     → sizes ≡ key → IsJoined me → IsUnkept event
     → IsStep sizes event (sleeper_in me.0) word (λ n. n)

@@ -96,6 +96,7 @@ lowest bit rest word is =
     tells true = refl
     tells false = refl
 
+-- half of the word has the other bits
 pub others : (bit : Bool) (rest : List Bool) (word : ℕ) → word ≡ number_of_bits (bit ∷ rest)
     → word / 2 ≡ number_of_bits rest
 others bit rest word is =

@@ -81,6 +81,7 @@ post_does process rendez threshold low (Number n) fits =
     by_test false is false = refl
 post_does process rendez threshold low word fits = absurd fits
 
+-- a post by an idle process is an exchange of nobody for its pid on the posted word
 pub post_step : (words : Words) (process : Process) (pid : Pid) (rendez : RendezId)
     (threshold word : ℕ) → pid ≡ pid_in process
     → IsProcessOf words process → phase_in process ≡ phase.Idle → rendez.0 < rendez_of words
@@ -110,6 +111,7 @@ test_does process rendez threshold (Number n) fits =
     by_test false = refl
 test_does process rendez threshold word fits = absurd fits
 
+-- a test by a posted process is a load of the level of its Rendez
 pub test_step : (words : Words) (process : Process) (pid : Pid) (rendez : RendezId)
     (threshold word : ℕ) → pid ≡ pid_in process
     → IsProcessOf words process → phase_in process ≡ phase.Posted rendez threshold
@@ -154,6 +156,7 @@ look_cell process true (phase.Asleep rendez threshold) looks = refl
 look_cell process false phase.Awaiting looks = refl
 look_cell process notes_end stage looks = absurd looks
 
+-- a look by a process that waits is a load of its own flags
 pub look_step : (words : Words) (process : Process) (pid : Pid) (notes_end : Bool) (word : ℕ)
     → pid ≡ pid_in process
     → IsProcessOf words process → IsLooking notes_end (phase_in process)
@@ -182,6 +185,7 @@ withdraw_does process rendez (Number n) fits = by_test (n == posted_as process.p
     by_test false = refl
 withdraw_does process rendez word fits = absurd fits
 
+-- a withdrawal by a leaving process is an exchange of its pid for nobody on the posted word
 pub withdraw_step : (words : Words) (process : Process) (pid : Pid) (rendez : RendezId) (word : ℕ)
     → pid ≡ pid_in process
     → IsProcessOf words process → phase_in process ≡ phase.Leaving rendez
@@ -225,6 +229,7 @@ clear_cell process phase.Out ends = refl
 clear_cell process phase.Woken ends = refl
 clear_cell process stage ends = absurd ends
 
+-- a clear by a process whose sleep ends is a swap of its own flags for none
 pub clear_step : (words : Words) (process : Process) (pid : Pid) (word : ℕ) → pid ≡ pid_in process
     → IsProcessOf words process → IsEnding (phase_in process)
     → word ≡ place (sizes_of words) (FlagsOf pid.0)
@@ -246,6 +251,7 @@ raise_does : (process : Process) (rendez : RendezId) (level : ℕ) (found : Word
 raise_does process rendez level (Number n) fits = refl
 raise_does process rendez level word fits = absurd fits
 
+-- a raise by an idle process makes the level of the Rendez the greater of the two
 pub raise_step : (words : Words) (process : Process) (pid : Pid) (rendez : RendezId)
     (level word : ℕ) → pid ≡ pid_in process
     → IsProcessOf words process → phase_in process ≡ phase.Idle → rendez.0 < rendez_of words
@@ -271,6 +277,7 @@ take_does process rendez level (Number n) fits = by_test (n == nobody)
     by_test false = refl
 take_does process rendez level word fits = absurd fits
 
+-- a take by a process that owes one is a swap of the posted word for nobody
 pub take_step : (words : Words) (process : Process) (pid : Pid) (rendez : RendezId) (level word : ℕ)
     → pid ≡ pid_in process
     → IsProcessOf words process → phase_in process ≡ phase.Owing rendez level
@@ -293,6 +300,7 @@ mark_does : (process : Process) (sleeper : Pid) (rendez : RendezId) (level : ℕ
 mark_does process sleeper rendez level (Flags flags) fits = or_mark flags
 mark_does process sleeper rendez level word fits = absurd fits
 
+-- a mark by a process that holds a sleeper sets the mark among that sleeper's flags
 pub mark_step : (words : Words) (process : Process) (pid : Pid) (sleeper : Pid) (rendez : RendezId)
     (level word bits : ℕ) → pid ≡ pid_in process
     → IsProcessOf words process → phase_in process ≡ phase.Holding sleeper rendez level
@@ -317,6 +325,7 @@ note_does : (pid : Pid) (new : NoteSet) (stage : Phase) (found : Word)
 note_does pid new stage (Flags flags) fits = or_notes flags new
 note_does pid new stage word fits = absurd fits
 
+-- a note sets its bits, and not the mark, among the flags of whom it is posted to
 pub note_step : (words : Words) (process : Process) (pid : Pid) (new : NoteSet) (word bits : ℕ)
     → pid.0 < procs_of words
     → word ≡ place (sizes_of words) (FlagsOf pid.0)
@@ -340,6 +349,7 @@ drain_does : (process : Process) (found : Word) → IsWordOf (FlagsOf process.pi
 drain_does process (Flags flags) fits = refl
 drain_does process word fits = absurd fits
 
+-- a drain by an idle process is a swap of its own flags for none
 pub drain_step : (words : Words) (process : Process) (pid : Pid) (word : ℕ) → pid ≡ pid_in process
     → IsProcessOf words process → phase_in process ≡ phase.Idle
     → word ≡ place (sizes_of words) (FlagsOf pid.0)
@@ -365,6 +375,7 @@ check_does process rendez threshold (Number n) fits = by_test (n == posted_as pr
     by_test false = refl
 check_does process rendez threshold word fits = absurd fits
 
+-- a check by a process that is asleep is a load of the posted word of its Rendez
 pub check_step : (words : Words) (process : Process) (pid : Pid) (rendez : RendezId)
     (threshold word : ℕ) → pid ≡ pid_in process
     → IsProcessOf words process → phase_in process ≡ phase.Asleep rendez threshold

@@ -11,6 +11,7 @@ use Rattle.sleep_core.proofs.WhereaboutsLemmas.{words_agree_in_runs}
 use Rattle.rendez_words.specs.Laws.{ThreadsKeepPromises, EachSleeperHasAPlace, SeatsKnowPhases}
 use Rattle.rendez_words.specs.Laws.{PidsToComeAreUnused, ReceiptsRelease}
 
+-- in what running threads did no wakeup is lost, and each sleep that ended had a cause
 pub threads_keep : ThreadsKeepPromises
 threads_keep sizes s shows =
     record {
@@ -18,6 +19,7 @@ threads_keep sizes s shows =
       caused = sleeps_end_for_a_cause sizes.procs sizes.rendez shows.run shows.legal;
     }
 
+-- each process whose sleep is not over is in just one place, and no other process in any
 pub sleepers_have_places : EachSleeperHasAPlace
 sleepers_have_places sizes s shows =
     record {
@@ -26,15 +28,18 @@ sleepers_have_places sizes s shows =
       words = words_agree_in_runs sizes.procs sizes.rendez shows.run shows.legal;
     }
 
+-- the steps that a seat has made give the phase of its process
 pub seats_know : SeatsKnowPhases
 seats_know sizes s shows seat part at =
     let seated = shows.each_seat seat _ at in
     sym (phase_by-kept_own sizes.procs sizes.rendez shows.run shows.legal part.pid)
     ∙ ap phase_by (sym seated.trace_is)
 
+-- a pid that was not given to a process has made no step
 pub pids_unused : PidsToComeAreUnused
 pids_unused sizes s shows seat next pid at least = (shows.each_seat seat _ at pid least).none
 
+-- a receipt in the steps of a seat releases every sleeper below its level
 pub receipts_release : ReceiptsRelease
 receipts_release sizes s shows seat part rendez level at receipt =
     let seated = shows.each_seat seat _ at in

@@ -27,6 +27,7 @@ opening_words sizes =
     (replicate-append-replicate sizes.rendez sizes.procs 0)
     ∙ replicate-append-replicate sizes.rendez (sizes.rendez + sizes.procs) 0
 
+-- words of zero and a seat with all pids to give keep the rule
 pub opening_keeps : (sizes : Sizes) (words : List ℕ) → words ≡ replicate (word_count sizes) 0
     → ShowsCore sizes (table.opening words [] (first_view sizes))
 opening_keeps sizes words are =

@@ -25,9 +25,13 @@ use Rattle.rendez_words.specs.Rule.{words_of, place}
 
 -- the world has these sizes
 pub record HasSizes (sizes : Sizes) (s : State) : Type 0 where
+  -- each Rendez has a posted word
   pub posted : length s.posted ≡ sizes.rendez
+  -- each Rendez has a level
   pub levels : length s.levels ≡ sizes.rendez
+  -- each process has flags
   pub flags : length s.flags ≡ sizes.procs
+  -- each process has a phase
   pub phases : length s.phases ≡ sizes.procs
 
 -- what a cell holds is of the cell's kind

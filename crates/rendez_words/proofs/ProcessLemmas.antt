@@ -82,11 +82,13 @@ phase_there words process is =
     (phase_of (world_of (procs_of words) (rendez_of words) run.run) process.pid)) sound.procs_stay
     (sound.sound.phases process.pid)))
 
+-- a process of these words names in its phase only processes and Rendez that they have
 pub in_phase : (words : Words) (process : Process) (stage : Phase) → IsProcessOf words process
     → phase_in process ≡ stage → IsPhaseIn (procs_of words) (rendez_of words) stage
 in_phase words process stage is stage_is = subst
     (IsPhaseIn (procs_of words) (rendez_of words)) stage_is (phase_there words process is)
 
+-- a process that is equal to one of these words is one of them
 pub same_process : (words : Words) (a b : Process) → a ≡ b → IsProcessOf words b
     → IsProcessOf words a
 same_process words a b same is = subst (IsProcessOf words) (sym same) is

@@ -73,6 +73,7 @@ told_nobody pid rendez level stage word stage_is fits empty =
         (sym empty)
     found word fits empty = absurd fits
 
+-- a take that found nobody is the receipt of the wakeup that was owed
 pub take_receipt : (words : Words) (before after : Process) (pid : Pid) (rendez : RendezId)
     (level found : ℕ) → pid ≡ pid_in before → IsProcessOf words before
     → phase_in before ≡ phase.Owing rendez level
@@ -92,6 +93,7 @@ told_marked : (pid sleeper : Pid) (rendez : RendezId) (level : ℕ) (stage : Pha
 told_marked pid sleeper rendez level stage word stage_is =
     ap (λ at. reply (Mark pid) at word) stage_is
 
+-- a mark of the sleeper that was held is the receipt of the wakeup
 pub mark_receipt : (words : Words) (before after : Process) (pid sleeper : Pid) (rendez : RendezId)
     (level found : ℕ) → pid ≡ pid_in before → IsProcessOf words before
     → phase_in before ≡ phase.Holding sleeper rendez level

@@ -36,6 +36,7 @@ found_posted : (s : State) (pid : Pid) (rendez : RendezId) (threshold : ℕ) (st
 found_posted s pid rendez threshold stage word found stage_is read found_is =
     found_is ∙ ap number_of (read ∙ ap (λ at. word_at s (cell_of (Check pid) at)) stage_is)
 
+-- a check does not find a sleeper posted below the level of a wakeup that has returned
 pub not_posted : (sizes : Sizes) (pid : Pid) (before : Seated) (found : ℕ) (after : Seated)
     (rendez : RendezId) (threshold level : ℕ) → HasChecked sizes (Check pid) before found after
     → phase_by (sleeper_in before.0).trace ≡ phase.Asleep rendez threshold
@@ -92,6 +93,7 @@ joined_first at pid process joined other placed is joined_is =
     ap (λ (me : Seated). sleeper_in me.0) joined_is ∙ ap (λ (me : Seated). part_in me.0) placed
     ∙ ap part_of is
 
+-- and what the other seat knew
 pub joined_second : (at : Place) (pid : ℕ) (process : Process) (joined : Seated) (first : View)
     → IsPlaceOf at pid → process_at at pid ≡ process → joined ≡ (joined_view first at.me.0, [])
     → raiser_in joined.0 ≡ part_of process

@@ -69,6 +69,7 @@ not_moved owner moved from seat there pid is other owned =
 
 -- ---- the next pid is given a seat
 
+-- a seat that gives its next pid to a new seat splits in two, and the rule stays
 pub give_keeps : (sizes : Sizes) (id next : ℕ) → next < sizes.procs
     → table.Splits (ShowsCore sizes) id (view.Pids next) (view.Pids (next + 1))
     (view.Process (unused_part next))
@@ -124,6 +125,7 @@ give_keeps sizes id next room s rule at =
 
 -- ---- two seats are joined
 
+-- a sleeper's seat and a raiser's become one that knows the steps of both, and the rule stays
 pub join_keeps : (sizes : Sizes) (id : ℕ) (sleeper : Part) (other : ℕ) (raiser : Part)
     → table.Joins (ShowsCore sizes) id (view.Process sleeper) other (view.Process raiser)
     (view.Joined sleeper raiser) view.Spent
@@ -176,6 +178,7 @@ join_keeps sizes id sleeper other raiser s rule at apart at' =
 
 -- ---- a joined seat is cut into the two that it was
 
+-- a joined seat splits into the two that it was, and the rule stays
 pub cut_keeps : (sizes : Sizes) (id : ℕ) (sleeper raiser : Part)
     → table.Splits (ShowsCore sizes) id (view.Joined sleeper raiser) (view.Process sleeper)
     (view.Process raiser)
@@ -231,6 +234,7 @@ cut_keeps sizes id sleeper raiser s rule at =
 
 -- ---- the same for seats whose views are such
 
+-- a seat whose next pid is one of a process may give it to a new seat
 pub gives : (sizes : Sizes) (id next : ℕ) (me : table.Me (Unit {0}) View)
     → me ≡ (view.Pids next, []) → next < sizes.procs
     → table.Splits (ShowsCore sizes) id me.0 (Rattle.rendez_words.specs.View.one_less_view me.0)
@@ -241,6 +245,7 @@ gives sizes id next me is room =
     (Rattle.rendez_words.specs.View.given_view m.0)) (sym is)
     (give_keeps sizes id next room)
 
+-- two seats that each are of one process may be joined
 pub joins : (sizes : Sizes) (id other : ℕ) (me them : table.Me (Unit {0}) View)
     (sleeper raiser : Part) → me ≡ (view.Process sleeper, []) → them ≡ (view.Process raiser, [])
     → table.Joins (ShowsCore sizes) id me.0 other them.0
@@ -253,6 +258,7 @@ joins sizes id other me them sleeper raiser is are =
     (view.Process sleeper) m.0) view.Spent) (sym are)
     (join_keeps sizes id sleeper other raiser))
 
+-- a seat that was joined may be cut in two
 pub cuts : (sizes : Sizes) (id : ℕ) (me : table.Me (Unit {0}) View) (sleeper raiser : Part)
     → me ≡ (view.Joined sleeper raiser, [])
     → table.Splits (ShowsCore sizes) id me.0 (Rattle.rendez_words.specs.View.sleeper_view me.0)

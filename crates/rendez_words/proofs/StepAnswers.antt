@@ -21,6 +21,7 @@ in_words sizes (LevelOf rendez) there = omega arith
 in_words sizes (FlagsOf pid) there = omega arith
 in_words sizes NoCell there = absurd there
 
+-- the word of a step is one of the table's words
 pub step_in : (sizes key : Sizes) (event : Event) (part : Part) (word words : ℕ) (does : ℕ → ℕ)
     → sizes ≡ key → words ≡ key.rendez + (key.rendez + key.procs)
     → IsStep sizes event part word does → word < words
@@ -30,6 +31,7 @@ step_in sizes key event part word words does same count step =
     (subst (λ n. n < sizes.rendez + (sizes.rendez + sizes.procs)) (sym step.word_is)
     (in_words sizes step.cell step.cell_in)))
 
+-- a step by the seat of a process keeps the rule, and makes its event
 pub step_allowed : (sizes key : Sizes) (at : Place) (pid : ℕ) (process : Process) (slots : ℕ)
     (event : Event) (word : ℕ) (does : ℕ → ℕ) → sizes ≡ key → IsPlaceOf at pid
     → process_at at pid ≡ process

@@ -45,16 +45,25 @@ has_word sizes s NoCell has there = tt
 -- an event that a step makes, in the world that the run has left
 pub record Comes (sizes : Sizes) (run : List Entry) (event : Event) (part : Part) (word : ℕ)
     (does : ℕ → ℕ) : Type 0 where
+  -- the phase in which the event finds its process
   pub stage : Phase
+  -- the word that it finds
   pub found : Word
+  -- it is the phase that the steps of the process give; a note comes in any
   pub in_stage : IsStage part.trace event stage
+  -- the word is the one that the world has in the event's cell
   pub found_is : found ≡ word_at (world_of sizes.procs sizes.rendez run) (cell_of event stage)
+  -- a world of these sizes has that cell
   pub there : IsCellIn sizes (cell_of event stage)
+  -- the world answers the event as its row of the table says
   pub answered : answer_to (world_of sizes.procs sizes.rendez run) event ≡ reply event stage found
+  -- the table has that word's number at this place
   pub read : get_or (words_of (world_of sizes.procs sizes.rendez run)) word 0 ≡ number_of found
+  -- the words after the event are those before it, with what the step makes of this one
   pub written : words_of (world_after (world_of sizes.procs sizes.rendez run) event)
       ≡ set (words_of (world_of sizes.procs sizes.rendez run)) word (does (number_of found))
 
+-- each step makes its event so, in any world that a run has left
 pub comes : (sizes : Sizes) (run : List Entry) (event : Event) (part : Part) (word : ℕ) (does : ℕ
     → ℕ)
     → IsRun sizes.procs sizes.rendez run → part.trace ≡ kept (own part.pid run)
@@ -187,6 +196,7 @@ step_keeps_at sizes slots id part event word does step s rule _ at _ = (
     mine : IsSeated sizes.procs (entry ∷ rule.run) rule.owner id after
     mine = record { pid_in = seated.pid_in; owner_is = seated.owner_is; trace_is = trace }
 
+-- a step by a process's seat keeps the rule, and the seat has made the step's event
 pub step_keeps : (sizes : Sizes) (slots id : ℕ) (me : Seated) (part : Part) (event : Event)
     (word : ℕ) (does : ℕ → ℕ) → me ≡ (view.Process part, []) → IsStep sizes event part word does
     → table.Allows (ShowsCore sizes) slots id me word does

@@ -25,12 +25,14 @@ first_of other [] = other
 first_of other (entry ∷ []) = entry
 first_of other (entry ∷ next ∷ past) = first_of other (next ∷ past)
 
+-- the second step of a run; where there is none, the other
 abbrev pub second_of : Entry → List Entry → Entry
 second_of other [] = other
 second_of other (entry ∷ []) = other
 second_of other (entry ∷ next ∷ []) = entry
 second_of other (entry ∷ next ∷ third ∷ past) = second_of other (next ∷ third ∷ past)
 
+-- what stands behind the first two steps of a run
 abbrev pub behind_two : List Entry → List Entry
 behind_two [] = []
 behind_two (entry ∷ []) = []
@@ -64,10 +66,12 @@ behind_is (entry ∷ next ∷ third ∷ past) second first =
 abbrev no_step : Entry
 no_step = step (Check (process 0)) answer.Parked
 
+-- the newest step of a run
 abbrev pub last_of : List Entry → Entry
 last_of [] = no_step
 last_of (entry ∷ past) = entry
 
+-- the steps before the newest
 abbrev pub before_last : List Entry → List Entry
 before_last [] = []
 before_last (entry ∷ past) = past
@@ -75,14 +79,21 @@ before_last (entry ∷ past) = past
 -- What the steps of a sleep in Rendez 0 with the threshold 0 are: a post, a test, a wait, and a
 -- clear.
 pub record AreOfSleep (notes : NoteSet) (steps : List Entry) : Type 0 where
+  -- what the test was answered
   pub tested : Answer
+  -- the newest step is the clear that ends the sleep, with these notes
   pub last : last_of steps ≡ step (Clear (process 0)) (ending_of notes)
+  -- the first step is the post
   pub first : first_of no_step (before_last steps) ≡ posted
+  -- the second step is the test
   pub second : second_of no_step (before_last steps) ≡ step (Test (process 0)) tested
+  -- all steps between the test and the clear are of a wait
   pub of_wait : AllByRecursion (λ entry. IsOfWait entry.event) (behind_two (before_last steps))
+  -- a sleep that ended without notes found its condition true, or was woken
   pub cause : notes ≡ no_notes
       → (tested ≡ answer.Leaving) ⊎ HasWoken (behind_two (before_last steps))
 
+-- the steps of a sleep in Rendez 0 with the threshold 0 are a post, a test, a wait and a clear
 pub of_sleep : (table : TableId) (notes : NoteSet) (steps : List Entry)
     → Sleeps (after table []) (rendez 0) 0 notes (after table steps) → AreOfSleep notes steps
 of_sleep table notes steps sleeps =
@@ -108,6 +119,7 @@ abbrev pub rendez_of : Event → ℕ
 rendez_of (Post pid at threshold) = at.0
 rendez_of event = 0
 
+-- whether an answer tells of an alarm
 abbrev pub has_alarm : Answer → Bool
 has_alarm (answer.Interrupted notes) = notes.alarm
 has_alarm told = false
@@ -131,6 +143,7 @@ abbrev pub raised_to : Event → ℕ
 raised_to (Raise pid at level) = level
 raised_to event = 0
 
+-- the Rendez whose level an event raises
 abbrev pub raised_at : Event → ℕ
 raised_at (Raise pid at level) = at.0
 raised_at event = 0
@@ -138,11 +151,15 @@ raised_at event = 0
 -- What the steps of a wakeup of Rendez 0 with the level 1 are: a raise and a take that found
 -- nobody, or a raise, a take and a mark of whom it took.
 pub record AreOfWakeup (steps : List Entry) : Type 0 where
+  -- the first step is the raise
   pub first : first_of no_step steps ≡ raised
+  -- then a take found nobody; or a take found a sleeper, and a mark marked that one
   pub ends : (steps ≡ missed ∷ raised ∷ [])
       ⊎ ((sleeper : Pid) × (steps ≡ step (Mark (process 0)) (answer.Marked sleeper)
       ∷ step (Take (process 0)) (answer.Holding sleeper) ∷ raised ∷ []))
 
+-- the steps of a wakeup of Rendez 0 with the level 1 are a raise, a take and, if that found a
+-- sleeper, its mark
 pub of_wakeup : (table : TableId) (steps : List Entry)
     → Ends (raises (after table []) (rendez 0) 1) (after table steps) → AreOfWakeup steps
 of_wakeup table steps (inl nobody) =
@@ -193,6 +210,7 @@ three_steps third second first are = by_ending are.ends
         ap (λ steps. named_in (last_of steps).answer) three
         ∙ sym (ap (λ steps. named_in (last_of (before_last steps)).answer) three)
 
+-- the third step of a wakeup of three steps is a mark
 pub third_marks : (third second first : Entry) → AreOfWakeup (third ∷ second ∷ first ∷ [])
     → third.event ≡ Mark (process 0)
 third_marks third second first are = by_ending are.ends

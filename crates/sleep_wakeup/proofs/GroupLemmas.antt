@@ -31,6 +31,7 @@ member_first start number own numbers same =
     ap (λ is. if is then start ∷ members_from (start + 1) number numbers
     else members_from (start + 1) number numbers) (is_true own number same)
 
+-- a pid of another number is passed over in the list of members
 pub no_member_first : (start number own : ℕ) (numbers : List ℕ) → own ≢ number
     → members_from start number (own ∷ numbers) ≡ members_from (start + 1) number numbers
 no_member_first start number own numbers other =
@@ -283,6 +284,7 @@ loses_one start number (suc place) new (own ∷ numbers) =
 
 -- ---- the group of a pid
 
+-- the group of a pid with a number is of all pids with that number
 pub found : (pid count : ℕ) (numbers : List ℕ) → 1 ≤ get_or numbers pid 0
     → get_or numbers pid 0 ≤ count
     → group_of pid (groups_by count numbers) ≡ members_from 0 (get_or numbers pid 0) numbers
@@ -308,6 +310,7 @@ found pid (suc count) numbers some within =
         else group_of pid (groups_by count numbers)) (holds_it ∙ is_false _ _ other)
         ∙ rest (omega (arith, within, other))
 
+-- a pid with the number 0 is in no group
 pub not_found : (pid count : ℕ) (numbers : List ℕ) → get_or numbers pid 0 ≡ 0
     → group_of pid (groups_by count numbers) ≡ []
 not_found pid zero numbers none = refl
@@ -344,6 +347,7 @@ fresh numbers count given are place is = by (nat_lt place given) refl
         let none = are.not_given place (grind (arith, nat_tests)) in
         absurd (omega (arith, none, is))
 
+-- a pid that is given a new number begins a group of its own
 pub begun : (numbers : List ℕ) (count given : ℕ) → AreNumbers numbers count given
     → given < length numbers
     → groups_by (suc count) (set numbers given (suc count))
@@ -406,6 +410,7 @@ has_group numbers count given pid are = by (nat_lt pid given) refl
         let none = are.not_given pid (grind (arith, nat_tests)) in
         ap (λ (group : List ℕ). nat_lt 0 (length group)) (not_found pid count numbers none)
 
+-- a child that is given its parent's number joins the parent's group
 pub followed : (numbers : List ℕ) (count given parent : ℕ) → AreNumbers numbers count given
     → given < length numbers → parent < given
     → groups_by count (set numbers given (get_or numbers parent 0))
@@ -419,6 +424,7 @@ followed numbers count given parent are room held_there =
     below : nat_lt parent given ≡ true
     below = grind (arith, nat_tests)
 
+-- a child of a parent that is not there begins a group of its own
 pub orphaned : (numbers : List ℕ) (count given parent : ℕ) → AreNumbers numbers count given
     → given ≤ parent
     → begins given (groups_by count numbers) ≡ follows parent given (groups_by count numbers)
@@ -440,6 +446,7 @@ left_in (suc count) pid new numbers high within =
     ∙ ap (λ groups. without pid (members_from 0 (suc count) numbers) ∷ groups)
     (left_in count pid new numbers (omega (arith, high)) within)
 
+-- a pid in company that is given a new number leaves its group for one of its own
 pub left : (numbers : List ℕ) (count given pid : ℕ) → AreNumbers numbers count given → pid < given
     → 1 < length (members_from 0 (get_or numbers pid 0) numbers)
     → groups_by (suc count) (set numbers pid (suc count)) ≡ leaves pid (groups_by count numbers)
@@ -459,6 +466,7 @@ left numbers count given pid are given_out many =
         ap (λ (group : List ℕ). nat_lt 1 (length group)) (found pid count numbers number.0 number.1)
         ∙ grind (arith, nat_tests)
 
+-- a pid that is alone in its group, or not there, stays where it is when it leaves
 pub stayed : (numbers : List ℕ) (count given pid : ℕ) → AreNumbers numbers count given
     → (pid < given → length (members_from 0 (get_or numbers pid 0) numbers) ≤ 1)
     → groups_by count numbers ≡ leaves pid (groups_by count numbers)
@@ -583,6 +591,7 @@ count_within_total (suc count) numbers none_empty =
     none_empty number some (omega (arith, within))) in
     omega (arith, first, rest)
 
+-- there are no more groups than there is room for pids, for none is empty
 pub count_within : (numbers : List ℕ) (count given : ℕ) → AreNumbers numbers count given
     → count ≤ length numbers
 count_within numbers count given are =
@@ -592,6 +601,7 @@ count_within numbers count given are =
 
 -- ---- the numbers stay numbers
 
+-- numbers of groups stay such when the next pid begins a group
 pub begun_numbers : (numbers : List ℕ) (count given : ℕ) → AreNumbers numbers count given
     → given < length numbers
     → AreNumbers (set numbers given (suc count)) (suc count) (given + 1)
@@ -641,6 +651,7 @@ more_than : (xs : List ℕ) (x : ℕ) → 1 ≤ length (xs ++ x ∷ [])
 more_than [] x = omega arith
 more_than (y ∷ xs) x = omega arith
 
+-- numbers of groups stay such when the next pid joins its parent's group
 pub followed_numbers : (numbers : List ℕ) (count given parent : ℕ)
     → AreNumbers numbers count given → given < length numbers → parent < given
     → AreNumbers (set numbers given (get_or numbers parent 0)) count (given + 1)
@@ -690,6 +701,7 @@ followed_numbers numbers count given parent are room there =
         let old = are.none_empty number one within in
         omega (arith, is, old)
 
+-- numbers of groups stay such when a pid leaves its company
 pub left_numbers : (numbers : List ℕ) (count given pid : ℕ) → AreNumbers numbers count given
     → pid < given → 1 < length (members_from 0 (get_or numbers pid 0) numbers)
     → AreNumbers (set numbers pid (suc count)) (suc count) given
@@ -860,6 +872,7 @@ each_rises zero numbers = tt
 each_rises (suc count) numbers =
     (rises 0 0 (suc count) numbers (omega arith), each_rises count numbers)
 
+-- each group rises, and each pid that was given is once in the groups, and no other pid
 pub are_disjoint : (numbers : List ℕ) (count given : ℕ) → AreNumbers numbers count given
     → AreGroups (groups_by count numbers) given
 are_disjoint numbers count given are =

@@ -1,3 +1,4 @@
+-- By cases on the call, and for histories by recursion, one call more at each step.
 use Rattle.block_queue.proofs.ObjectLemmas.{each_call_is_right, objects_are_queues}
 use Rattle.block_queue.proofs.laws.objects_are_queues.Goals as goal
 

@@ -1,3 +1,4 @@
+-- Each call of a read end is steps of it, and what such steps have read is just what they took out.
 use Rattle.pipe_dev.proofs.ReadingLemmas.{what_is_read_is_right}
 use Rattle.pipe_dev.proofs.ChainLemmas.{reads_are_steps, tries_are_steps, hangups_are_steps}
 use Rattle.pipe_dev.proofs.laws.calls_read_what_they_answer.Goals as goal

@@ -1,3 +1,4 @@
+-- Each bit is read off in its turn, and what is left has the bits of the notes that follow.
 use Rattle.std.proofs.Common.{Bool, List, [], ◌∷◌, ◌∙◌, ap}
 use Rattle.sync_base.specs.declared.note.Note.TheVariants.{Interrupt, Hangup, Alarm, ClosedPipe}
 use Rattle.sync_base.specs.declared.note.Note.TheVariants.{Expired}

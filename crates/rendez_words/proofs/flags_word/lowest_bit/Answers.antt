@@ -1,3 +1,4 @@
+-- The lowest bit is the remainder by two, and the others are the half.
 use Rattle.rendez_words.proofs.FlagsLemmas.{lowest, others}
 use Rattle.rendez_words.proofs.flags_word.lowest_bit.Goals as goal
 

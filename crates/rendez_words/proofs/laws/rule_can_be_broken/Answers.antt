@@ -1,3 +1,4 @@
+-- Each of these states has words or seats that no run leaves.
 use Rattle.rendez_words.proofs.BrokenLemmas.{no_wakeup_is_lost, no_sleeper_is_nowhere}
 use Rattle.rendez_words.proofs.BrokenLemmas.{no_mark_is_stray}
 use Rattle.rendez_words.proofs.BrokenLemmas.{no_stranger_is_posted, no_stranger_has_a_seat}

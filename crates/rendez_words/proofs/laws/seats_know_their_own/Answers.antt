@@ -1,3 +1,4 @@
+-- A seat has its own steps of the run, and of a pid to come the run has none.
 use Rattle.rendez_words.proofs.LawLemmas.{seats_know, pids_unused, receipts_release}
 use Rattle.rendez_words.proofs.laws.seats_know_their_own.Goals as goal
 

@@ -1,3 +1,4 @@
+-- Each way in which a wakeup may end is shown by its steps, and has its receipt.
 use Rattle.std.proofs.Common.{inl, inr, refl}
 use Rattle.sleep_wakeup.specs.Broken.{process}
 use Rattle.sleep_wakeup.proofs.laws.wakeups_can_be_kept.Goals as goal

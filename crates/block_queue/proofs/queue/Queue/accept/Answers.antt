@@ -1,3 +1,4 @@
+-- The exchange of the tail keeps the rule: where the count was still so, the write is accepted.
 use Rattle.std.proofs.Common.{sym, ap, subst, ◌∙◌, arith, true, ◌≡◌, ◌+◌, eqb}
 use prog.Atomic.{either}
 use Rattle.atomic_table.specs.Table as table

@@ -1,3 +1,4 @@
+-- The seat that was told that its write stands is free again; the move between changed no account.
 use Rattle.std.proofs.Common.{ap, ◌∙◌}
 use Rattle.atomic_table.specs.Table.{rest}
 use Rattle.block_queue.proofs.SeatLemmas.{entered_place, entered_free, entered_number, steps_on}

@@ -1,3 +1,4 @@
+-- The store frees the place for the next lap: the reader brings its slot back, and it is empty.
 use Rattle.std.proofs.Common.{sym, ap, subst, ◌∙◌, arith, [], ◌∷◌, None, ◌+◌}
 use Rattle.atomic_table.specs.Table as table
 use Rattle.block_queue.specs.declared.view.Stage.TheVariants.{Moving}

@@ -1,3 +1,4 @@
+-- A seat that joined all others has all numbers, so the tail tells it how many writes are left.
 use Rattle.std.proofs.Common.{sym, ap, subst, ◌∙◌, arith, ◌≡◌, ◌≤◌, ◌-◌, ◌%◌}
 use Rattle.std.specs.List.{AllByRecursion}
 use Rattle.histories.specs.Account.{HasItsEntries}

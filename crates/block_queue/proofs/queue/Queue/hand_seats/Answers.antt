@@ -1,3 +1,4 @@
+-- While writers are left the reader's seat has a number to hand on, and each new seat gets its own.
 use Rattle.std.proofs.Common.{[], arith, sym, ap, subst, ◌∙◌, ◌+◌}
 use Rattle.block_queue.specs.Opening.{AreNewPutSeats}
 use Rattle.block_queue.specs.Steps.{keeper_view, handed_view}

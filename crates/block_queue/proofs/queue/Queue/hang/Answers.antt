@@ -1,3 +1,4 @@
+-- A hangup is one step, after which the seat is free again.
 use Rattle.std.proofs.Common.{◌∙◌}
 use Rattle.block_queue.proofs.SeatLemmas.{free_steps, entered_free}
 use Rattle.block_queue.proofs.queue.Queue.hang.Goals as goal

@@ -1,3 +1,4 @@
+-- The reader sits down again as it stood up: a hangup is an entry, which leaves it its numbers.
 use Rattle.std.proofs.Common.{ap, sym, ◌∙◌}
 use Rattle.block_queue.specs.Seats.{head_view}
 use Rattle.block_queue.proofs.AllSeatsLemmas.{sat_same, enters_same}

@@ -1,3 +1,4 @@
+-- The mark set on the tail keeps the rule, and enters a hangup by the seat that set it.
 use Rattle.std.proofs.Common.{ap, subst, ◌∙◌, arith, ◌≡◌, true}
 use Rattle.std.specs.Prelude.{bit_or}
 use Rattle.atomic_table.specs.Table as table

@@ -1,3 +1,4 @@
+-- Both seats are free, so one may give the other its numbers and the rule stays.
 use Rattle.std.proofs.Common.{arith}
 use Rattle.block_queue.proofs.GatherKeeps.{join_keeps}
 use Rattle.block_queue.proofs.queue.Queue.join.Goals as goal

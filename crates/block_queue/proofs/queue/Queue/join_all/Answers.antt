@@ -1,3 +1,4 @@
+-- Each writer's seat that is joined gives its number and its past; at the end none is left to join.
 use Rattle.std.proofs.Common.{◌≡◌, List, [], ◌∷◌, length, refl, sym, ap, subst, ◌∙◌, arith}
 use Rattle.block_queue.specs.declared.seats.PutSeat.{PutSeat}
 use Rattle.block_queue.specs.Gather.{IsJoining, TellsPasts}

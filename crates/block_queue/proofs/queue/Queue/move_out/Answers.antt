@@ -1,3 +1,4 @@
+-- The reader has the slot of the place, and it is full, so the block may be moved out of it.
 use Rattle.std.proofs.Common.{ap, sym, ◌∙◌, [], ◌∷◌, Some}
 use Rattle.atomic_table.specs.Table.{rest}
 use Rattle.block_queue.proofs.queue.Queue.move_out.Goals as goal

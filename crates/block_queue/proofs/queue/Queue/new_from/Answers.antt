@@ -1,3 +1,4 @@
+-- Words of zero and empty slots keep the rule, and the seats that were handed are all seats.
 use Rattle.std.proofs.Common.{◌<◌, arith, sym, subst, ap, ◌∙◌, None}
 use Rattle.std.specs.Prelude.{replicate}
 use Rattle.atomic_table.specs.Table.{opening}

@@ -1,3 +1,4 @@
+-- The writer sits down again as it stood up: a put ends free, and leaves it its numbers.
 use Rattle.std.proofs.Common.{ap, subst, sym, ◌∙◌, ◌+◌, ◌<◌}
 use Rattle.block_queue.specs.Seats.{IsFreePlaceOf, head_view}
 use Rattle.block_queue.proofs.AllSeatsLemmas.{sat_same, puts_same}

@@ -1,3 +1,4 @@
+-- The load of the place's sequence word keeps the rule, and tells whether the place is free.
 use Rattle.std.proofs.Common.{sym, ap, subst, ◌∙◌, arith, true, ◌≡◌, ◌+◌}
 use Rattle.atomic_table.specs.Table as table
 use Rattle.histories.specs.Account.{has_number}

@@ -1,3 +1,4 @@
+-- The load of the tail keeps the rule, and tells how many writes were accepted, or the hangup.
 use Rattle.std.proofs.Common.{sym, ap, subst, ◌∙◌, arith, true, ◌≡◌, ◌+◌}
 use Rattle.atomic_table.specs.Table as table
 use Rattle.histories.specs.Account.{has_number}

@@ -1,3 +1,4 @@
+-- The writer brings the slot back with its block, so the word may say that the write stands.
 use Rattle.std.proofs.Common.{sym, ap, subst, ◌∙◌, arith, true, ◌≡◌, ◌+◌, [], ◌∷◌, Some}
 use Rattle.atomic_table.specs.Table as table
 use Rattle.histories.specs.Account.{has_number}

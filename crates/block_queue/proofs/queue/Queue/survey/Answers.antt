@@ -1,3 +1,4 @@
+-- The load of the tail by a free reader changes nothing and tells it what was seen.
 use Rattle.std.proofs.Common.{ap, subst, ◌∙◌, arith}
 use Rattle.atomic_table.specs.Table as table
 use Rattle.block_queue.specs.GatherSteps.{HasSurveyed}

@@ -1,3 +1,4 @@
+-- Each way out of a take ends with an entry that leaves the reader free: End, NotYet, or the block.
 use Rattle.std.proofs.Common.{◌≢◌, ◌+◌, ap, sym, ◌∙◌}
 use Rattle.atomic_table.specs.Table.{rest}
 use Rattle.block_queue.specs.declared.places.TheConstants.{MARK}

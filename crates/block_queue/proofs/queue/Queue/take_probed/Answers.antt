@@ -1,3 +1,4 @@
+-- The reader sits down again as it stood up: a take ends free, and leaves it its numbers.
 use Rattle.std.proofs.Common.{ap}
 use Rattle.block_queue.specs.Seats.{head_view}
 use Rattle.block_queue.proofs.AllSeatsLemmas.{sat_same, takes_same}

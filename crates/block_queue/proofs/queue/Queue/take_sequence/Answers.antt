@@ -1,3 +1,4 @@
+-- The load of the next place's sequence word keeps the rule, and tells whether the write stands.
 use Rattle.std.proofs.Common.{sym, ap, subst, ◌∙◌, arith}
 use Rattle.atomic_table.specs.Table as table
 use Rattle.block_queue.specs.Places.{place_of, sequence_of}

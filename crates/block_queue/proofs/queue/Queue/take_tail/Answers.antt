@@ -1,3 +1,4 @@
+-- The load of the tail keeps the rule, and tells the end, or that a write may be there.
 use Rattle.std.proofs.Common.{ap, subst, ◌∙◌, arith}
 use Rattle.atomic_table.specs.Table as table
 use Rattle.block_queue.specs.Rule.{IsOneQueue}

@@ -1,3 +1,4 @@
+-- Each way out before the claim has its entry, which leaves the writer free: hungup, worn or full.
 use Rattle.std.proofs.Common.{arith, ap, ◌∙◌, ◌<◌}
 use Rattle.block_queue.proofs.SeatLemmas.{free_steps, entered_free, steps_on}
 use Rattle.block_queue.specs.Places.{free_word}

@@ -1,3 +1,4 @@
+-- Only the seat of the next writer is put behind the others, so they stay in the writers' order.
 use Rattle.std.proofs.Common.{◌≡◌, [], length, refl, sym, subst, ◌∙◌}
 use Rattle.std.specs.List.{AllByRecursion}
 use Rattle.histories.specs.Account.{numbers_from}

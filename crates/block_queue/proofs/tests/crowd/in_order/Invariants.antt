@@ -1,3 +1,4 @@
+-- All seats are the queue's; those of the list are in the writers' order, and gave no number.
 use Rattle.std.proofs.Common.{◌≡◌, [], length}
 use Rattle.std.specs.List.{AllByRecursion}
 use Rattle.histories.specs.Account.{numbers_from}

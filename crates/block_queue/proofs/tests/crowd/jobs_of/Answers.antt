@@ -1,3 +1,4 @@
+-- The seat that is last is the queue's, as are those in front, and becomes a job's.
 use Rattle.std.proofs.Common.{◌≡◌, [], sym, subst}
 use Rattle.std.specs.List.{AllByRecursion}
 use Rattle.block_queue.specs.Seats.{IsPutSeatOf, put_account}

@@ -1,3 +1,4 @@
+-- The seats that are left and those of the jobs are the queue's, and those left gave no number.
 use Rattle.std.proofs.Common.{◌≡◌, [], length}
 use Rattle.std.specs.List.{AllByRecursion}
 use Rattle.block_queue.specs.Seats.{IsPutSeatOf, put_account}

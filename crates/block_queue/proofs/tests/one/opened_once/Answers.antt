@@ -1,3 +1,4 @@
+-- Each new writer's seat is a seat of the queue.
 use Rattle.block_queue.proofs.AllSeatsLemmas.{new_are_seats}
 use Rattle.block_queue.proofs.tests.one.opened_once.Goals as goal
 

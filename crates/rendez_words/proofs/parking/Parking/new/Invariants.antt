@@ -1,3 +1,4 @@
+-- Each round adds the flag of one process.
 use Rattle.std.proofs.Common.{◌≡◌, length}
 use Rattle.rendez_words.proofs.parking.Parking.new.Given as goal
 

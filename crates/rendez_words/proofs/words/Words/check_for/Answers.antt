@@ -1,3 +1,4 @@
+-- The load is a check by a joined seat, which keeps the rule and changes no word.
 use Rattle.std.proofs.Common.{rules}
 use Rattle.rendez_words.proofs.CheckKeeps.{check_allowed}
 use Rattle.rendez_words.proofs.StepAnswers.{step_in}

@@ -1,3 +1,4 @@
+-- The sleep ends, so the swap of the process's own flags for none is its clear.
 use Rattle.rendez_words.proofs.KindSteps.{clear_step}
 use Rattle.rendez_words.proofs.words.Words.clear.Goals as goal
 

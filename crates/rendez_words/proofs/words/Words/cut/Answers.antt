@@ -1,3 +1,4 @@
+-- The seat was joined of two, so it may be cut into them.
 use Rattle.std.proofs.Common.{rules, arith}
 use Rattle.rendez_words.proofs.SeatKeeps.{cuts}
 use Rattle.rendez_words.proofs.words.Words.cut.Goals as goal

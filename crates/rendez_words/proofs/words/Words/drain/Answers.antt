@@ -1,3 +1,4 @@
+-- The process is idle, so the swap of its own flags for none is its drain.
 use Rattle.rendez_words.proofs.KindSteps.{drain_step}
 use Rattle.rendez_words.proofs.ProcessLemmas.{same_process}
 use Rattle.rendez_words.proofs.words.Words.drain.Goals as goal

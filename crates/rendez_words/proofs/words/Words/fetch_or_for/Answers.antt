@@ -1,3 +1,4 @@
+-- The setting of bits is a step of the seat's process on a word of the table, so the rule stays.
 use Rattle.std.proofs.Common.{rules}
 use Rattle.rendez_words.proofs.StepAnswers.{step_in, step_allowed}
 use Rattle.rendez_words.proofs.words.Words.fetch_or_for.Goals as goal

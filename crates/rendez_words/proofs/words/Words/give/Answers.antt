@@ -1,3 +1,4 @@
+-- A pid is left, so the seat that has it may give it to a new one.
 use Rattle.std.proofs.Common.{rules, ◌<◌, sym, ap, subst, ◌∙◌, arith}
 use Rattle.rendez_words.specs.View.{next_in}
 use Rattle.rendez_words.specs.Words.{procs_of}

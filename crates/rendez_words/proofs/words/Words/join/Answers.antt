@@ -1,3 +1,4 @@
+-- Both seats are of one process each and hold no slot, so they may be joined.
 use Rattle.std.proofs.Common.{rules, arith, ap}
 use Rattle.rendez_words.proofs.SeatKeeps.{joins}
 use Rattle.rendez_words.proofs.words.Words.join.Goals as goal

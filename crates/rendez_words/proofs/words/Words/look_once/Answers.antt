@@ -1,3 +1,4 @@
+-- The process waits, so the load of its own flags is its look.
 use Rattle.rendez_words.proofs.KindSteps.{look_step}
 use Rattle.rendez_words.proofs.words.Words.look_once.Goals as goal
 

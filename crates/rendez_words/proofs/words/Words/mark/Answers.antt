@@ -1,3 +1,4 @@
+-- Whom the process holds is a process of these words, and the bits that are set are the mark alone.
 use Rattle.std.proofs.Common.{◌<◌, true, ◌∙◌, ap, refl, sym, subst}
 use Rattle.rendez_words.specs.FlagsWord.{flags_word}
 use Rattle.rendez_words.specs.Words.{procs_of}

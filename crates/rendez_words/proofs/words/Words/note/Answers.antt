@@ -1,3 +1,4 @@
+-- The pid is one of a process, and the bits that are set are the notes alone.
 use Rattle.std.proofs.Common.{ap, arith, refl}
 use Rattle.rendez_words.specs.declared.view.Sizes.{Sizes}
 use Rattle.rendez_words.proofs.KindSteps.{note_step}

@@ -1,3 +1,4 @@
+-- The process is idle, the Rendez is there and the threshold not the top, so this is its post.
 use Rattle.std.proofs.Common.{ap, arith}
 use Rattle.rendez_words.specs.declared.view.Sizes.{Sizes}
 use Rattle.rendez_words.proofs.KindSteps.{post_step}

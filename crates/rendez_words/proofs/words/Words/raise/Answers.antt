@@ -1,3 +1,4 @@
+-- The process is idle and the Rendez is there, so the maximum of its level is its raise.
 use Rattle.std.proofs.Common.{ap, arith}
 use Rattle.rendez_words.specs.declared.view.Sizes.{Sizes}
 use Rattle.rendez_words.proofs.KindSteps.{raise_step}

@@ -1,3 +1,4 @@
+-- The joined seat knows the sleep and the receipt, so its check does not find the sleeper posted.
 use Rattle.std.proofs.Common.{◌+◌, ◌∙◌, ap}
 use Rattle.rendez_words.specs.Process.{Process, pid_in}
 use Rattle.rendez_words.proofs.ProcessLemmas.{same_process, in_phase}

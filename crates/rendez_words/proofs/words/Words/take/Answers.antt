@@ -1,3 +1,4 @@
+-- The process owes a take of a Rendez that is there; where it finds nobody, this is the receipt.
 use Rattle.rendez_words.proofs.KindSteps.{take_step}
 use Rattle.rendez_words.proofs.ProcessLemmas.{same_process, in_phase}
 use Rattle.rendez_words.proofs.ReceiptLemmas.{take_receipt}

@@ -1,3 +1,4 @@
+-- The process is posted in a Rendez that is there, so the load of its level is its test.
 use Rattle.rendez_words.proofs.KindSteps.{test_step}
 use Rattle.rendez_words.proofs.ProcessLemmas.{same_process, in_phase}
 use Rattle.rendez_words.proofs.words.Words.test.Goals as goal

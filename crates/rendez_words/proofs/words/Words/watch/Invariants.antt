@@ -1,3 +1,4 @@
+-- A look that found nothing leaves the process as it was.
 use Rattle.std.proofs.Common.{◌≡◌}
 use Rattle.rendez_words.proofs.words.Words.watch.Given as goal
 

@@ -1,3 +1,4 @@
+-- The process leaves a Rendez that is there, so the exchange of its pid for nobody withdraws it.
 use Rattle.rendez_words.proofs.KindSteps.{withdraw_step}
 use Rattle.rendez_words.proofs.ProcessLemmas.{same_process, in_phase}
 use Rattle.rendez_words.proofs.words.Words.withdraw.Goals as goal
