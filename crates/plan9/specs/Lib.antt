@@ -4,6 +4,7 @@ pub mod Words
 pub mod Pools
 pub mod Pipes
 pub mod Watches
+pub mod Halls
 -- notes and flags, and where a process is
 pub use Rattle.sync_base.specs.NoteSet
 pub use Rattle.sync_base.specs.Flags

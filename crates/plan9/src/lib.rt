@@ -1,11 +1,12 @@
 //! All that a program names: the library's types and calls in one order, and processes that have
 //! what belongs together.
 //! Read the lists below from the top: what every call speaks of; a kernel and its processes; pipes,
-//! with `pipes`; semaphores, with `pool`; timers, with `clock`; tag spaces; and what else a caller
-//! may prove.
+//! with `pipes`; semaphores, with `pool`; timers, with `clock`; tag spaces, with `hall`; and what
+//! else a caller may prove.
 #![tactic(auto)]
 
 pub mod clock;
+pub mod hall;
 pub mod pipes;
 pub mod pool;
 
@@ -30,7 +31,8 @@ pub use semaphore::{OpenedSema, Sema, SemaSeat, Semacquired};
 pub use crate::clock::{Clock, Watch};
 pub use semaphore::{OpenedTimers, TimerSeat, Timers};
 
-// Tag spaces: rendezvous, and rfork of them.
+// Tag spaces: rendezvous, rfork of them, and processes that are members of one.
+pub use crate::hall::{Guest, Hall};
 pub use tag_space::meeting::INTERRUPTED;
 pub use tag_space::{
     Child, Forked, Member, NotForked, Opened as OpenedSpace, SpentMember, TagSpace, rfork,

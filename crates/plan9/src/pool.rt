@@ -158,7 +158,7 @@ impl Pool {
 }
 
 // Whether the kernel of the process has so many Rendez from this one on.
-fn has_row(proc: &Proc<'_>, first: u64, procs: u64) -> bool
+pub(crate) fn has_row(proc: &Proc<'_>, first: u64, procs: u64) -> bool
     ensures { result ≡ true ↔ first + procs ≤ rendez_of proc.now.words }
 {
     let count = proc.rendez_count();

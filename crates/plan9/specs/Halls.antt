@@ -1,0 +1,88 @@
+-- What clauses see of a hall, in which processes meet, and of its guests.
+use Rattle.std.specs.Prelude.{◌≡◌, ⊤, ℕ, Option, Some, None}
+use Rattle.sync_base.specs.declared.fault.Fault.{Fault}
+use Rattle.sync_base.specs.declared.fault.Fault.TheVariants as fault
+use Rattle.rendez_words.specs.declared.words.Words.{Words}
+use Rattle.sleep_wakeup.specs.Kernel.{Running, Unused}
+use Rattle.kernel_lock.specs.Seats.{KnowsAllGiven}
+use Rattle.tag_space.specs.declared.member.Member.{Member}
+use Rattle.tag_space.specs.declared.space.TagSpace.{TagSpace}
+use Rattle.tag_space.specs.Members.{HasRow, IsMemberOf, IsSameMember}
+use Rattle.tag_space.specs.Spaces.{IsFirstMember, IsFurtherMember, IsNewSpace}
+use Rattle.tag_space.specs.Walk.{Caller, Point, at_point, caller_of}
+
+-- a hall: its tag space, and the first member as long as no process has it
+pub record Hosting : Type 0 where
+  pub space : TagSpace
+  pub spare : Option Member
+
+-- a process that is a member of the space of a hall
+pub record Visiting : Type 0 where
+  pub space : TagSpace
+  pub running : Running
+  pub member : Member
+
+-- the Rendez of this space are so many from this one on
+pub record IsRowOfSpace (space : TagSpace) (first procs : ℕ) : Type 0 where
+  pub first_is : space.first.0 ≡ first
+  pub procs_are : space.procs ≡ procs
+
+-- no process has the member, or it is one of the space's between two calls
+abbrev pub IsSpareMember : TagSpace → Option Member → Type 0
+IsSpareMember space None = ⊤
+IsSpareMember space (Some member) = IsMemberOf space member
+
+-- the member is one of the space's between two calls, and its Rendez are of this kernel
+pub record IsAdmitted (space : TagSpace) (words : Words) (member : Member) : Type 0 where
+  pub member_is : IsMemberOf space member
+  pub row : HasRow space words
+
+-- a hall of a new space, whose first member no process has
+abbrev pub IsNewHall : Unused → ℕ → Hosting → Type 0
+IsNewHall roster procs hall =
+    (member : Member) × IsNewSpace roster procs hall.space × IsFirstMember hall.space member
+    × (hall.spare ≡ Some member)
+
+-- why a process can't be the first: its kernel has not all Rendez of the hall, or another was
+abbrev pub WhyNotFirstGuest : Hosting → Running → Fault → Type 0
+WhyNotFirstGuest hall running fault.NoRendez = ¬ HasRow hall.space running.words
+WhyNotFirstGuest hall running fault.NoProc = HasRow hall.space running.words × (hall.spare ≡ None)
+WhyNotFirstGuest hall running other = ⊥
+
+-- the process has the member that none had
+pub record IsFirstGuest (hall : Hosting) (running : Running) (guest : Visiting) : Type 0 where
+  pub space_is : guest.space ≡ hall.space
+  pub running_is : guest.running ≡ running
+  pub member_is : Some guest.member ≡ hall.spare
+
+-- who calls, and where it stands
+abbrev pub guest_caller : Visiting → Caller
+guest_caller guest = caller_of guest.space guest.member guest.running
+
+abbrev pub guest_point : Visiting → Point
+guest_point guest = at_point guest.member guest.running
+
+-- the same process of the same kernel, which is the same member of the same space
+pub record IsSameGuest (old new : Visiting) : Type 0 where
+  pub space_is : new.space ≡ old.space
+  pub words_are : new.running.words ≡ old.running.words
+  pub member_is : IsSameMember old.member new.member
+
+-- its own calls need no more
+abbrev pub IsAdmittedGuest : Visiting → Type 0
+IsAdmittedGuest guest = IsAdmitted guest.space guest.running.words guest.member
+
+-- the process is a member of the same space, which was given to no other
+pub record IsFurtherGuest (old new : Visiting) (running : Running) (child : Visiting) : Type 0 where
+  pub space_is : child.space ≡ old.space
+  pub running_is : child.running ≡ running
+  pub further : IsFurtherMember old.space old.member new.member child.member
+
+-- why a process can't be a guest as well: its kernel has not all Rendez of the hall, or the space
+-- has had all its members
+abbrev pub WhyNoGuest : Visiting → Visiting → Running → Fault → Type 0
+WhyNoGuest old new running fault.NoRendez = (¬ HasRow old.space running.words) × (new ≡ old)
+WhyNoGuest old new running fault.NoProc =
+    HasRow old.space running.words
+    × KnowsAllGiven old.space.lock old.member.seat new.member.seat
+WhyNoGuest old new running other = ⊥

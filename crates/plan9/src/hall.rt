@@ -1,0 +1,209 @@
+//! A hall in which processes meet by tags: each guest has its process, its member and the tag space
+//! together.
+use crate::pool::has_row;
+use sleep_wakeup::{Proc, Roster};
+use std::alloc::Global;
+use std::marker::Model;
+use std::sync::Wait;
+use sync_base::{Fault, NoteSet, Pid, RendezId, Tag};
+use tag_space::{Member, Opened, TagSpace};
+
+/// A hall: a tag space, and its first member as long as no process has it.
+#[derive(Drop)]
+pub struct Hall {
+    space: TagSpace,
+    spare: Option<Member>,
+    first: u64,
+    procs: u64,
+}
+
+impl Model for Hall {
+    ghost use Rattle.plan9.specs.Halls.{Hosting, IsRowOfSpace, IsSpareMember};
+
+    ghost Value = { Hosting };
+
+    ghost view = { λ hall. record { space = hall.space; spare = hall.spare } };
+
+    ghost invariant = { λ hall. record {
+      row : IsRowOfSpace hall.space hall.first hall.procs;
+      spare : IsSpareMember hall.space hall.spare;
+    } };
+}
+
+/// A process that is a member of the space of a hall. One thread has it at a time, and may hand it
+/// to another.
+#[derive(Drop)]
+pub struct Guest<'s, 'k> {
+    space: &'s TagSpace,
+    first: u64,
+    procs: u64,
+    member: Member,
+    proc: Proc<'k>,
+}
+
+impl<'s, 'k> Model for Guest<'s, 'k> {
+    ghost use Rattle.plan9.specs.Halls.{IsAdmitted, IsRowOfSpace, Visiting};
+
+    ghost Value = { Visiting };
+
+    ghost view = { λ guest. record {
+      space = guest.space.now;
+      running = guest.proc;
+      member = guest.member;
+    } };
+
+    ghost invariant = { λ guest. record {
+      row : IsRowOfSpace guest.space.now guest.first guest.procs;
+      admitted : IsAdmitted guest.space.now guest.proc.words guest.member;
+    } };
+}
+
+impl Hall {
+    ghost use Rattle.std.specs.Prelude.{◌≡◌, IfOk, IfErr, OnOk, OnErr};
+    ghost use Rattle.sleep_core.specs.Limits.{IsProcCount};
+    ghost use Rattle.sleep_wakeup.specs.Kernel.{rendez_less};
+    ghost use Rattle.tag_space.specs.Spaces.{WhyNoSpace};
+    ghost use Rattle.plan9.specs.Halls.{IsFirstGuest, IsNewHall, WhyNotFirstGuest};
+
+    /// A hall for so many processes. It takes as many Rendez.
+    /// Refuses, in this order, as `NoProc`, `NoRendez` and `Memory`. Doesn't wait.
+    pub fn new(alloc: Global, roster: &mut Roster<'_>, procs: u64) -> Result<Hall, Fault>
+        // Refused first, and then no Rendez is used up.
+        ensures in_range { OnOk result (IsProcCount procs) }
+        ensures fault { IfErr result (WhyNoSpace roster.old procs) }
+        ensures refused { OnErr result (roster.new ≡ roster.old) }
+
+        // Otherwise the row is the next one, and no process has the first member.
+        ensures row { OnOk result (roster.new ≡ rendez_less procs roster.old) }
+        ensures opened { IfOk result (IsNewHall roster.old procs) }
+    {
+        let Opened { space, member } = TagSpace::new(alloc, roster, procs)?;
+        let RendezId(first) = member.rendez();
+        Ok(Hall {
+            space,
+            spare: Some(member),
+            first,
+            procs,
+        })
+    }
+
+    /// The first guest. Refuses, in this order, as `NoRendez` a process of another kernel, which
+    /// has not all Rendez of the hall, and as `NoProc` where another was the first before. Takes no
+    /// memory and doesn't wait.
+    pub fn first<'s, 'k>(&'s mut self, proc: Proc<'k>) -> Result<Guest<'s, 'k>, Fault>
+        ensures fault { IfErr result (WhyNotFirstGuest self.old proc.entry) }
+        ensures first { IfOk result (IsFirstGuest self.old proc.entry) }
+    {
+        if !has_row(&proc, self.first, self.procs) {
+            return Err(Fault::NoRendez);
+        }
+        match self.spare.take() {
+            None => Err(Fault::NoProc),
+            Some(member) => Ok(Guest {
+                space: &self.space,
+                first: self.first,
+                procs: self.procs,
+                member,
+                proc,
+            }),
+        }
+    }
+}
+
+impl<'s, 'k> Guest<'s, 'k> {
+    ghost use Rattle.std.specs.Prelude.{◌≡◌, ◌<◌, ◌≤◌, IfOk, IfErr, OnOk, OnErr};
+    ghost use Rattle.sync_base.specs.declared.fault.Fault.TheVariants.{NoProc};
+    ghost use Rattle.rendez_words.specs.Steps.{notes};
+    ghost use Rattle.rendez_words.specs.Words.{procs_of};
+    ghost use Rattle.tag_space.specs.Members.{number_of, seen_of, space_of};
+    ghost use Rattle.tag_space.specs.Outcome.{Exchange};
+    ghost use Rattle.tag_space.specs.Walk.{Walks};
+    ghost use Rattle.plan9.specs.Halls.{
+      IsAdmittedGuest,
+      IsFurtherGuest,
+      IsSameGuest,
+      WhyNoGuest,
+      guest_caller,
+      guest_point,
+    };
+
+    /// Meets another guest of the hall that calls with the same tag, and answers its value; the
+    /// other gets this one. The first of the two waits for the second. After rendezvous(2).
+    ///
+    /// Refuses, in this order, as `Worn` where it would wait and no more meetings of the member
+    /// can be counted, `DoubleSleep` where another process sleeps in the member's Rendez, and
+    /// `Interrupted` with the notes that ended the wait, which are no longer pending. Where the
+    /// partner came before that, the exchange stands, and the notes are pending again.
+    /// Takes no memory.
+    pub fn rendezvous<R: Wait>(&mut self, rt: &R, tag: Tag, value: u64) -> Result<u64, Fault>
+        ensures same { IsSameGuest self.old self.new }
+
+        // The member made one call, which is in a pair exactly where a value is answered.
+        ensures exchange { Exchange (space_of self.old.space) (number_of self.old.member) tag value
+            (seen_of self.old.member) (seen_of self.new.member) result }
+
+        // What the member asked, and how its process slept and woke its partner.
+        ensures walk { Walks (guest_caller self.old) tag value
+            (guest_point self.old) (guest_point self.new) result }
+    {
+        self.space
+            .rendezvous(rt, &mut self.proc, &mut self.member, tag, value)
+    }
+
+    /// Another process that is a guest as well.
+    /// Refuses, in this order, as `NoRendez` a process of another kernel, which has not all Rendez
+    /// of the hall, and as `NoProc` where the space has had all its members. It waits for the
+    /// space's lock. Takes no memory.
+    pub fn join<R: Wait>(&mut self, rt: &R, proc: Proc<'k>) -> Result<Guest<'s, 'k>, Fault>
+        ensures same { IsSameGuest self.old self.new }
+        ensures fault { IfErr result (WhyNoGuest self.old self.new proc.entry) }
+        ensures further { IfOk result (IsFurtherGuest self.old self.new proc.entry) }
+    {
+        let knows_hall = has_row(&proc, self.first, self.procs);
+        if !knows_hall {
+            return Err(Fault::NoRendez);
+        }
+        let member = self.space.fork_member(rt, &mut self.member)?;
+        Ok(Guest {
+            space: self.space,
+            first: self.first,
+            procs: self.procs,
+            member,
+            proc,
+        })
+    }
+
+    /// The pid of its process. Takes no memory and doesn't wait.
+    pub fn pid(&self) -> Pid
+        ensures { result.0 ≡ self.now.running.process.pid }
+    {
+        self.proc.pid()
+    }
+
+    /// Posts notes to a process, which end its sleep or are pending until its next one. After
+    /// postnote(2).
+    /// Refuses as `NoProc`. Takes no memory and doesn't wait.
+    pub fn postnote(&mut self, pid: Pid, set: NoteSet) -> Result<(), Fault>
+        // Refused first, and then nothing changes.
+        ensures allowed { OnOk result (pid.0 < procs_of self.old.running.words) }
+        ensures fault { IfErr result (λ fault. fault ≡ NoProc) }
+        ensures refused { OnErr result (procs_of self.old.running.words ≤ pid.0) }
+        ensures nothing { OnErr result (self.new ≡ self.old) }
+
+        // Otherwise the notes are pending.
+        ensures noted { OnOk result (self.new.running.process
+            ≡ notes self.old.running.process pid set) }
+        ensures same { IsSameGuest self.old self.new }
+        ensures member { self.new.member ≡ self.old.member }
+    {
+        self.proc.postnote(pid, set)
+    }
+
+    /// Its member is one of its space's, whose Rendez are of its kernel: so each call of it may be
+    /// made.
+    pub fn is_admitted(&self)
+        ensures { IsAdmittedGuest self.now }
+    {
+        let _member = &self.member;
+    }
+}
