@@ -104,7 +104,8 @@ pub record HasTimed (at_first : List Timer) (procs number : ℕ) (set : Bool) (c
   -- the call was served with this answer, as the next of the history
   pub served : Serves (record { by = number; request = call; reply = answer }) old new
 
--- a seat that called is told what some timers answer, among which its own may be set unless it is
+-- a seat that called is told what some timers answer, among which its own may be set unless it has
+-- one
 pub is_timed : (at_first : List Timer) (procs number : ℕ) (set : Bool) (call : TimerCall)
     (answer : TimerReply) (old new : TimerView)
     → HasTimed at_first procs number set call answer old new

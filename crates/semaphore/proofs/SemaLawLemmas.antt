@@ -129,7 +129,7 @@ collected_of s seat is =
     by_stage Waiting told = cc
     by_stage Idle told = cc
 
--- a seat that is answered Granted when it leaves had been granted a unit
+-- a seat that is answered Granted when it leaves had been granted a unit, which it gets
 pub left_with_of : (s : SemaState) (seat : ℕ) → reply.Granted ≡ answer_to s (Leave seat) → (seat < length s.stages) × (stage_of s seat ≡ Granted)
 left_with_of s seat is =
     let both = seat_of s seat reply.Granted (answer_leave (stage_of s seat)) (λ e. cc) is in
@@ -140,7 +140,7 @@ left_with_of s seat is =
     by_stage Waiting told = cc
     by_stage Idle told = cc
 
--- a seat that is answered Gone when it leaves had been granted no unit
+-- a seat that is answered Gone when it leaves had no granted unit to collect
 pub left_without_of : (s : SemaState) (seat : ℕ) → reply.Gone ≡ answer_to s (Leave seat) → (seat < length s.stages) × (held_in (stage_of s seat) ≡ 0)
 left_without_of s seat is =
     let both = seat_of s seat reply.Gone (answer_leave (stage_of s seat)) (λ e. cc) is in

@@ -694,7 +694,7 @@ pub record Cancels (opening : List Timer) (procs number moment : ℕ) (pid : Pid
   pub opening_is : opening ≡ replicate procs Unset
   -- the seat is one of those that have timers
   pub within : number < procs
-  -- the calls that the seat had made with its setting
+  -- the calls that the seat had made, of which the setting is the last
   pub mine : List TimerEntry
   -- it has this one number, and stands for these calls
   pub shares_are : set.account.shares ≡ record { number = number; mine = mine } ∷ []

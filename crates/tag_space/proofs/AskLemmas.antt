@@ -194,7 +194,8 @@ module _ (space : TagSpace) (past : List Entry)
   fits_reply (Leave member) (Wait count) answered = absurd answered
   fits_reply call told answered = tt
 
--- a request of a member has an answer that fits its space
+-- whom a request of a member finds is a member of its space, and a count that it is told leaves a
+-- level above it
 pub reply_fits : (space : TagSpace) (before after : Member) → IsOneOf space after
     → (call : GroupCall) (told : GroupReply)
     → Asks call told (account_of before) (account_of after) → FitsReply space told

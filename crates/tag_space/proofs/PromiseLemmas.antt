@@ -230,7 +230,7 @@ is_space space (entry ∷ past) legal =
 
 -- the call with this number is out: it waits for nobody, and is in no pair
 pub record IsOut (history : List Entry) (number : ℕ) : Type 0 where
-  -- a call with this number was made
+  -- an entry of the history has this number
   pub made : number < length history
   -- of the calls that wait none has this number
   pub waits : (member : ℕ) (offer : Offer) → stage_of history member ≡ Waits offer → offer.number ≢ number

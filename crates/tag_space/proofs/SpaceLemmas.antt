@@ -88,7 +88,7 @@ module _ (space : Space) (places : List Place) (past : List Entry) (shows : Show
         | inr past_last ↦ absurd (false≢true (let no : nat_lt member (length places) ≡ false = grind (arith, nat_tests) in rw no at may))
       ]
 
-  -- who is refused a call may not call by the history either
+  -- who may not call by what is kept of it may not call by the history either
   pub may_not_call_is : (member : ℕ) → may_call places member ≡ false → MayCall space past member → ⊥
   may_not_call_is member not_may may =
       let below : nat_lt member (length places) ≡ true = rw shows.members (grind (arith, nat_tests, may.exists)) in
