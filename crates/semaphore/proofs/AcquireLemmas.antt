@@ -154,8 +154,8 @@ left_granted caller count past waits =
           (Asks (Collect caller.number) reply.Granted) waits.turn;
     }
 
--- a call without a deadline that was granted its unit behind a sleep is out of the line with that
--- unit
+-- a call that waited until it was granted a unit has left the line with that unit, and took no
+-- notes
 pub leaves_with : (caller : Caller) (start now : Standing) → Calls caller start now (HasWaited caller None)
     → Calls caller start now (HasLeft caller (record { granted = true; notes = no_notes; expired = false; stop = None; cancelled = false }))
 leaves_with caller start now calls =
