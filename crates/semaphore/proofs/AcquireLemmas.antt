@@ -28,6 +28,7 @@ use Rattle.semaphore.specs.Turns.Turn.{Told, Ready}
 
 -- ---- one deed more
 
+-- a call that asks its semaphore has done one deed more, and its seat knows the answer
 pub then_asks : (caller : Caller) (start now : Standing) (seat : SemaView) (deeds : List Deed)
     (call : SemaCall) (answer : SemaReply) → Did caller deeds start now
     → Serves (record { by = caller.number; request = call; reply = answer }) now.seat seat
@@ -39,6 +40,7 @@ then_asks caller start now seat deeds call answer did served =
       timer = (now.timer, (did.timer, refl));
     }
 
+-- a call that sleeps has done one deed more, and its process is the one that the sleep left
 pub then_rests : (caller : Caller) (start now : Standing) (process : Process) (deeds : List Deed)
     (threshold : ℕ) (ending : Ending) → Did caller deeds start now
     → Slept caller.rendez threshold ending now.process process
@@ -50,6 +52,7 @@ then_rests caller start now process deeds threshold ending did slept =
       timer = (now.timer, (did.timer, refl));
     }
 
+-- a call that posts notes has done one deed more, and its process has these notes in its steps
 pub then_posts : (caller : Caller) (start now : Standing) (process : Process) (deeds : List Deed)
     (pid : Pid) (set : NoteSet) → Did caller deeds start now
     → process ≡ steps.notes now.process pid set
@@ -151,6 +154,8 @@ left_granted caller count past waits =
           (Asks (Collect caller.number) reply.Granted) waits.turn;
     }
 
+-- a call that waited until it was granted a unit has left the line with that unit, and took no
+-- notes
 pub leaves_with : (caller : Caller) (start now : Standing) → Calls caller start now (HasWaited caller None)
     → Calls caller start now (HasLeft caller (record { granted = true; notes = no_notes; expired = false; stop = None; cancelled = false }))
 leaves_with caller start now calls =
@@ -219,6 +224,8 @@ left_stopped caller count past (stop.Noted set) false waits =
           (Asks (Leave caller.number) reply.Gone) waits.turn;
     }
 
+-- a stopped call that leaves the line is out of it: with a unit where one was granted to it
+-- meanwhile, with the notes that stopped it, and for the same reason
 pub leaves_so : (caller : Caller) (start now : Standing) (seat : SemaView) (how : Stop) (granted : Bool)
     → Serves (record { by = caller.number; request = Leave caller.number; reply = leave_reply granted }) now.seat seat
     → Calls caller start now (HasWaited caller (Some how))

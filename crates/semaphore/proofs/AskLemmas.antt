@@ -42,16 +42,26 @@ names_it (Some n) shares number mine own are =
 -- what the seat at a semaphore knew, and what it knows behind a call
 pub record HasCalled (at_first : SemaState) (procs number : ℕ) (waits : Bool) (call : SemaCall)
     (answer : SemaReply) (old new : SemaView) : Type 0 where
+  -- the units that the semaphore began with
   pub value : ℕ
+  -- they are no more than a semaphore may have
   pub fits : value ≤ MAX_VALUE
+  -- at first the semaphore had these units, and each seat's grants were counted from 0
   pub opening_is : at_first ≡ opening value procs 0
+  -- the calls that the seat had made before
   pub mine : List SemaEntry
+  -- the seat has this one number, and stands for these calls
   pub shares_are : old.account.shares ≡ record { number = number; mine = mine } ∷ []
+  -- whether its last call left it waiting
   pub waits_is : is_waiting mine ≡ waits
+  -- before the call the seat knew a legal history
   pub knew : KnowsHistory sema_meaning at_first procs old.account
+  -- behind the call it knows a legal history still
   pub knows : KnowsHistory sema_meaning at_first procs new.account
+  -- the call was served with this answer, as the next of the history
   pub served : Serves (record { by = number; request = call; reply = answer }) old new
 
+-- a seat that called is told what some sound state answers, in which it is idle unless it waits
 pub is_told : (at_first : SemaState) (procs number : ℕ) (waits : Bool) (call : SemaCall)
     (answer : SemaReply) (old new : SemaView)
     → HasCalled at_first procs number waits call answer old new
@@ -79,14 +89,23 @@ is_told at_first procs number waits call answer old new h =
 -- the same of a seat at timers
 pub record HasTimed (at_first : List Timer) (procs number : ℕ) (set : Bool) (call : TimerCall)
     (answer : TimerReply) (old new : TimerView) : Type 0 where
+  -- at first no timer was set
   pub opening_is : at_first ≡ replicate procs Unset
+  -- the calls that the seat had made before
   pub mine : List TimerEntry
+  -- the seat has this one number, and stands for these calls
   pub shares_are : old.account.shares ≡ record { number = number; mine = mine } ∷ []
+  -- whether its calls left it a timer that was not cancelled
   pub set_is : has_timer mine ≡ set
+  -- before the call the seat knew a legal history
   pub knew : KnowsHistory timer_meaning at_first procs old.account
+  -- behind the call it knows a legal history still
   pub knows : KnowsHistory timer_meaning at_first procs new.account
+  -- the call was served with this answer, as the next of the history
   pub served : Serves (record { by = number; request = call; reply = answer }) old new
 
+-- a seat that called is told what some timers answer, among which its own may be set unless it has
+-- one
 pub is_timed : (at_first : List Timer) (procs number : ℕ) (set : Bool) (call : TimerCall)
     (answer : TimerReply) (old new : TimerView)
     → HasTimed at_first procs number set call answer old new

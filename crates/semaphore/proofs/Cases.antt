@@ -2,6 +2,7 @@
 use Rattle.std.proofs.Common.{◌≡◌, ◌≢◌, ◌⊎◌, ◌<◌, ◌≤◌, inl, inr, ℕ, zero, suc, true, false, eqb, arith}
 use Rattle.std.proofs.lemmas.Bool.Decides.{eqb_tells}
 
+-- two numbers are the same, or they are not
 pub same_or_not : (a b : ℕ) → (a ≡ b) ⊎ (a ≢ b)
 same_or_not a b = by_test (eqb_tells a b)
   where
@@ -9,6 +10,7 @@ same_or_not a b = by_test (eqb_tells a b)
     by_test (inl here) = inl here.1
     by_test (inr there) = inr there.1
 
+-- a number is below another, or at least as large
 pub below_or_not : (a b : ℕ) → (a < b) ⊎ (b ≤ a)
 below_or_not a zero = inr (omega arith)
 below_or_not zero (suc b) = inl (omega arith)

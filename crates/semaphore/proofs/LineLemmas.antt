@@ -30,6 +30,7 @@ head_true x seat rest is = by_case (same_or_not x seat)
     by_case (inl same) = inl same
     by_case (inr other) = inr (other, sym (head_other x seat rest other) ∙ is)
 
+-- who does not stand in a line is not its first, and does not stand behind the first
 pub head_false : (x seat : ℕ) (rest : Bool) → ((x == seat) || rest) ≡ false → (x ≢ seat) × (rest ≡ false)
 head_false x seat rest is = by_case (same_or_not x seat)
   where
@@ -39,6 +40,7 @@ head_false x seat rest is = by_case (same_or_not x seat)
         cc
     by_case (inr other) = (other, sym (head_other x seat rest other) ∙ is)
 
+-- who is told not to stand in a line differs from each seat in it
 pub lacks_of : (xs : List ℕ) (seat : ℕ) → stands_in xs seat ≡ false → Lacks xs seat
 lacks_of [] seat is = tt
 lacks_of (x ∷ xs) seat is =
@@ -64,6 +66,7 @@ before_has Has next prev from (x ∷ xs) end seat first each linked is =
     by_case rest (inl same) = subst Has (sym linked.1.0 ∙ ap (slice_index prev) same) first
     by_case rest (inr other) = rest other.1
 
+-- what every seat of a line and its end have, the place behind its start has
 pub first_has : (Has : ℕ → Type 0) (next prev : List ℕ) (from : ℕ) (xs : List ℕ) (end : ℕ) → Has end → EachHas Has xs → IsLinked next prev from xs end → Has (slice_index next from)
 first_has Has next prev from [] end last each linked = subst Has (sym linked.0) last
 first_has Has next prev from (x ∷ xs) end last each linked = subst Has (sym linked.0) each.0
@@ -98,6 +101,7 @@ kept_linked next prev from (x ∷ xs) end i v j u start no_i no_j last linked = 
 pub without_here : (seat x : ℕ) (xs : List ℕ) → x ≡ seat → without seat (x ∷ xs) ≡ xs
 without_here seat x xs same = grind (arith, nat_tests)
 
+-- a seat that leaves a line leaves another seat that stands first where it is
 pub without_there : (seat x : ℕ) (xs : List ℕ) → x ≢ seat → without seat (x ∷ xs) ≡ x ∷ without seat xs
 without_there seat x xs other = grind (arith, nat_tests)
 
@@ -119,6 +123,7 @@ past_first next prev seats from seat (x ∷ xs) end inside edge are most no_from
   ),
 )
 
+-- where the links before and behind a seat are joined to each other, they link the line without it
 pub linked_without : (next prev : List ℕ) (seats from : ℕ) (xs : List ℕ) (end seat : ℕ) → from < length next → seats < length next → end < length prev → seats ≤ end → AreSeats seats xs → Lacks xs from → IsLinked next prev from xs end → stands_in xs seat ≡ true → IsLinked (set next (slice_index prev seat) (slice_index next seat)) (set prev (slice_index next seat) (slice_index prev seat)) from (without seat xs) end
 linked_without next prev seats from [] end seat inside many edge most are no_from linked is = cc
 linked_without next prev seats from (x ∷ xs) end seat inside many edge most are no_from linked is =
@@ -192,14 +197,17 @@ or_true : (b : Bool) → (b || true) ≡ true
 or_true true = refl
 or_true false = refl
 
+-- a seat that has joined a line stands in it
 pub joined_same : (xs : List ℕ) (seat : ℕ) → stands_in (xs ++ seat ∷ []) seat ≡ true
 joined_same [] seat = head_is seat seat false refl
 joined_same (x ∷ xs) seat = ap (λ r. (x == seat) || r) (joined_same xs seat) ∙ or_true (x == seat)
 
+-- when a seat joins a line, it stays as it was whether another stands in it
 pub joined_other : (xs : List ℕ) (seat other : ℕ) → seat ≢ other → stands_in (xs ++ seat ∷ []) other ≡ stands_in xs other
 joined_other [] seat other apart = head_other seat other false apart
 joined_other (x ∷ xs) seat other apart = ap (λ r. (x == other) || r) (joined_other xs seat other apart)
 
+-- a seat that has left a line does not stand in it
 pub left_same : (seats : ℕ) (xs : List ℕ) (seat : ℕ) → AreSeats seats xs → stands_in (without seat xs) seat ≡ false
 left_same seats [] seat are = refl
 left_same seats (x ∷ xs) seat are = by_case (left_same seats xs seat are.2) (same_or_not x seat)
@@ -211,6 +219,7 @@ left_same seats (x ∷ xs) seat are = by_case (left_same seats xs seat are.2) (s
         ap (λ l. stands_in l seat) (without_there seat x xs other)
         ∙ (head_other x seat (stands_in (without seat xs) seat) other ∙ rest)
 
+-- when a seat leaves a line, it stays as it was whether another stands in it
 pub left_other : (xs : List ℕ) (seat other : ℕ) → seat ≢ other → stands_in (without seat xs) other ≡ stands_in xs other
 left_other [] seat other apart = refl
 left_other (x ∷ xs) seat other apart = by_case (left_other xs seat other apart) (same_or_not x seat)
@@ -222,12 +231,14 @@ left_other (x ∷ xs) seat other apart = by_case (left_other xs seat other apart
     by_case rest (inr stays) =
         ap (λ l. stands_in l other) (without_there seat x xs stays) ∙ ap (λ r. (x == other) || r) rest
 
+-- a line that a seat from outside it joins is a line of seats, each once
 pub seats_join : (seats : ℕ) (xs : List ℕ) (seat : ℕ) → AreSeats seats xs → seat < seats → stands_in xs seat ≡ false → AreSeats seats (xs ++ seat ∷ [])
 seats_join seats [] seat are within new = (within, refl, tt)
 seats_join seats (x ∷ xs) seat are within new =
     let apart = head_false x seat (stands_in xs seat) new in
     (are.0, joined_other xs seat x (λ e. apart.0 (sym e)) ∙ are.1, seats_join seats xs seat are.2 within apart.1)
 
+-- a line that a seat leaves is a line of seats, each once
 pub seats_without : (seats : ℕ) (xs : List ℕ) (seat : ℕ) → AreSeats seats xs → AreSeats seats (without seat xs)
 seats_without seats [] seat are = tt
 seats_without seats (x ∷ xs) seat are = by_case (seats_without seats xs seat are.2) (same_or_not x seat)
@@ -242,6 +253,7 @@ length_join : (xs : List ℕ) (seat : ℕ) → length (xs ++ seat ∷ []) ≡ le
 length_join [] seat = refl
 length_join (x ∷ xs) seat = omega (arith, length_join xs seat)
 
+-- a line that a seat leaves is one seat shorter
 pub length_without : (xs : List ℕ) (seat : ℕ) → stands_in xs seat ≡ true → length (without seat xs) + 1 ≡ length xs
 length_without [] seat is = cc
 length_without (x ∷ xs) seat is = by_case (length_without xs seat) (head_true x seat (stands_in xs seat) is)
@@ -271,6 +283,7 @@ module _ (next prev : List ℕ) (stands : List Bool) (count : ℕ) (ring : IsRin
       ap (walk next (length stands)) (sym ring.many)
       ∙ walk_is next prev (length stands) ring.order (length stands) ring.linked
 
+  -- no more seats stand in line than there are
   pub count_fits : count ≤ length stands
   count_fits = omega (arith, ring.counted, count_by-le-length (λ (b : Bool). b) stands)
 
@@ -280,11 +293,13 @@ module _ (next prev : List ℕ) (stands : List Bool) (count : ℕ) (ring : IsRin
       before_has (λ p. p < length stands + 1) next prev (length stands) ring.order (length stands) seat
       (omega arith) (each_wider (length stands) ring.order ring.seats) ring.linked is
 
+  -- and so it is behind a seat
   pub behind_fits : (seat : ℕ) → stands_in ring.order seat ≡ true → slice_index next seat < length stands + 1
   behind_fits seat is =
       behind_has (λ p. p < length stands + 1) next prev (length stands) ring.order (length stands) seat
       (omega arith) (each_wider (length stands) ring.order ring.seats) ring.linked is
 
+  -- the last in line, or the end itself where nobody stands, is a place of the ring
   pub last_fits : slice_index prev (length stands) < length stands + 1
   last_fits =
       last_has (λ p. p < length stands + 1) next prev (length stands) ring.order (length stands)
@@ -298,6 +313,7 @@ module _ (next prev : List ℕ) (stands : List Bool) (count : ℕ) (ring : IsRin
       by_line [] many are linked = absurd (omega arith)
       by_line (x ∷ xs) many are linked = (ap Some (sym linked.0), omega (arith, linked.0, are.0))
 
+  -- when a seat links itself in behind the last, the links are a ring of one seat more
   pub ring_join : (seat last : ℕ) → seat < length stands → last ≡ slice_index prev (length stands) → stands_in ring.order seat ≡ false → IsRing (set (set next last seat) seat (length stands)) (set (set prev seat last) (length stands) seat) (set stands seat true) (count + 1)
   ring_join seat last within is new =
       let same : length (set stands seat true) ≡ length stands = length-set stands seat true in
@@ -327,6 +343,8 @@ module _ (next prev : List ℕ) (stands : List Bool) (count : ℕ) (ring : IsRin
           get_or-set_other stands seat other true false apart
           ∙ (ring.told other inside ∙ sym (joined_other ring.order seat other (λ e. apart (sym e))))
 
+  -- when a seat in line links those before and behind it to each other, they are a ring of one seat
+  -- less
   pub ring_leave : (seat before behind : ℕ) → seat < length stands → before ≡ slice_index prev seat → behind ≡ slice_index next seat → stands_in ring.order seat ≡ true → IsRing (set next before behind) (set prev behind before) (set stands seat false) (count - 1)
   ring_leave seat before behind within is_before is_behind there =
       let same : length (set stands seat false) ≡ length stands = length-set stands seat false in
@@ -367,6 +385,7 @@ module _ (next prev : List ℕ) (stands : List Bool) (count : ℕ) (ring : IsRin
       (ap (walk (set (set next last seat) seat (length stands)) (length (set stands seat true))) (sym after.many)
       ∙ walk_is (set (set next last seat) seat (length stands)) (set (set prev seat last) (length stands) seat) (length (set stands seat true)) (ring.order ++ seat ∷ []) (length (set stands seat true)) after.linked)
 
+  -- when a seat has left, the line without it is read along the links
   pub line_left : (seat before behind : ℕ) → seat < length stands → before ≡ slice_index prev seat → behind ≡ slice_index next seat → stands_in ring.order seat ≡ true → walk (set next before behind) (length (set stands seat false)) (count - 1) ≡ without seat ring.order
   unfolding ring_leave
   line_left seat before behind within is_before is_behind there =
@@ -374,5 +393,6 @@ module _ (next prev : List ℕ) (stands : List Bool) (count : ℕ) (ring : IsRin
       ap (walk (set next before behind) (length (set stands seat false))) (sym after.many)
       ∙ walk_is (set next before behind) (set prev behind before) (length (set stands seat false)) (without seat ring.order) (length (set stands seat false)) after.linked
 
+-- two lines of as many seats in the same order are the same
 pub same_line : (one other : Line) → one.seats ≡ other.seats → one.order ≡ other.order → one ≡ other
 same_line one other seats order = λ k. record { seats = seats k; order = order k }

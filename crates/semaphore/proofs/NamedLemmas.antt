@@ -123,6 +123,8 @@ named_step named s (Leave seat) reply.Gone sound is are =
     set_named named s (sema_after s (Leave seat) reply.Gone) (length-set s.stages seat Idle) refl refl are
 named_step named s call answer sound is are = are
 
+-- after every legal history, each seat that was granted a unit is yet to be named, or was named
+-- last with its latest count
 pub each_is_named : (value procs count : ℕ) (past : List SemaEntry) → value ≤ MAX_VALUE → count ≤ LAST_GRANT → IsLegal sema_meaning (opening value procs count) past → AreNamed (λ seat. last_named count seat past) (state_after sema_meaning (opening value procs count) past)
 each_is_named value procs count [] fits few legal = λ seat within none. count_is procs seat count within
 each_is_named value procs count (entry ∷ past) fits few legal =

@@ -23,7 +23,9 @@ use Rattle.semaphore.proofs.SemaLawLemmas.{waits_of, collected_of, left_with_of,
 
 -- so many seats, and whether the seat is idle
 pub record Shows (s : SemaState) (procs number : ℕ) (idle : Bool) : Type 0 where
+  -- the semaphore has so many seats
   pub size : length s.stages ≡ procs
+  -- whether this seat has no wait that is not over
   pub is : is_idle (stage_of s number) ≡ idle
 
 -- a stage is set, of the seat or of another one

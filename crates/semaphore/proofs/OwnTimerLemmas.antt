@@ -22,7 +22,9 @@ use Rattle.semaphore.proofs.TimerLemmas.{first_of_all, earliest_is_set}
 
 -- so many timers, and whether this one may be set
 pub record Keeps (s : List Timer) (procs number : ℕ) (free : Bool) : Type 0 where
+  -- there are so many timers
   pub size : length s ≡ procs
+  -- whether this one may be set: it is unset
   pub is : may_add (timer_of s number) ≡ free
 
 -- what the answers tell
@@ -139,9 +141,13 @@ own_timer procs number (entry ∷ past) legal =
 
 -- an Expire at its deadline or later took the timer that was set so
 record Takes (s : List Timer) (call : TimerCall) (seat deadline : ℕ) : Type 0 where
+  -- the moment that a tick told
   pub now : ℕ
+  -- the call is the Expire of that moment
   pub call_is : call ≡ Expire now
+  -- the deadline had come by then
   pub due : deadline ≤ now
+  -- of all timers that were due, this was the first
   pub took : first_due now s ≡ Some (record { deadline = deadline; seat = seat })
 
 same_set : (pid other : Pid) (a b : ℕ) → Set pid a ≡ Set other b → a ≡ b
@@ -194,12 +200,19 @@ others_take s seat deadline by pid call answer named apart set_so = inl set_so
 
 -- since it was set, a tick took it
 record Found (opening : List Timer) (seat deadline : ℕ) (since base : List TimerEntry) : Type 0 where
+  -- what came since the tick took it
   pub later : List TimerEntry
+  -- the call by which it was taken
   pub expired : TimerEntry
+  -- what came between its setting and that call
   pub earlier : List TimerEntry
+  -- the three are all that came since it was set
   pub since_is : since ++ base ≡ later ++ (expired ∷ (earlier ++ base))
+  -- its seat made no call since it was taken
   pub later_others : AreByOthersThan seat later
+  -- nor between its setting and that
   pub earlier_others : AreByOthersThan seat earlier
+  -- that call was an Expire at the deadline or later, which found it the first that was due
   pub takes : Takes (state_after timer_meaning opening (earlier ++ base)) expired.request seat deadline
 
 since_set : (opening : List Timer) (seat deadline : ℕ) (pid : Pid) (since base : List TimerEntry) → IsLegal timer_meaning opening (since ++ base) → AreByOthersThan seat since → timer_of (state_after timer_meaning opening base) seat ≡ Set pid deadline → (timer_of (state_after timer_meaning opening (since ++ base)) seat ≡ Set pid deadline) ⊎ Found opening seat deadline since base
@@ -241,6 +254,8 @@ legal_past : (opening : List Timer) (since base : List TimerEntry) → IsLegal t
 legal_past opening [] base legal = legal
 legal_past opening (entry ∷ since) base legal = legal_past opening since base legal.1
 
+-- a timer whose seat is told at its cancelling that it has expired was taken by a tick, at its
+-- deadline or later
 pub was_taken : (opening : List Timer) (seat deadline : ℕ) (pid : Pid) (since past : List TimerEntry) (added cancelled : TimerEntry) → IsTaken opening seat deadline pid since past added cancelled → WasTaken opening seat deadline (cancelled ∷ (since ++ (added ∷ past)))
 was_taken opening seat deadline pid since past added cancelled h =
     by_found (since_set opening seat deadline pid since (added ∷ past) h.legal.1 h.others (set_by (legal_past opening since (added ∷ past) h.legal.1)))
@@ -287,6 +302,7 @@ was_taken opening seat deadline pid since past added cancelled h =
 
 -- ---- what a request of a seat may be answered
 
+-- the seat of a timer that may be set is answered nothing but Added where it sets it
 pub add_never : (s : List Timer) (procs number seat deadline : ℕ) (pid : Pid) (answer : TimerReply) → length s ≡ procs → number < procs → may_add (timer_of s number) ≡ true → seat ≡ number → answer ≡ answer_to s (Add seat pid deadline) → answer ≢ told.Added → ⊥
 add_never s procs number seat deadline pid answer size within free same is apart =
     let there : is_seat s seat ≡ true = grind (arith, nat_tests) in
@@ -294,6 +310,8 @@ add_never s procs number seat deadline pid answer size within free same is apart
     apart (is ∙ (ap (λ b. if b then (if may_add (timer_of s seat) then told.Added else told.Busy) else told.Busy) there
     ∙ ap (λ b. if b then told.Added else told.Busy) may))
 
+-- the seat of a timer that is set or expired is answered nothing but Removed or Expired where it
+-- cancels it
 pub cancel_never : (s : List Timer) (procs number seat : ℕ) (answer : TimerReply) → length s ≡ procs → number < procs → may_add (timer_of s number) ≡ false → seat ≡ number → answer ≡ answer_to s (Cancel seat) → answer ≢ told.Removed → answer ≢ told.Expired → ⊥
 cancel_never s procs number seat answer size within taken same is removed expired =
     let there : is_seat s seat ≡ true = grind (arith, nat_tests) in
@@ -305,6 +323,7 @@ cancel_never s procs number seat answer size within taken same is removed expire
     by Expired set_so told_so = expired told_so
     by Unset set_so told_so = cc
 
+-- an Expire answers nothing but whose timer ended, or that none is due
 pub expire_never : (s : List Timer) (now : ℕ) (answer : TimerReply) → answer ≡ answer_to s (Expire now) → ((pid : Pid) → answer ≢ told.Ended pid) → answer ≢ told.NoneDue → ⊥
 expire_never s now answer is ended none = by (first_due now s) is
   where

@@ -69,6 +69,8 @@ wakes_no_more caller start now seat first released served calls =
       };
     }
 
+-- a release that was answered with the sum is the one deed of its call so far, and the seat knows
+-- it
 pub did_release : (caller : Caller) (start : Standing) (seat : SemaView) (count sum : ℕ)
     → Serves (record { by = caller.number; request = Release count; reply = reply.Value sum }) start.seat seat
     → Did caller (Asks (Release count) (reply.Value sum) ∷ []) start (record start { seat = seat })
@@ -76,11 +78,13 @@ did_release caller start seat count sum served =
     then_asks caller start start seat [] (Release count) (reply.Value sum)
     (record { process = refl; seat = refl; timer = refl }) served
 
+-- a call that has just released is to wake whom it is told of, and has woken nobody
 pub is_waking : (first count sum : ℕ)
     → IsWaking first (record { count = count; reply = reply.Value sum })
     (Asks (Release count) (reply.Value sum) ∷ [])
 is_waking first count sum = record { once = refl; woken = refl; own = (tt, tt) }
 
+-- a call that has released, and woken each that was named until none was left, answers the sum
 pub releases : (caller : Caller) (start now : Standing) (first count sum : ℕ)
     → Calls caller start now (HasWoken first (record { count = count; reply = reply.Value sum }))
     → Calls caller start now (Releases first count (Ok sum))
@@ -98,6 +102,8 @@ releases caller start now first count sum calls =
       };
     }
 
+-- a release that was answered BadArg is the only deed of its call, which answers BadArg and wakes
+-- nobody
 pub refuses : (caller : Caller) (start : Standing) (seat : SemaView) (first count : ℕ)
     → Serves (record { by = caller.number; request = Release count; reply = reply.BadArg }) start.seat seat
     → Calls caller start (record start { seat = seat }) (Releases first count (Err fault.BadArg))
@@ -111,6 +117,7 @@ refuses caller start seat first count served =
 
 -- ---- ticks
 
+-- a tick that has just begun has expired no timer and told nobody
 pub ticks_none : (caller : Caller) (start : Standing) (kernel now : ℕ)
     → Calls caller start start (IsTicking kernel now 0)
 ticks_none caller start kernel now =
@@ -202,6 +209,7 @@ goes_on_to procs (Rouses rendez level ∷ past) due many = (many, due)
 goes_on_to procs (Posts pid set ∷ past) due many = (many, due)
 goes_on_to procs (Drains set ∷ past) due many = (many, due)
 
+-- a tick that has expired as many timers as there are stops there, and answers so many
 pub ticks_all : (caller : Caller) (start here : Standing) (procs kernel now : ℕ)
     → Calls caller start here (IsTicking kernel now procs)
     → Calls caller start here (Ticks procs kernel now procs)

@@ -23,9 +23,11 @@ test_of : (r x : SemaReply) (b : Bool) → r ≢ reply.Busy → r ≡ (if b then
 test_of r x true apart is = (refl, is)
 test_of r x false apart is = absurd (apart is)
 
+-- where the test answers true, the one number is below the other
 pub below_of : (a b : ℕ) → nat_lt a b ≡ true → a < b
 below_of a b is = grind (arith, nat_tests)
 
+-- where the test answers false, the one number is no smaller than the other
 pub above_of : (a b : ℕ) → nat_lt a b ≡ false → b ≤ a
 above_of a b is = grind (arith, nat_tests)
 
@@ -41,9 +43,12 @@ idle_of Granted is = cc
 
 -- a seat that may acquire is idle
 pub record MayAcquire (s : SemaState) (seat : ℕ) : Type 0 where
+  -- it is one of the semaphore's seats
   pub within : seat < length s.stages
+  -- its last wait is over
   pub idle : stage_of s seat ≡ Idle
 
+-- where an acquire is answered anything but Busy, its seat may acquire, and that is the answer
 pub may_of : (s : SemaState) (seat : ℕ) (r x : SemaReply) → r ≢ reply.Busy → r ≡ (if may_acquire s seat then x else reply.Busy) → MayAcquire s seat × (r ≡ x)
 may_of s seat r x apart is =
     let both = test_of r x (may_acquire s seat) apart is in
@@ -67,12 +72,18 @@ acquired_of s seat is =
         not_worn true e = cc
         not_worn false e = cc
 
+-- what holds where a seat is told to wait
 pub record Waits (s : SemaState) (seat : ℕ) : Type 0 where
+  -- it is one of the semaphore's seats
   pub within : seat < length s.stages
+  -- its last wait is over
   pub idle : stage_of s seat ≡ Idle
+  -- there is no unit
   pub none : s.value ≡ 0
+  -- its count of grants is not the last one
   pub more : grants_of s seat ≢ LAST_GRANT
 
+-- a seat whose acquire is answered Wait is idle, finds no unit, and may be granted another
 pub waits_of : (s : SemaState) (seat count : ℕ) → reply.Wait count ≡ answer_to s (Acquire seat) → Waits s seat
 waits_of s seat count is =
     let both = may_of s seat (reply.Wait count) (answer_acquire s seat) (λ e. cc) is in
@@ -96,6 +107,7 @@ taken_now_of s seat is =
     by_test true there told = below_of 0 s.value there
     by_test false there told = cc
 
+-- the sum that a release answers is the value and what was released, and is within the limit
 pub released_of : (s : SemaState) (count sum : ℕ) → reply.Value sum ≡ answer_to s (Release count) → (sum ≡ s.value + count) × (sum ≤ MAX_VALUE)
 released_of s count sum is = by_test (nat_lt MAX_VALUE (s.value + count)) refl is
   where
@@ -106,6 +118,7 @@ released_of s count sum is = by_test (nat_lt MAX_VALUE (s.value + count)) refl i
         let fits = above_of MAX_VALUE (s.value + count) there in
         (same, omega arith)
 
+-- a seat whose collect is answered Granted had been granted a unit
 pub collected_of : (s : SemaState) (seat : ℕ) → reply.Granted ≡ answer_to s (Collect seat) → (seat < length s.stages) × (stage_of s seat ≡ Granted)
 collected_of s seat is =
     let both = seat_of s seat reply.Granted (answer_collect s seat (stage_of s seat)) (λ e. cc) is in
@@ -116,6 +129,7 @@ collected_of s seat is =
     by_stage Waiting told = cc
     by_stage Idle told = cc
 
+-- a seat that is answered Granted when it leaves had been granted a unit, which it gets
 pub left_with_of : (s : SemaState) (seat : ℕ) → reply.Granted ≡ answer_to s (Leave seat) → (seat < length s.stages) × (stage_of s seat ≡ Granted)
 left_with_of s seat is =
     let both = seat_of s seat reply.Granted (answer_leave (stage_of s seat)) (λ e. cc) is in
@@ -126,6 +140,7 @@ left_with_of s seat is =
     by_stage Waiting told = cc
     by_stage Idle told = cc
 
+-- a seat that is answered Gone when it leaves had no granted unit to collect
 pub left_without_of : (s : SemaState) (seat : ℕ) → reply.Gone ≡ answer_to s (Leave seat) → (seat < length s.stages) × (held_in (stage_of s seat) ≡ 0)
 left_without_of s seat is =
     let both = seat_of s seat reply.Gone (answer_leave (stage_of s seat)) (λ e. cc) is in
@@ -139,10 +154,16 @@ left_without_of s seat is =
 -- what every history keeps: so many units were there in all, so many were taken, and each seat
 -- collected so many
 pub record Kept (sum got count : ℕ) (own : ℕ → ℕ) (s : SemaState) : Type 0 where
+  -- the state is one that a semaphore can be in
   pub sound : IsSound s
+  -- the units that nobody has, those taken and those granted but not collected are all that there
+  -- were
   pub units : s.value + got + uncollected s.stages ≡ sum
+  -- a seat's count is where it began, the units that it collected, and the one that it has yet to
+  -- collect
   pub counts : (seat : ℕ) → seat < length s.stages → grants_of s seat ≡ count + own seat + held_in (stage_of s seat)
 
+-- there is no unit, or nobody waits for one
 abbrev pub Free : SemaState → Type 0
 Free s = (s.value ≡ 0) ⊎ (s.waiters ≡ [])
 
@@ -328,6 +349,7 @@ count_at zero i count = omega arith
 count_at (suc n) zero count = omega arith
 count_at (suc n) (suc i) count = count_at n i count
 
+-- in a new semaphore each seat's count is where the counts began
 pub count_is : (n i count : ℕ) → i < length (replicate n Idle) → get_or (replicate n count) i 0 ≡ count
 count_is zero i count within = absurd (omega arith)
 count_is (suc n) zero count within = refl
@@ -364,6 +386,8 @@ opening_kept value procs count fits few =
     nowhere : false ≡ true → ⊥
     nowhere e = cc
 
+-- after every legal history the units add up, each count is of the grants, the state is sound, and
+-- nobody waits where there is a unit
 pub history_keeps : (value procs count : ℕ) (past : List SemaEntry) → value ≤ MAX_VALUE → count ≤ LAST_GRANT → IsLegal sema_meaning (opening value procs count) past → Kept (value + released past) (taken past) count (λ seat. collected seat past) (state_after sema_meaning (opening value procs count) past) × Free (state_after sema_meaning (opening value procs count) past)
 history_keeps value procs count [] fits few legal = (opening_kept value procs count fits few, inr refl)
 history_keeps value procs count (entry ∷ past) fits few legal =

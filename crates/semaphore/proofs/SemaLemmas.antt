@@ -51,6 +51,7 @@ no_or_yes : (b : Bool) → (b ≡ true → ⊥) → b ≡ false
 no_or_yes true not_so = absurd (not_so refl)
 no_or_yes false not_so = refl
 
+-- in a sound state a seat whose stage is not Waiting stands in no line
 pub not_in_line : (s : SemaState) (seat : ℕ) (stage : Stage) → IsSound s → stage_of s seat ≡ stage → stage ≢ Waiting → stands_in s.waiters seat ≡ false
 not_in_line s seat stage sound is apart =
     no_or_yes (stands_in s.waiters seat) (λ stands. apart (sym is ∙ sound.waits seat stands))
@@ -77,6 +78,7 @@ sound_left s seat stage sound within apart =
     clash : false ≡ true → ⊥
     clash e = cc
 
+-- a sound state stays sound when a seat leaves the line and is idle
 pub sound_leave : (s : SemaState) (seat : ℕ) → IsSound s → seat < length s.stages → IsSound (record s { stages = set s.stages seat Idle; waiters = without seat s.waiters })
 sound_leave s seat sound within = sound_left s seat Idle sound within (λ e. cc)
 
@@ -96,12 +98,18 @@ stands_below seats (x ∷ xs) seat are is =
     let same : x ≡ seat = some_same x seat is in
     omega (arith, are.0)
 
+-- what holds of the seat that is granted the next unit
 pub record IsFirstWaiter (s : SemaState) (seat : ℕ) : Type 0 where
+  -- it is one of the semaphore's seats
   pub within : seat < length s.stages
+  -- its grants are counted
   pub counted : seat < length s.grants
+  -- it stands in the line
   pub stands : stands_in s.waiters seat ≡ true
+  -- it may be granted one unit more
   pub more : grants_of s seat < LAST_GRANT
 
+-- in a sound state the first in line is a seat that stands there and may be granted a unit
 pub first_waiter : (s : SemaState) (seat : ℕ) → IsSound s → first_of s.waiters ≡ Some seat → IsFirstWaiter s seat
 first_waiter s seat sound is =
     let stands = first_stands s.waiters seat is in
@@ -200,6 +208,7 @@ leaves_idle s seat sound idle =
     sym (not_there s.waiters seat (not_in_line s seat Idle sound idle (λ e. cc))) in
     λ k. record s { stages = stages k; waiters = waiters k }
 
+-- a seat that is idle leaves the semaphore as it was when it leaves the line
 pub leaves_nothing : (s : SemaState) (seat : ℕ) → IsSound s → seat < length s.stages → stage_of s seat ≡ Idle → s ≡ after s (Leave seat)
 leaves_nothing s seat sound within idle =
     let there : is_seat s seat ≡ true = grind (arith, nat_tests) in

@@ -44,6 +44,7 @@ acquire_tells procs number seat answer told same =
     by_tests false true is = inr (inl is)
     by_tests false false is = inr (inr (grants_of told.state seat, is, told.sound.fits seat))
 
+-- an acquire of a seat that waits for nothing is answered nothing but Acquired, Wait or Worn
 pub acquire_never : (procs number seat : ℕ) (answer : SemaReply)
     → IsTold procs number false (Acquire seat) answer → seat ≡ number → answer ≢ reply.Acquired
     → ((count : ℕ) → answer ≢ reply.Wait count) → answer ≢ reply.Worn → ⊥
@@ -55,6 +56,7 @@ acquire_never procs number seat answer told same a b c =
     by (inr (inl is)) = c is
     by (inr (inr waits)) = b waits.0 waits.1
 
+-- the count that an acquire is told to wait for is at most the last grant
 pub acquire_fits : (procs number seat count : ℕ)
     → IsTold procs number false (Acquire seat) (reply.Wait count) → seat ≡ number → count ≤ LAST_GRANT
 acquire_fits procs number seat count told same =
@@ -96,6 +98,7 @@ collect_tells procs number seat waits answer told same =
     by Waiting is = inr (grants_of told.state seat, is, told.sound.fits seat)
     by Idle is = inr (grants_of told.state seat, is, told.sound.fits seat)
 
+-- a collect of a seat is answered nothing but Granted or Wait
 pub collect_never : (procs number seat : ℕ) (waits : Bool) (answer : SemaReply)
     → IsTold procs number waits (Collect seat) answer → seat ≡ number → answer ≢ reply.Granted
     → ((count : ℕ) → answer ≢ reply.Wait count) → ⊥
@@ -106,6 +109,7 @@ collect_never procs number seat waits answer told same a b =
     by (inl is) = a is
     by (inr waiting) = b waiting.0 waiting.1
 
+-- the count that a collect is told to wait for is at most the last grant
 pub collect_fits : (procs number seat count : ℕ) (waits : Bool)
     → IsTold procs number waits (Collect seat) (reply.Wait count) → seat ≡ number → count ≤ LAST_GRANT
 collect_fits procs number seat count waits told same =
@@ -118,6 +122,7 @@ collect_fits procs number seat count waits told same =
         same_count : {other : ℕ} → reply.Wait count ≡ reply.Wait other → count ≡ other
         same_count e = cc
 
+-- a seat that leaves the line is answered nothing but Granted or Gone
 pub leave_never : (procs number seat : ℕ) (waits : Bool) (answer : SemaReply)
     → IsTold procs number waits (Leave seat) answer → seat ≡ number → answer ≢ reply.Granted
     → answer ≢ reply.Gone → ⊥
@@ -132,6 +137,7 @@ leave_never procs number seat waits answer told same a b =
     by Waiting is = b is
     by Idle is = b is
 
+-- a release is answered nothing but a sum or BadArg
 pub release_never : (procs number count : ℕ) (waits : Bool) (answer : SemaReply)
     → IsTold procs number waits (Release count) answer → ((sum : ℕ) → answer ≢ reply.Value sum)
     → answer ≢ reply.BadArg → ⊥
@@ -142,6 +148,7 @@ release_never procs number count waits answer told a b =
     by true is = b is
     by false is = a (told.state.value + count) is
 
+-- who asks whom to wake is answered nothing but a seat with its count, or that there is none
 pub next_never : (procs number : ℕ) (waits : Bool) (answer : SemaReply)
     → IsTold procs number waits NextWake answer → ((seat grants : ℕ) → answer ≢ reply.Wake seat grants)
     → answer ≢ reply.NoWake → ⊥
@@ -151,6 +158,7 @@ next_never procs number waits answer told a b = by told.state.unnamed told.answe
     by [] is = b is
     by (seat ∷ rest) is = a seat (grants_of told.state seat) is
 
+-- a seat that is named to be woken is one of the semaphore's
 pub next_there : (procs number seat grants : ℕ) (waits : Bool)
     → IsTold procs number waits NextWake (reply.Wake seat grants) → seat < procs
 next_there procs number seat grants waits told =

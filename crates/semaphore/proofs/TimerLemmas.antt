@@ -27,10 +27,12 @@ earliest_come now (due ∷ dues) =
 pub first_of_all : (now : ℕ) (timers : List Timer) → first_due now timers ≡ if_come now (earliest (dues_from 0 timers))
 first_of_all now timers = earliest_come now (dues_from 0 timers)
 
+-- there are as many moments as timers
 pub length-dues_from : (seat : ℕ) (timers : List Timer) → length (dues_from seat timers) ≡ length timers
 length-dues_from seat [] = refl
 length-dues_from seat (timer ∷ timers) = ap suc (length-dues_from (seat + 1) timers)
 
+-- of timers that are all unset, none has a moment
 pub dues_from-unset : (seat n : ℕ) → replicate n None ≡ dues_from seat (replicate n Unset)
 dues_from-unset seat zero = refl
 dues_from-unset seat (suc n) = ap (λ l. None ∷ l) (dues_from-unset (seat + 1) n)
@@ -74,9 +76,13 @@ one_of_two (Some a) (Some b) = by_test (is_before b a)
     by_test true = inr refl
     by_test false = inl refl
 
+-- where in a list of moments this one stands
 pub record StandsAt (dues : List (Option Due)) (due : Due) : Type 0 where
+  -- its place
   pub place : ℕ
+  -- the place is in the list
   pub within : place < length dues
+  -- and the moment stands there
   pub there : get_or dues place None ≡ Some due
 
 earliest_stands : (dues : List (Option Due)) (due : Due) → earliest dues ≡ Some due → StandsAt dues due
@@ -91,8 +97,11 @@ earliest_stands (first ∷ dues) due is = by_side (earliest_stands dues due) (on
 
 -- a timer that expires at a known moment is set
 pub record IsSet (timers : List Timer) (due : Due) : Type 0 where
+  -- the seat is one of those that have timers
   pub within : due.seat < length timers
+  -- the process that is told when it expires
   pub pid : Pid
+  -- the seat's timer is set for that process, to that moment
   pub timer : get_or timers due.seat Unset ≡ Set pid due.deadline
 
 set_of_due : (timers : List Timer) (place : ℕ) (due : Due) (timer : Timer) → timer ≡ get_or timers place Unset → due_of place timer ≡ Some due → place < length timers → IsSet timers due
@@ -115,6 +124,7 @@ set_of_due timers place due (Set pid deadline) timer is within =
 set_of_due timers place due Unset timer is within = cc
 set_of_due timers place due Expired timer is within = cc
 
+-- the timer whose moment is the earliest of all is set, to that moment
 pub earliest_is_set : (timers : List Timer) (due : Due) → earliest (dues_from 0 timers) ≡ Some due → IsSet timers due
 earliest_is_set timers due is =
     let stands = earliest_stands (dues_from 0 timers) due is in
@@ -126,15 +136,20 @@ earliest_is_set timers due is =
 
 -- what Expire answers and leaves
 pub record Expires (timers : List Timer) (now : ℕ) (told : TimerReply) (left : List Timer) : Type 0 where
+  -- the answer is the one of an Expire at this moment
   pub answer : told ≡ answer_to timers (Expire now)
+  -- and so is what it leaves of the timers
   pub after : left ≡ after timers (Expire now)
 
+-- where the earliest moment is not come, an Expire answers that none is due, and leaves the timers
 pub expires_none : (timers : List Timer) (now : ℕ) (first : Option Due) → first ≡ earliest (dues_from 0 timers) → if_come now first ≡ None → Expires timers now reply.NoneDue timers
 expires_none timers now first is none =
     let due : first_due now timers ≡ None = first_of_all now timers ∙ (ap (if_come now) (sym is) ∙ none) in
     let answer : answer_to timers (Expire now) ≡ reply.NoneDue = ap (answer_first timers) due in
     record { answer = sym answer; after = sym (ap (timers_after timers (Expire now)) answer) }
 
+-- where the earliest moment is come, an Expire names the process of that timer, and leaves it
+-- expired
 pub expires_one : (timers : List Timer) (now : ℕ) (due : Due) (pid : Pid) (deadline : ℕ) → Some due ≡ earliest (dues_from 0 timers) → due.deadline ≤ now → get_or timers due.seat Unset ≡ Set pid deadline → Expires timers now (reply.Ended pid) (set timers due.seat Expired)
 expires_one timers now due pid deadline is come timer =
     let here : if_come now (Some due) ≡ Some due = grind (arith, nat_tests) in

@@ -56,6 +56,7 @@ module _ (entrants : ℕ) (nodes : List (Option Due)) (t : IsTournament entrants
   entered_at : (i : ℕ) → get_or (drop entrants nodes) i None ≡ node_at nodes (entrants + i)
   entered_at i = get_or-drop entrants nodes i None
 
+  -- where every game is won, the root has the earliest of all who entered
   pub root_is_earliest : node_at nodes 1 ≡ earliest (drop entrants nodes)
   root_is_earliest =
       let some = t.some in

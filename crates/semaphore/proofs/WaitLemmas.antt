@@ -128,6 +128,7 @@ stops caller start now process count how slept calls =
 
 -- ---- how it begins
 
+-- a call that is given a unit at once did nothing else, and answers Acquired
 pub acquires_at_once : (caller : Caller) (start : Standing) (seat : SemaView)
     → Serves (record { by = caller.number; request = Acquire caller.number; reply = reply.Acquired }) start.seat seat
     → Calls caller start (record start { seat = seat }) (Acquires caller (Ok sema.Acquired))
@@ -147,6 +148,7 @@ acquires_at_once caller start seat served =
       };
     }
 
+-- a call whose seat is at its last grant did nothing but ask, and answers Worn
 pub is_worn : (caller : Caller) (start : Standing) (seat : SemaView)
     → Serves (record { by = caller.number; request = Acquire caller.number; reply = reply.Worn }) start.seat seat
     → Calls caller start (record start { seat = seat }) (Acquires caller (Err fault.Worn))
@@ -166,6 +168,7 @@ is_worn caller start seat served =
       };
     }
 
+-- a call that was told to wait has asked, and has done nothing else
 pub did_ask : (caller : Caller) (start : Standing) (seat : SemaView) (count : ℕ)
     → Serves (record { by = caller.number; request = Acquire caller.number; reply = reply.Wait count }) start.seat seat
     → Did caller (Asks (Acquire caller.number) (reply.Wait count) ∷ []) start (record start { seat = seat })
@@ -173,6 +176,7 @@ did_ask caller start seat count served =
     then_asks caller start start seat [] (Acquire caller.number) (reply.Wait count)
     (record { process = refl; seat = refl; timer = refl }) served
 
+-- a call without a deadline that was told to wait has begun its wait for the grant above that count
 pub begins : (caller : Caller) (count : ℕ) → caller.deadline ≡ None
     → WaitsFor caller count (Asks (Acquire caller.number) (reply.Wait count) ∷ [])
 begins caller count untimed =
@@ -190,6 +194,7 @@ begins caller count untimed =
 
 -- ---- in time
 
+-- a call that asks its timers has done one deed more, and its seat there knows the answer
 pub then_times : (caller : Caller) (start now : Standing) (timer : TimerView) (deeds : List Deed)
     (call : TimerCall) (answered : TimerReply) → Did caller deeds start now
     → Serves (record { by = caller.timer; request = call; reply = answered }) now.timer timer
@@ -220,6 +225,7 @@ pub sets_timer : (caller : Caller) (start now : Standing) (timer : TimerView) (c
 sets_timer caller start now timer count moment has served did =
     then_times caller start now timer _ (Add caller.timer caller.pid moment) told.Added did served
 
+-- a call with a deadline has begun its wait once it was told to wait and has set its timer
 pub waits_timed : (caller : Caller) (count moment : ℕ) → caller.deadline ≡ Some moment
     → WaitsFor caller count (Times (Add caller.timer caller.pid moment) told.Added ∷ Asks (Acquire caller.number) (reply.Wait count) ∷ [])
 waits_timed caller count moment has =
@@ -265,6 +271,8 @@ turn_cancelled caller turn moment expired came has is =
     by true = refl
     by false = refl
 
+-- a call that has left the line and cancels its timer is told whether a tick took it, and owes no
+-- timer then
 pub cancels : (caller : Caller) (start now : Standing) (timer : TimerView) (moment : ℕ)
     (expired granted : Bool) (notes : NoteSet) (how : Option Stop) → caller.deadline ≡ Some moment
     → Serves (record { by = caller.timer; request = Cancel caller.timer; reply = cancel_reply expired }) now.timer timer
@@ -305,8 +313,11 @@ stopped_drains (Some (stop.Noted other)) deeds set stopped = stopped
 
 -- the note of a tick is still to come
 pub record StillAwaits (left : Left) : Type 0 where
+  -- a tick took its timer
   pub expired : left.expired ≡ true
+  -- the note of that tick did not come yet
   pub to_come : holds left.notes Expired ≡ false
+  -- its timer is cancelled
   pub cancelled : left.cancelled ≡ true
 
 -- a tick took its timer, so its turn is as its note has come or not
@@ -342,6 +353,7 @@ awaits caller left deeds still had =
       refl,
     )
 
+-- a sleep that answers well while a tick's note is awaited leaves the call where it was
 pub awaits_well : (caller : Caller) (start now : Standing) (process : Process) (left : Left)
     → StillAwaits left → Slept caller.rendez LAST_GRANT Ending.Well now.process process
     → Calls caller start now (HasLeft caller left)
@@ -366,6 +378,7 @@ awaits_well caller start now process left still slept calls =
       };
     }
 
+-- a sleep that notes end while a tick's note is awaited adds those notes to the ones taken
 pub awaits_noted : (caller : Caller) (start now : Standing) (process : Process) (left : Left)
     (set : NoteSet) → StillAwaits left
     → Slept caller.rendez LAST_GRANT (Ending.Noted set) now.process process
@@ -431,6 +444,7 @@ and_false : (b : Bool) → (b && false) ≡ false
 and_false true = refl
 and_false false = refl
 
+-- a set that holds each note of another but the tick's is that other without the tick's note
 pub others_are : (set notes : NoteSet)
     → ((note : Note) → holds set note ≡ (holds notes note && not (holds (only Expired) note)))
     → set ≡ without_expired notes
@@ -448,6 +462,7 @@ others_are set notes kinds =
       expired = expired k;
     }
 
+-- a call that took no notes but a tick's puts none back, and may return
 pub keeps_none : (caller : Caller) (start now : Standing) (process : Process) (left : Left) (set : NoteSet)
     → set ≡ no_notes → set ≡ without_expired left.notes → turn_left caller left ≡ Ready
     → process ≡ now.process
@@ -477,6 +492,7 @@ stopped_posts None deeds pid set stopped = absurd stopped
 stopped_posts (Some stop.Refused) deeds pid set stopped = stopped
 stopped_posts (Some (stop.Noted other)) deeds pid set stopped = stopped
 
+-- a call that took notes besides a tick's puts those back at once, and may return
 pub keeps_some : (caller : Caller) (start now : Standing) (process : Process) (left : Left)
     (set : NoteSet) → set ≡ without_expired left.notes → turn_left caller left ≡ Ready
     → process ≡ steps.notes now.process caller.pid set → Calls caller start now (HasLeft caller left)
@@ -608,6 +624,8 @@ interrupted_in_time caller start now seen moment left set its cancelled granted 
       };
     }
 
+-- a call with a deadline that is given a unit at once did nothing else: it set no timer and answers
+-- well
 pub in_time_at_once : (caller : Caller) (start : Standing) (seat : SemaView) (seen : TimersSeen) (moment : ℕ)
     → Serves (record { by = caller.number; request = Acquire caller.number; reply = reply.Acquired }) start.seat seat
     → Calls caller start (record start { seat = seat }) (AcquiresInTime caller seen moment (Ok tt))
@@ -628,6 +646,7 @@ in_time_at_once caller start seat seen moment served =
       };
     }
 
+-- a call with a deadline whose seat is at its last grant did nothing but ask, and answers Worn
 pub in_time_worn : (caller : Caller) (start : Standing) (seat : SemaView) (seen : TimersSeen) (moment : ℕ)
     → Serves (record { by = caller.number; request = Acquire caller.number; reply = reply.Worn }) start.seat seat
     → Calls caller start (record start { seat = seat }) (AcquiresInTime caller seen moment (Err fault.Worn))
@@ -668,16 +687,25 @@ by_others number mine (entry ∷ entries) others =
     apart : (eqb number entry.by || false) ≡ false → entry.by ≢ number
     apart is same = by_test (eqb_tells number number) (ap (λ n. eqb number n || false) (sym same) ∙ is)
 
+-- a seat set its timer and, when it cancelled it, was told that it had expired
 pub record Cancels (opening : List Timer) (procs number moment : ℕ) (pid : Pid)
     (before set after : TimerView) : Type 0 where
+  -- at first no timer was set
   pub opening_is : opening ≡ replicate procs Unset
+  -- the seat is one of those that have timers
   pub within : number < procs
+  -- the calls that the seat had made, of which the setting is the last
   pub mine : List TimerEntry
+  -- it has this one number, and stands for these calls
   pub shares_are : set.account.shares ≡ record { number = number; mine = mine } ∷ []
+  -- it was told that its timer was set
   pub added : Serves (record { by = number; request = Add number pid moment; reply = told.Added }) before set
+  -- it was told at its cancelling that the timer had expired
   pub cancelled : Serves (record { by = number; request = Cancel number; reply = told.Expired }) set after
+  -- behind both it knows a legal history
   pub knows : KnowsHistory timer_meaning opening procs after.account
 
+-- a timer that had expired when its seat cancelled it was taken by a tick, at its deadline or later
 pub tick_took : (opening : List Timer) (procs number moment : ℕ) (pid : Pid)
     (before set after : TimerView) → Cancels opening procs number moment pid before set after
     → WasTaken opening number moment after.account.seen

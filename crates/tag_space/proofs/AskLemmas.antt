@@ -74,6 +74,7 @@ module _ (space : Space) (limit : ℕ) (call : GroupCall) (told : GroupReply)
   past_is_legal legal =
       (subst (IsLegal (rendezvous space) []) (ap (λ (a : Account Entry). a.seen) asks.new_is) legal).1
 
+  -- where the history behind a request is legal, so is the one before it
   pub legal_before : IsLegal (rendezvous space) [] new.seen → IsLegal (rendezvous space) [] old.seen
   legal_before legal =
       legal_past (rendezvous space) [] asks.looked.since old.seen
@@ -101,11 +102,13 @@ IsCallReply (Wait count) = ⊤
 IsCallReply Worn = ⊤
 IsCallReply told = ⊥
 
+-- the answers that a collect may have
 abbrev pub IsCollectReply : GroupReply → Type 0
 IsCollectReply (WasMet given) = ⊤
 IsCollectReply (Wait count) = ⊤
 IsCollectReply told = ⊥
 
+-- the answers that a leave may have
 abbrev pub IsLeaveReply : GroupReply → Type 0
 IsLeaveReply (WasMet given) = ⊤
 IsLeaveReply Gone = ⊤
@@ -140,6 +143,7 @@ module _ (space : Space) (past : List Entry) (member : ℕ) (below : member < sp
 
 module _ (space : TagSpace) (before after : Member) (one : IsOneOf space before)
     (then : IsOneOf space after) (told : GroupReply) where
+  -- a member that rests is answered its call only as a call may be
   pub is_call_reply : (tag : Tag) (value : ℕ) → stage_of (seen_of before) (number_of before) ≡ Over
       → Asks (Call (number_of before) tag value) told (account_of before) (account_of after)
       → IsCallReply told
@@ -150,6 +154,7 @@ module _ (space : TagSpace) (before after : Member) (one : IsOneOf space before)
       (answered_so (space_of space) space.procs _ told (account_of before) (account_of after) asks
       then.history.history.legal)
 
+  -- a member is answered its collect only as a collect may be
   pub is_collect_reply :
       Asks (Collect (number_of before)) told (account_of before) (account_of after)
       → IsCollectReply told
@@ -158,6 +163,7 @@ module _ (space : TagSpace) (before after : Member) (one : IsOneOf space before)
       (answered_so (space_of space) space.procs _ told (account_of before) (account_of after) asks
       then.history.history.legal)
 
+  -- a member is answered its leave only as a leave may be
   pub is_leave_reply :
       Asks (Leave (number_of before)) told (account_of before) (account_of after)
       → IsLeaveReply told
@@ -188,6 +194,8 @@ module _ (space : TagSpace) (past : List Entry)
   fits_reply (Leave member) (Wait count) answered = absurd answered
   fits_reply call told answered = tt
 
+-- whom a request of a member finds is a member of its space, and a count that it is told leaves a
+-- level above it
 pub reply_fits : (space : TagSpace) (before after : Member) → IsOneOf space after
     → (call : GroupCall) (told : GroupReply)
     → Asks call told (account_of before) (account_of after) → FitsReply space told

@@ -20,7 +20,9 @@ use Rattle.tag_space.proofs.WaitLemmas.{waits_last}
 
 -- no count is above the last; who waits is a member, and one more meeting of it can be counted
 pub record FitsCounts (space : Space) (past : List Entry) : Type 0 where
+  -- the count of no member is above the last one
   pub within : (member : ℕ) → count_of space past member ≤ LAST_MEETING
+  -- who waits is a member, and one more meeting of it can be counted
   pub waiting : (member : ℕ) (offer : Offer) → stage_of past member ≡ Waits offer
       → (member < space.members) × (count_of space past member < LAST_MEETING)
 

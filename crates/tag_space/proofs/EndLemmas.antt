@@ -98,6 +98,7 @@ module _ (space : Space) (limit : ℕ) (caller : Caller) where
         left_ended fault.DoubleSleep fault.DoubleSleep after ends legal
     badly_ended after other ends legal = absurd ends
 
+    -- however a wait ended, its member rests, and its call is in a pair or in none for good
     pub wait_ended : (after : Point) (answer : Result ℕ Fault) → EndsWait caller first count after answer
         → IsLegalAt after → HasEnded space caller.member offer before after.account.seen answer
     wait_ended after (Ok given) (inl told) legal = told_ended given after told legal
@@ -115,6 +116,7 @@ module _ (space : TagSpace) (before after : Member) (offer : Offer) (answer : Re
         rests = subst (λ n. stage_of (seen_of after) n ≡ Over) (sym same.number) ended.rests;
       }
 
+  -- a call that has ended is an exchange: one call of the caller's, with its tag and value
   pub exchanged : (tag : Tag) (value : ℕ) → offer.tag ≡ tag.0 → offer.value ≡ value
       → Exchange (space_of space) (number_of before) tag value (seen_of before) (seen_of after) answer
   exchanged tag value tag_is value_is =

@@ -55,6 +55,7 @@ module _ (table : List Line) (places : List Place) (room : ℕ) (group : IsGroup
     pub member_in_range : member < length places
     member_in_range = waiter_in_range places tag member waits_here
 
+    -- one more meeting of the member that waits here can be counted
     pub can_count : count < LAST_MEETING
     can_count = rw is_count (group.counts.waiting member (waits_with_some (place_of places member).standing tag waits_here))
 

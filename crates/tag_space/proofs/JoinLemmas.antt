@@ -56,11 +56,13 @@ module _ (space : TagSpace) (member joined : Member) (is : IsMemberOf space memb
       (subst (λ h. AllByRecursion (HasItsEntries server h) (account_of member).shares) past.new_is
       kept)))
 
+  -- a member that rested rests still in the history that the two have joined
   pub rests_in : stage_of (seen_of joined) (number_of member) ≡ Over
   rests_in =
       ap (λ h. stage_of h (number_of member)) past.new_is
       ∙ over_still (space_of space) (number_of member) past.since (seen_of member) legal none is.rests
 
+  -- a member that is joined has in that history just the calls that it had made
   pub is_kept_in : IsKeptIn joined member
   is_kept_in =
       record {

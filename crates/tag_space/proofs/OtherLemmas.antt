@@ -25,6 +25,7 @@ use Rattle.tag_space.proofs.WaitLemmas.{waits_last}
 pub yes : (a : ℕ) → eqb a a ≡ true
 yes a = grind (arith, nat_tests)
 
+-- two numbers that differ are not told to be the same
 pub no : (a b : ℕ) → a ≢ b → eqb a b ≡ false
 no a b differs = grind (arith, nat_tests)
 
@@ -134,6 +135,7 @@ module _ (space : Space) (member : ℕ) where
       → member_of entry.request ≢ member
   not_its entry own differs same = differs (own ∙ same)
 
+  -- a member that rests does so still behind entries of others
   pub over_still : (since past : List Entry) → IsLegal (rendezvous space) [] (since ++ past)
       → NoneBy member since → stage_of past member ≡ Over → stage_of (since ++ past) member ≡ Over
   over_still [] past legal none over = over
@@ -143,6 +145,7 @@ module _ (space : Space) (member : ℕ) where
       ∙ over_after (length (since ++ past)) member entry.request entry.reply
       (not_its entry legal.0.own none.0)
 
+  -- a call that is under way is so still behind entries of others
   pub under_still : (since past : List Entry) (offer : Offer)
       → IsLegal (rendezvous space) [] (since ++ past) → NoneBy member since
       → IsUnder past member offer → IsUnder (since ++ past) member offer
@@ -151,6 +154,7 @@ module _ (space : Space) (member : ℕ) where
       under_after (since ++ past) entry.by member offer entry.request entry.reply
       (not_its entry legal.0.own none.0) (under_still since past offer legal.1 none.1 under)
 
+  -- the calls of a member stay as they were behind entries of others
   pub calls_still : (since past : List Entry) → IsLegal (rendezvous space) [] (since ++ past)
       → NoneBy member since → calls_by member (since ++ past) ≡ calls_by member past
   calls_still [] past legal none = refl

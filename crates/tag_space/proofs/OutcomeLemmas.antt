@@ -35,15 +35,21 @@ entry_of call told = record { by = member_of call; request = call; reply = told 
 -- a call of the member is under way, and it is the only one since this history
 pub record IsUnderWay (member : ℕ) (offer : Offer) (before : List Entry) (now : Account Entry)
     : Type 0 where
+  -- the seat has this member's number
   pub own : has_number now.shares member ≡ true
+  -- the call waits, or was met and is not told of it yet
   pub under : IsUnder now.seen member offer
+  -- it is the one call of its member since then
   pub one : calls_by member now.seen ≡ offer ∷ calls_by member before
 
 -- what came of a call: its member rests, and it is in a pair or in none for good
 pub record HasEnded (space : Space) (member : ℕ) (offer : Offer) (before after : List Entry)
     (answer : Result ℕ Fault) : Type 0 where
+  -- its member has no call that is not over
   pub rests : stage_of after member ≡ Over
+  -- it is the one call of its member since then
   pub one : calls_by member after ≡ offer ∷ calls_by member before
+  -- its outcome fits its answer: a value where it is in a pair, else a fault
   pub outcome : ComesOf space after offer answer
 
 module _ (space : Space) (limit member : ℕ) (old new : Account Entry)

@@ -114,6 +114,7 @@ one_value offer first second pair members (inr a) (inl b) =
     absurd (members (ap (λ (o : Offer). o.member) (b.0 ∙ sym a.0)))
 one_value offer first second pair members (inr a) (inr b) = a.1 ∙ sym b.1
 
+-- a call that is in a pair gets one value, whichever way that is found
 pub each_gets_one_value : EachGetsOneValue
 each_gets_one_value space history offer first second legal one two =
     let is = is_space space history legal in
@@ -129,6 +130,7 @@ side_is_there : (offer : Offer) (pair : Pair) → IsSide offer pair
 side_is_there offer pair (inl first) apart = apart.0 (ap (λ (o : Offer). o.number) first)
 side_is_there offer pair (inr second) apart = apart.1 (ap (λ (o : Offer). o.number) second)
 
+-- a call that is in a pair is none of those that end alone
 pub paired_is_not_alone : PairedIsNotAlone
 paired_is_not_alone history offer given is alone =
     side_is_there offer is.pair (side_of offer given is.pair is.exchanged)
@@ -156,6 +158,7 @@ calls_below space limit (entry ∷ past) member offer legal below is =
     (subst (λ n. n < limit) legal.0.own below.0)
     (calls_below space limit past member offer legal.1 below.1) is
 
+-- each call of a history is by a member of its space
 pub calls_are_by_members : CallsAreByMembers
 calls_are_by_members space limit history member offer is =
     calls_below space limit history member offer is.legal is.within
@@ -191,6 +194,7 @@ partner_in history offer given pair meeting is (inr second) =
       };
     }
 
+-- whoever is in a pair has a partner, which is a call of another member with the same tag
 pub partners_are_calls : PartnersAreCalls
 partners_are_calls space history offer given legal is =
     partner_in history offer given is.pair
@@ -205,6 +209,7 @@ pair_stays (entry ∷ since) past pair is =
     one_of_more pair (pair_made (since ++ past) entry.request entry.reply)
     (pairs_of (since ++ past)) (pair_stays since past pair is)
 
+-- whoever is in a pair stays in it, whatever comes
 pub pairs_stay : PairsStay
 pairs_stay since past offer given is =
     record {

@@ -69,6 +69,7 @@ module _ (space : Space) (past : List Entry) (by : ℕ) where
   change_of_answer (Leave member) Worn answered = absurd answered
   change_of_answer (Leave member) (Wait count) answered = absurd answered
 
+-- an entry that is right changes the stages and the pairs in one of these ways
 pub change_of : (space : Space) (past : List Entry) (entry : Entry) → IsRight space past entry → Change past entry
 change_of space past entry right = change_of_answer space past entry.by entry.request entry.reply right.answered
 
@@ -78,10 +79,13 @@ pub record IsSpace (past : List Entry) : Type 0 where
   pub waits : (member : ℕ) (offer : Offer) → stage_of past member ≡ Waits offer → (offer.member ≡ member) × IsMade past offer × (offer.number < length past) × AllByRecursion (λ number. number ≢ offer.number) (numbers_in (pairs_of past))
   -- calls that wait differ in their tags and in their numbers
   pub apart : WaitApart past
+  -- and members whose calls that wait have one number are the same
   pub numbered : (member other : ℕ) (first second : Offer) → stage_of past member ≡ Waits first → stage_of past other ≡ Waits second → first.number ≡ second.number → member ≡ other
   -- the pairs are meetings of calls that stand in the history, each in one pair
   pub meetings : AreMeetings past
+  -- the calls of the pairs were made before
   pub older : AllByRecursion (λ number. number < length past) (numbers_in (pairs_of past))
+  -- no call is in two pairs
   pub once : MeetsOnce past
 
 -- what was made stays made
@@ -226,8 +230,11 @@ is_space space (entry ∷ past) legal =
 
 -- the call with this number is out: it waits for nobody, and is in no pair
 pub record IsOut (history : List Entry) (number : ℕ) : Type 0 where
+  -- an entry of the history has this number
   pub made : number < length history
+  -- of the calls that wait none has this number
   pub waits : (member : ℕ) (offer : Offer) → stage_of history member ≡ Waits offer → offer.number ≢ number
+  -- no pair has a call with this number
   pub alone : IsAlone history number
 
 -- and then it stays out
@@ -262,6 +269,7 @@ out_keeps past entry number out (Meets other pair is_new over call waiting tags 
   alone = rw pairs (out.waits other pair.waiting waiting, ((λ same. absurd (omega (arith, out.made))), out.alone));
 }
 
+-- a call that is out stays out, whatever comes
 pub stays_out : (space : Space) (since past : List Entry) (number : ℕ) → IsLegal (rendezvous space) [] (since ++ past) → IsOut past number → IsOut (since ++ past) number
 stays_out space [] past number legal out = out
 stays_out space (entry ∷ since) past number legal out =

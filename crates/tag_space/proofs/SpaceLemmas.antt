@@ -43,9 +43,13 @@ standing_of (Paired pair) = Met pair.finding.value
 
 -- the object keeps of each member what the history says
 pub record Shows (space : Space) (places : List Place) (past : List Entry) : Type 0 where
+  -- there is a place for each member
   pub members : length places ≡ space.members
+  -- each member stands as the history says of its last call that had to wait
   pub standings : (member : ℕ) → (place_of places member).standing ≡ standing_of (stage_of past member)
+  -- a call by which a member waits is that member's own
   pub owners : (member : ℕ) (offer : Offer) → stage_of past member ≡ Waits offer → offer.member ≡ member
+  -- each member has the count of meetings that the history says
   pub counts : (member : ℕ) → member < space.members → (place_of places member).meetings ≡ count_of space past member
 
 -- who stands idle has no call that isn't over
@@ -56,9 +60,13 @@ over_from_idle (Paired pair) idle = absurd (false≢true idle)
 
 -- who stands waiting with a tag has a call that waits with it
 pub record WaitsWith (stage : Stage) (tag : ℕ) : Type 0 where
+  -- the call that waits
   pub offer : Offer
+  -- the member waits by it
   pub stage_is : stage ≡ Waits offer
+  -- it has this tag
   pub tag_is : offer.tag ≡ tag
+  -- the value that is kept is the one that it gives
   pub value_is : value_given (standing_of stage) ≡ offer.value
 
 waits_from_standing : (stage : Stage) (tag : ℕ) → waits_with tag (standing_of stage) ≡ true → WaitsWith stage tag
@@ -80,6 +88,7 @@ module _ (space : Space) (places : List Place) (past : List Entry) (shows : Show
         | inr past_last ↦ absurd (false≢true (let no : nat_lt member (length places) ≡ false = grind (arith, nat_tests) in rw no at may))
       ]
 
+  -- who may not call by what is kept of it may not call by the history either
   pub may_not_call_is : (member : ℕ) → may_call places member ≡ false → MayCall space past member → ⊥
   may_not_call_is member not_may may =
       let below : nat_lt member (length places) ≡ true = rw shows.members (grind (arith, nat_tests, may.exists)) in
@@ -219,7 +228,9 @@ put_same places member standing stands =
 module _ (space : Space) (places : List Place) (past : List Entry) (shows : Shows space places past) (by : ℕ) where
   -- the answer is a tag space's, and what is kept is then what the history says
   pub record IsStepped (call : GroupCall) (told : GroupReply) (after : List Place) : Type 0 where
+    -- the answer is one that the history allows
     pub answered : IsAnswered space past call told
+    -- what is kept behind it is what the longer history says
     pub shown : Shows space after (record { by = by; request = call; reply = told } ∷ past)
 
   -- a call of a member that may call, by who waits with its tag
@@ -324,6 +335,7 @@ module _ (space : Space) (places : List Place) (past : List Entry) (shows : Show
         })
   ]
 
+  -- each request is answered as a tag space may answer, and leaves what the history then says
   pub step : (call : GroupCall) → IsStepped call (answer_to places call) (places_after places call)
   step (Call member tag value) = step_call member tag value
   step (Collect member) = step_collect member

@@ -73,6 +73,7 @@ module _ (space : TagSpace) (this other joined : Member) (two : space.procs ≡ 
   pub gives_only : given ≡ only.value
   gives_only = partner.gives ∙ ap (λ (o : Offer). o.value) (sym is_only)
 
+  -- in the joined history the other's only call is in a pair, and gets this one's value
   pub only_is_paired : IsInPair (seen_of joined) only offer.value
   only_is_paired = subst (λ o. IsInPair (seen_of joined) o offer.value) (sym is_only) partner.gets
 
@@ -112,6 +113,7 @@ module _ (space : TagSpace) (this this_after other other_after joined : Member)
   of_answer (Ok given) is = gets_value given (subst (ComesOf (space_of space) (seen_of this_after) call.offer) is call.outcome)
   of_answer (Err why) is = tt
 
+  -- where a call of one of two members is answered a value, it is the one that the other gave
   pub gets_others : IfOk answer (λ got. got ≡ others)
   gets_others = of_answer answer refl
 
@@ -133,5 +135,6 @@ module _ (space : TagSpace) (this this_after other other_after joined : Member)
       (is_paired given (subst (ComesOf (space_of space) (seen_of this_after) call.offer) is call.outcome))
   of_both (Err why) is = tt
 
+  -- where a call of one of two members is answered a value, so is the other's
   pub both_are_answered : OnOk answer (IsOk other_answer)
   both_are_answered = of_both answer refl

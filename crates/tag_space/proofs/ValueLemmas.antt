@@ -17,7 +17,9 @@ use Rattle.tag_space.proofs.WaitLemmas.{waits_last}
 
 -- a call that was found is in that pair, as its member's
 pub record IsPaired (past : List Entry) (member : ℕ) (pair : Pair) : Type 0 where
+  -- the pair is one of the history's
   pub is_pair : IsOneOfPairs pair (pairs_of past)
+  -- the call that waited in it is the member's
   pub mine : pair.waiting.member ≡ member
 
 -- an entry that leaves the stages and only adds pairs
@@ -83,6 +85,7 @@ module _ (space : Space) where
       paired_after past entry legal.1 (paired past legal.1) (change_of space past entry right)
       member pair is
 
+-- who finds a call that waits is in a pair with it, and is answered its value
 pub found_is_in_pair : FoundIsInPair
 found_is_in_pair space past by member tag value given other count legal =
     let offer : Offer =
@@ -100,6 +103,7 @@ found_is_in_pair space past by member tag value given other count legal =
       exchanged = inr (refl, finds.given_is);
     }
 
+-- who is told of a meeting is in that pair, and is told the partner's value
 pub told_is_in_pair : ToldIsInPair
 told_is_in_pair space past member given legal met =
     let is = paired space past legal member met.pair met.paired in

@@ -39,6 +39,7 @@ module _ (number member : ℕ) (stage : Stage) (before : Option Offer) (offer : 
   one_more (Leave caller) Gone waits = after_over caller waits
   one_more call reply waits = past_is waits
 
+-- a call that waits is the last by which its member began to wait
 pub waits_last : (past : List Entry) (member : ℕ) (offer : Offer) → stage_of past member ≡ Waits offer → last_wait past member ≡ Some offer
 waits_last [] member offer waits = cc
 waits_last (entry ∷ past) member offer waits =

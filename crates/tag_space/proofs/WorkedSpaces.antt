@@ -18,13 +18,16 @@ use Rattle.tag_space.proofs.SpaceLemmas.{groups_are_spaces}
 abbrev pub told : GroupCall → GroupReply → Entry
 told call reply = record { by = member_of call; request = call; reply = reply }
 
+-- a call of this member with this tag and value
 abbrev pub gives : ℕ → ℕ → ℕ → GroupCall
 gives member tag value = Call member (record { 0 = tag }) value
 
+-- the call with this number, of this member, with this tag and value
 abbrev pub offer : ℕ → ℕ → ℕ → ℕ → Offer
 offer number member tag value =
     record { number = number; member = member; tag = tag; value = value }
 
+-- a space of two members whose meetings are counted from 0
 abbrev pub two : Space
 two = record { members = 2; count = 0 }
 
@@ -32,12 +35,15 @@ two = record { members = 2; count = 0 }
 abbrev pub one_waits : List Entry
 one_waits = told (gives 0 7 5) (Wait 0) ∷ []
 
+-- and member 1 finds it: it is answered the value 5, and whom to wake
 abbrev pub one_is_found : List Entry
 one_is_found = told (gives 1 7 9) (Met 5 0 1) ∷ one_waits
 
+-- and member 0 is told of the value 9
 abbrev pub one_is_told : List Entry
 one_is_told = told (Collect 0) (WasMet 9) ∷ one_is_found
 
+-- the two calls that met
 abbrev pub the_pair : Pair
 the_pair = record { waiting = offer 0 0 7 5; finding = offer 1 1 7 9 }
 

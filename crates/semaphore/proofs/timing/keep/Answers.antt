@@ -1,3 +1,5 @@
+-- where notes are put back they are posted once, to the caller's own process, and then it may
+-- return
 use Rattle.std.proofs.Common.{sym, ap, ◌∙◌}
 use Rattle.rendez_words.specs.Process.{pid_in}
 use Rattle.rendez_words.specs.Steps as steps

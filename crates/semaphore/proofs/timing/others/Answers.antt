@@ -1,3 +1,4 @@
+-- a set is its kinds of note, and what is left has each that was there but the tick's
 use Rattle.std.proofs.Common.{◌&&◌, not, ap, ◌∙◌}
 use Rattle.sync_base.specs.NoteSet.{holds}
 use Rattle.semaphore.proofs.WaitLemmas.{others_are}

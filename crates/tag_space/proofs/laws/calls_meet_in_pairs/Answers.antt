@@ -1,3 +1,4 @@
+-- a history of rendezvous is one that a space can have, of which each of the three holds
 use Rattle.tag_space.proofs.PromiseLemmas.{is_space}
 use Rattle.tag_space.proofs.laws.calls_meet_in_pairs.Goals as goal
 

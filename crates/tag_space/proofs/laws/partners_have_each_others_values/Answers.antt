@@ -1,3 +1,4 @@
+-- a pair is of two calls of the history and no call is in two, so each has one partner, for good
 use Rattle.tag_space.proofs.PartnerLemmas.{partners_are_calls, pairs_stay, each_gets_one_value}
 use Rattle.tag_space.proofs.PartnerLemmas.{paired_is_not_alone, calls_are_by_members}
 use Rattle.tag_space.proofs.laws.partners_have_each_others_values.Goals as goal

@@ -1,3 +1,4 @@
+-- a call that was left or worn out waits no more and is in no pair, and whatever comes keeps it so
 use Rattle.std.proofs.Common.{[], ◌∷◌}
 use Rattle.histories.proofs.HistoryLemmas.{legal_past}
 use Rattle.tag_space.specs.Rendezvous.{rendezvous}

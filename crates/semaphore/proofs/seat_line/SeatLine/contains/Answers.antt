@@ -1,3 +1,4 @@
+-- what is noted of each seat is whether it stands in the ring, which is the line
 use Rattle.std.proofs.Common.{◌∙◌, ap, sym, false, arith, ℕ, List}
 use Rattle.std.proofs.lemmas.List.{get_or_default}
 use Rattle.semaphore.specs.SeatLine.{Line, stands_in}

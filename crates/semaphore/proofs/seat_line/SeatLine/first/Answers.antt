@@ -1,3 +1,4 @@
+-- where somebody stands in the line, the link of the end leads to the first, which is a seat
 use Rattle.std.proofs.Common.{◌≡◌, ◌∙◌, ap, arith, slice_index, length}
 use Rattle.std.proofs.lemmas.Grind.{get_or_default_zero}
 use Rattle.semaphore.specs.SeatLine.{Line}

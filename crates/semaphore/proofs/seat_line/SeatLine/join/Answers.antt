@@ -1,3 +1,5 @@
+-- the seat is linked in behind the last, so the links are a ring still, read as the line and the
+-- seat
 use Rattle.std.proofs.Common.{◌≡◌, ◌∙◌, ◌+◌, ◌++◌, ◌∷◌, [], true, ap, sym, arith, ℕ, List, slice_index, length, set, subst}
 use Rattle.std.proofs.lemmas.Grind.{get_or_default_zero}
 use Rattle.std.proofs.Math.ListN.{length-set}

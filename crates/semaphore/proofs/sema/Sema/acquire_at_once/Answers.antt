@@ -1,3 +1,4 @@
+-- the call asks once, so its deeds are that Acquire, which was answered with a unit or without
 use Rattle.std.proofs.Common.{true, false, refl}
 use Rattle.semaphore.specs.declared.sema_object.SemaCall.TheVariants.{AcquireNow}
 use Rattle.semaphore.proofs.AcquireLemmas.{asks_now, served_as}

@@ -1,3 +1,4 @@
+-- there are as many moments as timers, and the one that enters is the one of the timer that is set
 use Rattle.std.proofs.Common.{◌∙◌, ap, length, arith}
 use Rattle.semaphore.specs.declared.timer_object.Timer.TheVariants.{Set}
 use Rattle.semaphore.proofs.TimerLemmas.{length-dues_from, dues-set}

@@ -1,3 +1,4 @@
+-- a timer that was set leaves the tournament when it is unset; an expired one had left it before
 use Rattle.std.proofs.Common.{◌∙◌, ap, sym, length, arith}
 use Rattle.std.proofs.lemmas.List.{get_or_default}
 use Rattle.semaphore.specs.declared.timer_object.Timer.TheVariants.{Unset}

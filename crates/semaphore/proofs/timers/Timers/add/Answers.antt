@@ -1,3 +1,4 @@
+-- the seat has no timer, so an Add is answered Added and nothing else
 use Rattle.kernel_lock.specs.Seats.{number_of}
 use Rattle.semaphore.proofs.OwnTimerLemmas.{add_never}
 use Rattle.semaphore.proofs.timers.Timers.add.Goals as goal

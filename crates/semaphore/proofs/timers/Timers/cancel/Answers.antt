@@ -1,3 +1,4 @@
+-- the seat has a timer, so a Cancel is answered Removed or Expired and nothing else
 use Rattle.semaphore.proofs.OwnTimerLemmas.{cancel_never}
 use Rattle.semaphore.proofs.timers.Timers.cancel.Goals as goal
 

@@ -1,3 +1,4 @@
+-- an Expire is answered the process of a timer that ended or NoneDue, and nothing else
 use Rattle.semaphore.proofs.OwnTimerLemmas.{expire_never}
 use Rattle.semaphore.proofs.timers.Timers.expire.Goals as goal
 

@@ -1,3 +1,4 @@
+-- every game is won, so the root has the earliest of all who entered
 use Rattle.std.proofs.Common.{◌∙◌, ap, None, arith}
 use Rattle.std.proofs.lemmas.List.{get_or_default}
 use Rattle.semaphore.specs.Due.{earliest}

@@ -1,3 +1,4 @@
+-- each game is played on the way from the place to the root, so at the root all are won
 use Rattle.std.proofs.Common.{◌≡◌, ◌∙◌, ap, None, arith, ◌+◌, ◌*◌, ◌/◌, drop, set}
 use Rattle.std.proofs.lemmas.List.{get_or_default, drop-set-lt, drop-set-add}
 use Rattle.std.proofs.Math.ListN.{length-set}

@@ -1,3 +1,4 @@
+-- all games are won but the one above the place, who entered stays, and the place moves to the root
 use Rattle.std.proofs.Common.{◌≡◌, ℕ, ◌<◌, ◌≤◌, ◌*◌, ◌/◌, drop, length}
 use Rattle.semaphore.specs.Tournament.{IsWon}
 use Rattle.semaphore.proofs.tournament.Tournament.enter.Given as goal

@@ -1,3 +1,4 @@
+-- the lines of the table are the calls that wait, tags rising, so they are what is lent
 use Rattle.tag_space.proofs.GroupLemmas.{lists_waiting}
 use Rattle.tag_space.proofs.group_object.GroupObject.waiting.Goals as goal
 

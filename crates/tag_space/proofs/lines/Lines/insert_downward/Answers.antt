@@ -1,3 +1,4 @@
+-- the lines before the place move down by one slot, which leaves room for the new one there
 use Rattle.std.proofs.Common.{arith}
 use Rattle.tag_space.proofs.RunLemmas.{put_down}
 use Rattle.tag_space.proofs.lines.Lines.insert_downward.Goals as goal

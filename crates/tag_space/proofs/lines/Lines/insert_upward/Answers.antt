@@ -1,3 +1,4 @@
+-- the lines from the place on move up by one slot, which leaves room for the new one there
 use Rattle.std.proofs.Common.{arith}
 use Rattle.tag_space.proofs.RunLemmas.{put_up}
 use Rattle.tag_space.proofs.lines.Lines.insert_upward.Goals as goal

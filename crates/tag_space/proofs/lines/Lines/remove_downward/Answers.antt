@@ -1,3 +1,4 @@
+-- the lines behind the place move down by one slot, over the one that is taken out
 use Rattle.std.proofs.Common.{arith}
 use Rattle.tag_space.proofs.RunLemmas.{take_down}
 use Rattle.tag_space.proofs.lines.Lines.remove_downward.Goals as goal

@@ -1,3 +1,4 @@
+-- the lines before the place move up by one slot, over the one that is taken out
 use Rattle.std.proofs.Common.{arith}
 use Rattle.tag_space.proofs.RunLemmas.{take_up}
 use Rattle.tag_space.proofs.lines.Lines.remove_upward.Goals as goal

@@ -1,3 +1,4 @@
+-- the member is one of the space all the while, and its process one of the kernel
 use Rattle.tag_space.specs.Members.{IsMemberOf, HasRow}
 use Rattle.tag_space.proofs.tests.crowd.call_in_turn.Given as goal
 

@@ -1,3 +1,4 @@
+-- the first member is one of the space all the while, and its process one of the roster's kernel
 use Rattle.std.proofs.Common.{◌≡◌}
 use Rattle.tag_space.specs.Members.{IsMemberOf, HasRow}
 use Rattle.tag_space.proofs.tests.crowd.callers.Given as goal
