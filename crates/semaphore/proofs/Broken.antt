@@ -6,6 +6,7 @@ use Rattle.semaphore.specs.declared.sema_object.SemaReply.{SemaReply}
 use Rattle.semaphore.specs.declared.sema_object.SemaReply.TheVariants as reply
 use Rattle.semaphore.specs.SemaHistory.{SemaEntry}
 
+-- a request of a seat, and what it was answered
 abbrev pub entry : ℕ → SemaCall → SemaReply → SemaEntry
 entry by request answer = record { by = by; request = request; reply = answer }
 

@@ -14,17 +14,20 @@ use Rattle.semaphore.specs.Deeds.{Caller, Deed}
 use Rattle.semaphore.specs.Deeds.Deed.{Asks, Times, Rests, Rouses, Posts, Drains}
 use Rattle.semaphore.specs.Deeds.Ending.{Well, Noted, Double}
 
+-- the process of this number
 abbrev pub pid : ℕ → Pid
 pid n = record { 0 = n }
 
--- a caller without a deadline, and one with the deadline 150
+-- a caller without a deadline
 abbrev pub waiter : Caller
 waiter =
     record { pid = pid 5; rendez = record { 0 = 3 }; number = 0; timer = 0; deadline = None }
 
+-- the same caller, with the deadline 150
 abbrev pub timed_waiter : Caller
 timed_waiter = record waiter { deadline = Some 150 }
 
+-- the notes that interrupt it
 abbrev pub interrupt : NoteSet
 interrupt = only Interrupt
 
@@ -48,20 +51,23 @@ sleeps_too_high = Asks (Collect 0) reply.Granted ∷ Rests 1 Well ∷ begun
 abbrev pub asks_without_a_sleep : List Deed
 asks_without_a_sleep = Asks (Collect 0) (reply.Wait 0) ∷ Rests 0 Double ∷ begun
 
--- it wakes somebody, posts to another, or asks for another seat
+-- it wakes somebody
 abbrev pub wakes_somebody : List Deed
 wakes_somebody = Rouses 3 1 ∷ begun
 
+-- it posts to another
 abbrev pub posts_to_another : List Deed
 posts_to_another = Posts (pid 6) interrupt ∷ begun
 
+-- it asks for another seat
 abbrev pub asks_for_another : List Deed
 asks_for_another = Asks (Leave 1) reply.Gone ∷ begun
 
--- it sets a timer without a deadline, or with another one
+-- it sets a timer without a deadline
 abbrev pub sets_a_timer : List Deed
 sets_a_timer = Times (Add 0 (pid 5) 150) told.Added ∷ begun
 
+-- it sets a timer for a moment before its deadline
 abbrev pub sets_it_too_early : List Deed
 sets_it_too_early = Times (Add 0 (pid 5) 149) told.Added ∷ begun
 
@@ -93,10 +99,11 @@ sets_two_timers =
     ∷ Times (Add 0 (pid 5) 150) told.Added
     ∷ begun
 
--- it has a deadline, and sets no timer or does not cancel it
+-- it has a deadline, and sets no timer
 abbrev pub sets_no_timer : List Deed
 sets_no_timer = Asks (Collect 0) reply.Granted ∷ Rests 0 Well ∷ begun
 
+-- it has a deadline, and does not cancel its timer
 abbrev pub does_not_cancel : List Deed
 does_not_cancel =
     Asks (Collect 0) reply.Granted
@@ -118,11 +125,12 @@ abbrev pub sleeps_past_a_note : List Deed
 sleeps_past_a_note =
     Asks (Collect 0) reply.Granted ∷ Rests 0 Well ∷ Drains interrupt ∷ begun
 
--- it sleeps on, though notes ended its sleep or it was refused
+-- it sleeps on, though notes ended its sleep
 abbrev pub sleeps_on_interrupted : List Deed
 sleeps_on_interrupted =
     Asks (Collect 0) reply.Granted ∷ Rests 0 Well ∷ Rests 0 (Noted interrupt) ∷ begun
 
+-- it sleeps on, though its sleep was refused
 abbrev pub sleeps_on_refused : List Deed
 sleeps_on_refused = Asks (Collect 0) reply.Granted ∷ Rests 0 Well ∷ Rests 0 Double ∷ begun
 
@@ -154,7 +162,7 @@ is_timed_out =
     ∷ Times (Add 0 (pid 5) 150) told.Added
     ∷ begun
 
--- a release that forgets a seat, wakes it with another count, or does not ask to the last
+-- a release that forgets a seat that it is to wake
 abbrev pub forgets_a_seat : List Deed
 forgets_a_seat =
     Asks NextWake reply.NoWake
@@ -162,6 +170,7 @@ forgets_a_seat =
     ∷ Asks (Release 2) (reply.Value 2)
     ∷ []
 
+-- a release that wakes a seat with another count than its grants
 abbrev pub wakes_with_another_count : List Deed
 wakes_with_another_count =
     Asks NextWake reply.NoWake
@@ -170,12 +179,12 @@ wakes_with_another_count =
     ∷ Asks (Release 2) (reply.Value 2)
     ∷ []
 
+-- a release that does not ask until nobody is left to wake
 abbrev pub does_not_ask_on : List Deed
 does_not_ask_on =
     Rouses 4 4 ∷ Asks NextWake (reply.Wake 1 4) ∷ Asks (Release 2) (reply.Value 2) ∷ []
 
--- a tick that tells another process, tells it before its timer expires, tells nobody, or stops while
--- a timer may be due
+-- a tick that tells another process than the one whose timer expired
 abbrev pub tells_another : List Deed
 tells_another =
     Times (Expire 150) told.NoneDue
@@ -183,6 +192,7 @@ tells_another =
     ∷ Times (Expire 150) (told.Ended (pid 5))
     ∷ []
 
+-- a tick that tells a process before its timer expires
 abbrev pub tells_too_early : List Deed
 tells_too_early =
     Times (Expire 150) told.NoneDue
@@ -190,6 +200,7 @@ tells_too_early =
     ∷ Posts (pid 5) (only Expired)
     ∷ []
 
+-- a tick that tells nobody that a timer expired
 abbrev pub tells_nobody : List Deed
 tells_nobody =
     Times (Expire 150) told.NoneDue ∷ Times (Expire 150) (told.Ended (pid 5)) ∷ []
@@ -204,8 +215,10 @@ ends_too_many =
     ∷ Times (Expire 150) (told.Ended (pid 5))
     ∷ []
 
+-- a tick that stops while a timer may be due
 abbrev pub stops_early : List Deed
 stops_early = Posts (pid 5) (only Expired) ∷ Times (Expire 150) (told.Ended (pid 5)) ∷ []
 
+-- a tick at another moment than it was asked for
 abbrev pub ticks_at_another_moment : List Deed
 ticks_at_another_moment = Times (Expire 151) told.NoneDue ∷ []

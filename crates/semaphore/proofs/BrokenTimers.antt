@@ -6,6 +6,7 @@ use Rattle.semaphore.specs.declared.timer_object.TimerReply.{TimerReply}
 use Rattle.semaphore.specs.declared.timer_object.TimerReply.TheVariants as told
 use Rattle.semaphore.specs.TimerHistory.{TimerEntry}
 
+-- a request of a seat to the timers, and what it was answered
 abbrev pub asked : ℕ → TimerCall → TimerReply → TimerEntry
 asked by call answer = record { by = by; request = call; reply = answer }
 
