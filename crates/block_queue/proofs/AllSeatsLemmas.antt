@@ -147,7 +147,8 @@ pub all_after_put : (take : TakeSeat) (front back : List PutSeat) (old new : Put
 all_after_put take front back old new are writer same =
     record {
       order = are.order ∙ numbers front;
-      none = all_append NoneGiven front (new ∷ back) (all_since NoneGiven front (old ∷ back) are.none)
+      none = all_append NoneGiven front (new ∷ back)
+          (all_since NoneGiven front (old ∷ back) are.none)
           (same.gave ∙ behind.0, behind.1);
     }
   where

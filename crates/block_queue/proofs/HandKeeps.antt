@@ -1,5 +1,6 @@
 -- The step Hand keeps the rule: the reader hands a number over to a new seat.
-use Rattle.std.proofs.Common.{◌≡◌, ◌≢◌, ⊎_elim, ℕ, zero, suc, ◌<◌, List, [], ◌∷◌, ◌++◌, length, set, refl, sym, ap, subst, ◌∙◌, arith, length-set, eq-eqb, ne_eqb, None}
+use Rattle.std.proofs.Common.{◌≡◌, ◌≢◌, ⊎_elim, ℕ, zero, suc, ◌<◌, List, [], ◌∷◌, ◌++◌, length, set}
+use Rattle.std.proofs.Common.{refl, sym, ap, subst, ◌∙◌, arith, length-set, eq-eqb, ne_eqb, None}
 use Rattle.std.specs.List.{AllByRecursion}
 use mathlib.Core.Option.{some, some-ne-none}
 use lib.ListN.{get_elem?}
@@ -27,28 +28,43 @@ at_within [] i a e = absurd (some-ne-none a (sym e))
 at_within (x ∷ l) zero a e = omega arith
 at_within (x ∷ l) (suc i) a e = let below = at_within l i a e in omega arith
 
-module _ (key : Key) (id : ℕ) (before : View) (zero_share share : Share Entry) (rest : List (Share Entry)) (shares_are : before.account.shares ≡ zero_share ∷ share ∷ rest) (first : zero_share.number ≡ 0) (later : 0 < share.number) (stage : before.stage ≡ Free) where
-  hand_parts : (t : QueueTable) → IsOneQueue key t → get_elem? t.views id ≡ some before → IsOneQueue key record { words = t.words; homes = t.homes; views = set t.views id (keeper_view before) ++ handed_view before ∷ [] }
+module _ (key : Key) (id : ℕ) (before : View) (zero_share share : Share Entry) (rest :
+    List (Share Entry)) (shares_are : before.account.shares ≡ zero_share ∷ share ∷ rest) (first :
+    zero_share.number ≡ 0) (later : 0 < share.number) (stage : before.stage ≡ Free) where
+  hand_parts : (t : QueueTable) → IsOneQueue key t → get_elem? t.views id ≡ some before →
+      IsOneQueue key record {
+        words = t.words;
+        homes = t.homes;
+        views =
+            set t.views id (keeper_view before) ++ handed_view before ∷ [];
+      }
   hand_parts t rule at =
       record {
-        ledger = ledger_handed 0 share.number (length (set t.views id (keeper_view before))) rule.ledger;
+        ledger = ledger_handed 0 share.number (length (set t.views id (keeper_view before)))
+            rule.ledger;
         out = rule.out;
         some_room = rule.some_room;
         first_given = rule.first_given;
         legal = rule.legal;
         writers = rule.writers;
         words = rule.words;
-        seats = seats_hand seat_of account_of rule.ledger t.views id 0 before (keeper_view before) (handed_view before) (zero_share ∷ []) rest share rule.seats at shares_are
+        seats = seats_hand seat_of account_of rule.ledger t.views id 0 before (keeper_view before)
+            (handed_view before) (zero_share ∷ []) rest share rule.seats at shares_are
             (rw (eq-eqb zero_share.number 0 first) refl) later
-            (ap (λ (shares : List (Share Entry)). keeping_account (without_second shares) before.account) shares_are)
-            (ap (λ (shares : List (Share Entry)). handed_account (second_share shares) before.account) shares_are);
+            (ap (λ (shares : List (Share Entry)). keeping_account (without_second shares)
+            before.account) shares_are)
+            (ap (λ (shares : List (Share Entry)). handed_account (second_share shares)
+            before.account) shares_are);
         views = λ seat view there.
             ⊎_elim
             (λ old. ⊎_elim
-            (λ here. subst (λ (v : View). Fits seat v) here.1 (subst (λ (i : ℕ). Fits i (keeper_view before)) (sym here.0) keeper))
-            (λ else. subst (λ (reader : ℕ). FitsView key.limit key.first s rule.out reader seat view) (sym reader_is) (rule.views seat view else.1))
+            (λ here. subst (λ (v : View). Fits seat v) here.1
+            (subst (λ (i : ℕ). Fits i (keeper_view before)) (sym here.0) keeper))
+            (λ else. subst (λ (reader : ℕ). FitsView key.limit key.first s rule.out reader seat
+            view) (sym reader_is) (rule.views seat view else.1))
             (at_set t.views id seat (keeper_view before) view old))
-            (λ last. subst (λ (v : View). Fits seat v) last.0 (subst (λ (i : ℕ). Fits i (handed_view before)) (sym last.1) child))
+            (λ last. subst (λ (v : View). Fits seat v) last.0
+            (subst (λ (i : ℕ). Fits i (handed_view before)) (sym last.1) child))
             (at_end (set t.views id (keeper_view before)) (handed_view before) view seat there);
         pasts = λ seat view there.
             ⊎_elim
@@ -73,7 +89,8 @@ module _ (key : Key) (id : ℕ) (before : View) (zero_share share : Share Entry)
       after = ledger_handed 0 share.number new_seat rule.ledger
 
       reader_is : after.owner 0 ≡ rule.ledger.owner 0
-      reader_is = let apart : 0 ≢ share.number = λ same. absurd (omega arith) in rw (ne_eqb 0 share.number apart) refl
+      reader_is = let apart : 0 ≢ share.number =
+          λ same. absurd (omega arith) in rw (ne_eqb 0 share.number apart) refl
 
       Fits : ℕ → View → Type 0
       Fits seat view = FitsView key.limit key.first s rule.out (after.owner 0) seat view
@@ -81,24 +98,34 @@ module _ (key : Key) (id : ℕ) (before : View) (zero_share share : Share Entry)
       old_view : FitsView key.limit key.first s rule.out (rule.ledger.owner 0) id before
       old_view = rule.views id before at
 
-      puts : AllByRecursion (λ share. s.putting share.number ≡ put_at key.first before.stage share.number) (zero_share ∷ share ∷ rest)
-      puts = subst (AllByRecursion (λ share. s.putting share.number ≡ put_at key.first before.stage share.number)) shares_are old_view.puts
+      puts : AllByRecursion (λ share. s.putting share.number ≡
+          put_at key.first before.stage share.number) (zero_share ∷ share ∷ rest)
+      puts = subst (AllByRecursion (λ share. s.putting share.number ≡
+          put_at key.first before.stage share.number)) shares_are old_view.puts
 
       owner_zero : rule.ledger.owner 0 ≡ id
-      owner_zero = (owned_number key t rule id before at 0 (ap (λ (shares : List (Share Entry)). has_number shares 0) shares_are ∙ rw (eq-eqb zero_share.number 0 first) refl)).owner_is
+      owner_zero = (owned_number key t rule id before at 0
+          (ap (λ (shares : List (Share Entry)). has_number shares 0) shares_are ∙
+          rw (eq-eqb zero_share.number 0 first) refl)).owner_is
 
       keeper : FitsView key.limit key.first s rule.out (after.owner 0) id (keeper_view before)
       keeper =
           record {
-            puts = subst (λ (shares : List (Share Entry)). AllByRecursion (λ share. s.putting share.number ≡ put_at key.first before.stage share.number) (without_second shares)) (sym shares_are) (puts.0, puts.1.1);
-            reader_knows = λ reader. let knows = old_view.reader_knows owner_zero in record { taken = knows.taken; out_is = knows.out_is };
-            stage = subst (λ (z : Stage). FitsStage key.limit key.first s (keeper_view before).account.shares (after.owner 0) id z) (sym stage) tt;
+            puts = subst (λ (shares : List (Share Entry)). AllByRecursion
+                (λ share. s.putting share.number ≡ put_at key.first before.stage share.number)
+                (without_second shares)) (sym shares_are) (puts.0, puts.1.1);
+            reader_knows = λ reader. let knows = old_view.reader_knows owner_zero in record
+                { taken = knows.taken; out_is = knows.out_is };
+            stage = subst (λ (z : Stage). FitsStage key.limit key.first s
+                (keeper_view before).account.shares (after.owner 0) id z) (sym stage) tt;
           }
 
       child : FitsView key.limit key.first s rule.out (after.owner 0) new_seat (handed_view before)
       child =
           record {
-            puts = subst (λ (shares : List (Share Entry)). AllByRecursion (λ share. s.putting share.number ≡ None) (second_share shares ∷ [])) (sym shares_are)
+            puts = subst (λ (shares : List (Share Entry)). AllByRecursion
+                (λ share. s.putting share.number ≡ None) (second_share shares ∷ []))
+                (sym shares_are)
                 (puts.1.0 ∙ ap (λ (z : Stage). put_at key.first z share.number) stage, tt);
             reader_knows = λ reader.
                 let below : id < length t.views = at_within t.views id before at in

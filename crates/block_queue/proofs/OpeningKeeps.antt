@@ -1,5 +1,6 @@
 -- The rule holds when the queue is made: the history is empty, and all places are free.
-use Rattle.std.proofs.Common.{◌≡◌, ℕ, zero, suc, false, ◌+◌, ◌/◌, ◌%◌, ◌<◌, ◌≤◌, List, [], ◌∷◌, length, get_or, map, refl, sym, subst, ◌∙◌, arith, None, Some}
+use Rattle.std.proofs.Common.{◌≡◌, ℕ, zero, suc, false, ◌+◌, ◌/◌, ◌%◌, ◌<◌, ◌≤◌, List, [], ◌∷◌}
+use Rattle.std.proofs.Common.{length, get_or, map, refl, sym, subst, ◌∙◌, arith, None, Some}
 use Rattle.std.specs.Prelude.{replicate, Option, slice_get}
 use Rattle.std.specs.List.{AllByRecursion}
 use Rattle.std.proofs.Math.Nat.{div-eq_of_lt, mod-eq_of_lt}
@@ -41,7 +42,8 @@ length-homes : (n : ℕ) → length (map some (replicate n no_block)) ≡ n
 length-homes zero = refl
 length-homes (suc n) = let e = length-homes n in omega arith
 
-no_puts_yet : (numbers : List ℕ) → AllByRecursion (λ (share : Share Entry). ◌≡◌ {A = Option ℕ} None None) (map unused_share numbers)
+no_puts_yet : (numbers : List ℕ) → AllByRecursion
+    (λ (share : Share Entry). ◌≡◌ {A = Option ℕ} None None) (map unused_share numbers)
 no_puts_yet [] = tt
 no_puts_yet (number ∷ numbers) = (refl, no_puts_yet numbers)
 
@@ -65,12 +67,14 @@ module _ (key : Key) (some_room : 0 < key.limit) (given : key.first ≤ LAST_WRI
       no_write zero write at = cc
       no_write (suc count) write at = cc
 
-      place : (count : ℕ) → count < key.limit → IsPlace key.limit key.first (opening_state key.limit) false words homes count
+      place : (count : ℕ) → count < key.limit →
+          IsPlace key.limit key.first (opening_state key.limit) false words homes count
       place count below =
           let lap : count / key.limit ≡ 0 = div-eq_of_lt below in
           let same : count % key.limit ≡ count = mod-eq_of_lt below in
           record {
-            free = λ past. zero_there (key.limit + 1) (sequence_of (place_of key.limit count)) ∙ omega arith;
+            free = λ past. zero_there (key.limit + 1) (sequence_of (place_of key.limit count)) ∙
+                omega arith;
             empty = λ past. empty_there key.limit (count % key.limit) (omega arith);
             begun = λ write at unstored. absurd (no_write count write at);
             stored = λ write at stored. absurd (no_write count write at);
@@ -78,7 +82,8 @@ module _ (key : Key) (some_room : 0 < key.limit) (given : key.first ≤ LAST_WRI
           }
 
   -- words of zero, empty slots and the one seat that has all numbers keep the rule
-  pub opening_keeps : IsOneQueue key (table.opening (replicate (key.limit + 1) 0) (replicate key.limit None) (first_view key))
+  pub opening_keeps : IsOneQueue key (table.opening (replicate (key.limit + 1) 0)
+      (replicate key.limit None) (first_view key))
   opening_keeps =
       record {
         ledger = opening_ledger key.writers;
@@ -101,10 +106,15 @@ module _ (key : Key) (some_room : 0 < key.limit) (given : key.first ≤ LAST_WRI
             stage = tt;
           }
 
-      none : (seat : ℕ) (view : View) → get_elem? (first_view key ∷ []) seat ≡ some view → AllByRecursion (λ past. IsPast past []) view.pasts
-      none zero view at = subst (λ (v : View). AllByRecursion (λ past. IsPast past []) v.pasts) (some-injective (first_view key) view at) tt
+      none : (seat : ℕ) (view : View) → get_elem? (first_view key ∷ []) seat ≡ some view →
+          AllByRecursion (λ past. IsPast past []) view.pasts
+      none zero view at = subst (λ (v : View). AllByRecursion (λ past. IsPast past []) v.pasts)
+          (some-injective (first_view key) view at) tt
       none (suc seat) view at = absurd (some-ne-none view (sym at))
 
-      each : (seat : ℕ) (view : View) → get_elem? (first_view key ∷ []) seat ≡ some view → FitsView key.limit key.first (opening_state key.limit) false 0 seat view
-      each zero view at = subst (λ (v : View). FitsView key.limit key.first (opening_state key.limit) false 0 0 v) (some-injective (first_view key) view at) first_fits
+      each : (seat : ℕ) (view : View) → get_elem? (first_view key ∷ []) seat ≡ some view →
+          FitsView key.limit key.first (opening_state key.limit) false 0 seat view
+      each zero view at = subst (λ (v : View). FitsView key.limit key.first
+          (opening_state key.limit) false 0 0 v) (some-injective (first_view key) view at)
+          first_fits
       each (suc seat) view at = absurd (some-ne-none view (sym at))

@@ -1,5 +1,6 @@
 -- How the rule is put together again after a step of one seat.
-use Rattle.std.proofs.Common.{◌≡◌, ◌≢◌, ⊎_elim, ℕ, ◌+◌, ◌≤◌, Bool, true, List, [], ◌∷◌, set, map, refl, sym, subst, ◌∙◌, Option}
+use Rattle.std.proofs.Common.{◌≡◌, ◌≢◌, ⊎_elim, ℕ, ◌+◌, ◌≤◌, Bool, true, List, [], ◌∷◌, set, map}
+use Rattle.std.proofs.Common.{refl, sym, subst, ◌∙◌, Option}
 use Rattle.std.specs.List.{AllByRecursion}
 use mathlib.Core.Option.{some}
 use lib.ListN.{get_elem?}
@@ -10,7 +11,8 @@ use Rattle.histories.specs.Changes.{entered_account}
 use Rattle.histories.specs.History.{IsLegal, IsPast}
 use Rattle.histories.specs.Ledger.{IsOwned, FitsLedger, ledger_with}
 use Rattle.histories.proofs.ListLemmas.{at_set, all_map, all_weaker, past_cons}
-use Rattle.histories.proofs.SeatsKeep.{number_is_owned, entered_fits, knows_history, seats_stay, seats_enter}
+use Rattle.histories.proofs.SeatsKeep.{number_is_owned, entered_fits, knows_history, seats_stay}
+use Rattle.histories.proofs.SeatsKeep.{seats_enter}
 use Rattle.histories.proofs.AloneLemmas.{looks_at}
 use Rattle.sync_base.specs.Write.{Write}
 use Rattle.sync_base.specs.declared.limits.TheConstants.{LAST_WRITE}
@@ -29,15 +31,22 @@ abbrev pub QueueTable : Type 0
 QueueTable = table.State (Option Write) View
 
 -- what is so in the state that a legal history leaves
-pub history_fits : (key : Key) (history : List Entry) → key.first ≤ LAST_WRITE → IsLegal (queue_meaning key.first) (opening_state key.limit) history → IsQueueState key.limit key.first (queue_after key history)
+pub history_fits : (key : Key) (history : List Entry) → key.first ≤ LAST_WRITE →
+    IsLegal (queue_meaning key.first) (opening_state key.limit) history →
+    IsQueueState key.limit key.first (queue_after key history)
 history_fits key [] low legal = opening_fits key.limit key.first low
-history_fits key (entry ∷ past) low legal = entry_fits key.limit key.first (queue_after key past) entry (history_fits key past low legal.1) legal.0
+history_fits key (entry ∷ past) low legal = entry_fits key.limit key.first (queue_after key past)
+    entry (history_fits key past low legal.1) legal.0
 
 -- pasts of a history are pasts of what comes of it
-still_pasts : (history : List Entry) (entry : Entry) (pasts : List (List Entry)) → AllByRecursion (λ past. IsPast past history) pasts → AllByRecursion (λ past. IsPast past (entry ∷ history)) pasts
-still_pasts history entry pasts all = all_weaker (λ (past : List Entry). IsPast past history) (λ past. IsPast past (entry ∷ history)) (λ past is. past_cons past history entry is) pasts all
+still_pasts : (history : List Entry) (entry : Entry) (pasts : List (List Entry)) →
+    AllByRecursion (λ past. IsPast past history) pasts →
+    AllByRecursion (λ past. IsPast past (entry ∷ history)) pasts
+still_pasts history entry pasts all = all_weaker (λ (past : List Entry). IsPast past history)
+    (λ past. IsPast past (entry ∷ history)) (λ past is. past_cons past history entry is) pasts all
 
-module _ (key : Key) (t : QueueTable) (rule : IsOneQueue key t) (id : ℕ) (before : View) (at : get_elem? t.views id ≡ some before) where
+module _ (key : Key) (t : QueueTable) (rule : IsOneQueue key t) (id : ℕ) (before : View) (at :
+    get_elem? t.views id ≡ some before) where
   -- the state that the history of the table leaves
   abbrev pub state_now : QueueState
   state_now = queue_after key rule.ledger.history
@@ -55,33 +64,45 @@ module _ (key : Key) (t : QueueTable) (rule : IsOneQueue key t) (id : ℕ) (befo
   own_view = rule.views id before at
 
   -- a number that the seat has is its own
-  pub owned_number : (number : ℕ) → has_number before.account.shares number ≡ true → IsOwned rule.ledger id number
-  owned_number number has = number_is_owned seat_of rule.ledger id number before.account own_ledger has
+  pub owned_number : (number : ℕ) → has_number before.account.shares number ≡ true →
+      IsOwned rule.ledger id number
+  owned_number number has =
+      number_is_owned seat_of rule.ledger id number before.account own_ledger has
 
   -- the views of all seats, one of which is new
-  each_view : (s' : QueueState) (out' : Bool) (reader : ℕ) (after : View) → FitsView key.limit key.first s' out' reader id after
-      → ((seat : ℕ) (view : View) → seat ≢ id → get_elem? t.views seat ≡ some view → FitsView key.limit key.first s' out' reader seat view)
-      → (seat : ℕ) (view : View) → get_elem? (set t.views id after) seat ≡ some view → FitsView key.limit key.first s' out' reader seat view
+  each_view : (s' : QueueState) (out' : Bool) (reader : ℕ) (after : View) →
+      FitsView key.limit key.first s' out' reader id after
+      → ((seat : ℕ) (view : View) → seat ≢ id → get_elem? t.views seat ≡ some view →
+      FitsView key.limit key.first s' out' reader seat view)
+      → (seat : ℕ) (view : View) → get_elem? (set t.views id after) seat ≡ some view →
+      FitsView key.limit key.first s' out' reader seat view
   each_view s' out' reader after own others seat view there =
       ⊎_elim
-      (λ here. subst (λ (v : View). FitsView key.limit key.first s' out' reader seat v) here.1 (subst (λ (i : ℕ). FitsView key.limit key.first s' out' reader i after) (sym here.0) own))
+      (λ here. subst (λ (v : View). FitsView key.limit key.first s' out' reader seat v) here.1
+      (subst (λ (i : ℕ). FitsView key.limit key.first s' out' reader i after) (sym here.0) own))
       (λ else. others seat view else.0 else.1)
       (at_set t.views id seat after view there)
 
   -- what was seen before joins, of all seats, one of which is new
-  each_past : (history : List Entry) (after : View) → AllByRecursion (λ past. IsPast past history) after.pasts
-      → ((seat : ℕ) (view : View) → get_elem? t.views seat ≡ some view → AllByRecursion (λ past. IsPast past history) view.pasts)
-      → (seat : ℕ) (view : View) → get_elem? (set t.views id after) seat ≡ some view → AllByRecursion (λ past. IsPast past history) view.pasts
+  each_past : (history : List Entry) (after : View) →
+      AllByRecursion (λ past. IsPast past history) after.pasts
+      → ((seat : ℕ) (view : View) → get_elem? t.views seat ≡ some view →
+      AllByRecursion (λ past. IsPast past history) view.pasts)
+      → (seat : ℕ) (view : View) → get_elem? (set t.views id after) seat ≡ some view →
+      AllByRecursion (λ past. IsPast past history) view.pasts
   each_past history after own others seat view there =
       ⊎_elim
-      (λ here. subst (λ (v : View). AllByRecursion (λ past. IsPast past history) v.pasts) here.1 own)
+      (λ here. subst (λ (v : View). AllByRecursion (λ past. IsPast past history) v.pasts) here.1
+      own)
       (λ else. others seat view else.1)
       (at_set t.views id seat after view there)
 
   -- a step of one seat that adds no entry
-  pub rule_stays : (after : View) (out' : Bool) (words : List ℕ) (homes : Homes) (number : ℕ) → has_number before.account.shares number ≡ true
+  pub rule_stays : (after : View) (out' : Bool) (words : List ℕ) (homes : Homes) (number : ℕ) →
+      has_number before.account.shares number ≡ true
       → after.account ≡ before.account → after.pasts ≡ before.pasts → (number ≢ 0 → out' ≡ rule.out)
-      → AreWords key.limit key.first state_now out' words homes → FitsView key.limit key.first state_now out' (rule.ledger.owner 0) id after
+      → AreWords key.limit key.first state_now out' words homes →
+      FitsView key.limit key.first state_now out' (rule.ledger.owner 0) id after
       → IsOneQueue key record { words = words; homes = homes; views = set t.views id after }
   rule_stays after out' words homes number has account pasts still ring own =
       record {
@@ -92,21 +113,30 @@ module _ (key : Key) (t : QueueTable) (rule : IsOneQueue key t) (id : ℕ) (befo
         legal = rule.legal;
         writers = rule.writers;
         words = ring;
-        seats = seats_stay seat_of account_of rule.ledger t.views id before after rule.seats at account;
+        seats = seats_stay seat_of account_of rule.ledger t.views id before after rule.seats at
+            account;
         views = each_view state_now out' (rule.ledger.owner 0) after own
             (λ seat view other there.
-            others_fit key.limit key.first state_now state_now rule.out out' rule.ledger number seat view (same_grows key.first state_now number) still
+            others_fit key.limit key.first state_now state_now rule.out out' rule.ledger number seat
+            view (same_grows key.first state_now number) still
             (λ same. other (same ∙ (owned_number number has).owner_is))
             (rule.seats.each_seat seat view there) (rule.views seat view there));
-        pasts = each_past rule.ledger.history after (subst (AllByRecursion (λ past. IsPast past rule.ledger.history)) (sym pasts) (rule.pasts id before at)) (λ seat view there. rule.pasts seat view there);
+        pasts = each_past rule.ledger.history after (subst
+            (AllByRecursion (λ past. IsPast past rule.ledger.history)) (sym pasts)
+            (rule.pasts id before at)) (λ seat view there. rule.pasts seat view there);
       }
 
   -- a step of one seat that adds an entry by one of its numbers
-  pub rule_enters : (entry : Entry) (after : View) (out' : Bool) (words : List ℕ) (homes : Homes) → has_number before.account.shares (seat_of entry) ≡ true
-      → IsRight key.first state_now entry → after.account ≡ entered_account seat_of entry rule.ledger.history before.account → after.pasts ≡ before.pasts
-      → Grows key.first state_now (after_entry state_now entry) (seat_of entry) → (seat_of entry ≢ 0 → out' ≡ rule.out)
+  pub rule_enters : (entry : Entry) (after : View) (out' : Bool) (words : List ℕ) (homes : Homes) →
+      has_number before.account.shares (seat_of entry) ≡ true
+      → IsRight key.first state_now entry → after.account ≡
+      entered_account seat_of entry rule.ledger.history before.account → after.pasts ≡
+      before.pasts
+      → Grows key.first state_now (after_entry state_now entry) (seat_of entry) →
+      (seat_of entry ≢ 0 → out' ≡ rule.out)
       → AreWords key.limit key.first (after_entry state_now entry) out' words homes
-      → FitsView key.limit key.first (after_entry state_now entry) out' (rule.ledger.owner 0) id after
+      → FitsView key.limit key.first (after_entry state_now entry) out' (rule.ledger.owner 0) id
+      after
       → IsOneQueue key record { words = words; homes = homes; views = set t.views id after }
   rule_enters entry after out' words homes has right account pasts grows still ring own =
       record {
@@ -117,33 +147,55 @@ module _ (key : Key) (t : QueueTable) (rule : IsOneQueue key t) (id : ℕ) (befo
         legal = (right, rule.legal);
         writers = rule.writers;
         words = ring;
-        seats = seats_enter seat_of account_of rule.ledger t.views id before after entry rule.seats at has account;
+        seats = seats_enter seat_of account_of rule.ledger t.views id before after entry rule.seats
+            at has account;
         views = each_view (after_entry state_now entry) out' (rule.ledger.owner 0) after own
             (λ seat view other there.
-            others_fit key.limit key.first state_now (after_entry state_now entry) rule.out out' rule.ledger (seat_of entry) seat view grows still
+            others_fit key.limit key.first state_now (after_entry state_now entry) rule.out out'
+            rule.ledger (seat_of entry) seat view grows still
             (λ same. other (same ∙ (owned_number (seat_of entry) has).owner_is))
             (rule.seats.each_seat seat view there) (rule.views seat view there));
         pasts = each_past (entry ∷ rule.ledger.history) after
-            (subst (AllByRecursion (λ past. IsPast past (entry ∷ rule.ledger.history))) (sym pasts) (still_pasts rule.ledger.history entry before.pasts (rule.pasts id before at)))
-            (λ seat view there. still_pasts rule.ledger.history entry view.pasts (rule.pasts seat view there));
+            (subst (AllByRecursion (λ past. IsPast past (entry ∷ rule.ledger.history))) (sym pasts)
+            (still_pasts rule.ledger.history entry before.pasts (rule.pasts id before at)))
+            (λ seat view there. still_pasts rule.ledger.history entry view.pasts
+            (rule.pasts seat view there));
       }
 
   -- and what it tells the seat
-  pub entry_told : (entry : Entry) → has_number before.account.shares (seat_of entry) ≡ true → IsRight key.first state_now entry
-      → Enters key entry before.account (entered_account seat_of entry rule.ledger.history before.account)
+  pub entry_told : (entry : Entry) → has_number before.account.shares (seat_of entry) ≡ true →
+      IsRight key.first state_now entry
+      → Enters key entry before.account (entered_account seat_of entry rule.ledger.history
+      before.account)
   entry_told entry has right =
       record {
-        adds = record { past = rule.ledger.history; looked = looks_at seat_of account_of rule.ledger t.views rule.seats id before at; new_is = refl };
-        knows = knows_history (queue_meaning key.first) (opening_state key.limit) (key.writers + 1) (ledger_with entry rule.ledger) id (entered_account seat_of entry rule.ledger.history before.account)
-            (right, rule.legal) ((owned_number (seat_of entry) has).given, rule.seats.by_given) rule.writers
+        adds = record {
+          past = rule.ledger.history;
+          looked =
+              looks_at seat_of account_of rule.ledger t.views rule.seats id before at;
+          new_is =
+              refl;
+        };
+        knows = knows_history (queue_meaning key.first) (opening_state key.limit) (key.writers +
+            1) (ledger_with entry rule.ledger) id (entered_account seat_of entry rule.ledger.history
+            before.account)
+            (right, rule.legal) (
+              (owned_number (seat_of entry) has).given,
+              rule.seats.by_given,
+            ) rule.writers
             (entered_fits seat_of rule.ledger id entry before.account own_ledger);
       }
 
 -- the puts of a seat's numbers after an entry of it
 module _ (putting putting' : ℕ → Option ℕ) (due : ℕ → Option ℕ) (entry : Entry) where
   -- what is so of the puts of a seat's numbers is so after an entry, which leaves it its numbers
-  pub puts_after : (shares : List (Share Entry)) → AllByRecursion (λ share. putting' share.number ≡ due share.number) shares
-      → AllByRecursion (λ share. putting' share.number ≡ due share.number) (map (share_after seat_of entry) shares)
+  pub puts_after : (shares : List (Share Entry)) →
+      AllByRecursion (λ share. putting' share.number ≡ due share.number) shares
+      → AllByRecursion (λ share. putting' share.number ≡
+      due share.number) (map (share_after seat_of entry) shares)
   puts_after shares all =
-      all_map (λ (share : Share Entry). putting' share.number ≡ due share.number) (share_after seat_of entry) shares
-      (all_weaker (λ (share : Share Entry). putting' share.number ≡ due share.number) (λ share. putting' (share_after seat_of entry share).number ≡ due (share_after seat_of entry share).number) (λ share same. same) shares all)
+      all_map (λ (share : Share Entry). putting' share.number ≡
+      due share.number) (share_after seat_of entry) shares
+      (all_weaker (λ (share : Share Entry). putting' share.number ≡
+      due share.number) (λ share. putting' (share_after seat_of entry share).number ≡
+      due (share_after seat_of entry share).number) (λ share same. same) shares all)

@@ -12,26 +12,39 @@ use Rattle.block_queue.specs.declared.view.Stage.TheVariants.{Free}
 use Rattle.block_queue.specs.declared.view.View.{View}
 use Rattle.block_queue.specs.History.{seat_of}
 use Rattle.block_queue.specs.Meaning.{Enters}
-use Rattle.block_queue.specs.Seats.{Place, IsPlaceOf, IsFreePlaceOf, IsSamePlace, IsPutSeatOf, IsTakeSeatOf, head_view, put_view, take_view}
+use Rattle.block_queue.specs.Seats.{Place, IsPlaceOf, IsFreePlaceOf, IsSamePlace, IsPutSeatOf}
+use Rattle.block_queue.specs.Seats.{IsTakeSeatOf, head_view, put_view, take_view}
 use Rattle.block_queue.specs.Steps.{Seated}
 
 -- an entry leaves a seat its numbers
-pub entered_own : (key : Key) (made : Entry) (old new : Account Entry) (number : ℕ) → Enters key made old new → has_number old.shares number ≡ true → has_number new.shares number ≡ true
+pub entered_own : (key : Key) (made : Entry) (old new : Account Entry) (number : ℕ) →
+    Enters key made old new → has_number old.shares number ≡ true → has_number new.shares number ≡
+    true
 entered_own key made old new number enters has =
-    subst (λ (a : Account Entry). has_number a.shares number ≡ true) (sym enters.adds.new_is) (has_number-share_after seat_of made old.shares number ∙ has)
+    subst (λ (a : Account Entry). has_number a.shares number ≡
+    true) (sym enters.adds.new_is) (has_number-share_after seat_of made old.shares number ∙ has)
 
 -- an entry leaves its seat the number that it acts by
-pub entered_number : (key : Key) (made : Entry) (old new : Account Entry) → Enters key made old new → new.number ≡ old.number
+pub entered_number : (key : Key) (made : Entry) (old new : Account Entry) →
+    Enters key made old new → new.number ≡ old.number
 entered_number key made old new enters = ap (λ (a : Account Entry). a.number) enters.adds.new_is
 
 -- a seat that made an entry stands where it stood, with its number
-pub entered_place : (queue : Queue) (old new : Place) (number : ℕ) (made : Entry) (key : Key) → IsPlaceOf queue old number → IsSamePlace old new → Enters key made old.me.0.account new.me.0.account → IsPlaceOf queue new number
+pub entered_place : (queue : Queue) (old new : Place) (number : ℕ) (made : Entry) (key : Key) →
+    IsPlaceOf queue old number → IsSamePlace old new →
+    Enters key made old.me.0.account new.me.0.account → IsPlaceOf queue new number
 entered_place queue old new number made key is same enters =
-    record { table = same.table ∙ is.table; own = entered_own key made old.me.0.account new.me.0.account number enters is.own }
+    record {
+      table = same.table ∙ is.table;
+      own =
+          entered_own key made old.me.0.account new.me.0.account number enters is.own;
+    }
 
 -- a seat that made its entry is free again
-pub entered_free : (queue : Queue) (old new : Place) (number : ℕ) (made : Entry) (key : Key) → IsPlaceOf queue old number → old.me.0.account.number ≡ number → IsSamePlace old new
-    → Enters key made old.me.0.account new.me.0.account → new.me.0.stage ≡ Free → new.me.1 ≡ [] → IsFreePlaceOf queue new number
+pub entered_free : (queue : Queue) (old new : Place) (number : ℕ) (made : Entry) (key : Key) →
+    IsPlaceOf queue old number → old.me.0.account.number ≡ number → IsSamePlace old new
+    → Enters key made old.me.0.account new.me.0.account → new.me.0.stage ≡ Free → new.me.1 ≡ [] →
+    IsFreePlaceOf queue new number
 entered_free queue old new number made key is number_is same enters stage no_slot =
     let place = entered_place queue old new number made key is same enters in
     record {
@@ -43,18 +56,26 @@ entered_free queue old new number made key is number_is same enters stage no_slo
     }
 
 -- a free seat is one that may step
-pub free_steps : (queue : Queue) (place : Place) (number : ℕ) → IsFreePlaceOf queue place number → IsPlaceOf queue place number
+pub free_steps : (queue : Queue) (place : Place) (number : ℕ) → IsFreePlaceOf queue place number →
+    IsPlaceOf queue place number
 free_steps queue place number free = record { table = free.table; own = free.own }
 
 -- a seat that knows what it knew may step on
-pub steps_on : (queue : Queue) (old new : Place) (number : ℕ) → IsPlaceOf queue old number → IsSamePlace old new → new.me.0.account ≡ old.me.0.account → IsPlaceOf queue new number
+pub steps_on : (queue : Queue) (old new : Place) (number : ℕ) → IsPlaceOf queue old number →
+    IsSamePlace old new → new.me.0.account ≡ old.me.0.account → IsPlaceOf queue new number
 steps_on queue old new number is same account =
-    record { table = same.table ∙ is.table; own = subst (λ (a : Account Entry). has_number a.shares number ≡ true) (sym account) is.own }
+    record {
+      table = same.table ∙ is.table;
+      own =
+          subst (λ (a : Account Entry). has_number a.shares number ≡ true) (sym account) is.own;
+    }
 
 -- ---- a seat that sits down
 
 -- a writer's seat that stands up to step is a free one, with its writer's number
-pub stands_put : (queue : Queue) (seat : PutSeat) (place : Place) → IsPutSeatOf queue seat → place.table_id ≡ seat.badge.table_id → place.me ≡ (put_view seat, []) → IsFreePlaceOf queue place (seat.writer + 1)
+pub stands_put : (queue : Queue) (seat : PutSeat) (place : Place) → IsPutSeatOf queue seat →
+    place.table_id ≡ seat.badge.table_id → place.me ≡ (put_view seat, []) →
+    IsFreePlaceOf queue place (seat.writer + 1)
 stands_put queue seat place is table me =
     record {
       table = table ∙ is.table;
@@ -65,7 +86,9 @@ stands_put queue seat place is table me =
     }
 
 -- a free one with a writer's number sits down as that writer's seat
-pub sits_put : (queue : Queue) (seat : PutSeat) (place : Place) → seat.writer < queue.key.writers → IsFreePlaceOf queue place (seat.writer + 1) → seat.badge.table_id ≡ place.table_id → seat.badge.views ≡ place.me.0 ∷ [] → IsPutSeatOf queue seat
+pub sits_put : (queue : Queue) (seat : PutSeat) (place : Place) → seat.writer < queue.key.writers →
+    IsFreePlaceOf queue place (seat.writer + 1) → seat.badge.table_id ≡ place.table_id →
+    seat.badge.views ≡ place.me.0 ∷ [] → IsPutSeatOf queue seat
 sits_put queue seat place writer free table views =
     let view : put_view seat ≡ place.me.0 = ap head_view views in
     record {
@@ -78,7 +101,9 @@ sits_put queue seat place writer free table views =
     }
 
 -- the reader's seat that stands up to step is a free one, with number 0
-pub stands_take : (queue : Queue) (seat : TakeSeat) (place : Place) → IsTakeSeatOf queue seat → place.table_id ≡ seat.badge.table_id → place.me ≡ (take_view seat, []) → IsFreePlaceOf queue place 0
+pub stands_take : (queue : Queue) (seat : TakeSeat) (place : Place) → IsTakeSeatOf queue seat →
+    place.table_id ≡ seat.badge.table_id → place.me ≡ (take_view seat, []) →
+    IsFreePlaceOf queue place 0
 stands_take queue seat place is table me =
     record {
       table = table ∙ is.table;
@@ -89,7 +114,9 @@ stands_take queue seat place is table me =
     }
 
 -- a free one with number 0 sits down as the reader's seat
-pub sits_take : (queue : Queue) (seat : TakeSeat) (place : Place) → IsFreePlaceOf queue place 0 → seat.badge.table_id ≡ place.table_id → seat.badge.views ≡ place.me.0 ∷ [] → seat.taken ≡ place.me.0.taken → IsTakeSeatOf queue seat
+pub sits_take : (queue : Queue) (seat : TakeSeat) (place : Place) → IsFreePlaceOf queue place 0 →
+    seat.badge.table_id ≡ place.table_id → seat.badge.views ≡ place.me.0 ∷ [] → seat.taken ≡
+    place.me.0.taken → IsTakeSeatOf queue seat
 sits_take queue seat place free table views taken =
     let view : take_view seat ≡ place.me.0 = ap head_view views in
     record {

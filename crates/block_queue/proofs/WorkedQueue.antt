@@ -1,9 +1,11 @@
 -- Histories of a queue worked out by the definitions alone, and short ones that they refuse.
-use Rattle.std.proofs.Common.{◌≡◌, ℕ, true, false, List, [], ◌∷◌, refl, inl, inr, ⊎_elim, ap, ◌∙◌, ◌+◌, arith, Some, None}
+use Rattle.std.proofs.Common.{◌≡◌, ℕ, true, false, List, [], ◌∷◌, refl, inl, inr, ⊎_elim, ap, ◌∙◌}
+use Rattle.std.proofs.Common.{◌+◌, arith, Some, None}
 use Rattle.histories.specs.History.{IsLegal}
 use Rattle.sync_base.specs.declared.limits.TheConstants.{LAST_WRITE}
 use Rattle.block_queue.specs.declared.entry.Entry.{Entry}
-use Rattle.block_queue.specs.declared.entry.Entry.TheVariants.{Taken, Stood, Full, Hungup, Worn, Block, NotYet, End, Hung}
+use Rattle.block_queue.specs.declared.entry.Entry.TheVariants.{Taken, Stood, Full, Hungup, Worn}
+use Rattle.block_queue.specs.declared.entry.Entry.TheVariants.{Block, NotYet, End, Hung}
 use Rattle.sync_base.specs.Write.{Write}
 use Rattle.block_queue.specs.History.{opening_state, with_put}
 use Rattle.block_queue.proofs.WordMoves.{same_some}
@@ -19,11 +21,35 @@ a = 97 ∷ []
 -- ---- a run, entry by entry: each answer is the one that the definitions allow there
 
 taken_run : IsRun (Taken 0 a 1 ∷ [])
-taken_run = (record { may = record { may = (refl, omega arith); number_is = refl; given = omega arith }; in_turn = refl }, tt)
+taken_run = (
+  record {
+    may = record {
+      may = (refl, omega arith);
+      number_is = refl;
+      given =
+          omega arith;
+    };
+    in_turn = refl;
+  },
+  tt,
+)
 
 -- the put has not returned, so the write is not there yet
 waiting_run : IsRun (NotYet 0 ∷ Taken 0 a 1 ∷ [])
-waiting_run = (record { may = record { none = inr record { write = record { writer = 0; bytes = a }; next = refl; returning = refl }; number_is = refl }; in_turn = refl }, taken_run)
+waiting_run = (
+  record {
+    may = record {
+      none = inr record {
+        write = record { writer = 0; bytes = a };
+        next = refl;
+        returning = refl;
+      };
+      number_is = refl;
+    };
+    in_turn = refl;
+  },
+  taken_run,
+)
 
 stood_run : IsRun (Stood 0 1 ∷ Taken 0 a 1 ∷ [])
 stood_run = (record { may = tt; in_turn = refl }, taken_run)
@@ -35,7 +61,10 @@ block_run : IsRun (Block 0 a 1 ∷ Stood 0 1 ∷ Taken 0 a 1 ∷ [])
 block_run = (record { may = record { next = refl; number_is = refl }; in_turn = refl }, stood_run)
 
 empty_run : IsRun (NotYet 1 ∷ Block 0 a 1 ∷ Stood 0 1 ∷ Taken 0 a 1 ∷ [])
-empty_run = (record { may = record { none = inl refl; number_is = refl }; in_turn = refl }, block_run)
+empty_run = (
+  record { may = record { none = inl refl; number_is = refl }; in_turn = refl },
+  block_run,
+)
 
 hung_run : IsRun (Hung 0 ∷ Block 0 a 1 ∷ Stood 0 1 ∷ Taken 0 a 1 ∷ [])
 hung_run = (record { may = tt; in_turn = refl }, block_run)
@@ -81,7 +110,8 @@ a_writer_goes_on_before_its_write_stands run = let no : Some 1 ≡ None = run.0.
 
 block_of_another_writer : IsRun (Block 1 a 1 ∷ Stood 0 1 ∷ Taken 0 a 1 ∷ []) → ⊥
 block_of_another_writer run =
-    let same = same_some (record { writer = 0; bytes = a }) (record { writer = 1; bytes = a }) run.0.may.next in
+    let same = same_some (record { writer = 0; bytes = a }) (record { writer = 1; bytes = a })
+    run.0.may.next in
     let writer : ◌≡◌ {A = ℕ} 0 1 = ap (λ (w : Write). w.writer) same in
     absurd (omega arith)
 
@@ -92,8 +122,10 @@ not_yet_where_the_next_stands : IsRun (NotYet 0 ∷ Stood 0 1 ∷ Taken 0 a 1 �
 not_yet_where_the_next_stands run =
     ⊎_elim (λ none. cc)
     (λ unready.
-    let same : record { writer = 0; bytes = a } ≡ unready.write = same_some (record { writer = 0; bytes = a }) unready.write unready.next in
-    let no : None ≡ Some 1 = ap (λ (w : Write). with_put 1 None (with_put 1 (Some 1) (λ seat. None)) (w.writer + 1)) same ∙ unready.returning in
+    let same : record { writer = 0; bytes = a } ≡ unready.write =
+    same_some (record { writer = 0; bytes = a }) unready.write unready.next in
+    let no : None ≡ Some 1 = ap (λ (w : Write). with_put 1 None (with_put 1 (Some 1) (λ seat. None))
+    (w.writer + 1)) same ∙ unready.returning in
     cc)
     run.0.may.none
 

@@ -1,5 +1,6 @@
 -- What the reader of a run on threads expects, and what it has counted.
-use Rattle.std.specs.Prelude.{◌≡◌, ◌+◌, ◌*◌, ◌<◌, ℕ, true, List, length, slice_get, slice_set, vec_len, Some}
+use Rattle.std.specs.Prelude.{◌≡◌, ◌+◌, ◌*◌, ◌<◌, ℕ, true, List, length, slice_get, slice_set}
+use Rattle.std.specs.Prelude.{vec_len, Some}
 use Rattle.crew.specs.declared.opts.Report.{Report}
 use Rattle.sync_base.specs.declared.threads_opts.ThreadsOpts.{ThreadsOpts}
 use Rattle.crew.specs.declared.tally.Tally.{Tally}

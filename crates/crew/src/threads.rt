@@ -1,5 +1,6 @@
 //! Many writers and one reader, each on a thread of its own, on one direction of a pipe.
-ghost use Rattle.std.specs.Prelude.{◌≡◌, ◌≢◌, ◌≤◌, ◌+◌, ◌↔◌, [], length, All, IfOk, IsErrOf, IsSome};
+ghost use Rattle.std.specs.Prelude.{◌≡◌, ◌≢◌, ◌≤◌, ◌+◌, ◌↔◌, [], length, All, IfOk, IsErrOf};
+ghost use Rattle.std.specs.Prelude.{IsSome};
 ghost use Rattle.std.specs.Vec.{vec_capacity};
 ghost use Rattle.sync_base.specs.declared.fault.Fault.TheVariants.{BadArg};
 ghost use Rattle.crew.specs.Threads.{AreWithin, IsReportOf};

@@ -2,8 +2,8 @@
 //!
 //! A user wants five blocks of a device, and a driver copies them. The device interrupts when a
 //! block is ready. An interrupt may not wait: it calls `wakeup`, which never does. The driver may:
-//! it sleeps until there is a block. Only three blocks come, so the user posts a note to the driver,
-//! which ends its sleep and with it the transfer.
+//! it sleeps until there is a block. Only three blocks come, so the user posts a note to the
+//! driver, which ends its sleep and with it the transfer.
 #![tactic(auto)]
 
 use sleep_wakeup::{Kernel, Opened, Proc, Roster, Started};

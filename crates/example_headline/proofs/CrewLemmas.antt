@@ -1,5 +1,6 @@
 -- How a reader and writers go on, by what their ends' calls answer.
-use Rattle.std.proofs.Common.{◌≡◌, ◌≢◌, ◌+◌, ◌++◌, ◌<◌, ℕ, zero, suc, List, [], ◌∷◌, length, map, refl}
+use Rattle.std.proofs.Common.{◌≡◌, ◌≢◌, ◌+◌, ◌++◌, ◌<◌, ℕ, zero, suc, List, [], ◌∷◌, length, map}
+use Rattle.std.proofs.Common.{refl}
 use Rattle.std.proofs.Common.{reverse, sym, ◌∙◌, ap, subst, arith, Option, Some, get_or}
 use Rattle.std.specs.Prelude.{Result, Ok, Err, take, slice_get, slice_index_or}
 use Rattle.std.specs.List.{AllByRecursion, AllZip}

@@ -1,5 +1,6 @@
 -- What all ends of a crew come to.
-use Rattle.std.proofs.Common.{◌≡◌, ◌+◌, ◌++◌, ◌<◌, ℕ, zero, suc, List, [], ◌∷◌, length, map, refl, sym}
+use Rattle.std.proofs.Common.{◌≡◌, ◌+◌, ◌++◌, ◌<◌, ℕ, zero, suc, List, [], ◌∷◌, length, map, refl}
+use Rattle.std.proofs.Common.{sym}
 use Rattle.std.proofs.Common.{◌∙◌, ap, subst, arith, Option, reverse}
 use Rattle.std.specs.Prelude.{take}
 use Rattle.std.specs.List.{AllByRecursion, AllZip}
@@ -131,7 +132,8 @@ whole_and_once crew outcome ready told got gives =
     }
 
 -- a writer that has written nothing yet counts all
-pub all_count : (read : ReadSide) (writes : List WriteSide) (writers : List Writer) → IsFresh read writes
+pub all_count : (read : ReadSide) (writes : List WriteSide) (writers : List Writer) →
+    IsFresh read writes
     → ends_of writers ≡ writes → AllByRecursion (λ writer. writer.accepted ≡ 0) writers
     → AllByRecursion CountsAll writers
 all_count read writes writers fresh ends none =

@@ -34,7 +34,8 @@ fn ask<R: Wait>(rt: &R, alloc: Global, me: Client<'_>) -> Result<u64, Fault> {
     Ok(sum)
 }
 
-/// All clients, each on a thread, and then a hangup of the pipe of requests by an end for this alone.
+/// All clients, each on a thread, and then a hangup of the pipe of requests by an end for this
+/// alone.
 fn ask_all<'s, R: Threads + Wait + Sync>(
     rt: &R,
     alloc: Global,

@@ -9,7 +9,8 @@ use native.Mathlib.Decide.{ℕ_discrete}
 use Rattle.std.specs.List.{list_any, AllByRecursion}
 use Rattle.histories.specs.declared.account.Share.{Share}
 use Rattle.histories.specs.History.{IsPast, entries_by}
-use Rattle.histories.specs.Account.{AreDifferent, HasItsEntries, AreByOthers, numbers_in, numbers_from}
+use Rattle.histories.specs.Account.{AreDifferent, HasItsEntries, AreByOthers, numbers_in}
+use Rattle.histories.specs.Account.{numbers_from}
 use Rattle.histories.specs.Account.{has_number, share_after, longer_of, shorter_of, unused_share}
 use Rattle.histories.proofs.ListLemmas.{all_append, all_weaker, all_both, all_map, past_refl}
 use Rattle.histories.proofs.ListLemmas.{past_shorter}

@@ -1,11 +1,13 @@
 -- One history as the image of another: what is legal, and what a seat knows, has its image.
-use Rattle.std.proofs.Common.{◌≡◌, ℕ, ◌<◌, cond, eqb, Bool, true, false, ◌||◌, List, [], ◌∷◌, map, refl}
+use Rattle.std.proofs.Common.{◌≡◌, ℕ, ◌<◌, cond, eqb, Bool, true, false, ◌||◌, List, [], ◌∷◌, map}
+use Rattle.std.proofs.Common.{refl}
 use Rattle.std.proofs.Common.{sym, ap, subst, ◌∙◌}
 use Rattle.histories.specs.declared.account.Account.{Account}
 use Rattle.histories.specs.declared.account.Share.{Share}
 use Rattle.histories.specs.History.{Meaning, IsLegal, state_after, entries_by}
 use Rattle.histories.specs.History.{AreByBelow}
-use Rattle.histories.specs.Account.{AreDifferent, HasItsEntries, KnowsHistory, numbers_in, has_number}
+use Rattle.histories.specs.Account.{AreDifferent, HasItsEntries, KnowsHistory, numbers_in}
+use Rattle.histories.specs.Account.{has_number}
 use Rattle.histories.specs.Account.{HasAllNumbers}
 use Rattle.histories.specs.Image.{IsImage, share_image, account_image}
 use Rattle.histories.proofs.ListLemmas.{all_map, all_weaker}

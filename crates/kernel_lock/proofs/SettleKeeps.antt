@@ -1,5 +1,6 @@
 -- The step Settle keeps the rule, and tells how the two histories that a joined seat saw compare.
-use Rattle.std.proofs.Common.{◌≡◌, ℕ, ◌<◌, ◌≤◌, Bool, true, false, List, length, get_or, refl, ap, subst}
+use Rattle.std.proofs.Common.{◌≡◌, ℕ, ◌<◌, ◌≤◌, Bool, true, false, List, length, get_or, refl, ap}
+use Rattle.std.proofs.Common.{subst}
 use Rattle.std.proofs.Common.{sym, arith, Some}
 use Rattle.std.proofs.lemmas.Bool.Decides.{nat_tests}
 use Rattle.std.specs.Prelude.{nat_lt}

@@ -399,7 +399,8 @@ slept_adds key row (suc times) old new parts room rounds =
       added_then key old.reader rounds.between.reader new.reader parts [] before.0
           (again key rounds.between.reader awake.reader new.reader before.0.parts' new.buffer refl
           refl
-          (try_adds key row rounds.between 0 (stop.NotYet last.number) awake before.0.parts' before.1
+          (try_adds key row rounds.between 0 (stop.NotYet last.number) awake before.0.parts'
+          before.1
           last.tried)),
       room_stays key row rounds.between (stop.NotYet last.number) awake before.1 last.tried,
     )

@@ -476,7 +476,10 @@ tries_in_mode key row old buffer count why (found.NotYet number) new buffer' is 
     in_mode row.mode (IsNotYet key old new × (buffer' ≡ buffer))
     (IsNotYetOn key row (calling old buffer) (calling new buffer'))
     (λ mode. let said = message_not_yet key row (calling old buffer) 0 number
-    (calling new buffer') mode none in (record { number = number; found = said.found }, said.buffer))
+    (calling new buffer') mode none in (
+      record { number = number; found = said.found },
+      said.buffer,
+    ))
     (record { number = number; tried = none })
 tries_in_mode key row old buffer count why found.End new buffer' is tried =
     let none = subst (λ (c : Came). TriesOn key row (calling old buffer) c (calling new buffer'))

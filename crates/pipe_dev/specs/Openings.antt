@@ -48,8 +48,8 @@ pub record IsStartOf (pipe : Pipe) (start : PipeStart) : Type 0 where
   pub there : IsLaneOf pipe.there start.there
   pub back : IsLaneOf pipe.back start.back
 
--- a new pipe of this size and mode, with its Rendez in a row from this number on: first those of the
--- one direction, and then those of the other
+-- a new pipe of this size and mode, with its Rendez in a row from this number on: first those of
+-- the one direction, and then those of the other
 pub record OpensIn (mode : Mode) (limit writers first : ℕ) (opened : Opened) : Type 0 where
   pub there_key : key_of opened.pipe.there ≡ key_for limit writers
   pub back_key : key_of opened.pipe.back ≡ key_for limit writers

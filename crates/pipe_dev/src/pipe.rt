@@ -54,8 +54,8 @@ impl Pipe {
     ghost use Rattle.pipe_dev.specs.Openings.{IsStartOf, rendez_for};
 
     /// A new pipe, each of whose directions holds at most `limit` writes that no read has begun and
-    /// has so many writers. A read stops at the end of a write. It takes `2 * (1 + writers)` Rendez of
-    /// the kernel. Doesn't wait.
+    /// has so many writers. A read stops at the end of a write. It takes `2 * (1 + writers)` Rendez
+    /// of the kernel. Doesn't wait.
     ///
     /// Refuses, in this order, as `BadSize`, `NoRendez` and `Memory`.
     pub fn new<'p>(
@@ -82,8 +82,8 @@ impl Pipe {
         Pipe::open(alloc, roster, Mode::Message, limit, writers)
     }
 
-    /// A new pipe in stream mode: a read goes on from write to write, and passes the empty ones that
-    /// it meets. It takes as many Rendez, and doesn't wait.
+    /// A new pipe in stream mode: a read goes on from write to write, and passes the empty ones
+    /// that it meets. It takes as many Rendez, and doesn't wait.
     ///
     /// Refuses, in this order, as `BadSize`, `NoRendez` and `Memory`.
     pub fn new_stream<'p>(

@@ -1,5 +1,8 @@
 -- What several reads took and several writes gave, one behind the other.
-use Rattle.std.proofs.Common.{◌≡◌, ◌⊎◌, inl, inr, IfSome, nat_lt, ℕ, suc, ◌+◌, ◌-◌, ◌≤◌, List, [], ◌∷◌, ◌++◌, length, take, drop, Option, Some, None, refl, sym, ◌∙◌, ap, subst, append_assoc, arith, length-append, length-take, Result, Ok, Err, OnErr, unwrap_or}
+use Rattle.std.proofs.Common.{◌≡◌, ◌⊎◌, inl, inr, IfSome, nat_lt, ℕ, suc, ◌+◌, ◌-◌, ◌≤◌, List, []}
+use Rattle.std.proofs.Common.{◌∷◌, ◌++◌, length, take, drop, Option, Some, None, refl, sym, ◌∙◌, ap}
+use Rattle.std.proofs.Common.{subst, append_assoc, arith, length-append, length-take, Result, Ok}
+use Rattle.std.proofs.Common.{Err, OnErr, unwrap_or}
 use Rattle.std.proofs.lemmas.List.{append-nil}
 use Rattle.std.specs.Io.KnownBytes.{Keeps, Appends, Consumes}
 use Rattle.std.proofs.Math.Seq.{take-append_seam}
@@ -9,7 +12,8 @@ use Rattle.std.proofs.lemmas.Bool.Decides.{nat_tests}
 use Rattle.sync_base.specs.declared.fault.Fault.{Fault}
 use Rattle.scripts.specs.declared.script.TheConstants.{MAX_SCRIPT}
 use Rattle.scripts.specs.Script.{Language, Told, told}
-use Rattle.scripts.specs.Device.{AppendsFront, GivesSome, GivesBehind, TakesUpTo, WritesTold, Tells, IsOutside}
+use Rattle.scripts.specs.Device.{AppendsFront, GivesSome, GivesBehind, TakesUpTo, WritesTold, Tells}
+use Rattle.scripts.specs.Device.{IsOutside}
 
 -- what two reads took, the second behind the first
 pub consumes_then : (old mid new : Option (List ℕ)) (a b : List ℕ) → Consumes old mid a

@@ -1,10 +1,13 @@
 -- The table of digits is the definition, and two values make the byte of two digits.
-use Rattle.std.proofs.Common.{◌≡◌, ℕ, zero, suc, ◌+◌, ◌*◌, ◌%◌, ◌<◌, ◌&&◌, Bool, true, nat_eq, List, length, get_or, Option, Some, None, unwrap_or, Ok, ap, arith, inl, inr}
+use Rattle.std.proofs.Common.{◌≡◌, ℕ, zero, suc, ◌+◌, ◌*◌, ◌%◌, ◌<◌, ◌&&◌, Bool, true, nat_eq, List}
+use Rattle.std.proofs.Common.{length, get_or, Option, Some, None, unwrap_or, Ok, ap, arith, inl}
+use Rattle.std.proofs.Common.{inr}
 use Rattle.std.specs.Prelude.{bit_or}
 use Rattle.std.proofs.lemmas.Nat.{le_or_l, le_or_r}
 use Rattle.std.proofs.lemmas.Bool.{cases_eq}
 use Rattle.std.proofs.lemmas.Bool.Decides.{nat_tests}
-use Rattle.hex.specs.Hex.{hex_digit_value, digit_or_error, pair_value, decode_pairs, decode_of, ◌>>=◌}
+use Rattle.hex.specs.Hex.{hex_digit_value, digit_or_error, pair_value, decode_pairs, decode_of}
+use Rattle.hex.specs.Hex.{◌>>=◌}
 use Rattle.scripts.specs.Digits.{value_or_none}
 
 -- the table has the values of a definition below n

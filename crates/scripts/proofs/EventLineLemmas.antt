@@ -1,5 +1,6 @@
 -- Lines of a schedule with a word too many are not in the grammar.
-use Rattle.std.proofs.Common.{◌≡◌, ℕ, ◌<◌, List, [], ◌∷◌, ◌++◌, length, ◌+◌, option_and_then, ap, sym, subst, ◌∙◌, Option, None, Some, Bor, refl, arith}
+use Rattle.std.proofs.Common.{◌≡◌, ℕ, ◌<◌, List, [], ◌∷◌, ◌++◌, length, ◌+◌, option_and_then, ap}
+use Rattle.std.proofs.Common.{sym, subst, ◌∙◌, Option, None, Some, Bor, refl, arith}
 use Rattle.scripts.specs.Lines.{is_space, words_of, words_behind, number_of, BeginsWithLine}
 use Rattle.sync_base.specs.declared.note.NoteSet.{NoteSet}
 use Rattle.sleep_core.specs.declared.event.Event.{Event}
@@ -8,7 +9,8 @@ use Rattle.scripts.specs.declared.event_line.Verb.{Verb}
 use Rattle.scripts.specs.declared.event_line.Verb.TheVariants as verb
 use Rattle.scripts.specs.declared.lines.TheConstants.{SPACE}
 use Rattle.scripts.proofs.OnePassLemmas.{IsWord, line_behind_word}
-use Rattle.scripts.specs.Schedule.{verb_of, verb_word, event_with, BeginsWithEvent, size_of, lone_pid, operands_of, note_of, kinds_of}
+use Rattle.scripts.specs.Schedule.{verb_of, verb_word, event_with, BeginsWithEvent, size_of}
+use Rattle.scripts.specs.Schedule.{lone_pid, operands_of, note_of, kinds_of}
 use Rattle.scripts.proofs.LineLemmas.{parts_of-some}
 
 -- a process and a word more is no process alone

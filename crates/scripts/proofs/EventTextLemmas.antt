@@ -1,5 +1,6 @@
 -- The end of a list of kinds: a dash where there was none.
-use Rattle.std.proofs.Common.{◌≡◌, ◌≢◌, ℕ, List, [], ◌∷◌, ◌++◌, length, ap, ◌∙◌, arith, length-append}
+use Rattle.std.proofs.Common.{◌≡◌, ◌≢◌, ℕ, List, [], ◌∷◌, ◌++◌, length, ap, ◌∙◌, arith}
+use Rattle.std.proofs.Common.{length-append}
 use Rattle.std.proofs.lemmas.List.{append-nil}
 use Rattle.scripts.specs.EventText.{or_dash}
 

@@ -1,5 +1,6 @@
 -- Notes to a group: they are posted while the list of processes is walked, which is one that rises.
-use Rattle.std.proofs.Common.{◌≡◌, ◌<◌, ℕ, Bool, true, false, List, [], ◌∷◌, ◌++◌, length, codes, Option, None, Some, Bor, refl, ap, sym, ◌∙◌, append_assoc, arith}
+use Rattle.std.proofs.Common.{◌≡◌, ◌<◌, ℕ, Bool, true, false, List, [], ◌∷◌, ◌++◌, length, codes}
+use Rattle.std.proofs.Common.{Option, None, Some, Bor, refl, ap, sym, ◌∙◌, append_assoc, arith}
 use Rattle.std.specs.List.{list_all}
 use Rattle.std.specs.Char.{is_ascii_digit}
 use Rattle.std.specs.Option.{is_some}
@@ -14,10 +15,13 @@ use Rattle.sleep_core.specs.Runs.{world_after_all}
 use Rattle.scripts.specs.declared.group_line.GroupNote.{GroupNote}
 use Rattle.scripts.specs.declared.group_line.PidList.{PidList}
 use Rattle.scripts.specs.declared.lines.TheConstants.{COMMA, LINE_FEED, SPACE}
-use Rattle.scripts.specs.Lines.{is_comma, is_space, is_word, number_of, onto_first, parts_behind, parts_of, words_of}
+use Rattle.scripts.specs.Lines.{is_comma, is_space, is_word, number_of, onto_first, parts_behind}
+use Rattle.scripts.specs.Lines.{parts_of, words_of}
 use Rattle.scripts.specs.EventText.{event_text}
 use Rattle.scripts.specs.ScriptLaws.{lines_text}
-use Rattle.scripts.specs.Schedule.{answer_lines, answered, event_of, group_of, is_above, joined_lines, kinds_of, notes_to, pids_of, rising_behind, schedule_language}
+use Rattle.scripts.specs.Schedule.{answer_lines, answered, event_of, group_of, is_above}
+use Rattle.scripts.specs.Schedule.{joined_lines, kinds_of, notes_to, pids_of, rising_behind}
+use Rattle.scripts.specs.Schedule.{schedule_language}
 use Rattle.scripts.specs.GroupNote.{AskGroup, AskPids, PostsEach, listed}
 use Rattle.scripts.proofs.LineLemmas.{parts_of-front, parts_of-part, parts_of-plain, parts_of-some}
 use Rattle.scripts.proofs.OnePassLemmas.{IsWord, digits_are_word, digits_no_comma}

@@ -1,11 +1,14 @@
 -- The definitions of lines and words read a text from its end, and the code reads it from its
 -- front: the first part joins
 -- the two.
-use Rattle.std.proofs.Common.{◌≡◌, ℕ, suc, ◌+◌, ◌-◌, ◌<◌, ◌≤◌, Bool, true, false, cond, not, List, [], ◌∷◌, ◌++◌, length, take, drop, position, Some, None, refl, ap, subst, ◌∙◌, arith}
+use Rattle.std.proofs.Common.{◌≡◌, ℕ, suc, ◌+◌, ◌-◌, ◌<◌, ◌≤◌, Bool, true, false, cond, not, List}
+use Rattle.std.proofs.Common.{[], ◌∷◌, ◌++◌, length, take, drop, position, Some, None, refl, ap}
+use Rattle.std.proofs.Common.{subst, ◌∙◌, arith}
 use Rattle.std.specs.List.{position_or_len, list_all}
 use Rattle.std.proofs.lemmas.Grind.{common_steps}
 use Rattle.std.proofs.lemmas.Bool.Decides.{nat_tests}
-use Rattle.scripts.specs.Lines.{is_line_feed, parts_of, onto_first, all_but_last, last_of, lines_of, cut_line_of}
+use Rattle.scripts.specs.Lines.{is_line_feed, parts_of, onto_first, all_but_last, last_of, lines_of}
+use Rattle.scripts.specs.Lines.{cut_line_of}
 
 -- the first part ends where the first parting byte stands
 parts_of-first : (p : ℕ → Bool) (bs : List ℕ) → position_or_len p bs < length bs

@@ -1,5 +1,6 @@
 -- A number that is read digit by digit: it only grows, so it is too large once its front is.
-use Rattle.std.proofs.Common.{◌≡◌, ℕ, suc, ◌+◌, ◌-◌, ◌*◌, ◌^◌, ◌<◌, ◌≤◌, true, List, [], ◌∷◌, length, drop, get_or, fold, Some, None, ap, arith}
+use Rattle.std.proofs.Common.{◌≡◌, ℕ, suc, ◌+◌, ◌-◌, ◌*◌, ◌^◌, ◌<◌, ◌≤◌, true, List, [], ◌∷◌}
+use Rattle.std.proofs.Common.{length, drop, get_or, fold, Some, None, ap, arith}
 use Rattle.std.specs.List.{list_all}
 use Rattle.std.specs.Char.{is_ascii_digit}
 use Rattle.std.proofs.Math.Seq.{drop-cons}
@@ -38,5 +39,6 @@ value_of-overflow digits i n within is large =
 -- nineteen digits fit, so one may come behind eighteen
 pub one_more_fits : (n count : ℕ) → n < 10 ^ count → count < 19 → 10 * n + 9 < 2 ^ 64
 one_more_fits n count below few =
-    let most : 10 ^ count ≤ 10 ^ 18 = pow-le-pow_right {n = 10} (omega arith) {i = count} {j = 18} (omega arith) in
+    let most : 10 ^ count ≤ 10 ^ 18 =
+    pow-le-pow_right {n = 10} (omega arith) {i = count} {j = 18} (omega arith) in
     omega (arith, most)

@@ -1,15 +1,20 @@
 -- Lines that are read in one pass: words that are found one after the other make a line.
-use Rattle.std.proofs.Common.{◌≡◌, ℕ, suc, ◌+◌, ◌&&◌, Bool, true, false, not, List, [], ◌∷◌, ◌++◌, length, take, Some, None, Bor, refl, ap, sym, subst, ◌∙◌, append_assoc, arith, length-append}
+use Rattle.std.proofs.Common.{◌≡◌, ℕ, suc, ◌+◌, ◌&&◌, Bool, true, false, not, List, [], ◌∷◌, ◌++◌}
+use Rattle.std.proofs.Common.{length, take, Some, None, Bor, refl, ap, sym, subst, ◌∙◌}
+use Rattle.std.proofs.Common.{append_assoc, arith, length-append}
 use Rattle.std.specs.List.{list_all}
 use Rattle.std.proofs.Math.Seq.{take-length}
 use Rattle.std.specs.Char.{is_ascii_digit}
 use Rattle.std.proofs.lemmas.List.Folds.{list_all-append}
 use Rattle.std.proofs.lemmas.Bool.Decides.{nat_tests}
 use Rattle.scripts.specs.declared.lines.TheConstants.{COMMA, LINE_FEED, SPACE}
-use Rattle.scripts.specs.Lines.{is_comma, is_line_feed, is_space, parts_of, all_but_last, last_of, lines_of, cut_line_of, words_of, BeginsWithNumber, BeginsWithLine, FirstNumber, LeadingNumber}
+use Rattle.scripts.specs.Lines.{is_comma, is_line_feed, is_space, parts_of, all_but_last, last_of}
+use Rattle.scripts.specs.Lines.{lines_of, cut_line_of, words_of, BeginsWithNumber, BeginsWithLine}
+use Rattle.scripts.specs.Lines.{FirstNumber, LeadingNumber}
 use Rattle.scripts.specs.ScriptLaws.{lines_text}
 use Rattle.scripts.proofs.TextLemmas.{IsPlain, ArePlain, plain_lines, lines_text-lines}
-use Rattle.scripts.proofs.LineLemmas.{parts_of-part, parts_of-plain, parts_of-some, all_but_last-cons, last_of-cons}
+use Rattle.scripts.proofs.LineLemmas.{parts_of-part, parts_of-plain, parts_of-some}
+use Rattle.scripts.proofs.LineLemmas.{all_but_last-cons, last_of-cons}
 
 -- what has neither a space nor a line feed in it
 pub record IsWord (word : List ℕ) : Type 0 where
@@ -35,7 +40,8 @@ passes_too q p each (b ∷ word) digits =
 pub digits_are_word : (word : List ℕ) → list_all is_ascii_digit word ≡ true → IsWord word
 digits_are_word word digits =
     record {
-      no_space = passes_too is_ascii_digit (λ b. not (is_space b)) (λ b is. grind (arith, nat_tests)) word
+      no_space = passes_too is_ascii_digit (λ b. not (is_space b))
+          (λ b is. grind (arith, nat_tests)) word
           digits;
       no_line_feed = passes_too is_ascii_digit
           (λ b. not (is_line_feed b)) (λ b is. grind (arith, nat_tests)) word digits;

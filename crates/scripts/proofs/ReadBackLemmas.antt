@@ -1,5 +1,7 @@
 -- What is printed is read back.
-use Rattle.std.proofs.Common.{◌≡◌, ◌≢◌, ℕ, zero, suc, ◌+◌, ◌/◌, ◌%◌, ◌<◌, ◌≤◌, ◌==◌, ◌^◌, Bool, true, false, List, [], ◌∷◌, ◌++◌, length, Some, rules, refl, ap, sym, ◌∙◌, arith, codes}
+use Rattle.std.proofs.Common.{◌≡◌, ◌≢◌, ℕ, zero, suc, ◌+◌, ◌/◌, ◌%◌, ◌<◌, ◌≤◌, ◌==◌, ◌^◌, Bool}
+use Rattle.std.proofs.Common.{true, false, List, [], ◌∷◌, ◌++◌, length, Some, rules, refl, ap, sym}
+use Rattle.std.proofs.Common.{◌∙◌, arith, codes}
 use Rattle.std.specs.List.{list_all}
 use Rattle.std.specs.Char.{is_ascii_digit}
 use Rattle.std.specs.Fmt.{decimal, digits}

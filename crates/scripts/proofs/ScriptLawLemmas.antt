@@ -1,15 +1,24 @@
 -- The laws of scripts, from what lists of lines say.
-use Rattle.std.proofs.Common.{◌≡◌, ℕ, zero, suc, ◌+◌, ◌-◌, ◌<◌, ◌≤◌, ◌||◌, nat_lt, Bool, true, false, List, [], ◌∷◌, ◌++◌, length, take, Option, None, Some, refl, ap, sym, subst, ◌∙◌, arith, length-take, length-append}
+use Rattle.std.proofs.Common.{◌≡◌, ℕ, zero, suc, ◌+◌, ◌-◌, ◌<◌, ◌≤◌, ◌||◌, nat_lt, Bool, true}
+use Rattle.std.proofs.Common.{false, List, [], ◌∷◌, ◌++◌, length, take, Option, None, Some, refl}
+use Rattle.std.proofs.Common.{ap, sym, subst, ◌∙◌, arith, length-take, length-append}
 use Rattle.std.proofs.lemmas.List.{append-nil, take_all, take-append-le}
 use Rattle.std.proofs.lemmas.Bool.Decides.{nat_tests}
 use Rattle.scripts.specs.declared.script.TheConstants.{MAX_SCRIPT}
 use Rattle.scripts.specs.Lines.{lines_of, cut_line_of}
 use Rattle.scripts.specs.Script.{Language, told, lines_told, is_cut_off}
-use Rattle.scripts.specs.ScriptLaws.{without_farewell, answers_of, lines_text, whole_lines, first_lines, AnswersAreFinal, OutputIsFinal, TooLongStaysSo, FarewellComesLast, FaultHasNoFarewell, FaultIsInScript, FaultLeavesAnswers, FirstFaultLeavesNone, LinesBeforeHaveNoFault, FrontHasNoFault, PipeOutputIsFinal}
+use Rattle.scripts.specs.ScriptLaws.{without_farewell, answers_of, lines_text, whole_lines}
+use Rattle.scripts.specs.ScriptLaws.{first_lines, AnswersAreFinal, OutputIsFinal, TooLongStaysSo}
+use Rattle.scripts.specs.ScriptLaws.{FarewellComesLast, FaultHasNoFarewell, FaultIsInScript}
+use Rattle.scripts.specs.ScriptLaws.{FaultLeavesAnswers, FirstFaultLeavesNone}
+use Rattle.scripts.specs.ScriptLaws.{LinesBeforeHaveNoFault, FrontHasNoFault, PipeOutputIsFinal}
 use Rattle.scripts.specs.PipeScript.{pipe_language}
 use Rattle.scripts.proofs.DeviceLemmas.{told_by_front}
-use Rattle.scripts.proofs.TextLemmas.{ArePlain, plain_lines, plain_take, lines_of-text, cut_line_of-text, lines_of-append, first_within, lines_text-lines}
-use Rattle.scripts.proofs.ToldLemmas.{Stays, lines_grow, farewell_lines, LeavesFirst, fault_leaves_first, cut_lines-fault, front_lines-sound}
+use Rattle.scripts.proofs.TextLemmas.{ArePlain, plain_lines, plain_take, lines_of-text}
+use Rattle.scripts.proofs.TextLemmas.{cut_line_of-text, lines_of-append, first_within}
+use Rattle.scripts.proofs.TextLemmas.{lines_text-lines}
+use Rattle.scripts.proofs.ToldLemmas.{Stays, lines_grow, farewell_lines, LeavesFirst}
+use Rattle.scripts.proofs.ToldLemmas.{fault_leaves_first, cut_lines-fault, front_lines-sound}
 
 -- the first bytes of two texts
 take-append : (n : ℕ) (a b : List ℕ) → take n (a ++ b) ≡ take n a ++ take (n - length a) b

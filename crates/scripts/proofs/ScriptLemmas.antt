@@ -1,5 +1,7 @@
 -- What a script says, line by line.
-use Rattle.std.proofs.Common.{◌≡◌, inl, inr, ℕ, ◌+◌, ◌-◌, ◌<◌, ◌≤◌, ◌||◌, nat_lt, min, Bool, true, false, List, [], ◌∷◌, ◌++◌, length, take, drop, Option, Some, None, refl, ap, sym, subst, ◌∙◌, append_assoc, arith}
+use Rattle.std.proofs.Common.{◌≡◌, inl, inr, ℕ, ◌+◌, ◌-◌, ◌<◌, ◌≤◌, ◌||◌, nat_lt, min, Bool, true}
+use Rattle.std.proofs.Common.{false, List, [], ◌∷◌, ◌++◌, length, take, drop, Option, Some, None}
+use Rattle.std.proofs.Common.{refl, ap, sym, subst, ◌∙◌, append_assoc, arith}
 use Rattle.std.specs.Option.{option_map_or}
 use Rattle.std.specs.Io.KnownBytes.{Appends}
 use Rattle.std.proofs.lemmas.List.{append-nil, take-append-drop}
@@ -9,7 +11,8 @@ use Rattle.scripts.specs.declared.lines.TheConstants.{LINE_FEED}
 use Rattle.scripts.specs.declared.script.TheConstants.{MAX_LINE, MAX_SCRIPT}
 use Rattle.scripts.specs.Lines.{lines_of, cut_line_of, BeginsWithLine}
 use Rattle.scripts.specs.Device.{AppendsFront}
-use Rattle.scripts.specs.Script.{Language, Answered, Told, Answers, fault_at, answer_then, if_fits, told, lines_told, told_from, FirstAnswered, IsStuck}
+use Rattle.scripts.specs.Script.{Language, Answered, Told, Answers, fault_at, answer_then, if_fits}
+use Rattle.scripts.specs.Script.{told, lines_told, told_from, FirstAnswered, IsStuck}
 use Rattle.scripts.proofs.DeviceLemmas.{IsWriting, appends_then, appends_nothing, appends_front}
 use Rattle.scripts.specs.ScriptLaws.{lines_text}
 use Rattle.scripts.proofs.TextLemmas.{lines_text-lines}

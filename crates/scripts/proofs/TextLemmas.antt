@@ -1,8 +1,11 @@
 -- Lines without a line feed make a text, and the text gives them back.
-use Rattle.std.proofs.Common.{◌≡◌, ℕ, zero, suc, ◌<◌, ◌≤◌, Bool, true, false, cond, List, [], ◌∷◌, ◌++◌, length, take, drop, refl, ap, sym, ◌∙◌, append_assoc, arith, length-append}
+use Rattle.std.proofs.Common.{◌≡◌, ℕ, zero, suc, ◌<◌, ◌≤◌, Bool, true, false, cond, List, [], ◌∷◌}
+use Rattle.std.proofs.Common.{◌++◌, length, take, drop, refl, ap, sym, ◌∙◌, append_assoc, arith}
+use Rattle.std.proofs.Common.{length-append}
 use Rattle.std.proofs.lemmas.List.{take-append-drop}
 use Rattle.std.proofs.lemmas.Bool.Decides.{nat_tests}
-use Rattle.scripts.specs.Lines.{is_line_feed, parts_of, onto_first, all_but_last, last_of, lines_of, cut_line_of}
+use Rattle.scripts.specs.Lines.{is_line_feed, parts_of, onto_first, all_but_last, last_of, lines_of}
+use Rattle.scripts.specs.Lines.{cut_line_of}
 use Rattle.scripts.specs.ScriptLaws.{lines_text}
 use Rattle.scripts.proofs.LineLemmas.{parts_of-some, all_but_last-cons, last_of-cons}
 

@@ -1,9 +1,12 @@
 -- What lists of lines say: longer lists go on, a farewell comes last, and a fault leaves what the
 -- lines before it say.
-use Rattle.std.proofs.Common.{◌≡◌, ℕ, suc, ◌+◌, ◌<◌, ◌≤◌, nat_le, Bool, true, false, cond, List, [], ◌∷◌, ◌++◌, length, take, Option, None, Some, refl, ap, sym, ◌∙◌, append_assoc, arith}
+use Rattle.std.proofs.Common.{◌≡◌, ℕ, suc, ◌+◌, ◌<◌, ◌≤◌, nat_le, Bool, true, false, cond, List, []}
+use Rattle.std.proofs.Common.{◌∷◌, ◌++◌, length, take, Option, None, Some, refl, ap, sym, ◌∙◌}
+use Rattle.std.proofs.Common.{append_assoc, arith}
 use Rattle.std.specs.Option.{option_map_or}
 use Rattle.scripts.specs.declared.script.TheConstants.{MAX_LINE}
-use Rattle.scripts.specs.Script.{Language, Answered, Told, fault_at, answer_then, if_fits, told_from, lines_told}
+use Rattle.scripts.specs.Script.{Language, Answered, Told, fault_at, answer_then, if_fits}
+use Rattle.scripts.specs.Script.{told_from, lines_told}
 use Rattle.scripts.specs.ScriptLaws.{without_farewell}
 
 -- what a line that reads as this and these lines say; the first of them has this number

@@ -127,8 +127,10 @@ unfolding encode_with decode_pairs
 a_stream_read_passes_empty_writes = refl
 
 a_stream_is_read_to_its_end : pipe_told
-    (text (codes "limit 4 stream" ∷ codes "write 0 6162" ∷ codes "write 0 -" ∷ codes "write 0 6364" ∷
-    codes "hangup" ∷ codes "read 3" ∷ codes "read 8" ∷ codes "read 8" ∷ codes "read 8" ∷ [])) ≡ record {
+    (text (codes "limit 4 stream" ∷ codes "write 0 6162" ∷ codes "write 0 -" ∷
+    codes "write 0 6364" ∷
+    codes "hangup" ∷ codes "read 3" ∷ codes "read 8" ∷ codes "read 8" ∷ codes "read 8" ∷ [])) ≡
+    record {
       output = text
           (codes "taken" ∷ codes "taken" ∷ codes "taken" ∷ codes "ok" ∷ codes "got 616263" ∷
           codes "got 64" ∷ codes "end" ∷ codes "end" ∷ []);

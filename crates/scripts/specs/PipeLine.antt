@@ -1,5 +1,6 @@
 -- What the code reads off a line, beside what the grammar says of it.
-use Rattle.std.specs.Prelude.{◌≡◌, ℕ, Bool, true, false, List, [], ◌∷◌, ◌++◌, codes, Option, None, Some}
+use Rattle.std.specs.Prelude.{◌≡◌, ℕ, Bool, true, false, List, [], ◌∷◌, ◌++◌, codes, Option, None}
+use Rattle.std.specs.Prelude.{Some}
 use Rattle.sync_base.specs.Pipe.{PipeState, opening_in}
 use Rattle.sync_base.specs.PlainPipe.{Kept, Shows}
 use Rattle.scripts.specs.declared.lines.TheConstants.{LINE_FEED, SPACE}

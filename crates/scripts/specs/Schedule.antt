@@ -1,5 +1,6 @@
 -- The language of schedules: its lines are events, each an atomic step of one process.
-use Rattle.std.specs.Prelude.{◌≡◌, ℕ, nat_lt, Bool, true, if◌then◌else◌, List, [], ◌∷◌, ◌++◌, map, codes, Option, None, Some, option_and_then}
+use Rattle.std.specs.Prelude.{◌≡◌, ℕ, nat_lt, Bool, true, if◌then◌else◌, List, [], ◌∷◌, ◌++◌, map}
+use Rattle.std.specs.Prelude.{codes, Option, None, Some, option_and_then}
 use Rattle.std.specs.Option.{option_map, option_map_or}
 use Rattle.sync_base.specs.declared.limits.TheConstants.{MAX_PROCS, MAX_RENDEZ}
 use Rattle.sync_base.specs.declared.note.Note.{Note}
@@ -18,7 +19,8 @@ use Rattle.scripts.specs.declared.event_line.Operands.{Operands}
 use Rattle.scripts.specs.declared.event_line.Verb.{Verb}
 use Rattle.scripts.specs.declared.event_line.Verb.TheVariants as verb
 use Rattle.scripts.specs.declared.lines.TheConstants.{LINE_FEED}
-use Rattle.scripts.specs.Lines.{parts_of, is_comma, is_word, words_of, number_of, number_within, BeginsWithLine}
+use Rattle.scripts.specs.Lines.{parts_of, is_comma, is_word, words_of, number_of, number_within}
+use Rattle.scripts.specs.Lines.{BeginsWithLine}
 use Rattle.scripts.specs.Script.{Answered, Language, Told, told}
 use Rattle.scripts.specs.EventText.{event_text}
 

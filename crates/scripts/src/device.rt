@@ -3,7 +3,8 @@ ghost use Rattle.std.specs.Prelude.{◌≡◌, ◌<◌, ◌≤◌, ◌+◌, leng
 ghost use Rattle.std.specs.Prelude.{IfOk, IfErr, OnOk, OnErr, IfSome, IfNone};
 ghost use Rattle.std.specs.Io.KnownBytes.{Appends, Keeps};
 ghost use Rattle.scripts.specs.declared.script.TheConstants.{MAX_SCRIPT};
-ghost use Rattle.scripts.specs.Device.{TakesAtMost, TakesUpTo, GivesSome, GivesBehind, AppendsFront, IsOutside};
+ghost use Rattle.scripts.specs.Device.{TakesAtMost, TakesUpTo, GivesSome, GivesBehind};
+ghost use Rattle.scripts.specs.Device.{AppendsFront, IsOutside};
 
 use crate::script::MAX_SCRIPT;
 use std::alloc::Global;

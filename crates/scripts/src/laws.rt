@@ -3,7 +3,11 @@
 ghost use Rattle.std.specs.Prelude.{◌≡◌};
 ghost use Rattle.scripts.specs.PipeScript.{pipe_language};
 ghost use Rattle.scripts.specs.Schedule.{schedule_language};
-ghost use Rattle.scripts.specs.ScriptLaws.{LinesMakeText, AnswersAreFinal, OutputIsFinal, FrontHasNoFault, TooLongStaysSo, FarewellComesLast, FaultHasNoFarewell, FaultIsInScript, FaultLeavesAnswers, FirstFaultLeavesNone, LinesBeforeHaveNoFault, PipeOutputIsFinal, NoScheduleSaysLost};
+ghost use Rattle.scripts.specs.ScriptLaws.{LinesMakeText, AnswersAreFinal, OutputIsFinal};
+ghost use Rattle.scripts.specs.ScriptLaws.{FrontHasNoFault, TooLongStaysSo, FarewellComesLast};
+ghost use Rattle.scripts.specs.ScriptLaws.{FaultHasNoFarewell, FaultIsInScript, FaultLeavesAnswers};
+ghost use Rattle.scripts.specs.ScriptLaws.{FirstFaultLeavesNone, LinesBeforeHaveNoFault};
+ghost use Rattle.scripts.specs.ScriptLaws.{PipeOutputIsFinal, NoScheduleSaysLost};
 ghost use Rattle.scripts.specs.TextLaws.{NumbersAreReadBack, BytesAreReadBack, KindsAreReadBack};
 
 use crate::lines::{COMMA, LINE_FEED, SPACE, ZERO};

@@ -1,6 +1,7 @@
 //! Scripts: a text is read whole, its lines are answered, and the answers are written. Read
 //! `lines`, `digits`; `device`, `script`, `laws`; for pipes `pipe_line`, `answer_text`,
-//! `pipe_script`; for schedules `event_line`, `group_line`, `event_text`, `schedule`; and then `run`.
+//! `pipe_script`; for schedules `event_line`, `group_line`, `event_text`, `schedule`; and then
+//! `run`.
 #![tactic(auto)]
 
 mod answer_text;

@@ -1,7 +1,10 @@
 //! The lines, words and numbers of a script.
-ghost use Rattle.std.specs.Prelude.{◌≡◌, false, ◌==◌, ◌∷◌, ◌++◌, ◌+◌, ◌<◌, [], length, position, take, Some, MatchOption, IfSome};
+ghost use Rattle.std.specs.Prelude.{◌≡◌, false, ◌==◌, ◌∷◌, ◌++◌, ◌+◌, ◌<◌, [], length, position};
+ghost use Rattle.std.specs.Prelude.{take, Some, MatchOption, IfSome};
 ghost use Rattle.std.specs.Char.{is_ascii_digit};
-ghost use Rattle.scripts.specs.Lines.{BeginsWithNumber, LeadingDigits, LeadingNumber, FirstNumber, lines_of, cut_line_of, parts_of, parts_behind, words_of, words_behind, number_of, number_within, value_of};
+ghost use Rattle.scripts.specs.Lines.{BeginsWithNumber, LeadingDigits, LeadingNumber, FirstNumber};
+ghost use Rattle.scripts.specs.Lines.{lines_of, cut_line_of, parts_of, parts_behind, words_of};
+ghost use Rattle.scripts.specs.Lines.{words_behind, number_of, number_within, value_of};
 
 use memchr::memchr;
 

@@ -200,8 +200,8 @@ fn write_at<'a, 't>(text: &'t [u8], room: &'a mut [u8]) -> Option<(PipeOp<'a>, &
     Some((PipeOp::Write { writer, bytes }, rest))
 }
 
-/// The bytes of a word in hexadecimal, put into this room; nothing where the room is too small or the
-/// word is none.
+/// The bytes of a word in hexadecimal, put into this room; nothing where the room is too small or
+/// the word is none.
 fn bytes_at<'a>(word: &[u8], room: &'a mut [u8]) -> Option<&'a [u8]>
     ensures { IfSome result (λ bytes. bytes_of word.now ≡ Some bytes.now) }
 {

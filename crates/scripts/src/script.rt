@@ -1,9 +1,11 @@
 //! Scripts of any language: their lines are answered in order, up to the first that is not in the
 //! grammar.
-ghost use Rattle.std.specs.Prelude.{◌≡◌, true, false, Some, None, ◌≤◌, ◌||◌, ◌++◌, ℕ, List, length, nat_lt, IfOk, IfErr, OnOk};
+ghost use Rattle.std.specs.Prelude.{◌≡◌, true, false, Some, None, ◌≤◌, ◌||◌, ◌++◌, ℕ, List, length};
+ghost use Rattle.std.specs.Prelude.{nat_lt, IfOk, IfErr, OnOk};
 ghost use Rattle.scripts.specs.Lines.{lines_of, cut_line_of};
 ghost use Rattle.scripts.specs.Device.{Tells, IsOutside};
-ghost use Rattle.scripts.specs.Script.{Language, Opens, Answers, AnswersFirst, AnswersNext, IsShorter, if_fits, told, lines_told, told_from};
+ghost use Rattle.scripts.specs.Script.{Language, Opens, Answers, AnswersFirst, AnswersNext};
+ghost use Rattle.scripts.specs.Script.{IsShorter, if_fits, told, lines_told, told_from};
 
 use crate::device::write_whole;
 use crate::lines::next_line;

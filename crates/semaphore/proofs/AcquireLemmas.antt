@@ -1,5 +1,6 @@
 -- What each step of an acquire adds to what the call did, and keeps of it.
-use Rattle.std.proofs.Common.{◌≡◌, inl, inr, ℕ, ◌+◌, Bool, true, false, if◌then◌else◌, List, [], ◌∷◌, Some, None, Result, Ok, refl, sym, ap, ◌∙◌, subst}
+use Rattle.std.proofs.Common.{◌≡◌, inl, inr, ℕ, ◌+◌, Bool, true, false, if◌then◌else◌, List, []}
+use Rattle.std.proofs.Common.{◌∷◌, Some, None, Result, Ok, refl, sym, ap, ◌∙◌, subst}
 use Rattle.sync_base.specs.declared.fault.Fault.{Fault}
 use Rattle.sync_base.specs.declared.ids.Pid.{Pid}
 use Rattle.sync_base.specs.declared.note.Note.TheVariants.{Expired}
@@ -19,7 +20,8 @@ use Rattle.semaphore.specs.declared.sema_object.SemaCall.TheVariants.{AcquireNow
 use Rattle.semaphore.specs.declared.sema_object.SemaReply.{SemaReply}
 use Rattle.semaphore.specs.declared.sema_object.SemaReply.TheVariants as reply
 use Rattle.semaphore.specs.Acquiring.{Acquires, AcquiresNow, Semacquires, now_reply}
-use Rattle.semaphore.specs.Asking.{WaitsFor, HasWaited, HasLeft, Left, turn_left, ending_of, leave_reply, granted_units, stopped_notes, now_told}
+use Rattle.semaphore.specs.Asking.{WaitsFor, HasWaited, HasLeft, Left, turn_left, ending_of}
+use Rattle.semaphore.specs.Asking.{leave_reply, granted_units, stopped_notes, now_told}
 use Rattle.semaphore.specs.Deeds.{Deed, Ending, Caller, Standing, SemaView, Slept, Did, Calls}
 use Rattle.semaphore.specs.Deeds.Deed.{Asks, Rests, Posts}
 use Rattle.semaphore.specs.Seats.{goes_on}
@@ -104,7 +106,8 @@ owes_no_tick caller left cancelled came =
 pub puts_back : (caller : Caller) (start now : Standing) (process : Process) (set : NoteSet)
     (left : Left) → caller.deadline ≡ None → left.cancelled ≡ false → left.granted ≡ true
     → left.notes ≡ set
-    → process ≡ steps.notes now.process caller.pid set → Calls caller start now (HasLeft caller left)
+    → process ≡ steps.notes now.process caller.pid set →
+    Calls caller start now (HasLeft caller left)
     → Calls caller start (record now { process = process }) (Acquires caller (Ok sema.Acquired))
 puts_back caller start now process set left untimed cancelled granted notes noted calls =
     let had = calls.promise in
@@ -126,7 +129,12 @@ puts_back caller start now process set left untimed cancelled granted notes note
 -- it asks once
 pub asks_now : (caller : Caller) (start : Standing) (seat : SemaView) (taken : Bool)
     (answer : Result Semacquired Fault) → now_reply answer ≡ Some (now_told taken)
-    → Serves (record { by = caller.number; request = AcquireNow caller.number; reply = now_told taken }) start.seat seat
+    → Serves (record {
+      by = caller.number;
+      request = AcquireNow caller.number;
+      reply =
+          now_told taken;
+    }) start.seat seat
     → Calls caller start (record start { seat = seat }) (AcquiresNow caller answer)
 asks_now caller start seat taken answer told served =
     record {
@@ -138,7 +146,13 @@ asks_now caller start seat taken answer told served =
 
 -- it had its unit when it left, or leaves
 left_granted : (caller : Caller) (count : ℕ) (past : List Deed) → WaitsFor caller count past
-    → HasLeft caller (record { granted = true; notes = no_notes; expired = false; stop = None; cancelled = false })
+    → HasLeft caller (record {
+      granted = true;
+      notes = no_notes;
+      expired = false;
+      stop = None;
+      cancelled = false;
+    })
     (Asks (Collect caller.number) reply.Granted ∷ Rests count Ending.Well ∷ past)
 left_granted caller count past waits =
     record {
@@ -156,20 +170,40 @@ left_granted caller count past waits =
 
 -- a call that waited until it was granted a unit has left the line with that unit, and took no
 -- notes
-pub leaves_with : (caller : Caller) (start now : Standing) → Calls caller start now (HasWaited caller None)
-    → Calls caller start now (HasLeft caller (record { granted = true; notes = no_notes; expired = false; stop = None; cancelled = false }))
+pub leaves_with : (caller : Caller) (start now : Standing) →
+    Calls caller start now (HasWaited caller None)
+    → Calls caller start now (HasLeft caller (record {
+      granted = true;
+      notes = no_notes;
+      expired =
+          false;
+      stop = None;
+      cancelled = false;
+    }))
 leaves_with caller start now calls =
     let had = calls.promise in
     record {
       deeds = calls.deeds;
       did = calls.did;
-      promise = subst (HasLeft caller (record { granted = true; notes = no_notes; expired = false; stop = None; cancelled = false }))
+      promise = subst (HasLeft caller (record {
+        granted = true;
+        notes = no_notes;
+        expired = false;
+        stop = None;
+        cancelled = false;
+      }))
           (sym had.deeds_are) (left_granted caller had.count had.past had.waited);
     }
 
 left_stopped : (caller : Caller) (count : ℕ) (past : List Deed) (how : Stop) (granted : Bool)
     → WaitsFor caller count past
-    → HasLeft caller (record { granted = granted; notes = stopped_notes (Some how); expired = false; stop = Some how; cancelled = false })
+    → HasLeft caller (record {
+      granted = granted;
+      notes = stopped_notes (Some how);
+      expired = false;
+      stop = Some how;
+      cancelled = false;
+    })
     (Asks (Leave caller.number) (leave_reply granted) ∷ Rests count (ending_of how) ∷ past)
 left_stopped caller count past stop.Refused true waits =
     record {
@@ -226,18 +260,37 @@ left_stopped caller count past (stop.Noted set) false waits =
 
 -- a stopped call that leaves the line is out of it: with a unit where one was granted to it
 -- meanwhile, with the notes that stopped it, and for the same reason
-pub leaves_so : (caller : Caller) (start now : Standing) (seat : SemaView) (how : Stop) (granted : Bool)
-    → Serves (record { by = caller.number; request = Leave caller.number; reply = leave_reply granted }) now.seat seat
+pub leaves_so : (caller : Caller) (start now : Standing) (seat : SemaView) (how : Stop) (granted :
+    Bool)
+    → Serves (record {
+      by = caller.number;
+      request = Leave caller.number;
+      reply =
+          leave_reply granted;
+    }) now.seat seat
     → Calls caller start now (HasWaited caller (Some how))
     → Calls caller start (record now { seat = seat })
-    (HasLeft caller (record { granted = granted; notes = stopped_notes (Some how); expired = false; stop = Some how; cancelled = false }))
+    (HasLeft caller (record {
+      granted = granted;
+      notes = stopped_notes (Some how);
+      expired = false;
+      stop = Some how;
+      cancelled = false;
+    }))
 leaves_so caller start now seat how granted served calls =
     let had = calls.promise in
     record {
       deeds = Asks (Leave caller.number) (leave_reply granted) ∷ calls.deeds;
-      did = then_asks caller start now seat calls.deeds (Leave caller.number) (leave_reply granted) calls.did served;
+      did = then_asks caller start now seat calls.deeds (Leave caller.number) (leave_reply granted)
+          calls.did served;
       promise = subst
-          (λ deeds. HasLeft caller (record { granted = granted; notes = stopped_notes (Some how); expired = false; stop = Some how; cancelled = false })
+          (λ deeds. HasLeft caller (record {
+            granted = granted;
+            notes = stopped_notes (Some how);
+            expired = false;
+            stop = Some how;
+            cancelled = false;
+          })
           (Asks (Leave caller.number) (leave_reply granted) ∷ deeds))
           (sym had.deeds_are) (left_stopped caller had.count had.past how granted had.waited);
     }
@@ -248,19 +301,26 @@ pub served_as : (call : ℕ → SemaCall) (answer : SemaReply) (number its : ℕ
     → Serves (record { by = its; request = call its; reply = answer }) old new
     → Serves (record { by = number; request = call number; reply = answer }) now new
 served_as call answer number its now old new number_is now_is served =
-    subst (λ n. Serves (record { by = n; request = call n; reply = answer }) now new) (sym number_is)
-    (subst (λ v. Serves (record { by = its; request = call its; reply = answer }) v new) (sym now_is)
+    subst (λ n. Serves (record { by = n; request = call n; reply = answer }) now new)
+    (sym number_is)
+    (subst (λ v. Serves (record { by = its; request = call its; reply = answer }) v new)
+    (sym now_is)
     served)
 
 -- by whether it is to wait
-pub semacquires_so : (caller : Caller) (start : Standing) (block is_block : Bool) (proc its_proc : Running)
+pub semacquires_so :
+    (caller : Caller) (start : Standing) (block is_block : Bool) (proc its_proc : Running)
     (seat its_seat : SemaSeat) (answer its_answer : Result Semacquired Fault) → block ≡ is_block
     → proc ≡ its_proc → seat ≡ its_seat → answer ≡ its_answer
     → Calls caller start (goes_on its_proc its_seat start) (Semacquires is_block caller its_answer)
     → Calls caller start (goes_on proc seat start) (Semacquires block caller answer)
-semacquires_so caller start block is_block proc its_proc seat its_seat answer its_answer b p s a calls =
+semacquires_so caller start block is_block proc its_proc seat its_seat answer its_answer b p s a
+    calls =
     subst (λ x. Calls caller start (goes_on proc seat start) (Semacquires x caller answer)) (sym b)
-    (subst (λ x. Calls caller start (goes_on x seat start) (Semacquires is_block caller answer)) (sym p)
-    (subst (λ x. Calls caller start (goes_on its_proc x start) (Semacquires is_block caller answer)) (sym s)
-    (subst (λ x. Calls caller start (goes_on its_proc its_seat start) (Semacquires is_block caller x)) (sym a)
+    (subst (λ x. Calls caller start (goes_on x seat start) (Semacquires is_block caller answer))
+    (sym p)
+    (subst (λ x. Calls caller start (goes_on its_proc x start) (Semacquires is_block caller answer))
+    (sym s)
+    (subst (λ x. Calls caller start (goes_on its_proc its_seat start)
+    (Semacquires is_block caller x)) (sym a)
     calls)))

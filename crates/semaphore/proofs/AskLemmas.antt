@@ -1,5 +1,7 @@
 -- What a request of a seat finds, and what the typed answers leave out.
-use Rattle.std.proofs.Common.{◌≡◌, ◌≢◌, ◌⊎◌, inl, inr, ℕ, ◌<◌, ◌≤◌, ◌||◌, eqb, Bool, true, false, not, IsTrue, List, [], ◌∷◌, replicate, Option, Some, None, IfSome, unwrap_or, refl, sym, ap, ◌∙◌, subst, arith}
+use Rattle.std.proofs.Common.{◌≡◌, ◌≢◌, ◌⊎◌, inl, inr, ℕ, ◌<◌, ◌≤◌, ◌||◌, eqb, Bool, true, false}
+use Rattle.std.proofs.Common.{not, IsTrue, List, [], ◌∷◌, replicate, Option, Some, None, IfSome}
+use Rattle.std.proofs.Common.{unwrap_or, refl, sym, ap, ◌∙◌, subst, arith}
 use Rattle.std.proofs.lemmas.Bool.Decides.{eqb_tells}
 use Rattle.std.specs.List.{AllByRecursion}
 use Rattle.histories.specs.declared.account.Share.{Share}
@@ -70,18 +72,21 @@ is_told at_first procs number waits call answer old new h =
     let past = h.served.account.past in
     let legal : IsLegal sema_meaning (opening h.value procs 0)
     (record { by = number; request = call; reply = answer } ∷ past) =
-    subst (λ s. IsLegal sema_meaning s (record { by = number; request = call; reply = answer } ∷ past))
+    subst (λ s. IsLegal sema_meaning s (record { by = number; request = call; reply = answer } ∷
+    past))
     h.opening_is
     (subst (λ seen. IsLegal sema_meaning at_first seen) (ap (λ a. a.seen) h.served.account.new_is)
     h.knows.history.legal) in
     let mine : entries_by server number past ≡ h.mine =
-    (subst (AllByRecursion (HasItsEntries server past)) h.shares_are h.served.account.looked.mine).0.entries in
+    (subst (AllByRecursion (HasItsEntries server past)) h.shares_are
+    h.served.account.looked.mine).0.entries in
     let shows = own_stage h.value procs number past h.fits legal.1 in
     record {
       state = state_after sema_meaning (opening h.value procs 0) past;
       sound = (history_keeps h.value procs 0 past h.fits (omega arith) legal.1).0.sound;
       size = shows.size;
-      within = (subst (AllByRecursion (λ share. share.number < procs)) h.shares_are h.knew.numbers).0;
+      within = (subst (AllByRecursion (λ share. share.number < procs)) h.shares_are
+          h.knew.numbers).0;
       idle = shows.is ∙ ap not (ap is_waiting mine ∙ h.waits_is);
       answer_is = legal.0.reply;
     }
@@ -114,17 +119,20 @@ is_timed at_first procs number set call answer old new h =
     let past = h.served.account.past in
     let legal : IsLegal timer_meaning (replicate procs Unset)
     (record { by = number; request = call; reply = answer } ∷ past) =
-    subst (λ s. IsLegal timer_meaning s (record { by = number; request = call; reply = answer } ∷ past))
+    subst (λ s. IsLegal timer_meaning s (record { by = number; request = call; reply = answer } ∷
+    past))
     h.opening_is
     (subst (λ seen. IsLegal timer_meaning at_first seen) (ap (λ a. a.seen) h.served.account.new_is)
     h.knows.history.legal) in
     let mine : entries_by server number past ≡ h.mine =
-    (subst (AllByRecursion (HasItsEntries server past)) h.shares_are h.served.account.looked.mine).0.entries in
+    (subst (AllByRecursion (HasItsEntries server past)) h.shares_are
+    h.served.account.looked.mine).0.entries in
     let keeps = own_timer procs number past legal.1 in
     record {
       state = state_after timer_meaning (replicate procs Unset) past;
       size = keeps.size;
-      within = (subst (AllByRecursion (λ share. share.number < procs)) h.shares_are h.knew.numbers).0;
+      within = (subst (AllByRecursion (λ share. share.number < procs)) h.shares_are
+          h.knew.numbers).0;
       free = keeps.is ∙ ap not (ap has_timer mine ∙ h.set_is);
       answer_is = legal.0.reply;
     }

@@ -6,7 +6,8 @@ use Rattle.sync_base.specs.declared.note.Note.TheVariants.{Interrupt, Expired}
 use Rattle.sync_base.specs.declared.note.NoteSet.{NoteSet}
 use Rattle.sync_base.specs.NoteSet.{only}
 use Rattle.semaphore.specs.declared.limits.TheConstants.{LAST_GRANT}
-use Rattle.semaphore.specs.declared.sema_object.SemaCall.TheVariants.{Acquire, Release, NextWake, Collect, Leave}
+use Rattle.semaphore.specs.declared.sema_object.SemaCall.TheVariants.{Acquire, Release, NextWake}
+use Rattle.semaphore.specs.declared.sema_object.SemaCall.TheVariants.{Collect, Leave}
 use Rattle.semaphore.specs.declared.sema_object.SemaReply.TheVariants as reply
 use Rattle.semaphore.specs.declared.timer_object.TimerCall.TheVariants.{Add, Expire, Cancel}
 use Rattle.semaphore.specs.declared.timer_object.TimerReply.TheVariants as told

@@ -1,5 +1,6 @@
 -- What each step of a release and of a tick adds to what the call did.
-use Rattle.std.proofs.Common.{◌≡◌, ℕ, ◌+◌, ◌≤◌, nat_lt, IsTrue, Bool, true, false, if◌then◌else◌, List, [], ◌∷◌, length, Ok, Err, refl, sym, ap, ◌∙◌, subst, arith}
+use Rattle.std.proofs.Common.{◌≡◌, ℕ, ◌+◌, ◌≤◌, nat_lt, IsTrue, Bool, true, false, if◌then◌else◌}
+use Rattle.std.proofs.Common.{List, [], ◌∷◌, length, Ok, Err, refl, sym, ap, ◌∙◌, subst, arith}
 use Rattle.std.specs.List.{filter}
 use Rattle.sync_base.specs.declared.fault.Fault.TheVariants as fault
 use Rattle.sync_base.specs.declared.ids.Pid.{Pid}
@@ -35,7 +36,8 @@ then_rouses caller start now process deeds rendez level done did woken =
 -- it was named a seat, and woke it
 pub wakes_one : (caller : Caller) (start now : Standing) (process : Process) (seat : SemaView)
     (first its grants : ℕ) (released : Released) (done : Done)
-    → Serves (record { by = caller.number; request = NextWake; reply = reply.Wake its grants }) now.seat seat
+    → Serves (record { by = caller.number; request = NextWake; reply = reply.Wake its grants })
+    now.seat seat
     → Wakes now.process (record { 0 = first + its }) grants process done
     → Calls caller start now (IsWaking first released)
     → Calls caller start (record now { process = process; seat = seat }) (IsWaking first released)
@@ -43,8 +45,10 @@ wakes_one caller start now process seat first its grants released done served wo
     let had = calls.promise in
     record {
       deeds = Rouses (first + its) grants ∷ Asks NextWake (reply.Wake its grants) ∷ calls.deeds;
-      did = then_rouses caller start (record now { seat = seat }) process (Asks NextWake (reply.Wake its grants) ∷ calls.deeds) (first + its) grants done
-          (then_asks caller start now seat calls.deeds NextWake (reply.Wake its grants) calls.did served) woken;
+      did = then_rouses caller start (record now { seat = seat }) process
+          (Asks NextWake (reply.Wake its grants) ∷ calls.deeds) (first + its) grants done
+          (then_asks caller start now seat calls.deeds NextWake (reply.Wake its grants) calls.did
+          served) woken;
       promise = record {
         once = had.once;
         woken = ap (λ l. record { rendez = first + its; level = grants } ∷ l) had.woken;
@@ -72,7 +76,8 @@ wakes_no_more caller start now seat first released served calls =
 -- a release that was answered with the sum is the one deed of its call so far, and the seat knows
 -- it
 pub did_release : (caller : Caller) (start : Standing) (seat : SemaView) (count sum : ℕ)
-    → Serves (record { by = caller.number; request = Release count; reply = reply.Value sum }) start.seat seat
+    → Serves (record { by = caller.number; request = Release count; reply = reply.Value sum })
+    start.seat seat
     → Did caller (Asks (Release count) (reply.Value sum) ∷ []) start (record start { seat = seat })
 did_release caller start seat count sum served =
     then_asks caller start start seat [] (Release count) (reply.Value sum)
@@ -105,14 +110,22 @@ releases caller start now first count sum calls =
 -- a release that was answered BadArg is the only deed of its call, which answers BadArg and wakes
 -- nobody
 pub refuses : (caller : Caller) (start : Standing) (seat : SemaView) (first count : ℕ)
-    → Serves (record { by = caller.number; request = Release count; reply = reply.BadArg }) start.seat seat
+    → Serves (record { by = caller.number; request = Release count; reply = reply.BadArg })
+    start.seat seat
     → Calls caller start (record start { seat = seat }) (Releases first count (Err fault.BadArg))
 refuses caller start seat first count served =
     record {
       deeds = Asks (Release count) reply.BadArg ∷ [];
       did = then_asks caller start start seat [] (Release count) reply.BadArg
           (record { process = refl; seat = refl; timer = refl }) served;
-      promise = record { reply = reply.BadArg; once = refl; answers = refl; woken = refl; own = (tt, tt) };
+      promise = record {
+        reply = reply.BadArg;
+        once = refl;
+        answers = refl;
+        woken = refl;
+        own =
+            (tt, tt);
+      };
     }
 
 -- ---- ticks
@@ -130,21 +143,26 @@ ticks_none caller start kernel now =
 -- a timer expired, and its process is told
 pub ticks_one : (caller : Caller) (start here : Standing) (process : Process) (timer : TimerView)
     (kernel now count : ℕ) (pid : Pid)
-    → Serves (record { by = caller.timer; request = Expire now; reply = told.Ended pid }) here.timer timer
+    → Serves (record { by = caller.timer; request = Expire now; reply = told.Ended pid }) here.timer
+    timer
     → nat_lt pid.0 kernel ≡ true → process ≡ steps.notes here.process pid (only Expired)
     → Calls caller start here (IsTicking kernel now count)
-    → Calls caller start (record here { process = process; timer = timer }) (IsTicking kernel now (count + 1))
+    → Calls caller start (record here { process = process; timer = timer })
+    (IsTicking kernel now (count + 1))
 ticks_one caller start here process timer kernel now count pid served below noted calls =
     let had = calls.promise in
     record {
       deeds = Posts pid (only Expired) ∷ Times (Expire now) (told.Ended pid) ∷ calls.deeds;
-      did = then_posts caller start (record here { timer = timer }) process (Times (Expire now) (told.Ended pid) ∷ calls.deeds) pid (only Expired)
-          (then_times caller start here timer calls.deeds (Expire now) (told.Ended pid) calls.did served) noted;
+      did = then_posts caller start (record here { timer = timer }) process
+          (Times (Expire now) (told.Ended pid) ∷ calls.deeds) pid (only Expired)
+          (then_times caller start here timer calls.deeds (Expire now) (told.Ended pid) calls.did
+          served) noted;
       promise = record {
         own = (refl, (refl, had.own));
         count_is = omega (arith, had.count_is);
         told = ap (λ l. pid ∷ l) had.told
-            ∙ sym (ap (λ b. if b then pid ∷ filter (λ p. nat_lt p.0 kernel) (ended_in calls.deeds) else filter (λ p. nat_lt p.0 kernel) (ended_in calls.deeds)) below);
+            ∙ sym (ap (λ b. if b then pid ∷ filter (λ p. nat_lt p.0 kernel) (ended_in calls.deeds)
+            else filter (λ p. nat_lt p.0 kernel) (ended_in calls.deeds)) below);
         in_turn = (refl, had.in_turn);
         due = had.due;
       };
@@ -153,19 +171,22 @@ ticks_one caller start here process timer kernel now count pid served below note
 -- a timer expired, and its process is of another kernel
 pub ticks_other : (caller : Caller) (start here : Standing) (timer : TimerView)
     (kernel now count : ℕ) (pid : Pid)
-    → Serves (record { by = caller.timer; request = Expire now; reply = told.Ended pid }) here.timer timer
+    → Serves (record { by = caller.timer; request = Expire now; reply = told.Ended pid }) here.timer
+    timer
     → nat_lt pid.0 kernel ≡ false → Calls caller start here (IsTicking kernel now count)
     → Calls caller start (record here { timer = timer }) (IsTicking kernel now (count + 1))
 ticks_other caller start here timer kernel now count pid served above calls =
     let had = calls.promise in
     record {
       deeds = Times (Expire now) (told.Ended pid) ∷ calls.deeds;
-      did = then_times caller start here timer calls.deeds (Expire now) (told.Ended pid) calls.did served;
+      did = then_times caller start here timer calls.deeds (Expire now) (told.Ended pid) calls.did
+          served;
       promise = record {
         own = (refl, had.own);
         count_is = omega (arith, had.count_is);
         told = had.told
-            ∙ sym (ap (λ b. if b then pid ∷ filter (λ p. nat_lt p.0 kernel) (ended_in calls.deeds) else filter (λ p. nat_lt p.0 kernel) (ended_in calls.deeds)) above);
+            ∙ sym (ap (λ b. if b then pid ∷ filter (λ p. nat_lt p.0 kernel) (ended_in calls.deeds)
+            else filter (λ p. nat_lt p.0 kernel) (ended_in calls.deeds)) above);
         in_turn = had.in_turn;
         due = had.due;
       };
@@ -174,14 +195,16 @@ ticks_other caller start here timer kernel now count pid served above calls =
 -- nothing is due
 pub ticks_to_none : (caller : Caller) (start here : Standing) (timer : TimerView)
     (procs kernel now count : ℕ) → count ≤ procs
-    → Serves (record { by = caller.timer; request = Expire now; reply = told.NoneDue }) here.timer timer
+    → Serves (record { by = caller.timer; request = Expire now; reply = told.NoneDue }) here.timer
+    timer
     → Calls caller start here (IsTicking kernel now count)
     → Calls caller start (record here { timer = timer }) (Ticks procs kernel now count)
 ticks_to_none caller start here timer procs kernel now count most served calls =
     let had = calls.promise in
     record {
       deeds = Times (Expire now) told.NoneDue ∷ calls.deeds;
-      did = then_times caller start here timer calls.deeds (Expire now) told.NoneDue calls.did served;
+      did = then_times caller start here timer calls.deeds (Expire now) told.NoneDue calls.did
+          served;
       promise = record {
         own = (refl, had.own);
         count_is = had.count_is;
@@ -231,18 +254,23 @@ ticks_all caller start here procs kernel now calls =
 -- whether its process is of this kernel or not
 pub ticks_more : (caller : Caller) (start here : Standing) (process : Process) (timer : TimerView)
     (kernel now count : ℕ) (pid : Pid)
-    → Serves (record { by = caller.timer; request = Expire now; reply = told.Ended pid }) here.timer timer
+    → Serves (record { by = caller.timer; request = Expire now; reply = told.Ended pid }) here.timer
+    timer
     → (IsTrue (nat_lt pid.0 kernel) → process ≡ steps.notes here.process pid (only Expired))
     → (nat_lt pid.0 kernel ≡ false → process ≡ here.process)
     → Calls caller start here (IsTicking kernel now count)
-    → Calls caller start (record here { process = process; timer = timer }) (IsTicking kernel now (count + 1))
+    → Calls caller start (record here { process = process; timer = timer })
+    (IsTicking kernel now (count + 1))
 ticks_more caller start here process timer kernel now count pid served below above calls =
     by (nat_lt pid.0 kernel) refl
   where
     by : (b : Bool) → nat_lt pid.0 kernel ≡ b
-        → Calls caller start (record here { process = process; timer = timer }) (IsTicking kernel now (count + 1))
-    by true is = ticks_one caller start here process timer kernel now count pid served is (below is) calls
+        → Calls caller start (record here { process = process; timer = timer })
+        (IsTicking kernel now (count + 1))
+    by true is = ticks_one caller start here process timer kernel now count pid served is (below is)
+        calls
     by false is =
         subst
-        (λ p. Calls caller start (record here { process = p; timer = timer }) (IsTicking kernel now (count + 1)))
+        (λ p. Calls caller start (record here { process = p; timer = timer })
+        (IsTicking kernel now (count + 1)))
         (sym (above is)) (ticks_other caller start here timer kernel now count pid served is calls)

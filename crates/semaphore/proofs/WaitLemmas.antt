@@ -1,5 +1,7 @@
 -- Sleeps of a wait, and what a wait in time does beyond them.
-use Rattle.std.proofs.Common.{◌≡◌, ◌≢◌, ◌⊎◌, inl, inr, ℕ, ◌+◌, ◌<◌, ◌≤◌, Bool, true, false, ◌||◌, ◌&&◌, not, eqb, if◌then◌else◌, List, [], ◌∷◌, ◌++◌, length, replicate, Option, Some, None, Ok, Err, refl, sym, ap, ◌∙◌, subst, arith}
+use Rattle.std.proofs.Common.{◌≡◌, ◌≢◌, ◌⊎◌, inl, inr, ℕ, ◌+◌, ◌<◌, ◌≤◌, Bool, true, false, ◌||◌}
+use Rattle.std.proofs.Common.{◌&&◌, not, eqb, if◌then◌else◌, List, [], ◌∷◌, ◌++◌, length, replicate}
+use Rattle.std.proofs.Common.{Option, Some, None, Ok, Err, refl, sym, ap, ◌∙◌, subst, arith}
 use Rattle.std.proofs.lemmas.Bool.Decides.{eqb_tells}
 use Rattle.histories.specs.Account.{AreByOthers, KnowsHistory}
 use Rattle.histories.specs.History.{state_after, IsLegal}
@@ -10,7 +12,8 @@ use Rattle.sync_base.specs.declared.fault.Fault.TheVariants as fault
 use Rattle.sync_base.specs.declared.ids.Pid.{Pid}
 use Rattle.sync_base.specs.declared.ids.RendezId.{RendezId}
 use Rattle.sync_base.specs.declared.note.Note.{Note}
-use Rattle.sync_base.specs.declared.note.Note.TheVariants.{Interrupt, Hangup, Alarm, ClosedPipe, Expired}
+use Rattle.sync_base.specs.declared.note.Note.TheVariants.{Interrupt, Hangup, Alarm, ClosedPipe}
+use Rattle.sync_base.specs.declared.note.Note.TheVariants.{Expired}
 use Rattle.sync_base.specs.declared.note.NoteSet.{NoteSet}
 use Rattle.sync_base.specs.NoteSet.{no_notes, joined, holds, only}
 use Rattle.sleep_core.specs.declared.answer.Answer.TheVariants as answer
@@ -31,14 +34,20 @@ use Rattle.semaphore.specs.declared.timer_object.TimerCall.{TimerCall}
 use Rattle.semaphore.specs.declared.timer_object.TimerCall.TheVariants.{Add, Cancel}
 use Rattle.semaphore.specs.declared.timer_object.TimerReply.{TimerReply}
 use Rattle.semaphore.specs.declared.timer_object.TimerReply.TheVariants as told
-use Rattle.semaphore.specs.Acquiring.{TimesIts, Acquires, AcquiresInTime, TimersSeen, MayRest, IsPutBack, without_expired, notes_taken, posts_in, was_expired}
-use Rattle.semaphore.specs.Asking.{WaitsFor, HasWaited, HasLeft, HasKept, HasStopped, Left, turn_left, ending_of, cancel_reply, granted_units}
-use Rattle.semaphore.specs.Deeds.{Deed, Ending, Caller, Standing, SemaView, TimerView, Slept, Steps, Chain, Did, Calls}
+use Rattle.semaphore.specs.Acquiring.{TimesIts, Acquires, AcquiresInTime, TimersSeen, MayRest}
+use Rattle.semaphore.specs.Acquiring.{IsPutBack, without_expired, notes_taken, posts_in}
+use Rattle.semaphore.specs.Acquiring.{was_expired}
+use Rattle.semaphore.specs.Asking.{WaitsFor, HasWaited, HasLeft, HasKept, HasStopped, Left}
+use Rattle.semaphore.specs.Asking.{turn_left, ending_of, cancel_reply, granted_units}
+use Rattle.semaphore.specs.Deeds.{Deed, Ending, Caller, Standing, SemaView, TimerView, Slept, Steps}
+use Rattle.semaphore.specs.Deeds.{Chain, Did, Calls}
 use Rattle.semaphore.specs.Deeds.Deed.{Asks, Times, Rests, Posts, Drains}
 use Rattle.semaphore.specs.TimerHistory.{TimerEntry, timer_meaning, WasTaken, AreByOthersThan}
-use Rattle.semaphore.specs.Turns.{Turn, turn_of, next, is_whole, is_timed, told_first, left_line, ticked}
+use Rattle.semaphore.specs.Turns.{Turn, turn_of, next, is_whole, is_timed, told_first, left_line}
+use Rattle.semaphore.specs.Turns.{ticked}
 use Rattle.semaphore.specs.Turns.Turn.{Told, Awaiting, Ready}
-use Rattle.semaphore.proofs.AcquireLemmas.{then_asks, then_rests, then_posts, turn_after, owes_no_tick}
+use Rattle.semaphore.proofs.AcquireLemmas.{then_asks, then_rests, then_posts, turn_after}
+use Rattle.semaphore.proofs.AcquireLemmas.{owes_no_tick}
 use Rattle.semaphore.proofs.OwnTimerLemmas.{own_timer, was_taken}
 
 -- ---- one sleep
@@ -69,7 +78,8 @@ slept_pid rendez threshold Ending.Double before after slept = ap (λ p. p.pid) s
 -- ---- the wait
 
 waits_still : (caller : Caller) (count next : ℕ) (deeds : List Deed) → WaitsFor caller count deeds
-    → WaitsFor caller next (Asks (Collect caller.number) (reply.Wait next) ∷ Rests count Ending.Well ∷ deeds)
+    → WaitsFor caller next (Asks (Collect caller.number) (reply.Wait next) ∷
+    Rests count Ending.Well ∷ deeds)
 waits_still caller count next deeds waits =
     record {
       own = (refl, (tt, waits.own));
@@ -87,31 +97,48 @@ waits_still caller count next deeds waits =
 -- it slept, and was told to wait on
 pub waits_on : (caller : Caller) (start now : Standing) (process : Process) (seat : SemaView)
     (count next : ℕ) → Slept caller.rendez count Ending.Well now.process process
-    → Serves (record { by = caller.number; request = Collect caller.number; reply = reply.Wait next }) now.seat seat
+    → Serves (record {
+      by = caller.number;
+      request = Collect caller.number;
+      reply =
+          reply.Wait next;
+    }) now.seat seat
     → Calls caller start now (WaitsFor caller count)
     → Calls caller start (record now { process = process; seat = seat }) (WaitsFor caller next)
 waits_on caller start now process seat count next slept served calls =
     record {
-      deeds = Asks (Collect caller.number) (reply.Wait next) ∷ Rests count Ending.Well ∷ calls.deeds;
-      did = then_asks caller start (record now { process = process }) seat (Rests count Ending.Well ∷ calls.deeds)
+      deeds = Asks (Collect caller.number) (reply.Wait next) ∷ Rests count Ending.Well ∷
+          calls.deeds;
+      did = then_asks caller start (record now { process = process }) seat
+          (Rests count Ending.Well ∷ calls.deeds)
           (Collect caller.number) (reply.Wait next)
-          (then_rests caller start now process calls.deeds count Ending.Well calls.did slept) served;
+          (then_rests caller start now process calls.deeds count Ending.Well calls.did slept)
+          served;
       promise = waits_still caller count next calls.deeds calls.promise;
     }
 
 -- it slept, and collected its unit
 pub waits_no_more : (caller : Caller) (start now : Standing) (process : Process) (seat : SemaView)
     (count : ℕ) → Slept caller.rendez count Ending.Well now.process process
-    → Serves (record { by = caller.number; request = Collect caller.number; reply = reply.Granted }) now.seat seat
+    → Serves (record { by = caller.number; request = Collect caller.number; reply = reply.Granted })
+    now.seat seat
     → Calls caller start now (WaitsFor caller count)
     → Calls caller start (record now { process = process; seat = seat }) (HasWaited caller None)
 waits_no_more caller start now process seat count slept served calls =
     record {
       deeds = Asks (Collect caller.number) reply.Granted ∷ Rests count Ending.Well ∷ calls.deeds;
-      did = then_asks caller start (record now { process = process }) seat (Rests count Ending.Well ∷ calls.deeds)
+      did = then_asks caller start (record now { process = process }) seat
+          (Rests count Ending.Well ∷ calls.deeds)
           (Collect caller.number) reply.Granted
-          (then_rests caller start now process calls.deeds count Ending.Well calls.did slept) served;
-      promise = record { count = count; past = calls.deeds; waited = calls.promise; deeds_are = refl };
+          (then_rests caller start now process calls.deeds count Ending.Well calls.did slept)
+          served;
+      promise = record {
+        count = count;
+        past = calls.deeds;
+        waited = calls.promise;
+        deeds_are =
+            refl;
+      };
     }
 
 -- its sleep ended otherwise
@@ -123,14 +150,25 @@ stops caller start now process count how slept calls =
     record {
       deeds = Rests count (ending_of how) ∷ calls.deeds;
       did = then_rests caller start now process calls.deeds count (ending_of how) calls.did slept;
-      promise = record { count = count; past = calls.deeds; waited = calls.promise; deeds_are = refl };
+      promise = record {
+        count = count;
+        past = calls.deeds;
+        waited = calls.promise;
+        deeds_are =
+            refl;
+      };
     }
 
 -- ---- how it begins
 
 -- a call that is given a unit at once did nothing else, and answers Acquired
 pub acquires_at_once : (caller : Caller) (start : Standing) (seat : SemaView)
-    → Serves (record { by = caller.number; request = Acquire caller.number; reply = reply.Acquired }) start.seat seat
+    → Serves (record {
+      by = caller.number;
+      request = Acquire caller.number;
+      reply =
+          reply.Acquired;
+    }) start.seat seat
     → Calls caller start (record start { seat = seat }) (Acquires caller (Ok sema.Acquired))
 acquires_at_once caller start seat served =
     record {
@@ -150,7 +188,8 @@ acquires_at_once caller start seat served =
 
 -- a call whose seat is at its last grant did nothing but ask, and answers Worn
 pub is_worn : (caller : Caller) (start : Standing) (seat : SemaView)
-    → Serves (record { by = caller.number; request = Acquire caller.number; reply = reply.Worn }) start.seat seat
+    → Serves (record { by = caller.number; request = Acquire caller.number; reply = reply.Worn })
+    start.seat seat
     → Calls caller start (record start { seat = seat }) (Acquires caller (Err fault.Worn))
 is_worn caller start seat served =
     record {
@@ -170,8 +209,14 @@ is_worn caller start seat served =
 
 -- a call that was told to wait has asked, and has done nothing else
 pub did_ask : (caller : Caller) (start : Standing) (seat : SemaView) (count : ℕ)
-    → Serves (record { by = caller.number; request = Acquire caller.number; reply = reply.Wait count }) start.seat seat
-    → Did caller (Asks (Acquire caller.number) (reply.Wait count) ∷ []) start (record start { seat = seat })
+    → Serves (record {
+      by = caller.number;
+      request = Acquire caller.number;
+      reply =
+          reply.Wait count;
+    }) start.seat seat
+    → Did caller (Asks (Acquire caller.number) (reply.Wait count) ∷
+    []) start (record start { seat = seat })
 did_ask caller start seat count served =
     then_asks caller start start seat [] (Acquire caller.number) (reply.Wait count)
     (record { process = refl; seat = refl; timer = refl }) served
@@ -219,18 +264,32 @@ then_drains caller start now process deeds set did drained =
 -- it set its timer
 pub sets_timer : (caller : Caller) (start now : Standing) (timer : TimerView) (count moment : ℕ)
     → caller.deadline ≡ Some moment
-    → Serves (record { by = caller.timer; request = Add caller.timer caller.pid moment; reply = told.Added }) now.timer timer
+    → Serves (record {
+      by = caller.timer;
+      request = Add caller.timer caller.pid moment;
+      reply =
+          told.Added;
+    }) now.timer timer
     → Did caller (Asks (Acquire caller.number) (reply.Wait count) ∷ []) start now
-    → Did caller (Times (Add caller.timer caller.pid moment) told.Added ∷ Asks (Acquire caller.number) (reply.Wait count) ∷ []) start (record now { timer = timer })
+    → Did caller (Times (Add caller.timer caller.pid moment) told.Added ∷
+    Asks (Acquire caller.number) (reply.Wait count) ∷ []) start (record now { timer = timer })
 sets_timer caller start now timer count moment has served did =
     then_times caller start now timer _ (Add caller.timer caller.pid moment) told.Added did served
 
 -- a call with a deadline has begun its wait once it was told to wait and has set its timer
 pub waits_timed : (caller : Caller) (count moment : ℕ) → caller.deadline ≡ Some moment
-    → WaitsFor caller count (Times (Add caller.timer caller.pid moment) told.Added ∷ Asks (Acquire caller.number) (reply.Wait count) ∷ [])
+    → WaitsFor caller count (Times (Add caller.timer caller.pid moment) told.Added ∷
+    Asks (Acquire caller.number) (reply.Wait count) ∷ [])
 waits_timed caller count moment has =
     record {
-      own = (subst (TimesIts caller (Add caller.timer caller.pid moment)) (sym has) (refl, refl, refl), (refl, tt));
+      own = (
+        subst (TimesIts caller (Add caller.timer caller.pid moment)) (sym has) (
+          refl,
+          refl,
+          refl,
+        ),
+        (refl, tt),
+      );
       rests = tt;
       between = (tt, tt);
       told = refl;
@@ -244,7 +303,8 @@ waits_timed caller count moment has =
     }
 
 -- it cancelled its timer
-stopped_timed : (how : Option Stop) (deeds : List Deed) (call : TimerCall) (answered : TimerReply) → HasStopped how deeds
+stopped_timed : (how : Option Stop) (deeds : List Deed) (call : TimerCall) (answered : TimerReply) →
+    HasStopped how deeds
     → HasStopped how (Times call answered ∷ deeds)
 stopped_timed None deeds call answered stopped = absurd stopped
 stopped_timed (Some stop.Refused) deeds call answered stopped = stopped
@@ -275,15 +335,34 @@ turn_cancelled caller turn moment expired came has is =
 -- timer then
 pub cancels : (caller : Caller) (start now : Standing) (timer : TimerView) (moment : ℕ)
     (expired granted : Bool) (notes : NoteSet) (how : Option Stop) → caller.deadline ≡ Some moment
-    → Serves (record { by = caller.timer; request = Cancel caller.timer; reply = cancel_reply expired }) now.timer timer
-    → Calls caller start now (HasLeft caller (record { granted = granted; notes = notes; expired = false; stop = how; cancelled = false }))
+    → Serves (record {
+      by = caller.timer;
+      request = Cancel caller.timer;
+      reply =
+          cancel_reply expired;
+    }) now.timer timer
+    → Calls caller start now (HasLeft caller (record {
+      granted = granted;
+      notes = notes;
+      expired =
+          false;
+      stop = how;
+      cancelled = false;
+    }))
     → Calls caller start (record now { timer = timer })
-    (HasLeft caller (record { granted = granted; notes = notes; expired = expired; stop = how; cancelled = true }))
+    (HasLeft caller (record {
+      granted = granted;
+      notes = notes;
+      expired = expired;
+      stop = how;
+      cancelled = true;
+    }))
 cancels caller start now timer moment expired granted notes how has served calls =
     let had = calls.promise in
     record {
       deeds = Times (Cancel caller.timer) (cancel_reply expired) ∷ calls.deeds;
-      did = then_times caller start now timer calls.deeds (Cancel caller.timer) (cancel_reply expired) calls.did served;
+      did = then_times caller start now timer calls.deeds (Cancel caller.timer)
+          (cancel_reply expired) calls.did served;
       promise = record {
         own = (subst (TimesIts caller (Cancel caller.timer)) (sym has) refl, had.own);
         rests = had.rests;
@@ -292,7 +371,8 @@ cancels caller start now timer moment expired granted notes how has served calls
         notes = had.notes;
         posts = had.posts;
         expired = told_expiry expired calls.deeds caller had.expired;
-        why = λ e. stopped_timed how calls.deeds (Cancel caller.timer) (cancel_reply expired) (had.why e);
+        why = λ e. stopped_timed how calls.deeds (Cancel caller.timer) (cancel_reply expired)
+            (had.why e);
         turn = turn_cancelled caller (turn_of caller calls.deeds) moment expired
             (holds notes Expired) has had.turn;
       };
@@ -389,7 +469,8 @@ awaits_noted caller start now process left set still slept calls =
     let had = calls.promise in
     record {
       deeds = Rests LAST_GRANT (Ending.Noted set) ∷ calls.deeds;
-      did = then_rests caller start now process calls.deeds LAST_GRANT (Ending.Noted set) calls.did slept;
+      did = then_rests caller start now process calls.deeds LAST_GRANT (Ending.Noted set) calls.did
+          slept;
       promise = record {
         own = (tt, had.own);
         rests = (awaits caller left calls.deeds still had, had.rests);
@@ -416,8 +497,10 @@ awaits_refused caller start now between process left set still slept drained cal
     let had = calls.promise in
     record {
       deeds = Drains set ∷ Rests LAST_GRANT Ending.Double ∷ calls.deeds;
-      did = then_drains caller start (record now { process = between }) process (Rests LAST_GRANT Ending.Double ∷ calls.deeds) set
-          (then_rests caller start now between calls.deeds LAST_GRANT Ending.Double calls.did slept) drained;
+      did = then_drains caller start (record now { process = between }) process
+          (Rests LAST_GRANT Ending.Double ∷ calls.deeds) set
+          (then_rests caller start now between calls.deeds LAST_GRANT Ending.Double calls.did slept)
+          drained;
       promise = record {
         own = (tt, (tt, had.own));
         rests = (awaits caller left calls.deeds still had, had.rests);
@@ -463,7 +546,8 @@ others_are set notes kinds =
     }
 
 -- a call that took no notes but a tick's puts none back, and may return
-pub keeps_none : (caller : Caller) (start now : Standing) (process : Process) (left : Left) (set : NoteSet)
+pub keeps_none : (caller : Caller) (start now : Standing) (process : Process) (left : Left) (set :
+    NoteSet)
     → set ≡ no_notes → set ≡ without_expired left.notes → turn_left caller left ≡ Ready
     → process ≡ now.process
     → Calls caller start now (HasLeft caller left)
@@ -472,7 +556,12 @@ keeps_none caller start now process left set none set_is ready same calls =
     let had = calls.promise in
     record {
       deeds = calls.deeds;
-      did = record { process = subst (λ p. Chain (Steps caller) calls.deeds start.process p) (sym same) calls.did.process; seat = calls.did.seat; timer = calls.did.timer };
+      did = record {
+        process = subst (λ p. Chain (Steps caller) calls.deeds start.process p)
+            (sym same) calls.did.process;
+        seat = calls.did.seat;
+        timer = calls.did.timer;
+      };
       promise = record {
         own = had.own;
         rests = had.rests;
@@ -495,7 +584,8 @@ stopped_posts (Some (stop.Noted other)) deeds pid set stopped = stopped
 -- a call that took notes besides a tick's puts those back at once, and may return
 pub keeps_some : (caller : Caller) (start now : Standing) (process : Process) (left : Left)
     (set : NoteSet) → set ≡ without_expired left.notes → turn_left caller left ≡ Ready
-    → process ≡ steps.notes now.process caller.pid set → Calls caller start now (HasLeft caller left)
+    → process ≡ steps.notes now.process caller.pid set →
+    Calls caller start now (HasLeft caller left)
     → Calls caller start (record now { process = process }) (HasKept caller left)
 keeps_some caller start now process left set set_is ready noted calls =
     let had = calls.promise in
@@ -540,7 +630,8 @@ acquired_in_time caller start now seen moment left granted came calls =
         turn = had.turn;
         rests = had.rests;
         between = had.between;
-        notes = subst (λ s. IsPutBack (without_expired s) (posts_in calls.deeds)) (sym had.notes) had.posts;
+        notes = subst (λ s. IsPutBack (without_expired s) (posts_in calls.deeds)) (sym had.notes)
+            had.posts;
         told = told_of left calls.deeds had.expired had.notes came;
       };
     }
@@ -563,13 +654,15 @@ refused_in_time caller start now seen moment left granted how came calls =
         turn = had.turn;
         rests = had.rests;
         between = had.between;
-        notes = subst (λ s. IsPutBack (without_expired s) (posts_in calls.deeds)) (sym had.notes) had.posts;
+        notes = subst (λ s. IsPutBack (without_expired s) (posts_in calls.deeds)) (sym had.notes)
+            had.posts;
         told = told_of left calls.deeds had.expired had.notes came;
       };
     }
 
 -- without one, by a tick
-pub timed_out : (caller : Caller) (start now : Standing) (seen : TimersSeen) (moment : ℕ) (left : Left)
+pub timed_out : (caller : Caller) (start now : Standing) (seen : TimersSeen) (moment : ℕ) (left :
+    Left)
     → left.cancelled ≡ true → left.granted ≡ false → left.expired ≡ true
     → without_expired left.notes ≡ no_notes
     → (left.expired ≡ true → holds left.notes Expired ≡ true)
@@ -601,10 +694,12 @@ timed_out caller start now seen moment left cancelled granted expired alone came
 pub interrupted_in_time : (caller : Caller) (start now : Standing) (seen : TimersSeen) (moment : ℕ)
     (left : Left) (set its : NoteSet) → left.cancelled ≡ true → left.granted ≡ false
     → left.stop ≡ Some (stop.Noted its) → set ≡ without_expired left.notes
-    → (left.expired ≡ true → set ≢ no_notes) → (left.expired ≡ true → holds left.notes Expired ≡ true)
+    → (left.expired ≡ true → set ≢ no_notes) →
+    (left.expired ≡ true → holds left.notes Expired ≡ true)
     → Calls caller start now (HasLeft caller left)
     → Calls caller start now (AcquiresInTime caller seen moment (Err (fault.Interrupted set)))
-interrupted_in_time caller start now seen moment left set its cancelled granted how set_is some came calls =
+interrupted_in_time caller start now seen moment left set its cancelled granted how set_is some came
+    calls =
     let had = calls.promise in
     record {
       deeds = calls.deeds;
@@ -626,8 +721,14 @@ interrupted_in_time caller start now seen moment left set its cancelled granted 
 
 -- a call with a deadline that is given a unit at once did nothing else: it set no timer and answers
 -- well
-pub in_time_at_once : (caller : Caller) (start : Standing) (seat : SemaView) (seen : TimersSeen) (moment : ℕ)
-    → Serves (record { by = caller.number; request = Acquire caller.number; reply = reply.Acquired }) start.seat seat
+pub in_time_at_once :
+    (caller : Caller) (start : Standing) (seat : SemaView) (seen : TimersSeen) (moment : ℕ)
+    → Serves (record {
+      by = caller.number;
+      request = Acquire caller.number;
+      reply =
+          reply.Acquired;
+    }) start.seat seat
     → Calls caller start (record start { seat = seat }) (AcquiresInTime caller seen moment (Ok tt))
 in_time_at_once caller start seat seen moment served =
     record {
@@ -647,9 +748,12 @@ in_time_at_once caller start seat seen moment served =
     }
 
 -- a call with a deadline whose seat is at its last grant did nothing but ask, and answers Worn
-pub in_time_worn : (caller : Caller) (start : Standing) (seat : SemaView) (seen : TimersSeen) (moment : ℕ)
-    → Serves (record { by = caller.number; request = Acquire caller.number; reply = reply.Worn }) start.seat seat
-    → Calls caller start (record start { seat = seat }) (AcquiresInTime caller seen moment (Err fault.Worn))
+pub in_time_worn : (caller : Caller) (start : Standing) (seat : SemaView) (seen :
+    TimersSeen) (moment : ℕ)
+    → Serves (record { by = caller.number; request = Acquire caller.number; reply = reply.Worn })
+    start.seat seat
+    → Calls caller start (record start { seat = seat })
+    (AcquiresInTime caller seen moment (Err fault.Worn))
 in_time_worn caller start seat seen moment served =
     record {
       deeds = Asks (Acquire caller.number) reply.Worn ∷ [];
@@ -679,13 +783,15 @@ by_others number mine (entry ∷ entries) others =
     yes_is : eqb number number ≡ true → (eqb number number || false) ≡ false → ⊥
     yes_is e is = let clash : true ≡ false = sym (ap (λ b. b || false) e) ∙ is in cc
 
-    by_test : ((eqb number number ≡ true) × (number ≡ number)) ⊎ ((eqb number number ≡ false) × (number ≢ number))
+    by_test : ((eqb number number ≡ true) × (number ≡ number)) ⊎
+        ((eqb number number ≡ false) × (number ≢ number))
         → (eqb number number || false) ≡ false → ⊥
     by_test (inl here) is = yes_is here.0 is
     by_test (inr there) is = there.1 refl
 
     apart : (eqb number entry.by || false) ≡ false → entry.by ≢ number
-    apart is same = by_test (eqb_tells number number) (ap (λ n. eqb number n || false) (sym same) ∙ is)
+    apart is same = by_test (eqb_tells number number) (ap (λ n. eqb number n || false) (sym same) ∙
+        is)
 
 -- a seat set its timer and, when it cancelled it, was told that it had expired
 pub record Cancels (opening : List Timer) (procs number moment : ℕ) (pid : Pid)
@@ -699,9 +805,11 @@ pub record Cancels (opening : List Timer) (procs number moment : ℕ) (pid : Pid
   -- it has this one number, and stands for these calls
   pub shares_are : set.account.shares ≡ record { number = number; mine = mine } ∷ []
   -- it was told that its timer was set
-  pub added : Serves (record { by = number; request = Add number pid moment; reply = told.Added }) before set
+  pub added : Serves (record { by = number; request = Add number pid moment; reply = told.Added })
+      before set
   -- it was told at its cancelling that the timer had expired
-  pub cancelled : Serves (record { by = number; request = Cancel number; reply = told.Expired }) set after
+  pub cancelled : Serves (record { by = number; request = Cancel number; reply = told.Expired }) set
+      after
   -- behind both it knows a legal history
   pub knows : KnowsHistory timer_meaning opening procs after.account
 
@@ -719,7 +827,8 @@ tick_took opening procs number moment pid before set after h =
       cancelled_is = refl;
       cancelled_told = refl;
       others = by_others number h.mine since
-          (subst (λ shares. AreByOthers server shares since) h.shares_are h.cancelled.account.looked.by_others);
+          (subst (λ shares. AreByOthers server shares since) h.shares_are
+          h.cancelled.account.looked.by_others);
     }))
   where
     since : List TimerEntry
@@ -738,12 +847,14 @@ tick_took opening procs number moment pid before set after h =
     seen_is =
         ap (λ a. a.seen) h.cancelled.account.new_is
         ∙ ap (λ l. cancelled ∷ l)
-        (h.cancelled.account.looked.history_is ∙ ap (λ l. since ++ l) (ap (λ a. a.seen) h.added.account.new_is))
+        (h.cancelled.account.looked.history_is ∙
+        ap (λ l. since ++ l) (ap (λ a. a.seen) h.added.account.new_is))
 
     legal : IsLegal timer_meaning opening (cancelled ∷ (since ++ (added ∷ past)))
     legal = subst (IsLegal timer_meaning opening) seen_is h.knows.history.legal
 
-    behind : (entries base : List TimerEntry) → IsLegal timer_meaning opening (entries ++ base) → IsLegal timer_meaning opening base
+    behind : (entries base : List TimerEntry) → IsLegal timer_meaning opening (entries ++ base) →
+        IsLegal timer_meaning opening base
     behind [] base is = is
     behind (entry ∷ entries) base is = behind entries base is.1
 
@@ -751,7 +862,8 @@ tick_took opening procs number moment pid before set after h =
     size =
         ap (λ s. length (state_after timer_meaning s past)) h.opening_is
         ∙ (own_timer procs number past
-        (subst (λ s. IsLegal timer_meaning s past) h.opening_is (behind since (added ∷ past) legal.1).1)).size
+        (subst (λ s. IsLegal timer_meaning s past) h.opening_is
+        (behind since (added ∷ past) legal.1).1)).size
 
 -- the call of a seat at timers, as that of its caller
 pub timed_as : (call : ℕ → TimerCall) (answered : TimerReply) (number its : ℕ)
@@ -759,6 +871,8 @@ pub timed_as : (call : ℕ → TimerCall) (answered : TimerReply) (number its : 
     → Serves (record { by = its; request = call its; reply = answered }) old new
     → Serves (record { by = number; request = call number; reply = answered }) now new
 timed_as call answered number its now old new number_is now_is served =
-    subst (λ n. Serves (record { by = n; request = call n; reply = answered }) now new) (sym number_is)
-    (subst (λ v. Serves (record { by = its; request = call its; reply = answered }) v new) (sym now_is)
+    subst (λ n. Serves (record { by = n; request = call n; reply = answered }) now new)
+    (sym number_is)
+    (subst (λ v. Serves (record { by = its; request = call its; reply = answered }) v new)
+    (sym now_is)
     served)

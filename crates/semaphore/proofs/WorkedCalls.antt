@@ -1,5 +1,6 @@
 -- Calls computed from the definitions alone, and calls that break a promise: each by one row of it.
-use Rattle.std.proofs.Common.{◌≡◌, inl, inr, ℕ, true, false, List, [], ◌∷◌, map, Some, Ok, Err, refl, ap, arith}
+use Rattle.std.proofs.Common.{◌≡◌, inl, inr, ℕ, true, false, List, [], ◌∷◌, map, Some, Ok, Err}
+use Rattle.std.proofs.Common.{refl, ap, arith}
 use Rattle.std.specs.List.{AllByRecursion}
 use Rattle.histories.specs.History.{IsLegal}
 use Rattle.sync_base.specs.declared.fault.Fault.TheVariants as fault
@@ -8,13 +9,15 @@ use Rattle.sync_base.specs.declared.note.Note.TheVariants.{Interrupt, Alarm, Exp
 use Rattle.sync_base.specs.NoteSet.{no_notes, joined, only, holds}
 use Rattle.semaphore.specs.declared.acquiring.Semacquired.TheVariants as sema
 use Rattle.semaphore.specs.declared.limits.TheConstants.{LAST_GRANT}
-use Rattle.semaphore.specs.declared.sema_object.SemaCall.TheVariants.{Acquire, Release, NextWake, Collect, Leave}
+use Rattle.semaphore.specs.declared.sema_object.SemaCall.TheVariants.{Acquire, Release, NextWake}
+use Rattle.semaphore.specs.declared.sema_object.SemaCall.TheVariants.{Collect, Leave}
 use Rattle.semaphore.specs.declared.sema_object.SemaReply.TheVariants as reply
 use Rattle.semaphore.specs.declared.timer_object.Timer.{Timer}
 use Rattle.semaphore.specs.declared.timer_object.Timer.TheVariants.{Unset}
 use Rattle.semaphore.specs.declared.timer_object.TimerCall.TheVariants.{Add, Expire, Cancel}
 use Rattle.semaphore.specs.declared.timer_object.TimerReply.TheVariants as told
-use Rattle.semaphore.specs.Acquiring.{Acquires, AcquiresInTime, TimersSeen, IsOfAcquire, MayRest, RestsInTurn, SleepsBetween, IsPutBack}
+use Rattle.semaphore.specs.Acquiring.{Acquires, AcquiresInTime, TimersSeen, IsOfAcquire, MayRest}
+use Rattle.semaphore.specs.Acquiring.{RestsInTurn, SleepsBetween, IsPutBack}
 use Rattle.semaphore.proofs.BrokenCalls as broken
 use Rattle.semaphore.proofs.BrokenTimers as timers
 use Rattle.semaphore.proofs.BrokenCalls.{waiter, timed_waiter, interrupt, pid, begun}
@@ -26,7 +29,8 @@ use Rattle.semaphore.specs.Ticking.{Ticks}
 use Rattle.semaphore.specs.TimerHistory.{TimerEntry, timer_meaning, WasTaken, has_timer}
 use Rattle.semaphore.specs.Seats.{is_waiting}
 use Rattle.semaphore.specs.Turns.{turn_of, is_whole}
-use Rattle.semaphore.specs.Turns.Turn.{Fresh, Answered, Untimed, Told, Woken, Stopped, Out, Awaiting, Refused, Ready, Kept, Astray}
+use Rattle.semaphore.specs.Turns.Turn.{Fresh, Answered, Untimed, Told, Woken, Stopped, Out}
+use Rattle.semaphore.specs.Turns.Turn.{Awaiting, Refused, Ready, Kept, Astray}
 use Rattle.semaphore.proofs.Broken.{entry}
 
 -- ---- calls that keep their promises
@@ -47,7 +51,8 @@ awaited = Times (Cancel 0) told.Expired ∷ unit_in_time
 
 -- it slept twice, and then had its unit
 a_wait : Acquires waiter (Ok sema.Acquired)
-    (Asks (Collect 0) reply.Granted ∷ Rests 0 Well ∷ Asks (Collect 0) (reply.Wait 0) ∷ Rests 0 Well ∷ begun)
+    (Asks (Collect 0) reply.Granted ∷ Rests 0 Well ∷ Asks (Collect 0) (reply.Wait 0) ∷
+    Rests 0 Well ∷ begun)
 a_wait =
     record {
       units = refl;
@@ -87,7 +92,8 @@ an_interrupted_wait =
       notes = (refl, refl);
     }
 
-a_refused_wait : Acquires waiter (Err fault.DoubleSleep) (Asks (Leave 0) reply.Gone ∷ Rests 0 Double ∷ begun)
+a_refused_wait : Acquires waiter (Err fault.DoubleSleep) (Asks (Leave 0) reply.Gone ∷
+    Rests 0 Double ∷ begun)
 a_refused_wait =
     record {
       units = refl;
@@ -141,9 +147,11 @@ the_tick_took_it =
     }
 
 -- a tick ended the wait; before its note came another process slept in the Rendez, once
-a_timed_wait : AcquiresInTime timed_waiter (record { opening = Unset ∷ Unset ∷ []; history = ticked }) 150
+a_timed_wait : AcquiresInTime timed_waiter (record
+    { opening = Unset ∷ Unset ∷ []; history = ticked }) 150
     (Ok tt)
-    (Posts (pid 5) (only Alarm) ∷ Drains (joined (only Alarm) (only Expired)) ∷ Rests LAST_GRANT Double ∷ broken.leaves_a_note_behind)
+    (Posts (pid 5) (only Alarm) ∷ Drains (joined (only Alarm) (only Expired)) ∷
+    Rests LAST_GRANT Double ∷ broken.leaves_a_note_behind)
 a_timed_wait =
     record {
       units = refl;
@@ -156,7 +164,8 @@ a_timed_wait =
       told = λ e. refl;
     }
 
-it_timed_out : AcquiresInTime timed_waiter (record { opening = Unset ∷ Unset ∷ []; history = ticked }) 150
+it_timed_out : AcquiresInTime timed_waiter (record
+    { opening = Unset ∷ Unset ∷ []; history = ticked }) 150
     (Err fault.TimedOut)
     broken.is_timed_out
 it_timed_out =
@@ -173,7 +182,8 @@ it_timed_out =
 
 -- two units for two seats, whose Rendez are 3 and 4
 a_release : Releases 3 2 (Ok 2)
-    (Asks NextWake reply.NoWake ∷ Rouses 4 1 ∷ Asks NextWake (reply.Wake 1 1) ∷ Rouses 3 4 ∷ Asks NextWake (reply.Wake 0 4) ∷ Asks (Release 2) (reply.Value 2) ∷ [])
+    (Asks NextWake reply.NoWake ∷ Rouses 4 1 ∷ Asks NextWake (reply.Wake 1 1) ∷ Rouses 3 4 ∷
+    Asks NextWake (reply.Wake 0 4) ∷ Asks (Release 2) (reply.Value 2) ∷ [])
 a_release =
     record {
       reply = reply.Value 2;
@@ -185,7 +195,8 @@ a_release =
 
 -- two timers expire; the second process is of another kernel
 a_tick : Ticks 3 6 150 2
-    (Times (Expire 150) told.NoneDue ∷ Times (Expire 150) (told.Ended (pid 6)) ∷ Posts (pid 5) (only Expired) ∷ Times (Expire 150) (told.Ended (pid 5)) ∷ [])
+    (Times (Expire 150) told.NoneDue ∷ Times (Expire 150) (told.Ended (pid 6)) ∷
+    Posts (pid 5) (only Expired) ∷ Times (Expire 150) (told.Ended (pid 5)) ∷ [])
 a_tick =
     record {
       own = (refl, (refl, (refl, (refl, tt))));
@@ -197,7 +208,8 @@ a_tick =
     }
 
 -- no more than there are timers
-a_whole_tick : Ticks 1 6 150 1 (Posts (pid 5) (only Expired) ∷ Times (Expire 150) (told.Ended (pid 5)) ∷ [])
+a_whole_tick : Ticks 1 6 150 1 (Posts (pid 5) (only Expired) ∷
+    Times (Expire 150) (told.Ended (pid 5)) ∷ [])
 a_whole_tick =
     record {
       own = (refl, (refl, tt));
@@ -210,14 +222,19 @@ a_whole_tick =
 
 -- whether a seat waits, and has a timer, by its own calls
 own_calls_tell : (is_waiting (entry 0 (Acquire 0) (reply.Wait 0) ∷ []) ≡ true)
-    × (is_waiting (entry 0 (Collect 0) reply.Granted ∷ entry 0 (Acquire 0) (reply.Wait 0) ∷ []) ≡ false)
-    × (is_waiting (entry 0 (Leave 0) reply.Granted ∷ entry 0 (Acquire 0) (reply.Wait 0) ∷ []) ≡ false)
+    × (is_waiting (entry 0 (Collect 0) reply.Granted ∷ entry 0 (Acquire 0) (reply.Wait 0) ∷ []) ≡
+    false)
+    × (is_waiting (entry 0 (Leave 0) reply.Granted ∷ entry 0 (Acquire 0) (reply.Wait 0) ∷ []) ≡
+    false)
     × (is_waiting (entry 0 (Leave 0) reply.Gone ∷ entry 0 (Acquire 0) (reply.Wait 0) ∷ []) ≡ false)
-    × (is_waiting (entry 0 (Collect 0) (reply.Wait 0) ∷ entry 0 (Acquire 0) (reply.Wait 0) ∷ []) ≡ true)
+    × (is_waiting (entry 0 (Collect 0) (reply.Wait 0) ∷ entry 0 (Acquire 0) (reply.Wait 0) ∷ []) ≡
+    true)
 own_calls_tell = (refl, refl, refl, refl, refl)
 
-timers_tell : (has_timer (record { by = 0; request = Add 0 (pid 5) 150; reply = told.Added } ∷ []) ≡ true)
-    × (has_timer (record { by = 0; request = Cancel 0; reply = told.Removed } ∷ record { by = 0; request = Add 0 (pid 5) 150; reply = told.Added } ∷ []) ≡ false)
+timers_tell : (has_timer (record { by = 0; request = Add 0 (pid 5) 150; reply = told.Added } ∷ []) ≡
+    true)
+    × (has_timer (record { by = 0; request = Cancel 0; reply = told.Removed } ∷
+    record { by = 0; request = Add 0 (pid 5) 150; reply = told.Added } ∷ []) ≡ false)
     × (has_timer ticked ≡ false)
 unfolding ticked
 timers_tell = (refl, refl, refl)
@@ -317,7 +334,8 @@ no_release_is_of_an_acquire : AllByRecursion (IsOfAcquire waiter) broken.makes_a
 no_release_is_of_an_acquire own = own.0
 
 a_tick_alone_interrupts_nobody : (seen : TimersSeen)
-    → AcquiresInTime timed_waiter seen 150 (Err (fault.Interrupted no_notes)) broken.is_timed_out → ⊥
+    → AcquiresInTime timed_waiter seen 150 (Err (fault.Interrupted no_notes)) broken.is_timed_out →
+    ⊥
 a_tick_alone_interrupts_nobody seen acquires = acquires.reason.others refl refl
 
 no_more_expire_than_there_are : Ticks 1 6 150 2 broken.ends_too_many → ⊥
@@ -367,13 +385,15 @@ no_timer_without_a_deadline own = own.0
 no_timer_is_too_early : AllByRecursion (IsOfAcquire timed_waiter) broken.sets_it_too_early → ⊥
 no_timer_is_too_early own = let clash : 149 ≡ 150 = own.0.2 in omega arith
 
-no_note_is_left_behind : (seen : TimersSeen) → AcquiresInTime timed_waiter seen 150 (Ok tt) broken.leaves_a_note_behind → ⊥
+no_note_is_left_behind : (seen : TimersSeen) →
+    AcquiresInTime timed_waiter seen 150 (Ok tt) broken.leaves_a_note_behind → ⊥
 no_note_is_left_behind seen acquires = let clash : false ≡ true = acquires.told refl in cc
 
 no_sleep_behind_the_tick : RestsInTurn broken.sleeps_behind_the_tick → ⊥
 no_sleep_behind_the_tick rests = by rests.0
   where
-    by : MayRest (Rests LAST_GRANT (Noted (only Expired)) ∷ broken.leaves_a_note_behind) LAST_GRANT → ⊥
+    by : MayRest (Rests LAST_GRANT (Noted (only Expired)) ∷
+        broken.leaves_a_note_behind) LAST_GRANT → ⊥
     by (inl is) = cc
     by (inr tick) = let clash : true ≡ false = tick.0.to_come in cc
 

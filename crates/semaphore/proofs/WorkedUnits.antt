@@ -4,7 +4,8 @@ use Rattle.histories.specs.History.{state_after, IsLegal}
 use Rattle.semaphore.specs.declared.limits.TheConstants.{MAX_VALUE, LAST_GRANT}
 use Rattle.semaphore.specs.declared.sema_object.Stage.TheVariants.{Idle, Granted}
 use Rattle.semaphore.specs.declared.sema_object.SemaCall.{SemaCall}
-use Rattle.semaphore.specs.declared.sema_object.SemaCall.TheVariants.{Acquire, AcquireNow, Release, NextWake, Collect, Leave}
+use Rattle.semaphore.specs.declared.sema_object.SemaCall.TheVariants.{Acquire, AcquireNow, Release}
+use Rattle.semaphore.specs.declared.sema_object.SemaCall.TheVariants.{NextWake, Collect, Leave}
 use Rattle.semaphore.specs.declared.sema_object.SemaReply.{SemaReply}
 use Rattle.semaphore.specs.declared.sema_object.SemaReply.TheVariants as reply
 use Rattle.semaphore.specs.declared.timer_object.Timer.{Timer}
@@ -17,7 +18,8 @@ use Rattle.sync_base.specs.declared.ids.Pid.{Pid}
 use Rattle.semaphore.specs.Units.{SemaState, opening, answer_to, after, passed}
 use Rattle.semaphore.specs.Timers as timers
 use Rattle.semaphore.specs.SemaHistory.{SemaEntry, sema_meaning, released, taken, collected}
-use Rattle.semaphore.proofs.Broken.{entry, loses_a_granted_unit, gives_a_unit_twice, grants_out_of_order, passes_the_limit, adds_what_it_refused}
+use Rattle.semaphore.proofs.Broken.{entry, loses_a_granted_unit, gives_a_unit_twice}
+use Rattle.semaphore.proofs.Broken.{grants_out_of_order, passes_the_limit, adds_what_it_refused}
 
 -- the limits
 the_limits : (MAX_VALUE ≡ 2147483647) × (LAST_GRANT ≡ 18446744073709551614)
@@ -28,24 +30,40 @@ replies : SemaState → List SemaCall → List SemaReply
 replies s [] = []
 replies s (call ∷ calls) = answer_to s call ∷ replies (after s call) calls
 
-units_are_taken_and_released : replies (opening 0 1 0) (AcquireNow 0 ∷ Release 3 ∷ Acquire 0 ∷ Acquire 0 ∷ Acquire 0 ∷ AcquireNow 0 ∷ Release 2147483647 ∷ Release 1 ∷ Acquire 0 ∷ Release 1 ∷ Release 0 ∷ []) ≡ reply.NotNow ∷ reply.Value 3 ∷ reply.Acquired ∷ reply.Acquired ∷ reply.Acquired ∷ reply.NotNow ∷ reply.Value 2147483647 ∷ reply.BadArg ∷ reply.Acquired ∷ reply.Value 2147483647 ∷ reply.Value 2147483647 ∷ []
+units_are_taken_and_released : replies (opening 0 1 0) (AcquireNow 0 ∷ Release 3 ∷ Acquire 0 ∷
+    Acquire 0 ∷ Acquire 0 ∷ AcquireNow 0 ∷ Release 2147483647 ∷ Release 1 ∷ Acquire 0 ∷ Release 1 ∷
+    Release 0 ∷ []) ≡ reply.NotNow ∷ reply.Value 3 ∷ reply.Acquired ∷ reply.Acquired ∷
+    reply.Acquired ∷ reply.NotNow ∷ reply.Value 2147483647 ∷ reply.BadArg ∷ reply.Acquired ∷
+    reply.Value 2147483647 ∷ reply.Value 2147483647 ∷ []
 unfolding replies passed
 units_are_taken_and_released = refl
 
-a_release_grants_units_in_the_order_of_arrival : replies (opening 0 3 0) (Acquire 0 ∷ Acquire 1 ∷ Release 3 ∷ NextWake ∷ NextWake ∷ NextWake ∷ Collect 0 ∷ Leave 1 ∷ Acquire 2 ∷ AcquireNow 2 ∷ []) ≡ reply.Wait 0 ∷ reply.Wait 0 ∷ reply.Value 3 ∷ reply.Wake 0 1 ∷ reply.Wake 1 1 ∷ reply.NoWake ∷ reply.Granted ∷ reply.Granted ∷ reply.Acquired ∷ reply.NotNow ∷ []
+a_release_grants_units_in_the_order_of_arrival :
+    replies (opening 0 3 0) (Acquire 0 ∷ Acquire 1 ∷ Release 3 ∷ NextWake ∷ NextWake ∷ NextWake ∷
+    Collect 0 ∷ Leave 1 ∷ Acquire 2 ∷ AcquireNow 2 ∷ []) ≡ reply.Wait 0 ∷ reply.Wait 0 ∷
+    reply.Value 3 ∷ reply.Wake 0 1 ∷ reply.Wake 1 1 ∷ reply.NoWake ∷ reply.Granted ∷ reply.Granted ∷
+    reply.Acquired ∷ reply.NotNow ∷ []
 unfolding replies passed
 a_release_grants_units_in_the_order_of_arrival = refl
 
-who_leaves_the_line_is_passed_over : replies (opening 0 3 0) (Acquire 2 ∷ Acquire 0 ∷ Acquire 2 ∷ AcquireNow 0 ∷ Leave 2 ∷ Leave 2 ∷ Collect 0 ∷ Release 1 ∷ Collect 0 ∷ Acquire 3 ∷ Collect 3 ∷ Leave 3 ∷ AcquireNow 3 ∷ []) ≡ reply.Wait 0 ∷ reply.Wait 0 ∷ reply.Busy ∷ reply.Busy ∷ reply.Gone ∷ reply.Gone ∷ reply.Wait 0 ∷ reply.Value 1 ∷ reply.Granted ∷ reply.Busy ∷ reply.Busy ∷ reply.Busy ∷ reply.Busy ∷ []
+who_leaves_the_line_is_passed_over : replies (opening 0 3 0) (Acquire 2 ∷ Acquire 0 ∷ Acquire 2 ∷
+    AcquireNow 0 ∷ Leave 2 ∷ Leave 2 ∷ Collect 0 ∷ Release 1 ∷ Collect 0 ∷ Acquire 3 ∷ Collect 3 ∷
+    Leave 3 ∷ AcquireNow 3 ∷ []) ≡ reply.Wait 0 ∷ reply.Wait 0 ∷ reply.Busy ∷ reply.Busy ∷
+    reply.Gone ∷ reply.Gone ∷ reply.Wait 0 ∷ reply.Value 1 ∷ reply.Granted ∷ reply.Busy ∷
+    reply.Busy ∷ reply.Busy ∷ reply.Busy ∷ []
 unfolding replies passed
 who_leaves_the_line_is_passed_over = refl
 
 -- seat 0 is granted a second unit before it is named, and stands once, with its latest count
-a_seat_is_named_once : replies (opening 0 2 0) (Acquire 0 ∷ Acquire 1 ∷ Release 1 ∷ Collect 0 ∷ Acquire 0 ∷ Release 2 ∷ NextWake ∷ NextWake ∷ NextWake ∷ []) ≡ reply.Wait 0 ∷ reply.Wait 0 ∷ reply.Value 1 ∷ reply.Granted ∷ reply.Wait 1 ∷ reply.Value 2 ∷ reply.Wake 0 2 ∷ reply.Wake 1 1 ∷ reply.NoWake ∷ []
+a_seat_is_named_once : replies (opening 0 2 0) (Acquire 0 ∷ Acquire 1 ∷ Release 1 ∷ Collect 0 ∷
+    Acquire 0 ∷ Release 2 ∷ NextWake ∷ NextWake ∷ NextWake ∷ []) ≡ reply.Wait 0 ∷ reply.Wait 0 ∷
+    reply.Value 1 ∷ reply.Granted ∷ reply.Wait 1 ∷ reply.Value 2 ∷ reply.Wake 0 2 ∷ reply.Wake 1 1 ∷
+    reply.NoWake ∷ []
 unfolding replies passed
 a_seat_is_named_once = refl
 
-worn_grants : replies (opening 0 1 18446744073709551614) (Acquire 0 ∷ AcquireNow 0 ∷ Release 1 ∷ Acquire 0 ∷ []) ≡ reply.Worn ∷ reply.NotNow ∷ reply.Value 1 ∷ reply.Acquired ∷ []
+worn_grants : replies (opening 0 1 18446744073709551614) (Acquire 0 ∷ AcquireNow 0 ∷ Release 1 ∷
+    Acquire 0 ∷ []) ≡ reply.Worn ∷ reply.NotNow ∷ reply.Value 1 ∷ reply.Acquired ∷ []
 unfolding replies passed
 worn_grants = refl
 
@@ -58,11 +76,19 @@ day =
     ∷ entry 0 (Acquire 0) (reply.Wait 0)
     ∷ []
 
-the_day_adds_up : (released day ≡ 3) × (taken day ≡ 1) × (collected 0 day ≡ 1) × (collected 1 day ≡ 0)
+the_day_adds_up : (released day ≡ 3) × (taken day ≡ 1) × (collected 0 day ≡ 1) ×
+    (collected 1 day ≡ 0)
 unfolding day
 the_day_adds_up = (refl, refl, refl, refl)
 
-the_day_leaves : state_after sema_meaning (opening 0 3 0) day ≡ record { value = 1; stages = Idle ∷ Granted ∷ Idle ∷ []; grants = 1 ∷ 1 ∷ 0 ∷ []; waiters = []; unnamed = 0 ∷ 1 ∷ [] }
+the_day_leaves : state_after sema_meaning (opening 0 3 0) day ≡ record {
+  value = 1;
+  stages = Idle ∷
+      Granted ∷ Idle ∷ [];
+  grants = 1 ∷ 1 ∷ 0 ∷ [];
+  waiters = [];
+  unnamed = 0 ∷ 1 ∷ [];
+}
 unfolding day passed
 the_day_leaves = refl
 
@@ -81,7 +107,8 @@ nobody_is_passed_over legal = let clash : reply.Granted ≡ reply.Wait 0 = legal
 
 no_release_passes_the_limit : IsLegal sema_meaning (opening 0 3 0) passes_the_limit → ⊥
 unfolding passed
-no_release_passes_the_limit legal = let clash : reply.Value 2147483648 ≡ reply.BadArg = legal.0.reply in cc
+no_release_passes_the_limit legal = let clash : reply.Value 2147483648 ≡ reply.BadArg =
+    legal.0.reply in cc
 
 no_refused_release_adds : IsLegal sema_meaning (opening 0 3 0) adds_what_it_refused → ⊥
 unfolding passed
@@ -95,13 +122,20 @@ told_by : List Timer → List TimerCall → List TimerReply
 told_by s [] = []
 told_by s (call ∷ calls) = timers.answer_to s call ∷ told_by (timers.after s call) calls
 
-a_timer_expires_once : told_by (Unset ∷ Unset ∷ []) (Add 0 (pid 4) 150 ∷ Expire 149 ∷ Expire 150 ∷ Expire 150 ∷ Cancel 0 ∷ Cancel 0 ∷ []) ≡ told.Added ∷ told.NoneDue ∷ told.Ended (pid 4) ∷ told.NoneDue ∷ told.Expired ∷ told.Absent ∷ []
+a_timer_expires_once : told_by (Unset ∷ Unset ∷ []) (Add 0 (pid 4) 150 ∷ Expire 149 ∷ Expire 150 ∷
+    Expire 150 ∷ Cancel 0 ∷ Cancel 0 ∷ []) ≡ told.Added ∷ told.NoneDue ∷ told.Ended (pid 4) ∷
+    told.NoneDue ∷ told.Expired ∷ told.Absent ∷ []
 unfolding told_by
 a_timer_expires_once = refl
 
-timers_expire_by_deadline_and_then_by_seat : told_by (Unset ∷ Unset ∷ Unset ∷ []) (Add 2 (pid 12) 7 ∷ Add 0 (pid 10) 8 ∷ Add 1 (pid 11) 7 ∷ Add 1 (pid 13) 1 ∷ Expire 9 ∷ Add 1 (pid 13) 1 ∷ Cancel 0 ∷ Expire 9 ∷ Expire 9 ∷ Cancel 3 ∷ Add 3 (pid 9) 1 ∷ []) ≡ told.Added ∷ told.Added ∷ told.Added ∷ told.Busy ∷ told.Ended (pid 11) ∷ told.Busy ∷ told.Removed ∷ told.Ended (pid 12) ∷ told.NoneDue ∷ told.Busy ∷ told.Busy ∷ []
+timers_expire_by_deadline_and_then_by_seat : told_by (Unset ∷ Unset ∷ Unset ∷
+    []) (Add 2 (pid 12) 7 ∷ Add 0 (pid 10) 8 ∷ Add 1 (pid 11) 7 ∷ Add 1 (pid 13) 1 ∷ Expire 9 ∷
+    Add 1 (pid 13) 1 ∷ Cancel 0 ∷ Expire 9 ∷ Expire 9 ∷ Cancel 3 ∷ Add 3 (pid 9) 1 ∷ []) ≡
+    told.Added ∷ told.Added ∷ told.Added ∷ told.Busy ∷ told.Ended (pid 11) ∷ told.Busy ∷
+    told.Removed ∷ told.Ended (pid 12) ∷ told.NoneDue ∷ told.Busy ∷ told.Busy ∷ []
 unfolding told_by
 timers_expire_by_deadline_and_then_by_seat = refl
 
-a_deadline_never_wraps : (timers.deadline_of 100 50 ≡ 150) × (timers.deadline_of 18446744073709551614 50 ≡ 18446744073709551615)
+a_deadline_never_wraps : (timers.deadline_of 100 50 ≡ 150) ×
+    (timers.deadline_of 18446744073709551614 50 ≡ 18446744073709551615)
 a_deadline_never_wraps = (refl, refl)

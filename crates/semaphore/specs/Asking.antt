@@ -1,5 +1,6 @@
 -- What the typed answers of a seat's requests stand for, and what the parts of a call tell.
-use Rattle.std.specs.Prelude.{◌≡◌, ⊤, ℕ, ◌≤◌, ◌<◌, Bool, true, false, List, [], ◌∷◌, length, not, if◌then◌else◌, Option, Some, None}
+use Rattle.std.specs.Prelude.{◌≡◌, ⊤, ℕ, ◌≤◌, ◌<◌, Bool, true, false, List, [], ◌∷◌, length, not}
+use Rattle.std.specs.Prelude.{if◌then◌else◌, Option, Some, None}
 use Rattle.std.specs.List.{AllByRecursion}
 use Rattle.sync_base.specs.declared.ids.Pid.{Pid}
 use Rattle.sync_base.specs.declared.note.NoteSet.{NoteSet}
@@ -26,7 +27,9 @@ use Rattle.semaphore.specs.Timers as timing
 use Rattle.semaphore.specs.Turns.{Turn, turn_of, is_whole, is_timed, left_line, ticked}
 use Rattle.semaphore.specs.Turns.Turn.{Told, Ready}
 use Rattle.semaphore.specs.Units.{SemaState, IsSound, is_idle, stage_of, answer_to}
-use Rattle.semaphore.specs.Acquiring.{IsOfAcquire, RestsInTurn, SleepsBetween, HasEnded, IsNoted, IsDouble, IsPutBack, without_expired, last_wait, units_in, notes_taken, posts_in, was_expired}
+use Rattle.semaphore.specs.Acquiring.{IsOfAcquire, RestsInTurn, SleepsBetween, HasEnded, IsNoted}
+use Rattle.semaphore.specs.Acquiring.{IsDouble, IsPutBack, without_expired, last_wait, units_in}
+use Rattle.semaphore.specs.Acquiring.{notes_taken, posts_in, was_expired}
 
 -- how an acquire begins
 abbrev pub begun_reply : Begun → SemaReply
@@ -87,8 +90,8 @@ abbrev pub ending_of : Stop → Ending
 ending_of stop.Refused = Ending.Double
 ending_of (stop.Noted set) = Ending.Noted set
 
--- What a request of a seat finds: a state that the semaphore can be in, in which the seat is as its own
--- calls say, and of which the reply is the answer.
+-- What a request of a seat finds: a state that the semaphore can be in, in which the seat is as its
+-- own calls say, and of which the reply is the answer.
 pub record IsTold (procs number : ℕ) (waits : Bool) (call : SemaCall) (answer : SemaReply) :
     Type 0 where
   pub state : SemaState
@@ -129,7 +132,8 @@ HasStopped None deeds = ⊥
 HasStopped (Some stop.Refused) deeds = HasEnded IsDouble deeds
 HasStopped (Some (stop.Noted set)) deeds = HasEnded IsNoted deeds
 
--- how a wait was left: whether with a unit, which notes were taken, and whether a tick took the timer
+-- how a wait was left: whether with a unit, which notes were taken, and whether a tick took the
+-- timer
 pub record Left : Type 0 where
   pub granted : Bool
   pub notes : NoteSet

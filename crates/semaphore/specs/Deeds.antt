@@ -1,6 +1,6 @@
--- What a call of a process does, one deed after another, newest first: it asks the semaphore and the
--- timers, sleeps, wakes others, and posts and takes notes. From semacquire(2), over the sleep and
--- wakeup of the paper of 1991.
+-- What a call of a process does, one deed after another, newest first: it asks the semaphore and
+-- the timers, sleeps, wakes others, and posts and takes notes. From semacquire(2), over the sleep
+-- and wakeup of the paper of 1991.
 use Rattle.std.specs.Prelude.{◌≡◌, ◌≢◌, ℕ, List, [], ◌∷◌, Option}
 use Rattle.sync_base.specs.declared.ids.Pid.{Pid}
 use Rattle.sync_base.specs.declared.ids.RendezId.{RendezId}
@@ -43,8 +43,8 @@ pub data Deed : Type 0 where
   -- it took its notes without a sleep
   Drains : (set : NoteSet) → Deed
 
--- who makes a call: its pid, its own Rendez, its numbers at the semaphore and at the timers, and the
--- moment by which it is to end, where it has one
+-- who makes a call: its pid, its own Rendez, its numbers at the semaphore and at the timers, and
+-- the moment by which it is to end, where it has one
 pub record Caller : Type 0 where
   pub pid : Pid
   pub rendez : RendezId

@@ -1,5 +1,6 @@
 -- Own: timers expire in the order of their deadlines, and at one deadline in the order of seats.
-use Rattle.std.specs.Prelude.{Bool, ◌==◌, ◌&&◌, ◌||◌, nat_lt, if◌then◌else◌, List, [], ◌∷◌, Option, None, Some}
+use Rattle.std.specs.Prelude.{Bool, ◌==◌, ◌&&◌, ◌||◌, nat_lt, if◌then◌else◌, List, [], ◌∷◌, Option}
+use Rattle.std.specs.Prelude.{None, Some}
 use Rattle.semaphore.specs.declared.due.Due.{Due}
 
 -- the first of the two expires before the other

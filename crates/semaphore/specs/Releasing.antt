@@ -1,5 +1,5 @@
--- What semrelease promises, over what a call did. After semrelease in semacquire(2); that it answers
--- the sum, and wakes each who was granted a unit with the number of its grants, is own.
+-- What semrelease promises, over what a call did. After semrelease in semacquire(2); that it
+-- answers the sum, and wakes each who was granted a unit with the number of its grants, is own.
 use Rattle.std.specs.Prelude.{◌≡◌, ⊤, ℕ, ◌+◌, List, [], ◌∷◌, Result, Ok, Err}
 use Rattle.std.specs.List.{AllByRecursion}
 use Rattle.sync_base.specs.declared.fault.Fault.{Fault}
@@ -38,7 +38,8 @@ wakeups_owed first (deed ∷ past) = wakeups_owed first past
 -- those that it made
 abbrev pub wakeups_in : List Deed → List Wakeup
 wakeups_in [] = []
-wakeups_in (Rouses rendez level ∷ past) = record { rendez = rendez; level = level } ∷ wakeups_in past
+wakeups_in (Rouses rendez level ∷ past) = record { rendez = rendez; level = level } ∷
+    wakeups_in past
 wakeups_in (deed ∷ past) = wakeups_in past
 
 -- it sleeps nowhere, and neither posts nor takes notes

@@ -1,5 +1,7 @@
 -- A line of seats, and a ring of links that holds it.
-use Rattle.std.specs.Prelude.{◌≡◌, ℕ, zero, suc, ◌+◌, ◌<◌, ◌^◌, ◌==◌, ◌||◌, Bool, false, if◌then◌else◌, List, [], ◌∷◌, ◌++◌, length, count_by, slice_index, slice_index_or, Option, None, Some}
+use Rattle.std.specs.Prelude.{◌≡◌, ℕ, zero, suc, ◌+◌, ◌<◌, ◌^◌, ◌==◌, ◌||◌, Bool, false}
+use Rattle.std.specs.Prelude.{if◌then◌else◌, List, [], ◌∷◌, ◌++◌, length, count_by, slice_index}
+use Rattle.std.specs.Prelude.{slice_index_or, Option, None, Some}
 
 -- how many seats there are, and those that stand in line, the first to come first
 pub record Line : Type 0 where
@@ -33,7 +35,8 @@ walk next from (suc count) = slice_index next from ∷ walk next (slice_index ne
 abbrev pub IsLinked : List ℕ → List ℕ → ℕ → List ℕ → ℕ → Type 0
 IsLinked next prev from [] end = (slice_index next from ≡ end) × (slice_index prev end ≡ from)
 IsLinked next prev from (seat ∷ rest) end =
-    (slice_index next from ≡ seat) × ((slice_index prev seat ≡ from) × IsLinked next prev seat rest end)
+    (slice_index next from ≡ seat) ×
+    ((slice_index prev seat ≡ from) × IsLinked next prev seat rest end)
 
 -- each stands once, and is below the bound
 abbrev pub AreSeats : ℕ → List ℕ → Type 0
@@ -49,4 +52,5 @@ pub record IsRing (next prev : List ℕ) (stands : List Bool) (count : ℕ) : Ty
   pub counted : count_by (λ stand. stand) stands ≡ count
   pub seats : AreSeats (length stands) order
   pub linked : IsLinked next prev (length stands) order (length stands)
-  pub told : (seat : ℕ) → seat < length stands → slice_index_or stands seat false ≡ stands_in order seat
+  pub told : (seat : ℕ) → seat < length stands → slice_index_or stands seat false ≡
+      stands_in order seat

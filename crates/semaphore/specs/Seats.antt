@@ -5,7 +5,8 @@ use Rattle.rendez_words.specs.declared.words.Words.{Words}
 use Rattle.rendez_words.specs.Process.{pid_in}
 use Rattle.rendez_words.specs.Words.{rendez_of}
 use Rattle.sleep_wakeup.specs.Kernel.{Running, Unused}
-use Rattle.kernel_lock.specs.Seats.{IsSeatOf, SeesHistory, shares_of, number_of, view_of, seen_of, opening_of, IsFirstSeat}
+use Rattle.kernel_lock.specs.Seats.{IsSeatOf, SeesHistory, shares_of, number_of, view_of, seen_of}
+use Rattle.kernel_lock.specs.Seats.{opening_of, IsFirstSeat}
 use Rattle.kernel_lock.specs.View.{spent_view}
 use Rattle.semaphore.specs.declared.sema.Sema.{Sema}
 use Rattle.semaphore.specs.declared.sema.SemaSeat.{SemaSeat}
@@ -104,8 +105,8 @@ timed seat standing = record standing { timer = view_of seat.seat }
 
 -- ---- timers
 
--- the seat is one of the timers' and has one number; it has seen a legal history, with its own calls
--- in it once each; and this says whether its timer is set, or expired and not cancelled
+-- the seat is one of the timers' and has one number; it has seen a legal history, with its own
+-- calls in it once each; and this says whether its timer is set, or expired and not cancelled
 pub record IsSeatAtTimers (timers : Timers) (set : Bool) (seat : TimerSeat) : Type 0 where
   pub opened : IsTimerLock timers.lock timers.procs
   pub seat_is : IsSeatOf timers.lock seat.seat
@@ -151,7 +152,8 @@ stands_ticking running timer =
 
 -- a new semaphore: it has so many units, its Rendez are the next ones, and its first seat has the
 -- number 0 and has made no call
-pub record IsNewSema (roster : Unused) (value procs : ℕ) (sema : Sema) (seat : SemaSeat) : Type 0 where
+pub record IsNewSema (roster : Unused) (value procs : ℕ) (sema : Sema) (seat : SemaSeat) :
+    Type 0 where
   pub value_is : opening_value sema ≡ value
   pub procs_are : sema.procs ≡ procs
   pub first_is : sema.first ≡ roster.rendez

@@ -4,7 +4,8 @@ use Rattle.histories.specs.History.{state_after, IsLegal}
 use Rattle.semaphore.specs.declared.limits.TheConstants.{MAX_VALUE, LAST_GRANT}
 use Rattle.semaphore.specs.SeatLine.{stands_in}
 use Rattle.semaphore.specs.Units.{SemaState, IsSound, opening, stage_of, grants_of}
-use Rattle.semaphore.specs.SemaHistory.{SemaEntry, sema_meaning, released, taken, held_in, uncollected, collected, last_named}
+use Rattle.semaphore.specs.SemaHistory.{SemaEntry, sema_meaning, released, taken, held_in}
+use Rattle.semaphore.specs.SemaHistory.{uncollected, collected, last_named}
 
 -- a law of the state that each legal history leaves
 abbrev pub AlwaysHolds : ((opening_value count : ℕ) → List SemaEntry → SemaState → Type 0) → Type 0

@@ -1,4 +1,5 @@
--- What tick promises, over what a call did. Own: tsemacquire in semacquire(2) has a clock of its own.
+-- What tick promises, over what a call did. Own: tsemacquire in semacquire(2) has a clock of its
+-- own.
 use Rattle.std.specs.Prelude.{◌≡◌, ◌≤◌, ⊤, ℕ, nat_lt, List, [], ◌∷◌, length}
 use Rattle.std.specs.List.{filter, AllByRecursion}
 use Rattle.sync_base.specs.declared.ids.Pid.{Pid}

@@ -1,6 +1,8 @@
 -- Timers, one for each seat. After tsemacquire in semacquire(2), which waits no longer than so many
 -- milliseconds; that a tick tells the moment, and the order at one moment, are own.
-use Rattle.std.specs.Prelude.{ℕ, ◌+◌, ◌-◌, ◌^◌, min, nat_lt, nat_le, Bool, true, false, if◌then◌else◌, List, [], ◌∷◌, length, map, slice_set, slice_index_or, Option, None, Some}
+use Rattle.std.specs.Prelude.{ℕ, ◌+◌, ◌-◌, ◌^◌, min, nat_lt, nat_le, Bool, true, false}
+use Rattle.std.specs.Prelude.{if◌then◌else◌, List, [], ◌∷◌, length, map, slice_set, slice_index_or}
+use Rattle.std.specs.Prelude.{Option, None, Some}
 use Rattle.sync_base.specs.declared.fault.Fault.{Fault}
 use Rattle.sync_base.specs.declared.fault.Fault.TheVariants as fault
 use Rattle.semaphore.specs.declared.due.Due.{Due}

@@ -1,5 +1,5 @@
-//! What holds of a semaphore and of timers after every legal history. Each law is a function that does nothing:
-//! its contract is the law.
+//! What holds of a semaphore and of timers after every legal history. Each law is a function that
+//! does nothing: its contract is the law.
 ghost use Rattle.semaphore.specs.SemaLaws.{
   UnitsAddUp,
   CountsAreGrants,

@@ -49,7 +49,8 @@ impl Sema {
         ensures seat { IsSemaSeatOf self.now seat.new }
         ensures number { number_of seat.new.seat ≡ number_of seat.old.seat }
         ensures words { proc.new.words ≡ proc.old.words }
-        ensures woken { (caller : Caller) (start : Standing) (past : List Deed) (released : Released) →
+        ensures woken { (caller : Caller) (start : Standing)
+            (past : List Deed) (released : Released) →
             caller.number ≡ number_of seat.old.seat →
             Did caller past start (goes_on proc.old seat.old start) →
             IsWaking self.now.first released past →

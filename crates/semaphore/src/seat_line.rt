@@ -1,6 +1,7 @@
 //! A line of seats in which each stands once, in the order in which they came. A seat joins at the
 //! end, the first is taken, and any seat leaves, all in a fixed number of steps.
-ghost use Rattle.std.specs.Prelude.{◌≡◌, ◌<◌, ◌^◌, ◌++◌, ◌∷◌, [], length, true, false, IfOk, IfErr, IfSome};
+ghost use Rattle.std.specs.Prelude.{◌≡◌, ◌<◌, ◌^◌, ◌++◌, ◌∷◌, [], length, true, false, IfOk, IfErr};
+ghost use Rattle.std.specs.Prelude.{IfSome};
 ghost use Rattle.semaphore.specs.SeatLine.{Line, stands_in, with_seat, without, first_of};
 ghost use Rattle.sync_base.specs.declared.fault.Fault.TheVariants.{Memory};
 

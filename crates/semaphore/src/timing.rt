@@ -128,8 +128,8 @@ impl Sema {
         }
     }
 
-    // As `sleep_for_unit`, while the seat's timer is set. The timers and the process's steps have no
-    // order between them that a clause of the whole call could name, so this part says that the
+    // As `sleep_for_unit`, while the seat's timer is set. The timers and the process's steps have
+    // no order between them that a clause of the whole call could name, so this part says that the
     // timer is set before each sleep for a unit, and cancelled behind it.
     fn sleep_in_time<R: Wait, P: Probe>(
         &self,
@@ -169,8 +169,8 @@ fn notes_of(stop: Option<Stop>) -> NoteSet
     }
 }
 
-// Where a tick has taken the timer, sleeps until the note of that tick has come. Answers which notes
-// came in all. Where another process sleeps in the Rendez, it takes notes without a sleep.
+// Where a tick has taken the timer, sleeps until the note of that tick has come. Answers which
+// notes came in all. Where another process sleeps in the Rendez, it takes notes without a sleep.
 fn await_tick<R: Wait>(
     rt: &R,
     proc: &mut Proc<'_>,

@@ -1,6 +1,7 @@
 //! A tournament of timers, in which the earliest one wins. One step up the tree for each game, so
 //! that a change and the search for the winner take O(log n).
-ghost use Rattle.std.specs.Prelude.{◌≡◌, ◌<◌, ◌≤◌, ◌^◌, length, IfOk, IfErr, replicate, None, slice_set};
+ghost use Rattle.std.specs.Prelude.{◌≡◌, ◌<◌, ◌≤◌, ◌^◌, length, IfOk, IfErr, replicate, None};
+ghost use Rattle.std.specs.Prelude.{slice_set};
 ghost use Rattle.semaphore.specs.Due.{earliest};
 ghost use Rattle.sync_base.specs.declared.fault.Fault.TheVariants.{Memory};
 

@@ -3,11 +3,13 @@
 use Rattle.std.proofs.Common.{◌≡◌, ◌≤◌, ◌+◌, ◌==◌, ◌⊎◌, ℕ, true, if◌then◌else◌, Some, List, [], ◌∷◌}
 use Rattle.sleep_core.specs.declared.phase.Phase.{Phase}
 use Rattle.sleep_core.specs.declared.phase.Phase.TheVariants as phase
-use Rattle.sleep_core.specs.State.{State, IsSound, phase_of, flags_of, posted_of, level_of, returned_of}
+use Rattle.sleep_core.specs.State.{State, IsSound, phase_of, flags_of, posted_of, level_of}
+use Rattle.sleep_core.specs.State.{returned_of}
 use Rattle.sleep_core.specs.Table.{has_notes}
 use Rattle.sleep_core.specs.History.{Deed, begun_wakeup, HasReturned}
 use Rattle.sleep_core.specs.History.Deed.{Began, Withdrew, Left, Took, Marked}
-use Rattle.sleep_core.specs.Promises.{IsStillIn, HasFallen, IsHeld, NoMarkIsStray, pending, AreNotesRight, IsCaused, EachSleepIsCaused}
+use Rattle.sleep_core.specs.Promises.{IsStillIn, HasFallen, IsHeld, NoMarkIsStray, pending}
+use Rattle.sleep_core.specs.Promises.{AreNotesRight, IsCaused, EachSleepIsCaused}
 
 -- where what is owed to a process is
 pub data Token : Type 0 where

@@ -1,23 +1,31 @@
 -- What every run keeps, by induction over the run.
-use Rattle.std.proofs.Common.{◌≡◌, ◌+◌, ℕ, zero, suc, true, false, Option, List, [], ◌∷◌, length, get_or, refl, sym, ◌∙◌, ap, subst, arith}
+use Rattle.std.proofs.Common.{◌≡◌, ◌+◌, ℕ, zero, suc, true, false, Option, List, [], ◌∷◌, length}
+use Rattle.std.proofs.Common.{get_or, refl, sym, ◌∙◌, ap, subst, arith}
 use Rattle.std.specs.Prelude.{replicate}
 use Rattle.std.specs.List.{cons_option}
 use Rattle.std.proofs.lemmas.List.{length-replicate}
 use Rattle.sync_base.specs.declared.ids.RendezId.{RendezId}
 use Rattle.sleep_core.specs.declared.phase.Phase.TheVariants as phase
 use Rattle.sleep_core.specs.declared.phase.ProcFlags.{ProcFlags}
-use Rattle.sleep_core.specs.State.{State, IsPhaseIn, opening, phase_of, flags_of, posted_of, no_flags}
+use Rattle.sleep_core.specs.State.{State, IsPhaseIn, opening, phase_of, flags_of, posted_of}
+use Rattle.sleep_core.specs.State.{no_flags}
 use Rattle.sleep_core.specs.Step.{world_after}
 use Rattle.sleep_core.specs.Runs.{Entry, IsRun, world_of}
 use Rattle.sleep_core.specs.History.{Deed, deed_of, history_of}
 use Rattle.sleep_core.specs.Promises.{HasFallen}
 use Rattle.sleep_core.proofs.CoreInvariant.{Fits, Core}
 use Rattle.sleep_core.proofs.Moves.{Move}
-use Rattle.sleep_core.proofs.Moves.Move.{stays, post_posted, test_leaving, test_asleep, look_woken, look_leaving, withdraw_out, withdraw_awaiting, clear_ended, raise_owing, take_nobody, take_holding, mark_marked, note_noted, drain_notes}
+use Rattle.sleep_core.proofs.Moves.Move.{stays, post_posted, test_leaving, test_asleep, look_woken}
+use Rattle.sleep_core.proofs.Moves.Move.{look_leaving, withdraw_out, withdraw_awaiting, clear_ended}
+use Rattle.sleep_core.proofs.Moves.Move.{raise_owing, take_nobody, take_holding, mark_marked}
+use Rattle.sleep_core.proofs.Moves.Move.{note_noted, drain_notes}
 use Rattle.sleep_core.proofs.TableMoves.{table_moves}
-use Rattle.sleep_core.proofs.SleeperKeeps.{post_keeps, test_leaving_keeps, test_asleep_keeps, look_woken_keeps, look_leaving_keeps, withdraw_awaiting_keeps}
+use Rattle.sleep_core.proofs.SleeperKeeps.{post_keeps, test_leaving_keeps, test_asleep_keeps}
+use Rattle.sleep_core.proofs.SleeperKeeps.{look_woken_keeps, look_leaving_keeps}
+use Rattle.sleep_core.proofs.SleeperKeeps.{withdraw_awaiting_keeps}
 use Rattle.sleep_core.proofs.LeaverKeeps.{withdraw_out_keeps, clear_keeps}
-use Rattle.sleep_core.proofs.RaiserKeeps.{raise_keeps, take_nobody_keeps, take_holding_keeps, mark_keeps}
+use Rattle.sleep_core.proofs.RaiserKeeps.{raise_keeps, take_nobody_keeps, take_holding_keeps}
+use Rattle.sleep_core.proofs.RaiserKeeps.{mark_keeps}
 use Rattle.sleep_core.proofs.NotesKeep.{note_keeps, drain_keeps}
 
 -- at the opening every entry is the same

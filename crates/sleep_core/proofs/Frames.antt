@@ -1,5 +1,7 @@
 -- What one step leaves true of the processes that did not make it.
-use Rattle.std.proofs.Common.{◌≡◌, ◌≢◌, ◌⊎◌, ◌<◌, ◌≤◌, ◌==◌, inl, inr, ℕ, true, false, eqb, if◌then◌else◌, Some, List, ◌∷◌, length, get_or, set, refl, sym, ◌∙◌, ap, subst, arith}
+use Rattle.std.proofs.Common.{◌≡◌, ◌≢◌, ◌⊎◌, ◌<◌, ◌≤◌, ◌==◌, inl, inr, ℕ, true, false, eqb}
+use Rattle.std.proofs.Common.{if◌then◌else◌, Some, List, ◌∷◌, length, get_or, set, refl, sym, ◌∙◌}
+use Rattle.std.proofs.Common.{ap, subst, arith}
 use Rattle.std.proofs.lemmas.Bool.Decides.{eqb_tells}
 use Rattle.std.proofs.lemmas.List.{get_or-set_same, get_or-set_other}
 use Rattle.sleep_core.specs.declared.phase.Phase.{Phase}
@@ -7,10 +9,12 @@ use Rattle.sleep_core.specs.declared.phase.Phase.TheVariants as phase
 use Rattle.sleep_core.specs.State.{State, phase_of, flags_of, level_of, no_flags}
 use Rattle.sleep_core.specs.Table.{has_notes}
 use Rattle.sleep_core.specs.History.{Deed, begun_wakeup}
-use Rattle.sleep_core.specs.History.Deed.{Began, Passed, Fell, Roused, Withdrew, Left, Raised, Took, Marked}
+use Rattle.sleep_core.specs.History.Deed.{Began, Passed, Fell, Roused, Withdrew, Left, Raised, Took}
+use Rattle.sleep_core.specs.History.Deed.{Marked}
 use Rattle.sleep_core.specs.Promises.{IsStillIn, HasFallen, IsHeld, IsCaused}
 use Rattle.sleep_core.proofs.ListLemmas.{get_or-set_cases}
-use Rattle.sleep_core.proofs.CoreInvariant.{Token, token, IsAway, IsNear, MayLeave, Raises, Fits, IsAtThreshold, Core}
+use Rattle.sleep_core.proofs.CoreInvariant.{Token, token, IsAway, IsNear, MayLeave, Raises, Fits}
+use Rattle.sleep_core.proofs.CoreInvariant.{IsAtThreshold, Core}
 use Rattle.sleep_core.proofs.CoreInvariant.Token.{Nowhere, InRendez, WithRaiser, InFlags}
 
 -- a choice by number, at the number and elsewhere

@@ -1,5 +1,6 @@
 -- What is not kept of a run shows nothing in its history.
-use Rattle.std.proofs.Common.{◌≡◌, Bool, true, false, cond, Option, None, [], ◌∷◌, refl, sym, ◌∙◌, ap, subst}
+use Rattle.std.proofs.Common.{◌≡◌, Bool, true, false, cond, Option, None, [], ◌∷◌, refl, sym, ◌∙◌}
+use Rattle.std.proofs.Common.{ap, subst}
 use Rattle.std.specs.List.{cons_option}
 use Rattle.sleep_core.specs.declared.event.Event.{Event}
 use Rattle.sleep_core.specs.declared.event.Event.TheVariants.{Check}

@@ -1,5 +1,7 @@
 -- The steps that end a sleep keep what every run keeps.
-use Rattle.std.proofs.Common.{◌≡◌, ◌≢◌, ◌⊎◌, ◌<◌, ◌+◌, inl, inr, ℕ, Bool, true, false, if◌then◌else◌, Some, None, List, ◌∷◌, length, refl, sym, ◌∙◌, ap, subst, arith}
+use Rattle.std.proofs.Common.{◌≡◌, ◌≢◌, ◌⊎◌, ◌<◌, ◌+◌, inl, inr, ℕ, Bool, true, false}
+use Rattle.std.proofs.Common.{if◌then◌else◌, Some, None, List, ◌∷◌, length, refl, sym, ◌∙◌, ap}
+use Rattle.std.proofs.Common.{subst, arith}
 use Rattle.std.proofs.lemmas.Bool.Decides.{nat_tests}
 use Rattle.std.proofs.lemmas.List.{get_or-set_same, get_or-set_other}
 use Rattle.sync_base.specs.declared.ids.RendezId.{RendezId}
@@ -13,12 +15,14 @@ use Rattle.sleep_core.specs.Table.{has_notes}
 use Rattle.sleep_core.specs.Step.{with_phase, with_flags, with_posted}
 use Rattle.sleep_core.specs.History.{Deed}
 use Rattle.sleep_core.specs.History.Deed.{Withdrew, Left}
-use Rattle.sleep_core.specs.Promises.{IsStillIn, IsCaused, pending, IsRightEnding, EachSleepIsCaused}
+use Rattle.sleep_core.specs.Promises.{IsStillIn, IsCaused, pending, IsRightEnding}
+use Rattle.sleep_core.specs.Promises.{EachSleepIsCaused}
 use Rattle.sleep_core.proofs.Soundness.{IsSound-with_phase, IsSound-with_flags, IsSound-with_posted}
 use Rattle.sleep_core.proofs.CoreInvariant.{token, MayLeave, Fits, IsShown, Core}
 use Rattle.sleep_core.proofs.CoreInvariant.Token.{Nowhere, InRendez, WithRaiser, InFlags}
 use Rattle.sleep_core.proofs.Moves.{IsOver, ending_notes}
-use Rattle.sleep_core.proofs.Frames.{if_same, if_other, same_or_not, apart, threshold_kept, fits_at, fits_each, Frame, frame_past, fits_kept}
+use Rattle.sleep_core.proofs.Frames.{if_same, if_other, same_or_not, apart, threshold_kept, fits_at}
+use Rattle.sleep_core.proofs.Frames.{fits_each, Frame, frame_past, fits_kept}
 
 -- a withdrawal of a process that is still posted
 pub withdraw_out_keeps : (s : State) (h : List Deed) (pid : ℕ) (rendez : RendezId)

@@ -1,5 +1,6 @@
 -- One place of a list after a write.
-use Rattle.std.proofs.Common.{◌≡◌, ◌⊎◌, inl, inr, ℕ, zero, suc, List, [], ◌∷◌, get_or, set, refl, ap}
+use Rattle.std.proofs.Common.{◌≡◌, ◌⊎◌, inl, inr, ℕ, zero, suc, List, [], ◌∷◌, get_or, set, refl}
+use Rattle.std.proofs.Common.{ap}
 
 -- a place has what was written to it, or what it had
 pub get_or-set_cases : {X : Type 0} (xs : List X) (i : ℕ) (x : X) (j : ℕ) (d : X)

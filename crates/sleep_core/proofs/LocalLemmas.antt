@@ -1,5 +1,6 @@
 -- What one event leaves as it was, and the phase that it makes.
-use Rattle.std.proofs.Common.{◌≡◌, ◌≢◌, ◌⊎◌, ◌<◌, ◌≤◌, inl, inr, ℕ, Bool, true, false, Option, Some, None, if◌then◌else◌, length, get_or, set, refl, sym, ◌∙◌, ap, arith}
+use Rattle.std.proofs.Common.{◌≡◌, ◌≢◌, ◌⊎◌, ◌<◌, ◌≤◌, inl, inr, ℕ, Bool, true, false, Option, Some}
+use Rattle.std.proofs.Common.{None, if◌then◌else◌, length, get_or, set, refl, sym, ◌∙◌, ap, arith}
 use Rattle.std.proofs.lemmas.Bool.Decides.{nat_tests}
 use Rattle.std.proofs.lemmas.List.{get_or-set_same, get_or-set_other}
 use Rattle.sleep_core.specs.declared.event.Event.{Event}
@@ -8,10 +9,12 @@ use Rattle.sleep_core.specs.declared.answer.Answer.TheVariants as answer
 use Rattle.sleep_core.specs.declared.phase.Phase.{Phase}
 use Rattle.sleep_core.specs.declared.phase.Phase.TheVariants as phase
 use Rattle.sleep_core.specs.State.{State, phase_of, no_flags}
-use Rattle.sleep_core.specs.Table.{Cell, Word, Wakeup, pid_of, cell_of, stored, phase_after, returned_by, number_in, flags_in}
+use Rattle.sleep_core.specs.Table.{Cell, Word, Wakeup, pid_of, cell_of, stored, phase_after}
+use Rattle.sleep_core.specs.Table.{returned_by, number_in, flags_in}
 use Rattle.sleep_core.specs.Table.Cell.{PostedOf, LevelOf, FlagsOf, NoCell}
 use Rattle.sleep_core.specs.Table.Word.{Number, Flags}
-use Rattle.sleep_core.specs.Step.{with_phase, with_returned, with_word, word_at, is_refusal, answer_to, changed_by, world_told, world_after}
+use Rattle.sleep_core.specs.Step.{with_phase, with_returned, with_word, word_at, is_refusal}
+use Rattle.sleep_core.specs.Step.{answer_to, changed_by, world_told, world_after}
 
 -- a write changes its own word alone
 word_at-with_word : (s : State) (changed : Cell) (word : Option Word) (cell : Cell) → cell ≢ changed

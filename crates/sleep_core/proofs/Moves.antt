@@ -1,5 +1,6 @@
 -- The rows of the table as moves of the world: what held before, what was done, the world after.
-use Rattle.std.proofs.Common.{◌≡◌, ◌≢◌, ◌<◌, ◌≤◌, ◌+◌, ℕ, true, if◌then◌else◌, Option, Some, None, length, max}
+use Rattle.std.proofs.Common.{◌≡◌, ◌≢◌, ◌<◌, ◌≤◌, ◌+◌, ℕ, true, if◌then◌else◌, Option, Some, None}
+use Rattle.std.proofs.Common.{length, max}
 use Rattle.sync_base.specs.declared.ids.Pid.{Pid}
 use Rattle.sync_base.specs.declared.ids.RendezId.{RendezId}
 use Rattle.sync_base.specs.declared.note.NoteSet.{NoteSet}
@@ -10,7 +11,8 @@ use Rattle.sleep_core.specs.State.{State, phase_of, flags_of, posted_of, level_o
 use Rattle.sleep_core.specs.Table.{has_notes}
 use Rattle.sleep_core.specs.Step.{with_phase, with_flags, with_posted, with_level, with_returned}
 use Rattle.sleep_core.specs.History.{Deed}
-use Rattle.sleep_core.specs.History.Deed.{Began, Passed, Fell, Roused, Withdrew, Left, Raised, Missed, Took, Marked, Noted, Drained}
+use Rattle.sleep_core.specs.History.Deed.{Began, Passed, Fell, Roused, Withdrew, Left, Raised}
+use Rattle.sleep_core.specs.History.Deed.{Missed, Took, Marked, Noted, Drained}
 
 -- the phases in which a mark is waited for
 abbrev pub IsWaiting : Phase → Type 0

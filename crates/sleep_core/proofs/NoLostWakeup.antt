@@ -6,11 +6,13 @@ use Rattle.sleep_core.specs.declared.phase.Phase.{Phase}
 use Rattle.sleep_core.specs.declared.phase.Phase.TheVariants as phase
 use Rattle.sleep_core.specs.State.{State, opening, phase_of, posted_of}
 use Rattle.sleep_core.specs.Table.{pid_of}
-use Rattle.sleep_core.specs.Runs.{Entry, IsMadeBy, IsRun, world_of, entry_of, run_of, world_after_all}
+use Rattle.sleep_core.specs.Runs.{Entry, IsMadeBy, IsRun, world_of, entry_of, run_of}
+use Rattle.sleep_core.specs.Runs.{world_after_all}
 use Rattle.sleep_core.specs.History.{Deed, history_of}
 use Rattle.sleep_core.specs.Promises.{LosesWakeup, TakesAreRight}
 use Rattle.sleep_core.specs.Oversleep.{Oversleeps}
-use Rattle.sleep_core.specs.Laws.{IsKept, NoLostWakeup, NoLostWakeupInEvents, EventsMakeRuns, ReturnedWakeupReleases, SleepsEndForACause, RunsAreSound}
+use Rattle.sleep_core.specs.Laws.{IsKept, NoLostWakeup, NoLostWakeupInEvents, EventsMakeRuns}
+use Rattle.sleep_core.specs.Laws.{ReturnedWakeupReleases, SleepsEndForACause, RunsAreSound}
 use Rattle.sleep_core.proofs.SizeLemmas.{size_of_run}
 use Rattle.sleep_core.proofs.CoreInvariant.{Core}
 use Rattle.sleep_core.proofs.CoreRuns.{core_of_run, fallen_at}

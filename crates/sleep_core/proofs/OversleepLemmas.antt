@@ -1,10 +1,13 @@
 -- The test of a lost wakeup says what the fact says.
-use Rattle.std.proofs.Common.{◌≡◌, ◌<◌, ◌+◌, ℕ, Bool, true, false, ◌==◌, nat_lt, IsTrue, ◌↔◌, length, Decides, refl, sym, ◌∙◌, ap}
-use Rattle.std.proofs.lemmas.Bool.Decides.{Decides-at, Decides-and, Decides-eqb, Decides-ltb, Decides-below_or}
+use Rattle.std.proofs.Common.{◌≡◌, ◌<◌, ◌+◌, ℕ, Bool, true, false, ◌==◌, nat_lt, IsTrue, ◌↔◌}
+use Rattle.std.proofs.Common.{length, Decides, refl, sym, ◌∙◌, ap}
+use Rattle.std.proofs.lemmas.Bool.Decides.{Decides-at, Decides-and, Decides-eqb, Decides-ltb}
+use Rattle.std.proofs.lemmas.Bool.Decides.{Decides-below_or}
 use Rattle.sleep_core.specs.declared.phase.Phase.{Phase}
 use Rattle.sleep_core.specs.declared.phase.Phase.TheVariants as phase
 use Rattle.sleep_core.specs.State.{State, phase_of, posted_of, returned_of}
-use Rattle.sleep_core.specs.Oversleep.{Oversleeps, HasLostWakeup, oversleeps, oversleeps_below, has_lost_wakeup}
+use Rattle.sleep_core.specs.Oversleep.{Oversleeps, HasLostWakeup, oversleeps, oversleeps_below}
+use Rattle.sleep_core.specs.Oversleep.{has_lost_wakeup}
 
 decides_oversleeps : (s : State) (pid : ℕ) (stage : Phase)
     → Decides (oversleeps s pid stage) (Oversleeps s pid stage)

@@ -1,5 +1,6 @@
 -- The phase of a process, by its own events with their answers.
-use Rattle.std.proofs.Common.{◌≡◌, ◌≢◌, ◌⊎◌, inl, inr, ℕ, zero, suc, Bool, true, false, eqb, cond, List, [], ◌∷◌, get_or, refl, sym, ◌∙◌, ap, subst}
+use Rattle.std.proofs.Common.{◌≡◌, ◌≢◌, ◌⊎◌, inl, inr, ℕ, zero, suc, Bool, true, false, eqb, cond}
+use Rattle.std.proofs.Common.{List, [], ◌∷◌, get_or, refl, sym, ◌∙◌, ap, subst}
 use Rattle.std.specs.Prelude.{replicate}
 use Rattle.std.proofs.lemmas.Bool.Decides.{eqb_tells}
 use Rattle.sync_base.specs.declared.ids.Pid.{Pid}

@@ -1,6 +1,8 @@
 -- Where the token of each process is, the words and the phases have it: so a sleeper is in one
 -- place.
-use Rattle.std.proofs.Common.{◌≡◌, ◌≢◌, ◌⊎◌, ◌<◌, ◌==◌, inl, inr, ℕ, true, false, if◌then◌else◌, Option, Some, List, [], ◌∷◌, length, get_or, set, sym, ◌∙◌, ap, subst, arith}
+use Rattle.std.proofs.Common.{◌≡◌, ◌≢◌, ◌⊎◌, ◌<◌, ◌==◌, inl, inr, ℕ, true, false, if◌then◌else◌}
+use Rattle.std.proofs.Common.{Option, Some, List, [], ◌∷◌, length, get_or, set, sym, ◌∙◌, ap, subst}
+use Rattle.std.proofs.Common.{arith}
 use Rattle.std.specs.List.{cons_option}
 use Rattle.std.proofs.lemmas.Bool.Decides.{eqb_tells}
 use Rattle.std.proofs.lemmas.List.{get_or-set_same, get_or-set_other}
@@ -20,7 +22,10 @@ use Rattle.sleep_core.specs.Whereabouts.{IsHolding}
 use Rattle.sleep_core.proofs.CoreInvariant.{Token, token, Core}
 use Rattle.sleep_core.proofs.CoreInvariant.Token.{Nowhere, InRendez, WithRaiser, InFlags}
 use Rattle.sleep_core.proofs.Moves.{Move, IsWaiting, IsOver, ending_notes}
-use Rattle.sleep_core.proofs.Moves.Move.{stays, post_posted, test_leaving, test_asleep, look_woken, look_leaving, withdraw_out, withdraw_awaiting, clear_ended, raise_owing, take_nobody, take_holding, mark_marked, note_noted, drain_notes}
+use Rattle.sleep_core.proofs.Moves.Move.{stays, post_posted, test_leaving, test_asleep, look_woken}
+use Rattle.sleep_core.proofs.Moves.Move.{look_leaving, withdraw_out, withdraw_awaiting, clear_ended}
+use Rattle.sleep_core.proofs.Moves.Move.{raise_owing, take_nobody, take_holding, mark_marked}
+use Rattle.sleep_core.proofs.Moves.Move.{note_noted, drain_notes}
 use Rattle.sleep_core.proofs.TableMoves.{table_moves}
 use Rattle.sleep_core.proofs.Frames.{same_or_not, fits_at}
 use Rattle.sleep_core.proofs.TokenLemmas.{token_elsewhere}

@@ -1,22 +1,27 @@
 -- The steps of a wakeup keep what every run keeps.
-use Rattle.std.proofs.Common.{◌≡◌, ◌≢◌, ◌⊎◌, ◌<◌, ◌≤◌, ◌+◌, inl, inr, ℕ, max, true, Some, List, [], ◌∷◌, length, refl, sym, ◌∙◌, ap, subst, arith}
+use Rattle.std.proofs.Common.{◌≡◌, ◌≢◌, ◌⊎◌, ◌<◌, ◌≤◌, ◌+◌, inl, inr, ℕ, max, true, Some, List, []}
+use Rattle.std.proofs.Common.{◌∷◌, length, refl, sym, ◌∙◌, ap, subst, arith}
 use Rattle.std.proofs.lemmas.List.{length-set, get_or-set_same, get_or-set_other}
 use Rattle.std.proofs.lemmas.Option.{same_Some}
 use Rattle.sync_base.specs.declared.ids.Pid.{Pid}
 use Rattle.sync_base.specs.declared.ids.RendezId.{RendezId}
 use Rattle.sleep_core.specs.declared.phase.Phase.TheVariants as phase
 use Rattle.sleep_core.specs.declared.phase.ProcFlags.{ProcFlags}
-use Rattle.sleep_core.specs.State.{State, IsPhaseIn, phase_of, flags_of, posted_of, level_of, returned_of, no_flags}
+use Rattle.sleep_core.specs.State.{State, IsPhaseIn, phase_of, flags_of, posted_of, level_of}
+use Rattle.sleep_core.specs.State.{returned_of, no_flags}
 use Rattle.sleep_core.specs.Table.{Wakeup, has_notes}
 use Rattle.sleep_core.specs.Step.{with_phase, with_flags, with_posted, with_level, with_returned}
 use Rattle.sleep_core.specs.History.{Deed, begun_wakeup, HasReturned}
-use Rattle.sleep_core.specs.History.Deed.{Began, Passed, Fell, Roused, Withdrew, Left, Raised, Missed, Took, Marked, Noted, Drained}
+use Rattle.sleep_core.specs.History.Deed.{Began, Passed, Fell, Roused, Withdrew, Left, Raised}
+use Rattle.sleep_core.specs.History.Deed.{Missed, Took, Marked, Noted, Drained}
 use Rattle.sleep_core.specs.Promises.{IsStillIn, HasFallen}
 use Rattle.sleep_core.proofs.ListLemmas.{get_or-set_cases}
-use Rattle.sleep_core.proofs.Soundness.{IsSound-with_phase, IsSound-with_flags, IsSound-with_posted, IsSound-with_level, IsSound-with_returned}
+use Rattle.sleep_core.proofs.Soundness.{IsSound-with_phase, IsSound-with_flags, IsSound-with_posted}
+use Rattle.sleep_core.proofs.Soundness.{IsSound-with_level, IsSound-with_returned}
 use Rattle.sleep_core.proofs.CoreInvariant.{token, IsAway, Raises, Holds, Fits, IsShown, Core}
 use Rattle.sleep_core.proofs.CoreInvariant.Token.{Nowhere, InRendez, WithRaiser, InFlags}
-use Rattle.sleep_core.proofs.Frames.{if_same, if_other, same_or_not, apart, threshold_kept, fits_at, fits_each, Frame, frame_past, fits_kept, fits_moved}
+use Rattle.sleep_core.proofs.Frames.{if_same, if_other, same_or_not, apart, threshold_kept, fits_at}
+use Rattle.sleep_core.proofs.Frames.{fits_each, Frame, frame_past, fits_kept, fits_moved}
 
 -- who has fallen asleep is still in
 pub still_in_from_fallen : (h : List Deed) (pid rendez threshold : ℕ) → HasFallen h pid rendez

@@ -6,7 +6,10 @@ use Rattle.sleep_core.specs.State.{State}
 use Rattle.sleep_core.specs.Runs.{Entry, world_of}
 use Rattle.sleep_core.specs.History.{Deed}
 use Rattle.sleep_core.proofs.Moves.{Move}
-use Rattle.sleep_core.proofs.Moves.Move.{stays, post_posted, test_leaving, test_asleep, look_woken, look_leaving, withdraw_out, withdraw_awaiting, clear_ended, raise_owing, take_nobody, take_holding, mark_marked, note_noted, drain_notes}
+use Rattle.sleep_core.proofs.Moves.Move.{stays, post_posted, test_leaving, test_asleep, look_woken}
+use Rattle.sleep_core.proofs.Moves.Move.{look_leaving, withdraw_out, withdraw_awaiting, clear_ended}
+use Rattle.sleep_core.proofs.Moves.Move.{raise_owing, take_nobody, take_holding, mark_marked}
+use Rattle.sleep_core.proofs.Moves.Move.{note_noted, drain_notes}
 use Rattle.sleep_core.proofs.TableMoves.{table_moves}
 
 -- a world of so many processes and Rendez

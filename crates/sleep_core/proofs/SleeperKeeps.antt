@@ -1,10 +1,12 @@
 -- The steps of a sleep keep what every run keeps.
-use Rattle.std.proofs.Common.{◌≡◌, ◌≢◌, ◌⊎◌, ◌<◌, ◌≤◌, ◌+◌, inl, inr, ℕ, true, List, ◌∷◌, length, refl, sym, ◌∙◌, ap, subst, arith}
+use Rattle.std.proofs.Common.{◌≡◌, ◌≢◌, ◌⊎◌, ◌<◌, ◌≤◌, ◌+◌, inl, inr, ℕ, true, List, ◌∷◌, length}
+use Rattle.std.proofs.Common.{refl, sym, ◌∙◌, ap, subst, arith}
 use Rattle.std.proofs.lemmas.List.{length-set, get_or-set_same, get_or-set_other}
 use Rattle.sync_base.specs.declared.ids.RendezId.{RendezId}
 use Rattle.sleep_core.specs.declared.phase.Phase.{Phase}
 use Rattle.sleep_core.specs.declared.phase.Phase.TheVariants as phase
-use Rattle.sleep_core.specs.State.{State, IsSound, IsPhaseIn, phase_of, flags_of, posted_of, level_of, returned_of}
+use Rattle.sleep_core.specs.State.{State, IsSound, IsPhaseIn, phase_of, flags_of, posted_of}
+use Rattle.sleep_core.specs.State.{level_of, returned_of}
 use Rattle.sleep_core.specs.Table.{has_notes}
 use Rattle.sleep_core.specs.Step.{with_phase, with_posted}
 use Rattle.sleep_core.specs.History.{Deed}
@@ -12,10 +14,12 @@ use Rattle.sleep_core.specs.History.Deed.{Began, Passed, Fell, Roused}
 use Rattle.sleep_core.specs.Promises.{IsStillIn, HasFallen}
 use Rattle.sleep_core.proofs.ListLemmas.{get_or-set_cases}
 use Rattle.sleep_core.proofs.Soundness.{IsSound-with_phase, IsSound-with_posted}
-use Rattle.sleep_core.proofs.CoreInvariant.{Token, token, IsAway, IsNear, Fits, IsAtThreshold, IsShown, Core}
+use Rattle.sleep_core.proofs.CoreInvariant.{Token, token, IsAway, IsNear, Fits, IsAtThreshold}
+use Rattle.sleep_core.proofs.CoreInvariant.{IsShown, Core}
 use Rattle.sleep_core.proofs.CoreInvariant.Token.{Nowhere, InRendez, WithRaiser, InFlags}
 use Rattle.sleep_core.proofs.TokenLemmas.{posted_by_token}
-use Rattle.sleep_core.proofs.Frames.{if_same, if_other, apart, threshold_kept, fits_at, fits_each, Frame, frame_past, frame_quiet, fits_kept}
+use Rattle.sleep_core.proofs.Frames.{if_same, if_other, apart, threshold_kept, fits_at, fits_each}
+use Rattle.sleep_core.proofs.Frames.{Frame, frame_past, frame_quiet, fits_kept}
 
 -- what a phase names is there
 has_rendez_at : (s : State) (pid : ℕ) (stage : Phase) → IsSound s → phase_of s pid ≡ stage

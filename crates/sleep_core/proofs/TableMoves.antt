@@ -1,5 +1,6 @@
 -- Each row of the table is a move.
-use Rattle.std.proofs.Common.{◌≡◌, ◌≢◌, ◌<◌, ◌≤◌, ◌+◌, ◌-◌, ◌==◌, ℕ, Bool, true, false, nat_lt, if◌then◌else◌, Some, None, length, refl, sym, ◌∙◌, ap, subst, arith}
+use Rattle.std.proofs.Common.{◌≡◌, ◌≢◌, ◌<◌, ◌≤◌, ◌+◌, ◌-◌, ◌==◌, ℕ, Bool, true, false, nat_lt}
+use Rattle.std.proofs.Common.{if◌then◌else◌, Some, None, length, refl, sym, ◌∙◌, ap, subst, arith}
 use Rattle.std.proofs.lemmas.Bool.Decides.{Decides-eqb, Decides-ltb}
 use Rattle.std.proofs.lemmas.List.{set-get_or}
 use Rattle.sync_base.specs.declared.ids.Pid.{Pid}
@@ -8,7 +9,8 @@ use Rattle.sync_base.specs.declared.limits.TheConstants.{TOP_LEVEL}
 use Rattle.sync_base.specs.declared.note.NoteSet.{NoteSet}
 use Rattle.sync_base.specs.NoteSet.{joined}
 use Rattle.sleep_core.specs.declared.event.Event.{Event}
-use Rattle.sleep_core.specs.declared.event.Event.TheVariants.{Post, Test, Look, Withdraw, Clear, Raise, Take, Mark, Note, Drain, Check}
+use Rattle.sleep_core.specs.declared.event.Event.TheVariants.{Post, Test, Look, Withdraw, Clear}
+use Rattle.sleep_core.specs.declared.event.Event.TheVariants.{Raise, Take, Mark, Note, Drain, Check}
 use Rattle.sleep_core.specs.declared.answer.Answer.{Answer}
 use Rattle.sleep_core.specs.declared.answer.Answer.TheVariants as answer
 use Rattle.sleep_core.specs.declared.phase.Phase.{Phase}
@@ -17,11 +19,15 @@ use Rattle.sleep_core.specs.State.{State, phase_of, flags_of, posted_of, level_o
 use Rattle.sleep_core.specs.Table.{Wakeup, pid_of, phase_after, returned_by, has_notes}
 use Rattle.sleep_core.specs.Table.Cell.{PostedOf}
 use Rattle.sleep_core.specs.Table.Word.{Number}
-use Rattle.sleep_core.specs.Step.{with_phase, with_flags, with_posted, with_returned, with_word, is_refusal, answer_in, answer_to, world_told, world_after}
+use Rattle.sleep_core.specs.Step.{with_phase, with_flags, with_posted, with_returned, with_word}
+use Rattle.sleep_core.specs.Step.{is_refusal, answer_in, answer_to, world_told, world_after}
 use Rattle.sleep_core.specs.History.{deed_of}
 use Rattle.sleep_core.specs.History.Deed.{Left, Missed, Noted, Drained}
 use Rattle.sleep_core.proofs.Moves.{Move, IsOver}
-use Rattle.sleep_core.proofs.Moves.Move.{stays, post_posted, test_leaving, test_asleep, look_woken, look_leaving, withdraw_out, withdraw_awaiting, clear_ended, raise_owing, take_nobody, take_holding, mark_marked, note_noted, drain_notes}
+use Rattle.sleep_core.proofs.Moves.Move.{stays, post_posted, test_leaving, test_asleep, look_woken}
+use Rattle.sleep_core.proofs.Moves.Move.{look_leaving, withdraw_out, withdraw_awaiting, clear_ended}
+use Rattle.sleep_core.proofs.Moves.Move.{raise_owing, take_nobody, take_holding, mark_marked}
+use Rattle.sleep_core.proofs.Moves.Move.{note_noted, drain_notes}
 
 -- both answers of a test
 choose : (P : Bool → Type 0) (test : Bool) → (test ≡ true → P true) → (test ≡ false → P false)

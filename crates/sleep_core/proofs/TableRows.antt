@@ -1,6 +1,8 @@
 -- The rows of the table, one by one: what an event that may come answers, what it leaves in its one
 -- word, and in which phase its process is then.
-use Rattle.std.proofs.Common.{◌≡◌, ◌≢◌, ◌⊎◌, ◌<◌, ◌≤◌, ◌==◌, inl, inr, ℕ, max, Bool, true, false, nat_lt, if◌then◌else◌, Option, Some, None, length, refl, ◌∙◌, ap, subst, arith}
+use Rattle.std.proofs.Common.{◌≡◌, ◌≢◌, ◌⊎◌, ◌<◌, ◌≤◌, ◌==◌, inl, inr, ℕ, max, Bool, true, false}
+use Rattle.std.proofs.Common.{nat_lt, if◌then◌else◌, Option, Some, None, length, refl, ◌∙◌, ap}
+use Rattle.std.proofs.Common.{subst, arith}
 use Rattle.std.proofs.lemmas.Bool.Decides.{Decides-eqb, Decides-ltb, eqb_tells, nat_tests}
 use Rattle.std.proofs.lemmas.List.{get_or-set_same}
 use Rattle.sync_base.specs.declared.ids.Pid.{Pid}
@@ -9,19 +11,23 @@ use Rattle.sync_base.specs.declared.limits.TheConstants.{TOP_LEVEL}
 use Rattle.sync_base.specs.declared.note.NoteSet.{NoteSet}
 use Rattle.sync_base.specs.NoteSet.{joined}
 use Rattle.sleep_core.specs.declared.event.Event.{Event}
-use Rattle.sleep_core.specs.declared.event.Event.TheVariants.{Post, Test, Look, Withdraw, Clear, Raise, Take, Mark, Note, Drain, Check}
+use Rattle.sleep_core.specs.declared.event.Event.TheVariants.{Post, Test, Look, Withdraw, Clear}
+use Rattle.sleep_core.specs.declared.event.Event.TheVariants.{Raise, Take, Mark, Note, Drain, Check}
 use Rattle.sleep_core.specs.declared.answer.Answer.{Answer}
 use Rattle.sleep_core.specs.declared.answer.Answer.TheVariants as answer
 use Rattle.sleep_core.specs.declared.phase.Phase.{Phase}
 use Rattle.sleep_core.specs.declared.phase.Phase.TheVariants as phase
 use Rattle.sleep_core.specs.declared.phase.ProcFlags.{ProcFlags}
 use Rattle.sleep_core.specs.State.{State, nobody, posted_as, no_flags, phase_of}
-use Rattle.sleep_core.specs.Table.{Cell, Word, pid_of, cell_of, reply, stored, phase_after, returned_by, number_in, has_notes}
+use Rattle.sleep_core.specs.Table.{Cell, Word, pid_of, cell_of, reply, stored, phase_after}
+use Rattle.sleep_core.specs.Table.{returned_by, number_in, has_notes}
 use Rattle.sleep_core.specs.Table.Cell.{PostedOf, LevelOf, FlagsOf, NoCell}
 use Rattle.sleep_core.specs.Table.Word.{Number, Flags, NoWord}
-use Rattle.sleep_core.specs.Step.{with_phase, with_word, has_cell, word_at, is_refusal, answer_in, answer_to, changed_by, world_told, world_after}
+use Rattle.sleep_core.specs.Step.{with_phase, with_word, has_cell, word_at, is_refusal, answer_in}
+use Rattle.sleep_core.specs.Step.{answer_to, changed_by, world_told, world_after}
 use Rattle.sleep_core.specs.Rows.{HasWord, IsDue, DoesRow, word_left, word_after, EventsFollowRows}
-use Rattle.sleep_core.proofs.LocalLemmas.{word_at-with_phase, word_at-with_returned, phase_of-world_after}
+use Rattle.sleep_core.proofs.LocalLemmas.{word_at-with_phase, word_at-with_returned}
+use Rattle.sleep_core.proofs.LocalLemmas.{phase_of-world_after}
 
 -- what a test of numbers tells
 test_same : (a : ℕ) → (a == a) ≡ true

@@ -1,5 +1,6 @@
 -- Each wakeup takes whom it finds in its Rendez, and a returned level is the greatest.
-use Rattle.std.proofs.Common.{◌≡◌, ◌≢◌, ◌⊎◌, ◌<◌, ◌+◌, inl, inr, ℕ, max, Option, Some, None, List, [], ◌∷◌, length, get_or, set, refl, sym, ◌∙◌, ap, subst, arith}
+use Rattle.std.proofs.Common.{◌≡◌, ◌≢◌, ◌⊎◌, ◌<◌, ◌+◌, inl, inr, ℕ, max, Option, Some, None, List}
+use Rattle.std.proofs.Common.{[], ◌∷◌, length, get_or, set, refl, sym, ◌∙◌, ap, subst, arith}
 use Rattle.std.specs.List.{cons_option}
 use Rattle.std.proofs.lemmas.List.{get_or-set_same, get_or-set_other}
 use Rattle.sync_base.specs.declared.ids.RendezId.{RendezId}
@@ -10,13 +11,18 @@ use Rattle.sleep_core.specs.Table.{Wakeup}
 use Rattle.sleep_core.specs.Step.{with_returned, world_after}
 use Rattle.sleep_core.specs.Runs.{Entry, IsRun, world_of}
 use Rattle.sleep_core.specs.History.{Deed, deed_of, history_of, begun_wakeup, HasReturned}
-use Rattle.sleep_core.specs.History.Deed.{Began, Passed, Fell, Roused, Withdrew, Left, Raised, Missed, Took, Marked, Noted, Drained}
+use Rattle.sleep_core.specs.History.Deed.{Began, Passed, Fell, Roused, Withdrew, Left, Raised}
+use Rattle.sleep_core.specs.History.Deed.{Missed, Took, Marked, Noted, Drained}
 use Rattle.sleep_core.specs.Promises.{owed_wakeup, FindsNobody, FindsSleeper, TakesAreRight}
-use Rattle.sleep_core.specs.Laws.{PostedAreStillIn, StillInArePosted, AsleepHaveFallen, ReturnedIsGreatest}
+use Rattle.sleep_core.specs.Laws.{PostedAreStillIn, StillInArePosted, AsleepHaveFallen}
+use Rattle.sleep_core.specs.Laws.{ReturnedIsGreatest}
 use Rattle.sleep_core.proofs.ListLemmas.{get_or-set_cases}
 use Rattle.sleep_core.proofs.CoreInvariant.{Raises, Holds, Core}
 use Rattle.sleep_core.proofs.Moves.{Move, ending_notes}
-use Rattle.sleep_core.proofs.Moves.Move.{stays, post_posted, test_leaving, test_asleep, look_woken, look_leaving, withdraw_out, withdraw_awaiting, clear_ended, raise_owing, take_nobody, take_holding, mark_marked, note_noted, drain_notes}
+use Rattle.sleep_core.proofs.Moves.Move.{stays, post_posted, test_leaving, test_asleep, look_woken}
+use Rattle.sleep_core.proofs.Moves.Move.{look_leaving, withdraw_out, withdraw_awaiting, clear_ended}
+use Rattle.sleep_core.proofs.Moves.Move.{raise_owing, take_nobody, take_holding, mark_marked}
+use Rattle.sleep_core.proofs.Moves.Move.{note_noted, drain_notes}
 use Rattle.sleep_core.proofs.TableMoves.{table_moves}
 use Rattle.sleep_core.proofs.Frames.{if_same, if_other, same_or_not, fits_at}
 use Rattle.sleep_core.proofs.TokenLemmas.{still_in_by_token}

@@ -5,7 +5,9 @@ use Rattle.sleep_core.specs.declared.phase.Phase.TheVariants as phase
 use Rattle.sleep_core.specs.State.{State, phase_of}
 use Rattle.sleep_core.specs.Runs.{world_of}
 use Rattle.sleep_core.specs.History.{Deed, history_of}
-use Rattle.sleep_core.specs.Whereabouts.{Place, IsHolding, IsAt, IsInSleep, SleepersAreInOnePlace, OthersAreInNoPlace, MayBePosted, IsRaised, WordsAgreeInRuns}
+use Rattle.sleep_core.specs.Whereabouts.{Place, IsHolding, IsAt, IsInSleep, SleepersAreInOnePlace}
+use Rattle.sleep_core.specs.Whereabouts.{OthersAreInNoPlace, MayBePosted, IsRaised}
+use Rattle.sleep_core.specs.Whereabouts.{WordsAgreeInRuns}
 use Rattle.sleep_core.specs.Whereabouts.Place.{IsPostedIn, IsHeldBy, IsMarked, IsOut}
 use Rattle.sleep_core.proofs.CoreInvariant.{Token, token, IsAway, IsNear, Fits, Core}
 use Rattle.sleep_core.proofs.CoreInvariant.Token.{Nowhere, InRendez, WithRaiser, InFlags}

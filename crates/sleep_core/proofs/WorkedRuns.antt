@@ -16,10 +16,12 @@ use Rattle.sleep_core.specs.declared.answer.Answer.{Answer}
 use Rattle.sleep_core.specs.declared.answer.Answer.TheVariants as answer
 use Rattle.sleep_core.specs.declared.phase.Phase.TheVariants as phase
 use Rattle.sleep_core.specs.State.{State, opening, no_flags}
-use Rattle.sleep_core.specs.Runs.{Entry, IsMadeBy, IsNext, IsRun, answers_to_all, world_after_all, world_of, run_of, own, kept, phase_by}
+use Rattle.sleep_core.specs.Runs.{Entry, IsMadeBy, IsNext, IsRun, answers_to_all, world_after_all}
+use Rattle.sleep_core.specs.Runs.{world_of, run_of, own, kept, phase_by}
 use Rattle.sleep_core.specs.Step.{answer_to}
 use Rattle.sleep_core.specs.History.{Deed, history_of}
-use Rattle.sleep_core.specs.History.Deed.{Began, Passed, Fell, Roused, Withdrew, Left, Raised, Missed, Took, Marked, Noted, Drained}
+use Rattle.sleep_core.specs.History.Deed.{Began, Passed, Fell, Roused, Withdrew, Left, Raised}
+use Rattle.sleep_core.specs.History.Deed.{Missed, Took, Marked, Noted, Drained}
 
 abbrev proc : ℕ → Pid
 proc n = record { 0 = n }

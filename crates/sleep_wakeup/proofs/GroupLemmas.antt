@@ -453,7 +453,8 @@ pub left : (numbers : List ℕ) (count given pid : ℕ) → AreNumbers numbers c
 left numbers count given pid are given_out many =
     ap (λ group. group ∷ groups_by count (set numbers pid (suc count)))
     (alone 0 (suc count) pid pid numbers (omega arith) within (fresh numbers count given are))
-    ∙ ap (λ groups. (pid ∷ []) ∷ groups) (left_in count pid (suc count) numbers (omega arith) within)
+    ∙ ap (λ groups. (pid ∷ []) ∷ groups) (left_in count pid (suc count) numbers (omega arith)
+    within)
     ∙ sym (ap (λ is. if is then begins pid (parts pid (groups_by count numbers))
     else groups_by count numbers) company)
   where
@@ -811,7 +812,8 @@ times_there start number (suc place) pid (own ∷ numbers) at some =
     by (inr other) rest = ap (times_in pid) (no_member_first start number own numbers other) ∙ rest
 
 -- a pid that has no number stands in no group, and another once
-never : (pid count : ℕ) (numbers : List ℕ) → (get_or numbers pid 0 ≡ 0) ⊎ (count < get_or numbers pid 0)
+never : (pid count : ℕ) (numbers : List ℕ) → (get_or numbers pid 0 ≡ 0) ⊎
+    (count < get_or numbers pid 0)
     → times pid (groups_by count numbers) ≡ 0
 never pid zero numbers out = refl
 never pid (suc count) numbers out =
@@ -864,7 +866,8 @@ rises least start number (own ∷ numbers) low =
         → RisesFrom least (members_from start number (own ∷ numbers))
     by (inl same) rest = subst (RisesFrom least) (sym (member_first start number own numbers same))
         (low, rest (start + 1) (omega arith))
-    by (inr other) rest = subst (RisesFrom least) (sym (no_member_first start number own numbers other))
+    by (inr other) rest =
+        subst (RisesFrom least) (sym (no_member_first start number own numbers other))
         (rest least (omega (arith, low)))
 
 each_rises : (count : ℕ) (numbers : List ℕ) → EachRises (groups_by count numbers)

@@ -5,8 +5,8 @@ use rendez_words::{Pids, Words};
 use std::marker::Model;
 use sync_base::{Fault, Flags, NoteSet, Pid, RendezId};
 
-/// The pids and the Rendez of a kernel that were not given out yet, each of which is given once, and
-/// the note groups of its processes.
+/// The pids and the Rendez of a kernel that were not given out yet, each of which is given once,
+/// and the note groups of its processes.
 #[derive(Drop)]
 pub struct Roster<'k> {
     words: &'k Words,
@@ -83,9 +83,9 @@ impl<'k> Roster<'k> {
         }
     }
 
-    /// After fork(2): makes a child with the next pid where RFPROC is set, else nobody. A child is in
-    /// its parent's note group. With RFNOTEG it is the first of a new group; with RFNOTEG alone the
-    /// caller is.
+    /// After fork(2): makes a child with the next pid where RFPROC is set, else nobody. A child is
+    /// in its parent's note group. With RFNOTEG it is the first of a new group; with RFNOTEG alone
+    /// the caller is.
     /// Refuses, in this order, as `BadFlags` for any other flag, and as `NoProc` where no pid is
     /// left. Takes no memory and doesn't wait.
     pub fn rfork(&mut self, parent: &mut Proc<'k>, flags: Flags) -> Result<Option<Proc<'k>>, Fault>

@@ -1,7 +1,11 @@
 -- The numbers of the faults. Own: Plan 9 tells faults by their texts alone.
 use Rattle.std.specs.Prelude.{ℕ}
 use Rattle.sync_base.specs.declared.fault.Fault.{Fault}
-use Rattle.sync_base.specs.declared.fault.Fault.TheVariants.{Memory, Interrupted, Hungup, TooBig, DoubleSleep, BadArg, BadLevel, BadCount, BadSize, Worn, NoProc, NoRendez, BadFlags, Script, TimedOut, Device}
+use Rattle.sync_base.specs.declared.fault.Fault.TheVariants.{Memory, Interrupted, Hungup, TooBig}
+use Rattle.sync_base.specs.declared.fault.Fault.TheVariants.{DoubleSleep, BadArg, BadLevel}
+use Rattle.sync_base.specs.declared.fault.Fault.TheVariants.{BadCount, BadSize, Worn, NoProc}
+use Rattle.sync_base.specs.declared.fault.Fault.TheVariants.{NoRendez, BadFlags, Script, TimedOut}
+use Rattle.sync_base.specs.declared.fault.Fault.TheVariants.{Device}
 
 -- the fault's number, from 1 to 16
 abbrev pub fault_number : Fault → ℕ

@@ -4,7 +4,8 @@ use Rattle.sync_base.specs.declared.ids.Tag.{Tag}
 use Rattle.tag_space.specs.declared.calls.GroupCall.{GroupCall}
 use Rattle.tag_space.specs.declared.calls.GroupCall.TheVariants.{Call, Collect, Leave}
 use Rattle.tag_space.specs.declared.calls.GroupReply.{GroupReply}
-use Rattle.tag_space.specs.declared.calls.GroupReply.TheVariants.{Met, WasMet, Wait, Worn, Gone, Busy}
+use Rattle.tag_space.specs.declared.calls.GroupReply.TheVariants.{Met, WasMet, Wait, Worn, Gone}
+use Rattle.tag_space.specs.declared.calls.GroupReply.TheVariants.{Busy}
 use Rattle.tag_space.specs.Rendezvous.{Entry, Space, Offer, Pair, stage_of, IsAnswered, IsMet}
 use Rattle.tag_space.specs.Rendezvous.{Finds, count_of}
 use Rattle.tag_space.specs.Rendezvous.Stage.{Waits, Paired}
@@ -12,13 +13,18 @@ use Rattle.tag_space.specs.Promises.{WaitApart}
 
 module _ (space : Space) (past : List Entry) (apart : WaitApart past) where
   -- two calls with one tag find one call
-  one_found : (tag g h m n i j : ℕ) → Finds space past tag g m i → Finds space past tag h n j → Met g m i ≡ Met h n j
+  one_found : (tag g h m n i j : ℕ) → Finds space past tag g m i → Finds space past tag h n j →
+      Met g m i ≡ Met h n j
   one_found tag g h m n i j first second =
-      let same : m ≡ n = apart m n first.offer second.offer first.waits second.waits (first.tag_is ∙ sym second.tag_is) in
-      let stages : Waits first.offer ≡ Waits second.offer = sym first.waits ∙ (ap (stage_of past) same ∙ second.waits) in
+      let same : m ≡ n = apart m n first.offer second.offer first.waits second.waits (first.tag_is ∙
+      sym second.tag_is) in
+      let stages : Waits first.offer ≡ Waits second.offer = sym first.waits ∙
+      (ap (stage_of past) same ∙ second.waits) in
       let offers : first.offer ≡ second.offer = cc in
-      let given : g ≡ h = first.given_is ∙ (ap (λ (offer : Offer). offer.value) offers ∙ sym second.given_is) in
-      let count : i ≡ j = first.count_is ∙ (ap (λ k. count_of space past k + 1) same ∙ sym second.count_is) in
+      let given : g ≡ h = first.given_is ∙
+      (ap (λ (offer : Offer). offer.value) offers ∙ sym second.given_is) in
+      let count : i ≡ j = first.count_is ∙
+      (ap (λ k. count_of space past k + 1) same ∙ sym second.count_is) in
       cc
 
   -- a call was found by one
@@ -26,10 +32,13 @@ module _ (space : Space) (past : List Entry) (apart : WaitApart past) where
   one_told member g h first second =
       let stages : Paired first.pair ≡ Paired second.pair = sym first.paired ∙ second.paired in
       let pairs : first.pair ≡ second.pair = cc in
-      let given : g ≡ h = first.given_is ∙ (ap (λ (pair : Pair). pair.finding.value) pairs ∙ sym second.given_is) in
+      let given : g ≡ h = first.given_is ∙
+      (ap (λ (pair : Pair). pair.finding.value) pairs ∙ sym second.given_is) in
       cc
 
-  one_call : (member : ℕ) (tag : Tag) (value : ℕ) (first second : GroupReply) → IsAnswered space past (Call member tag value) first → IsAnswered space past (Call member tag value) second → first ≡ second
+  one_call : (member : ℕ) (tag : Tag) (value : ℕ) (first second : GroupReply) →
+      IsAnswered space past (Call member tag value) first →
+      IsAnswered space past (Call member tag value) second → first ≡ second
   one_call member tag value (Met g m i) (Met h n j) a b = one_found tag.0 g h m n i j a.1 b.1
   one_call member tag value (Met g m i) (Wait j) a b = absurd (b.1 m a.1.offer a.1.waits a.1.tag_is)
   one_call member tag value (Met g m i) Worn a b = absurd (b.1 m a.1.offer a.1.waits a.1.tag_is)
@@ -57,7 +66,9 @@ module _ (space : Space) (past : List Entry) (apart : WaitApart past) where
   one_call member tag value (WasMet g) second a b = absurd a
   one_call member tag value Gone second a b = absurd a
 
-  one_collect : (member : ℕ) (first second : GroupReply) → IsAnswered space past (Collect member) first → IsAnswered space past (Collect member) second → first ≡ second
+  one_collect : (member : ℕ) (first second : GroupReply) →
+      IsAnswered space past (Collect member) first → IsAnswered space past (Collect member) second →
+      first ≡ second
   one_collect member (WasMet g) (WasMet h) a b = one_told member g h a.1 b.1
   one_collect member (WasMet g) (Wait j) a b = absurd (b.0.none a.1.pair a.1.paired)
   one_collect member (WasMet g) Busy a b = absurd (omega (arith, a.0, b))
@@ -80,7 +91,9 @@ module _ (space : Space) (past : List Entry) (apart : WaitApart past) where
   one_collect member Worn second a b = absurd a
   one_collect member Gone second a b = absurd a
 
-  one_leave : (member : ℕ) (first second : GroupReply) → IsAnswered space past (Leave member) first → IsAnswered space past (Leave member) second → first ≡ second
+  one_leave : (member : ℕ) (first second : GroupReply) →
+      IsAnswered space past (Leave member) first → IsAnswered space past (Leave member) second →
+      first ≡ second
   one_leave member (WasMet g) (WasMet h) a b = one_told member g h a.1 b.1
   one_leave member (WasMet g) Gone a b = absurd (b.none a.1.pair a.1.paired)
   one_leave member (WasMet g) Busy a b = absurd (omega (arith, a.0, b))
@@ -104,7 +117,8 @@ module _ (space : Space) (past : List Entry) (apart : WaitApart past) where
   one_leave member Worn second a b = absurd a
 
   -- each call has one answer
-  pub one_answer : (call : GroupCall) (first second : GroupReply) → IsAnswered space past call first → IsAnswered space past call second → first ≡ second
+  pub one_answer : (call : GroupCall) (first second : GroupReply) →
+      IsAnswered space past call first → IsAnswered space past call second → first ≡ second
   one_answer (Call member tag value) = one_call member tag value
   one_answer (Collect member) = one_collect member
   one_answer (Leave member) = one_leave member

@@ -15,7 +15,8 @@ use Rattle.sync_base.specs.declared.ids.Tag.{Tag}
 use Rattle.tag_space.specs.declared.calls.GroupCall.{GroupCall}
 use Rattle.tag_space.specs.declared.calls.GroupCall.TheVariants.{Call, Collect, Leave}
 use Rattle.tag_space.specs.declared.calls.GroupReply.{GroupReply}
-use Rattle.tag_space.specs.declared.calls.GroupReply.TheVariants.{Met, WasMet, Wait, Worn, Gone, Busy}
+use Rattle.tag_space.specs.declared.calls.GroupReply.TheVariants.{Met, WasMet, Wait, Worn, Gone}
+use Rattle.tag_space.specs.declared.calls.GroupReply.TheVariants.{Busy}
 use Rattle.tag_space.specs.declared.member.Member.{Member}
 use Rattle.tag_space.specs.declared.place.Place.{Place}
 use Rattle.tag_space.specs.declared.space.TagSpace.{TagSpace}
@@ -70,9 +71,11 @@ module _ (space : Space) (limit : ℕ) (call : GroupCall) (told : GroupReply)
       (state_is_past space asks.past) whole.0).answered
 
   -- what stood before it was legal
-  pub past_is_legal : IsLegal (rendezvous space) [] new.seen → IsLegal (rendezvous space) [] asks.past
+  pub past_is_legal : IsLegal (rendezvous space) [] new.seen →
+      IsLegal (rendezvous space) [] asks.past
   past_is_legal legal =
-      (subst (IsLegal (rendezvous space) []) (ap (λ (a : Account Entry). a.seen) asks.new_is) legal).1
+      (subst (IsLegal (rendezvous space) []) (ap (λ (a : Account Entry). a.seen) asks.new_is)
+      legal).1
 
   -- where the history behind a request is legal, so is the one before it
   pub legal_before : IsLegal (rendezvous space) [] new.seen → IsLegal (rendezvous space) [] old.seen
@@ -148,8 +151,10 @@ module _ (space : TagSpace) (before after : Member) (one : IsOneOf space before)
       → Asks (Call (number_of before) tag value) told (account_of before) (account_of after)
       → IsCallReply told
   is_call_reply tag value rests asks =
-      call_reply (space_of space) asks.past (number_of before) (is_below space before one) tag value told
-      (rests_still (space_of space) space.procs (Call (number_of before) tag value) told (account_of before)
+      call_reply (space_of space) asks.past (number_of before) (is_below space before one) tag value
+      told
+      (rests_still (space_of space) space.procs (Call (number_of before) tag value) told
+      (account_of before)
       (account_of after) asks (number_of before) one.seat.own then.history.history.legal rests)
       (answered_so (space_of space) space.procs _ told (account_of before) (account_of after) asks
       then.history.history.legal)
@@ -202,7 +207,8 @@ pub reply_fits : (space : TagSpace) (before after : Member) → IsOneOf space af
 reply_fits space before after then call told asks =
     let legal = then.history.history.legal in
     fits_reply space asks.past
-    (past_is_legal (space_of space) space.procs call told (account_of before) (account_of after) asks
+    (past_is_legal (space_of space) space.procs call told (account_of before) (account_of after)
+    asks
     legal) call told
     (answered_so (space_of space) space.procs call told (account_of before) (account_of after) asks
     legal)

@@ -12,7 +12,8 @@ use Rattle.tag_space.specs.declared.calls.GroupReply.{GroupReply}
 use Rattle.tag_space.specs.declared.calls.GroupReply.TheVariants.{Met, WasMet, Wait, Gone}
 use Rattle.tag_space.specs.declared.limits.TheConstants.{LAST_MEETING}
 use Rattle.tag_space.specs.Rendezvous.{Entry, Space, Offer, Pair, Stage, stage_of, pairs_of}
-use Rattle.tag_space.specs.Rendezvous.{count_of, found_by, pair_with, rendezvous, IsAnswered, IsRight}
+use Rattle.tag_space.specs.Rendezvous.{count_of, found_by, pair_with, rendezvous, IsAnswered}
+use Rattle.tag_space.specs.Rendezvous.{IsRight}
 use Rattle.tag_space.specs.Rendezvous.Stage.{Over, Waits, Paired}
 use Rattle.tag_space.proofs.OtherLemmas.{yes, no}
 use Rattle.tag_space.proofs.PromiseLemmas.{IsSpace, is_space, state_is_past}
@@ -35,7 +36,8 @@ module _ (space : Space) (past : List Entry) (fits : FitsCounts space past) (by 
   fits_kept entry still pairs =
       record {
         within = λ member. rw pairs (fits.within member);
-        waiting = λ member offer waits. rw pairs (fits.waiting member offer (still member offer waits));
+        waiting = λ member offer waits. rw pairs (fits.waiting member offer
+            (still member offer waits));
       }
 
   -- a call that is over waits no longer
@@ -44,7 +46,8 @@ module _ (space : Space) (past : List Entry) (fits : FitsCounts space past) (by 
   waited caller member stage offer waits =
       elim (cases_eq caller member) [
         | inl same ↦
-            let test : eqb caller member ≡ true = subst (λ m. eqb caller m ≡ true) same (yes caller) in
+            let test : eqb caller member ≡ true =
+            subst (λ m. eqb caller m ≡ true) same (yes caller) in
             let gone = rw test at waits in
             cc
         | inr differs ↦ let test = no caller member differs in rw test at waits
@@ -103,7 +106,8 @@ module _ (space : Space) (past : List Entry) (fits : FitsCounts space past) (by 
           ap (λ (ps : List Pair). space.count + count_by (λ (p : Pair). eqb p.waiting.member m) ps)
           pairs
           ∙ ap (λ n. space.count + n)
-          (sum_by-cons (λ (p : Pair). cond {A = ℕ} (eqb p.waiting.member m) 1 0) pair (pairs_of past))
+          (sum_by-cons (λ (p : Pair). cond {A = ℕ} (eqb p.waiting.member m) 1 0) pair
+          (pairs_of past))
 
       counted_other : (m : ℕ) → other ≢ m → count_of space (entry ∷ past) m ≡ count_of space past m
       counted_other m differs =
@@ -133,7 +137,8 @@ module _ (space : Space) (past : List Entry) (fits : FitsCounts space past) (by 
         | inl same ↦
             let here : stage_of (entry ∷ past) other ≡ Paired pair =
             rw (yes other) (ap (found_by finding) answered.1.waits) in
-            let both = sym here ∙ subst (λ k. stage_of (entry ∷ past) k ≡ Waits waits) (sym same) is_waiting in
+            let both = sym here ∙
+            subst (λ k. stage_of (entry ∷ past) k ≡ Waits waits) (sym same) is_waiting in
             cc
         | inr differs ↦
             let test = no other m differs in

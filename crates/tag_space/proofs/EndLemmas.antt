@@ -99,7 +99,8 @@ module _ (space : Space) (limit : ℕ) (caller : Caller) where
     badly_ended after other ends legal = absurd ends
 
     -- however a wait ended, its member rests, and its call is in a pair or in none for good
-    pub wait_ended : (after : Point) (answer : Result ℕ Fault) → EndsWait caller first count after answer
+    pub wait_ended : (after : Point) (answer : Result ℕ Fault) →
+        EndsWait caller first count after answer
         → IsLegalAt after → HasEnded space caller.member offer before after.account.seen answer
     wait_ended after (Ok given) (inl told) legal = told_ended given after told legal
     wait_ended after (Ok given) (inr late) legal = late_ended given after late legal
@@ -118,7 +119,8 @@ module _ (space : TagSpace) (before after : Member) (offer : Offer) (answer : Re
 
   -- a call that has ended is an exchange: one call of the caller's, with its tag and value
   pub exchanged : (tag : Tag) (value : ℕ) → offer.tag ≡ tag.0 → offer.value ≡ value
-      → Exchange (space_of space) (number_of before) tag value (seen_of before) (seen_of after) answer
+      → Exchange (space_of space) (number_of before) tag value (seen_of before) (seen_of after)
+      answer
   exchanged tag value tag_is value_is =
       record {
         offer = offer;

@@ -1,5 +1,6 @@
 -- What a space keeps stays whole in each step: a member is met, begins to wait, is told or leaves.
-use Rattle.std.proofs.Common.{◌≡◌, ℕ, suc, [], ◌∷◌, ◌+◌, ◌<◌, ◌≤◌, ◌≢◌, true, false, List, length, get_or}
+use Rattle.std.proofs.Common.{◌≡◌, ℕ, suc, [], ◌∷◌, ◌+◌, ◌<◌, ◌≤◌, ◌≢◌, true, false, List, length}
+use Rattle.std.proofs.Common.{get_or}
 use Rattle.std.proofs.Common.{eqb, if◌then◌else◌, Option, Some, refl, sym, ap, ◌∙◌, arith, inl, inr}
 use Rattle.std.specs.List.{insert, remove}
 use Rattle.std.proofs.lemmas.Bool.{cases_eq, false≢true}
@@ -17,12 +18,17 @@ use Rattle.tag_space.specs.Group.{answer_to, places_after, answer_to_call, after
 use Rattle.tag_space.specs.Table.{Line, no_line, tag_at, member_at, member_with, IsAt, IsGapFor}
 use Rattle.tag_space.specs.Table.{waits_at, is_waiting, IsTable, AreCounts, IsGroup, ListsWaiting}
 use Rattle.tag_space.proofs.LineLemmas.{found_at, found_in_gap}
-use Rattle.tag_space.proofs.TableLemmas.{waits_with_some, waiter_in_range, waits_there, finds_waiter}
+use Rattle.tag_space.proofs.TableLemmas.{waits_with_some, waiter_in_range, waits_there}
+use Rattle.tag_space.proofs.TableLemmas.{finds_waiter}
 use Rattle.tag_space.proofs.TableLemmas.{without_line, beside_lines, with_line, has_room}
 
 -- the counts stay counts where one changes to a count
-pub counts_put : (places : List Place) → AreCounts places → (member : ℕ) (standing : Standing) (count : ℕ) → member < length places → count ≤ LAST_MEETING → (is_waiting standing ≡ true → count < LAST_MEETING) → AreCounts (put places member standing count)
-counts_put places counts member standing count below most less = record { within = within; waiting = waiting }
+pub counts_put : (places : List Place) → AreCounts places →
+    (member : ℕ) (standing : Standing) (count : ℕ) → member < length places → count ≤ LAST_MEETING →
+    (is_waiting standing ≡ true → count < LAST_MEETING) →
+    AreCounts (put places member standing count)
+counts_put places counts member standing count below most less =
+    record { within = within; waiting = waiting }
   where
     new : List Place
     new = put places member standing count
@@ -39,14 +45,17 @@ counts_put places counts member standing count below most less = record { within
       | inr differs ↦ rw (others other differs) (counts.within other)
     ]
 
-    waiting : (other : ℕ) → is_waiting (place_of new other).standing ≡ true → (place_of new other).meetings < LAST_MEETING
+    waiting : (other : ℕ) → is_waiting (place_of new other).standing ≡ true →
+        (place_of new other).meetings < LAST_MEETING
     waiting other = elim (cases_eq other member) [
       | inl same ↦ rw same (rw mine less)
       | inr differs ↦ rw (others other differs) (counts.waiting other)
     ]
 
-module _ (table : List Line) (places : List Place) (room : ℕ) (group : IsGroup table places room) where
-  module _ (tag i member count : ℕ) (at : IsAt table tag i) (is_member : member ≡ member_at table i) (is_count : count ≡ (place_of places member).meetings) where
+module _ (table : List Line) (places : List Place) (room : ℕ) (group :
+    IsGroup table places room) where
+  module _ (tag i member count : ℕ) (at : IsAt table tag i) (is_member : member ≡
+      member_at table i) (is_count : count ≡ (place_of places member).meetings) where
     -- the member in a line waits
     waits_here : waits_at places tag member ≡ true
     waits_here = rw is_member (waits_there table places group.lines tag i at)
@@ -57,13 +66,17 @@ module _ (table : List Line) (places : List Place) (room : ℕ) (group : IsGroup
 
     -- one more meeting of the member that waits here can be counted
     pub can_count : count < LAST_MEETING
-    can_count = rw is_count (group.counts.waiting member (waits_with_some (place_of places member).standing tag waits_here))
+    can_count = rw is_count (group.counts.waiting member
+        (waits_with_some (place_of places member).standing tag waits_here))
 
     -- it is met
-    pub met : (value : ℕ) → IsGroup (remove table i) (put places member (Met value) (count + 1)) room
+    pub met : (value : ℕ) →
+        IsGroup (remove table i) (put places member (Met value) (count + 1)) room
     met value = record {
-      lines = rw is_member (without_line table places group.lines tag i at (Met value) (count + 1) refl);
-      counts = counts_put places group.counts member (Met value) (count + 1) member_in_range (omega (arith, can_count)) (λ waits. absurd (false≢true waits));
+      lines = rw is_member (without_line table places group.lines tag i at (Met value) (count + 1)
+          refl);
+      counts = counts_put places group.counts member (Met value) (count +
+          1) member_in_range (omega (arith, can_count)) (λ waits. absurd (false≢true waits));
       enough = rw length-set group.enough;
     }
 
@@ -71,16 +84,20 @@ module _ (table : List Line) (places : List Place) (room : ℕ) (group : IsGroup
     pub left : IsGroup (remove table i) (put places member Idle count) room
     left = record {
       lines = rw is_member (without_line table places group.lines tag i at Idle count refl);
-      counts = counts_put places group.counts member Idle count member_in_range (omega (arith, can_count)) (λ waits. absurd (false≢true waits));
+      counts = counts_put places group.counts member Idle count member_in_range
+          (omega (arith, can_count)) (λ waits. absurd (false≢true waits));
       enough = rw length-set group.enough;
     }
 
-  module _ (member count : ℕ) (below : member < length places) (is_count : count ≡ (place_of places member).meetings) (idle : is_waiting (place_of places member).standing ≡ false) where
+  module _ (member count : ℕ) (below : member < length places) (is_count : count ≡
+      (place_of places member).meetings) (idle : is_waiting (place_of places member).standing ≡
+      false) where
     -- a member that doesn't wait has no line, and is told
     pub told : IsGroup table (put places member Idle count) room
     told = record {
       lines = beside_lines table places group.lines member below idle Idle count refl;
-      counts = counts_put places group.counts member Idle count below (rw is_count (group.counts.within member)) (λ waits. absurd (false≢true waits));
+      counts = counts_put places group.counts member Idle count below
+          (rw is_count (group.counts.within member)) (λ waits. absurd (false≢true waits));
       enough = rw length-set group.enough;
     }
 
@@ -89,60 +106,84 @@ module _ (table : List Line) (places : List Place) (room : ℕ) (group : IsGroup
     has_place = omega (arith, group.enough, has_room table places group.lines member below idle)
 
     -- it begins to wait
-    pub waits : (key : Tag) (i value : ℕ) → IsGapFor table key.0 i → count ≢ LAST_MEETING → IsGroup (insert table i (key, member)) (put places member (Waiting key value) count) room
+    pub waits : (key : Tag) (i value : ℕ) → IsGapFor table key.0 i → count ≢ LAST_MEETING →
+        IsGroup (insert table i (key, member)) (put places member (Waiting key value) count) room
     waits key i value gap not_last =
         let most : count ≤ LAST_MEETING = rw is_count (group.counts.within member) in
         record {
           lines = with_line table places group.lines member below idle key i gap value count;
-          counts = counts_put places group.counts member (Waiting key value) count below most (λ waits. omega arith);
+          counts = counts_put places group.counts member (Waiting key value) count below most
+              (λ waits. omega arith);
           enough = rw length-set group.enough;
         }
 
   -- a member that waits is found by a search
-  pub is_found : (i member : ℕ) (key : Tag) → waits_at places key.0 member ≡ true → IsGapFor table key.0 i → ⊥
+  pub is_found : (i member : ℕ) (key : Tag) → waits_at places key.0 member ≡ true →
+      IsGapFor table key.0 i → ⊥
   is_found i member key waits gap =
       let found = group.lines.has_line key.0 member waits in
       let nowhere = found_in_gap table group.lines.rising key member i gap in
       cc
 
   -- and its line is this member's
-  pub is_its_line : (tag i member : ℕ) → waits_at places tag member ≡ true → IsAt table tag i → member ≡ member_at table i
+  pub is_its_line : (tag i member : ℕ) → waits_at places tag member ≡ true → IsAt table tag i →
+      member ≡ member_at table i
   is_its_line tag i member waits at =
       let line = group.lines.has_line tag member waits in
       let found = found_at table group.lines.rising tag i at in
       cc
 
 -- a call of a member that may call is answered by who waits with its tag
-pub answers_call : (places : List Place) (member : ℕ) (tag : Tag) (value : ℕ) (found : Option ℕ) → member < length places → (place_of places member).standing ≡ Idle → waiter_of places tag.0 ≡ found → (answer_to places (Call member tag value) ≡ answer_to_call places member found) × (places_after places (Call member tag value) ≡ after_call places member tag value found)
+pub answers_call : (places : List Place) (member : ℕ) (tag : Tag) (value : ℕ) (found : Option ℕ) →
+    member < length places → (place_of places member).standing ≡ Idle → waiter_of places tag.0 ≡
+    found → (answer_to places (Call member tag value) ≡ answer_to_call places member found) ×
+    (places_after places (Call member tag value) ≡ after_call places member tag value found)
 answers_call places member tag value found below idle waiter =
     let may : may_call places member ≡ true = rw idle (grind (arith, nat_tests)) in
     (rw may (rw waiter refl), rw may (rw waiter refl))
 
 -- the member in a line, as it is read
-pub line_read : (table : List Line) (i : ℕ) (line : Line) → i < length table → line ≡ get_or table i line → line.1 ≡ member_at table i
-line_read table i line below read = ap (λ (l : Line). l.1) (read ∙ get_or_default table i line no_line below)
+pub line_read : (table : List Line) (i : ℕ) (line : Line) → i < length table → line ≡
+    get_or table i line → line.1 ≡ member_at table i
+line_read table i line below read =
+    ap (λ (l : Line). l.1) (read ∙ get_or_default table i line no_line below)
 
 -- the place of a member, as it is read
-pub place_read : (places : List Place) (member : ℕ) (place : Place) → member < length places → place ≡ get_or places member place → place ≡ place_of places member
-place_read places member place below read = read ∙ get_or_default places member place (fresh_place 0) below
+pub place_read : (places : List Place) (member : ℕ) (place : Place) → member < length places →
+    place ≡ get_or places member place → place ≡ place_of places member
+place_read places member place below read = read ∙
+    get_or_default places member place (fresh_place 0) below
 
-module _ (table : List Line) (places : List Place) (lines : IsTable table places) (member : ℕ) (tag : Tag) (value : ℕ) (below : member < length places) (idle : (place_of places member).standing ≡ Idle) where
+module _ (table : List Line) (places : List Place) (lines : IsTable table places) (member :
+    ℕ) (tag : Tag) (value : ℕ) (below : member < length places) (idle :
+    (place_of places member).standing ≡ Idle) where
   -- a call whose tag has a line meets the line's member
-  pub answers_met : (i waiter : ℕ) (place : Place) → IsAt table tag.0 i → waiter ≡ member_at table i → place ≡ place_of places waiter → (answer_to places (Call member tag value) ≡ reply.Met (value_given place.standing) waiter (place.meetings + 1)) × (places_after places (Call member tag value) ≡ put places waiter (Met value) (place.meetings + 1))
+  pub answers_met : (i waiter : ℕ) (place : Place) → IsAt table tag.0 i → waiter ≡
+      member_at table i → place ≡ place_of places waiter →
+      (answer_to places (Call member tag value) ≡ reply.Met (value_given place.standing) waiter
+      (place.meetings + 1)) × (places_after places (Call member tag value) ≡
+      put places waiter (Met value) (place.meetings + 1))
   answers_met i waiter place at is_waiter is_place =
-      let found = finds_waiter table places lines tag.0 _ (found_at table lines.rising tag.0 i at) ∙ ap Some (sym is_waiter) in
+      let found = finds_waiter table places lines tag.0 _ (found_at table lines.rising tag.0 i at) ∙
+      ap Some (sym is_waiter) in
       let both = answers_call places member tag value _ below idle found in
       rw is_place both
 
   -- a call whose tag has none waits, or is worn out
-  pub answers_alone : (i count : ℕ) → IsGapFor table tag.0 i → count ≡ (place_of places member).meetings → (answer_to places (Call member tag value) ≡ (if eqb count LAST_MEETING then reply.Worn else reply.Wait count)) × (places_after places (Call member tag value) ≡ (if eqb count LAST_MEETING then places else put places member (Waiting tag value) count))
+  pub answers_alone : (i count : ℕ) → IsGapFor table tag.0 i → count ≡
+      (place_of places member).meetings → (answer_to places (Call member tag value) ≡
+      (if eqb count LAST_MEETING then reply.Worn else reply.Wait count)) ×
+      (places_after places (Call member tag value) ≡
+      (if eqb count LAST_MEETING then places else put places member (Waiting tag value) count))
   answers_alone i count gap is_count =
-      let found = finds_waiter table places lines tag.0 _ (found_in_gap table lines.rising tag member i gap) in
+      let found = finds_waiter table places lines tag.0 _
+      (found_in_gap table lines.rising tag member i gap) in
       let both = answers_call places member tag value _ below idle found in
       rw is_count both
 
 -- a line that is found stands somewhere
-place_of_line : (table : List Line) (tag member : ℕ) → member_with table tag ≡ Some member → (i : ℕ) × (i < length table) × (tag_at table i ≡ tag) × (member_at table i ≡ member)
+place_of_line : (table : List Line) (tag member : ℕ) → member_with table tag ≡ Some member →
+    (i : ℕ) × (i < length table) × (tag_at table i ≡ tag) × (member_at table i ≡ member)
 place_of_line [] tag member found = cc
 place_of_line ((key, owner) ∷ lines) tag member found = elim (cases_eq key.0 tag) [
   | inl same ↦ (0, omega arith, same, grind (arith, nat_tests))
@@ -152,9 +193,11 @@ place_of_line ((key, owner) ∷ lines) tag member found = elim (cases_eq key.0 t
 ]
 
 -- the lines are the calls that wait, each once, tags rising
-pub lists_waiting : (table : List Line) (places : List Place) → IsTable table places → ListsWaiting table places
+pub lists_waiting : (table : List Line) (places : List Place) → IsTable table places →
+    ListsWaiting table places
 lists_waiting table places lines = record {
   rising = lines.rising;
-  waits = λ i below. waits_there table places lines (tag_at table i) i (record { in_range = below; has_tag = refl });
+  waits = λ i below. waits_there table places lines (tag_at table i) i
+      (record { in_range = below; has_tag = refl });
   has_line = λ tag member waits. place_of_line table tag member (lines.has_line tag member waits);
 }

@@ -27,7 +27,8 @@ apart_in (share ∷ first) second number other different has too =
     here (eqb share.number number) refl has
     (λ had. apart_in first second number other different.1 had too)
   where
-    not_behind : (shares : List (Share Entry)) → AllByRecursion (λ n. share.number ≢ n) (numbers_in shares)
+    not_behind : (shares : List (Share Entry)) →
+        AllByRecursion (λ n. share.number ≢ n) (numbers_in shares)
         → AllByRecursion (λ (its : Share Entry). share.number ≢ its.number) shares
     not_behind [] all = tt
     not_behind (its ∷ shares) all = (all.0, not_behind shares all.1)
@@ -60,7 +61,8 @@ module _ (space : TagSpace) (member joined : Member) (is : IsMemberOf space memb
   pub rests_in : stage_of (seen_of joined) (number_of member) ≡ Over
   rests_in =
       ap (λ h. stage_of h (number_of member)) past.new_is
-      ∙ over_still (space_of space) (number_of member) past.since (seen_of member) legal none is.rests
+      ∙ over_still (space_of space) (number_of member) past.since (seen_of member) legal none
+      is.rests
 
   -- a member that is joined has in that history just the calls that it had made
   pub is_kept_in : IsKeptIn joined member
@@ -68,5 +70,6 @@ module _ (space : TagSpace) (member joined : Member) (is : IsMemberOf space memb
       record {
         past = past;
         calls = ap (calls_by (number_of member)) past.new_is
-            ∙ calls_still (space_of space) (number_of member) past.since (seen_of member) legal none;
+            ∙ calls_still (space_of space) (number_of member) past.since (seen_of member) legal
+            none;
       }

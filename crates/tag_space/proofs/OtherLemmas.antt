@@ -1,4 +1,5 @@
--- What entries of others leave as it was: a member that rests, a call under way, the member's calls.
+-- What entries of others leave as it was: a member that rests, a call under way, the member's
+-- calls.
 use Rattle.std.proofs.Common.{◌≡◌, ◌≢◌, ℕ, eqb, true, false, List, [], ◌∷◌, ◌++◌}
 use Rattle.std.proofs.Common.{Option, length, refl, sym, ap, ◌∙◌, subst, arith, inl, inr}
 use Rattle.std.proofs.lemmas.Bool.{cases_eq, cases_Bool, false≢true}
@@ -42,7 +43,8 @@ none_by member shares entries has others =
     entries others
 
 -- who rests, rests on
-pub over_after : (number member : ℕ) (call : GroupCall) (told : GroupReply) → member_of call ≢ member
+pub over_after : (number member : ℕ) (call : GroupCall) (told : GroupReply) →
+    member_of call ≢ member
     → stage_after number member Over call told ≡ Over
 over_after number member (Call caller tag value) (Wait count) differs =
     rw (no caller member differs) refl
@@ -66,7 +68,8 @@ one_of_more pair (other ∷ more) pairs is = inr (one_of_more pair more pairs is
 -- a call under way: it waits, or was found by another, of which its member was not told
 pub data IsUnder (past : List Entry) (member : ℕ) (offer : Offer) : Type 0 where
   Alone : stage_of past member ≡ Waits offer → IsUnder past member offer
-  Found : (pair : Pair) → stage_of past member ≡ Paired pair → pair.waiting ≡ offer → IsOneOfPairs pair (pairs_of past) → IsUnder past member offer
+  Found : (pair : Pair) → stage_of past member ≡ Paired pair → pair.waiting ≡ offer →
+      IsOneOfPairs pair (pairs_of past) → IsUnder past member offer
 
 -- an entry that leaves the member's stage leaves its call under way
 pub under_same : (past : List Entry) (entry : Entry) (member : ℕ) (offer : Offer)
@@ -81,7 +84,12 @@ under_same past entry member offer stage more pairs (Found pair paired waiting o
 module _ (past : List Entry) (by member : ℕ) (offer : Offer) where
   -- a call of another finds this one, or it had been found
   found_under : (caller value given count : ℕ) (tag : Tag) → IsUnder past member offer
-      → IsUnder (record { by = by; request = Call caller tag value; reply = Met given member count } ∷ past) member offer
+      → IsUnder (record {
+        by = by;
+        request = Call caller tag value;
+        reply =
+            Met given member count;
+      } ∷ past) member offer
   found_under caller value given count tag (Alone waits) =
       let finding : Offer =
       record { number = length past; member = caller; tag = tag.0; value = value } in
@@ -103,26 +111,48 @@ module _ (past : List Entry) (by member : ℕ) (offer : Offer) where
   under_after (Call caller tag value) (Met given other count) differs under =
       elim (cases_eq other member) [
         | inl same ↦
-            subst (λ o. IsUnder (record { by = by; request = Call caller tag value; reply = Met given o count } ∷ past) member offer) (sym same)
+            subst (λ o. IsUnder (record {
+              by = by;
+              request = Call caller tag value;
+              reply =
+                  Met given o count;
+            } ∷ past) member offer) (sym same)
             (found_under caller value given count tag under)
         | inr apart ↦
-            under_same past (record { by = by; request = Call caller tag value; reply = Met given other count }) member offer
+            under_same past (record {
+              by = by;
+              request = Call caller tag value;
+              reply =
+                  Met given other count;
+            }) member offer
             (rw (no other member apart) refl)
-            (pair_with (record { number = length past; member = caller; tag = tag.0; value = value }) (last_wait past other)) refl under
+            (pair_with (record {
+              number = length past;
+              member = caller;
+              tag = tag.0;
+              value =
+                  value;
+            }) (last_wait past other)) refl under
       ]
   under_after (Call caller tag value) (Wait count) differs under =
-      under_same past (record { by = by; request = Call caller tag value; reply = Wait count }) member offer (rw (no caller member differs) refl) [] refl under
+      under_same past (record { by = by; request = Call caller tag value; reply = Wait count })
+      member offer (rw (no caller member differs) refl) [] refl under
   under_after (Collect caller) (WasMet given) differs under =
-      under_same past (record { by = by; request = Collect caller; reply = WasMet given }) member offer (rw (no caller member differs) refl) [] refl under
+      under_same past (record { by = by; request = Collect caller; reply = WasMet given }) member
+      offer (rw (no caller member differs) refl) [] refl under
   under_after (Leave caller) (WasMet given) differs under =
-      under_same past (record { by = by; request = Leave caller; reply = WasMet given }) member offer (rw (no caller member differs) refl) [] refl under
+      under_same past (record { by = by; request = Leave caller; reply = WasMet given }) member
+      offer (rw (no caller member differs) refl) [] refl under
   under_after (Leave caller) Gone differs under =
-      under_same past (record { by = by; request = Leave caller; reply = Gone }) member offer (rw (no caller member differs) refl) [] refl under
+      under_same past (record { by = by; request = Leave caller; reply = Gone }) member offer
+      (rw (no caller member differs) refl) [] refl under
   under_after call told differs under =
-      under_same past (record { by = by; request = call; reply = told }) member offer refl [] refl under
+      under_same past (record { by = by; request = call; reply = told }) member offer refl [] refl
+      under
 
 -- an entry of another is no call of the member
-pub calls_after : (number member : ℕ) (call : GroupCall) (others : List Offer) → member_of call ≢ member
+pub calls_after : (number member : ℕ) (call : GroupCall) (others : List Offer) →
+    member_of call ≢ member
     → call_made number member call others ≡ others
 calls_after number member (Call caller tag value) others differs =
     rw (no caller member differs) refl
@@ -141,7 +171,8 @@ module _ (space : Space) (member : ℕ) where
   over_still [] past legal none over = over
   over_still (entry ∷ since) past legal none over =
       let before = over_still since past legal.1 none.1 over in
-      ap (λ stage. stage_after (length (since ++ past)) member stage entry.request entry.reply) before
+      ap (λ stage. stage_after (length (since ++ past)) member stage entry.request entry.reply)
+      before
       ∙ over_after (length (since ++ past)) member entry.request entry.reply
       (not_its entry legal.0.own none.0)
 
@@ -197,7 +228,8 @@ pub calls_fresh : (space : Space) (number : ℕ) (history : List Entry)
 calls_fresh space number [] legal below = refl
 calls_fresh space number (entry ∷ past) legal below =
     calls_after (length past) number entry.request (calls_by number past)
-    (λ same. let own : entry.by ≡ member_of entry.request = legal.0.own in omega (arith, below.0, own, same))
+    (λ same. let own : entry.by ≡ member_of entry.request =
+    legal.0.own in omega (arith, below.0, own, same))
     ∙ calls_fresh space number past legal.1 below.1
 
 -- a number that made no entry rests
@@ -209,4 +241,5 @@ over_fresh space number (entry ∷ past) legal below =
     ap (λ stage. stage_after (length past) number stage entry.request entry.reply)
     (over_fresh space number past legal.1 below.1)
     ∙ over_after (length past) number entry.request entry.reply
-    (λ same. let own : entry.by ≡ member_of entry.request = legal.0.own in omega (arith, below.0, own, same))
+    (λ same. let own : entry.by ≡ member_of entry.request =
+    legal.0.own in omega (arith, below.0, own, same))

@@ -103,7 +103,8 @@ module _ (space : Space) (limit member : ℕ) (old new : Account Entry)
       }
 
   -- it called, and waits
-  pub begins : (tag : Tag) (value count : ℕ) → (asks : Asks (Call member tag value) (Wait count) old new)
+  pub begins : (tag : Tag) (value count : ℕ) →
+      (asks : Asks (Call member tag value) (Wait count) old new)
       → IsUnderWay member
       (record { number = length asks.past; member = member; tag = tag.0; value = value })
       old.seen new
@@ -174,7 +175,8 @@ module _ (space : Space) (limit member : ℕ) (old new : Account Entry)
             ∙ rw (yes member) (ap (λ (others : List Offer). offer ∷ others)
             (calls_before call Worn asks));
         outcome = subst (λ h. IsOutForGood space h offer) (sym is)
-            (λ since later. (stays_out space since (entry_of call Worn ∷ asks.past) offer.number later
+            (λ since later. (stays_out space since (entry_of call Worn ∷
+            asks.past) offer.number later
             (refused_is_out space asks.past member member tag value
             (past_legal call Worn asks))).alone);
       }
@@ -192,7 +194,8 @@ module _ (space : Space) (limit member : ℕ) (old new : Account Entry)
         exchanged = inl (waiting, met.given_is ∙ ap (λ (p : Pair). p.finding.value) (sym same));
       }
 
-  module _ (offer : Offer) (before : List Entry) (given : ℕ) (way : IsUnderWay member offer before old)
+  module _ (offer : Offer) (before : List Entry) (given : ℕ) (way :
+      IsUnderWay member offer before old)
     where
       -- it asked, and was told of its meeting
       pub is_told : (asks : Asks (Collect member) (WasMet given) old new)
@@ -200,7 +203,8 @@ module _ (space : Space) (limit member : ℕ) (old new : Account Entry)
       is_told asks =
           let call : GroupCall = Collect member in
           let is = seen_is call (WasMet given) asks in
-          let pair = told_of asks.past offer given (under_before call (WasMet given) asks offer way.under)
+          let pair = told_of asks.past offer given (under_before call (WasMet given) asks offer
+          way.under)
           (answered call (WasMet given) asks).1 in
           record {
             rests = subst (λ h. stage_of h member ≡ Over) (sym is) (rw (yes member) refl);
@@ -215,7 +219,8 @@ module _ (space : Space) (limit member : ℕ) (old new : Account Entry)
       is_told_late asks =
           let call : GroupCall = Leave member in
           let is = seen_is call (WasMet given) asks in
-          let pair = told_of asks.past offer given (under_before call (WasMet given) asks offer way.under)
+          let pair = told_of asks.past offer given (under_before call (WasMet given) asks offer
+          way.under)
           (answered call (WasMet given) asks).1 in
           record {
             rests = subst (λ h. stage_of h member ≡ Over) (sym is) (rw (yes member) refl);
@@ -243,6 +248,8 @@ module _ (space : Space) (limit member : ℕ) (old new : Account Entry)
         rests = subst (λ h. stage_of h member ≡ Over) (sym is) (rw (yes member) refl);
         one = ap (calls_by member) is ∙ calls_before call Gone asks ∙ way.one;
         outcome = subst (λ h. IsOutForGood space h offer) (sym is)
-            (λ since later. (stays_out space since (entry_of call Gone ∷ asks.past) offer.number later
-            (left_is_out space asks.past member member offer (past_legal call Gone asks) waits)).alone);
+            (λ since later. (stays_out space since (entry_of call Gone ∷
+            asks.past) offer.number later
+            (left_is_out space asks.past member member offer (past_legal call Gone asks)
+            waits)).alone);
       }

@@ -38,12 +38,21 @@ made_is_call (entry ∷ past) offer (inl here) =
     let others = calls_by offer.member past in
     let call : GroupCall = Call offer.member (record { 0 = offer.tag }) offer.value in
     let newest : call_made (length past) offer.member call others
-    ≡ record { number = length past; member = offer.member; tag = offer.tag; value = offer.value } ∷ others
+    ≡ record { number = length past; member = offer.member; tag = offer.tag; value = offer.value } ∷
+    others
     = rw (yes offer.member) refl in
-    let its : record { number = length past; member = offer.member; tag = offer.tag; value = offer.value } ≡ offer
-    = ap (λ n. record { number = n; member = offer.member; tag = offer.tag; value = offer.value }) (sym here.0) in
+    let its : record {
+      number = length past;
+      member = offer.member;
+      tag = offer.tag;
+      value =
+          offer.value;
+    } ≡ offer
+    = ap (λ n. record { number = n; member = offer.member; tag = offer.tag; value = offer.value })
+    (sym here.0) in
     subst (IsOneOfCalls offer)
-    (sym (ap (λ request. call_made (length past) offer.member request others) here.1 ∙ newest)) (inl its)
+    (sym (ap (λ request. call_made (length past) offer.member request others) here.1 ∙ newest))
+    (inl its)
 made_is_call (entry ∷ past) offer (inr before) =
     more_calls offer (length past) offer.member entry.request (calls_by offer.member past)
     (made_is_call past offer before)
@@ -56,7 +65,8 @@ of_pair P pair (other ∷ pairs) all (inl is) = subst P is all.0
 of_pair P pair (other ∷ pairs) all (inr more) = of_pair P pair pairs all.1 more
 
 -- and what is true of each number in pairs is true of the numbers of its calls
-of_numbers : (P : ℕ → Type 0) (pair : Pair) (pairs : List Pair) → AllByRecursion P (numbers_in pairs)
+of_numbers : (P : ℕ → Type 0) (pair : Pair) (pairs : List Pair) →
+    AllByRecursion P (numbers_in pairs)
     → IsOneOfPairs pair pairs → P pair.waiting.number × P pair.finding.number
 of_numbers P pair [] all is = absurd is
 of_numbers P pair (other ∷ pairs) all (inl is) = (
@@ -97,9 +107,11 @@ one_pair : (offer : Offer) (first second : Pair) (pairs : List Pair)
 one_pair offer first second [] different is too side also = absurd is
 one_pair offer first second (pair ∷ pairs) different (inl is) (inl too) side also = sym is ∙ too
 one_pair offer first second (pair ∷ pairs) different (inl is) (inr too) side also =
-    absurd (not_again offer pair second pairs different too (subst (IsSide offer) (sym is) side) also)
+    absurd (not_again offer pair second pairs different too (subst (IsSide offer) (sym is) side)
+    also)
 one_pair offer first second (pair ∷ pairs) different (inr is) (inl too) side also =
-    absurd (not_again offer pair first pairs different is (subst (IsSide offer) (sym too) also) side)
+    absurd (not_again offer pair first pairs different is (subst (IsSide offer) (sym too) also)
+    side)
 one_pair offer first second (pair ∷ pairs) different (inr is) (inr too) side also =
     one_pair offer first second pairs different.1.1 is too side also
 

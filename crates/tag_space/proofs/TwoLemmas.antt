@@ -110,7 +110,8 @@ module _ (space : TagSpace) (this this_after other other_after joined : Member)
 
   -- whoever is answered is answered the other's value
   of_answer : (told : Result ℕ Fault) → answer ≡ told → IfOk told (λ got. got ≡ others)
-  of_answer (Ok given) is = gets_value given (subst (ComesOf (space_of space) (seen_of this_after) call.offer) is call.outcome)
+  of_answer (Ok given) is = gets_value given (subst
+      (ComesOf (space_of space) (seen_of this_after) call.offer) is call.outcome)
   of_answer (Err why) is = tt
 
   -- where a call of one of two members is answered a value, it is the one that the other gave
@@ -132,7 +133,8 @@ module _ (space : TagSpace) (this this_after other other_after joined : Member)
   of_both : (told : Result ℕ Fault) → answer ≡ told → OnOk told (IsOk other_answer)
   of_both (Ok given) is =
       not_out other_answer refl
-      (is_paired given (subst (ComesOf (space_of space) (seen_of this_after) call.offer) is call.outcome))
+      (is_paired given (subst (ComesOf (space_of space) (seen_of this_after) call.offer) is
+      call.outcome))
   of_both (Err why) is = tt
 
   -- where a call of one of two members is answered a value, so is the other's

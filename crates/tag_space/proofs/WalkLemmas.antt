@@ -39,7 +39,8 @@ module _ (caller : Caller) (first : Point) (count : ℕ) where
       record {
         turns = record { woken = woken; told = told; count = next } ∷ waited.turns;
         are_turns = (
-          subst (λ point. SleptWell caller (last_count count waited.turns) point woken) waited.now_is
+          subst (λ point. SleptWell caller (last_count count waited.turns) point woken)
+              waited.now_is
               (subst (λ n. SleptWell caller n asleep woken) waited.last_is slept),
           asked,
           waited.are_turns,

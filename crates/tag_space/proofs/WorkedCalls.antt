@@ -1,5 +1,6 @@
 -- What comes of calls in the worked histories, and what rfork does by its flags, computed.
-use Rattle.std.proofs.Common.{◌≡◌, ◌⊎◌, ℕ, true, false, List, [], ◌∷◌, length, refl, inl, inr, arith, Some, None}
+use Rattle.std.proofs.Common.{◌≡◌, ◌⊎◌, ℕ, true, false, List, [], ◌∷◌, length, refl, inl, inr}
+use Rattle.std.proofs.Common.{arith, Some, None}
 use Rattle.std.proofs.Common.{Ok, Err, ap, sym, ◌∙◌, ◌≢◌, ◌++◌}
 use Rattle.std.proofs.lemmas.Bool.{false≢true}
 use Rattle.histories.specs.declared.account.Account.{Account}
@@ -29,7 +30,8 @@ use Rattle.tag_space.specs.Spaces.{IsFurtherMember, IsKeptIn, JoinsMembers}
 use Rattle.tag_space.specs.Rendezvous.{Entry, Offer, Pair, pairs_of}
 use Rattle.tag_space.specs.Walk.{Point, Caller, Turn, last_count, PutsBack}
 use Rattle.tag_space.specs.Walk.{EndsWait}
-use Rattle.tag_space.proofs.WorkedSpaces.{told, gives, offer, two, one_waits, one_is_found, one_is_told, the_pair}
+use Rattle.tag_space.proofs.WorkedSpaces.{told, gives, offer, two, one_waits, one_is_found}
+use Rattle.tag_space.proofs.WorkedSpaces.{one_is_told, the_pair}
 
 -- ---- a member's calls
 
@@ -40,7 +42,8 @@ and_nobody_elses : calls_by 1 one_is_told ≡ offer 1 1 7 9 ∷ []
 and_nobody_elses = refl
 
 -- a second call of the same member stands before the first, under its own number
-calls_are_told_apart : calls_by 0 (told (gives 0 7 5) (Wait 1) ∷ one_is_told) ≡ offer 3 0 7 5 ∷ offer 0 0 7 5 ∷ []
+calls_are_told_apart : calls_by 0 (told (gives 0 7 5) (Wait 1) ∷ one_is_told) ≡ offer 3 0 7 5 ∷
+    offer 0 0 7 5 ∷ []
 calls_are_told_apart = refl
 
 -- ---- who is in a pair
@@ -129,7 +132,8 @@ who_waited_exchanged =
     }
 
 -- the call of another is not the member's
-anothers_call_is_not_its_own : (exchange : Exchange two 0 (record { 0 = 7 }) 5 [] one_is_told (Ok 9))
+anothers_call_is_not_its_own :
+    (exchange : Exchange two 0 (record { 0 = 7 }) 5 [] one_is_told (Ok 9))
     → exchange.offer ≡ offer 1 1 7 9 → ⊥
 anothers_call_is_not_its_own exchange is =
     let member : 0 ≡ 1 = sym exchange.member_is ∙ ap (λ (o : Offer). o.member) is in
@@ -273,7 +277,8 @@ a_bad_flag_joins_nobody joins = false≢true joins.child
 
 -- without flags, and with both, the member is let alone
 no_flag_leaves_the_member : LeavesMember (flags 0)
-no_flag_leaves_the_member = record { no_child = no_flag_joins_nobody; stays = λ is. omega (arith, is) }
+no_flag_leaves_the_member =
+    record { no_child = no_flag_joins_nobody; stays = λ is. omega (arith, is) }
 
 both_leave_the_member : LeavesMember (flags 3)
 both_leave_the_member = record { no_child = both_join_nobody; stays = λ is. omega (arith, is) }
@@ -324,7 +329,8 @@ module _ (unused : Unused) (space : TagSpace) (before after further : Member) wh
       differs (ap (λ (member : Member). number_of member) (untouched both_leave_the_member))
 
   -- with RFPROC the child's member is a further one
-  a_child_has_a_further_member : (child : Child) → GivesMember space (flags 1) before after (Some child)
+  a_child_has_a_further_member : (child : Child) →
+      GivesMember space (flags 1) before after (Some child)
       → IsFurtherMember space before after child.member
   a_child_has_a_further_member child gives = gives rfproc_alone_joins_its_parent
 
@@ -350,7 +356,8 @@ module _ (unused : Unused) (space : TagSpace) (before after further : Member) wh
       let gives = ap (λ (a : Account Entry). a.gave) is.given.account.parent_is in
       let both : one ∷ other ∷ gave ≡ number_of_child is ∷ gave =
       sym now ∙ gives ∙ ap (λ (ns : List ℕ). number_of_child is ∷ ns) then in
-      let lengths : length (one ∷ other ∷ gave) ≡ length (number_of_child is ∷ gave) = ap length both in
+      let lengths : length (one ∷ other ∷ gave) ≡ length (number_of_child is ∷ gave) =
+      ap length both in
       omega (arith, lengths)
     where
       number_of_child : IsFurtherMember space before after further → ℕ

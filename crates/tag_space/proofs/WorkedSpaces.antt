@@ -4,7 +4,8 @@ use Rattle.histories.specs.History.{IsLegal}
 use Rattle.tag_space.specs.declared.calls.GroupCall.{GroupCall}
 use Rattle.tag_space.specs.declared.calls.GroupCall.TheVariants.{Call, Collect, Leave}
 use Rattle.tag_space.specs.declared.calls.GroupReply.{GroupReply}
-use Rattle.tag_space.specs.declared.calls.GroupReply.TheVariants.{Met, WasMet, Wait, Worn, Gone, Busy}
+use Rattle.tag_space.specs.declared.calls.GroupReply.TheVariants.{Met, WasMet, Wait, Worn, Gone}
+use Rattle.tag_space.specs.declared.calls.GroupReply.TheVariants.{Busy}
 use Rattle.tag_space.specs.Group.{opening}
 use Rattle.kernel_lock.specs.Definition.{meaning_of}
 use Rattle.tag_space.specs.Group.{group, member_of}
@@ -147,7 +148,8 @@ a_worn_run =
     ∷ told (gives 1 7 9) (Met 5 0 18446744073709551614)
     ∷ told (gives 0 7 5) (Wait 18446744073709551613) ∷ []
 
-the_last_count_waits_no_more : IsLegal (meaning_of group) (opening 2 18446744073709551613) a_worn_run
+the_last_count_waits_no_more :
+    IsLegal (meaning_of group) (opening 2 18446744073709551613) a_worn_run
 the_last_count_waits_no_more = (
   record { reply = refl; named = refl },
   (
@@ -173,7 +175,8 @@ busy_for_nothing : IsLegal (rendezvous two) [] (told (gives 0 7 5) Busy ∷ []) 
 busy_for_nothing legal = legal.0.answered (record { exists = omega arith; is_over = refl })
 
 -- another's call
-by_another : IsLegal (rendezvous two) [] (record { by = 1; request = gives 0 7 5; reply = Wait 0 } ∷ []) → ⊥
+by_another : IsLegal (rendezvous two) [] (record { by = 1; request = gives 0 7 5; reply = Wait 0 } ∷
+    []) → ⊥
 by_another legal = omega (arith, legal.0.own)
 
 -- a call whose tag waits doesn't wait beside it

@@ -68,8 +68,8 @@ abbrev pub ComesOf : Space → List Entry → Offer → Result ℕ Fault → Typ
 ComesOf space history offer (Ok given) = IsInPair history offer given
 ComesOf space history offer (Err why) = IsOutForGood space history offer
 
--- The member made one call, its own, with this tag and this value. It is answered with a value exactly where
--- that call is in a pair: the partner's.
+-- The member made one call, its own, with this tag and this value. It is answered with a value
+-- exactly where that call is in a pair: the partner's.
 pub record Exchange (space : Space) (member : ℕ) (tag : Tag) (value : ℕ) (before after : List Entry)
     (answer : Result ℕ Fault) : Type 0 where
   pub offer : Offer

@@ -70,8 +70,8 @@ pub struct NotForked {
 
 /// After fork(2): makes a child with RFPROC, and a new tag space with RFREND. A child is in its
 /// parent's space, but with RFREND it is the first in a new one. With RFREND alone the caller is,
-/// and its old member is spent. A new space has as many members as the old one. With RFNOTEG a child
-/// is the first of a new note group, and without RFPROC the caller is.
+/// and its old member is spent. A new space has as many members as the old one. With RFNOTEG a
+/// child is the first of a new note group, and without RFPROC the caller is.
 ///
 /// Refuses, in this order, as `BadFlags` for any other flag, `NoProc` where no pid is left,
 /// `NoRendez` where no row for a new space is left, `NoProc` where the old space has had all its

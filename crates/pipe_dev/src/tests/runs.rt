@@ -69,7 +69,8 @@ struct Wrote {
     refused: u64,
     /// Whether a write found the direction hung up.
     hungup: bool,
-    /// Whether its writes had rising numbers, and the note of a closed pipe came just with a hangup.
+    /// Whether its writes had rising numbers, and the note of a closed pipe came just with a
+    /// hangup.
     good: bool,
 }
 

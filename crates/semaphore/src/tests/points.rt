@@ -1,6 +1,7 @@
 //! The points that an acquire passes, as a whole list for each way through it, while another
 //! process acts at some of them. What that one is told, and which way the call then goes, tells
-//! which steps were made; so a point that is moved over such a step, doubled or left out is noticed.
+//! which steps were made; so a point that is moved over such a step, doubled or left out is
+//! noticed.
 use crate::tests::member::{Act, ActAt, First, Member};
 use crate::{OpenedSema, OpenedTimers, Sema, Semacquired, Timers};
 use sleep_wakeup::{Kernel, Opened, Started};

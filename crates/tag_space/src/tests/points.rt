@@ -1,6 +1,7 @@
 //! The points that a rendezvous passes, as a whole list for each way through it, while a note and a
 //! partner come at some of them. What the partner is told, and which way the call then goes, tells
-//! which steps were made; so a point that is moved over such a step, doubled or left out is noticed.
+//! which steps were made; so a point that is moved over such a step, doubled or left out is
+//! noticed.
 ghost use Rattle.std.specs.Prelude.{◌≡◌};
 ghost use Rattle.tag_space.specs.Members.{IsMemberOf, HasRow};
 

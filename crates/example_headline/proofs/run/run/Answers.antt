@@ -12,7 +12,8 @@ muster-requires g c =
     let read = c.ends-first.result.first.read in
     let writes = c.ends-first.result.second.writes.items in
     let new : IsFresh read writes =
-    fresh_ends c.in_ok-pipe.field-0.pipe.there c.in_ok-pipe.field-0.start.there read writes start.there
+    fresh_ends c.in_ok-pipe.field-0.pipe.there c.in_ok-pipe.field-0.start.there read writes
+    start.there
     c.in_ok-pipe.ensures.opened.there_mode
     c.ends-first.ensures.there in
     record {

@@ -19,14 +19,16 @@ filling-preserved-in-Message c =
     let buffer = (back_of now c.filling.count new room).buffer in
     record {
       hand = c.take_part-now.ensures.hand;
-      so_far = next_so_far key mode first now new room c.filling.took c.in-Part.number c.filling.count
+      so_far = next_so_far key mode first now new room c.filling.took c.in-Part.number
+          c.filling.count
           c.in-Part.more _
           (subst (SoFar key mode first now c.filling.took c.filling.count) c.filling-test.true
           c.filling.invariant.so_far)
           (given_part key (room_of now c.filling.count) _ c.take_part-now.result.next c.in-Part.more
           c.in-Part.number c.in-Part.is c.take_part-now.ensures.next)
           c.take_part-now.auto.room
-          (sym (ap (λ m. goes_on_behind m (c.filling.count + c.in-Part.more) buffer) c.in-Message.is));
+          (sym (ap (λ m. goes_on_behind m (c.filling.count + c.in-Part.more) buffer)
+          c.in-Message.is));
     }
 
 pub filling-preserved : goal.filling-preserved
@@ -40,14 +42,16 @@ filling-preserved c =
     let buffer = (back_of now c.filling.count new room).buffer in
     record {
       hand = c.take_part-now.ensures.hand;
-      so_far = next_so_far key mode first now new room c.filling.took c.in-Part.number c.filling.count
+      so_far = next_so_far key mode first now new room c.filling.took c.in-Part.number
+          c.filling.count
           c.in-Part.more _
           (subst (SoFar key mode first now c.filling.took c.filling.count) c.filling-test.true
           c.filling.invariant.so_far)
           (given_part key (room_of now c.filling.count) _ c.take_part-now.result.next c.in-Part.more
           c.in-Part.number c.in-Part.is c.take_part-now.ensures.next)
           c.take_part-now.auto.room
-          (sym (ap (λ m. goes_on_behind m (c.filling.count + c.in-Part.more) buffer) c.in-Stream.is));
+          (sym (ap (λ m. goes_on_behind m (c.filling.count + c.in-Part.more) buffer)
+          c.in-Stream.is));
     }
 
 pub filling-smaller : goal.filling-smaller

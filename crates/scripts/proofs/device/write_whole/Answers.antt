@@ -1,6 +1,7 @@
 -- Each write moves its bytes from what is left to what was written, so a front of all is there.
 use Rattle.std.proofs.lemmas.List.{take_rest}
-use Rattle.scripts.proofs.DeviceLemmas.{on_err, front_kept, front_written, writes_more, writes_nothing}
+use Rattle.scripts.proofs.DeviceLemmas.{on_err, front_kept, front_written, writes_more}
+use Rattle.scripts.proofs.DeviceLemmas.{writes_nothing}
 use Rattle.scripts.proofs.device.write_whole.Goals as goal
 
 pub loop-init : goal.loop-init

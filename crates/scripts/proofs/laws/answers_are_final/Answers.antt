@@ -1,5 +1,6 @@
 -- The lines of the front are the first lines of the whole.
-use Rattle.scripts.proofs.ScriptLawLemmas.{answers_final, output_final, front_sound, too_long_stays, farewell_last, fault_has_no_farewell}
+use Rattle.scripts.proofs.ScriptLawLemmas.{answers_final, output_final, front_sound, too_long_stays}
+use Rattle.scripts.proofs.ScriptLawLemmas.{farewell_last, fault_has_no_farewell}
 use Rattle.scripts.proofs.laws.answers_are_final.Goals as goal
 
 pub returns-clause-answers : goal.returns-clause-answers

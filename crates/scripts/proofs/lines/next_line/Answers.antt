@@ -1,6 +1,7 @@
 -- Before the first line feed stands the first line and behind it the others; else there is no line.
 use Rattle.std.proofs.Common.{sym}
-use Rattle.scripts.proofs.LineLemmas.{lines_of-at, cut_line_of-at, lines_of-missing, cut_line_of-missing}
+use Rattle.scripts.proofs.LineLemmas.{lines_of-at, cut_line_of-at, lines_of-missing}
+use Rattle.scripts.proofs.LineLemmas.{cut_line_of-missing}
 use Rattle.scripts.proofs.lines.next_line.Goals as goal
 
 pub returns-in-None-clause-lines : goal.returns-in-None-clause-lines

@@ -4,7 +4,8 @@ use Rattle.std.specs.Io.KnownBytes.{Appends}
 use Rattle.std.proofs.lemmas.Result.{err_from_is_err_and}
 use Rattle.scripts.specs.Device.{AppendsFront}
 use Rattle.scripts.proofs.DeviceLemmas.{front_written, tells_err, all_written}
-use Rattle.scripts.proofs.ScriptLemmas.{goes_answered, goes_written, goes_partly, goes_end, front_of_held, writes_held}
+use Rattle.scripts.proofs.ScriptLemmas.{goes_answered, goes_written, goes_partly, goes_end}
+use Rattle.scripts.proofs.ScriptLemmas.{front_of_held, writes_held}
 use Rattle.scripts.proofs.script.answer_lines.Goals as goal
 
 pub returns-in_err-after-clause-told : goal.returns-in_err-after-clause-told

@@ -3,4 +3,5 @@ use Rattle.semaphore.proofs.SemaLawLemmas.{history_keeps}
 use Rattle.semaphore.proofs.laws.units_add_up.Goals as goal
 
 pub returns : goal.returns
-returns c value procs count past fits few legal = (history_keeps value procs count past fits few legal).0.units
+returns c value procs count past fits few legal =
+    (history_keeps value procs count past fits few legal).0.units

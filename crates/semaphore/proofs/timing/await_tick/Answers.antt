@@ -24,7 +24,8 @@ loop-preserved-in-None-rest g c =
           (subst
           (λ r. Slept r LAST_GRANT Ending.Well c.loop.proc.process c.rest.new.proc.process)
           (sym rendez) c.in-None-rest.ensures.slept)
-          (c.loop.invariant.awaits caller start now left rendez expired notes cancelled process calls);
+          (c.loop.invariant.awaits caller start now left rendez expired notes cancelled process
+          calls);
     }
 
 pub loop-preserved-in-Some-Noted : goal.loop-preserved-in-Some-Noted
@@ -51,7 +52,8 @@ loop-preserved-in-Some-Noted g c =
           (λ s. Slept c.args.rendez LAST_GRANT (rest_ending s) c.loop.proc.process
           c.rest.new.proc.process)
           came c.rest.ensures.slept))
-          (c.loop.invariant.awaits caller start now left rendez expired notes cancelled process calls));
+          (c.loop.invariant.awaits caller start now left rendez expired notes cancelled process
+          calls));
     }
 
 pub loop-preserved : goal.loop-preserved
@@ -69,7 +71,12 @@ loop-preserved g c =
           (sym c.join-notes-in-Some-Refused.ensures.value)
           (awaits_refused caller start (stepped c.loop.proc now) c.rest.new.proc.process
           c.notes.new.self.process (record left { notes = c.loop.notes })
-          c.notes.result (record { expired = expired ∙ asked; to_come = to_come; cancelled = cancelled })
+          c.notes.result (record {
+            expired = expired ∙ asked;
+            to_come = to_come;
+            cancelled =
+                cancelled;
+          })
           (subst
           (λ r. Slept r LAST_GRANT Ending.Double c.loop.proc.process c.rest.new.proc.process)
           (sym rendez)
@@ -78,5 +85,6 @@ loop-preserved g c =
           c.rest.new.proc.process)
           came c.rest.ensures.slept))
           c.notes.ensures.taken
-          (c.loop.invariant.awaits caller start now left rendez expired notes cancelled process calls));
+          (c.loop.invariant.awaits caller start now left rendez expired notes cancelled process
+          calls));
     }

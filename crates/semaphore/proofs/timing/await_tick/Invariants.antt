@@ -12,7 +12,8 @@ invariant-loop g l =
       pid : l.proc.process.pid ≡ l.initial.proc.process.pid;
       awaits : (caller : Caller) (start now : Standing) (left : Left) →
           caller.rendez ≡ l.rendez → left.expired ≡ l.expired → left.notes ≡ l.initial.notes →
-          left.cancelled ≡ true → now.process ≡ l.initial.proc.process → Calls caller start now (HasLeft caller left) →
+          left.cancelled ≡ true → now.process ≡ l.initial.proc.process →
+          Calls caller start now (HasLeft caller left) →
           Calls caller start (stepped l.proc now)
           (HasLeft caller (record left { notes = l.notes }));
     }

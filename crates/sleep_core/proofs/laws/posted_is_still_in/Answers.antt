@@ -1,5 +1,6 @@
 -- By what every run keeps.
-use Rattle.sleep_core.proofs.TakesKept.{posted_are_still_in, still_in_are_posted, asleep_have_fallen}
+use Rattle.sleep_core.proofs.TakesKept.{posted_are_still_in, still_in_are_posted}
+use Rattle.sleep_core.proofs.TakesKept.{asleep_have_fallen}
 use Rattle.sleep_core.proofs.laws.posted_is_still_in.Goals as goal
 
 pub returns-clause-word : goal.returns-clause-word

@@ -8,7 +8,8 @@ pub store-requires-clause-seat : goal.store-requires-clause-seat
 store-requires-clause-seat g c =
     let entered = c.accept.ensures.told.entered c.if-accept-count.false in
     steps_on c.args.self.now c.accept.new.seat c.move_in.new.seat _
-    (entered_place c.args.self.now c.args.place.now c.accept.new.seat _ _ _ c.requires.place c.accept.ensures.seat entered.enters)
+    (entered_place c.args.self.now c.args.place.now c.accept.new.seat _ _ _ c.requires.place
+    c.accept.ensures.seat entered.enters)
     c.move_in.ensures.seat (ap (λ me. me.0.account) c.move_in.ensures.moved)
 
 pub returns-clause-place : goal.returns-clause-place
@@ -17,8 +18,11 @@ returns-clause-place g c =
     let stored = c.store.ensures.told in
     let account = ap (λ me. me.0.account) c.move_in.ensures.moved in
     let place = steps_on c.args.self.now c.accept.new.seat c.move_in.new.seat _
-    (entered_place c.args.self.now c.args.place.now c.accept.new.seat _ _ _ c.requires.place c.accept.ensures.seat entered.enters)
+    (entered_place c.args.self.now c.args.place.now c.accept.new.seat _ _ _ c.requires.place
+    c.accept.ensures.seat entered.enters)
     c.move_in.ensures.seat account in
     entered_free c.args.self.now c.move_in.new.seat c.store.new.seat _ _ _ place
-    (ap (λ account. account.number) account ∙ entered_number _ _ _ _ entered.enters ∙ c.requires.number)
-    c.store.ensures.seat stored.entered.enters stored.entered.stage_is (stored.slots ∙ ap (λ me. rest me.1) c.move_in.ensures.moved)
+    (ap (λ account. account.number) account ∙ entered_number _ _ _ _ entered.enters ∙
+    c.requires.number)
+    c.store.ensures.seat stored.entered.enters stored.entered.stage_is (stored.slots ∙
+    ap (λ me. rest me.1) c.move_in.ensures.moved)

@@ -11,7 +11,8 @@ invariant-emptying l =
       place : IsFreePlaceOf l.self l.place 0;
       taken : l.taken ≡ l.place.me.0.taken;
       room : l.left ≤ vec_capacity l.blocks;
-      emptying : IsEmptying l.self.key l.left l.initial.place.me.0.account l.place.me.0.account l.blocks.items;
+      emptying : IsEmptying l.self.key l.left l.initial.place.me.0.account l.place.me.0.account
+          l.blocks.items;
     }
 
 abbrev pub decreases-emptying : goal.decreases-emptying

@@ -10,5 +10,6 @@ split_seat-requires c =
     let seat = c.args.place.now in (
       c.requires.table,
       omega arith,
-      hand_keeps c.args.self.now.table.shared.key c.args.place.now.id c.args.place.now.me.0 next.own next.next next.others next.shares_are next.own_is next.next_is next.stage_is,
+      hand_keeps c.args.self.now.table.shared.key c.args.place.now.id c.args.place.now.me.0 next.own
+          next.next next.others next.shares_are next.own_is next.next_is next.stage_is,
     )

@@ -6,7 +6,8 @@ use Rattle.block_queue.proofs.OpeningLemmas.{next_to_hand, handed_on, new_put_se
 use Rattle.block_queue.proofs.queue.Queue.hand_seats.Goals as goal
 
 pub hand-seat-requires-clause-next : goal.hand-seat-requires-clause-next
-hand-seat-requires-clause-next c = next_to_hand _ _ _ (ap (λ me. me.0) c.loop-writer.invariant.view) c.loop-writer-test.true
+hand-seat-requires-clause-next c =
+    next_to_hand _ _ _ (ap (λ me. me.0) c.loop-writer.invariant.view) c.loop-writer-test.true
 
 pub loop-writer-preserved : goal.loop-writer-preserved
 loop-writer-preserved c =
@@ -17,10 +18,20 @@ loop-writer-preserved c =
     let known = ap (λ me. me.0) c.hand-seat.ensures.handed ∙ ap (λ me. handed_view me.0) view in
     record {
       table = c.hand-seat.ensures.place.table ∙ c.loop-writer.invariant.table;
-      view = c.hand-seat.ensures.keeper ∙ ap (λ me. (keeper_view me.0, me.1)) view ∙ ap (λ v. (v, [])) (handed_on c.args.self.now.key.writers c.loop-writer.writer more);
-      puts = subst (AreNewPutSeats c.args.self.now (c.loop-writer.writer + 1)) (sym c.push_reserved.ensures.items)
-          (one_more_seat c.args.self.now c.loop-writer.writer _ (record { badge = c.into_badge.result; writer = c.loop-writer.writer; spare = tt }) c.loop-writer.invariant.puts
-          (new_put_seat c.args.self.now (record { badge = c.into_badge.result; writer = c.loop-writer.writer; spare = tt }) c.hand-seat.result.me.0
-          (c.into_badge.ensures.0 ∙ c.hand-seat.ensures.table ∙ c.loop-writer.invariant.table) c.into_badge.ensures.2 more known));
+      view = c.hand-seat.ensures.keeper ∙ ap (λ me. (keeper_view me.0, me.1)) view ∙
+          ap (λ v. (v, [])) (handed_on c.args.self.now.key.writers c.loop-writer.writer more);
+      puts = subst (AreNewPutSeats c.args.self.now (c.loop-writer.writer + 1))
+          (sym c.push_reserved.ensures.items)
+          (one_more_seat c.args.self.now c.loop-writer.writer _
+          (record { badge = c.into_badge.result; writer = c.loop-writer.writer; spare = tt })
+          c.loop-writer.invariant.puts
+          (new_put_seat c.args.self.now (record {
+            badge = c.into_badge.result;
+            writer =
+                c.loop-writer.writer;
+            spare = tt;
+          }) c.hand-seat.result.me.0
+          (c.into_badge.ensures.0 ∙ c.hand-seat.ensures.table ∙
+          c.loop-writer.invariant.table) c.into_badge.ensures.2 more known));
       room = omega arith;
     }

@@ -6,5 +6,7 @@ use Rattle.block_queue.proofs.queue.Queue.hang.Goals as goal
 pub returns-clause-place : goal.returns-clause-place
 returns-clause-place c =
     let told = c.hang_up.ensures.told in
-    entered_free c.args.self.now c.args.place.now c.hang_up.new.seat _ _ _ (free_steps _ _ _ c.requires.place) c.requires.place.number_is
-    c.hang_up.ensures.seat told.entered.enters told.entered.stage_is (told.slots ∙ c.requires.place.no_slot)
+    entered_free c.args.self.now c.args.place.now c.hang_up.new.seat _ _ _
+    (free_steps _ _ _ c.requires.place) c.requires.place.number_is
+    c.hang_up.ensures.seat told.entered.enters told.entered.stage_is (told.slots ∙
+    c.requires.place.no_slot)

@@ -10,7 +10,8 @@ returns-clause-seat c =
     let writer = c.sit.ensures.writer ∙ c.stand-place.ensures.writer in
     sits_put c.args.self.now c.sit.new.self c.hang.new.place
     (subst (λ n. n < c.args.self.now.key.writers) (sym writer) c.requires.seat.writer_is)
-    (subst (λ n. IsFreePlaceOf c.args.self.now c.hang.new.place (n + 1)) (sym c.sit.ensures.writer) c.hang.ensures.place)
+    (subst (λ n. IsFreePlaceOf c.args.self.now c.hang.new.place (n + 1)) (sym c.sit.ensures.writer)
+    c.hang.ensures.place)
     c.sit.ensures.table c.sit.ensures.views
 
 pub returns-clause-same : goal.returns-clause-same

@@ -7,8 +7,10 @@ use Rattle.block_queue.proofs.queue.Queue.hang_take.Goals as goal
 
 pub returns-clause-seat : goal.returns-clause-seat
 returns-clause-seat c =
-    sits_take c.args.self.now c.sit.new.self c.hang.new.place c.hang.ensures.place c.sit.ensures.table c.sit.ensures.views
-    (c.sit.ensures.taken ∙ c.stand-place.ensures.taken ∙ c.requires.seat.taken ∙ sym (ap (λ me. me.0.taken) c.stand-place.ensures.place) ∙ sym c.hang.ensures.taken)
+    sits_take c.args.self.now c.sit.new.self c.hang.new.place c.hang.ensures.place
+    c.sit.ensures.table c.sit.ensures.views
+    (c.sit.ensures.taken ∙ c.stand-place.ensures.taken ∙ c.requires.seat.taken ∙
+    sym (ap (λ me. me.0.taken) c.stand-place.ensures.place) ∙ sym c.hang.ensures.taken)
 
 pub returns-clause-same : goal.returns-clause-same
 returns-clause-same c =

@@ -12,14 +12,18 @@ use Rattle.block_queue.proofs.queue.Queue.hang_up.Goals as goal
 pub fetch_or-requires : goal.fetch_or-requires
 fetch_or-requires g c =
     let words = c.args.self.now.words in
-    let own = subst (λ n. has_number c.args.seat.now.me.0.account.shares n ≡ true) c.requires.number c.requires.seat.own in (
+    let own = subst (λ n. has_number c.args.seat.now.me.0.account.shares n ≡
+    true) c.requires.number c.requires.seat.own in (
       c.requires.seat.table,
       omega arith,
-      subst (λ k. table.Allows (IsOneQueue k) c.args.self.now.table.shared.table_id.slots c.args.seat.now.id c.args.seat.now.me 0 (λ n. bit_or n MARK) (λ _. HasHung g.M.Asks.asked.key c.args.seat.now.me))
+      subst (λ k. table.Allows (IsOneQueue k) c.args.self.now.table.shared.table_id.slots
+          c.args.seat.now.id c.args.seat.now.me 0 (λ n. bit_or n MARK)
+          (λ _. HasHung g.M.Asks.asked.key c.args.seat.now.me))
           (ap (λ asked. asked.key) c.requires.asked ∙ c.args.self.now.keyed)
           (hang_keeps g.M.Asks.asked.key _ _ _ own c.requires.stage),
     )
 
 pub returns-clause-told : goal.returns-clause-told
 returns-clause-told g c =
-    subst (λ asked. HasHung asked.key c.args.seat.now.me c.fetch_or.new.seat.me) c.requires.asked c.fetch_or.ensures.2
+    subst (λ asked. HasHung asked.key c.args.seat.now.me c.fetch_or.new.seat.me) c.requires.asked
+    c.fetch_or.ensures.2

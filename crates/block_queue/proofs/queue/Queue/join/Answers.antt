@@ -10,5 +10,6 @@ join_seat-requires c =
       c.requires.table,
       c.requires.no_slot,
       omega arith,
-      join_keeps c.args.self.now.table.shared.key _ _ _ _ c.requires.place.own c.requires.place.stage c.requires.stage,
+      join_keeps c.args.self.now.table.shared.key _ _ _ _ c.requires.place.own
+          c.requires.place.stage c.requires.stage,
     )

@@ -5,7 +5,8 @@ use Rattle.block_queue.specs.Gather.{IsJoining, TellsPasts}
 use Rattle.histories.specs.Changes.{joined_account}
 use Rattle.block_queue.specs.Seats.{head_view, put_view}
 use Rattle.block_queue.specs.Steps.{joined_view}
-use Rattle.block_queue.proofs.GatherLemmas.{none_told, one_told, none_joined, one_joined, all_joined, joined_free, last_seat}
+use Rattle.block_queue.proofs.GatherLemmas.{none_told, one_told, none_joined, one_joined}
+use Rattle.block_queue.proofs.GatherLemmas.{all_joined, joined_free, last_seat}
 use Rattle.block_queue.proofs.queue.Queue.join_all.Goals as goal
 
 -- a list with no length is empty
@@ -14,7 +15,14 @@ no_more [] none = refl
 no_more (seat ∷ seats) none = absurd (omega arith)
 
 pub joining-init : goal.joining-init
-joining-init c = record { place = c.requires.place; taken = refl; puts = c.requires.puts; joining = none_joined c.args.self.now _ _ c.requires.place.own c.requires.none; pasts = none_told _ _ }
+joining-init c = record {
+  place = c.requires.place;
+  taken = refl;
+  puts = c.requires.puts;
+  joining =
+      none_joined c.args.self.now _ _ c.requires.place.own c.requires.none;
+  pasts = none_told _ _;
+}
 
 pub into_seat-requires : goal.into_seat-requires
 into_seat-requires c =
@@ -36,11 +44,15 @@ joining-preserved c =
     let last = last_seat c.args.self.now _ _ _ c.in-Some.ensures.items c.joining.invariant.puts in
     let joined = c.join.ensures.joined in
     record {
-      place = joined_free c.args.self.now c.joining.place c.join.new.place c.into_seat.result.me.0 c.joining.invariant.place c.join.ensures.place joined;
+      place = joined_free c.args.self.now c.joining.place c.join.new.place c.into_seat.result.me.0
+          c.joining.invariant.place c.join.ensures.place joined;
       taken = ap (λ me. me.0.taken) joined ∙ c.joining.invariant.taken;
       puts = last.1;
-      joining = one_joined c.args.self.now c.args.puts.items c.args.place.now.me.0.account c.joining.place.me.0.account c.join.new.place.me.0.account c.joining.puts.items c.pop.new.self.items c.in-Some.seat c.in-Some.ensures.items c.joining.invariant.joining
-          (ap (λ me. me.0.account) joined ∙ ap (λ view. joined_account c.joining.place.me.0.account view.account) (sym (ap head_view c.into_seat.ensures.2)))
+      joining = one_joined c.args.self.now c.args.puts.items c.args.place.now.me.0.account
+          c.joining.place.me.0.account c.join.new.place.me.0.account c.joining.puts.items
+          c.pop.new.self.items c.in-Some.seat c.in-Some.ensures.items c.joining.invariant.joining
+          (ap (λ me. me.0.account) joined ∙ ap (λ view. joined_account c.joining.place.me.0.account
+          view.account) (sym (ap head_view c.into_seat.ensures.2)))
           last.0.own;
       pasts = one_told c.args.puts.items c.args.place.now.me.0 c.joining.place.me.0
           c.join.new.place.me.0 c.joining.puts.items c.pop.new.self.items c.in-Some.seat
@@ -51,9 +63,12 @@ joining-preserved c =
 
 pub returns-clause-joined : goal.returns-clause-joined
 returns-clause-joined c =
-    let none : c.joining.puts.items ≡ [] = no_more c.joining.puts.items (omega (arith, c.in_default.ensures.cases)) in
-    all_joined c.args.self.now c.args.puts.items c.args.place.now.me.0.account c.joining.place.me.0.account
-    (subst (λ rest. IsJoining c.args.puts.items c.args.place.now.me.0.account rest c.joining.place.me.0.account) none c.joining.invariant.joining)
+    let none : c.joining.puts.items ≡ [] =
+    no_more c.joining.puts.items (omega (arith, c.in_default.ensures.cases)) in
+    all_joined c.args.self.now c.args.puts.items c.args.place.now.me.0.account
+    c.joining.place.me.0.account
+    (subst (λ rest. IsJoining c.args.puts.items c.args.place.now.me.0.account rest
+    c.joining.place.me.0.account) none c.joining.invariant.joining)
 
 pub returns-clause-pasts : goal.returns-clause-pasts
 returns-clause-pasts c =

@@ -11,7 +11,8 @@ invariant-joining l =
       place : IsFreePlaceOf l.self l.place 0;
       taken : l.place.me.0.taken ≡ l.initial.place.me.0.taken;
       puts : AllByRecursion (IsPutSeatOf l.self) l.puts.items;
-      joining : IsJoining l.initial.puts.items l.initial.place.me.0.account l.puts.items l.place.me.0.account;
+      joining : IsJoining l.initial.puts.items l.initial.place.me.0.account l.puts.items
+          l.place.me.0.account;
       pasts : TellsPasts l.initial.puts.items l.initial.place.me.0 l.puts.items l.place.me.0;
     }
 

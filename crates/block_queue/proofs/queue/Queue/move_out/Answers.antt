@@ -6,5 +6,11 @@ use Rattle.block_queue.proofs.queue.Queue.move_out.Goals as goal
 pub exchange-requires : goal.exchange-requires
 exchange-requires c =
     let full = c.requires.full in
-    let here = full.1 ∙ ap (λ k. (k, Some full.0) ∷ []) (sym c.place-slot.ensures.result) in
-    (c.requires.seat, (Some full.0, here ∙ ap (λ carried. (c.place-slot.result, Some full.0) ∷ rest carried) (sym here)))
+    let here = full.1 ∙ ap (λ k. (k, Some full.0) ∷ []) (sym c.place-slot.ensures.result) in (
+      c.requires.seat,
+      (
+        Some full.0,
+        here ∙
+            ap (λ carried. (c.place-slot.result, Some full.0) ∷ rest carried) (sym here),
+      ),
+    )

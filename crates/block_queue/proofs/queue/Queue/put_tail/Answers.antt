@@ -10,10 +10,13 @@ use Rattle.block_queue.proofs.queue.Queue.put_tail.Goals as goal
 pub load-requires : goal.load-requires
 load-requires g c =
     let words = c.args.self.now.words in
-    let own = subst (λ asked. has_number c.args.seat.now.me.0.account.shares (asked.write.writer + 1) ≡ true) (sym c.requires.asked) c.requires.seat.own in (
+    let own = subst (λ asked. has_number c.args.seat.now.me.0.account.shares (asked.write.writer +
+    1) ≡ true) (sym c.requires.asked) c.requires.seat.own in (
       c.requires.seat.table,
       omega arith,
-      subst (λ k. table.Allows (IsOneQueue k) c.args.self.now.table.shared.table_id.slots c.args.seat.now.id c.args.seat.now.me 0 (λ n. n) (HasPutTail g.M.Asks.asked c.args.seat.now.me))
+      subst (λ k. table.Allows (IsOneQueue k) c.args.self.now.table.shared.table_id.slots
+          c.args.seat.now.id c.args.seat.now.me 0 (λ n. n)
+          (HasPutTail g.M.Asks.asked c.args.seat.now.me))
           (ap (λ asked. asked.key) c.requires.asked ∙ c.args.self.now.keyed)
           (put_tail_keeps g.M.Asks.asked _ _ _ own c.requires.stage),
     )

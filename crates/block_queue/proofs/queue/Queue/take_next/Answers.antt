@@ -10,34 +10,49 @@ pub returns-then-tail-taken-clause-place : goal.returns-then-tail-taken-clause-p
 returns-then-tail-taken-clause-place g c =
     let told = c.take_tail-tail.ensures.told in
     let entered = told.ended (c.if-tail-taken.true ∙ ap (λ n. n + MARK) c.requires.taken) in
-    entered_free c.args.self.now c.args.place.now c.take_tail-tail.new.seat _ _ _ (free_steps _ _ _ c.requires.place) c.requires.place.number_is
-    c.take_tail-tail.ensures.seat entered.enters entered.stage_is (told.slots ∙ c.requires.place.no_slot)
+    entered_free c.args.self.now c.args.place.now c.take_tail-tail.new.seat _ _ _
+    (free_steps _ _ _ c.requires.place) c.requires.place.number_is
+    c.take_tail-tail.ensures.seat entered.enters entered.stage_is (told.slots ∙
+    c.requires.place.no_slot)
 
 pub returns-then-word-stored-clause-place : goal.returns-then-word-stored-clause-place
 returns-then-word-stored-clause-place g c =
     let tail = c.take_tail-tail.ensures.told in
-    let looking = tail.looking (λ same. c.if-tail-taken.false (same ∙ ap (λ n. n + MARK) (sym c.requires.taken))) in
+    let looking = tail.looking (λ same. c.if-tail-taken.false
+    (same ∙ ap (λ n. n + MARK) (sym c.requires.taken))) in
     let taken = ap (λ view. view.taken) looking ∙ sym c.requires.taken in
     let told = c.take_sequence-word.ensures.told in
-    let other : c.take_sequence-word.result ≢ stored_word c.args.self.now.key.limit c.take_tail-tail.new.seat.me.0.taken = λ same. c.if-word-stored.true (same ∙ ap (stored_word c.args.self.now.key.limit) taken ∙ sym c.stored.ensures) in
+    let other : c.take_sequence-word.result ≢ stored_word c.args.self.now.key.limit
+    c.take_tail-tail.new.seat.me.0.taken = λ same. c.if-word-stored.true (same ∙
+    ap (stored_word c.args.self.now.key.limit) taken ∙ sym c.stored.ensures) in
     let entered = told.not_yet other in
     entered_free c.args.self.now c.take_tail-tail.new.seat c.take_sequence-word.new.seat _ _ _
-    (steps_on c.args.self.now c.args.place.now c.take_tail-tail.new.seat _ (free_steps _ _ _ c.requires.place) c.take_tail-tail.ensures.seat (ap (λ view. view.account) looking))
+    (steps_on c.args.self.now c.args.place.now c.take_tail-tail.new.seat _
+    (free_steps _ _ _ c.requires.place) c.take_tail-tail.ensures.seat
+    (ap (λ view. view.account) looking))
     (ap (λ view. view.account.number) looking ∙ c.requires.place.number_is)
-    c.take_sequence-word.ensures.seat entered.enters entered.stage_is (told.same_slots other ∙ tail.slots ∙ c.requires.place.no_slot)
+    c.take_sequence-word.ensures.seat entered.enters entered.stage_is (told.same_slots other ∙
+    tail.slots ∙ c.requires.place.no_slot)
 
 pub returns-clause-place : goal.returns-clause-place
 returns-clause-place g c =
     let tail = c.take_tail-tail.ensures.told in
-    let looking = tail.looking (λ same. c.if-tail-taken.false (same ∙ ap (λ n. n + MARK) (sym c.requires.taken))) in
+    let looking = tail.looking (λ same. c.if-tail-taken.false
+    (same ∙ ap (λ n. n + MARK) (sym c.requires.taken))) in
     let taken = ap (λ view. view.taken) looking ∙ sym c.requires.taken in
     let told = c.take_sequence-word.ensures.told in
-    let moving = told.moving (c.if-word-stored.false ∙ c.stored.ensures ∙ ap (stored_word c.args.self.now.key.limit) (sym taken)) in
+    let moving = told.moving (c.if-word-stored.false ∙ c.stored.ensures ∙
+    ap (stored_word c.args.self.now.key.limit) (sym taken)) in
     let moved = c.move_out-stored.ensures.moved in
     let freed = c.free_place.ensures.told in
-    let first = steps_on c.args.self.now c.args.place.now c.take_tail-tail.new.seat _ (free_steps _ _ _ c.requires.place) c.take_tail-tail.ensures.seat (ap (λ view. view.account) looking) in
-    let second = steps_on c.args.self.now c.take_tail-tail.new.seat c.take_sequence-word.new.seat _ first c.take_sequence-word.ensures.seat (ap (λ me. me.0.account) moving.1) in
-    let third = steps_on c.args.self.now c.take_sequence-word.new.seat c.move_out-stored.new.seat _ second c.move_out-stored.ensures.seat (ap (λ me. me.0.account) moved) in
+    let first = steps_on c.args.self.now c.args.place.now c.take_tail-tail.new.seat _
+    (free_steps _ _ _ c.requires.place) c.take_tail-tail.ensures.seat
+    (ap (λ view. view.account) looking) in
+    let second = steps_on c.args.self.now c.take_tail-tail.new.seat c.take_sequence-word.new.seat _
+    first c.take_sequence-word.ensures.seat (ap (λ me. me.0.account) moving.1) in
+    let third = steps_on c.args.self.now c.take_sequence-word.new.seat c.move_out-stored.new.seat _
+    second c.move_out-stored.ensures.seat (ap (λ me. me.0.account) moved) in
     entered_free c.args.self.now c.move_out-stored.new.seat c.free_place.new.seat _ _ _ third
-    (ap (λ me. me.0.account.number) moved ∙ ap (λ me. me.0.account.number) moving.1 ∙ ap (λ view. view.account.number) looking ∙ c.requires.place.number_is)
+    (ap (λ me. me.0.account.number) moved ∙ ap (λ me. me.0.account.number) moving.1 ∙
+    ap (λ view. view.account.number) looking ∙ c.requires.place.number_is)
     c.free_place.ensures.seat freed.enters freed.stage_is (freed.slots ∙ ap (λ me. rest me.1) moved)

@@ -17,12 +17,19 @@ load-requires g c =
     ∙ sym (c.sequence-word.ensures ∙ ap sequence_of c.place.ensures.result) in (
       c.requires.seat.table,
       omega (arith, c.sequence-word.ensures),
-      subst (λ i. table.Allows (IsOneQueue c.args.self.now.table.shared.key) c.args.self.now.table.shared.table_id.slots c.args.seat.now.id c.args.seat.now.me i (λ n. n) (HasTakeSequence g.M.Asks.asked.key c.args.seat.now.me)) word
-          (subst (λ k. table.Allows (IsOneQueue k) c.args.self.now.table.shared.table_id.slots c.args.seat.now.id c.args.seat.now.me (sequence_of (place_of g.M.Asks.asked.key.limit c.args.seat.now.me.0.taken)) (λ n. n) (HasTakeSequence g.M.Asks.asked.key c.args.seat.now.me))
+      subst (λ i. table.Allows (IsOneQueue c.args.self.now.table.shared.key)
+          c.args.self.now.table.shared.table_id.slots c.args.seat.now.id c.args.seat.now.me i
+          (λ n. n) (HasTakeSequence g.M.Asks.asked.key c.args.seat.now.me)) word
+          (subst (λ k. table.Allows (IsOneQueue k) c.args.self.now.table.shared.table_id.slots
+          c.args.seat.now.id c.args.seat.now.me (sequence_of
+          (place_of g.M.Asks.asked.key.limit c.args.seat.now.me.0.taken)) (λ n. n)
+          (HasTakeSequence g.M.Asks.asked.key c.args.seat.now.me))
           (asked ∙ c.args.self.now.keyed)
-          (take_sequence_keeps g.M.Asks.asked.key _ _ _ c.requires.seat.own c.requires.stage.0 c.requires.stage.1)),
+          (take_sequence_keeps g.M.Asks.asked.key _ _ _ c.requires.seat.own c.requires.stage.0
+          c.requires.stage.1)),
     )
 
 pub returns-clause-told : goal.returns-clause-told
 returns-clause-told g c =
-    subst (λ k. HasTakeSequence k c.args.seat.now.me c.load.result c.load.new.seat.me) (ap (λ asked. asked.key) c.requires.asked) c.load.ensures.2
+    subst (λ k. HasTakeSequence k c.args.seat.now.me c.load.result c.load.new.seat.me)
+    (ap (λ asked. asked.key) c.requires.asked) c.load.ensures.2

@@ -8,24 +8,33 @@ pub returns-then-tail-ge-MARK-clause-place : goal.returns-then-tail-ge-MARK-clau
 returns-then-tail-ge-MARK-clause-place g c =
     let told = c.put_tail-tail.ensures.told in
     let entered = told.hungup c.if-tail-ge-MARK.true in
-    entered_free c.args.self.now c.args.place.now c.put_tail-tail.new.seat _ _ _ (free_steps _ _ _ c.requires.place) c.requires.place.number_is
-    c.put_tail-tail.ensures.seat entered.enters entered.stage_is (told.slots ∙ c.requires.place.no_slot)
+    entered_free c.args.self.now c.args.place.now c.put_tail-tail.new.seat _ _ _
+    (free_steps _ _ _ c.requires.place) c.requires.place.number_is
+    c.put_tail-tail.ensures.seat entered.enters entered.stage_is (told.slots ∙
+    c.requires.place.no_slot)
 
-pub returns-then-self-tail-eq-LAST_WRITE-clause-place : goal.returns-then-self-tail-eq-LAST_WRITE-clause-place
+pub returns-then-self-tail-eq-LAST_WRITE-clause-place :
+    goal.returns-then-self-tail-eq-LAST_WRITE-clause-place
 returns-then-self-tail-eq-LAST_WRITE-clause-place g c =
     let told = c.put_tail-tail.ensures.told in
     let entered = told.worn c.if-self-tail-eq-LAST_WRITE.true in
-    entered_free c.args.self.now c.args.place.now c.put_tail-tail.new.seat _ _ _ (free_steps _ _ _ c.requires.place) c.requires.place.number_is
-    c.put_tail-tail.ensures.seat entered.enters entered.stage_is (told.slots ∙ c.requires.place.no_slot)
+    entered_free c.args.self.now c.args.place.now c.put_tail-tail.new.seat _ _ _
+    (free_steps _ _ _ c.requires.place) c.requires.place.number_is
+    c.put_tail-tail.ensures.seat entered.enters entered.stage_is (told.slots ∙
+    c.requires.place.no_slot)
 
 pub returns-then-word-free-clause-place : goal.returns-then-word-free-clause-place
 returns-then-word-free-clause-place g c =
     let tail = c.put_tail-tail.ensures.told in
     let told = c.put_sequence-word.ensures.told in
     let counted = tail.counted c.if-tail-ge-MARK.false c.if-self-tail-eq-LAST_WRITE.false in
-    let less : c.put_sequence-word.result < free_word c.args.self.now.key.limit c.put_tail-tail.result = omega (arith, c.if-word-free.true, c.free-free.ensures) in
+    let less : c.put_sequence-word.result < free_word c.args.self.now.key.limit
+    c.put_tail-tail.result = omega (arith, c.if-word-free.true, c.free-free.ensures) in
     let entered = told.full less in
     entered_free c.args.self.now c.put_tail-tail.new.seat c.put_sequence-word.new.seat _ _ _
-    (steps_on c.args.self.now c.args.place.now c.put_tail-tail.new.seat _ (free_steps _ _ _ c.requires.place) c.put_tail-tail.ensures.seat (ap (λ view. view.account) counted))
+    (steps_on c.args.self.now c.args.place.now c.put_tail-tail.new.seat _
+    (free_steps _ _ _ c.requires.place) c.put_tail-tail.ensures.seat
+    (ap (λ view. view.account) counted))
     (ap (λ view. view.account.number) counted ∙ c.requires.place.number_is)
-    c.put_sequence-word.ensures.seat entered.enters entered.stage_is (told.slots ∙ tail.slots ∙ c.requires.place.no_slot)
+    c.put_sequence-word.ensures.seat entered.enters entered.stage_is (told.slots ∙ tail.slots ∙
+    c.requires.place.no_slot)

@@ -11,7 +11,8 @@ pub loop-writer-init : goal.loop-writer-init
 loop-writer-init c =
     record {
       rest = all_each _ c.args.done.items c.requires;
-      seats = subst (AllByRecursion (IsPutSeatOf c.args.queue.now)) (sym c.new-puts.ensures.items) tt;
+      seats = subst (AllByRecursion (IsPutSeatOf c.args.queue.now)) (sym c.new-puts.ensures.items)
+          tt;
       none = subst (AllByRecursion (λ seat. (put_account seat).gave ≡ []))
           (sym c.new-puts.ensures.items) tt;
       order = subst (λ seats. numbers_of seats ≡ numbers_from 1 (length seats))
@@ -28,7 +29,8 @@ loop-writer-preserved c =
           (all_more _ c.loop-writer.puts.items _ c.loop-writer.invariant.seats rest.0);
       none = subst (AllByRecursion (λ seat. (put_account seat).gave ≡ []))
           (sym c.in_ok-push.ensures.items)
-          (all_more _ c.loop-writer.puts.items _ c.loop-writer.invariant.none c.in-Some.writer.none);
+          (all_more _ c.loop-writer.puts.items _ c.loop-writer.invariant.none
+          c.in-Some.writer.none);
       order = subst (λ seats. numbers_of seats ≡ numbers_from 1 (length seats))
           (sym c.in_ok-push.ensures.items)
           (order_more c.loop-writer.puts.items _ c.loop-writer.invariant.order

@@ -1,5 +1,6 @@
 -- the part that was read is kept, and where none was read nothing is
-use Rattle.std.proofs.Common.{◌≡◌, ◌∷◌, ◌++◌, [], List, ℕ, arith, sym, ◌∙◌, ap, refl, subst, take, drop, length}
+use Rattle.std.proofs.Common.{◌≡◌, ◌∷◌, ◌++◌, [], List, ℕ, arith, sym, ◌∙◌, ap, refl, subst, take}
+use Rattle.std.proofs.Common.{drop, length}
 use Rattle.std.specs.Prelude.{Result, Ok, Err}
 use Rattle.std.proofs.lemmas.List.{append-nil, take_at}
 use Rattle.sync_base.specs.declared.fault.Fault.{Fault}

@@ -1,5 +1,6 @@
 -- one message more is counted, or none where it was not accepted
-use Rattle.std.proofs.Common.{◌<◌, ◌∷◌, ◌++◌, [], ℕ, List, ◌∙◌, ap, refl, subst, sym, take, length, get_or}
+use Rattle.std.proofs.Common.{◌<◌, ◌∷◌, ◌++◌, [], ℕ, List, ◌∙◌, ap, refl, subst, sym, take, length}
+use Rattle.std.proofs.Common.{get_or}
 use Rattle.std.proofs.lemmas.List.{append-nil, take_more}
 use Rattle.std.specs.Prelude.{Ok, Err}
 use Rattle.example_headline.proofs.CrewLemmas.{write_then, written_on}

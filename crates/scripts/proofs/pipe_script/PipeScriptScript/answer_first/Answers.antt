@@ -14,9 +14,11 @@ pub returns-clause-answered : goal.returns-clause-answered
 returns-clause-answered c s shows =
     let found = c.in-Some.ensures in
     let done = c.in_ok-answer_op.ensures s shows in
-    found_answered (λ (script : PipeScript) (s : PipeState). Shows script.pipe s) pipe_language s _ _ _ found.words _ _ (answered s (asked_by c.in-Some.op))
+    found_answered (λ (script : PipeScript) (s : PipeState). Shows script.pipe s) pipe_language s _
+    _ _ found.words _ _ (answered s (asked_by c.in-Some.op))
     found.begins c.if-text-rest-gt-MAX_LINE.false
-    (op_answered s found.begins.line found.words (asked_by c.in-Some.op) found.begins.words_are found.asks)
+    (op_answered s found.begins.line found.words (asked_by c.in-Some.op) found.begins.words_are
+    found.asks)
     done.state done.text
 
 pub returns-clause-shorter : goal.returns-clause-shorter

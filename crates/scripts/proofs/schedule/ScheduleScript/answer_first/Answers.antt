@@ -20,7 +20,8 @@ returns-clause-answered c s same =
       after = world_after s c.in-Some.event;
     })
     found.begins c.if-text-rest-gt-MAX_LINE.false
-    (event_answered s found.begins.line found.words c.in-Some.event found.begins.words_are found.asks)
+    (event_answered s found.begins.line found.words c.in-Some.event found.begins.words_are
+    found.asks)
     (rw (← same) c.answer_event.ensures.after)
     (rw (← same) c.in_ok-answer_event.ensures.text)
 

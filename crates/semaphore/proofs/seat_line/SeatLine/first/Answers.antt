@@ -8,7 +8,8 @@ use Rattle.semaphore.proofs.seat_line.SeatLine.first.Goals as goal
 pub returns-clause-seat : goal.returns-clause-seat
 returns-clause-seat c =
     let line = c.self.inside in
-    let first = (first_is line.next.items line.prev.items line.stands.items line.count c.self.invariant (omega arith)).1 in
+    let first = (first_is line.next.items line.prev.items line.stands.items line.count
+    c.self.invariant (omega arith)).1 in
     let end : c.len-end.result ≡ length line.stands.items = omega arith in
     let sized = c.self.invariant.next_size in
     let is : c.index.result.now ≡ slice_index line.next.items (length line.stands.items) =

@@ -31,7 +31,8 @@ returns-in-Waits-clause-called g c =
     (slept.ensures.waited caller start start (Asks (Acquire caller.number) (Wait count) ∷ [])
     (record {
       pid_is = refl;
-      rendez_is = ap (λ n. record { 0 = c.args.self.now.first + n }) (sym c.in-Waits.ensures.number);
+      rendez_is = ap (λ n. record { 0 = c.args.self.now.first + n })
+          (sym c.in-Waits.ensures.number);
       number_is = sym c.in-Waits.ensures.number;
     })
     (did_ask caller start _ count c.in-Waits.ensures.served) (begins caller count refl)))

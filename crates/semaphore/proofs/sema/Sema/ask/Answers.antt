@@ -1,4 +1,5 @@
--- The state that the call finds is what a legal history leaves, in which the seat's own calls are its.
+-- The state that the call finds is what a legal history leaves, in which the seat's own calls are
+-- its.
 use Rattle.std.proofs.Common.{subst}
 use Rattle.histories.specs.Account.{KnowsHistory}
 use Rattle.kernel_lock.specs.Calls.{Serves}
@@ -21,8 +22,12 @@ returns-clause-told g c waits at =
       mine = at.mine;
       shares_are = at.shares_are;
       waits_is = at.waits_is;
-      knew = subst (λ limit. KnowsHistory sema_meaning (opening_of sema_definition c.args.self.now.lock) limit (account_of c.args.seat.now.seat)) at.opened.limit at.history;
-      knows = subst (λ limit. KnowsHistory sema_meaning (opening_of sema_definition c.args.self.now.lock) limit (account_of c.apply.new.seat)) at.opened.limit c.apply.ensures.history;
+      knew = subst (λ limit. KnowsHistory sema_meaning
+          (opening_of sema_definition c.args.self.now.lock) limit (account_of c.args.seat.now.seat))
+          at.opened.limit at.history;
+      knows = subst (λ limit. KnowsHistory sema_meaning
+          (opening_of sema_definition c.args.self.now.lock) limit (account_of c.apply.new.seat))
+          at.opened.limit c.apply.ensures.history;
       served = subst
           (λ by. Serves (record { by = by; request = c.args.call; reply = c.apply.result })
           (view_of c.args.seat.now.seat) (view_of c.apply.new.seat))

@@ -1,5 +1,5 @@
--- It is answered at once; or it sets its timer, waits, leaves the line, cancels its timer, awaits the
--- note of a tick that has taken it, and keeps what came.
+-- It is answered at once; or it sets its timer, waits, leaves the line, cancels its timer, awaits
+-- the note of a tick that has taken it, and keeps what came.
 use Rattle.std.proofs.Common.{◌≡◌, ◌+◌, ◌<◌, true, [], ◌∷◌, refl, sym, ap, ◌∙◌, subst}
 use Rattle.std.specs.List.{AllByRecursion}
 use Rattle.histories.specs.Account.{KnowsHistory}
@@ -12,9 +12,11 @@ use Rattle.semaphore.specs.declared.timer_object.TimerReply.TheVariants.{Added}
 use Rattle.semaphore.specs.Asking.{cancel_reply, stopped_notes}
 use Rattle.semaphore.specs.Deeds.Deed.{Asks, Times}
 use Rattle.semaphore.specs.Definitions.{timer_definition}
-use Rattle.semaphore.specs.Seats.{asked, goes_on, stands_timed, stepped, timed, timed_caller, timers_seen}
+use Rattle.semaphore.specs.Seats.{asked, goes_on, stands_timed, stepped, timed, timed_caller}
+use Rattle.semaphore.specs.Seats.{timers_seen}
 use Rattle.semaphore.specs.TimerHistory.{timer_meaning}
-use Rattle.semaphore.proofs.WaitLemmas.{cancels, did_ask, in_time_at_once, sets_timer, tick_took, timed_as, waits_timed}
+use Rattle.semaphore.proofs.WaitLemmas.{cancels, did_ask, in_time_at_once, sets_timer, tick_took}
+use Rattle.semaphore.proofs.WaitLemmas.{timed_as, waits_timed}
 use Rattle.semaphore.proofs.sema.Sema.tsemacquire_probed.Goals as goal
 
 pub returns-in-Acquired-clause-called : goal.returns-in-Acquired-clause-called
@@ -28,23 +30,35 @@ pub returns-in-Waits-clause-called : goal.returns-in-Waits-clause-called
 returns-in-Waits-clause-called g c =
     let moment = c.args.deadline in
     let timers = c.args.timers.now in
-    let caller = timed_caller c.args.self.now c.args.proc.now c.args.seat.now c.args.timer.now moment in
+    let caller = timed_caller c.args.self.now c.args.proc.now c.args.seat.now c.args.timer.now
+    moment in
     let start = stands_timed c.args.proc.now c.args.seat.now c.args.timer.now in
     let count = c.in-Waits.count in
     let slept = c.sleep_in_time-stop in
     let number = slept.ensures.number ∙ c.in-Waits.ensures.number in
     let base = timed c.add.new.seat start in
     let gone = asked c.leave_line-granted.new.seat (goes_on slept.new.proc slept.new.seat base) in
-    let added : Serves (record { by = caller.timer; request = Add caller.timer caller.pid moment; reply = Added })
+    let added : Serves (record {
+      by = caller.timer;
+      request = Add caller.timer caller.pid moment;
+      reply = Added;
+    })
     (view_of c.args.timer.now.seat) (view_of c.add.new.seat.seat) =
     subst
     (λ p. Serves (record { by = caller.timer; request = Add caller.timer p moment; reply = Added })
     (view_of c.args.timer.now.seat) (view_of c.add.new.seat.seat))
     (ap (λ n. record { 0 = n }) c.pid.ensures) c.add.ensures.served in
-    let cancelled : Serves (record { by = caller.timer; request = Cancel caller.timer; reply = cancel_reply c.cancel-expired.result })
+    let cancelled : Serves (record {
+      by = caller.timer;
+      request = Cancel caller.timer;
+      reply =
+          cancel_reply c.cancel-expired.result;
+    })
     (view_of c.add.new.seat.seat) (view_of c.cancel-expired.new.seat.seat) =
-    timed_as Cancel (cancel_reply c.cancel-expired.result) caller.timer (number_of c.add.new.seat.seat)
-    (view_of c.add.new.seat.seat) (view_of c.add.new.seat.seat) (view_of c.cancel-expired.new.seat.seat)
+    timed_as Cancel (cancel_reply c.cancel-expired.result) caller.timer
+    (number_of c.add.new.seat.seat)
+    (view_of c.add.new.seat.seat) (view_of c.add.new.seat.seat)
+    (view_of c.cancel-expired.new.seat.seat)
     (sym c.add.ensures.number) refl c.cancel-expired.ensures.served in
     c.answer_timed.ensures.answered caller start
     (stepped c.await_tick-notes.new.proc (timed c.cancel-expired.new.seat gone))
@@ -60,11 +74,17 @@ returns-in-Waits-clause-called g c =
           c.requires.timer.shares_are c.requires.timer.history.numbers).0;
       mine = c.add.ensures.seat.mine;
       shares_are = subst
-          (λ n. shares_of c.add.new.seat.seat ≡ record { number = n; mine = c.add.ensures.seat.mine } ∷ [])
+          (λ n. shares_of c.add.new.seat.seat ≡
+          record { number = n; mine = c.add.ensures.seat.mine } ∷ [])
           c.add.ensures.number c.add.ensures.seat.shares_are;
       added = added;
       cancelled = subst
-          (λ b. Serves (record { by = caller.timer; request = Cancel caller.timer; reply = cancel_reply b })
+          (λ b. Serves (record {
+            by = caller.timer;
+            request = Cancel caller.timer;
+            reply =
+                cancel_reply b;
+          })
           (view_of c.add.new.seat.seat) (view_of c.cancel-expired.new.seat.seat)) told cancelled;
       knows = subst
           (λ limit. KnowsHistory timer_meaning (opening_of timer_definition timers.lock) limit
@@ -79,7 +99,8 @@ returns-in-Waits-clause-called g c =
       stop = slept.result;
       cancelled = true;
     })
-    (ap (λ n. record { 0 = c.args.self.now.first + n }) (sym (c.leave_line-granted.ensures.number ∙ number))
+    (ap (λ n. record { 0 = c.args.self.now.first + n })
+    (sym (c.leave_line-granted.ensures.number ∙ number))
     ∙ sym c.rendez-rendez.ensures) refl (sym c.notes_of.ensures) refl refl
     (cancels caller start gone (view_of c.cancel-expired.new.seat.seat) moment
     c.cancel-expired.result c.leave_line-granted.result (stopped_notes slept.result) slept.result
@@ -87,10 +108,12 @@ returns-in-Waits-clause-called g c =
     (c.leave_line-granted.ensures.left caller start (goes_on slept.new.proc slept.new.seat base)
     (sym number) refl
     (slept.ensures.waited caller start base
-    (Times (Add caller.timer caller.pid moment) Added ∷ Asks (Acquire caller.number) (Wait count) ∷ [])
+    (Times (Add caller.timer caller.pid moment) Added ∷ Asks (Acquire caller.number) (Wait count) ∷
+    [])
     (record {
       pid_is = refl;
-      rendez_is = ap (λ n. record { 0 = c.args.self.now.first + n }) (sym c.in-Waits.ensures.number);
+      rendez_is = ap (λ n. record { 0 = c.args.self.now.first + n })
+          (sym c.in-Waits.ensures.number);
       number_is = sym c.in-Waits.ensures.number;
     })
     (sets_timer caller start (asked c.acquire.new.seat start) (view_of c.add.new.seat.seat) count

@@ -12,4 +12,5 @@ enter-requires c =
 pub invariant_of-self : goal.invariant_of-self
 invariant_of-self c =
     c.enter.ensures
-    ∙ dues-set c.self.inside.timers.items c.args.seat (Set c.args.pid c.args.deadline) c.self.inside.dues c.self.invariant
+    ∙ dues-set c.self.inside.timers.items c.args.seat (Set c.args.pid c.args.deadline)
+    c.self.inside.dues c.self.invariant

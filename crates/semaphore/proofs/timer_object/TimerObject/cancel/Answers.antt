@@ -12,7 +12,8 @@ invariant_of-self c =
     let timers = c.self.inside.timers.items in
     let seat = c.args.seat in
     dues-same timers seat Unset c.self.inside.dues c.self.invariant
-    (ap (due_of seat) (get_or_default timers seat Unset c.index.result.now (omega arith) ∙ (sym c.index.ensures ∙ c.in-Expired.is)))
+    (ap (due_of seat) (get_or_default timers seat Unset c.index.result.now (omega arith) ∙
+    (sym c.index.ensures ∙ c.in-Expired.is)))
 
 pub enter-requires : goal.enter-requires
 enter-requires c =
@@ -21,4 +22,5 @@ enter-requires c =
 -- the timer that is taken away plays no longer
 pub invariant_of-self-in-Set : goal.invariant_of-self-in-Set
 invariant_of-self-in-Set c =
-    c.enter.ensures ∙ dues-set c.self.inside.timers.items c.args.seat Unset c.self.inside.dues c.self.invariant
+    c.enter.ensures ∙ dues-set c.self.inside.timers.items c.args.seat Unset c.self.inside.dues
+    c.self.invariant

@@ -8,11 +8,13 @@ use Rattle.semaphore.specs.declared.timer_object.TimerCall.TheVariants.{Expire}
 use Rattle.semaphore.specs.declared.timer_object.TimerReply.TheVariants.{NoneDue, Ended}
 use Rattle.semaphore.specs.Due.{earliest}
 use Rattle.semaphore.specs.Timers.{answer_to, after, if_come}
-use Rattle.semaphore.proofs.TimerLemmas.{Expires, length-dues_from, dues-set, expires_none, expires_one, earliest_is_set}
+use Rattle.semaphore.proofs.TimerLemmas.{Expires, length-dues_from, dues-set, expires_none}
+use Rattle.semaphore.proofs.TimerLemmas.{expires_one, earliest_is_set}
 use Rattle.semaphore.proofs.timer_object.TimerObject.expire.Goals as goal
 
 -- no timer is set
-nothing : (c : goal.In_default) → Expires c.self.inside.timers.items c.args.now NoneDue c.self.inside.timers.items
+nothing : (c : goal.In_default) →
+    Expires c.self.inside.timers.items c.args.now NoneDue c.self.inside.timers.items
 nothing c =
     expires_none c.self.inside.timers.items c.args.now c.earliest.result
     (c.earliest.ensures ∙ ap earliest c.self.invariant) (ap (if_come c.args.now) c.in_default.is)
@@ -29,7 +31,8 @@ not_come : (now : _) (due : Due) → now < due.deadline → if_come now (Some du
 not_come now due later = grind (arith, nat_tests)
 
 -- the first deadline is still to come
-early : (c : goal.Then-due-now) → Expires c.self.inside.timers.items c.args.now NoneDue c.self.inside.timers.items
+early : (c : goal.Then-due-now) →
+    Expires c.self.inside.timers.items c.args.now NoneDue c.self.inside.timers.items
 early c =
     expires_none c.self.inside.timers.items c.args.now c.earliest.result
     (c.earliest.ensures ∙ ap earliest c.self.invariant)
@@ -56,7 +59,8 @@ unreachable-requires c =
     let set = earliest_is_set timers c.in-Some.due
     (ap earliest (sym c.self.invariant) ∙ (sym c.earliest.ensures ∙ c.in-Some.is)) in
     c.in_default-index.not-Set set.pid c.in-Some.due.deadline
-    (c.index.ensures ∙ (get_or_default timers c.in-Some.due.seat c.index.result.now Unset set.within ∙ set.timer))
+    (c.index.ensures ∙ (get_or_default timers c.in-Some.due.seat c.index.result.now Unset set.within
+    ∙ set.timer))
 
 pub index_mut-requires : goal.index_mut-requires
 index_mut-requires c =
@@ -74,15 +78,19 @@ enter-requires c =
 pub invariant_of-self : goal.invariant_of-self
 invariant_of-self c =
     c.enter.ensures
-    ∙ dues-set c.self.inside.timers.items c.in-Some.due.seat Expired c.self.inside.dues c.self.invariant
+    ∙ dues-set c.self.inside.timers.items c.in-Some.due.seat Expired c.self.inside.dues
+    c.self.invariant
 
-one : (c : goal.After-enter) → Expires c.self.inside.timers.items c.args.now (Ended c.in-Set.pid) (Rattle.std.proofs.Common.set c.self.inside.timers.items c.in-Some.due.seat Expired)
+one : (c : goal.After-enter) → Expires c.self.inside.timers.items c.args.now (Ended c.in-Set.pid)
+    (Rattle.std.proofs.Common.set c.self.inside.timers.items c.in-Some.due.seat Expired)
 one c =
     let timers = c.self.inside.timers.items in
     let is = ap earliest (sym c.self.invariant) ∙ (sym c.earliest.ensures ∙ c.in-Some.is) in
     let within = (earliest_is_set timers c.in-Some.due is).within in
-    expires_one timers c.args.now c.in-Some.due c.in-Set.pid c.in-Set.deadline (sym is) c.if-due-now.false
-    (get_or_default timers c.in-Some.due.seat Unset c.index.result.now within ∙ (sym c.index.ensures ∙ c.in-Set.is))
+    expires_one timers c.args.now c.in-Some.due c.in-Set.pid c.in-Set.deadline (sym is)
+    c.if-due-now.false
+    (get_or_default timers c.in-Some.due.seat Unset c.index.result.now within ∙
+    (sym c.index.ensures ∙ c.in-Set.is))
 
 pub returns-clause-answer : goal.returns-clause-answer
 returns-clause-answer c = (one c).answer ∙ ap (λ t. answer_to t (Expire c.args.now)) c.self.view_is

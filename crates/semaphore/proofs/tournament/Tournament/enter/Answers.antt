@@ -18,7 +18,8 @@ loop-place-preserved c =
     c.index.ensures ∙ get_or_default nodes _ _ None (omega arith) in
     let right : c.index-in-loop-place.result.now ≡ node_at nodes (2 * place + 1) =
     c.index-in-loop-place.ensures ∙ get_or_default nodes _ _ None (omega arith) in
-    let winner : c.earlier.result ≡ earlier_of (node_at nodes (2 * place)) (node_at nodes (2 * place + 1)) =
+    let winner : c.earlier.result ≡
+    earlier_of (node_at nodes (2 * place)) (node_at nodes (2 * place + 1)) =
     c.earlier.ensures
     ∙ (ap (λ x. earlier_of x c.index-in-loop-place.result.now) left
     ∙ ap (earlier_of (node_at nodes (2 * place))) right) in
@@ -28,7 +29,8 @@ loop-place-preserved c =
       few = kept.few;
       size = length-set nodes place _ ∙ kept.size;
       below = omega arith;
-      won = won_after_game half place nodes c.earlier.result kept.size (omega arith) (omega arith) winner kept.won;
+      won = won_after_game half place nodes c.earlier.result kept.size (omega arith) (omega arith)
+          winner kept.won;
       entered = drop-set-lt half nodes place _ (omega arith) ∙ kept.entered;
     }
 
@@ -40,4 +42,5 @@ returns c =
     let kept = c.loop-place.invariant in
     kept.entered
     ∙ (ap (λ n. drop n (set nodes (half + c.args.seat) c.args.due)) kept.entrants
-    ∙ (drop-set-add half nodes c.args.seat c.args.due ∙ ap (λ l. set l c.args.seat c.args.due) c.self.view_is))
+    ∙ (drop-set-add half nodes c.args.seat c.args.due ∙
+    ap (λ l. set l c.args.seat c.args.due) c.self.view_is))

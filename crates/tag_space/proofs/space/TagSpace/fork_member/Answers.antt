@@ -46,7 +46,8 @@ returns-clause-further g c =
       given = told.given;
       above = subst (λ n. number_of before < n) (sym told.child.number)
           (number_has (λ n. n < (account_of seat).number) (number_of before)
-          (account_of before.seat).shares told.given.account.next.own c.requires.member.one.seat.own);
+          (account_of before.seat).shares told.given.account.next.own
+          c.requires.member.one.seat.own);
       no_calls = subst (λ n. calls_by n (account_of seat).seen ≡ []) (sym told.child.number)
           (calls_fresh (space_of c.args.self.now) (account_of seat).number (account_of seat).seen
           knows.history.legal below);

@@ -75,7 +75,8 @@ returns-clause-joined g =
       apart = apart_in (account_of g.args.first).shares (account_of g.args.second).shares
           (number_of g.args.first) (number_of g.args.second)
           (subst (λ shares. AreDifferent (numbers_in shares)) (shares_are g)
-          (is_one g).history.different) g.requires.first.one.seat.own g.requires.second.one.seat.own;
+          (is_one g).history.different) g.requires.first.one.seat.own
+          g.requires.second.one.seat.own;
       first_kept = is_kept_in g.args.self.now g.args.first (joined g) g.requires.first (is_one g)
           g.join.ensures.joined.account.first_past (first_all g);
       second_kept = is_kept_in g.args.self.now g.args.second (joined g) g.requires.second (is_one g)

@@ -88,7 +88,8 @@ loop-preserved g c =
           })
           (record {
             entered = subst (λ n. Asks (Collect n) (told_reply (Wait c.in-Wait.again))
-                (account_of c.loop.member) (account_of c.collect.new.member)) kept.same.number asked;
+                (account_of c.loop.member) (account_of c.collect.new.member)) kept.same.number
+                asked;
             idle = refl;
           });
     }

@@ -12,6 +12,7 @@ invariant-loop g l =
       same : IsSameMember l.fn.member l.member;
       words : l.proc.words ≡ l.fn.proc.words;
       low : l.count ≤ LAST_MEETING;
-      waited : HasWaited (caller_of l.fn.self l.fn.member l.fn.proc) (at_point l.fn.member l.fn.proc)
+      waited : HasWaited (caller_of l.fn.self l.fn.member l.fn.proc)
+          (at_point l.fn.member l.fn.proc)
           l.fn.count (at_point l.member l.proc) l.count;
     }
