@@ -16,6 +16,17 @@ fn pipe_of(rt: &impl Abort, alloc: Global, limit: u64) -> Result<PlainPipe, Fail
     }
 }
 
+// A pipe in stream mode, asked for again where memory is refused.
+fn stream_of(rt: &impl Abort, alloc: Global, limit: u64) -> Result<PlainPipe, Fail> {
+    match PlainPipe::new_stream(alloc, limit) {
+        Ok(pipe) => Ok(pipe),
+        Err(fault) => {
+            assert_eq!(rt; fault, Fault::Memory);
+            Ok(PlainPipe::new_stream(alloc, limit)?)
+        }
+    }
+}
+
 // A write, once more where memory is refused.
 fn takes(rt: &impl Abort, pipe: &mut PlainPipe, bytes: &[u8]) {
     let answer = match pipe.write(0, bytes) {
@@ -49,6 +60,18 @@ fn a_pipe_that_is_refused_memory_is_as_before(rt: HostRuntime) -> Result<(), Fai
     assert_eq!(rt; pipe.write(0, b"d"), Ok(WriteAnswer::Full));
     gives(&rt, &mut pipe, &long);
     gives(&rt, &mut pipe, b"bc");
+    assert!(rt; matches!(pipe.read(8), Ok(ReadAnswer::Empty)));
+    Ok(())
+}
+
+#[test]
+fn a_stream_that_is_refused_memory_is_as_before(rt: HostRuntime) -> Result<(), Fail> {
+    let mut pipe = stream_of(&rt, rt.alloc(), 3)?;
+    takes(&rt, &mut pipe, b"");
+    takes(&rt, &mut pipe, b"ab");
+    takes(&rt, &mut pipe, b"cd");
+    assert_eq!(rt; pipe.write(0, b"e"), Ok(WriteAnswer::Full));
+    gives(&rt, &mut pipe, b"abcd");
     assert!(rt; matches!(pipe.read(8), Ok(ReadAnswer::Empty)));
     Ok(())
 }
