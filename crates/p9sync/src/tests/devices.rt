@@ -427,7 +427,7 @@ fn the_largest_script_may_come_in_small_pieces(rt: HostRuntime) -> Result<(), Fa
     let script = repeated(alloc, &parts)?;
     assert_eq!(rt; script.len(), MAX_SCRIPT);
     let answers = repeated(alloc, &[(b"empty\n".as_slice(), 1_677_721)])?;
-    for most in [1, 4_096] {
+    for most in [256, 4_096] {
         let mut from = reading(&script, most, NEVER);
         let (mut out, mut err) = (Vec::new(alloc), Vec::new(alloc));
         let status = run_args(&rt, alloc, &PIPE, &mut from, &mut out, &mut err);
