@@ -1,6 +1,6 @@
 /* What the plain C programs share. They are written to be as fast as a good programmer makes them without a proof: the
    script is read whole into one buffer that is taken at once, each line is parsed where it lies and answered, and the
-   answers go to one buffer of 64 KB that is written where it is full. No line takes memory, no word is a call, and where
+   answers go to one buffer that is written where 64 KB stand in it. No line takes memory, no word is a call, and where
    the next answer goes is kept in a local variable. Each program defines `run`. */
 #include <stddef.h>
 #include <stdint.h>
@@ -10,13 +10,13 @@
 #include <sys/mman.h>
 #include <unistd.h>
 
-/* Of a script MAX_SCRIPT bytes are answered, and one more is read. SLACK bytes behind it can be read by any line. The
-   answer to one line is shorter than FLUSH bytes. */
-enum { MAX_SCRIPT = 16777216, MAX_LINE = 200000, SLACK = 64, FLUSH = 65536, LARGE_PAGE = 2097152 };
+/* Of a script MAX_SCRIPT bytes are answered, and one more is read. SLACK bytes behind it can be read by any line. Between
+   two looks whether FLUSH bytes stand there at most MOST_ANSWER more come: a write of 65,536 bytes in digits, and words. */
+enum { MAX_SCRIPT = 16777216, MAX_LINE = 200000, SLACK = 64, FLUSH = 65536, MOST_ANSWER = 131200, LARGE_PAGE = 2097152 };
 
 typedef unsigned char byte;
 
-static byte out[2 * FLUSH];
+static byte out[FLUSH + MOST_ANSWER];
 
 static void *must(void *p) {
     if (p == NULL) { fputs("p9sync: out of memory\n", stderr); exit(1); }

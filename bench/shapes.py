@@ -53,14 +53,29 @@ def empty_writes():
             yield f"write {writer} -\nread {1 + writer}\n"
 
 
+def stream(lines):
+    """The same lines, in stream mode."""
+    yield next(lines).replace("\n", " stream\n")
+    yield from lines
+
+
+def joins():
+    """Writes of 16 bytes of which a read has 64, and reads that find nothing."""
+    yield "limit 64 stream\n"
+    short = texts(16)
+    while True:
+        yield from (f"write {writer} {text}\n" for writer, text in enumerate(short))
+        yield "read 1024\nread 1024\n"
+
+
 def refused():
     """A pipe with room for one write, which waits: writes that find it full, writes too big, and reads of no bytes."""
     yield "limit 1\nread 5\nwrite 0 61\n"
     draw = numbers()
-    big = hexadecimal(draw, 8193)
+    big = hexadecimal(draw, 65537)
     short = texts(8)
     while True:
-        for turn in range(512):
+        for turn in range(4096):
             yield f"write {turn % 64} {short[turn % len(short)]}\nread 0\n"
         yield f"write 7 {big}\n"
 
@@ -128,11 +143,15 @@ def long_levels():
 SHAPES = {
     "pipe, mixed": ("pipe", mixed),
     "writes of 8,192 bytes": ("pipe", lambda: whole_writes(8192, "read 8192\n")),
+    "writes of 65,536 bytes": ("pipe", lambda: whole_writes(65536, "read 65536\n")),
     "writes of 1 byte": ("pipe", lambda: whole_writes(1, "read 8192\n")),
     "partial reads of 1 byte": ("pipe", lambda: whole_writes(4096, "read 1\n" * 4096)),
     "empty writes": ("pipe", empty_writes),
     "refused operations": ("pipe", refused),
     "hangups": ("pipe", hangups),
+    "stream, mixed": ("pipe", lambda: stream(mixed())),
+    "stream, joined writes": ("pipe", joins),
+    "stream, empty writes": ("pipe", lambda: stream(empty_writes())),
     "counts of 20 digits": ("pipe", long_counts),
     "replay, mixed, 8 by 4": ("replay", lambda: world(8, 4)),
     "mixed, 1,024 by 8,192": ("replay", lambda: world(1024, 8192)),

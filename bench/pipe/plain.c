@@ -3,6 +3,16 @@
 
 enum { ATOMIC_SIZE = 65536, MAX_LIMIT = 1024, WRITERS = 64 };
 
+/* The first write is read whole: the next one is the first, from its first byte on. */
+#define PASS() \
+    do { \
+        uint32_t begin = queue[head].begin; \
+        head = head + 1 == places ? 0 : head + 1; \
+        count--; \
+        offset = 0; \
+        if (count > 0 && queue[head].begin < begin) wraps = 0; \
+    } while (0)
+
 /* A write that waits: where its bytes begin in the ring, and how many they are. */
 struct held { uint32_t begin, len; };
 
@@ -70,6 +80,8 @@ static void run(const byte *at, const byte *stop, int is_cut) {
     ring = must(malloc(ring_size));
 
     const byte *end = BEGINS(at, "limit ") ? number(at + 6, &value) : NULL;
+    int is_stream = end != NULL && BEGINS(end, " stream");
+    if (is_stream) end += sizeof " stream" - 1;
     if (end == NULL || *end != '\n' || value < 1 || value > MAX_LIMIT) fault(o, line);
     at = end + 1;
 
@@ -123,23 +135,24 @@ static void run(const byte *at, const byte *stop, int is_cut) {
             if (end == NULL || *end != '\n') fault(o, line);
             at = end + 1;
             if (value == 0) { o = SAY(o, "bad count\n"); continue; }
+            /* A stream passes the empty writes before its first byte, and goes on from write to write. */
+            while (is_stream && count > 0 && queue[head].len == 0) PASS();
             if (count == 0) { if (hung) o = SAY(o, "end\n"); else o = SAY(o, "empty\n"); continue; }
-            uint32_t left = queue[head].len - offset, len = left < value ? left : value;
-            const byte *from = ring + queue[head].begin + offset;
             o = SAY(o, "got ");
-            if (len == 0) *o++ = '-';
+            if (queue[head].len == 0) *o++ = '-';
+            for (;;) {
+                uint32_t left = queue[head].len - offset, len = left < value ? left : value;
+                const byte *from = ring + queue[head].begin + offset;
 #pragma GCC unroll 4
-            for (uint32_t i = 0; i < len; i++) memcpy(o + 2 * i, digits[from[i]], 2);
-            o += 2 * len;
-            *o++ = '\n';
-            offset += len;
-            if (len == left) {
-                uint32_t begin = queue[head].begin;
-                head = head + 1 == places ? 0 : head + 1;
-                count--;
-                offset = 0;
-                if (count > 0 && queue[head].begin < begin) wraps = 0;
+                for (uint32_t i = 0; i < len; i++) memcpy(o + 2 * i, digits[from[i]], 2);
+                o += 2 * len;
+                value -= len;
+                offset += len;
+                if (len == left) PASS();
+                if (!is_stream || value == 0 || count == 0) break;
+                if (o >= out + FLUSH) o = flush(o);
             }
+            *o++ = '\n';
         } else if (BEGINS(at, "hangup\n")) {
             hung = 1;
             o = SAY(o, "ok\n");

@@ -1,5 +1,8 @@
-/* The same bytes through a pipe of the system, with a buffer of 65,536 bytes at the reader.
-   usage: plain WRITERS WRITES SIZE */
+/* The same bytes through a pipe of the system, with a buffer of 65,536 bytes at the reader. A pipe holds 65,536 bytes, or
+   CAPACITY where that is given; any process may ask for 1,048,576.
+   usage: plain WRITERS WRITES SIZE [CAPACITY] */
+#define _GNU_SOURCE
+#include <fcntl.h>
 #include <pthread.h>
 #include <stdio.h>
 #include <stdlib.h>
@@ -46,6 +49,8 @@ int main(int words, char **word)
     writes = words > 2 ? atol(word[2]) : 1;
     size = words > 3 ? atol(word[3]) : 1;
     if (writers > 64 || pipe(ends) != 0)
+        return 1;
+    if (words > 4 && fcntl(ends[1], F_SETPIPE_SZ, atoi(word[4])) < 0)
         return 1;
     pthread_create(&reader, NULL, receive, NULL);
     for (long number = 0; number < writers; number++)

@@ -3,17 +3,26 @@
 
 usage: race.py ROUNDS STREAM PIPE CHANNEL
 
-The programs run in turn, ROUNDS times each, and the one that goes first moves on by one each round. Of each: million
-writes a second, and processor seconds, as medians with the least and the most behind them; a share is the speed of the
-library as a part of the other's in the same round, by elapsed time and by processor time. All of a run counts, the
-start of the threads too."""
+The pipe of the system runs twice, once as it is made, with 65,536 bytes, and once with the most that any process may ask
+for, 1,048,576. The programs run in turn, ROUNDS times each, and the one that goes first moves on by one each round. Of
+each: million writes a second, and processor seconds, as medians with the least and the most behind them; a share is the
+speed of the library as a part of the other's in the same round, by elapsed time and by processor time. All of a run
+counts, the start of the threads too."""
 import os
 import statistics
 import sys
 import time
 
 # How many writers, how many writes of each, and of how many bytes.
-SHAPES = [(1, 1_000_000, 16), (4, 250_000, 16), (16, 50_000, 16), (64, 12_000, 16), (4, 100_000, 1_024), (1, 20_000, 65_536)]
+SHAPES = [
+    (1, 1_000_000, 16),
+    (4, 250_000, 16),
+    (16, 50_000, 16),
+    (64, 12_000, 16),
+    (4, 100_000, 1_024),
+    (1, 20_000, 65_536),
+]
+WIDEST = "1048576"
 
 
 def run(words):
@@ -38,7 +47,14 @@ def shown(figures, form):
 
 
 def main():
-    rounds, programs = int(sys.argv[1]), dict(zip(["stream", "pipe", "channel"], sys.argv[2:5]))
+    rounds, (stream, pipe, channel) = int(sys.argv[1]), sys.argv[2:5]
+    # Of each, the program, and what it is told behind the shape.
+    programs = {
+        "stream": (stream, []),
+        "pipe": (pipe, []),
+        "wide pipe": (pipe, [WIDEST]),
+        "channel": (channel, []),
+    }
     names = list(programs)
     print(f"cores: {os.cpu_count()}, medians of {rounds} alternating rounds, least and most")
     for writers, writes, size in SHAPES:
@@ -47,13 +63,14 @@ def main():
         for number in range(rounds):
             first = number % len(names)
             for name in names[first:] + names[:first]:
-                runs[name].append(run([programs[name]] + words))
+                program, more = programs[name]
+                runs[name].append(run([program] + words + more))
         said = {each[2] for of_one in runs.values() for each in of_one}
         if said != {str(writers * writes * size).encode()}:
             sys.exit(f"the programs differ: {said}")
         print(f"{writers} writers, {writes} writes each, of {size} bytes")
         for name in names:
-            line = f"  {name:8} {shown([writers * writes / 1e6 / each[0] for each in runs[name]], '7.3f')}"
+            line = f"  {name:9} {shown([writers * writes / 1e6 / each[0] for each in runs[name]], '7.3f')}"
             line += f"  {shown([each[1] for each in runs[name]], '6.2f')}"
             if name != "stream":
                 pairs = list(zip(runs["stream"], runs[name]))

@@ -1,7 +1,8 @@
 #!/bin/sh
 # Prints the speed of a direction in stream mode beside a pipe of the system with the same writes and the same buffer,
 # and Rust's sync_channel(1024). usage: run.sh [ROUNDS]. `race.py` says how it is measured. What is built lies in
-# bench/out/stream; the first build proves the crates below, or uses what they kept.
+# bench/out/stream; the first build proves the crates below, or uses what they kept. `run.sh 0` builds, and measures
+# nothing.
 set -eu
 here=$(CDPATH= cd -- "$(dirname -- "$0")" && pwd)
 top=$here/../..
@@ -31,4 +32,5 @@ cc -O2 -pthread -o "$work/plain" "$here/plain.c"
 rustc --edition 2021 -O -o "$work/channel" "$here/channel.rs"
 cd "$bench"
 rt run -- 1 1 16 > "$work/first" 2> "$work/build.log" || { tail -20 "$work/build.log"; exit 1; }
+[ "${1:-9}" != 0 ] || exit 0
 exec python3 "$here/race.py" "${1:-9}" "$bench/out/stream_bench" "$work/plain" "$work/channel"
