@@ -138,11 +138,16 @@ pub struct Two {
 
 impl Two {
     pub fn open(alloc: Global, limit: u64) -> Result<Two, Fault> {
+        Two::open_from(alloc, limit, 0)
+    }
+
+    /// With the writes counted from this number on.
+    pub fn open_from(alloc: Global, limit: u64, first: u64) -> Result<Two, Fault> {
         let Opened {
             queue,
             take,
             mut puts,
-        } = opened(alloc, limit, 2, 0)?;
+        } = opened(alloc, limit, 2, first)?;
         let Some(second) = puts.pop() else {
             return Err(Fault::Device);
         };

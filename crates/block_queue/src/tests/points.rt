@@ -10,6 +10,7 @@ use std::alloc::Global;
 use std::process::Abort;
 use std::sync::Wait;
 use std::test::Fail;
+use sync_base::limits::LAST_WRITE;
 use sync_base::{Fault, Piece, Probe};
 
 /// No call of these tests passes as many points.
@@ -151,6 +152,8 @@ impl<R: Wait> Probe for BesideTake<'_, '_, R> {
 #[derive(Clone, Copy, Debug)]
 struct Case {
     limit: u64,
+    /// How many writes were counted before.
+    first: u64,
     stands: bool,
     act: Act,
     at: u64,
@@ -193,7 +196,7 @@ fn put_in<R: Wait>(rt: &R, alloc: Global, case: Case) -> Result<Way, Fault> {
         take,
         first: mut put,
         mut second,
-    } = Two::open(alloc, case.limit)?;
+    } = Two::open_from(alloc, case.limit, case.first)?;
     fill(rt, alloc, &queue, &mut second, case.stands);
     let mut probe = BesidePut {
         rt,
@@ -220,7 +223,7 @@ fn take_from<R: Wait>(rt: &R, alloc: Global, case: Case) -> Result<Way, Fault> {
         mut take,
         first: mut put,
         second,
-    } = Two::open(alloc, case.limit)?;
+    } = Two::open_from(alloc, case.limit, case.first)?;
     fill(rt, alloc, &queue, &mut put, case.stands);
     let mut probe = BesideTake {
         rt,
@@ -250,6 +253,7 @@ fn check_puts<R: Wait + Abort>(
     for (at, way) in ways.iter() {
         let case = Case {
             limit: 3,
+            first: 0,
             stands: false,
             act,
             at: *at,
@@ -330,7 +334,55 @@ fn a_put_finds_the_queue_full_at_its_second_step(rt: HostRuntime) -> Result<(), 
     ] {
         let case = Case {
             limit: 1,
+            first: 0,
             stands: true,
+            act,
+            at,
+        };
+        assert_eq!(rt; put_in(&rt, rt.alloc(), case)?, way, "{case:?}");
+    }
+    Ok(())
+}
+
+#[test]
+fn a_put_finds_its_numbers_worn_at_its_first_step(rt: HostRuntime) -> Result<(), Fail> {
+    let last = Said::Taken(LAST_WRITE);
+    for (first, act, at, way) in [
+        (
+            LAST_WRITE,
+            Act::Nothing,
+            0,
+            expected(&[1, 6], Said::Worn, Said::Nothing),
+        ),
+        (
+            LAST_WRITE - 1,
+            Act::Put,
+            1,
+            expected(&[1, 6], Said::Worn, last),
+        ),
+        (
+            LAST_WRITE - 1,
+            Act::Put,
+            2,
+            expected(&[1, 2, 1, 6], Said::Worn, last),
+        ),
+        (
+            LAST_WRITE - 1,
+            Act::Put,
+            3,
+            expected(&[1, 2, 3, 1, 6], Said::Worn, last),
+        ),
+        (
+            LAST_WRITE - 1,
+            Act::Put,
+            4,
+            expected(&[1, 2, 3, 4, 5, 6], last, Said::Worn),
+        ),
+    ] {
+        let case = Case {
+            limit: 3,
+            first,
+            stands: false,
             act,
             at,
         };
@@ -359,6 +411,7 @@ fn a_take_from_an_empty_queue_sees_what_came_before_its_steps(rt: HostRuntime) -
     ] {
         let case = Case {
             limit: 1,
+            first: 0,
             stands: false,
             act,
             at,
@@ -374,6 +427,7 @@ fn a_take_frees_its_place_behind_its_fourth_point(rt: HostRuntime) -> Result<(),
     for at in 1..5 {
         let case = Case {
             limit: 1,
+            first: 0,
             stands: true,
             act: Act::Put,
             at,

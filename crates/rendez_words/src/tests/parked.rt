@@ -7,6 +7,8 @@ ghost use Rattle.rendez_words.specs.Words.{IsProcessOf, procs_of};
 use crate::parking::Unwoken;
 use crate::tests::{FIRST, open, sleep, wakeup};
 use crate::{LookAnswer, Opened, Seat, TakeAnswer, TestAnswer, WithdrawAnswer, Words};
+use std::alloc::Global;
+use std::process::Abort;
 use std::sync::Wait;
 use std::sync::atomic::AtomicU64;
 use std::sync::atomic::Ordering::SeqCst;
@@ -16,6 +18,9 @@ use sync_base::{Note, NoteSet, Pid};
 
 /// How often a waker yields once the sleeper has said that it parks, so that it does.
 const TURNS: u64 = 200;
+
+/// For how many turns a wakeup that has taken the sleeper holds it before it marks it.
+const HELD: u64 = 10_000;
 
 /// How often a waker yields before it takes what it waits for as lost.
 const LATE: u64 = 2_000_000;
@@ -154,6 +159,8 @@ fn sleep_and_note<R: Threads + Wait + Sync>(
 struct Done {
     posted: AtomicU64,
     taken: AtomicU64,
+    /// For how many turns the sleeper was held.
+    held: AtomicU64,
     marked: AtomicU64,
     awake: AtomicU64,
 }
@@ -190,7 +197,7 @@ fn awaits_mark<R: Wait>(rt: &R, words: &Words, seat: Seat, done: &Done) -> (bool
         WithdrawAnswer::Out(out) => (false, words.clear_out(out).notes),
         WithdrawAnswer::Awaiting(awaiting) => {
             let woken = words.look_mark(rt, awaiting);
-            let marked = done.marked.load(SeqCst) == 1;
+            let marked = done.marked.load(SeqCst) == 1 && done.held.load(SeqCst) == HELD;
             (marked, words.clear_woken(woken).notes)
         }
     };
@@ -198,8 +205,19 @@ fn awaits_mark<R: Wait>(rt: &R, words: &Words, seat: Seat, done: &Done) -> (bool
     (taken && marked, notes)
 }
 
-// Takes the sleeper, posts a note to it once it parks, which then parks again, and marks it.
-fn posts_and_marks(words: &Words, waker: Seat, mut poster: Seat, done: &Done) -> bool
+// Lets turns pass, in which who was sent a note looks and parks again, and then counts others.
+fn hold(held: &AtomicU64) {
+    for _ in 0..TURNS {
+        yield_now();
+    }
+    for _ in 0..HELD {
+        held.fetch_add(1, SeqCst);
+    }
+}
+
+// Takes the sleeper, sends it a note once it parks, holds it, and then says that it marks it, and
+// does.
+fn holds_and_marks(words: &Words, waker: Seat, mut poster: Seat, note: NoteSet, done: &Done) -> bool
     requires waker { IsProcessOf words.now waker }
     requires poster { IsProcessOf words.now poster }
     requires sleeper { 0 < procs_of words.now }
@@ -214,12 +232,8 @@ fn posts_and_marks(words: &Words, waker: Seat, mut poster: Seat, done: &Done) ->
     };
     done.taken.store(1, SeqCst);
     let parked = await_park(words);
-    let noted = words
-        .note(&mut poster, SLEEPER, NoteSet::of(Note::Hangup))
-        .is_ok();
-    for _ in 0..TURNS {
-        yield_now();
-    }
+    let noted = note.is_empty() || words.note(&mut poster, SLEEPER, note).is_ok();
+    hold(&done.held);
     done.marked.store(1, SeqCst);
     words.mark(holding);
     await_wake(words, &done.awake) && posted && parked && noted
@@ -231,6 +245,7 @@ fn await_and_mark<R: Threads + Wait + Sync>(
     sleeper: Seat,
     waker: Seat,
     poster: Seat,
+    note: NoteSet,
 ) -> (bool, (bool, NoteSet))
     requires sleeper { IsProcessOf words.now sleeper }
     requires waker { IsProcessOf words.now waker }
@@ -240,14 +255,39 @@ fn await_and_mark<R: Threads + Wait + Sync>(
     let done = Done {
         posted: AtomicU64::new(0),
         taken: AtomicU64::new(0),
+        held: AtomicU64::new(0),
         marked: AtomicU64::new(0),
         awake: AtomicU64::new(0),
     };
     join(
         rt,
-        || posts_and_marks(words, waker, poster, &done),
+        || holds_and_marks(words, waker, poster, note, &done),
         || awaits_mark(rt, words, sleeper, &done),
     )
+}
+
+// A wakeup has taken the sleeper, and marks it after some turns, with this note before that.
+fn check_wait<R: Threads + Wait + Sync + Abort>(
+    rt: &R,
+    alloc: Global,
+    note: NoteSet,
+) -> Result<(), Fail> {
+    let Opened {
+        words,
+        seat,
+        mut pids,
+    } = open(rt, alloc, 3, 1);
+    let Ok(waker) = words.split(&mut pids) else {
+        panic!(rt; "a second process")
+    };
+    let Ok(poster) = words.split(&mut pids) else {
+        panic!(rt; "a third process")
+    };
+    let (woken, (marked, notes)) = await_and_mark(rt, &words, seat, waker, poster, note);
+    assert!(rt; woken, "the sleeper parks, and the mark wakes it");
+    assert!(rt; marked, "nothing but the mark ends this wait");
+    assert_eq!(rt; notes, note);
+    Ok(())
 }
 
 #[test]
@@ -284,20 +324,10 @@ fn a_note_wakes_who_parks(rt: HostRuntime) -> Result<(), Fail> {
 
 #[test]
 fn a_note_leaves_who_awaits_a_mark_to_its_mark(rt: HostRuntime) -> Result<(), Fail> {
-    let Opened {
-        words,
-        seat,
-        mut pids,
-    } = open(&rt, rt.alloc(), 3, 1);
-    let Ok(waker) = words.split(&mut pids) else {
-        panic!(rt; "a second process")
-    };
-    let Ok(poster) = words.split(&mut pids) else {
-        panic!(rt; "a third process")
-    };
-    let (woken, (marked, notes)) = await_and_mark(&rt, &words, seat, waker, poster);
-    assert!(rt; woken, "the sleeper parks, and the mark wakes it");
-    assert!(rt; marked, "nothing but the mark ends this wait");
-    assert_eq!(rt; notes, NoteSet::of(Note::Hangup));
-    Ok(())
+    check_wait(&rt, rt.alloc(), NoteSet::of(Note::Hangup))
+}
+
+#[test]
+fn who_awaits_a_mark_is_held_until_it_comes(rt: HostRuntime) -> Result<(), Fail> {
+    check_wait(&rt, rt.alloc(), NoteSet::empty())
 }
