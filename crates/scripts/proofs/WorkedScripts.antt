@@ -139,6 +139,39 @@ a_stream_is_read_to_its_end : pipe_told
 unfolding encode_with decode_pairs
 a_stream_is_read_to_its_end = refl
 
+a_stream_read_goes_on_behind_a_begun_write : pipe_told
+    (text (codes "limit 1 stream" ∷ codes "write 0 616263" ∷ codes "write 0 64" ∷ codes "read 1" ∷
+    codes "write 0 64" ∷ codes "read 8" ∷ codes "read 8" ∷ [])) ≡ record {
+      output = text
+          (codes "taken" ∷ codes "full" ∷ codes "got 61" ∷ codes "taken" ∷ codes "got 626364" ∷
+          codes "empty" ∷ []);
+      fault = None;
+    }
+unfolding encode_with decode_pairs
+a_stream_read_goes_on_behind_a_begun_write = refl
+
+a_stream_read_of_none_passes_nothing : pipe_told
+    (text (codes "limit 1 stream" ∷ codes "write 0 -" ∷ codes "read 0" ∷ codes "write 0 61" ∷
+    codes "read 8" ∷ codes "write 0 61" ∷ codes "read 8" ∷ [])) ≡ record {
+      output = text
+          (codes "taken" ∷ codes "bad count" ∷ codes "full" ∷ codes "empty" ∷ codes "taken" ∷
+          codes "got 61" ∷ []);
+      fault = None;
+    }
+unfolding encode_with decode_pairs
+a_stream_read_of_none_passes_nothing = refl
+
+a_stream_of_empty_writes_ends : pipe_told
+    (text (codes "limit 2 stream" ∷ codes "write 0 -" ∷ codes "write 0 -" ∷ codes "hangup" ∷
+    codes "write 0 61" ∷ codes "read 1" ∷ codes "read 1" ∷ [])) ≡ record {
+      output = text
+          (codes "taken" ∷ codes "taken" ∷ codes "ok" ∷ codes "hungup" ∷ codes "end" ∷
+          codes "end" ∷ []);
+      fault = None;
+    }
+unfolding encode_with decode_pairs
+a_stream_of_empty_writes_ends = refl
+
 no_pipe_has_the_mode_streams : pipe_told (text (codes "limit 2 streams" ∷ [])) ≡ record
     { output = []; fault = Some 1 }
 unfolding encode_with decode_pairs

@@ -132,7 +132,7 @@ fn pipe_scripts_are_answered(rt: HostRuntime) -> Result<(), Fail> {
 
 #[test]
 fn stream_scripts_are_answered(rt: HostRuntime) -> Result<(), Fail> {
-    let rows: [Row<'_>; 6] = [
+    let rows: [Row<'_>; 8] = [
         (b"limit 2 stream\n", b"", Ends::Well),
         (
             b"limit 4 stream\nwrite 0 616263\nwrite 1 6465\nread 4\nread 8\nread 8\n",
@@ -160,8 +160,20 @@ fn stream_scripts_are_answered(rt: HostRuntime) -> Result<(), Fail> {
         ),
         // What is left of a begun write is joined to the next one.
         (
-            b"limit 1 stream\nwrite 0 616263\nread 1\nwrite 0 64\nread 0\nread 8\nread 8\n",
-            b"taken\ngot 61\ntaken\nbad count\ngot 626364\nempty\n",
+            b"limit 1 stream\nwrite 0 616263\nwrite 0 64\nread 1\nwrite 0 64\nread 8\nread 8\n",
+            b"taken\nfull\ngot 61\ntaken\ngot 626364\nempty\n",
+            Ends::Well,
+        ),
+        // A read of no bytes has passed no empty write.
+        (
+            b"limit 1 stream\nwrite 0 -\nread 0\nwrite 0 61\nread 8\nwrite 0 61\nread 8\n",
+            b"taken\nbad count\nfull\nempty\ntaken\ngot 61\n",
+            Ends::Well,
+        ),
+        // Empty writes before the end have no byte, and are passed.
+        (
+            b"limit 2 stream\nwrite 0 -\nwrite 0 -\nhangup\nwrite 0 61\nread 1\nread 1\n",
+            b"taken\ntaken\nok\nhungup\nend\nend\n",
             Ends::Well,
         ),
     ];
@@ -193,6 +205,35 @@ fn a_size_is_tested_before_a_hangup(rt: HostRuntime) -> Result<(), Fail> {
             ),
             (b"00".as_slice(), 65_536),
             (b"\nend\n".as_slice(), 1),
+        ],
+    )?;
+    let rows: [Row<'_>; 1] = [(&script, &answers, Ends::Well)];
+    assert_eq!(rt; first_wrong(&rt, alloc, &PIPE, &rows)?, None);
+    Ok(())
+}
+
+#[test]
+fn a_stream_read_gives_more_than_a_write_may_have(rt: HostRuntime) -> Result<(), Fail> {
+    let alloc = rt.alloc();
+    let script = repeated(
+        alloc,
+        &[
+            (b"limit 2 stream\nwrite 0 ".as_slice(), 1),
+            (b"61".as_slice(), 65_537),
+            (b"\nwrite 0 ".as_slice(), 1),
+            (b"61".as_slice(), 65_536),
+            (b"\nwrite 1 ".as_slice(), 1),
+            (b"62".as_slice(), 65_536),
+            (b"\nread 131072\nread 1\n".as_slice(), 1),
+        ],
+    )?;
+    let answers = repeated(
+        alloc,
+        &[
+            (b"too big\ntaken\ntaken\ngot ".as_slice(), 1),
+            (b"61".as_slice(), 65_536),
+            (b"62".as_slice(), 65_536),
+            (b"\nempty\n".as_slice(), 1),
         ],
     )?;
     let rows: [Row<'_>; 1] = [(&script, &answers, Ends::Well)];
