@@ -40,3 +40,6 @@ pub use tag_space::{
 
 // What a caller has beside: a pipe for one thread, and probes for tests of calls.
 pub use sync_base::{NoProbe, PlainPipe, Probe};
+
+#[cfg(test)]
+mod tests;

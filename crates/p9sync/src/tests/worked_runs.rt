@@ -381,6 +381,33 @@ fn schedules_are_answered(rt: HostRuntime) -> Result<(), Fail> {
 }
 
 #[test]
+fn a_note_to_a_group_is_a_note_to_each(rt: HostRuntime) -> Result<(), Fail> {
+    let rows: [Row<'_>; 4] = [
+        // One that is asleep, one that is not, and one that is not there.
+        (
+            b"world 3 1\npost 1 0 0\ntest 1\nnotepg 0,1,5 interrupt\nlook 1\nwithdraw 1\nclear 1\n\
+              drain 0\ndrain 2\n",
+            b"posted\nasleep\nnoted\nnoted\nno process\nleaving\nout\ninterrupted interrupt\n\
+              notes interrupt\nnotes -\nlost no\n",
+            Ends::Well,
+        ),
+        (
+            b"world 2 1\nnotepg 1 hangup,alarm\nnotepg 0,1 -\ndrain 1\ndrain 0\n",
+            b"noted\nnoted\nnoted\nnotes hangup,alarm\nnotes -\nlost no\n",
+            Ends::Well,
+        ),
+        (b"world 3 1\nnotepg 1,0 alarm\n", b"", Ends::AtLine(2)),
+        (
+            b"world 3 1\nnote 1 alarm\nnotepg 1,1 alarm\n",
+            b"noted\n",
+            Ends::AtLine(3),
+        ),
+    ];
+    assert_eq!(rt; first_wrong(&rt, rt.alloc(), &REPLAY, &rows)?, None);
+    Ok(())
+}
+
+#[test]
 fn each_set_of_notes_has_its_text(rt: HostRuntime) -> Result<(), Fail> {
     let rows: [Row<'_>; 8] = [
         (

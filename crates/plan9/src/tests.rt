@@ -1,0 +1,3 @@
+//! What no clause says: that each call succeeds where there is memory, and what stands where it was
+//! refused.
+mod refused;
