@@ -3,6 +3,7 @@ mod DigitLemmas
 mod EventLineLemmas
 mod EventTextLemmas
 mod GroupLemmas
+mod KindLemmas
 mod LineLemmas
 mod NumberLemmas
 mod OnePassLemmas

@@ -1,13 +1,13 @@
 //! The line `notepg PIDS KINDS` of a schedule, which posts notes to a group of processes.
-ghost use Rattle.std.specs.Prelude.{◌≡◌, ◌∷◌, ◌++◌, ℕ, List, codes, Some, None};
+ghost use Rattle.std.specs.Prelude.{◌≡◌, [], ◌∷◌, ◌++◌, ℕ, List, codes, Some, None};
 ghost use Rattle.std.specs.Prelude.{IfSome, MatchOption};
 ghost use Rattle.std.specs.Option.{is_some};
 ghost use Rattle.scripts.specs.declared.lines.TheConstants.{SPACE};
 ghost use Rattle.scripts.specs.Lines.{is_comma, parts_behind, words_of};
 ghost use Rattle.scripts.specs.GroupNote.{AskGroup, AskPids, BeginsWithGroup};
-ghost use Rattle.scripts.specs.Schedule.{group_of, pids_of, rising_behind};
+ghost use Rattle.scripts.specs.Schedule.{group_of, kinds_of, pids_of, rising_behind};
 
-use crate::event_line::{only_kinds, parse_kinds};
+use crate::event_line::parse_kinds;
 use crate::lines::{COMMA, SPACE, next_line, next_number, next_word, number_at};
 use sync_base::NoteSet;
 
@@ -82,7 +82,7 @@ pub fn group_at(text: &[u8]) -> Option<(GroupNote<'_>, &[u8])>
 {
     let (line, rest) = next_line(behind_verb(text)?)?;
     let (pids, kinds) = pids_at(line)?;
-    let notes = only_kinds(kinds)?;
+    let notes = lone_kinds(kinds)?;
     Some((GroupNote { pids, notes }, rest))
 }
 
@@ -123,4 +123,15 @@ fn pids_at(line: &[u8]) -> Option<(PidList<'_>, &[u8])>
         }
         _ => None,
     }
+}
+
+/// The kinds of notes that are the only word of a line. No kind has a space in it, so that none is
+/// looked for.
+#[inline(always)]
+fn lone_kinds(line: &[u8]) -> Option<NoteSet>
+    ensures alone { IfSome result (λ notes. words_of line.now ≡ line.now ∷ []) }
+    ensures kinds { IfSome result (λ notes. kinds_of line.now ≡ Some notes) }
+{
+    let notes = parse_kinds(line)?;
+    Some(notes)
 }

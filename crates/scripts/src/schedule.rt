@@ -87,8 +87,8 @@ fn answer_event(world: &mut World, event: Event, output: &mut Vec<u8>) -> Result
     push_event_answer(output, world.step(event))
 }
 
-/// The quick way of a line `notepg`. As a function of its own it has the registers to itself.
-#[inline(never)]
+/// The quick way of a line `notepg`.
+#[inline(always)]
 fn answer_first_group<'t>(
     world: &mut World,
     text: &'t [u8],
@@ -146,8 +146,8 @@ fn post_each(
 }
 
 /// Posts notes to a process, and writes the answer. Of the step and its answer in words the
-/// compiler leaves here what a note needs.
-#[inline(always)]
+/// compiler leaves here what a note needs, as a function of its own.
+#[inline(never)]
 fn answer_note(
     world: &mut World,
     pid: Pid,

@@ -10,7 +10,7 @@ pub returns : goal.returns
 returns c =
     let line = c.in_ok-line in
     let (pids, are, asked) = c.in_ok-pids.ensures in
-    let (kinds, alone, is) = c.in_ok-notes.ensures in
+    let kinds = c.in_ok-notes.ensures in
     record {
       words = codes "notepg" ∷ words_of line.line.now;
       begins = subst
@@ -18,6 +18,6 @@ returns c =
           line.rest.now) (sym c.in_ok-behind_verb.ensures)
           (line_behind_word (codes "notepg") _ _ _ group_is_word
           (line_begins _ _ _ line.ensures.lines line.ensures.cut));
-      asked = group_asked _ pids kinds _
-          (are ∙ ap (λ (ws : List (List ℕ)). pids ∷ ws) alone) asked is;
+      asked = group_asked _ pids _ _
+          (are ∙ ap (λ (ws : List (List ℕ)). pids ∷ ws) kinds.alone) asked kinds.kinds;
     }
