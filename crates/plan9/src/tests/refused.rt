@@ -2,8 +2,8 @@
 //! Rendez and no seat.
 use crate::{
     Clock, Ends, Fault, Flags, Hall, Holder, Kernel, Left, Note, NoteSet, OpenedKernel, OpenedPipe,
-    Parts, Pipe, Pool, Proc, ReadEnd, Reader, Roster, Started, Tag, TryAnswer, WriteEnd, Writer,
-    fork_writers,
+    Parts, Pipe, Plan, Pool, Proc, ReadEnd, Reader, Roster, Started, Tag, TryAnswer, WriteEnd,
+    Writer, fork_writers,
 };
 use std::alloc::Global;
 use std::process::Abort;
@@ -240,4 +240,25 @@ fn make_writers<R: Wait + Abort>(rt: &R, alloc: Global) -> Result<(), Fault> {
 #[test]
 fn a_writer_that_is_refused_memory_takes_nothing(rt: HostRuntime) -> Result<(), Fail> {
     Ok(make_writers(&rt, rt.alloc())?)
+}
+
+// What a kernel for a semaphore of three and one place to sleep in is to have.
+fn planned() -> Plan {
+    Plan::new().semaphore(3).rendez(1)
+}
+
+fn build_a_plan(rt: &impl Abort, alloc: Global) -> Result<(), Fault> {
+    let built = match planned().build(alloc) {
+        Err(Fault::Memory) => planned().build(alloc),
+        made => made,
+    };
+    let OpenedKernel { kernel, start } = built?;
+    let Started { roster, .. } = kernel.start(start);
+    assert_eq!(rt; roster.left(), Left { pids: 2, rendez: 4 });
+    Ok(())
+}
+
+#[test]
+fn a_plan_that_is_refused_memory_is_built_once_more(rt: HostRuntime) -> Result<(), Fail> {
+    Ok(build_a_plan(&rt, rt.alloc())?)
 }
