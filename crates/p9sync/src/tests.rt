@@ -1,5 +1,6 @@
 //! The program on its words and its streams: what no clause says of it, and that its runs succeed.
 mod devices;
+mod long_answers;
 mod longest_scripts;
 mod reports;
 mod worked_runs;

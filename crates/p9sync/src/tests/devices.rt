@@ -14,7 +14,7 @@ const SCRIPT: &[u8] = b"limit 2\nwrite 0 616263\nread 8\nfrob\n";
 
 const ANSWERS: &[u8] = b"taken\ngot 616263\n";
 
-const THREADS: [&str; 8] = [
+pub const THREADS: [&str; 8] = [
     "p9sync",
     "threads",
     "--writers",
@@ -25,14 +25,14 @@ const THREADS: [&str; 8] = [
     "16",
 ];
 
-const REPORT: &[u8] = b"writers 2 writes 6 bytes 96 in order\n";
+pub const REPORT: &[u8] = b"writers 2 writes 6 bytes 96 in order\n";
 
 const SCRIPT_FAULT: &[u8] = b"p9sync: script fault at line 4\n";
 
-const DEVICE_FAULT: &[u8] = b"p9sync: device fault\n";
+pub const DEVICE_FAULT: &[u8] = b"p9sync: device fault\n";
 
 /// Each kind of error but an interruption.
-const FAILURES: [ErrorKind; 41] = [
+pub const FAILURES: [ErrorKind; 41] = [
     ErrorKind::NotFound,
     ErrorKind::PermissionDenied,
     ErrorKind::ConnectionRefused,
@@ -78,13 +78,13 @@ const FAILURES: [ErrorKind; 41] = [
 
 /// Which calls fail, and how: from the first with this number, counted from 1, so many in a row.
 #[derive(Clone, Copy)]
-struct Failing {
+pub struct Failing {
     first: usize,
     times: usize,
     kind: ErrorKind,
 }
 
-const NEVER: Failing = Failing {
+pub const NEVER: Failing = Failing {
     first: 0,
     times: 0,
     kind: ErrorKind::Other,
@@ -92,7 +92,7 @@ const NEVER: Failing = Failing {
 
 impl Failing {
     /// This call alone.
-    fn at(first: usize, kind: ErrorKind) -> Failing {
+    pub fn at(first: usize, kind: ErrorKind) -> Failing {
         Failing {
             first,
             times: 1,
@@ -130,22 +130,22 @@ impl Read for Reader<'_> {
 
 /// How much a writer takes at once.
 #[derive(Clone, Copy)]
-enum Takes {
+pub enum Takes {
     AtMost(usize),
     AllButOne,
 }
 
 /// A writer that holds what it took. Flushes are counted apart.
 #[derive(Drop)]
-struct Writer {
-    held: Vec<u8>,
+pub struct Writer {
+    pub held: Vec<u8>,
     takes: Takes,
-    calls: usize,
+    pub calls: usize,
     failing: Failing,
-    flushes: usize,
+    pub flushes: usize,
     failing_flush: Failing,
     /// Whether nothing was written since the last flush that went well.
-    is_flushed: bool,
+    pub is_flushed: bool,
 }
 
 impl Write for Writer {
@@ -185,7 +185,7 @@ fn reading(rest: &[u8], most: usize, failing: Failing) -> Reader<'_> {
     }
 }
 
-fn writing(alloc: Global, takes: Takes, failing: Failing, failing_flush: Failing) -> Writer {
+pub fn writing(alloc: Global, takes: Takes, failing: Failing, failing_flush: Failing) -> Writer {
     Writer {
         held: Vec::new(alloc),
         takes,
