@@ -13,6 +13,15 @@ enum { ATOMIC_SIZE = 65536, MAX_LIMIT = 1024, WRITERS = 64 };
         if (count > 0 && queue[head].begin < begin) wraps = 0; \
     } while (0)
 
+/* These bytes of the first write are given. */
+#define GIVE() \
+    do { \
+        _Pragma("GCC unroll 4") \
+        for (uint32_t i = 0; i < len; i++) memcpy(o + 2 * i, digits[from[i]], 2); \
+        o += 2 * len; \
+        offset += len; \
+    } while (0)
+
 /* A write that waits: where its bytes begin in the ring, and how many they are. */
 struct held { uint32_t begin, len; };
 
@@ -138,19 +147,22 @@ static void run(const byte *at, const byte *stop, int is_cut) {
             /* A stream passes the empty writes before its first byte, and goes on from write to write. */
             while (is_stream && count > 0 && queue[head].len == 0) PASS();
             if (count == 0) { if (hung) o = SAY(o, "end\n"); else o = SAY(o, "empty\n"); continue; }
+            uint32_t left = queue[head].len - offset, len = left < value ? left : value;
+            const byte *from = ring + queue[head].begin + offset;
             o = SAY(o, "got ");
-            if (queue[head].len == 0) *o++ = '-';
-            for (;;) {
-                uint32_t left = queue[head].len - offset, len = left < value ? left : value;
-                const byte *from = ring + queue[head].begin + offset;
-#pragma GCC unroll 4
-                for (uint32_t i = 0; i < len; i++) memcpy(o + 2 * i, digits[from[i]], 2);
-                o += 2 * len;
+            if (len == 0) *o++ = '-';
+            GIVE();
+            if (len == left) PASS();
+            if (is_stream) {
                 value -= len;
-                offset += len;
-                if (len == left) PASS();
-                if (!is_stream || value == 0 || count == 0) break;
-                if (o >= out + FLUSH) o = flush(o);
+                while (value > 0 && count > 0) {
+                    if (o >= out + FLUSH) o = flush(o);
+                    left = queue[head].len, len = left < value ? left : value;
+                    from = ring + queue[head].begin;
+                    GIVE();
+                    value -= len;
+                    if (len == left) PASS();
+                }
             }
             *o++ = '\n';
         } else if (BEGINS(at, "hangup\n")) {
