@@ -1,6 +1,9 @@
 -- What clauses of a program may cite, under this crate's name alone. A file whose name two crates
 -- have has the name of what it speaks of before it.
 pub mod Words
+pub mod Refusals
+pub mod Startings
+pub mod Vacancies
 pub mod Pools
 pub mod Pipes
 pub mod Watches

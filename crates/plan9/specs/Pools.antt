@@ -14,6 +14,8 @@ use Rattle.semaphore.specs.declared.sema.Sema.{Sema}
 use Rattle.semaphore.specs.declared.sema.SemaSeat.{SemaSeat}
 use Rattle.semaphore.specs.Deeds.{Caller, Standing}
 use Rattle.semaphore.specs.Seats.{HasRow, IsNewSema, IsSemaSeatOf, caller_at, stands}
+use Rattle.plan9.specs.declared.vacant.Unseated.{Unseated}
+use Rattle.plan9.specs.Vacancies.{Vacancy}
 
 -- a pool: its semaphore, and the first seat as long as nobody has it
 pub record Pooled : Type 0 where
@@ -25,11 +27,6 @@ pub record Holding : Type 0 where
   pub sema : Sema
   pub running : Running
   pub seat : SemaSeat
-
--- the Rendez of this semaphore are so many from this one on
-pub record IsRowOf (sema : Sema) (first procs : ℕ) : Type 0 where
-  pub first_is : sema.first ≡ first
-  pub procs_are : sema.procs ≡ procs
 
 -- nobody has the seat, or it is one of the semaphore's that waits for nothing
 abbrev pub IsSpareOf : Sema → Option SemaSeat → Type 0
@@ -113,6 +110,17 @@ WhyNotJoined old new running fault.NoRendez =
 WhyNotJoined old new running fault.NoProc = HasRow old.sema running.words × KnowsNoSeat old new
 WhyNotJoined old new running other = ⊥
 
+-- a seat of the same semaphore that was given to no other, and that no process has
+pub record IsFurtherVacancy (old new : Holding) (vacancy : Vacancy) : Type 0 where
+  pub sema_is : vacancy.sema ≡ old.sema
+  pub given : Splits old.sema.lock old.seat.seat new.seat.seat vacancy.seat.seat
+
+-- the process has the seat that none had
+pub record IsFilled (vacancy : Vacancy) (running : Running) (holding : Holding) : Type 0 where
+  pub sema_is : holding.sema ≡ vacancy.sema
+  pub running_is : holding.running ≡ running
+  pub seat_is : holding.seat ≡ vacancy.seat
+
 -- the next process of a roster holds as well
 pub record ForksHolder (before : Unused) (old new : Holding) (child : Holding) (after : Unused) :
     Type 0 where
@@ -120,13 +128,32 @@ pub record ForksHolder (before : Unused) (old new : Holding) (child : Holding) (
   pub further : IsFurtherHolder old new (next_process before) child
   pub roster : after ≡ one_pid_less old.running.process.pid false before
 
+-- who forks, and the roster of which it takes the child
+pub record Forking : Type 0 where
+  pub roster : Unused
+  pub parent : Holding
+
+abbrev pub forking : Unused → Holding → Forking
+forking roster parent = record { roster = roster; parent = parent }
+
+-- the next process of a roster was made, and a seat was given that it can't have: its kernel has
+-- not all Rendez of the pool
+pub record IsUnseated (old new : Forking) (unseated : Unseated) : Type 0 where
+  pub pid : HasPid old.roster
+  pub no_row : ¬ HasRow old.parent.sema old.roster.words
+  pub proc_is : unseated.proc ≡ next_process old.roster
+  pub further : IsFurtherVacancy old.parent new.parent unseated.seat
+  pub roster : new.roster ≡ one_pid_less old.parent.running.process.pid false old.roster
+
 -- Why it does not: no pid is left, or all seats were given, and then no pid is used up. Or the
--- roster is of another kernel, which has not all Rendez of the pool.
-abbrev pub WhyNoFork : Unused → Holding → Holding → Unused → Fault → Type 0
-WhyNoFork before old new after fault.NoProc =
-    (after ≡ before) × (((¬ HasPid before) × (new ≡ old)) ⊎ (HasPid before × KnowsNoSeat old new))
-WhyNoFork before old new after fault.NoRendez = HasPid before × (¬ HasRow old.sema before.words)
-WhyNoFork before old new after other = ⊥
+-- roster is of another kernel, and then the child and its seat come back.
+abbrev pub WhyNoFork : Forking → Forking → Option Unseated → Fault → Type 0
+WhyNoFork old new None fault.NoProc =
+    (new.roster ≡ old.roster)
+    × (((¬ HasPid old.roster) × (new.parent ≡ old.parent))
+    ⊎ (HasPid old.roster × KnowsNoSeat old.parent new.parent))
+WhyNoFork old new (Some unseated) fault.NoRendez = IsUnseated old new unseated
+WhyNoFork old new unseated other = ⊥
 
 -- ---- all at once
 

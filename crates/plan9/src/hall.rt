@@ -1,6 +1,7 @@
 //! A hall in which processes meet by tags: each guest has its process, its member and the tag space
 //! together.
 use crate::pool::has_row;
+use crate::refusals::Refused;
 use sleep_wakeup::{Proc, Roster};
 use std::alloc::Global;
 use std::marker::Model;
@@ -64,6 +65,7 @@ impl Hall {
     ghost use Rattle.sleep_wakeup.specs.Kernel.{rendez_less};
     ghost use Rattle.tag_space.specs.Spaces.{WhyNoSpace};
     ghost use Rattle.plan9.specs.Halls.{IsFirstGuest, IsNewHall, WhyNotFirstGuest};
+    ghost use Rattle.plan9.specs.Refusals.{ComesBack};
 
     /// A hall for so many processes. It takes as many Rendez.
     /// Refuses, in this order, as `NoProc`, `NoRendez` and `Memory`. Doesn't wait.
@@ -88,17 +90,24 @@ impl Hall {
     }
 
     /// The first guest. Refuses, in this order, as `NoRendez` a process of another kernel, which
-    /// has not all Rendez of the hall, and as `NoProc` where another was the first before. Takes no
-    /// memory and doesn't wait.
-    pub fn first<'s, 'k>(&'s mut self, proc: Proc<'k>) -> Result<Guest<'s, 'k>, Fault>
-        ensures fault { IfErr result (WhyNotFirstGuest self.old proc.entry) }
+    /// has not all Rendez of the hall, and as `NoProc` where another was the first before; the
+    /// process comes back. Takes no memory and doesn't wait.
+    pub fn first<'s, 'k>(&'s mut self, proc: Proc<'k>) -> Result<Guest<'s, 'k>, Refused<'k>>
+        ensures fault { IfErr result
+            (ComesBack (WhyNotFirstGuest self.old proc.entry) proc.entry) }
         ensures first { IfOk result (IsFirstGuest self.old proc.entry) }
     {
         if !has_row(&proc, self.first, self.procs) {
-            return Err(Fault::NoRendez);
+            return Err(Refused {
+                proc,
+                fault: Fault::NoRendez,
+            });
         }
         match self.spare.take() {
-            None => Err(Fault::NoProc),
+            None => Err(Refused {
+                proc,
+                fault: Fault::NoProc,
+            }),
             Some(member) => Ok(Guest {
                 space: &self.space,
                 first: self.first,
@@ -118,6 +127,7 @@ impl<'s, 'k> Guest<'s, 'k> {
     ghost use Rattle.tag_space.specs.Members.{number_of, seen_of, space_of};
     ghost use Rattle.tag_space.specs.Outcome.{Exchange};
     ghost use Rattle.tag_space.specs.Walk.{Walks};
+    ghost use Rattle.plan9.specs.Refusals.{ComesBack};
     ghost use Rattle.plan9.specs.Halls.{
       IsAdmittedGuest,
       IsFurtherGuest,
@@ -152,25 +162,31 @@ impl<'s, 'k> Guest<'s, 'k> {
 
     /// Another process that is a guest as well.
     /// Refuses, in this order, as `NoRendez` a process of another kernel, which has not all Rendez
-    /// of the hall, and as `NoProc` where the space has had all its members. It waits for the
-    /// space's lock. Takes no memory.
-    pub fn join<R: Wait>(&mut self, rt: &R, proc: Proc<'k>) -> Result<Guest<'s, 'k>, Fault>
+    /// of the hall, and as `NoProc` where the space has had all its members; the process comes
+    /// back. It waits for the space's lock. Takes no memory.
+    pub fn join<R: Wait>(&mut self, rt: &R, proc: Proc<'k>) -> Result<Guest<'s, 'k>, Refused<'k>>
         ensures same { IsSameGuest self.old self.new }
-        ensures fault { IfErr result (WhyNoGuest self.old self.new proc.entry) }
+        ensures fault { IfErr result
+            (ComesBack (WhyNoGuest self.old self.new proc.entry) proc.entry) }
         ensures further { IfOk result (IsFurtherGuest self.old self.new proc.entry) }
     {
         let knows_hall = has_row(&proc, self.first, self.procs);
         if !knows_hall {
-            return Err(Fault::NoRendez);
+            return Err(Refused {
+                proc,
+                fault: Fault::NoRendez,
+            });
         }
-        let member = self.space.fork_member(rt, &mut self.member)?;
-        Ok(Guest {
-            space: self.space,
-            first: self.first,
-            procs: self.procs,
-            member,
-            proc,
-        })
+        match self.space.fork_member(rt, &mut self.member) {
+            Ok(member) => Ok(Guest {
+                space: self.space,
+                first: self.first,
+                procs: self.procs,
+                member,
+                proc,
+            }),
+            Err(fault) => Err(Refused { proc, fault }),
+        }
     }
 
     /// The pid of its process. Takes no memory and doesn't wait.

@@ -1,20 +1,28 @@
 //! All that a program names: the library's types and calls in one order, and processes that have
 //! what belongs together.
-//! Read the lists below from the top: what every call speaks of; a kernel and its processes; pipes,
-//! with `pipes`; semaphores, with `pool`; timers, with `clock`; tag spaces, with `hall`; and what
-//! else a caller may prove.
+//! Read the lists below from the top: what every call speaks of; a kernel and its processes; what
+//! comes back where a process is refused, with `refusals`, and children on threads, with
+//! `starting`; pipes, with `pipes`; semaphores, with `pool` and `vacant`; timers, with `clock`; tag
+//! spaces, with `hall`; and what else a caller may prove.
 #![tactic(auto)]
 
 pub mod clock;
 pub mod hall;
 pub mod pipes;
 pub mod pool;
+pub mod refusals;
+pub mod starting;
+pub mod vacant;
 
 // What every call speaks of.
 pub use sync_base::{Fault, Flags, Mode, Note, NoteSet, Pid, Piece, RendezId, Tag, limits};
 
 // A kernel and its processes: sleep, wakeup, notes and rfork.
 pub use sleep_wakeup::{Done, Kernel, Left, Opened as OpenedKernel, Proc, Roster, Start, Started};
+
+// What comes back where a process, or ends, are refused; and children on threads.
+pub use crate::refusals::{Refused, Unforked};
+pub use crate::starting::{NotStarted, start_child};
 
 // Pipes, and processes that have an end of one.
 pub use crate::pipes::{Reader, Writer, fork_writers};
@@ -25,6 +33,7 @@ pub use pipe_dev::{
 
 // Semaphores, and processes that hold their units.
 pub use crate::pool::{Holder, Pool};
+pub use crate::vacant::{NotHolder, Unseated, Vacant};
 pub use semaphore::{OpenedSema, Sema, SemaSeat, Semacquired};
 
 // Timers, for waits that end, and seats that have them.

@@ -1,7 +1,9 @@
 //! Processes that have an end of a pipe: what each call asks for besides its bytes is in the type.
 ghost use Rattle.std.specs.Prelude.{◌≡◌, length, IfOk, IfErr, OnErr};
 ghost use Rattle.plan9.specs.Pipes.{HaveEnds, WhyNoWriters};
+ghost use Rattle.plan9.specs.Refusals.{ComeBack};
 
+use crate::refusals::Unforked;
 use pipe_dev::{Long, ReadAnswer, ReadEnd, TryAnswer, WriteEnd};
 use sleep_wakeup::{Proc, Roster};
 use std::alloc::Global;
@@ -188,24 +190,33 @@ impl<'p, 'k> Writer<'p, 'k> {
 }
 
 /// Gives each of these ends to a child of this process, in its note group.
-/// Refuses, in this order, as `NoProc` where fewer pids are left and as `Memory`, and then no
-/// process is made. Doesn't wait.
+/// Refuses, in this order, as `NoProc` where fewer pids are left and as `Memory`; then no process
+/// is made, and the ends come back. Doesn't wait.
 pub fn fork_writers<'p, 'k>(
     alloc: Global,
     roster: &mut Roster<'k>,
     parent: &mut Proc<'k>,
     ends: Vec<WriteEnd<'p>>,
-) -> Result<Vec<Writer<'p, 'k>>, Fault>
-    ensures fault { IfErr result (WhyNoWriters roster.old (length ends.entry.items)) }
+) -> Result<Vec<Writer<'p, 'k>>, Unforked<'p>>
+    ensures fault { IfErr result
+        (ComeBack (WhyNoWriters roster.old (length ends.entry.items)) ends.entry.items) }
     ensures refused { OnErr result (roster.new ≡ roster.old) }
     ensures made { IfOk result (λ made.
         HaveEnds roster.old parent.old.process.pid ends.entry.items made.items roster.new) }
     ensures parent { parent.new ≡ parent.old }
 {
     if roster.left().pids < ends.len() as u64 {
-        return Err(Fault::NoProc);
+        return Err(Unforked {
+            ends,
+            fault: Fault::NoProc,
+        });
     }
-    let mut writers = Vec::with_capacity(alloc, ends.len())?;
+    let Ok(mut writers) = Vec::with_capacity(alloc, ends.len()) else {
+        return Err(Unforked {
+            ends,
+            fault: Fault::Memory,
+        });
+    };
     'forking: for end in ends {
         let Ok(Some(proc)) = roster.rfork(parent, Flags::RFPROC) else {
             unreachable!()

@@ -4,6 +4,8 @@ ghost use Rattle.std.specs.Prelude.{◌≡◌, ◌≤◌, ◌+◌, ◌↔◌, tr
 ghost use Rattle.rendez_words.specs.Words.{rendez_of};
 
 use crate::clock::Watch;
+use crate::refusals::Refused;
+use crate::vacant::{NotHolder, Vacant};
 use semaphore::{OpenedSema, Sema, SemaSeat, Semacquired};
 use sleep_wakeup::{Proc, Roster};
 use std::alloc::Global;
@@ -21,7 +23,8 @@ pub struct Pool {
 }
 
 impl Model for Pool {
-    ghost use Rattle.plan9.specs.Pools.{Pooled, IsRowOf, IsSpareOf};
+    ghost use Rattle.plan9.specs.Pools.{Pooled, IsSpareOf};
+    ghost use Rattle.plan9.specs.Vacancies.{IsRowOf};
 
     ghost Value = { Pooled };
 
@@ -36,15 +39,16 @@ impl Model for Pool {
 /// A process with a seat at a pool. One thread has it at a time, and may hand it to another.
 #[derive(Drop)]
 pub struct Holder<'s, 'k> {
-    sema: &'s Sema,
-    first: u64,
-    procs: u64,
-    seat: SemaSeat,
-    proc: Proc<'k>,
+    pub(crate) sema: &'s Sema,
+    pub(crate) first: u64,
+    pub(crate) procs: u64,
+    pub(crate) seat: SemaSeat,
+    pub(crate) proc: Proc<'k>,
 }
 
 impl<'s, 'k> Model for Holder<'s, 'k> {
-    ghost use Rattle.plan9.specs.Pools.{Holding, IsRowOf, IsSeated};
+    ghost use Rattle.plan9.specs.Pools.{Holding, IsSeated};
+    ghost use Rattle.plan9.specs.Vacancies.{IsRowOf};
 
     ghost Value = { Holding };
 
@@ -67,6 +71,7 @@ impl Pool {
     ghost use Rattle.semaphore.specs.declared.limits.TheConstants.{MAX_VALUE};
     ghost use Rattle.semaphore.specs.Opening.{WhyNotOpened};
     ghost use Rattle.semaphore.specs.Procs.{IsProcCount};
+    ghost use Rattle.plan9.specs.Refusals.{ComesBack};
     ghost use Rattle.plan9.specs.Pools.{
       AreHolders,
       IsFirstHolder,
@@ -106,16 +111,22 @@ impl Pool {
 
     /// The first to hold units of this pool. Refuses, in this order, as `NoRendez` a process of
     /// another kernel, which has not all Rendez of the pool, and as `NoProc` where somebody was
-    /// the first before. Takes no memory and doesn't wait.
-    pub fn first<'s, 'k>(&'s mut self, proc: Proc<'k>) -> Result<Holder<'s, 'k>, Fault>
-        ensures fault { IfErr result (WhyNotFirst self.old proc.entry) }
+    /// the first before; the process comes back. Takes no memory and doesn't wait.
+    pub fn first<'s, 'k>(&'s mut self, proc: Proc<'k>) -> Result<Holder<'s, 'k>, Refused<'k>>
+        ensures fault { IfErr result (ComesBack (WhyNotFirst self.old proc.entry) proc.entry) }
         ensures first { IfOk result (IsFirstHolder self.old proc.entry) }
     {
         if !has_row(&proc, self.first, self.procs) {
-            return Err(Fault::NoRendez);
+            return Err(Refused {
+                proc,
+                fault: Fault::NoRendez,
+            });
         }
         match self.spare.take() {
-            None => Err(Fault::NoProc),
+            None => Err(Refused {
+                proc,
+                fault: Fault::NoProc,
+            }),
             Some(seat) => Ok(Holder {
                 sema: &self.sema,
                 first: self.first,
@@ -131,7 +142,7 @@ impl Pool {
     ///
     /// Refuses, in this order, before a process is made, as `NoProc` where the count is 0 or above
     /// the processes of the pool, or fewer pids are left; as `Memory`; as `first` does; and then as
-    /// `fork` does.
+    /// `fork` does. The process comes back.
     pub fn holders<'s, 'k, R: Wait>(
         &'s mut self,
         alloc: Global,
@@ -139,18 +150,34 @@ impl Pool {
         roster: &mut Roster<'k>,
         proc: Proc<'k>,
         count: u64,
-    ) -> Result<Vec<Holder<'s, 'k>>, Fault>
-        ensures fault { IfErr result IsNoHolders }
+    ) -> Result<Vec<Holder<'s, 'k>>, Refused<'k>>
+        ensures fault { IfErr result (ComesBack IsNoHolders proc.entry) }
         ensures holders { IfOk result (λ holders.
             AreHolders self.old.sema proc.entry roster.old count holders.items) }
     {
         if count == 0 || count > self.procs || roster.left().pids < count - 1 {
-            return Err(Fault::NoProc);
+            return Err(Refused {
+                proc,
+                fault: Fault::NoProc,
+            });
         }
-        let mut holders = Vec::with_capacity(alloc, count as usize)?;
+        let Ok(mut holders) = Vec::with_capacity(alloc, count as usize) else {
+            return Err(Refused {
+                proc,
+                fault: Fault::Memory,
+            });
+        };
         let mut first = self.first(proc)?;
         'forking: for _ in 1..count {
-            holders.push_reserved(first.fork(rt, roster)?);
+            match first.fork(rt, roster) {
+                Ok(child) => holders.push_reserved(child),
+                Err(refused) => {
+                    return Err(Refused {
+                        proc: first.into_proc(),
+                        fault: refused.fault,
+                    });
+                }
+            }
         }
         holders.push_reserved(first);
         Ok(holders)
@@ -176,6 +203,7 @@ impl<'s, 'k> Holder<'s, 'k> {
     ghost use Rattle.semaphore.specs.Seats.{timers_seen};
     ghost use Rattle.semaphore.specs.Timers.{deadline_of};
     ghost use Rattle.plan9.specs.Watches.{IsSameWatch, stands_watching, timed_holder};
+    ghost use Rattle.plan9.specs.Refusals.{ComesBack};
     ghost use Rattle.plan9.specs.Pools.{
       ForksHolder,
       IsFurtherHolder,
@@ -186,6 +214,7 @@ impl<'s, 'k> Holder<'s, 'k> {
       WhyNotJoined,
       got,
       got_now,
+      forking,
       holder,
       stands_holding,
     };
@@ -281,58 +310,70 @@ impl<'s, 'k> Holder<'s, 'k> {
 
     /// Another process that holds as well, with a seat of its own.
     /// Refuses, in this order, as `NoRendez` a process of another kernel, which has not all Rendez
-    /// of the pool, and as `NoProc` where the pool has had all its processes. It waits for the
-    /// semaphore's lock. Takes no memory.
-    pub fn join<R: Wait>(&mut self, rt: &R, proc: Proc<'k>) -> Result<Holder<'s, 'k>, Fault>
+    /// of the pool, and as `NoProc` where the pool has had all its processes; the process comes
+    /// back. It waits for the semaphore's lock. Takes no memory.
+    pub fn join<R: Wait>(&mut self, rt: &R, proc: Proc<'k>) -> Result<Holder<'s, 'k>, Refused<'k>>
         ensures same { IsSameParent self.old self.new }
-        ensures fault { IfErr result (WhyNotJoined self.old self.new proc.entry) }
+        ensures fault { IfErr result
+            (ComesBack (WhyNotJoined self.old self.new proc.entry) proc.entry) }
         ensures further { IfOk result (IsFurtherHolder self.old self.new proc.entry) }
     {
         let knows_pool = has_row(&proc, self.first, self.procs);
         if !knows_pool {
-            return Err(Fault::NoRendez);
+            return Err(Refused {
+                proc,
+                fault: Fault::NoRendez,
+            });
         }
-        let seat = self.sema.split(rt, &mut self.seat)?;
-        Ok(Holder {
-            sema: self.sema,
-            first: self.first,
-            procs: self.procs,
-            seat,
-            proc,
-        })
+        match self.sema.split(rt, &mut self.seat) {
+            Ok(seat) => Ok(Holder {
+                sema: self.sema,
+                first: self.first,
+                procs: self.procs,
+                seat,
+                proc,
+            }),
+            Err(fault) => Err(Refused { proc, fault }),
+        }
     }
 
     /// A child of this process, in its note group, that holds as well.
     /// Refuses as `NoProc` where no pid is left or the pool has had all its processes, and then
     /// nothing is used up; and as `NoRendez` where the roster is of another kernel, which has not
-    /// all Rendez of the pool. It waits for the semaphore's lock. Takes no memory.
+    /// all Rendez of the pool: the child and its seat then come back. It waits for the semaphore's
+    /// lock. Takes no memory.
     pub fn fork<R: Wait>(
         &mut self,
         rt: &R,
         roster: &mut Roster<'k>,
-    ) -> Result<Holder<'s, 'k>, Fault>
+    ) -> Result<Holder<'s, 'k>, NotHolder<'s, 'k>>
         ensures same { IsSameParent self.old self.new }
-        ensures fault { IfErr result (WhyNoFork roster.old self.old self.new roster.new) }
+        ensures fault { IfErr result (λ refused.
+            WhyNoFork (forking roster.old self.old) (forking roster.new self.new)
+            refused.unseated refused.fault) }
         ensures forked { IfOk result (λ child.
             ForksHolder roster.old self.old self.new child roster.new) }
     {
         if roster.left().pids == 0 {
-            return Err(Fault::NoProc);
+            return Err(NotHolder::from(Fault::NoProc));
         }
-        let given = self.sema.split(rt, &mut self.seat)?;
-        let Ok(Some(proc)) = roster.rfork(&mut self.proc, Flags::RFPROC) else {
-            unreachable!()
-        };
-        if !has_row(&proc, self.first, self.procs) {
-            return Err(Fault::NoRendez);
-        }
-        Ok(Holder {
+        let seat = self.sema.split(rt, &mut self.seat)?;
+        let vacant = Vacant {
             sema: self.sema,
             first: self.first,
             procs: self.procs,
-            seat: given,
-            proc,
-        })
+            seat,
+        };
+        let Ok(Some(proc)) = roster.rfork(&mut self.proc, Flags::RFPROC) else {
+            unreachable!()
+        };
+        match vacant.fill(proc) {
+            Ok(child) => Ok(child),
+            Err(unseated) => Err(NotHolder {
+                unseated: Some(unseated),
+                fault: Fault::NoRendez,
+            }),
+        }
     }
 
     /// The pid of its process. Takes no memory and doesn't wait.
