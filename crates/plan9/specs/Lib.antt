@@ -1,12 +1,15 @@
 -- What clauses of a program may cite, under this crate's name alone. A file whose name two crates
 -- have has the name of what it speaks of before it.
 pub mod Words
+pub mod Plans
 pub mod Refusals
 pub mod Startings
 pub mod Vacancies
 pub mod Pools
 pub mod Pipes
+pub mod Readings
 pub mod Watches
+pub mod Tickers
 pub mod Halls
 -- notes and flags, and where a process is
 pub use Rattle.sync_base.specs.NoteSet

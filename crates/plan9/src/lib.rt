@@ -1,23 +1,27 @@
 //! All that a program names: the library's types and calls in one order, and processes that have
 //! what belongs together.
-//! Read the lists below from the top: what every call speaks of; a kernel and its processes; what
-//! comes back where a process is refused, with `refusals`, and children on threads, with
-//! `starting`; pipes, with `pipes`; semaphores, with `pool` and `vacant`; timers, with `clock`; tag
-//! spaces, with `hall`; and what else a caller may prove.
+//! Read the lists below from the top: what every call speaks of; a kernel and its processes, with
+//! `plan`; what comes back where a process is refused, with `refusals`, and children on threads,
+//! with `starting`; pipes, with `pipes` and `reading`; semaphores, with `pool` and `vacant`;
+//! timers, with `clock` and `ticker`; tag spaces, with `hall`; and what else a caller may prove.
 #![tactic(auto)]
 
 pub mod clock;
 pub mod hall;
 pub mod pipes;
+pub mod plan;
 pub mod pool;
+pub mod reading;
 pub mod refusals;
 pub mod starting;
+pub mod ticker;
 pub mod vacant;
 
 // What every call speaks of.
 pub use sync_base::{Fault, Flags, Mode, Note, NoteSet, Pid, Piece, RendezId, Tag, limits};
 
-// A kernel and its processes: sleep, wakeup, notes and rfork.
+// A kernel, counted from what will be made, and its processes: sleep, wakeup, notes and rfork.
+pub use crate::plan::Plan;
 pub use sleep_wakeup::{Done, Kernel, Left, Opened as OpenedKernel, Proc, Roster, Start, Started};
 
 // What comes back where a process, or ends, are refused; and children on threads.
@@ -26,6 +30,7 @@ pub use crate::starting::{NotStarted, start_child};
 
 // Pipes, and processes that have an end of one.
 pub use crate::pipes::{Reader, Writer, fork_writers};
+pub use crate::reading::Short;
 pub use pipe_dev::{
     End, Ends, Held, Long, Opened as OpenedPipe, Parts, Pipe, PipeStart, ReadAnswer, ReadEnd,
     StoredBlock, TryAnswer, Unfinished, WriteEnd, finish,
@@ -38,6 +43,7 @@ pub use semaphore::{OpenedSema, Sema, SemaSeat, Semacquired};
 
 // Timers, for waits that end, and seats that have them.
 pub use crate::clock::{Clock, Watch};
+pub use crate::ticker::{Ticker, Time};
 pub use semaphore::{OpenedTimers, TimerSeat, Timers};
 
 // Tag spaces: rendezvous, rfork of them, and processes that are members of one.

@@ -1,0 +1,210 @@
+-- What a reader knows of a piece that it got, and of the pieces with which it fills a buffer.
+use Rattle.std.proofs.Common.{◌≡◌, ◌≤◌, ◌+◌, ◌-◌, ◌++◌, ℕ, suc, List, length, take, drop}
+use Rattle.std.proofs.Common.{Result, Ok, Err, Option, Some, None, refl, ap, ◌∙◌, subst, arith}
+use Rattle.std.proofs.Common.{length-append, length-drop}
+use borrow.Rule.Slice.PartMut.{mid_of, put_mid}
+use Rattle.std.proofs.lemmas.List.{take_all, drop_all, append-nil, length-take-le}
+use Rattle.sync_base.specs.declared.fault.Fault.{Fault}
+use Rattle.sync_base.specs.declared.mode.Mode.{Mode}
+use Rattle.sync_base.specs.declared.mode.Mode.TheVariants.{Message, Stream}
+use Rattle.block_queue.specs.declared.view.Key.{Key}
+use Rattle.pipe_dev.specs.declared.answers.ReadAnswer.TheVariants as read
+use Rattle.pipe_dev.specs.declared.row.Row.{Row}
+use Rattle.pipe_dev.specs.Parts.{part_of, bytes_of}
+use Rattle.pipe_dev.specs.ReadCalls as calls
+use Rattle.pipe_dev.specs.ReadCalls.{Reads, InMode, KeepsTrying, KeepsReading, calling}
+use Rattle.pipe_dev.specs.Rounds.{Rounds}
+use Rattle.plan9.specs.declared.pipes.Reader.{Reader}
+use Rattle.plan9.specs.Readings.{Filling, FillsUp, GoesOn, IsSameReader, LiesIn, ReadsBehind}
+use Rattle.plan9.specs.Readings.{ReadsBy, ReadsPiece, filling, read_answer}
+
+-- what was read lies in the buffer
+got_fits : (key : Key) (row : Row) (old : calls.Reader) (buffer : List ℕ) (count : ℕ)
+    (new : calls.Reader) (buffer' : List ℕ)
+    → Reads key row old buffer (Ok (read.Got count)) new buffer'
+    → count ≤ length buffer'
+got_fits key row old buffer count new buffer' reads = by row.mode reads
+  where
+    by : (mode : Mode)
+        → InMode mode (KeepsTrying key row old buffer (Ok (read.Got count)) new buffer')
+        (KeepsReading key row (calling old buffer) (Ok (read.Got count)) (calling new buffer'))
+        → count ≤ length buffer'
+    by Message trying =
+        let filled = trying.ended.filled in
+        let bytes = (part_of (length buffer) trying.ended.left).bytes in
+        omega (
+          arith,
+          filled.count_is,
+          ap length filled.bytes,
+          length-append bytes (drop count buffer),
+        )
+    by Stream reading =
+        let filled = reading.ended.tried.fills.filled in
+        let bytes = bytes_of reading.ended.tried.fills.filling.parts in
+        omega (
+          arith,
+          filled.count_is,
+          ap length filled.bytes_are,
+          length-append bytes (drop count reading.between.buffer),
+        )
+
+-- a piece lies in the buffer into which it was read
+pub piece_lies : (key : Key) (row : Row) (old : calls.Reader) (buffer : List ℕ)
+    (answer : Result (Option ℕ) Fault) (new : calls.Reader) (buffer' : List ℕ)
+    → Reads key row old buffer (read_answer answer) new buffer' → LiesIn buffer' answer
+piece_lies key row old buffer (Ok (Some count)) new buffer' reads =
+    got_fits key row old buffer count new buffer' reads
+piece_lies key row old buffer (Ok None) new buffer' reads = tt
+piece_lies key row old buffer (Err fault) new buffer' reads = tt
+
+-- ---- until a buffer is full
+
+-- some pieces were read, one behind the other, and lie in the buffer
+pub record SoFar (start now : Filling) : Type 0 where
+  -- what is filled
+  pub within : now.count ≤ length now.buffer
+  -- by the same reader
+  pub same : IsSameReader start.reader now.reader
+  -- in so many reads
+  pub times : ℕ
+  -- each behind the one before it
+  pub rounds : Rounds GoesOn times start now
+
+-- what is left of the buffer, as the code lends it
+abbrev pub rest_of : Filling → List ℕ
+rest_of now = mid_of now.count (length now.buffer - now.count) now.buffer
+
+-- the buffer once it has that back
+abbrev pub back_of : Filling → List ℕ → List ℕ
+back_of now rest = put_mid now.count (length now.buffer - now.count) now.buffer rest
+
+-- what is left is all of the buffer behind what is filled
+rest_all : (count : ℕ) (buffer : List ℕ)
+    → mid_of count (length buffer - count) buffer ≡ drop count buffer
+rest_all count buffer =
+    let size = length-drop count buffer in
+    take_all (length buffer - count) (drop count buffer) (omega (arith, size))
+
+back_all : (count : ℕ) (buffer rest : List ℕ)
+    → put_mid count (length buffer - count) buffer rest ≡ take count buffer ++ rest
+back_all count buffer rest =
+    let size = length-drop count buffer in
+    ap (λ xs. take count buffer ++ xs)
+    (ap (λ ys. rest ++ ys)
+    (drop_all (length buffer - count) (drop count buffer) (omega (arith, size)))
+    ∙ append-nil rest)
+
+-- the same reader, over two calls
+same_on : (old between new : Reader) → IsSameReader old between → IsSameReader between new
+    → IsSameReader old new
+same_on old between new first second =
+    record {
+      end_is = record {
+        queue = second.end_is.queue ∙ first.end_is.queue;
+        row = second.end_is.row ∙ first.end_is.row;
+      };
+      words_are = second.words_are ∙ first.words_are;
+    }
+
+-- a read into what is left of the buffer was answered so
+reads_behind : (now : Filling) (answer : Result (Option ℕ) Fault) (reader : Reader)
+    (rest : List ℕ) → ReadsPiece now.reader (rest_of now) answer reader rest
+    → ReadsBehind now (read_answer answer) reader (back_of now rest)
+reads_behind now answer reader rest piece =
+    record {
+      rest = rest;
+      read = subst (λ (xs : List ℕ). ReadsBy now.reader xs (read_answer answer) reader rest)
+          (rest_all now.count now.buffer) piece.reads;
+      buffer_is = back_all now.count now.buffer rest;
+    }
+
+-- one piece more
+pub one_more : (start now : Filling) (answer : Result (Option ℕ) Fault) (more : ℕ)
+    (reader : Reader) (rest : List ℕ) → SoFar start now → answer ≡ Ok (Some more)
+    → ReadsPiece now.reader (rest_of now) answer reader rest
+    → SoFar start (filling reader (back_of now rest) (now.count + more))
+one_more start now answer more reader rest so_far is piece =
+    let reads = subst
+    (λ (a : Result (Option ℕ) Fault).
+    ReadsBehind now (read_answer a) reader (back_of now rest))
+    is (reads_behind now answer reader rest piece) in
+    let lies : more ≤ length rest =
+    subst (λ (a : Result (Option ℕ) Fault). LiesIn rest a) is piece.fits in
+    record {
+      within = omega (
+        arith,
+        lies,
+        so_far.within,
+        ap length (back_all now.count now.buffer rest),
+        length-append (take now.count now.buffer) rest,
+        length-take-le now.count now.buffer so_far.within,
+      );
+      same = same_on start.reader now.reader reader so_far.same piece.same;
+      times = suc so_far.times;
+      rounds = record {
+        between = now;
+        rounds = so_far.rounds;
+        last = record { more = more; reads = reads; count_is = refl };
+      };
+    }
+
+-- no piece came: the end
+pub at_the_end : (start now : Filling) (answer : Result (Option ℕ) Fault) (reader : Reader)
+    (rest : List ℕ) → SoFar start now → answer ≡ Ok None
+    → ReadsPiece now.reader (rest_of now) answer reader rest → start.count ≡ 0
+    → FillsUp start.reader start.buffer (Err (record { count = now.count; fault = None })) reader
+    (back_of now rest)
+at_the_end start now answer reader rest so_far is piece none =
+    record {
+      same = same_on start.reader now.reader reader so_far.same piece.same;
+      times = so_far.times;
+      before = now;
+      pieces = subst
+          (λ (n : ℕ). Rounds GoesOn so_far.times (filling start.reader start.buffer n) now)
+          none so_far.rounds;
+      ended = record {
+        count_is = refl;
+        reads = subst
+            (λ (a : Result (Option ℕ) Fault).
+            ReadsBehind now (read_answer a) reader (back_of now rest))
+            is (reads_behind now answer reader rest piece);
+      };
+    }
+
+-- or a fault
+pub at_a_fault : (start now : Filling) (answer : Result (Option ℕ) Fault) (fault : Fault)
+    (reader : Reader) (rest : List ℕ) → SoFar start now → answer ≡ Err fault
+    → ReadsPiece now.reader (rest_of now) answer reader rest → start.count ≡ 0
+    → FillsUp start.reader start.buffer (Err (record { count = now.count; fault = Some fault }))
+    reader (back_of now rest)
+at_a_fault start now answer fault reader rest so_far is piece none =
+    record {
+      same = same_on start.reader now.reader reader so_far.same piece.same;
+      times = so_far.times;
+      before = now;
+      pieces = subst
+          (λ (n : ℕ). Rounds GoesOn so_far.times (filling start.reader start.buffer n) now)
+          none so_far.rounds;
+      ended = record {
+        count_is = refl;
+        reads = subst
+            (λ (a : Result (Option ℕ) Fault).
+            ReadsBehind now (read_answer a) reader (back_of now rest))
+            is (reads_behind now answer reader rest piece);
+      };
+    }
+
+-- the buffer is full
+pub is_full : (start now : Filling) → SoFar start now → start.count ≡ 0
+    → now.count ≡ length now.buffer
+    → FillsUp start.reader start.buffer (Ok tt) now.reader now.buffer
+is_full start now so_far none full =
+    record {
+      same = so_far.same;
+      times = so_far.times;
+      before = now;
+      pieces = subst
+          (λ (n : ℕ). Rounds GoesOn so_far.times (filling start.reader start.buffer n) now)
+          none so_far.rounds;
+      ended = ap (λ (n : ℕ). filling now.reader now.buffer n) full;
+    }

@@ -1,0 +1,11 @@
+-- some pieces were read, one behind the other, and lie in the buffer
+use Rattle.plan9.specs.Readings.{filling}
+use Rattle.plan9.proofs.ReadingLemmas.{SoFar}
+use Rattle.plan9.proofs.pipes.Reader.read_exact.Given as goal
+
+abbrev pub invariant-reading : goal.invariant-reading
+invariant-reading g l =
+    record {
+      so_far : SoFar (filling l.initial.self l.initial.buffer 0)
+          (filling l.self l.buffer l.count);
+    }

@@ -1,0 +1,11 @@
+-- so many ticks were made, and no note was pending before any of them
+use Rattle.std.proofs.Common.{ℕ}
+use Rattle.pipe_dev.specs.Rounds.{Rounds}
+use Rattle.plan9.specs.Tickers.{TicksOnce}
+use Rattle.plan9.proofs.ticker.Ticker.run.Given as goal
+
+abbrev pub invariant-ticking : goal.invariant-ticking
+invariant-ticking g l =
+    record {
+      times : (times : ℕ) × Rounds TicksOnce times l.initial.self l.self;
+    }

@@ -1,0 +1,98 @@
+-- What reads do that go on, after readn in read(2), in the words of one read.
+use Rattle.std.specs.Prelude.{◌≡◌, ◌≢◌, ◌↔◌, ◌+◌, ◌++◌, ◌≤◌, ⊤, ℕ, List, [], length, take, drop}
+use Rattle.std.specs.Prelude.{Option, Some, None, Result, Ok, Err, IsErrOf}
+use Rattle.sync_base.specs.declared.fault.Fault.{Fault}
+use Rattle.sync_base.specs.declared.fault.Fault.TheVariants.{BadCount, NoRendez}
+use Rattle.block_queue.specs.Seats.{key_of}
+use Rattle.pipe_dev.specs.declared.answers.ReadAnswer.{ReadAnswer}
+use Rattle.pipe_dev.specs.declared.answers.ReadAnswer.TheVariants as read
+use Rattle.pipe_dev.specs.Ends.{IsSameReadEnd}
+use Rattle.pipe_dev.specs.ReadCalls.{Reads, reader_of}
+use Rattle.pipe_dev.specs.Rendezes.{HasRow}
+use Rattle.pipe_dev.specs.Rounds.{Rounds}
+use Rattle.plan9.specs.declared.pipes.Reader.{Reader}
+use Rattle.plan9.specs.declared.reading.Short.{Short}
+
+-- the same end, and the same kernel
+pub record IsSameReader (old new : Reader) : Type 0 where
+  pub end_is : IsSameReadEnd old.end new.end
+  pub words_are : new.proc.words ≡ old.proc.words
+
+-- a read of this end by this process, by its answer
+abbrev pub ReadsBy : Reader → List ℕ → Result ReadAnswer Fault → Reader → List ℕ → Type 0
+ReadsBy old buffer answer new buffer' =
+    Reads (key_of old.end.queue) old.end.row (reader_of old.end old.proc) buffer answer
+    (reader_of new.end new.proc) buffer'
+
+-- ---- piece by piece
+
+-- what read answered where a piece of so many bytes came, or none at the end
+abbrev pub read_answer : Result (Option ℕ) Fault → Result ReadAnswer Fault
+read_answer (Ok (Some count)) = Ok (read.Got count)
+read_answer (Ok None) = Ok read.End
+read_answer (Err fault) = Err fault
+
+-- the piece lies in the buffer
+abbrev pub LiesIn : List ℕ → Result (Option ℕ) Fault → Type 0
+LiesIn buffer (Ok (Some count)) = count ≤ length buffer
+LiesIn buffer other = ⊤
+
+-- One read, which was answered so. A buffer of no bytes is refused first, and then a process of a
+-- kernel that has not all Rendez of the direction.
+pub record ReadsPiece (old : Reader) (buffer : List ℕ) (answer : Result (Option ℕ) Fault)
+    (new : Reader) (buffer' : List ℕ) : Type 0 where
+  pub bad_count : IsErrOf answer BadCount ↔ (buffer ≡ [])
+  pub no_rendez : buffer ≢ []
+      → (IsErrOf answer NoRendez ↔ ¬ HasRow old.proc.words old.end.row)
+  pub reads : ReadsBy old buffer (read_answer answer) new buffer'
+  pub fits : LiesIn buffer' answer
+  pub same : IsSameReader old new
+
+-- ---- until a buffer is full
+
+-- a reader, and how far it has filled the buffer
+pub record Filling : Type 0 where
+  pub reader : Reader
+  pub buffer : List ℕ
+  pub count : ℕ
+
+abbrev pub filling : Reader → List ℕ → ℕ → Filling
+filling reader buffer count = record { reader = reader; buffer = buffer; count = count }
+
+-- a read into what is left of the buffer, behind what is filled, which was answered so
+pub record ReadsBehind (old : Filling) (answer : Result ReadAnswer Fault) (reader : Reader)
+    (buffer : List ℕ) : Type 0 where
+  pub rest : List ℕ
+  pub read : ReadsBy old.reader (drop old.count old.buffer) answer reader rest
+  pub buffer_is : buffer ≡ take old.count old.buffer ++ rest
+
+-- one read gave a piece
+pub record GoesOn (old new : Filling) : Type 0 where
+  pub more : ℕ
+  pub reads : ReadsBehind old (Ok (read.Got more)) new.reader new.buffer
+  pub count_is : new.count ≡ old.count + more
+
+-- why no more came: the end, or a fault
+abbrev pub stopped : Option Fault → Result ReadAnswer Fault
+stopped None = Ok read.End
+stopped (Some fault) = Err fault
+
+-- no piece came, behind so many bytes
+pub record Stops (before : Filling) (short : Short) (reader : Reader) (buffer : List ℕ) :
+    Type 0 where
+  pub count_is : short.count ≡ before.count
+  pub reads : ReadsBehind before (stopped short.fault) reader buffer
+
+-- the buffer is full, or no more came
+abbrev pub EndsFilling : Filling → Result ⊤ Short → Reader → List ℕ → Type 0
+EndsFilling before (Ok unit) reader buffer = before ≡ filling reader buffer (length buffer)
+EndsFilling before (Err short) reader buffer = Stops before short reader buffer
+
+-- some reads gave a piece each, one behind the other; and then it ended
+pub record FillsUp (old : Reader) (buffer : List ℕ) (answer : Result ⊤ Short) (new : Reader)
+    (buffer' : List ℕ) : Type 0 where
+  pub same : IsSameReader old new
+  pub times : ℕ
+  pub before : Filling
+  pub pieces : Rounds GoesOn times (filling old buffer 0) before
+  pub ended : EndsFilling before answer new buffer'
