@@ -2,7 +2,9 @@
 //! fills it; a consumer empties it, and ends where it waits for an item for ten ticks in vain.
 #![tactic(auto)]
 
-use plan9::{Clock, Fault, Flags, Holder, Kernel, Note, NoteSet, OpenedKernel, Pool, Proc, Watch};
+use plan9::{
+    Clock, Fault, Flags, Holder, Kernel, Note, NoteSet, OpenedKernel, Pool, Proc, Started, Watch,
+};
 use std::alloc::Global;
 use std::io;
 use std::sync::Wait;
@@ -58,18 +60,21 @@ fn tick<R: Wait>(rt: &R, watch: &mut Watch<'_>, proc: &mut Proc<'_>) {
 
 fn run<R: Threads + Wait + Sync>(rt: &R, alloc: Global) -> Result<u64, Fault> {
     let OpenedKernel { kernel, start } = Kernel::new(alloc, 5, 4)?;
-    let mut all = kernel.start(start);
-    let mut free = Pool::new(alloc, &mut all.roster, 4, 2)?;
-    let mut items = Pool::new(alloc, &mut all.roster, 0, 2)?;
+    let Started {
+        mut roster,
+        mut proc,
+    } = kernel.start(start);
+    let mut free = Pool::new(alloc, &mut roster, 4, 2)?;
+    let mut items = Pool::new(alloc, &mut roster, 0, 2)?;
     let mut clock = Clock::new(alloc, 2)?;
-    let child = all.roster.rfork(&mut all.proc, Flags::RFPROC)?;
+    let child = roster.rfork(&mut proc, Flags::RFPROC)?;
     let mut takes = free.first(child.ok_or(Fault::NoProc)?)?;
-    let child = all.roster.rfork(&mut all.proc, Flags::RFPROC)?;
+    let child = roster.rfork(&mut proc, Flags::RFPROC)?;
     let mut gives = items.first(child.ok_or(Fault::NoProc)?)?;
     let mut watch = clock.first()?;
     let mut emptier = Side {
-        takes: gives.fork(rt, &mut all.roster)?,
-        gives: takes.fork(rt, &mut all.roster)?,
+        takes: gives.fork(rt, &mut roster)?,
+        gives: takes.fork(rt, &mut roster)?,
         watch: watch.split(rt)?,
     };
     let mut filler = Side {
@@ -78,7 +83,7 @@ fn run<R: Threads + Wait + Sync>(rt: &R, alloc: Global) -> Result<u64, Fault> {
         watch,
     };
     let places = &Places::default();
-    let (ticker, mut proc) = (all.proc.pid(), all.proc);
+    let ticker = proc.pid();
     scope(scope_env(), rt, move |scope| {
         let filling = scope.spawn(move || {
             let made = produce(rt, places, &mut filler);

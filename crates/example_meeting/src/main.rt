@@ -2,9 +2,8 @@
 //! answered there. Nobody meets the last one. A note ends its wait, and it leaves with the note.
 #![tactic(auto)]
 
-use plan9::{Fault, Flags, Guest, Hall, Kernel, Note, NoteSet, OpenedKernel, Pid, Tag};
+use plan9::{Fault, Flags, Guest, Hall, Kernel, Note, NoteSet, OpenedKernel, Pid, Started, Tag};
 use std::alloc::Global;
-use std::io;
 use std::sync::Wait;
 use std::thread::{Threads, map_vec, scope, scope_env};
 
@@ -32,13 +31,14 @@ fn serve<R: Wait>(rt: &R, mut windows: Guest<'_, '_>) -> Result<(), Fault> {
 
 fn run<R: Threads + Wait + Sync>(rt: &R, alloc: Global) -> Result<Vec<Result<u64, Fault>>, Fault> {
     let OpenedKernel { kernel, start } = Kernel::new(alloc, LAST + 1, LAST)?;
-    let mut all = kernel.start(start);
-    let mut hall = Hall::new(alloc, &mut all.roster, LAST)?;
-    let child = all.roster.rfork(&mut all.proc, Flags::RFPROC)?;
+    let Started { roster, proc } = kernel.start(start);
+    let (mut roster, mut proc) = (roster, proc);
+    let mut hall = Hall::new(alloc, &mut roster, LAST)?;
+    let child = roster.rfork(&mut proc, Flags::RFPROC)?;
     let mut windows = hall.first(child.ok_or(Fault::NoProc)?)?;
     let mut clients = Vec::new(alloc);
     for _ in 2..=LAST {
-        let child = all.roster.rfork(&mut all.proc, Flags::RFPROC)?;
+        let child = roster.rfork(&mut proc, Flags::RFPROC)?;
         clients.push(windows.join(rt, child.ok_or(Fault::NoProc)?)?)?;
     }
     scope(scope_env(), rt, move |scope| {
@@ -51,7 +51,7 @@ fn run<R: Threads + Wait + Sync>(rt: &R, alloc: Global) -> Result<Vec<Result<u64
     })
 }
 
-fn main(rt: HostRuntime) -> io::Result<()> {
+fn main(rt: HostRuntime) -> std::io::Result<()> {
     match run(&rt, rt.alloc()) {
         Ok(granted) => println!(rt; "columns granted: {granted:?}"),
         Err(fault) => println!(rt; "the windows failed: {fault}"),
