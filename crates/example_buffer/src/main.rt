@@ -67,10 +67,14 @@ fn run<R: Threads + Wait + Sync>(rt: &R, alloc: Global) -> Result<u64, Fault> {
     let mut free = Pool::new(alloc, &mut roster, 4, 2)?;
     let mut items = Pool::new(alloc, &mut roster, 0, 2)?;
     let mut clock = Clock::new(alloc, 2)?;
-    let child = roster.rfork(&mut proc, Flags::RFPROC)?;
-    let mut takes = free.first(child.ok_or(Fault::NoProc)?)?;
-    let child = roster.rfork(&mut proc, Flags::RFPROC)?;
-    let mut gives = items.first(child.ok_or(Fault::NoProc)?)?;
+    let child = roster
+        .rfork(&mut proc, Flags::RFPROC)?
+        .ok_or(Fault::NoProc)?;
+    let mut takes = free.first(child)?;
+    let child = roster
+        .rfork(&mut proc, Flags::RFPROC)?
+        .ok_or(Fault::NoProc)?;
+    let mut gives = items.first(child)?;
     let mut watch = clock.first()?;
     let mut emptier = Side {
         takes: gives.fork(rt, &mut roster)?,
