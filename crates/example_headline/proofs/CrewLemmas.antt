@@ -1,6 +1,6 @@
 -- How a reader and writers go on, by what their ends' calls answer.
 use Rattle.std.proofs.Common.{◌≡◌, ◌≢◌, ◌+◌, ◌++◌, ◌<◌, ℕ, zero, suc, List, [], ◌∷◌, length, map}
-use Rattle.std.proofs.Common.{refl}
+use Rattle.std.proofs.Common.{refl, false}
 use Rattle.std.proofs.Common.{reverse, sym, ◌∙◌, ap, subst, arith, Option, Some, None, get_or}
 use Rattle.std.proofs.Common.{◌≤◌, Bool}
 use Rattle.std.specs.Prelude.{Result, Ok, Err, take, slice_get, slice_index_or, vec_items}
@@ -33,6 +33,10 @@ use Rattle.example_headline.specs.Crew.{HasReadOn, HasSeenEnd, HasWrittenOn, Cou
 use Rattle.example_headline.specs.Crew.{HasEnded, ends_of, messages_of}
 
 -- ---- the reader
+
+-- a refusal is no answer
+pub refusal_is_no_answer : {P : Type 0} (why : Fault) → Err why ≡ Ok false → P
+refusal_is_no_answer why is = cc
 
 -- what an answer adds to what was got
 abbrev pub got_by : Result ReadAnswer Fault → List ℕ → List (List ℕ)

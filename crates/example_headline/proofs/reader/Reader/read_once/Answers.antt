@@ -3,17 +3,21 @@ use Rattle.std.proofs.Common.{◌≡◌, ◌∷◌, ◌++◌, [], List, ℕ, ari
 use Rattle.std.proofs.Common.{drop, length}
 use Rattle.std.specs.Prelude.{Result, Ok, Err}
 use Rattle.std.proofs.lemmas.List.{append-nil, take_at}
+use Rattle.std.proofs.lemmas.Result.{err_from_is_err_and}
 use Rattle.sync_base.specs.declared.fault.Fault.{Fault}
 use Rattle.block_queue.specs.Seats.{key_of}
 use Rattle.pipe_dev.specs.declared.answers.ReadAnswer.{ReadAnswer}
 use Rattle.pipe_dev.specs.declared.answers.ReadAnswer.TheVariants as read
 use Rattle.pipe_dev.specs.ReadCalls.{Reads, reader_of}
-use Rattle.example_headline.proofs.CrewLemmas.{read_on, some_room, sees_end}
+use Rattle.example_headline.proofs.CrewLemmas.{read_on, refusal_is_no_answer, some_room}
+use Rattle.example_headline.proofs.CrewLemmas.{sees_end}
 use Rattle.pipe_dev.specs.declared.row.Row.{Row}
 use Rattle.example_headline.proofs.reader.Reader.read_once.Goals as goal
 
 pub returns-in_err-count : goal.returns-in_err-count
 returns-in_err-count g c =
+    let failed = err_from_is_err_and c.from_residual-in_err-count.result
+    c.from_residual-in_err-count.ensures.1 in
     record {
       on = read_on c.args.self.now _ c.args.self.now.proc c.read.new.proc
           c.as_mut_slice.result.now (Err c.in_err-count.field-0.0) c.read.new.buffer
@@ -21,7 +25,7 @@ returns-in_err-count g c =
           (c.as_mut_slice.ensures.len ∙ c.in_ok-buffer.ensures.len) (omega arith))
           c.in_err-count.ensures.read c.in_err-count.ensures.end
           (c.in_ok-reserve.ensures.items ∙ sym (append-nil c.args.self.now.got.items));
-      end = λ is. absurd (cc);
+      end = λ is. refusal_is_no_answer failed.0 (sym failed.1 ∙ is);
       still = refl;
     }
 
