@@ -1,30 +1,36 @@
 -- How a reader and writers go on, by what their ends' calls answer.
 use Rattle.std.proofs.Common.{◌≡◌, ◌≢◌, ◌+◌, ◌++◌, ◌<◌, ℕ, zero, suc, List, [], ◌∷◌, length, map}
 use Rattle.std.proofs.Common.{refl}
-use Rattle.std.proofs.Common.{reverse, sym, ◌∙◌, ap, subst, arith, Option, Some, get_or}
-use Rattle.std.specs.Prelude.{Result, Ok, Err, take, slice_get, slice_index_or}
+use Rattle.std.proofs.Common.{reverse, sym, ◌∙◌, ap, subst, arith, Option, Some, None, get_or}
+use Rattle.std.proofs.Common.{◌≤◌, Bool}
+use Rattle.std.specs.Prelude.{Result, Ok, Err, take, slice_get, slice_index_or, vec_items}
 use Rattle.std.specs.List.{AllByRecursion, AllZip}
 use Rattle.std.proofs.lemmas.List.{append-nil, map-append, reverse-append}
 use Rattle.sync_base.specs.declared.fault.Fault.{Fault}
 use Rattle.sync_base.specs.declared.mode.Mode.{Mode}
-use Rattle.sync_base.specs.declared.mode.Mode.TheVariants.{Message}
+use Rattle.sync_base.specs.declared.mode.Mode.TheVariants.{Message, Stream}
 use Rattle.sleep_wakeup.specs.Kernel.{Running}
+use Rattle.histories.specs.declared.account.Account.{Account}
+use Rattle.block_queue.specs.declared.entry.Entry.{Entry}
 use Rattle.block_queue.specs.declared.entry.Entry.TheVariants.{Hung}
+use Rattle.block_queue.specs.declared.view.Key.{Key}
 use Rattle.block_queue.specs.Meaning.{Enters}
 use Rattle.block_queue.specs.Seats.{key_of}
 use Rattle.pipe_dev.specs.declared.answers.ReadAnswer.{ReadAnswer}
 use Rattle.pipe_dev.specs.declared.answers.ReadAnswer.TheVariants as read
 use Rattle.pipe_dev.specs.declared.row.Row.{Row}
 use Rattle.pipe_dev.specs.Chain.{AddsRead, written_by}
-use Rattle.pipe_dev.specs.Ends.{WriteSide, IsSameReadEnd, IsSameWriteEnd}
+use Rattle.pipe_dev.specs.Ends.{ReadSide, WriteSide, IsSameReadEnd, IsSameWriteEnd}
 use Rattle.pipe_dev.specs.Parts.{Part}
-use Rattle.pipe_dev.specs.ReadCalls.{Reads, reader_of}
+use Rattle.pipe_dev.specs.ReadCalls.{Reads, InMode, KeepsTrying, KeepsReading, calling}
+use Rattle.pipe_dev.specs.ReadCalls.{reader_of}
 use Rattle.pipe_dev.specs.Sides.{HasWrittenJust}
 use Rattle.pipe_dev.specs.WriteCalls.{Writes, writer_of}
 use Rattle.pipe_dev.proofs.SideLemmas.{reads_add, read_ends_hang_up, writes_add, write_ends_hang_up}
 use Rattle.example_headline.specs.declared.reader.Reader.{Reader}
 use Rattle.example_headline.specs.declared.writer.Writer.{Writer}
-use Rattle.example_headline.specs.Crew.{HasReadOn, HasWrittenOn, CountsAll, ends_of}
+use Rattle.example_headline.specs.Crew.{HasReadOn, HasSeenEnd, HasWrittenOn, CountsAll}
+use Rattle.example_headline.specs.Crew.{HasEnded, ends_of, messages_of}
 
 -- ---- the reader
 
@@ -76,6 +82,28 @@ read_on old new before after buffer answer buffer' room reads same got =
           };
     }
 
+-- a read that was answered the end has seen it
+pub sees_end : (key : Key) (row : Row) (old end : ReadSide) (before after : Running)
+    (buffer buffer' : List ℕ) → row.mode ≡ Message
+    → Reads key row (reader_of old before) buffer (Ok read.End) (reader_of end after) buffer'
+    → HasSeenEnd end
+sees_end key row old end before after buffer buffer' mode reads = by row.mode mode reads
+  where
+    by : (m : Mode) → m ≡ Message
+        → InMode m
+        (KeepsTrying key row (reader_of old before) buffer (Ok read.End) (reader_of end after)
+        buffer')
+        (KeepsReading key row (calling (reader_of old before) buffer) (Ok read.End)
+        (calling (reader_of end after) buffer'))
+        → HasSeenEnd end
+    by Message is trying =
+        record {
+          past = trying.ended.0.entered.adds.past;
+          newest = ap (λ (a : Account Entry). a.seen) trying.ended.0.entered.adds.new_is;
+          rest = trying.ended.0.rest;
+        }
+    by Stream is reading = cc
+
 -- a reader that hung up has read on: its end has read no more, and it keeps what it had got
 pub hung_read : (old new : Reader)
     → Enters (key_of old.end.queue) (Hung 0) old.end.account new.end.account
@@ -97,6 +125,11 @@ hung_read old new enters rest same got =
 -- a reader that made no call has read on
 pub same_reader : (reader : Reader) → HasReadOn reader reader
 same_reader reader = record { end = record { queue = refl; row = refl }; keeps = λ kept. kept }
+
+-- so has one that says anew whether it came to the end
+pub said_anew : (old new : Reader) (said : Bool) → HasReadOn old new
+    → HasReadOn old (record new { to_end = said })
+said_anew old new said on = record { end = on.end; keeps = on.keeps }
 
 -- whoever read on, and then read on again, has read on
 pub read_then : (old between new : Reader) → HasReadOn old between → HasReadOn between new
@@ -125,31 +158,50 @@ pub written_on : (old new : Writer) (before after : Running) (block : List ℕ)
     → IsSameWriteEnd old.end new.end → new.messages ≡ old.messages
     → take new.accepted new.messages.items
     ≡ take old.accepted old.messages.items ++ written_by answer block
-    → HasWrittenOn old new
-written_on old new before after block answer writes same messages count =
+    → (old.accepted ≤ length old.messages.items → new.accepted ≤ length new.messages.items)
+    → (HasEnded old → HasEnded new) → HasWrittenOn old new
+written_on old new before after block answer writes same messages count within ended =
     record {
       end = same;
       messages = messages;
-      counts = λ counts. subst (HasWrittenJust new.end) (sym count)
-          ((writes_add old.end new.end before after block answer writes same).just
-          (take old.accepted old.messages.items) counts);
+      counts = λ counts.
+          record {
+            just = subst (HasWrittenJust new.end) (sym count)
+                ((writes_add old.end new.end before after block answer writes same).just
+                (take old.accepted old.messages.items) counts.just);
+            within = within counts.within;
+          };
+      ended = ended;
     }
+
+-- a writer one of whose writes was refused has ended
+pub refused_ends : (fault : Fault) (most counted : ℕ) → Some fault ≡ None → most ≤ counted
+refused_ends fault most counted none = cc
 
 -- a writer that hung up has written on: its messages are the same, and no more are accepted
 pub hung_write : (old new : Writer)
     → Enters (key_of old.end.queue) (Hung (old.end.writer + 1)) old.end.account new.end.account
     → IsSameWriteEnd old.end new.end → new.messages ≡ old.messages
-    → take new.accepted new.messages.items ≡ take old.accepted old.messages.items
-    → HasWrittenOn old new
-hung_write old new enters same messages count =
+    → new.accepted ≡ old.accepted → new.refused ≡ old.refused → HasWrittenOn old new
+hung_write old new enters same messages accepted refused =
+    let taken : take new.accepted new.messages.items ≡ take old.accepted old.messages.items
+    = ap (λ n. take n new.messages.items) accepted
+    ∙ ap (λ ms. take old.accepted (vec_items ms)) messages in
+    let many : length new.messages.items ≡ length old.messages.items
+    = ap (λ ms. length (vec_items ms)) messages in
     record {
       end = same;
       messages = messages;
       counts = λ counts.
-          subst (HasWrittenJust new.end)
-          (append-nil (take old.accepted old.messages.items) ∙ sym count)
-          ((write_ends_hang_up old.end new.end enters same).just
-          (take old.accepted old.messages.items) counts);
+          record {
+            just = subst (HasWrittenJust new.end)
+                (append-nil (take old.accepted old.messages.items) ∙ sym taken)
+                ((write_ends_hang_up old.end new.end enters same).just
+                (take old.accepted old.messages.items) counts.just);
+            within = let least = counts.within in omega (arith, accepted, many, least);
+          };
+      ended = λ ended none.
+          let least = ended (sym refused ∙ none) in omega (arith, accepted, many, least);
     }
 
 -- a writer that made no call has written on
@@ -159,6 +211,7 @@ same_writer writer =
       end = record { queue = refl; row = refl; writer = refl };
       messages = refl;
       counts = λ counts. counts;
+      ended = λ ended. ended;
     }
 
 -- whoever wrote on, and then wrote on again, has written on
@@ -173,6 +226,7 @@ write_then old between new first second =
       };
       messages = second.messages ∙ first.messages;
       counts = λ counts. second.counts (first.counts counts);
+      ended = λ ended. second.ended (first.ended ended);
     }
 
 -- ---- all writers
@@ -189,6 +243,36 @@ at_each (old ∷ olds) (new ∷ news) many each = (
   each 0 old (omega arith),
   at_each olds news (omega (arith, many)) (λ i d low. each (suc i) d (omega (arith, low))),
 )
+
+-- what is true at each place of what writers have become is true of each of them
+pub ended_at_each : (olds news : List Writer) → length news ≡ length olds
+    → ((i : ℕ) (d : Writer) → i < length olds → HasEnded (slice_index_or news i d))
+    → AllByRecursion HasEnded news
+ended_at_each olds [] many each = tt
+ended_at_each [] (new ∷ news) many each = cc
+ended_at_each (old ∷ olds) (new ∷ news) many each = (
+  each 0 old (omega arith),
+  ended_at_each olds news (omega (arith, many)) (λ i d low. each (suc i) d (omega (arith, low))),
+)
+
+-- writers that had ended have ended when they have written on
+pub still_ended : (olds news : List Writer) → AllZip HasWrittenOn olds news
+    → AllByRecursion HasEnded olds → AllByRecursion HasEnded news
+still_ended [] [] on ended = tt
+still_ended [] (new ∷ news) on ended = absurd on
+still_ended (old ∷ olds) [] on ended = absurd on
+still_ended (old ∷ olds) (new ∷ news) on ended =
+    (on.0.ended ended.0, still_ended olds news on.1 ended.1)
+
+-- writers that have written on have the same messages
+pub same_messages : (olds news : List Writer) → AllZip HasWrittenOn olds news
+    → messages_of news ≡ messages_of olds
+same_messages [] [] on = refl
+same_messages [] (new ∷ news) on = absurd on
+same_messages (old ∷ olds) [] on = absurd on
+same_messages (old ∷ olds) (new ∷ news) on =
+    ap (λ ms. vec_items ms ∷ messages_of news) on.0.messages
+    ∙ ap (λ mss. old.messages.items ∷ mss) (same_messages olds news on.1)
 
 -- where each writer wrote on, and then on again, each has written on
 pub each_then : (olds betweens news : List Writer) → AllZip HasWrittenOn olds betweens

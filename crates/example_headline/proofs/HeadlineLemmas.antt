@@ -28,9 +28,12 @@ use Rattle.example_headline.specs.declared.settling.Outcome.{Outcome}
 use Rattle.example_headline.specs.declared.settling.Written.{Written}
 use Rattle.example_headline.specs.declared.writer.Writer.{Writer}
 use Rattle.example_headline.specs.Crew.{IsReady, IsFresh, AreEnds, HasReadOn, HasWrittenOn}
+use Rattle.example_headline.specs.Crew.{HasEnded, HasWorked, messages_of}
 use Rattle.example_headline.specs.Crew.{CountsAll, KeepsAll, ends_of}
-use Rattle.example_headline.specs.Headline.{IsWholeAndOnce, AreTheirs, accepted_of}
+use Rattle.example_headline.specs.Headline.{IsWholeAndOnce, AreFirst, AreTheirs}
+use Rattle.example_headline.specs.Headline.{accepted_of}
 use Rattle.example_headline.proofs.CrewLemmas.{same_ends, still_counts}
+use Rattle.example_headline.proofs.EndLemmas.{nothing_is_held}
 
 -- the ends of a new direction
 pub fresh_ends : (queue : Queue) (lane : Lane) (read : ReadSide) (writes : List WriteSide)
@@ -65,7 +68,12 @@ still_ready old new ready reader writers =
 
 -- what is told of a writer
 abbrev pub written_of : Writer → Written
-written_of writer = record { messages = writer.messages; accepted = writer.accepted }
+written_of writer =
+    record {
+      messages = writer.messages;
+      accepted = writer.accepted;
+      refused = writer.refused;
+    }
 
 abbrev first_of : List ℕ → ℕ
 first_of [] = 0
@@ -90,17 +98,49 @@ their_pieces pieces first count [] order all counts = tt
 their_pieces pieces first zero (writer ∷ writers) order all counts = cc
 their_pieces pieces first (suc count) (writer ∷ writers) order all counts = (
   ap (λ n. bytes_by n pieces) (sym (ap first_of order)) ∙ all.0 (accepted_of (written_of writer))
-      counts.0,
+      counts.0.just,
   their_pieces pieces (first + 1) count writers (ap others_of order) all.1 counts.1,
 )
 
--- a finish of all ends of a crew that is ready
-pub whole_and_once : (crew : Crew) (outcome : Outcome) → IsReady crew
+-- the messages of one writer more are those that were next
+pub next_messages : (writers : List Writer) (writer : Writer) (left : List (List (List ℕ)))
+    → messages_of (writers ++ writer ∷ []) ++ left
+    ≡ messages_of writers ++ writer.messages.items ∷ left
+next_messages [] writer left = refl
+next_messages (other ∷ others) writer left =
+    ap (λ mss. other.messages.items ∷ mss) (next_messages others writer left)
+
+-- what is told of writers has their messages
+told_messages : (writers : List Writer)
+    → map (λ (written : Written). written.messages.items) (map written_of writers)
+    ≡ messages_of writers
+told_messages [] = refl
+told_messages (writer ∷ writers) =
+    ap (λ mss. writer.messages.items ∷ mss) (told_messages writers)
+
+-- of writers that count all, and have ended, the first of their messages were accepted
+are_first : (writers : List Writer) → AllByRecursion CountsAll writers
+    → AllByRecursion HasEnded writers → AllByRecursion AreFirst (map written_of writers)
+are_first [] counts ended = tt
+are_first (writer ∷ writers) counts ended = (
+  record {
+    within = counts.0.within;
+    all = λ none.
+        let most = counts.0.within in
+        let least = ended.0 none in
+        omega (arith, most, least);
+  },
+  are_first writers counts.1 ended.1,
+)
+
+-- a finish of all ends of a crew that has worked
+pub whole_and_once : (crew : Crew) (outcome : Outcome) → HasWorked crew
     → outcome.writers.items ≡ map written_of crew.writers.items
-    → outcome.got.items ≡ crew.reader.got.items
+    → outcome.got.items ≡ crew.reader.got.items → outcome.to_end ≡ crew.reader.to_end
     → GivesHeld crew.reader.end (ends_of crew.writers.items) outcome.held
-    → IsWholeAndOnce outcome
-whole_and_once crew outcome ready told got gives =
+    → IsWholeAndOnce (messages_of crew.writers.items) outcome
+whole_and_once crew outcome worked told got to_end gives =
+    let ready = worked.ready in
     let read = crew.reader.end in
     let writes = ends_of crew.writers.items in
     let parts = ready.keeps.parts in
@@ -129,6 +169,13 @@ whole_and_once crew outcome ready told got gives =
           ready.ends.all.order
           (subst (λ (pieces : List Part). AllByRecursion (IsAllWritten pieces) writes) found.whole
           found.theirs) ready.counts);
+      own = ap (λ (writers : List Written). map (λ written. written.messages.items) writers) told
+          ∙ told_messages crew.writers.items;
+      first = subst (AllByRecursion AreFirst) (sym told)
+          (are_first crew.writers.items ready.counts worked.ended);
+      all_read = λ yes.
+          nothing_is_held read parts writes outcome.held
+          (worked.end (sym to_end ∙ yes) ready.keeps.mode) (gives parts);
     }
 
 -- a writer that has written nothing yet counts all
@@ -147,8 +194,11 @@ all_count read writes writers fresh ends none =
         → AllByRecursion CountsAll some
     each [] unused zeros = tt
     each (writer ∷ others) unused zeros = (
-      subst (HasWrittenJust writer.end)
-          (sym (ap (λ (n : ℕ). take n writer.messages.items) zeros.0)) unused.0,
+      record {
+        just = subst (HasWrittenJust writer.end)
+            (sym (ap (λ (n : ℕ). take n writer.messages.items) zeros.0)) unused.0;
+        within = let zero = zeros.0 in omega (arith, zero);
+      },
       each others unused.1 zeros.1,
     )
 

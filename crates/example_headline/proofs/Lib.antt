@@ -1,2 +1,3 @@
 pub mod CrewLemmas
+pub mod EndLemmas
 pub mod HeadlineLemmas

@@ -1,7 +1,8 @@
 //! A reader and writers who have all ends of one direction.
-ghost use Rattle.std.specs.Prelude.{IfOk};
-ghost use Rattle.std.specs.List.{AllZip};
-ghost use Rattle.example_headline.specs.Crew.{IsFresh, IsReady, HasReadOn, HasWrittenOn};
+ghost use Rattle.std.specs.Prelude.{◌≡◌, true, IfOk, map, vec_items};
+ghost use Rattle.std.specs.List.{AllByRecursion, AllZip};
+ghost use Rattle.example_headline.specs.Crew.{IsFresh, IsReady, HasReadOn, HasWrittenOn, HasEnded};
+ghost use Rattle.example_headline.specs.Crew.{IsAtEnd, messages_of};
 
 use crate::reader::Reader;
 use crate::writer::Writer;
@@ -20,7 +21,8 @@ pub struct Crew<'p> {
     pub(crate) writers: Vec<Writer<'p>>,
 }
 
-/// Gives each end of a new direction to a process, and each writer its messages.
+/// Gives each end of a new direction to a process, and each writer its messages. Refuses as
+/// `BadSize` where there are not as many lists of messages as writers.
 pub fn muster<'p>(
     alloc: Global,
     roster: Roster<'p>,
@@ -31,13 +33,18 @@ pub fn muster<'p>(
 ) -> Result<Crew<'p>, Fault>
     requires fresh { IsFresh read writes.items }
     ensures ready { IfOk result IsReady }
+    ensures given { IfOk result (λ crew.
+        messages_of crew.writers.items ≡ map vec_items messages.items) }
 {
+    if messages.len() != writes.len() {
+        return Err(Fault::BadSize);
+    }
     let (mut roster, mut parent) = (roster, reader);
-    let mut messages = messages.into_iter();
+    let mut lists = messages.into_iter();
     let mut writers = Vec::with_capacity(alloc, writes.len())?;
     'mustering: for end in writes {
         let child = roster.rfork(&mut parent, Flags::RFPROC)?;
-        let (Some(proc), Some(messages)) = (child, messages.next()) else {
+        let (Some(proc), Some(messages)) = (child, lists.next()) else {
             return Err(Fault::BadSize);
         };
         writers.push_reserved(Writer {
@@ -45,12 +52,14 @@ pub fn muster<'p>(
             proc,
             messages,
             accepted: 0,
+            refused: None,
         });
     }
     let reader = Reader {
         end: read,
         proc: parent,
         got: Vec::new(alloc),
+        to_end: false,
     };
     Ok(Crew { reader, writers })
 }
@@ -59,7 +68,9 @@ pub fn muster<'p>(
 /// it.
 pub fn work<'p, R: Threads + Wait + Sync>(rt: &R, alloc: Global, crew: Crew<'p>) -> Crew<'p>
     ensures reader { HasReadOn crew.entry.reader result.reader }
+    ensures end { result.reader.to_end ≡ true → IsAtEnd result.reader }
     ensures writers { AllZip HasWrittenOn crew.entry.writers.items result.writers.items }
+    ensures ended { AllByRecursion HasEnded result.writers.items }
 {
     let Crew {
         mut reader,
@@ -68,10 +79,12 @@ pub fn work<'p, R: Threads + Wait + Sync>(rt: &R, alloc: Global, crew: Crew<'p>)
     join_mut(
         rt,
         &mut ||
-            ensures { AllZip HasWrittenOn writers.entry.items writers.exit.items }
+            ensures on { AllZip HasWrittenOn writers.entry.items writers.exit.items }
+            ensures ended { AllByRecursion HasEnded writers.exit.items }
         { write_and_hang_up(rt, alloc, writers.as_mut_slice()) },
         &mut ||
-            ensures { HasReadOn reader.entry reader.exit }
+            ensures on { HasReadOn reader.entry reader.exit }
+            ensures end { reader.exit.to_end ≡ true → IsAtEnd reader.exit }
         { reader.read_all(rt, alloc) },
     );
     Crew { reader, writers }

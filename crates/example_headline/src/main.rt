@@ -56,7 +56,14 @@ fn main(rt: HostRuntime) -> io::Result<()> {
         Err(fault) => Err(fault),
     };
     match told {
-        Ok(Outcome { writers, got, held }) => {
+        Ok(
+            Outcome {
+                writers,
+                got,
+                to_end: _,
+                held,
+            },
+        ) => {
             let (read, left) = (count(got.as_slice()), held.writes.len());
             for written in writers.as_slice() {
                 println!(rt; "{} messages of a writer were accepted", written.accepted)?;

@@ -1,5 +1,5 @@
 //! The whole run, and its one contract.
-ghost use Rattle.std.specs.Prelude.{IfOk};
+ghost use Rattle.std.specs.Prelude.{IfOk, map, vec_items};
 ghost use Rattle.example_headline.specs.Headline.{IsWholeAndOnce};
 
 use crate::crew::{muster, work};
@@ -20,8 +20,10 @@ pub fn run<R: Threads + Wait + Sync>(
     limit: u64,
     messages: Vec<Vec<Piece>>,
 ) -> Result<Outcome, Fault>
-    // For each writer, what was read and what is held is what was accepted.
-    ensures whole { IfOk result IsWholeAndOnce }
+    // For each writer, what was read and what is held is what was accepted, and this is the first
+    // of the messages that it was given: all of them, if none of its writes was refused. Where the
+    // reader came to the end, nothing is held.
+    ensures whole { IfOk result (IsWholeAndOnce (map vec_items messages.items)) }
 {
     let writers = messages.len() as u64;
     if writers > MAX_WRITERS {

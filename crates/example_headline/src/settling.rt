@@ -1,6 +1,6 @@
 //! How all ends are given back, and what is told of it.
 ghost use Rattle.std.specs.Prelude.{IfOk};
-ghost use Rattle.example_headline.specs.Crew.{IsReady};
+ghost use Rattle.example_headline.specs.Crew.{HasWorked, messages_of};
 ghost use Rattle.example_headline.specs.Headline.{IsWholeAndOnce};
 
 use crate::crew::Crew;
@@ -10,32 +10,36 @@ use pipe_dev::{Held, finish};
 use std::alloc::Global;
 use sync_base::{Fault, Piece};
 
-/// The messages of a writer, and how many of them were accepted, from the first on.
+/// The messages of a writer, how many of them were accepted, from the first on, and why it wrote no
+/// more, where a write was refused.
 #[derive(Drop)]
 pub struct Written {
     pub messages: Vec<Piece>,
     pub accepted: usize,
+    pub refused: Option<Fault>,
 }
 
-/// What came of a run: what was accepted of each writer, what the reader got, part by part, and
-/// what the direction still holds.
+/// What came of a run: what was accepted of each writer, what the reader got, part by part, whether
+/// it came to the end, and what the direction still holds.
 #[derive(Drop)]
 pub struct Outcome {
     pub writers: Vec<Written>,
     pub got: Vec<Piece>,
+    pub to_end: bool,
     pub held: Held,
 }
 
 /// Gives all ends back.
 pub fn settle(alloc: Global, crew: Crew<'_>) -> Result<Outcome, Fault>
-    requires ready { IsReady crew }
-    ensures whole { IfOk result IsWholeAndOnce }
+    requires worked { HasWorked crew }
+    ensures whole { IfOk result (IsWholeAndOnce (messages_of crew.entry.writers.items)) }
 {
     let Crew { reader, writers } = crew;
     let Reader {
         end: read,
         proc: _,
         got,
+        to_end,
     } = reader;
     let mut ends = Vec::with_capacity(alloc, writers.len())?;
     let mut told = Vec::with_capacity(alloc, writers.len())?;
@@ -45,14 +49,20 @@ pub fn settle(alloc: Global, crew: Crew<'_>) -> Result<Outcome, Fault>
             proc: _,
             messages,
             accepted,
+            refused,
         } = writer;
         ends.push_reserved(end);
-        told.push_reserved(Written { messages, accepted });
+        told.push_reserved(Written {
+            messages,
+            accepted,
+            refused,
+        });
     }
     match finish(alloc, read, ends) {
         Ok(held) => Ok(Outcome {
             writers: told,
             got,
+            to_end,
             held,
         }),
         Err(_) => Err(Fault::Memory),

@@ -3,23 +3,26 @@ use pipe_dev::WriteEnd;
 use sleep_wakeup::Proc;
 use std::alloc::Global;
 use std::sync::Wait;
-use sync_base::Piece;
+use sync_base::{Fault, Piece};
 
-/// A writer: its end and its process, its messages, and how many of them were accepted.
+/// A writer: its end and its process, its messages, how many of them were accepted, and why it
+/// wrote no more, where a write was refused.
 #[derive(Drop)]
 pub struct Writer<'p> {
     pub(crate) end: WriteEnd<'p>,
     pub(crate) proc: Proc<'p>,
     pub(crate) messages: Vec<Piece>,
     pub(crate) accepted: usize,
+    pub(crate) refused: Option<Fault>,
 }
 
 impl<'p> Writer<'p> {
-    ghost use Rattle.example_headline.specs.Crew.{HasWrittenOn};
+    ghost use Rattle.example_headline.specs.Crew.{HasWrittenOn, HasEnded};
 
     /// Writes its messages in their order, until one is not accepted.
     pub fn write_all<R: Wait>(&mut self, rt: &R, alloc: Global)
         ensures on { HasWrittenOn self.old self.new }
+        ensures ended { HasEnded self.new }
     {
         'writing: while let Some(message) = self.messages.get(self.accepted) {
             match self
@@ -27,7 +30,10 @@ impl<'p> Writer<'p> {
                 .write(alloc, rt, &mut self.proc, message.as_slice())
             {
                 Ok(_) => self.accepted += 1,
-                Err(_) => return,
+                Err(fault) => {
+                    self.refused = Some(fault);
+                    return;
+                }
             }
         }
     }

@@ -19,7 +19,7 @@ finish-requires c =
     ∙ (ap (λ (xs : List Writer). c.parting.ends.items ++ ends_of xs) (sym ended)
     ∙ c.parting.invariant.ends) in
     record {
-      all = subst (AreAllEnds c.args.crew.reader.end) (sym all) c.requires.ready.ends.all;
+      all = subst (AreAllEnds c.args.crew.reader.end) (sym all) c.requires.worked.ready.ends.all;
     }
 
 pub returns-in-Ok : goal.returns-in-Ok
@@ -36,7 +36,7 @@ returns-in-Ok c =
     ∙ (ap (λ (xs : List Writer). c.parting.told.items ++ map written_of xs) (sym ended)
     ∙ c.parting.invariant.told) in
     record {
-      whole = whole_and_once c.args.crew _ c.requires.ready told refl
+      whole = whole_and_once c.args.crew _ c.requires.worked told refl refl
           (subst (λ (ends : List WriteSide). GivesHeld c.args.crew.reader.end ends c.in-Ok.held)
           all c.in-Ok.ensures.held);
     }

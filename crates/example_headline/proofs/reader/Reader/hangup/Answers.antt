@@ -8,4 +8,5 @@ returns c =
     record {
       on = hung_read c.args.self.now _ c.hangup.ensures.hung c.hangup.ensures.rest
           c.hangup.ensures.end refl;
+      still = refl;
     }

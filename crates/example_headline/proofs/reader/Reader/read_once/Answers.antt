@@ -8,7 +8,8 @@ use Rattle.block_queue.specs.Seats.{key_of}
 use Rattle.pipe_dev.specs.declared.answers.ReadAnswer.{ReadAnswer}
 use Rattle.pipe_dev.specs.declared.answers.ReadAnswer.TheVariants as read
 use Rattle.pipe_dev.specs.ReadCalls.{Reads, reader_of}
-use Rattle.example_headline.proofs.CrewLemmas.{read_on, some_room}
+use Rattle.example_headline.proofs.CrewLemmas.{read_on, some_room, sees_end}
+use Rattle.pipe_dev.specs.declared.row.Row.{Row}
 use Rattle.example_headline.proofs.reader.Reader.read_once.Goals as goal
 
 pub returns-in_err-count : goal.returns-in_err-count
@@ -20,6 +21,8 @@ returns-in_err-count g c =
           (c.as_mut_slice.ensures.len ∙ c.in_ok-buffer.ensures.len) (omega arith))
           c.in_err-count.ensures.read c.in_err-count.ensures.end
           (c.in_ok-reserve.ensures.items ∙ sym (append-nil c.args.self.now.got.items));
+      end = λ is. absurd (cc);
+      still = refl;
     }
 
 pub returns-in-Got : goal.returns-in-Got
@@ -43,19 +46,26 @@ returns-in-Got g c =
           (c.push_reserved.ensures.items
           ∙ (ap (λ (xs : List (List ℕ)). xs ++ c.of.result ∷ []) c.in_ok-reserve.ensures.items
           ∙ ap (λ (p : List ℕ). c.args.self.now.got.items ++ p ∷ []) piece));
+      end = λ is. absurd (cc);
+      still = refl;
     }
 
 pub returns-in-End : goal.returns-in-End
 returns-in-End g c =
+    let old = c.args.self.now in
+    let reads = subst (λ (answer : ReadAnswer).
+    Reads (key_of old.end.queue) old.end.row (reader_of old.end old.proc)
+    c.as_mut_slice.result.now (Ok answer) (reader_of c.read.new.self c.read.new.proc)
+    c.read.new.buffer) c.in-End.is c.in_ok-count.ensures.read in
     record {
-      on = read_on c.args.self.now _ c.args.self.now.proc c.read.new.proc
-          c.as_mut_slice.result.now (Ok read.End) c.read.new.buffer
+      on = read_on old _ old.proc c.read.new.proc c.as_mut_slice.result.now (Ok read.End)
+          c.read.new.buffer
           (some_room c.as_mut_slice.result.now 4
-          (c.as_mut_slice.ensures.len ∙ c.in_ok-buffer.ensures.len) (omega arith))
-          (subst (λ (answer : ReadAnswer).
-          Reads (key_of c.args.self.now.end.queue) c.args.self.now.end.row
-          (reader_of c.args.self.now.end c.args.self.now.proc) c.as_mut_slice.result.now
-          (Ok answer) (reader_of c.read.new.self c.read.new.proc) c.read.new.buffer) c.in-End.is
-          c.in_ok-count.ensures.read) c.in_ok-count.ensures.end
-          (c.in_ok-reserve.ensures.items ∙ sym (append-nil c.args.self.now.got.items));
+          (c.as_mut_slice.ensures.len ∙ c.in_ok-buffer.ensures.len) (omega arith)) reads
+          c.in_ok-count.ensures.end
+          (c.in_ok-reserve.ensures.items ∙ sym (append-nil old.got.items));
+      end = λ is mode. sees_end (key_of old.end.queue) old.end.row old.end c.read.new.self old.proc
+          c.read.new.proc c.as_mut_slice.result.now c.read.new.buffer
+          (sym (ap (λ (row : Row). row.mode) c.in_ok-count.ensures.end.row) ∙ mode) reads;
+      still = refl;
     }

@@ -6,5 +6,5 @@ use Rattle.example_headline.proofs.writer.Writer.hangup.Goals as goal
 pub returns : goal.returns
 returns c =
     record {
-      on = hung_write c.args.self.now _ c.hangup.ensures.hung c.hangup.ensures.end refl refl;
+      on = hung_write c.args.self.now _ c.hangup.ensures.hung c.hangup.ensures.end refl refl refl;
     }
