@@ -1,0 +1,4 @@
+mod WorkedHalls
+mod WorkedPools
+mod WorkedWatches
+mod WorkedWriters
