@@ -18,3 +18,4 @@ mod WorkedUnits
 pub mod Broken
 pub mod BrokenCalls
 pub mod BrokenTimers
+mod WorkedOpenings
