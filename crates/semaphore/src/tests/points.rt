@@ -4,12 +4,12 @@
 //! noticed.
 use crate::tests::member::{Act, ActAt, First, Member};
 use crate::{OpenedSema, OpenedTimers, Sema, Semacquired, Timers};
-use sleep_wakeup::{Kernel, Opened, Started};
+use sleep_wakeup::{Kernel, Opened, Proc, Started};
 use std::alloc::Global;
 use std::process::Abort;
 use std::sync::Wait;
 use std::test::Fail;
-use sync_base::{Fault, Note, NoteSet, Probe};
+use sync_base::{Fault, Flags, Note, NoteSet, Probe};
 
 /// No call of these tests passes as many points.
 const MOST: usize = 8;
@@ -133,6 +133,77 @@ fn passes<R: Wait + Abort>(rt: &R, alloc: Global, case: Case) -> Result<Way, Fai
     Ok(watched(rt, &mut member, other, case.call, acts))
 }
 
+/// Has the member ask for a unit while a guest is posted in its Rendez.
+#[derive(Drop)]
+struct AskAt<'r, 's, 't, 'k, R: Wait> {
+    rt: &'r R,
+    both: Option<(Member<'s, 't, 'k>, Member<'s, 't, 'k>)>,
+    call: Call,
+    acts: [Act; 4],
+    way: Option<Way>,
+}
+
+impl<R: Wait> Probe for AskAt<'_, '_, '_, '_, R> {
+    fn at(&mut self, point: u64) {
+        if point != 2 {
+            return;
+        }
+        if let Some((mut member, other)) = self.both.take() {
+            self.way = Some(watched(self.rt, &mut member, other, self.call, self.acts));
+        }
+    }
+}
+
+// The way of an acquire while a guest sleeps in the member's Rendez. An alarm ends that sleep.
+fn beside_a_guest<'s, 't, 'k, R: Wait + Abort>(
+    rt: &R,
+    mut guest: Proc<'k>,
+    both: (Member<'s, 't, 'k>, Member<'s, 't, 'k>),
+    call: Call,
+    acts: [Act; 4],
+) -> Option<Way> {
+    let alarm = NoteSet::of(Note::Alarm);
+    guest.put_back(alarm);
+    let rendez = both.0.rendez();
+    let mut probe = AskAt {
+        rt,
+        both: Some(both),
+        call,
+        acts,
+        way: None,
+    };
+    let slept = guest.sleep_probed(rt, rendez, 0, &mut probe);
+    assert_eq!(rt; slept, Err(Fault::Interrupted(alarm)));
+    probe.way
+}
+
+// The same, with a new semaphore that has no unit.
+fn is_refused<R: Wait + Abort>(
+    rt: &R,
+    alloc: Global,
+    call: Call,
+    acts: [Act; 4],
+) -> Result<Option<Way>, Fail> {
+    let Opened { kernel, start } = Kernel::new(alloc, 3, 2)?;
+    let Started {
+        mut roster,
+        mut proc,
+    } = kernel.start(start);
+    let OpenedTimers {
+        timers,
+        seat: timer,
+    } = Timers::new(alloc, 2)?;
+    let OpenedSema { sema, seat } = Sema::new(alloc, &mut roster, 0, 2)?;
+    let Some(guest) = roster.rfork(&mut proc, Flags::RFPROC)? else {
+        panic!(rt; "RFPROC makes a child")
+    };
+    let mut member = Member::new(&sema, &timers, First { seat, timer, proc });
+    let Some(other) = member.fork(rt, &mut roster)? else {
+        panic!(rt; "RFPROC makes a child")
+    };
+    Ok(beside_a_guest(rt, guest, (member, other), call, acts))
+}
+
 fn points_of(points: &[u64]) -> Points {
     let mut all = [0; MOST];
     for (place, point) in points.iter().enumerate() {
@@ -162,6 +233,14 @@ fn interrupted(points: &[u64]) -> Way {
     }
 }
 
+// An acquire whose sleep is refused, and which has no unit.
+fn refused(points: &[u64]) -> Way {
+    Way {
+        answer: Err(Fault::DoubleSleep),
+        ..acquired(points)
+    }
+}
+
 // These acts, each with the point at which it comes.
 fn at(acts: &[(u64, Act)]) -> [Act; 4] {
     let mut all = [Act::Nothing; 4];
@@ -187,6 +266,23 @@ fn check_ways<R: Wait + Abort>(
         assert_eq!(rt;
             passes(rt, alloc, Case { acts, ..case })?,
             *way,
+            "row {row}"
+        );
+    }
+    Ok(())
+}
+
+// Each of these acts makes an acquire go its way while a guest sleeps in the Rendez.
+fn check_refused<R: Wait + Abort>(
+    rt: &R,
+    alloc: Global,
+    call: Call,
+    ways: &[([Act; 4], Way)],
+) -> Result<(), Fail> {
+    for (row, (acts, way)) in ways.iter().enumerate() {
+        assert_eq!(rt;
+            is_refused(rt, alloc, call, *acts)?,
+            Some(*way),
             "row {row}"
         );
     }
@@ -224,6 +320,41 @@ fn an_acquire_asks_between_its_first_and_last_point(rt: HostRuntime) -> Result<(
         check_ways(&rt, rt.alloc(), case, &ways)?;
     }
     Ok(())
+}
+
+#[test]
+fn an_acquire_that_finds_no_unit_passes_its_first_and_last_point(
+    rt: HostRuntime,
+) -> Result<(), Fail> {
+    let case = Case {
+        call: Call::AtOnce,
+        value: 0,
+        raised: false,
+        acts: at(&[]),
+    };
+    let not_now = Way {
+        answer: Ok(Semacquired::NotNow),
+        ..acquired(&[1, 4])
+    };
+    let ways = [
+        (at(&[]), not_now),
+        (
+            at(&[(1, Act::Release)]),
+            Way {
+                told: 1,
+                ..acquired(&[1, 4])
+            },
+        ),
+        (
+            at(&[(4, Act::Release)]),
+            Way {
+                told: 1,
+                left: true,
+                ..not_now
+            },
+        ),
+    ];
+    check_ways(&rt, rt.alloc(), case, &ways)
 }
 
 #[test]
@@ -320,4 +451,59 @@ fn a_wait_in_time_passes_the_points_of_its_sleeps(rt: HostRuntime) -> Result<(),
     let case = Case { value: 1, ..case };
     assert_eq!(rt; passes(&rt, rt.alloc(), case)?, acquired(&[]));
     Ok(())
+}
+
+#[test]
+fn a_wait_whose_sleep_is_refused_passes_each_point_once(rt: HostRuntime) -> Result<(), Fail> {
+    let points = [1, 2, 3, 4];
+    // The sleep takes no notes, and behind the third point the seat leaves the line.
+    let ways = [
+        (at(&[]), refused(&points)),
+        (
+            at(&[(1, Act::Interrupt)]),
+            Way {
+                pending: NoteSet::of(Note::Interrupt),
+                ..refused(&points)
+            },
+        ),
+        (
+            at(&[(3, Act::Release)]),
+            Way {
+                told: 1,
+                ..acquired(&points)
+            },
+        ),
+        (
+            at(&[(4, Act::Release)]),
+            Way {
+                told: 1,
+                left: true,
+                ..refused(&points)
+            },
+        ),
+    ];
+    check_refused(&rt, rt.alloc(), Call::Waiting, &ways)
+}
+
+#[test]
+fn a_wait_in_time_whose_sleep_is_refused_passes_two_points(rt: HostRuntime) -> Result<(), Fail> {
+    let points = [2, 3];
+    let ways = [
+        (at(&[]), refused(&points)),
+        (
+            at(&[(3, Act::Release)]),
+            Way {
+                told: 1,
+                ..acquired(&points)
+            },
+        ),
+        (
+            at(&[(3, Act::Tick(DEADLINE))]),
+            Way {
+                told: 1,
+                ..refused(&points)
+            },
+        ),
+    ];
+    check_refused(&rt, rt.alloc(), Call::InTime, &ways)
 }

@@ -355,3 +355,65 @@ fn a_sleep_that_is_refused_passes_its_first_point_alone(rt: HostRuntime) -> Resu
     assert_eq!(rt; probe.visits, visits_of(&[Visit::Free(1), Visit::Free(1)]));
     Ok(())
 }
+
+/// Has the second process sleep while another is posted in its Rendez, and a third one watch that.
+#[derive(Drop)]
+struct Beside<'r, 'k, R: Wait> {
+    rt: &'r R,
+    both: Option<(Proc<'k>, Proc<'k>)>,
+    acts: Acts,
+    way: Option<Way>,
+}
+
+impl<R: Wait> Probe for Beside<'_, '_, R> {
+    fn at(&mut self, point: u64) {
+        if point != 2 {
+            return;
+        }
+        if let Some((second, own)) = self.both.take() {
+            self.way = Some(watched(self.rt, second, own, self.acts));
+        }
+    }
+}
+
+// The way of a sleep in a Rendez in which another process sleeps. An alarm ends that one's sleep.
+fn passes_beside<R: Wait + Abort>(rt: &R, alloc: Global, acts: Acts) -> Option<Way> {
+    let Opened { kernel, start } = open(rt, alloc, 3, 1);
+    let mut started = kernel.start(start);
+    let second = forked(rt, &mut started);
+    let own = forked(rt, &mut started);
+    let mut first = started.proc;
+    let alarm = NoteSet::of(Note::Alarm);
+    first.put_back(alarm);
+    let mut probe = Beside {
+        rt,
+        both: Some((second, own)),
+        acts,
+        way: None,
+    };
+    let answer = first.sleep_probed(rt, INPUT, 0, &mut probe);
+    assert_eq!(rt; answer, Err(Fault::Interrupted(alarm)));
+    probe.way
+}
+
+#[test]
+fn a_sleep_beside_another_passes_its_first_point_alone(rt: HostRuntime) -> Result<(), Fail> {
+    let noted = Acts {
+        note_at: 1,
+        ..NOTHING
+    };
+    for (acts, pending) in [
+        (NOTHING, NoteSet::empty()),
+        (noted, NoteSet::of(Note::Interrupt)),
+    ] {
+        assert_eq!(rt;
+            passes_beside(&rt, rt.alloc(), acts),
+            Some(Way {
+                visits: visits_of(&[Visit::Posted(1)]),
+                answer: Err(Fault::DoubleSleep),
+                pending,
+            })
+        );
+    }
+    Ok(())
+}

@@ -5,7 +5,7 @@
 ghost use Rattle.std.specs.Prelude.{◌≡◌};
 ghost use Rattle.tag_space.specs.Members.{IsMemberOf, HasRow};
 
-use crate::tests::scene::{Scene, TAG, forked, meets, opened};
+use crate::tests::scene::{Scene, TAG, forked, meets, next, opened};
 use crate::{Child, TagSpace};
 use sleep_wakeup::{Kernel, Opened};
 use std::alloc::Global;
@@ -176,23 +176,11 @@ fn waited_for<'k, R: Wait>(
     rt: &R,
     space: &TagSpace,
     waiter: Child<'k>,
-    both: (Child<'k>, Child<'k>),
-    acts: Acts,
+    mut probe: CallAt<'_, '_, 'k, R>,
 ) -> (Option<Way>, Result<u64, Fault>)
     requires member { IsMemberOf space.now waiter.member }
     requires row { HasRow space.now waiter.proc.words }
-    requires callers_member { IsMemberOf space.now both.0.member }
-    requires callers_row { HasRow space.now both.0.proc.words }
-    requires partners_member { IsMemberOf space.now both.1.member }
-    requires partners_row { HasRow space.now both.1.proc.words }
 {
-    let mut probe = CallAt {
-        rt,
-        space,
-        both: Some(both),
-        acts,
-        way: None,
-    };
     let Child {
         mut proc,
         mut member,
@@ -215,7 +203,40 @@ fn finds<R: Wait + Abort>(
     } = opened(rt, alloc, &kernel, start, 3)?;
     let caller = forked(rt, &space, &mut roster, &mut first);
     let partner = forked(rt, &space, &mut roster, &mut first);
-    Ok(waited_for(rt, &space, first, (caller, partner), acts))
+    let calls = CallAt {
+        rt,
+        space: &space,
+        both: Some((caller, partner)),
+        acts,
+        way: None,
+    };
+    Ok(waited_for(rt, &space, first, calls))
+}
+
+// The way of a call in a new space while a guest sleeps in the caller's Rendez. An alarm ends the
+// guest's sleep.
+fn is_refused<R: Wait + Abort>(rt: &R, alloc: Global, acts: Acts) -> Result<Option<Way>, Fail> {
+    let Opened { kernel, start } = Kernel::new(alloc, 3, 2)?;
+    let Scene {
+        mut roster,
+        space,
+        mut first,
+    } = opened(rt, alloc, &kernel, start, 2)?;
+    let partner = forked(rt, &space, &mut roster, &mut first);
+    let mut guest = next(rt, &mut roster, &mut first.proc);
+    let alarm = NoteSet::of(Note::Alarm);
+    guest.put_back(alarm);
+    let rendez = first.member.rendez();
+    let mut calls = CallAt {
+        rt,
+        space: &space,
+        both: Some((first, partner)),
+        acts,
+        way: None,
+    };
+    let slept = guest.sleep_probed(rt, rendez, 0, &mut calls);
+    assert_eq!(rt; slept, Err(Fault::Interrupted(alarm)));
+    Ok(calls.way)
 }
 
 // The way of a call in a new space. Where its Rendez was raised before, its sleeps end at once.
@@ -335,6 +356,36 @@ fn a_rendezvous_calls_between_its_first_and_last_point(rt: HostRuntime) -> Resul
             (Some(way), Ok(others)),
             "{acts:?}"
         );
+    }
+    Ok(())
+}
+
+#[test]
+fn a_rendezvous_whose_sleep_is_refused_passes_each_point_once(rt: HostRuntime) -> Result<(), Fail> {
+    let points = [1, 2, 3, 4];
+    let interrupt = NoteSet::of(Note::Interrupt);
+    let refused = Way {
+        answer: Err(Fault::DoubleSleep),
+        ..unmet(&points, false)
+    };
+    // The sleep takes no notes, and a call behind the last point meets nobody.
+    let noted = Way {
+        pending: interrupt,
+        ..refused
+    };
+    let late = Way {
+        told: Err(Fault::Interrupted(NoteSet::of(Note::Alarm))),
+        ..refused
+    };
+    for (note_at, call_at, way) in [
+        (0, 0, refused),
+        (1, 0, noted),
+        (0, 3, met(&points, NoteSet::empty())),
+        (1, 3, met(&points, interrupt)),
+        (0, 4, late),
+    ] {
+        let acts = Acts { note_at, call_at };
+        assert_eq!(rt; is_refused(&rt, rt.alloc(), acts)?, Some(way), "{acts:?}");
     }
     Ok(())
 }
