@@ -63,6 +63,12 @@ bytes_come_first = refl
 no_byte_is_lost : unread_bytes (after_read 1 begun) ≡ 99 ∷ []
 no_byte_is_lost = refl
 
+-- a read that goes a byte too far has lost it
+a_byte_too_far : after_read 1 (record begun { offset = 0 }) ≢ record begun { offset = 2 }
+a_byte_too_far same =
+    let offset : 1 ≡ 2 = ap (λ (s : PipeState). s.offset) same in
+    absurd (omega (arith, offset))
+
 -- a read that ends in a write has begun it, and no more
 ends_in_a_write : reach_of 1 0 (written (97 ∷ 98 ∷ []) ∷ []) ≡ stops_at 1
 ends_in_a_write = refl

@@ -1,5 +1,5 @@
 //! What a plain pipe that was refused memory holds. None is refused it where there is some.
-use crate::limits::MAX_PIPE_LIMIT;
+use crate::limits::{ATOMIC_SIZE, MAX_PIPE_LIMIT};
 use crate::{Fault, PlainPipe, ReadAnswer, WriteAnswer};
 use std::alloc::Global;
 use std::process::Abort;
@@ -38,8 +38,8 @@ fn takes(rt: &impl Abort, pipe: &mut PlainPipe, bytes: &[u8]) {
 
 // A read, once more where memory is refused.
 fn gives(rt: &impl Abort, pipe: &mut PlainPipe, bytes: &[u8]) {
-    let answer = match pipe.read(8_192) {
-        Err(Fault::Memory) => pipe.read(8_192),
+    let answer = match pipe.read(200) {
+        Err(Fault::Memory) => pipe.read(200),
         answer => answer,
     };
     let Ok(ReadAnswer::Got(piece)) = answer else {
@@ -78,14 +78,15 @@ fn a_stream_that_is_refused_memory_is_as_before(rt: HostRuntime) -> Result<(), F
 
 #[test]
 fn no_limit_and_no_size_wants_more_memory_than_there_is(rt: HostRuntime) -> Result<(), Fail> {
-    let bytes = [1; 8_192];
+    let bytes = [1; ATOMIC_SIZE];
     for limit in 1..=MAX_PIPE_LIMIT {
         let mut pipe = PlainPipe::new(rt.alloc(), limit)?;
         // Blocks that rise, and then blocks that fall.
-        for size in [0, 1, limit as usize, 8_192, 8_191, limit as usize, 1, 0] {
+        let limited = limit as usize;
+        for size in [0, 1, limited, ATOMIC_SIZE, ATOMIC_SIZE - 1, limited, 1, 0] {
             let block = &bytes[..size];
             assert_eq!(rt; pipe.write(limit % 64, block), Ok(WriteAnswer::Taken));
-            let Ok(ReadAnswer::Got(piece)) = pipe.read(8_192) else {
+            let Ok(ReadAnswer::Got(piece)) = pipe.read(ATOMIC_SIZE as u64) else {
                 panic!(rt; "a write stands")
             };
             assert_eq!(rt; piece.as_slice().len(), size);
