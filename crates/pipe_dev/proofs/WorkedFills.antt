@@ -558,11 +558,28 @@ module _ (table : TableId) where
         ended = answers_all;
       }
 
-  -- a try that wakes nobody, or with the number of the first write, is none
-  not_woken : WakesWith row (last_number None (part 2 b ∷ part 1 [] ∷ part 0 a ∷ [])) idle idle → ⊥
-  not_woken woken = by woken.last.woken.ends
+  -- a wakeup is a step at least
+  wakes_nobody : (level : ℕ) → WakesWriters row 1 level idle idle → ⊥
+  wakes_nobody level woken = by woken.last.woken.ends
     where
-      by : Ends (raises woken.between (at_rendez 4) 3) idle → ⊥
+      by : Ends (raises woken.between (at_rendez 4) level) idle → ⊥
+      by (inl nobody) = let trace = ap (λ (p : Process). p.trace) nobody in cc
+      by (inr sleeper) = let trace = ap (λ (p : Process). p.trace) sleeper.1 in cc
+
+  -- a try that took all three writes out and wakes nobody is none
+  not_woken : WakesWith row (last_number None (part 2 b ∷ part 1 [] ∷ part 0 a ∷ [])) idle idle → ⊥
+  not_woken woken = wakes_nobody 3 woken
+
+  -- nor is one that passed an empty write alone, and would sleep with its writer not woken
+  sleeps_unwoken : WakesWith row (last_number None (part 0 [] ∷ [])) idle idle → ⊥
+  sleeps_unwoken woken = wakes_nobody 1 woken
+
+  -- nor one that wakes with the number of the first write that it took out
+  wakes_with_the_first :
+      WakesWith row (last_number None (part 2 b ∷ part 1 [] ∷ part 0 a ∷ [])) idle (woke idle 1) → ⊥
+  wakes_with_the_first woken = by woken.last.woken.ends
+    where
+      by : Ends (raises woken.between (at_rendez 4) 3) (woke idle 1) → ⊥
       by (inl nobody) = let trace = ap (λ (p : Process). p.trace) nobody in cc
       by (inr sleeper) = let trace = ap (λ (p : Process). p.trace) sleeper.1 in cc
 

@@ -1,3 +1,4 @@
 pub mod BrokenLemmas
 pub mod CallLemmas
 pub mod GroupLemmas
+mod WorkedForks
