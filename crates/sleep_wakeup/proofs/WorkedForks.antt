@@ -1,6 +1,6 @@
 -- What rfork leaves by each of its flags, worked out by its definitions alone, with four processes
 -- in two groups; and what no rfork leaves.
-use Rattle.std.proofs.Common.{◌≡◌, ℕ, List, [], ◌∷◌, Some, None, inl, inr, ap, refl}
+use Rattle.std.proofs.Common.{ℕ, List, [], ◌∷◌, Some, None, inl, inr, ap, refl}
 use Rattle.sync_base.specs.declared.flags.Flags.{Flags}
 use Rattle.rendez_words.specs.Words.{one_less}
 use Rattle.sleep_wakeup.specs.Broken.{four_in_two}
