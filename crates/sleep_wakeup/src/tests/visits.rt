@@ -2,7 +2,7 @@
 //! each. At a point in front of a step what that step does is not seen yet; so a point that is
 //! moved over a step, doubled or left out gives another list, or another answer.
 use crate::tests::{INPUT, OUTPUT, forked, open};
-use crate::{Opened, Proc};
+use crate::{Opened, Proc, Started};
 use std::alloc::Global;
 use std::process::Abort;
 use std::sync::Wait;
@@ -356,6 +356,26 @@ fn a_sleep_that_is_refused_passes_its_first_point_alone(rt: HostRuntime) -> Resu
     Ok(())
 }
 
+/// Three processes of a kernel: one that sleeps in the Rendez, one that would, and one that
+/// watches that.
+#[derive(Drop)]
+struct Three<'k> {
+    first: Proc<'k>,
+    second: Proc<'k>,
+    own: Proc<'k>,
+}
+
+// The first three processes of a kernel.
+fn three_of<'k, R: Abort>(rt: &R, mut started: Started<'k>) -> Three<'k> {
+    let second = forked(rt, &mut started);
+    let own = forked(rt, &mut started);
+    Three {
+        first: started.proc,
+        second,
+        own,
+    }
+}
+
 /// Has the second process sleep while another is posted in its Rendez, and a third one watch that.
 #[derive(Drop)]
 struct Beside<'r, 'k, R: Wait> {
@@ -377,12 +397,12 @@ impl<R: Wait> Probe for Beside<'_, '_, R> {
 }
 
 // The way of a sleep in a Rendez in which another process sleeps. An alarm ends that one's sleep.
-fn passes_beside<R: Wait + Abort>(rt: &R, alloc: Global, acts: Acts) -> Option<Way> {
-    let Opened { kernel, start } = open(rt, alloc, 3, 1);
-    let mut started = kernel.start(start);
-    let second = forked(rt, &mut started);
-    let own = forked(rt, &mut started);
-    let mut first = started.proc;
+fn beside<R: Wait + Abort>(rt: &R, three: Three, acts: Acts) -> Option<Way> {
+    let Three {
+        mut first,
+        second,
+        own,
+    } = three;
     let alarm = NoteSet::of(Note::Alarm);
     first.put_back(alarm);
     let mut probe = Beside {
@@ -394,6 +414,11 @@ fn passes_beside<R: Wait + Abort>(rt: &R, alloc: Global, acts: Acts) -> Option<W
     let answer = first.sleep_probed(rt, INPUT, 0, &mut probe);
     assert_eq!(rt; answer, Err(Fault::Interrupted(alarm)));
     probe.way
+}
+
+fn passes_beside<R: Wait + Abort>(rt: &R, alloc: Global, acts: Acts) -> Option<Way> {
+    let Opened { kernel, start } = open(rt, alloc, 3, 1);
+    beside(rt, three_of(rt, kernel.start(start)), acts)
 }
 
 #[test]
