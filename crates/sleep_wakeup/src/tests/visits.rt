@@ -397,7 +397,7 @@ impl<R: Wait> Probe for Beside<'_, '_, R> {
 }
 
 // The way of a sleep in a Rendez in which another process sleeps. An alarm ends that one's sleep.
-fn beside<R: Wait + Abort>(rt: &R, three: Three, acts: Acts) -> Option<Way> {
+fn slept_beside<R: Wait + Abort>(rt: &R, three: Three, acts: Acts) -> Option<Way> {
     let Three {
         mut first,
         second,
@@ -418,7 +418,7 @@ fn beside<R: Wait + Abort>(rt: &R, three: Three, acts: Acts) -> Option<Way> {
 
 fn passes_beside<R: Wait + Abort>(rt: &R, alloc: Global, acts: Acts) -> Option<Way> {
     let Opened { kernel, start } = open(rt, alloc, 3, 1);
-    beside(rt, three_of(rt, kernel.start(start)), acts)
+    slept_beside(rt, three_of(rt, kernel.start(start)), acts)
 }
 
 #[test]
