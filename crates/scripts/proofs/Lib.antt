@@ -15,5 +15,6 @@ mod ScriptLawLemmas
 mod ScriptLemmas
 mod TextLemmas
 mod ToldLemmas
+mod WorkedDevices
 mod WorkedSchedules
 mod WorkedScripts
