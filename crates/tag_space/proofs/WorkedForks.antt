@@ -1,0 +1,328 @@
+-- What rfork may do by its flags; and what no rfork does to spaces and members, each against one
+-- row of what they say.
+use Rattle.std.proofs.Common.{◌≡◌, ◌≢◌, ◌<◌, ℕ, Some, None, inl, inr, length, ap, arith, refl}
+use Rattle.std.specs.Prelude.{IsTrue}
+use Rattle.std.proofs.lemmas.Bool.{false≢true}
+use Rattle.kernel_lock.specs.Seats.{KnowsAllGiven, gave_of, given_of, limit_of}
+use Rattle.sync_base.specs.declared.fault.Fault.TheVariants as fault
+use Rattle.sync_base.specs.declared.flags.Flags.{Flags}
+use Rattle.sleep_wakeup.specs.Forks.{HasPid}
+use Rattle.sleep_wakeup.specs.Kernel.{Unused, HasRendez, next_process}
+use Rattle.tag_space.specs.declared.forking.Child.{Child}
+use Rattle.tag_space.specs.declared.forking.SpentMember.{SpentMember}
+use Rattle.tag_space.specs.declared.member.Member.{Member}
+use Rattle.tag_space.specs.declared.space.TagSpace.{TagSpace}
+use Rattle.tag_space.specs.Members.{HasRow, IsMemberOf, IsSameMember, number_of}
+use Rattle.tag_space.specs.Spaces.{IsNewSpace, IsFirstMember, IsFurtherMember}
+use Rattle.tag_space.specs.Forks.{AreKnown, asks_child, asks_space, WhyNotForked, WantsMember}
+use Rattle.tag_space.specs.Forks.{JoinsParent, ComesBack, HasSpace, HasChild, MovesCaller}
+use Rattle.tag_space.specs.Forks.{KeepsMember, LeavesMember, IsUntouched, GivesMember, HasSpent}
+use Rattle.tag_space.specs.Forks.{IsFirstThere, IsChild, IsGroup, HasFurther, IsSpent}
+use Rattle.tag_space.specs.Forks.{WhyNotInside, WhyNotOutside}
+
+-- ---- what each flag may do
+
+-- the flags with these bits
+abbrev flags_of : ℕ → Flags
+flags_of bits = record { bits = bits }
+
+module _ (unused : Unused) (space : TagSpace) (before after : Member) where
+  -- a flag that is not known is refused, whatever is left
+  an_unknown_flag_is_refused : WhyNotForked unused space (flags_of 8) before after fault.BadFlags
+  an_unknown_flag_is_refused known = omega (arith, known)
+
+  -- RFPROC is refused where no pid is left, or all members were given
+  rfproc_finds_no_pid : (HasPid unused → ⊥)
+      → WhyNotForked unused space (flags_of 1) before after fault.NoProc
+  rfproc_finds_no_pid none = inl (record { known = omega arith; child = refl; none = none })
+
+  rfproc_finds_no_member : HasPid unused → KnowsAllGiven space.lock before.seat after.seat
+      → WhyNotForked unused space (flags_of 1) before after fault.NoProc
+  rfproc_finds_no_member pid all =
+      inr (record {
+        joins = record { child = refl; no_space = false≢true };
+        pid = pid;
+        all_given = all;
+      })
+
+  -- RFREND alone needs no pid: it is refused where no row is left, or else no memory
+  rfrend_finds_no_row : (HasRendez unused space.procs → ⊥)
+      → WhyNotForked unused space (flags_of 2) before after fault.NoRendez
+  rfrend_finds_no_row none =
+      (record { known = omega arith; pid = λ asked. absurd (false≢true asked); space = refl }, none)
+
+  rfrend_finds_no_memory : HasRendez unused space.procs
+      → WhyNotForked unused space (flags_of 2) before after fault.Memory
+  rfrend_finds_no_memory row =
+      (record { known = omega arith; pid = λ asked. absurd (false≢true asked); space = refl }, row)
+
+  -- both need a pid, and then a row
+  both_find_no_pid : (HasPid unused → ⊥)
+      → WhyNotForked unused space (flags_of 3) before after fault.NoProc
+  both_find_no_pid none = inl (record { known = omega arith; child = refl; none = none })
+
+  both_find_no_row : HasPid unused → (HasRendez unused space.procs → ⊥)
+      → WhyNotForked unused space (flags_of 3) before after fault.NoRendez
+  both_find_no_row pid none =
+      (record { known = omega arith; pid = λ asked. pid; space = refl }, none)
+
+  -- a refusal hands the member back
+  it_comes_back_as_it_was : (flags : Flags) → ComesBack unused space flags before before
+  it_comes_back_as_it_was flags = inl refl
+
+module _ (unused : Unused) (old new : TagSpace) (child : Child) where
+  -- RFREND makes a space and no child, RFPROC a child and no space
+  rfrend_makes_a_space : IsNewSpace unused old.procs new
+      → HasSpace unused old (flags_of 2) (Some new)
+  rfrend_makes_a_space is_new = (refl, is_new)
+
+  rfrend_makes_no_child : HasChild unused new (flags_of 2) None
+  rfrend_makes_no_child asked = false≢true asked
+
+  rfproc_makes_no_space : HasSpace unused old (flags_of 1) None
+  rfproc_makes_no_space asked = false≢true asked
+
+  rfproc_makes_a_child : child.proc ≡ next_process unused → IsMemberOf old child.member
+      → HasChild unused old (flags_of 1) (Some child)
+  rfproc_makes_a_child is_next is_member = (refl, is_next, is_member)
+
+  -- where no space is made nobody is first there
+  nobody_is_first : (member : Member) → IsFirstThere None member (Some child)
+  nobody_is_first member = tt
+
+module _ (space : TagSpace) (before after : Member) (child : Child) (spent : SpentMember) where
+  -- without flags the caller's member is as it was
+  no_flag_touches_nothing : IsUntouched (flags_of 0) before before
+  no_flag_touches_nothing leaves = refl
+
+  -- RFPROC keeps it, gives the child a further one, and spends nothing
+  rfproc_keeps_the_member : IsSameMember before after → KeepsMember (flags_of 1) before after
+  rfproc_keeps_the_member same stays = same
+
+  rfproc_gives_a_further_member : IsFurtherMember space before after child.member
+      → GivesMember space (flags_of 1) before after (Some child)
+  rfproc_gives_a_further_member further joins = further
+
+  rfproc_spends_nothing : HasSpent (flags_of 1) before None
+  rfproc_spends_nothing moves = omega (arith, moves)
+
+  -- RFREND alone spends it, so that the caller may have any other, and gives nothing
+  rfrend_spends_the_member : spent.member ≡ before → HasSpent (flags_of 2) before (Some spent)
+  rfrend_spends_the_member same = (refl, same)
+
+  rfrend_may_change_the_member : KeepsMember (flags_of 2) before after
+  rfrend_may_change_the_member stays = absurd (stays refl)
+
+  rfrend_gives_no_member : GivesMember space (flags_of 2) before after None
+  rfrend_gives_no_member joins = false≢true joins.child
+
+-- ---- why nothing is made
+
+-- all members were given, and the one that asked does not know it
+nobody_knows : (space : TagSpace) (before after : Member)
+    → given_of after.seat < limit_of space.lock
+    → KnowsAllGiven space.lock before.seat after.seat → ⊥
+nobody_knows space before after fewer knows =
+    let given = ap (λ view. view.given) knows.same in omega (arith, fewer, given)
+
+module _ (unused : Unused) (space : TagSpace) (flags : Flags) (before after : Member) where
+  -- flags are refused that are known
+  known_flags_are_bad : AreKnown flags → WhyNotForked unused space flags before after fault.BadFlags
+      → ⊥
+  known_flags_are_bad known why = why known
+
+  -- a row is asked for with unknown flags, where none was asked for, before a pid, or is there
+  a_row_for_unknown_flags : (AreKnown flags → ⊥)
+      → WhyNotForked unused space flags before after fault.NoRendez → ⊥
+  a_row_for_unknown_flags unknown (wants, none) = unknown wants.known
+
+  a_row_for_no_space : (IsTrue (asks_space flags) → ⊥)
+      → WhyNotForked unused space flags before after fault.NoRendez → ⊥
+  a_row_for_no_space unasked (wants, none) = unasked wants.space
+
+  a_row_before_a_pid : IsTrue (asks_child flags) → (HasPid unused → ⊥)
+      → WhyNotForked unused space flags before after fault.NoRendez → ⊥
+  a_row_before_a_pid child no_pid (wants, none) = no_pid (wants.pid child)
+
+  a_row_that_is_left : HasRendez unused space.procs
+      → WhyNotForked unused space flags before after fault.NoRendez → ⊥
+  a_row_that_is_left left (wants, none) = none left
+
+  -- memory is refused before a row
+  memory_before_a_row : (HasRendez unused space.procs → ⊥)
+      → WhyNotForked unused space flags before after fault.Memory → ⊥
+  memory_before_a_row none (wants, left) = none left
+
+  -- a pid, or a member, is refused that nobody asked for, or that is left
+  no_child_was_asked_for : (IsTrue (asks_child flags) → ⊥)
+      → WhyNotForked unused space flags before after fault.NoProc → ⊥
+  no_child_was_asked_for unasked (inl wants) = unasked wants.child
+  no_child_was_asked_for unasked (inr wants) = unasked wants.joins.child
+
+  a_pid_for_unknown_flags : (AreKnown flags → ⊥) → given_of after.seat < limit_of space.lock
+      → WhyNotForked unused space flags before after fault.NoProc → ⊥
+  a_pid_for_unknown_flags unknown fewer (inl wants) = unknown wants.known
+  a_pid_for_unknown_flags unknown fewer (inr wants) =
+      nobody_knows space before after fewer wants.all_given
+
+  a_pid_and_a_member_are_left : HasPid unused → given_of after.seat < limit_of space.lock
+      → WhyNotForked unused space flags before after fault.NoProc → ⊥
+  a_pid_and_a_member_are_left pid fewer (inl wants) = wants.none pid
+  a_pid_and_a_member_are_left pid fewer (inr wants) =
+      nobody_knows space before after fewer wants.all_given
+
+  a_member_before_a_pid : (HasPid unused → ⊥) → WantsMember unused space flags before after → ⊥
+  a_member_before_a_pid none wants = none wants.pid
+
+  a_member_for_a_new_space : IsTrue (asks_space flags)
+      → WantsMember unused space flags before after → ⊥
+  a_member_for_a_new_space asked wants = wants.joins.no_space asked
+
+  -- a refused member comes back as another, while a member is left
+  another_comes_back : after ≢ before → given_of after.seat < limit_of space.lock
+      → ComesBack unused space flags before after → ⊥
+  another_comes_back other fewer (inl same) = other same
+  another_comes_back other fewer (inr wants) =
+      nobody_knows space before after fewer wants.all_given
+
+  -- the same of the two ways to make a child
+  inside_though_all_is_left : HasPid unused → given_of after.seat < limit_of space.lock
+      → WhyNotInside unused space before after fault.NoProc → ⊥
+  inside_though_all_is_left pid fewer (inl (none, same)) = none pid
+  inside_though_all_is_left pid fewer (inr (left, knows)) =
+      nobody_knows space before after fewer knows
+
+  outside_though_a_pid_is_left : HasPid unused → WhyNotOutside unused space fault.NoProc → ⊥
+  outside_though_a_pid_is_left pid none = none pid
+
+  outside_a_row_before_a_pid : (HasPid unused → ⊥) → WhyNotOutside unused space fault.NoRendez → ⊥
+  outside_a_row_before_a_pid none (pid, row) = none pid
+
+  outside_memory_before_a_row : (HasRendez unused space.procs → ⊥)
+      → WhyNotOutside unused space fault.Memory → ⊥
+  outside_memory_before_a_row none (pid, row) = none row
+
+-- ---- spaces
+
+module _ (unused : Unused) (old new : TagSpace) (flags : Flags) where
+  -- a space that was asked for is not made, or one is made that nobody asked for
+  no_space_is_made : IsTrue (asks_space flags) → HasSpace unused old flags None → ⊥
+  no_space_is_made asked none = none asked
+
+  a_space_unasked : (IsTrue (asks_space flags) → ⊥) → HasSpace unused old flags (Some new) → ⊥
+  a_space_unasked unasked (asked, is_new) = unasked asked
+
+  -- it has another size, another row than the next one, or one that the kernel has not
+  a_space_of_another_size : new.procs ≢ old.procs → HasSpace unused old flags (Some new) → ⊥
+  a_space_of_another_size other (asked, is_new) = other is_new.procs_are
+
+  a_space_in_a_row_that_was_given : new.first.0 ≢ unused.rendez → IsNewSpace unused old.procs new
+      → ⊥
+  a_space_in_a_row_that_was_given other is_new = other is_new.first_is
+
+  a_space_in_no_row : (HasRow new unused.words → ⊥) → IsNewSpace unused old.procs new → ⊥
+  a_space_in_no_row none is_new = none is_new.row
+
+  no_group : IsGroup unused old None → ⊥
+  no_group is = is
+
+  a_group_of_another_size : new.procs ≢ old.procs → IsGroup unused old (Some new) → ⊥
+  a_group_of_another_size other is_new = other is_new.procs_are
+
+-- ---- who is made
+
+module _ (unused : Unused) (space : TagSpace) (flags : Flags) (child : Child) where
+  -- a child that was asked for is not made, or one is that nobody asked for
+  no_child_is_made : IsTrue (asks_child flags) → HasChild unused space flags None → ⊥
+  no_child_is_made asked none = none asked
+
+  a_child_unasked : (IsTrue (asks_child flags) → ⊥) → HasChild unused space flags (Some child) → ⊥
+  a_child_unasked unasked (asked, is_next, is_member) = unasked asked
+
+  -- it is another process than the next one, or a member of another space
+  a_child_of_another_pid : child.proc ≢ next_process unused
+      → HasChild unused space flags (Some child) → ⊥
+  a_child_of_another_pid other (asked, is_next, is_member) = other is_next
+
+  a_child_of_another_space : (IsMemberOf space child.member → ⊥)
+      → HasChild unused space flags (Some child) → ⊥
+  a_child_of_another_space other (asked, is_next, is_member) = other is_member
+
+  no_child_is_there : IsChild unused space None → ⊥
+  no_child_is_there is = is
+
+  a_child_there_of_another_pid : child.proc ≢ next_process unused
+      → IsChild unused space (Some child) → ⊥
+  a_child_there_of_another_pid other (is_next, is_member) = other is_next
+
+-- ---- the caller's member
+
+module _ (flags : Flags) (before after : Member) (child : Child) (spent : SpentMember) where
+  -- a caller that stays gets another member's number, or one that no child needs is touched
+  another_member_is_kept : (MovesCaller flags → ⊥) → number_of after ≢ number_of before
+      → KeepsMember flags before after → ⊥
+  another_member_is_kept stays other keeps = other (keeps stays).number
+
+  a_member_is_touched : LeavesMember flags → after ≢ before → IsUntouched flags before after → ⊥
+  a_member_is_touched leaves other untouched = other (untouched leaves)
+
+  a_child_that_joins_leaves_it : JoinsParent flags → LeavesMember flags → ⊥
+  a_child_that_joins_leaves_it joins leaves = leaves.no_child joins
+
+  a_caller_that_moves_leaves_it : MovesCaller flags → LeavesMember flags → ⊥
+  a_caller_that_moves_leaves_it moves leaves = leaves.stays moves
+
+  -- a child that joins is given no member, or its parent's
+  no_member_is_given : (space : TagSpace) → JoinsParent flags
+      → GivesMember space flags before after None → ⊥
+  no_member_is_given space joins none = none joins
+
+  its_parents_member : (space : TagSpace) → JoinsParent flags
+      → number_of child.member ≡ number_of before
+      → GivesMember space flags before after (Some child) → ⊥
+  its_parents_member space joins same gives =
+      let above = (gives joins).above in omega (arith, same, above)
+
+  a_further_member_is_its_parents : (space : TagSpace) → number_of child.member ≡ number_of before
+      → HasFurther space before after (Some child) → ⊥
+  a_further_member_is_its_parents space same further =
+      let above = further.above in omega (arith, same, above)
+
+  no_further_member : (space : TagSpace) → HasFurther space before after None → ⊥
+  no_further_member space further = further
+
+  -- a caller that moves spends nothing or another member, or one that stays spends its own
+  nothing_is_spent : MovesCaller flags → HasSpent flags before None → ⊥
+  nothing_is_spent moves none = none moves
+
+  it_is_spent_and_kept : (MovesCaller flags → ⊥) → HasSpent flags before (Some spent) → ⊥
+  it_is_spent_and_kept stays (moves, same) = stays moves
+
+  another_is_spent : spent.member ≢ before → HasSpent flags before (Some spent) → ⊥
+  another_is_spent other (moves, same) = other same
+
+  none_is_spent : IsSpent before None → ⊥
+  none_is_spent is = is
+
+  another_one_is_spent : spent.member ≢ before → IsSpent before (Some spent) → ⊥
+  another_one_is_spent other same = other same
+
+-- ---- who is first
+
+module _ (new : TagSpace) (member : Member) (child : Child) where
+  -- the first of a new space gave a member, or is no member of it
+  the_first_gave_one : length (gave_of member.seat) ≡ 1 → IsFirstMember new member → ⊥
+  the_first_gave_one one first =
+      let gave = ap (λ account. length account.gave) first.first.account in
+      omega (arith, one, gave)
+
+  the_first_is_none_of_it : (IsMemberOf new member → ⊥) → IsFirstMember new member → ⊥
+  the_first_is_none_of_it other first = other first.member_of
+
+  -- with no child the caller is first, and else the child
+  the_caller_is_not_first : (IsFirstMember new member → ⊥) → IsFirstThere (Some new) member None → ⊥
+  the_caller_is_not_first other first = other first
+
+  the_child_is_not_first : (IsFirstMember new child.member → ⊥)
+      → IsFirstThere (Some new) member (Some child) → ⊥
+  the_child_is_not_first other first = other first
