@@ -20,3 +20,4 @@ mod JoinLemmas
 mod TwoLemmas
 mod WorkedCalls
 mod WorkedWalks
+mod WorkedForks

@@ -1,7 +1,8 @@
--- What no rfork does to spaces and members, and no new space is: each against one row of what they
--- say.
+-- What rfork may do by its flags; and what no rfork does to spaces and members, each against one
+-- row of what they say.
 use Rattle.std.proofs.Common.{◌≡◌, ◌≢◌, ◌<◌, ℕ, Some, None, inl, inr, length, ap, arith, refl}
 use Rattle.std.specs.Prelude.{IsTrue}
+use Rattle.std.proofs.lemmas.Bool.{false≢true}
 use Rattle.kernel_lock.specs.Seats.{KnowsAllGiven, gave_of, given_of, limit_of}
 use Rattle.sync_base.specs.declared.fault.Fault.TheVariants as fault
 use Rattle.sync_base.specs.declared.flags.Flags.{Flags}
@@ -11,13 +12,109 @@ use Rattle.tag_space.specs.declared.forking.Child.{Child}
 use Rattle.tag_space.specs.declared.forking.SpentMember.{SpentMember}
 use Rattle.tag_space.specs.declared.member.Member.{Member}
 use Rattle.tag_space.specs.declared.space.TagSpace.{TagSpace}
-use Rattle.tag_space.specs.Members.{HasRow, IsMemberOf, number_of, rendez_of_member}
-use Rattle.tag_space.specs.Spaces.{IsNewSpace, IsFirstMember}
+use Rattle.tag_space.specs.Members.{HasRow, IsMemberOf, IsSameMember, number_of}
+use Rattle.tag_space.specs.Spaces.{IsNewSpace, IsFirstMember, IsFurtherMember}
 use Rattle.tag_space.specs.Forks.{AreKnown, asks_child, asks_space, WhyNotForked, WantsMember}
 use Rattle.tag_space.specs.Forks.{JoinsParent, ComesBack, HasSpace, HasChild, MovesCaller}
 use Rattle.tag_space.specs.Forks.{KeepsMember, LeavesMember, IsUntouched, GivesMember, HasSpent}
 use Rattle.tag_space.specs.Forks.{IsFirstThere, IsChild, IsGroup, HasFurther, IsSpent}
 use Rattle.tag_space.specs.Forks.{WhyNotInside, WhyNotOutside}
+
+-- ---- what each flag may do
+
+-- the flags with these bits
+abbrev flags_of : ℕ → Flags
+flags_of bits = record { bits = bits }
+
+module _ (unused : Unused) (space : TagSpace) (before after : Member) where
+  -- a flag that is not known is refused, whatever is left
+  an_unknown_flag_is_refused : WhyNotForked unused space (flags_of 8) before after fault.BadFlags
+  an_unknown_flag_is_refused known = omega (arith, known)
+
+  -- RFPROC is refused where no pid is left, or all members were given
+  rfproc_finds_no_pid : (HasPid unused → ⊥)
+      → WhyNotForked unused space (flags_of 1) before after fault.NoProc
+  rfproc_finds_no_pid none = inl (record { known = omega arith; child = refl; none = none })
+
+  rfproc_finds_no_member : HasPid unused → KnowsAllGiven space.lock before.seat after.seat
+      → WhyNotForked unused space (flags_of 1) before after fault.NoProc
+  rfproc_finds_no_member pid all =
+      inr (record {
+        joins = record { child = refl; no_space = false≢true };
+        pid = pid;
+        all_given = all;
+      })
+
+  -- RFREND alone needs no pid: it is refused where no row is left, or else no memory
+  rfrend_finds_no_row : (HasRendez unused space.procs → ⊥)
+      → WhyNotForked unused space (flags_of 2) before after fault.NoRendez
+  rfrend_finds_no_row none =
+      (record { known = omega arith; pid = λ asked. absurd (false≢true asked); space = refl }, none)
+
+  rfrend_finds_no_memory : HasRendez unused space.procs
+      → WhyNotForked unused space (flags_of 2) before after fault.Memory
+  rfrend_finds_no_memory row =
+      (record { known = omega arith; pid = λ asked. absurd (false≢true asked); space = refl }, row)
+
+  -- both need a pid, and then a row
+  both_find_no_pid : (HasPid unused → ⊥)
+      → WhyNotForked unused space (flags_of 3) before after fault.NoProc
+  both_find_no_pid none = inl (record { known = omega arith; child = refl; none = none })
+
+  both_find_no_row : HasPid unused → (HasRendez unused space.procs → ⊥)
+      → WhyNotForked unused space (flags_of 3) before after fault.NoRendez
+  both_find_no_row pid none =
+      (record { known = omega arith; pid = λ asked. pid; space = refl }, none)
+
+  -- a refusal hands the member back
+  it_comes_back_as_it_was : (flags : Flags) → ComesBack unused space flags before before
+  it_comes_back_as_it_was flags = inl refl
+
+module _ (unused : Unused) (old new : TagSpace) (child : Child) where
+  -- RFREND makes a space and no child, RFPROC a child and no space
+  rfrend_makes_a_space : IsNewSpace unused old.procs new
+      → HasSpace unused old (flags_of 2) (Some new)
+  rfrend_makes_a_space is_new = (refl, is_new)
+
+  rfrend_makes_no_child : HasChild unused new (flags_of 2) None
+  rfrend_makes_no_child asked = false≢true asked
+
+  rfproc_makes_no_space : HasSpace unused old (flags_of 1) None
+  rfproc_makes_no_space asked = false≢true asked
+
+  rfproc_makes_a_child : child.proc ≡ next_process unused → IsMemberOf old child.member
+      → HasChild unused old (flags_of 1) (Some child)
+  rfproc_makes_a_child is_next is_member = (refl, is_next, is_member)
+
+  -- where no space is made nobody is first there
+  nobody_is_first : (member : Member) → IsFirstThere None member (Some child)
+  nobody_is_first member = tt
+
+module _ (space : TagSpace) (before after : Member) (child : Child) (spent : SpentMember) where
+  -- without flags the caller's member is as it was
+  no_flag_touches_nothing : IsUntouched (flags_of 0) before before
+  no_flag_touches_nothing leaves = refl
+
+  -- RFPROC keeps it, gives the child a further one, and spends nothing
+  rfproc_keeps_the_member : IsSameMember before after → KeepsMember (flags_of 1) before after
+  rfproc_keeps_the_member same stays = same
+
+  rfproc_gives_a_further_member : IsFurtherMember space before after child.member
+      → GivesMember space (flags_of 1) before after (Some child)
+  rfproc_gives_a_further_member further joins = further
+
+  rfproc_spends_nothing : HasSpent (flags_of 1) before None
+  rfproc_spends_nothing moves = omega (arith, moves)
+
+  -- RFREND alone spends it, so that the caller may have any other, and gives nothing
+  rfrend_spends_the_member : spent.member ≡ before → HasSpent (flags_of 2) before (Some spent)
+  rfrend_spends_the_member same = (refl, same)
+
+  rfrend_may_change_the_member : KeepsMember (flags_of 2) before after
+  rfrend_may_change_the_member stays = absurd (stays refl)
+
+  rfrend_gives_no_member : GivesMember space (flags_of 2) before after None
+  rfrend_gives_no_member joins = false≢true joins.child
 
 -- ---- why nothing is made
 
