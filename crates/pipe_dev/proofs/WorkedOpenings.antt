@@ -1,12 +1,21 @@
 -- A new pipe worked out by its definitions alone: three writers in each direction, with the
 -- kernel's Rendez from number 10 on.
-use Rattle.std.proofs.Common.{◌≡◌, ◌+◌, ℕ, ap, refl, arith}
+use Rattle.std.proofs.Common.{◌≡◌, ◌≢◌, ◌+◌, ℕ, List, [], ◌∷◌, ap, refl, arith}
+use Rattle.histories.specs.History.{IsPast}
+use Rattle.sync_base.specs.declared.mode.Mode.TheVariants.{Message, Stream}
 use Rattle.rendez_words.specs.declared.words.Words.{Words}
 use Rattle.rendez_words.specs.Words.{rendez_of}
+use Rattle.block_queue.specs.declared.entry.Entry.{Entry}
+use Rattle.block_queue.specs.declared.queue.Queue.{Queue}
 use Rattle.block_queue.specs.declared.view.Key.{Key}
 use Rattle.block_queue.specs.Seats.{key_of}
+use Rattle.pipe_dev.specs.declared.closing.Held.{Held}
 use Rattle.pipe_dev.specs.declared.pipe.Opened.{Opened}
-use Rattle.pipe_dev.specs.Openings.{Opens, HasRows, key_for, rendez_for}
+use Rattle.pipe_dev.specs.declared.row.Row.{Row}
+use Rattle.pipe_dev.specs.Ends.{ReadSide, WriteSide}
+use Rattle.pipe_dev.specs.Finishing.{FinishesEnds}
+use Rattle.pipe_dev.specs.Openings.{Opens, OpensStream, HasRows, AreNewEnds, key_for, rendez_for}
+use Rattle.pipe_dev.specs.Parts.{Part}
 use Rattle.pipe_dev.specs.Rendezes.{reader_rendez, writer_rendez}
 
 -- it takes eight Rendez
@@ -45,3 +54,38 @@ module _ (opened : Opened) (opens : Opens 16 3 10 opened) where
       let first = opens.back_first in
       let back = rows.back in
       absurd (omega (arith, few, three, first, back))
+
+-- ---- what no new pipe is
+
+module _ (opened : Opened) where
+  -- a pipe of messages whose reads go on there from write to write
+  there_it_goes_on : Opens 16 3 10 opened → opened.start.there.row.mode ≡ Stream → ⊥
+  there_it_goes_on opens stream = let mode = opens.there_mode in cc
+
+  -- or back
+  back_it_goes_on : Opens 16 3 10 opened → opened.start.back.row.mode ≡ Stream → ⊥
+  back_it_goes_on opens stream = let mode = opens.back_mode in cc
+
+  -- a stream whose reads stop at the end of a write
+  there_a_stream_stops : OpensStream 16 3 10 opened → opened.start.there.row.mode ≡ Message → ⊥
+  there_a_stream_stops opens message = let mode = opens.there_mode in cc
+
+-- ---- what no new ends are
+
+module _ (queue : Queue) (row : Row) (read : ReadSide) (write : WriteSide) where
+  -- the reader is of another direction
+  ends_of_another : read.queue ≢ queue → AreNewEnds queue row read (write ∷ []) → ⊥
+  ends_of_another other new = other new.queue_is
+
+  -- the reader has other Rendez
+  ends_of_another_row : read.row ≢ row → AreNewEnds queue row read (write ∷ []) → ⊥
+  ends_of_another_row other new = other new.row_is
+
+-- ---- what no finish is
+
+-- a writer has seen what the history of all ends has not
+a_writer_saw_more : (read : ReadSide) (parts : List Part) (write : WriteSide) (held : Held)
+    → ((history : List Entry) → IsPast write.account.seen history → ⊥)
+    → FinishesEnds read parts (write ∷ []) held → ⊥
+a_writer_saw_more read parts write held none ends =
+    none ends.finishes.history ends.writers_seen.0
