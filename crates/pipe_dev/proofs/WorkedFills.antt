@@ -1,7 +1,7 @@
 -- Reads that go on as their mode says, worked out by the definitions alone, and the shortest reads
 -- that are refused.
 use Rattle.std.proofs.Common.{◌≡◌, ◌≢◌, inl, inr, ℕ, true, false, List, [], ◌∷◌, ◌++◌}
-use Rattle.std.proofs.Common.{Some, None, refl, sym, ◌∙◌, ap, arith, length, length-append}
+use Rattle.std.proofs.Common.{Some, None, refl, sym, ◌∙◌, ap, map, arith, length, length-append}
 use Rattle.std.specs.Prelude.{Ok, Err}
 use Rattle.histories.specs.declared.account.Account.{Account}
 use Rattle.histories.specs.Account.{AreByOthers}
@@ -570,17 +570,19 @@ module _ (table : TableId) where
   not_woken : WakesWith row (last_number None (part 2 b ∷ part 1 [] ∷ part 0 a ∷ [])) idle idle → ⊥
   not_woken woken = wakes_nobody 3 woken
 
-  -- nor is one that passed an empty write alone, and would sleep with its writer not woken
+  -- nor is one that passed an empty write alone and would sleep with its writer not woken
   sleeps_unwoken : WakesWith row (last_number None (part 0 [] ∷ [])) idle idle → ⊥
   sleeps_unwoken woken = wakes_nobody 1 woken
 
-  -- nor one that wakes with the number of the first write that it took out
+  -- nor is one that wakes with the number of the first write that it took out
   wakes_with_the_first :
       WakesWith row (last_number None (part 2 b ∷ part 1 [] ∷ part 0 a ∷ [])) idle (woke idle 1) → ⊥
   wakes_with_the_first woken = by woken.last.woken.ends
     where
       by : Ends (raises woken.between (at_rendez 4) 3) (woke idle 1) → ⊥
-      by (inl nobody) = let trace = ap (λ (p : Process). p.trace) nobody in cc
+      by (inl nobody) =
+          let events = ap (λ (p : Process). map (λ step. step.event) p.trace) nobody in
+          cc
       by (inr sleeper) = let trace = ap (λ (p : Process). p.trace) sleeper.1 in cc
 
   -- ---- a write that is begun, and what is left of it

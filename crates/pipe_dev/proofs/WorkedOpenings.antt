@@ -58,23 +58,26 @@ module _ (opened : Opened) (opens : Opens 16 3 10 opened) where
 -- ---- what no new pipe is
 
 module _ (opened : Opened) where
-  -- a pipe whose reads stop at the end of a write goes on there, or back; and a stream stops
+  -- a pipe of messages whose reads go on there from write to write
   there_it_goes_on : Opens 16 3 10 opened → opened.start.there.row.mode ≡ Stream → ⊥
   there_it_goes_on opens stream = let mode = opens.there_mode in cc
 
+  -- or back
   back_it_goes_on : Opens 16 3 10 opened → opened.start.back.row.mode ≡ Stream → ⊥
   back_it_goes_on opens stream = let mode = opens.back_mode in cc
 
+  -- a stream whose reads stop at the end of a write
   there_a_stream_stops : OpensStream 16 3 10 opened → opened.start.there.row.mode ≡ Message → ⊥
   there_a_stream_stops opens message = let mode = opens.there_mode in cc
 
 -- ---- what no new ends are
 
 module _ (queue : Queue) (row : Row) (read : ReadSide) (write : WriteSide) where
-  -- they are of another direction, or have other Rendez
+  -- the reader is of another direction
   ends_of_another : read.queue ≢ queue → AreNewEnds queue row read (write ∷ []) → ⊥
   ends_of_another other new = other new.queue_is
 
+  -- the reader has other Rendez
   ends_of_another_row : read.row ≢ row → AreNewEnds queue row read (write ∷ []) → ⊥
   ends_of_another_row other new = other new.row_is
 
