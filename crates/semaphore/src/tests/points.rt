@@ -2,14 +2,18 @@
 //! process acts at some of them. What that one is told, and which way the call then goes, tells
 //! which steps were made; so a point that is moved over such a step, doubled or left out is
 //! noticed.
+ghost use Rattle.std.specs.Prelude.{◌≡◌};
+ghost use Rattle.sleep_wakeup.specs.Starts.{IsStartOf};
+ghost use Rattle.semaphore.specs.Seats.{HasRow, IsSemaSeatOf, IsTimerSeatOf};
+
 use crate::tests::member::{Act, ActAt, First, Member};
 use crate::{OpenedSema, OpenedTimers, Sema, Semacquired, Timers};
-use sleep_wakeup::{Kernel, Opened, Proc, Started};
+use sleep_wakeup::{Kernel, Opened, Proc, Roster, Start, Started};
 use std::alloc::Global;
 use std::process::Abort;
 use std::sync::Wait;
 use std::test::Fail;
-use sync_base::{Fault, Flags, Note, NoteSet, Probe};
+use sync_base::{Fault, Flags, Note, NoteSet, Pid, Probe};
 
 /// No call of these tests passes as many points.
 const MOST: usize = 8;
@@ -83,29 +87,10 @@ fn called<R: Wait>(
 }
 
 // Acquires a unit while another process watches.
-fn watched<'s, 't, 'k, R: Wait>(
-    rt: &R,
-    member: &mut Member<'s, 't, 'k>,
-    other: Member<'s, 't, 'k>,
-    call: Call,
-    acts: [Act; 4],
-) -> Way {
-    let mut probe = Recorder {
-        beside: ActAt {
-            rt,
-            other,
-            to: member.pid(),
-            acts,
-            visits: [0; 4],
-            answer: 0,
-        },
-        points: [0; MOST],
-        passed: 0,
-    };
-    let answer = called(rt, member, call, &mut probe);
-    let points = probe.points;
+fn watched<R: Wait>(rt: &R, member: &mut Member, call: Call, probe: &mut Recorder<R>) -> Way {
+    let answer = called(rt, member, call, probe);
     Way {
-        points,
+        points: probe.points,
         answer,
         pending: member.notes(),
         told: probe.beside.answer,
@@ -113,95 +98,192 @@ fn watched<'s, 't, 'k, R: Wait>(
     }
 }
 
-// The way of an acquire of a new semaphore.
-fn passes<R: Wait + Abort>(rt: &R, alloc: Global, case: Case) -> Result<Way, Fail> {
-    let Opened { kernel, start } = Kernel::new(alloc, 2, 2)?;
+// Another process, which records the points and makes these acts.
+fn recording<'r, 's, 't, 'k, R: Wait>(
+    rt: &'r R,
+    other: Member<'s, 't, 'k>,
+    to: Pid,
+    acts: [Act; 4],
+) -> Recorder<'r, 's, 't, 'k, R> {
+    Recorder {
+        beside: ActAt {
+            rt,
+            other,
+            to,
+            acts,
+            visits: [0; 4],
+            answer: 0,
+        },
+        points: [0; MOST],
+        passed: 0,
+    }
+}
+
+/// A semaphore and timers for two processes, the first of them, and what makes more.
+#[derive(Drop)]
+struct Scene<'k> {
+    sema: Sema,
+    timers: Timers,
+    roster: Roster<'k>,
+    first: First<'k>,
+}
+
+// A kernel that has started, with a semaphore of this value.
+fn opened<'k>(
+    rt: &impl Abort,
+    alloc: Global,
+    kernel: &'k Kernel,
+    start: Start,
+    value: u32,
+) -> Scene<'k>
+    requires { IsStartOf kernel.now start }
+    ensures seat { IsSemaSeatOf result.sema result.first.seat }
+    ensures row { HasRow result.sema result.first.proc.words }
+    ensures timer { IsTimerSeatOf result.timers result.first.timer }
+    ensures words { result.roster.words ≡ result.first.proc.words }
+{
     let Started { mut roster, proc } = kernel.start(start);
+    let Ok(timed) = Timers::new(alloc, 2) else {
+        panic!(rt; "no timers")
+    };
+    let Ok(opened) = Sema::new(alloc, &mut roster, value, 2) else {
+        panic!(rt; "no semaphore")
+    };
     let OpenedTimers {
         timers,
         seat: timer,
-    } = Timers::new(alloc, 2)?;
-    let OpenedSema { sema, seat } = Sema::new(alloc, &mut roster, case.value, 2)?;
-    let mut member = Member::new(&sema, &timers, First { seat, timer, proc });
-    let Some(other) = member.fork(rt, &mut roster)? else {
-        panic!(rt; "RFPROC makes a child")
+    } = timed;
+    let OpenedSema { sema, seat } = opened;
+    Scene {
+        sema,
+        timers,
+        roster,
+        first: First { seat, timer, proc },
+    }
+}
+
+// The next process of a kernel, with seats.
+fn forked<'s, 't, 'k, R: Wait + Abort>(
+    rt: &R,
+    member: &mut Member<'s, 't, 'k>,
+    roster: &mut Roster<'k>,
+) -> Member<'s, 't, 'k>
+    requires { roster.old.words ≡ member.old.words }
+{
+    let Ok(Some(other)) = member.fork(rt, roster) else {
+        panic!(rt; "a pid and the seats are left")
     };
+    other
+}
+
+// The next process of a kernel, without seats.
+fn next<'k>(rt: &impl Abort, roster: &mut Roster<'k>, parent: &mut Proc<'k>) -> Proc<'k>
+    ensures roster { roster.new.words ≡ roster.old.words }
+    ensures parent { parent.new ≡ parent.old }
+{
+    let Ok(Some(proc)) = roster.rfork(parent, Flags::RFPROC) else {
+        panic!(rt; "a pid is left")
+    };
+    proc
+}
+
+// The way of a member's acquire.
+fn goes<'k, R: Wait + Abort>(
+    rt: &R,
+    mut member: Member<'_, '_, 'k>,
+    mut roster: Roster<'k>,
+    case: Case,
+) -> Way
+    requires { roster.words ≡ member.words }
+{
+    let other = forked(rt, &mut member, &mut roster);
     if case.raised {
         assert!(rt; member.wake_own(1));
     }
-    let acts = case.acts;
-    Ok(watched(rt, &mut member, other, case.call, acts))
+    let mut probe = recording(rt, other, member.pid(), case.acts);
+    watched(rt, &mut member, case.call, &mut probe)
+}
+
+// The way of an acquire of a new semaphore.
+fn passes<R: Wait + Abort>(rt: &R, alloc: Global, case: Case) -> Way {
+    let Ok(Opened { kernel, start }) = Kernel::new(alloc, 2, 2) else {
+        panic!(rt; "no kernel")
+    };
+    let Scene {
+        sema,
+        timers,
+        roster,
+        first,
+    } = opened(rt, alloc, &kernel, start, case.value);
+    goes(rt, Member::new(&sema, &timers, first), roster, case)
 }
 
 /// Has the member ask for a unit while a guest is posted in its Rendez.
 #[derive(Drop)]
 struct AskAt<'r, 's, 't, 'k, R: Wait> {
     rt: &'r R,
-    both: Option<(Member<'s, 't, 'k>, Member<'s, 't, 'k>)>,
+    member: Member<'s, 't, 'k>,
     call: Call,
-    acts: [Act; 4],
+    recorder: Recorder<'r, 's, 't, 'k, R>,
     way: Option<Way>,
 }
 
 impl<R: Wait> Probe for AskAt<'_, '_, '_, '_, R> {
     fn at(&mut self, point: u64) {
-        if point != 2 {
-            return;
-        }
-        if let Some((mut member, other)) = self.both.take() {
-            self.way = Some(watched(self.rt, &mut member, other, self.call, self.acts));
+        if point == 2 {
+            let way = watched(self.rt, &mut self.member, self.call, &mut self.recorder);
+            self.way = Some(way);
         }
     }
 }
 
 // The way of an acquire while a guest sleeps in the member's Rendez. An alarm ends that sleep.
-fn beside_a_guest<'s, 't, 'k, R: Wait + Abort>(
-    rt: &R,
-    mut guest: Proc<'k>,
-    both: (Member<'s, 't, 'k>, Member<'s, 't, 'k>),
-    call: Call,
-    acts: [Act; 4],
-) -> Option<Way> {
+fn beside_a_guest<R: Wait + Abort>(rt: &R, guest: &mut Proc, probe: &mut AskAt<R>) -> Option<Way> {
     let alarm = NoteSet::of(Note::Alarm);
     guest.put_back(alarm);
-    let rendez = both.0.rendez();
-    let mut probe = AskAt {
-        rt,
-        both: Some(both),
-        call,
-        acts,
-        way: None,
-    };
-    let slept = guest.sleep_probed(rt, rendez, 0, &mut probe);
+    let rendez = probe.member.rendez();
+    let slept = guest.sleep_probed(rt, rendez, 0, probe);
     assert_eq!(rt; slept, Err(Fault::Interrupted(alarm)));
     probe.way
 }
 
-// The same, with a new semaphore that has no unit.
-fn is_refused<R: Wait + Abort>(
+// The same, where another process makes these acts.
+fn goes_beside<'k, R: Wait + Abort>(
     rt: &R,
-    alloc: Global,
+    guest: &mut Proc<'k>,
+    mut member: Member<'_, '_, 'k>,
+    mut roster: Roster<'k>,
     call: Call,
     acts: [Act; 4],
-) -> Result<Option<Way>, Fail> {
-    let Opened { kernel, start } = Kernel::new(alloc, 3, 2)?;
-    let Started {
-        mut roster,
-        mut proc,
-    } = kernel.start(start);
-    let OpenedTimers {
+) -> Option<Way>
+    requires { roster.words ≡ member.words }
+{
+    let other = forked(rt, &mut member, &mut roster);
+    let recorder = recording(rt, other, member.pid(), acts);
+    let mut probe = AskAt {
+        rt,
+        member,
+        call,
+        recorder,
+        way: None,
+    };
+    beside_a_guest(rt, guest, &mut probe)
+}
+
+// The same, with a new semaphore that has no unit.
+fn is_refused<R: Wait + Abort>(rt: &R, alloc: Global, call: Call, acts: [Act; 4]) -> Option<Way> {
+    let Ok(Opened { kernel, start }) = Kernel::new(alloc, 3, 2) else {
+        panic!(rt; "no kernel")
+    };
+    let Scene {
+        sema,
         timers,
-        seat: timer,
-    } = Timers::new(alloc, 2)?;
-    let OpenedSema { sema, seat } = Sema::new(alloc, &mut roster, 0, 2)?;
-    let Some(guest) = roster.rfork(&mut proc, Flags::RFPROC)? else {
-        panic!(rt; "RFPROC makes a child")
-    };
-    let mut member = Member::new(&sema, &timers, First { seat, timer, proc });
-    let Some(other) = member.fork(rt, &mut roster)? else {
-        panic!(rt; "RFPROC makes a child")
-    };
-    Ok(beside_a_guest(rt, guest, (member, other), call, acts))
+        mut roster,
+        mut first,
+    } = opened(rt, alloc, &kernel, start, 0);
+    let mut guest = next(rt, &mut roster, &mut first.proc);
+    let member = Member::new(&sema, &timers, first);
+    goes_beside(rt, &mut guest, member, roster, call, acts)
 }
 
 fn points_of(points: &[u64]) -> Points {
@@ -255,38 +337,18 @@ fn at(acts: &[(u64, Act)]) -> [Act; 4] {
 }
 
 // Each of these acts makes such an acquire go its way.
-fn check_ways<R: Wait + Abort>(
-    rt: &R,
-    alloc: Global,
-    case: Case,
-    ways: &[([Act; 4], Way)],
-) -> Result<(), Fail> {
+fn check_ways<R: Wait + Abort>(rt: &R, alloc: Global, case: Case, ways: &[([Act; 4], Way)]) {
     for (row, (acts, way)) in ways.iter().enumerate() {
         let acts = *acts;
-        assert_eq!(rt;
-            passes(rt, alloc, Case { acts, ..case })?,
-            *way,
-            "row {row}"
-        );
+        assert_eq!(rt; passes(rt, alloc, Case { acts, ..case }), *way, "row {row}");
     }
-    Ok(())
 }
 
 // Each of these acts makes an acquire go its way while a guest sleeps in the Rendez.
-fn check_refused<R: Wait + Abort>(
-    rt: &R,
-    alloc: Global,
-    call: Call,
-    ways: &[([Act; 4], Way)],
-) -> Result<(), Fail> {
+fn check_refused<R: Wait + Abort>(rt: &R, alloc: Global, call: Call, ways: &[([Act; 4], Way)]) {
     for (row, (acts, way)) in ways.iter().enumerate() {
-        assert_eq!(rt;
-            is_refused(rt, alloc, call, *acts)?,
-            Some(*way),
-            "row {row}"
-        );
+        assert_eq!(rt; is_refused(rt, alloc, call, *acts), Some(*way), "row {row}");
     }
-    Ok(())
 }
 
 #[test]
@@ -317,7 +379,7 @@ fn an_acquire_asks_between_its_first_and_last_point(rt: HostRuntime) -> Result<(
                 },
             ),
         ];
-        check_ways(&rt, rt.alloc(), case, &ways)?;
+        check_ways(&rt, rt.alloc(), case, &ways);
     }
     Ok(())
 }
@@ -354,7 +416,8 @@ fn an_acquire_that_finds_no_unit_passes_its_first_and_last_point(
             },
         ),
     ];
-    check_ways(&rt, rt.alloc(), case, &ways)
+    check_ways(&rt, rt.alloc(), case, &ways);
+    Ok(())
 }
 
 #[test]
@@ -391,7 +454,8 @@ fn a_wait_that_notes_end_passes_each_point_once(rt: HostRuntime) -> Result<(), F
             },
         ),
     ];
-    check_ways(&rt, rt.alloc(), case, &ways)
+    check_ways(&rt, rt.alloc(), case, &ways);
+    Ok(())
 }
 
 #[test]
@@ -412,7 +476,8 @@ fn a_wait_sleeps_between_its_second_and_third_point(rt: HostRuntime) -> Result<(
         (at(&[(2, Act::Release)]), granted),
         (at(&[(3, Act::Release)]), granted),
     ];
-    check_ways(&rt, rt.alloc(), case, &ways)
+    check_ways(&rt, rt.alloc(), case, &ways);
+    Ok(())
 }
 
 #[test]
@@ -447,9 +512,9 @@ fn a_wait_in_time_passes_the_points_of_its_sleeps(rt: HostRuntime) -> Result<(),
             },
         ),
     ];
-    check_ways(&rt, rt.alloc(), case, &ways)?;
+    check_ways(&rt, rt.alloc(), case, &ways);
     let case = Case { value: 1, ..case };
-    assert_eq!(rt; passes(&rt, rt.alloc(), case)?, acquired(&[]));
+    assert_eq!(rt; passes(&rt, rt.alloc(), case), acquired(&[]));
     Ok(())
 }
 
@@ -482,7 +547,8 @@ fn a_wait_whose_sleep_is_refused_passes_each_point_once(rt: HostRuntime) -> Resu
             },
         ),
     ];
-    check_refused(&rt, rt.alloc(), Call::Waiting, &ways)
+    check_refused(&rt, rt.alloc(), Call::Waiting, &ways);
+    Ok(())
 }
 
 #[test]
@@ -505,5 +571,6 @@ fn a_wait_in_time_whose_sleep_is_refused_passes_two_points(rt: HostRuntime) -> R
             },
         ),
     ];
-    check_refused(&rt, rt.alloc(), Call::InTime, &ways)
+    check_refused(&rt, rt.alloc(), Call::InTime, &ways);
+    Ok(())
 }
