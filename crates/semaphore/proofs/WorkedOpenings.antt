@@ -1,6 +1,7 @@
 -- What no new semaphore is, no new timers are and no reason to refuse them: each against one row of
 -- what their constructors say.
-use Rattle.std.proofs.Common.{◌≡◌, ◌≢◌, ◌≤◌, ◌<◌, ℕ, length, ap, arith}
+use Rattle.std.proofs.Common.{◌≡◌, ◌≤◌, ◌<◌, ℕ, length, ap, arith}
+use Rattle.histories.specs.declared.account.Account.{Account}
 use Rattle.kernel_lock.specs.Seats.{gave_of}
 use Rattle.sync_base.specs.declared.fault.Fault.TheVariants as fault
 use Rattle.sleep_wakeup.specs.Kernel.{Unused, HasRendez}
@@ -11,6 +12,8 @@ use Rattle.semaphore.specs.declared.timers.Timers.{Timers}
 use Rattle.semaphore.specs.declared.timers.TimerSeat.{TimerSeat}
 use Rattle.semaphore.specs.Opening.{WhyNotOpened}
 use Rattle.semaphore.specs.Procs.{IsProcCount}
+use Rattle.semaphore.specs.SemaHistory.{SemaEntry}
+use Rattle.semaphore.specs.TimerHistory.{TimerEntry}
 use Rattle.semaphore.specs.Seats.{IsNewSema, AreNewTimers, HasRow, IsSemaSeatOf, IsTimerSeatOf}
 use Rattle.semaphore.specs.Seats.{opening_value}
 use Rattle.semaphore.specs.Timers.{WhyNoTimers}
@@ -19,94 +22,112 @@ use Rattle.semaphore.specs.Units.{WhyNoSema}
 -- ---- a semaphore
 
 module _ (roster : Unused) (sema : Sema) (seat : SemaSeat) where
-  -- it has a unit too many, a process too few, a row that was given, or one that the kernel has not
+  -- it has a unit more than it was asked for
   a_unit_too_many : opening_value sema ≡ 2 → IsNewSema roster 1 3 sema seat → ⊥
   a_unit_too_many two new = let value = new.value_is in omega (arith, two, value)
 
+  -- it serves a process fewer
   a_process_too_few : sema.procs ≡ 2 → IsNewSema roster 1 3 sema seat → ⊥
   a_process_too_few two new = let procs = new.procs_are in omega (arith, two, procs)
 
+  -- its row begins before the next Rendez
   a_row_that_was_given : sema.first < roster.rendez → IsNewSema roster 1 3 sema seat → ⊥
   a_row_that_was_given low new = let first = new.first_is in omega (arith, low, first)
 
+  -- its row is none of the kernel's
   a_row_of_no_kernel : (HasRow sema roster.words → ⊥) → IsNewSema roster 1 3 sema seat → ⊥
   a_row_of_no_kernel none new = none new.row
 
-  -- its first seat is another's, or has given one
+  -- its first seat is another's
   a_seat_of_another : (IsSemaSeatOf sema seat → ⊥) → IsNewSema roster 1 3 sema seat → ⊥
   a_seat_of_another other new = other new.seat_is
 
+  -- its first seat has given a number
   a_seat_that_gave_one : length (gave_of seat.seat) ≡ 1 → IsNewSema roster 1 3 sema seat → ⊥
   a_seat_that_gave_one one new =
-      let gave = ap (λ account. length account.gave) new.first_seat.account in
+      let gave = ap (λ (account : Account SemaEntry). length account.gave) new.first_seat.account in
       omega (arith, one, gave)
 
 module _ (roster : Unused) (value procs : ℕ) where
-  -- a value is refused that is not too great; processes for a value that is, or that are as many as
-  -- there may be; and so on in the order of the refusals
+  -- BadArg for a value that is not too great
   a_value_in_range : value ≤ MAX_VALUE → WhyNotOpened roster value procs fault.BadArg → ⊥
   a_value_in_range small why = omega (arith, small, why)
 
+  -- NoProc for a value that is too great
   processes_before_the_value : MAX_VALUE < value → WhyNotOpened roster value procs fault.NoProc → ⊥
   processes_before_the_value great (small, count) = omega (arith, great, small)
 
+  -- NoProc for as many processes as there may be
   processes_in_range : IsProcCount procs → WhyNotOpened roster value procs fault.NoProc → ⊥
   processes_in_range count (small, none) = none count
 
+  -- NoRendez for a value that is too great
   rendez_before_the_value : MAX_VALUE < value → WhyNotOpened roster value procs fault.NoRendez → ⊥
   rendez_before_the_value great (small, count, none) = omega (arith, great, small)
 
+  -- NoRendez for as many processes as there may not be
   rendez_before_the_processes : (IsProcCount procs → ⊥)
       → WhyNotOpened roster value procs fault.NoRendez → ⊥
   rendez_before_the_processes none (small, count, rendez) = none count
 
+  -- NoRendez where enough are left
   rendez_that_are_left : HasRendez roster procs → WhyNotOpened roster value procs fault.NoRendez → ⊥
   rendez_that_are_left left (small, count, none) = none left
 
+  -- Memory for a value that is too great
   memory_before_the_value : MAX_VALUE < value → WhyNotOpened roster value procs fault.Memory → ⊥
   memory_before_the_value great (small, count, left) = omega (arith, great, small)
 
+  -- Memory where too few Rendez are left
   memory_before_the_rendez : (HasRendez roster procs → ⊥)
       → WhyNotOpened roster value procs fault.Memory → ⊥
   memory_before_the_rendez none (small, count, left) = none left
 
+  -- DoubleSleep, which is no reason
   opened_for_a_double_sleep : WhyNotOpened roster value procs fault.DoubleSleep → ⊥
   opened_for_a_double_sleep why = why
 
-  -- the same of the object without its Rendez
+  -- BadArg of the object alone, for a value that is not too great
   a_value_of_an_object : value ≤ MAX_VALUE → WhyNoSema value procs fault.BadArg → ⊥
   a_value_of_an_object small why = omega (arith, small, why)
 
+  -- NoProc of the object alone, for as many processes as there may be
   processes_of_an_object : IsProcCount procs → WhyNoSema value procs fault.NoProc → ⊥
   processes_of_an_object count (small, none) = none count
 
+  -- Memory of the object alone, for as many processes as there may not be
   memory_before_the_processes : (IsProcCount procs → ⊥) → WhyNoSema value procs fault.Memory → ⊥
   memory_before_the_processes none (small, count) = none count
 
+  -- NoRendez of the object alone, which has none
   an_object_for_want_of_rendez : WhyNoSema value procs fault.NoRendez → ⊥
   an_object_for_want_of_rendez why = why
 
 -- ---- timers
 
 module _ (timers : Timers) (seat : TimerSeat) (procs : ℕ) where
-  -- they serve a process too few, or their first seat is another's, or has given one
+  -- they serve a process fewer
   timers_for_too_few : timers.procs ≡ 2 → AreNewTimers 3 timers seat → ⊥
   timers_for_too_few two new = let are = new.procs_are in omega (arith, two, are)
 
+  -- their first seat is another's
   a_timer_of_another : (IsTimerSeatOf timers seat → ⊥) → AreNewTimers 3 timers seat → ⊥
   a_timer_of_another other new = other new.seat_is
 
+  -- their first seat has given a number
   a_timer_that_gave_one : length (gave_of seat.seat) ≡ 1 → AreNewTimers 3 timers seat → ⊥
   a_timer_that_gave_one one new =
-      let gave = ap (λ account. length account.gave) new.first_seat.account in
+      let gave = ap (λ (account : Account TimerEntry). length account.gave) new.first_seat.account in
       omega (arith, one, gave)
 
-  -- they are refused though they may serve so many, for want of memory though not, or for a flag
+  -- NoProc for as many processes as there may be
   timers_in_range : IsProcCount procs → WhyNoTimers procs fault.NoProc → ⊥
   timers_in_range count none = none count
 
+  -- Memory for as many processes as there may not be
   timers_memory_first : (IsProcCount procs → ⊥) → WhyNoTimers procs fault.Memory → ⊥
   timers_memory_first none count = none count
 
+  -- BadFlags, which is no reason
   timers_for_bad_flags : WhyNoTimers procs fault.BadFlags → ⊥
   timers_for_bad_flags why = why
