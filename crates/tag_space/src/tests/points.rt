@@ -7,13 +7,13 @@ ghost use Rattle.tag_space.specs.Members.{IsMemberOf, HasRow};
 
 use crate::tests::scene::{Scene, TAG, forked, meets, next, opened};
 use crate::{Child, TagSpace};
-use sleep_wakeup::{Kernel, Opened};
+use sleep_wakeup::{Kernel, Opened, Proc};
 use std::alloc::Global;
 use std::marker::Model;
 use std::process::Abort;
 use std::sync::Wait;
 use std::test::Fail;
-use sync_base::{Fault, Note, NoteSet, Pid, Probe};
+use sync_base::{Fault, Note, NoteSet, Pid, Probe, RendezId};
 
 /// No call of these tests passes as many points.
 const MOST: usize = 8;
@@ -213,8 +213,21 @@ fn finds<R: Wait + Abort>(
     Ok(waited_for(rt, &space, first, calls))
 }
 
-// The way of a call in a new space while a guest sleeps in the caller's Rendez. An alarm ends the
-// guest's sleep.
+// The way of a call while a guest sleeps in the caller's Rendez. An alarm ends the guest's sleep.
+fn refused_beside<'k, R: Wait + Abort>(
+    rt: &R,
+    mut guest: Proc<'k>,
+    rendez: RendezId,
+    mut probe: CallAt<'_, '_, 'k, R>,
+) -> Option<Way> {
+    let alarm = NoteSet::of(Note::Alarm);
+    guest.put_back(alarm);
+    let slept = guest.sleep_probed(rt, rendez, 0, &mut probe);
+    assert_eq!(rt; slept, Err(Fault::Interrupted(alarm)));
+    probe.way
+}
+
+// The same, in a new space.
 fn is_refused<R: Wait + Abort>(rt: &R, alloc: Global, acts: Acts) -> Result<Option<Way>, Fail> {
     let Opened { kernel, start } = Kernel::new(alloc, 3, 2)?;
     let Scene {
@@ -223,20 +236,16 @@ fn is_refused<R: Wait + Abort>(rt: &R, alloc: Global, acts: Acts) -> Result<Opti
         mut first,
     } = opened(rt, alloc, &kernel, start, 2)?;
     let partner = forked(rt, &space, &mut roster, &mut first);
-    let mut guest = next(rt, &mut roster, &mut first.proc);
-    let alarm = NoteSet::of(Note::Alarm);
-    guest.put_back(alarm);
+    let guest = next(rt, &mut roster, &mut first.proc);
     let rendez = first.member.rendez();
-    let mut calls = CallAt {
+    let calls = CallAt {
         rt,
         space: &space,
         both: Some((first, partner)),
         acts,
         way: None,
     };
-    let slept = guest.sleep_probed(rt, rendez, 0, &mut calls);
-    assert_eq!(rt; slept, Err(Fault::Interrupted(alarm)));
-    Ok(calls.way)
+    Ok(refused_beside(rt, guest, rendez, calls))
 }
 
 // The way of a call in a new space. Where its Rendez was raised before, its sleeps end at once.
