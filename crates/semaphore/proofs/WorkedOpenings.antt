@@ -117,7 +117,8 @@ module _ (timers : Timers) (seat : TimerSeat) (procs : ℕ) where
   -- their first seat has given a number
   a_timer_that_gave_one : length (gave_of seat.seat) ≡ 1 → AreNewTimers 3 timers seat → ⊥
   a_timer_that_gave_one one new =
-      let gave = ap (λ (account : Account TimerEntry). length account.gave) new.first_seat.account in
+      let gave =
+      ap (λ (account : Account TimerEntry). length account.gave) new.first_seat.account in
       omega (arith, one, gave)
 
   -- NoProc for as many processes as there may be

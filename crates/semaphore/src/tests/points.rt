@@ -176,27 +176,13 @@ fn forked<'s, 't, 'k, R: Wait + Abort>(
     other
 }
 
-// The next process of a kernel, without seats.
-fn next<'k>(rt: &impl Abort, roster: &mut Roster<'k>, parent: &mut Proc<'k>) -> Proc<'k>
-    ensures roster { roster.new.words ≡ roster.old.words }
-    ensures parent { parent.new ≡ parent.old }
-{
-    let Ok(Some(proc)) = roster.rfork(parent, Flags::RFPROC) else {
-        panic!(rt; "a pid is left")
-    };
-    proc
-}
-
 // The way of a member's acquire.
-fn goes<'k, R: Wait + Abort>(
+fn goes<'s, 't, 'k, R: Wait + Abort>(
     rt: &R,
-    mut member: Member<'_, '_, 'k>,
-    mut roster: Roster<'k>,
+    mut member: Member<'s, 't, 'k>,
+    other: Member<'s, 't, 'k>,
     case: Case,
-) -> Way
-    requires { roster.words ≡ member.words }
-{
-    let other = forked(rt, &mut member, &mut roster);
+) -> Way {
     if case.raised {
         assert!(rt; member.wake_own(1));
     }
@@ -212,10 +198,12 @@ fn passes<R: Wait + Abort>(rt: &R, alloc: Global, case: Case) -> Way {
     let Scene {
         sema,
         timers,
-        roster,
+        mut roster,
         first,
     } = opened(rt, alloc, &kernel, start, case.value);
-    goes(rt, Member::new(&sema, &timers, first), roster, case)
+    let mut member = Member::new(&sema, &timers, first);
+    let other = forked(rt, &mut member, &mut roster);
+    goes(rt, member, other, case)
 }
 
 /// Has the member ask for a unit while a guest is posted in its Rendez.
@@ -248,17 +236,14 @@ fn beside_a_guest<R: Wait + Abort>(rt: &R, guest: &mut Proc, probe: &mut AskAt<R
 }
 
 // The same, where another process makes these acts.
-fn goes_beside<'k, R: Wait + Abort>(
+fn goes_beside<'s, 't, 'k, R: Wait + Abort>(
     rt: &R,
     guest: &mut Proc<'k>,
-    mut member: Member<'_, '_, 'k>,
-    mut roster: Roster<'k>,
+    member: Member<'s, 't, 'k>,
+    other: Member<'s, 't, 'k>,
     call: Call,
     acts: [Act; 4],
-) -> Option<Way>
-    requires { roster.words ≡ member.words }
-{
-    let other = forked(rt, &mut member, &mut roster);
+) -> Option<Way> {
     let recorder = recording(rt, other, member.pid(), acts);
     let mut probe = AskAt {
         rt,
@@ -281,9 +266,12 @@ fn is_refused<R: Wait + Abort>(rt: &R, alloc: Global, call: Call, acts: [Act; 4]
         mut roster,
         mut first,
     } = opened(rt, alloc, &kernel, start, 0);
-    let mut guest = next(rt, &mut roster, &mut first.proc);
-    let member = Member::new(&sema, &timers, first);
-    goes_beside(rt, &mut guest, member, roster, call, acts)
+    let Ok(Some(mut guest)) = roster.rfork(&mut first.proc, Flags::RFPROC) else {
+        panic!(rt; "a pid is left")
+    };
+    let mut member = Member::new(&sema, &timers, first);
+    let other = forked(rt, &mut member, &mut roster);
+    goes_beside(rt, &mut guest, member, other, call, acts)
 }
 
 fn points_of(points: &[u64]) -> Points {
