@@ -1,2 +1,3 @@
 mod CrewLemmas
+mod WorkedRuns
 mod WritingLemmas
