@@ -1,1 +1,5 @@
 mod ReadingLemmas
+mod WorkedHalls
+mod WorkedPools
+mod WorkedWatches
+mod WorkedWriters

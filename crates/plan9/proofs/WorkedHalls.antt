@@ -1,0 +1,84 @@
+-- What is no hall, no guest and no reason to refuse one: each against one row of what the calls of
+-- a hall say.
+use Rattle.std.proofs.Common.{◌≡◌, ◌≢◌, ◌<◌, ap, arith, Some, None}
+use Rattle.kernel_lock.specs.Seats.{given_of, limit_of}
+use Rattle.sync_base.specs.declared.fault.Fault.TheVariants as fault
+use Rattle.sleep_wakeup.specs.Kernel.{Running, Unused}
+use Rattle.tag_space.specs.declared.member.Member.{Member}
+use Rattle.tag_space.specs.Members.{HasRow, IsMemberOf, number_of}
+use Rattle.plan9.specs.Halls.{Hosting, Visiting, IsNewHall, IsFirstGuest, WhyNotFirstGuest}
+use Rattle.plan9.specs.Halls.{IsSameGuest, IsAdmittedGuest, IsFurtherGuest, WhyNoGuest}
+
+-- ---- the first
+
+module _ (hall : Hosting) (running : Running) (guest : Visiting) where
+  -- a process has the first member of a new hall
+  first_member_is_gone : (roster : Unused) → hall.spare ≡ None → IsNewHall roster 2 hall → ⊥
+  first_member_is_gone roster none (member, space, first, spare) = cc
+
+  -- who is first is so in another space, as another process, or where one was before
+  first_elsewhere : guest.space ≢ hall.space → IsFirstGuest hall running guest → ⊥
+  first_elsewhere other first = other first.space_is
+
+  first_as_another : guest.running ≢ running → IsFirstGuest hall running guest → ⊥
+  first_as_another other first = other first.running_is
+
+  first_where_one_was : hall.spare ≡ None → IsFirstGuest hall running guest → ⊥
+  first_where_one_was none first = let member = first.member_is in cc
+
+  -- a process of the hall's own kernel is refused as one of another, the first one as a second, and
+  -- one for want of memory
+  refused_by_its_own_kernel : HasRow hall.space running.words
+      → WhyNotFirstGuest hall running fault.NoRendez → ⊥
+  refused_by_its_own_kernel row why = why row
+
+  refused_though_the_first : (member : Member) → hall.spare ≡ Some member
+      → WhyNotFirstGuest hall running fault.NoProc → ⊥
+  refused_though_the_first member left (row, none) = cc
+
+  refused_for_memory : WhyNotFirstGuest hall running fault.Memory → ⊥
+  refused_for_memory why = why
+
+-- ---- a call, and another process
+
+module _ (old new : Visiting) where
+  -- a call moves its caller to another space or kernel, or makes it another member
+  call_elsewhere : new.space ≢ old.space → IsSameGuest old new → ⊥
+  call_elsewhere other same = other same.space_is
+
+  call_in_another_kernel : new.running.words ≢ old.running.words → IsSameGuest old new → ⊥
+  call_in_another_kernel other same = other same.words_are
+
+  call_as_another_member : number_of new.member ≢ number_of old.member → IsSameGuest old new → ⊥
+  call_as_another_member other same = other same.member_is.number
+
+  -- a guest is a member of another space
+  admitted_elsewhere : (IsMemberOf old.space old.member → ⊥) → IsAdmittedGuest old → ⊥
+  admitted_elsewhere other admitted = other admitted.member_is
+
+module _ (old new child : Visiting) (running : Running) where
+  -- who is a guest as well is so in another space, as another process, or as the member that its
+  -- parent is
+  further_elsewhere : child.space ≢ old.space → IsFurtherGuest old new running child → ⊥
+  further_elsewhere other further = other further.space_is
+
+  further_as_another : child.running ≢ running → IsFurtherGuest old new running child → ⊥
+  further_as_another other further = other further.running_is
+
+  further_as_its_parent : number_of child.member ≡ number_of old.member
+      → IsFurtherGuest old new running child → ⊥
+  further_as_its_parent same further =
+      let above = further.further.above in omega (arith, same, above)
+
+  -- one is refused by its own kernel, while a member is left, or for want of memory
+  guest_refused_by_its_own_kernel : HasRow old.space running.words
+      → WhyNoGuest old new running fault.NoRendez → ⊥
+  guest_refused_by_its_own_kernel row (other, same) = other row
+
+  guest_refused_though_a_member_is_left : given_of new.member.seat < limit_of old.space.lock
+      → WhyNoGuest old new running fault.NoProc → ⊥
+  guest_refused_though_a_member_is_left fewer (row, knows) =
+      let given = ap (λ view. view.given) knows.same in omega (arith, fewer, given)
+
+  guest_refused_for_memory : WhyNoGuest old new running fault.Memory → ⊥
+  guest_refused_for_memory why = why

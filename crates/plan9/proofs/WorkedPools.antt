@@ -1,0 +1,197 @@
+-- What is no pool, no holder of its units and no reason to refuse one: each against one row of what
+-- the calls of a pool say.
+use Rattle.std.proofs.Common.{◌≡◌, ◌≢◌, ◌⊎◌, ◌<◌, false, [], ◌∷◌, length, inl, inr}
+use Rattle.std.proofs.Common.{ap, arith, Some, None}
+use Rattle.kernel_lock.specs.Seats.{number_of, account_of, given_of, limit_of}
+use Rattle.sync_base.specs.declared.fault.Fault.TheVariants as fault
+use Rattle.sleep_wakeup.specs.Forks.{HasPid}
+use Rattle.sleep_wakeup.specs.Kernel.{Running, Unused, next_process, one_pid_less}
+use Rattle.semaphore.specs.declared.sema.Sema.{Sema}
+use Rattle.semaphore.specs.declared.sema.SemaSeat.{SemaSeat}
+use Rattle.semaphore.specs.Seats.{HasRow, IsSemaSeatOf}
+use Rattle.plan9.specs.Pools.{Pooled, Holding, IsNewPool, IsFirstHolder, WhyNotFirst}
+use Rattle.plan9.specs.Pools.{IsSameHolder, IsSeatedHolder, IsSameParent, IsFurtherHolder}
+use Rattle.plan9.specs.declared.vacant.Unseated.{Unseated}
+use Rattle.plan9.specs.Pools.{KnowsNoSeat, WhyNotJoined, ForksHolder, Forking, WhyNoFork}
+use Rattle.plan9.specs.Pools.{IsFilled, AreHolders, IsNoHolders}
+use Rattle.plan9.specs.Vacancies.{Vacancy}
+
+-- ---- the first
+
+module _ (pool : Pooled) (running : Running) (holding : Holding) where
+  -- somebody has the first seat of a new pool
+  first_seat_is_gone : (roster : Unused) → pool.spare ≡ None → IsNewPool roster 1 2 pool → ⊥
+  first_seat_is_gone roster none (seat, opened, spare) = cc
+
+  -- who is first holds at another semaphore, as another process, or with a seat of its own making
+  first_elsewhere : holding.sema ≢ pool.sema → IsFirstHolder pool running holding → ⊥
+  first_elsewhere other first = other first.sema_is
+
+  first_as_another : holding.running ≢ running → IsFirstHolder pool running holding → ⊥
+  first_as_another other first = other first.running_is
+
+  first_where_somebody_was : pool.spare ≡ None → IsFirstHolder pool running holding → ⊥
+  first_where_somebody_was none first = let seat = first.seat_is in cc
+
+  -- a process of the pool's own kernel is refused as one of another, the first one as a second, and
+  -- one for want of memory
+  refused_by_its_own_kernel : HasRow pool.sema running.words
+      → WhyNotFirst pool running fault.NoRendez → ⊥
+  refused_by_its_own_kernel row why = why row
+
+  refused_though_the_first : (seat : SemaSeat) → pool.spare ≡ Some seat
+      → WhyNotFirst pool running fault.NoProc → ⊥
+  refused_though_the_first seat left (row, none) = cc
+
+  refused_for_memory : WhyNotFirst pool running fault.Memory → ⊥
+  refused_for_memory why = why
+
+-- ---- a call, and another process
+
+module _ (old new : Holding) where
+  -- a call moves its caller to another semaphore, another kernel, or another seat
+  call_elsewhere : new.sema ≢ old.sema → IsSameHolder old new → ⊥
+  call_elsewhere other same = other same.sema_is
+
+  call_in_another_kernel : new.running.words ≢ old.running.words → IsSameHolder old new → ⊥
+  call_in_another_kernel other same = other same.words_are
+
+  call_with_another_seat : number_of new.seat.seat ≢ number_of old.seat.seat
+      → IsSameHolder old new → ⊥
+  call_with_another_seat other same = other same.number_is
+
+  -- a parent moves to another semaphore, or makes a step
+  parent_elsewhere : new.sema ≢ old.sema → IsSameParent old new → ⊥
+  parent_elsewhere other same = other same.sema_is
+
+  parent_makes_a_step : new.running ≢ old.running → IsSameParent old new → ⊥
+  parent_makes_a_step other same = other same.running_is
+
+  -- who holds has a seat of another semaphore
+  seated_elsewhere : (IsSemaSeatOf old.sema old.seat → ⊥) → IsSeatedHolder old → ⊥
+  seated_elsewhere other seated = other seated.seat_is
+
+  -- all seats were given, and the one that asked does not know it
+  nobody_knows : given_of new.seat.seat < limit_of old.sema.lock → KnowsNoSeat old new → ⊥
+  nobody_knows fewer knows =
+      let given = ap (λ view. view.given) knows.same in omega (arith, fewer, given)
+
+module _ (old new child : Holding) (running : Running) where
+  -- who holds as well does so at another semaphore, as another process, or with a seat of which its
+  -- parent does not know
+  further_elsewhere : child.sema ≢ old.sema → IsFurtherHolder old new running child → ⊥
+  further_elsewhere other further = other further.sema_is
+
+  further_as_another : child.running ≢ running → IsFurtherHolder old new running child → ⊥
+  further_as_another other further = other further.running_is
+
+  further_behind_its_parent : length (account_of new.seat.seat).gave
+      ≡ length (account_of old.seat.seat).gave
+      → IsFurtherHolder old new running child → ⊥
+  further_behind_its_parent same further =
+      let gave = ap (λ account. length account.gave) further.given.account.parent_is in
+      omega (arith, same, gave)
+
+  -- one is refused by its own kernel, while a seat is left, or for want of memory
+  join_refused_by_its_own_kernel : HasRow old.sema running.words
+      → WhyNotJoined old new running fault.NoRendez → ⊥
+  join_refused_by_its_own_kernel row (other, same) = other row
+
+  join_refused_though_a_seat_is_left : given_of new.seat.seat < limit_of old.sema.lock
+      → WhyNotJoined old new running fault.NoProc → ⊥
+  join_refused_though_a_seat_is_left fewer (row, knows) = nobody_knows old new fewer knows
+
+  join_refused_for_memory : WhyNotJoined old new running fault.Memory → ⊥
+  join_refused_for_memory why = why
+
+module _ (before after : Unused) (old new child : Holding) where
+  -- a fork where no pid is left, of another process than the next one, or that uses no pid up
+  fork_without_a_pid : (HasPid before → ⊥) → ForksHolder before old new child after → ⊥
+  fork_without_a_pid none forks = none forks.pid
+
+  fork_of_another : child.running ≢ next_process before → ForksHolder before old new child after → ⊥
+  fork_of_another other forks = other forks.further.running_is
+
+  fork_uses_no_pid_up : after ≢ one_pid_less old.running.process.pid false before
+      → ForksHolder before old new child after → ⊥
+  fork_uses_no_pid_up other forks = other forks.roster
+
+module _ (old new : Forking) where
+  -- a fork is refused though a pid and a seat are left, for want of memory, or by its own kernel
+  -- with no child that comes back
+  fork_refused_though_all_is_left : HasPid old.roster
+      → given_of new.parent.seat.seat < limit_of old.parent.sema.lock
+      → WhyNoFork old new None fault.NoProc → ⊥
+  fork_refused_though_all_is_left pid fewer (same, inl none) = none.0 pid
+  fork_refused_though_all_is_left pid fewer (same, inr knows) =
+      nobody_knows old.parent new.parent fewer knows.1
+
+  fork_refused_for_memory : WhyNoFork old new None fault.Memory → ⊥
+  fork_refused_for_memory why = why
+
+  fork_refused_with_no_child : WhyNoFork old new None fault.NoRendez → ⊥
+  fork_refused_with_no_child why = why
+
+  -- it uses a pid up though it made nothing
+  refused_fork_uses_a_pid_up : new.roster ≢ old.roster → WhyNoFork old new None fault.NoProc → ⊥
+  refused_fork_uses_a_pid_up other why = other why.0
+
+module _ (old new : Forking) (unseated : Unseated) where
+  -- a child comes back of the pool's own kernel, where no pid is left, as another process than the
+  -- next one, with a seat of another pool, or with no pid used up
+  comes_back_from_its_own_kernel : HasRow old.parent.sema old.roster.words
+      → WhyNoFork old new (Some unseated) fault.NoRendez → ⊥
+  comes_back_from_its_own_kernel row why = why.no_row row
+
+  comes_back_without_a_pid : (HasPid old.roster → ⊥)
+      → WhyNoFork old new (Some unseated) fault.NoRendez → ⊥
+  comes_back_without_a_pid none why = none why.pid
+
+  comes_back_as_another : unseated.proc ≢ next_process old.roster
+      → WhyNoFork old new (Some unseated) fault.NoRendez → ⊥
+  comes_back_as_another other why = other why.proc_is
+
+  comes_back_with_a_seat_elsewhere : unseated.seat.sema ≢ old.parent.sema
+      → WhyNoFork old new (Some unseated) fault.NoRendez → ⊥
+  comes_back_with_a_seat_elsewhere other why = other why.further.sema_is
+
+  comes_back_and_uses_no_pid_up :
+      new.roster ≢ one_pid_less old.parent.running.process.pid false old.roster
+      → WhyNoFork old new (Some unseated) fault.NoRendez → ⊥
+  comes_back_and_uses_no_pid_up other why = other why.roster
+
+  -- one comes back though all seats were given
+  comes_back_for_want_of_a_seat : WhyNoFork old new (Some unseated) fault.NoProc → ⊥
+  comes_back_for_want_of_a_seat why = why
+
+module _ (vacancy : Vacancy) (running : Running) (holding : Holding) where
+  -- a seat is filled at another semaphore, by another process, or with another seat in its place
+  filled_elsewhere : holding.sema ≢ vacancy.sema → IsFilled vacancy running holding → ⊥
+  filled_elsewhere other filled = other filled.sema_is
+
+  filled_by_another : holding.running ≢ running → IsFilled vacancy running holding → ⊥
+  filled_by_another other filled = other filled.running_is
+
+  filled_with_another : holding.seat ≢ vacancy.seat → IsFilled vacancy running holding → ⊥
+  filled_with_another other filled = other filled.seat_is
+
+-- ---- all at once
+
+module _ (at : Sema) (running : Running) (unused : Unused) (holding : Holding) where
+  -- one fewer than were asked for, one at another semaphore, and one of another kernel
+  one_too_few : AreHolders at running unused 2 (holding ∷ []) → ⊥
+  one_too_few are = let many : 1 ≡ 2 = are.count_is in omega (arith, many)
+
+  one_elsewhere : holding.sema ≢ at → AreHolders at running unused 1 (holding ∷ []) → ⊥
+  one_elsewhere other are = other are.at_sema.0
+
+  one_of_another_kernel : holding.running ≢ running → holding.running.words ≢ unused.words
+      → AreHolders at running unused 1 (holding ∷ []) → ⊥
+  one_of_another_kernel another elsewhere are = by are.kernels.0
+    where
+      by : (holding.running ≡ running) ⊎ (holding.running.words ≡ unused.words) → ⊥
+      by (inl same) = another same
+      by (inr same) = elsewhere same
+
+no_holders_for_a_bad_argument : IsNoHolders fault.BadArg → ⊥
+no_holders_for_a_bad_argument why = why

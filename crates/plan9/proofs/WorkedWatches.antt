@@ -1,0 +1,57 @@
+-- What is no clock, no watch and no reason to refuse one: each against one row of what the calls of
+-- a clock say.
+use Rattle.std.proofs.Common.{◌≡◌, ◌≢◌, ◌<◌, length, ap, arith, Some, None}
+use Rattle.kernel_lock.specs.Seats.{number_of, account_of, given_of, limit_of}
+use Rattle.sync_base.specs.declared.fault.Fault.TheVariants as fault
+use Rattle.semaphore.specs.declared.timers.TimerSeat.{TimerSeat}
+use Rattle.plan9.specs.Watches.{Clocked, Watching, IsNewClock, IsTaken, IsFirstWatch}
+use Rattle.plan9.specs.Watches.{IsSameWatch, IsFurtherWatch, WhyNoWatch}
+
+module _ (clock : Clocked) (watch : Watching) where
+  -- somebody has the first seat of a new clock
+  first_seat_is_gone : clock.spare ≡ None → IsNewClock 2 clock → ⊥
+  first_seat_is_gone none (seat, timers, spare) = cc
+
+  -- the first seat is one of other timers, or is had again
+  first_at_other_timers : watch.timers ≢ clock.timers → IsFirstWatch clock watch → ⊥
+  first_at_other_timers other first = other first.timers_are
+
+  first_where_somebody_was : clock.spare ≡ None → IsFirstWatch clock watch → ⊥
+  first_where_somebody_was none first = let seat = first.seat_is in cc
+
+  -- it is taken though it is there, or for want of memory
+  taken_though_it_is_there : (seat : TimerSeat) → clock.spare ≡ Some seat
+      → IsTaken clock fault.NoProc → ⊥
+  taken_though_it_is_there seat left none = cc
+
+  taken_for_want_of_memory : IsTaken clock fault.Memory → ⊥
+  taken_for_want_of_memory why = why
+
+module _ (old new child : Watching) where
+  -- a call goes to other timers, or with another seat
+  call_at_other_timers : new.timers ≢ old.timers → IsSameWatch old new → ⊥
+  call_at_other_timers other same = other same.timers_are
+
+  call_with_another_seat : number_of new.seat.seat ≢ number_of old.seat.seat
+      → IsSameWatch old new → ⊥
+  call_with_another_seat other same = other same.number_is
+
+  -- a further seat is one of other timers, or one of which the first does not know
+  further_at_other_timers : child.timers ≢ old.timers → IsFurtherWatch old new child → ⊥
+  further_at_other_timers other further = other further.timers_are
+
+  further_behind_the_first : length (account_of new.seat.seat).gave
+      ≡ length (account_of old.seat.seat).gave
+      → IsFurtherWatch old new child → ⊥
+  further_behind_the_first same further =
+      let gave = ap (λ account. length account.gave) further.given.account.parent_is in
+      omega (arith, same, gave)
+
+  -- one is refused while a seat is left, or for want of memory
+  refused_though_a_seat_is_left : given_of new.seat.seat < limit_of old.timers.lock
+      → WhyNoWatch old new fault.NoProc → ⊥
+  refused_though_a_seat_is_left fewer knows =
+      let given = ap (λ view. view.given) knows.same in omega (arith, fewer, given)
+
+  refused_for_memory : WhyNoWatch old new fault.Memory → ⊥
+  refused_for_memory why = why
