@@ -6,14 +6,15 @@
 //! driver, which ends its sleep and with it the transfer.
 #![tactic(auto)]
 
-use sleep_wakeup::{Kernel, Opened, Proc, Roster, Started};
+use plan9::{
+    Fault, Flags, Kernel, Note, NoteSet, OpenedKernel, Pid, Proc, RendezId, Roster, Started,
+};
 use std::alloc::Global;
 use std::io;
 use std::sync::Wait;
 use std::sync::atomic::AtomicU64;
 use std::sync::atomic::Ordering::SeqCst;
 use std::thread::{self, Threads};
-use sync_base::{Fault, Flags, Note, NoteSet, Pid, RendezId};
 
 /// How many blocks the user wants.
 const WANTED: u64 = 5;
@@ -110,7 +111,7 @@ fn fork<'k>(roster: &mut Roster<'k>, parent: &mut Proc<'k>) -> Result<Proc<'k>, 
 /// Three processes of a kernel. The driver, which waits for the device, has a thread of its own;
 /// where none can be started nothing is begun. The device and the user take turns on this one.
 fn run<R: Threads + Wait + Sync>(rt: &R, alloc: Global) -> Result<u64, Fault> {
-    let Opened { kernel, start } = Kernel::new(alloc, 3, 2)?;
+    let OpenedKernel { kernel, start } = Kernel::new(alloc, 3, 2)?;
     let Started {
         mut roster,
         proc: mut user,

@@ -4,12 +4,13 @@
 //! come. It answers each on a pipe of its client's own. A hangup of the pipe of requests ends it.
 #![tactic(auto)]
 
-use pipe_dev::{Ends, Opened, Pipe, ReadAnswer, ReadEnd, WriteEnd};
-use sleep_wakeup::{Kernel, Proc, Started};
+use plan9::{
+    Ends, Fault, Flags, Kernel, OpenedKernel, OpenedPipe, Pipe, Proc, ReadAnswer, ReadEnd, Started,
+    WriteEnd,
+};
 use std::alloc::Global;
 use std::sync::Wait;
 use std::thread::{Threads, map_vec, scope, scope_env};
-use sync_base::{Fault, Flags};
 
 /// A client asks at one pipe and is answered at another.
 #[derive(Drop)]
@@ -123,7 +124,7 @@ fn open_back<'s, R: Threads + Wait + Sync>(
     if left == 0 {
         return run_all(rt, alloc, started, there, back);
     }
-    let Opened { pipe, start } = Pipe::new(alloc, &mut started.roster, 1, 1)?;
+    let OpenedPipe { pipe, start } = Pipe::new(alloc, &mut started.roster, 1, 1)?;
     let back = with(back, pipe.ends(start))?;
     open_back(rt, alloc, started, there, back, left - 1)
 }
@@ -136,9 +137,9 @@ fn with<'s>(mut back: Vec<Ends<'s>>, ends: Ends<'s>) -> Result<Vec<Ends<'s>>, Fa
 
 /// The pipe of requests has five writers. A pipe goes both ways; here one way of each is used.
 fn run<R: Threads + Wait + Sync>(rt: &R, alloc: Global) -> Result<Vec<u64>, Fault> {
-    let sleep_wakeup::Opened { kernel, start } = Kernel::new(alloc, 6, 28)?;
+    let OpenedKernel { kernel, start } = Kernel::new(alloc, 6, 28)?;
     let mut started = kernel.start(start);
-    let Opened { pipe, start } = Pipe::new(alloc, &mut started.roster, 2, 5)?;
+    let OpenedPipe { pipe, start } = Pipe::new(alloc, &mut started.roster, 2, 5)?;
     open_back(rt, alloc, started, pipe.ends(start), Vec::new(alloc), 4)
 }
 

@@ -5,12 +5,13 @@
 //! or posts to a group: as on Plan 9, where the kernel does both for whoever asks it.
 #![tactic(auto)]
 
-use sleep_wakeup::{Kernel, Proc, Roster, Started};
+use plan9::{
+    Fault, Flags, Kernel, Note, NoteSet, OpenedKernel, Pid, Proc, RendezId, Roster, Started,
+};
 use std::alloc::Global;
 use std::io;
 use std::sync::Wait;
 use std::thread::{Threads, join, map_vec};
-use sync_base::{Fault, Flags, Note, NoteSet, Pid, RendezId};
 
 /// How many jobs there are, how many processes each has, and which is stopped.
 const JOBS: u64 = 3;
@@ -125,7 +126,7 @@ fn run_all<'k, R: Threads + Wait + Sync>(
 
 fn run<R: Threads + Wait + Sync>(rt: &R, alloc: Global) -> Result<Outcome, Fault> {
     let procs = JOBS * PROCS;
-    let sleep_wakeup::Opened { kernel, start } = Kernel::new(alloc, 1 + procs, procs)?;
+    let OpenedKernel { kernel, start } = Kernel::new(alloc, 1 + procs, procs)?;
     run_all(rt, alloc, kernel.start(start))
 }
 
