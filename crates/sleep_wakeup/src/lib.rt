@@ -11,12 +11,14 @@ mod noting;
 pub mod proc;
 pub mod roster;
 mod sleeping;
+pub mod status;
 mod waking;
 
 pub use kernel::{Kernel, Opened, Start, Started};
 pub use proc::Proc;
 pub use rendez_words::Done;
 pub use roster::{Left, Roster};
+pub use status::{Look, ProcStatus, RendezStatus};
 
 #[cfg(test)]
 mod tests;
