@@ -73,11 +73,7 @@ impl Kernel {
     /// a process that runs may have gone on to another Rendez meanwhile. A process that is stuck
     /// stays as it is, and so it is seen as it is. A posted process is about to wait, waits, or is
     /// about to leave.
-    pub fn look<'r>(
-        &self,
-        procs: &'r mut [ProcStatus],
-        rendez: &'r mut [RendezStatus],
-    ) -> Look<'r>
+    pub fn look<'r>(&self, procs: &'r mut [ProcStatus], rendez: &'r mut [RendezStatus]) -> Look<'r>
         // As many as there are, or as there is room for, each at the place of its number.
         ensures procs { length result.procs.now ≡ min (length procs.old) (procs_of self.now) }
         ensures rendez { length result.rendez.now ≡ min (length rendez.old) (rendez_of self.now) }
