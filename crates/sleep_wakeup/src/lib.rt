@@ -1,7 +1,7 @@
 //! A kernel and its processes, each on a thread of its own: sleep, wakeup, notes and rfork.
 //! Read `kernel`, what there is at the start; `groups`, the note groups; `roster`, which gives pids
 //! and Rendez; `proc`, what a process is; and then `sleeping`, `waking` and `noting`, its calls.
-//! `laws` says what their definitions forbid.
+//! `status` shows who waits where, and `laws` says what the definitions forbid.
 #![tactic(auto)]
 
 mod groups;
