@@ -24,6 +24,9 @@ pub use sync_base::{Fault, Flags, Mode, Note, NoteSet, Pid, Piece, RendezId, Tag
 pub use crate::plan::Plan;
 pub use sleep_wakeup::{Done, Kernel, Left, Opened as OpenedKernel, Proc, Roster, Start, Started};
 
+// Who waits where, for a program that hangs.
+pub use sleep_wakeup::{Look, ProcStatus, RendezStatus};
+
 // What comes back where a process, or ends, are refused; and children on threads.
 pub use crate::refusals::{Refused, Unforked};
 pub use crate::starting::{NotStarted, start_child};

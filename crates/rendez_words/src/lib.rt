@@ -1,7 +1,7 @@
 //! The words of sleep and wakeup on running threads: each event of the core is one atomic step on
 //! one word, with no lock round it. Read `flags_word`, `view`, `rule`, `plays`, `states`,
 //! `parking`, `words`, `steps`, `waking`, `looking`, `waiting`, `sleeper`, `raiser`, `notes`,
-//! `released` and then `laws`.
+//! `released`, `peeking` and then `laws`.
 #![tactic(auto)]
 
 mod flags_word;
@@ -9,6 +9,7 @@ pub mod laws;
 mod looking;
 mod notes;
 mod parking;
+mod peeking;
 mod plays;
 mod raiser;
 mod released;

@@ -4,3 +4,4 @@ pub mod Forks
 pub mod Groups
 pub mod Kernel
 pub mod Starts
+pub mod Status

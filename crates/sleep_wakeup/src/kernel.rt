@@ -95,4 +95,24 @@ impl Kernel {
             proc: Proc::new(words, seat, Pid(0)),
         }
     }
+
+    /// How many processes there are. Takes no memory and doesn't wait.
+    pub fn proc_count(&self) -> u64
+        ensures { result ≡ procs_of self.now }
+    {
+        self.procs
+    }
+
+    /// How many Rendez there are. Takes no memory and doesn't wait.
+    pub fn rendez_count(&self) -> u64
+        ensures { result ≡ rendez_of self.now }
+    {
+        self.rendez
+    }
+
+    pub(crate) fn words(&self) -> &Words
+        ensures { result.now ≡ self.now }
+    {
+        &self.words
+    }
 }

@@ -1,7 +1,7 @@
 //! A kernel and its processes, each on a thread of its own: sleep, wakeup, notes and rfork.
 //! Read `kernel`, what there is at the start; `groups`, the note groups; `roster`, which gives pids
 //! and Rendez; `proc`, what a process is; and then `sleeping`, `waking` and `noting`, its calls.
-//! `laws` says what their definitions forbid.
+//! `status` shows who waits where, and `laws` says what the definitions forbid.
 #![tactic(auto)]
 
 mod groups;
@@ -11,12 +11,14 @@ mod noting;
 pub mod proc;
 pub mod roster;
 mod sleeping;
+pub mod status;
 mod waking;
 
 pub use kernel::{Kernel, Opened, Start, Started};
 pub use proc::Proc;
 pub use rendez_words::Done;
 pub use roster::{Left, Roster};
+pub use status::{Look, ProcStatus, RendezStatus};
 
 #[cfg(test)]
 mod tests;

@@ -1,6 +1,6 @@
 //! Processes that sleep, wake and post notes. Every test ends by itself, whatever the schedule.
 //! `note_at` is a probe that acts between two steps of a sleep, `visits` has the points that it
-//! passes, `crowd` many processes at once, `groups` note groups.
+//! passes, `crowd` many processes at once, `groups` note groups, `looks` who waits where.
 ghost use Rattle.std.specs.Prelude.{◌≡◌};
 ghost use Rattle.sleep_core.specs.Limits.{IsWorldSize};
 ghost use Rattle.rendez_words.specs.Words.{procs_of, rendez_of};
@@ -16,6 +16,7 @@ use sync_base::{Fault, Flags, Note, NoteSet, Pid, RendezId};
 
 mod crowd;
 mod groups;
+mod looks;
 mod note_at;
 mod pages;
 mod visits;

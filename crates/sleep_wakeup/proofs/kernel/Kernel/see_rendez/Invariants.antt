@@ -1,0 +1,16 @@
+-- The processes stay at the places of their pids, and the Rendez so far come to theirs.
+use Rattle.std.proofs.Common.{◌≡◌, ◌<◌, length, get_or, ℕ}
+use Rattle.sleep_wakeup.specs.Status.{AreOfProcs}
+use Rattle.sleep_wakeup.specs.declared.status.RendezStatus.{RendezStatus}
+use Rattle.sleep_wakeup.proofs.kernel.Kernel.see_rendez.Given as goal
+
+-- as many as before, and each Rendez so far is that of its place
+abbrev pub invariant-loop-number : goal.invariant-loop-number
+invariant-loop-number l =
+    record {
+      procs : length l.procs ≡ length l.fn.procs;
+      rendez : length l.rendez ≡ length l.fn.rendez;
+      pids : AreOfProcs l.procs;
+      ids : (n : ℕ) (room : RendezStatus) → n < l.number → n < length l.rendez →
+          (get_or l.rendez n room).rendez.0 ≡ n;
+    }
