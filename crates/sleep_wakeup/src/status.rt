@@ -88,8 +88,7 @@ impl Kernel {
         let rendez_room = rendez.len().min(self.rendez_count() as usize);
         let procs = &mut procs[..proc_room];
         let rendez = &mut rendez[..rendez_room];
-        self.see_procs(procs);
-        self.see_rendez(procs, rendez);
+        self.see_all(procs, rendez);
         Look {
             procs,
             rendez,
@@ -98,29 +97,25 @@ impl Kernel {
         }
     }
 
-    // The flags of each process. Where it is posted is seen next.
-    fn see_procs(&self, procs: &mut [ProcStatus])
-        requires { length procs.old ≤ procs_of self.now }
-        ensures length { length procs.new ≡ length procs.old }
-        ensures pids { AreOfProcs procs.new }
-    {
-        for number in 0..procs.len() {
-            procs[number] = self.see_proc(Pid(number as u64));
-        }
-    }
-
-    // Every Rendez is looked at, also where there is no room for it: a process may be posted there.
-    fn see_rendez(&self, procs: &mut [ProcStatus], rendez: &mut [RendezStatus])
-        requires room { length rendez.old ≤ rendez_of self.now }
-        requires pids { AreOfProcs procs.old }
+    // The flags of each process, and then who is posted where. Every Rendez is looked at, also
+    // where there is no room for it: a process may be posted there.
+    fn see_all(&self, procs: &mut [ProcStatus], rendez: &mut [RendezStatus])
+        requires procs { length procs.old ≤ procs_of self.now }
+        requires rendez { length rendez.old ≤ rendez_of self.now }
         ensures procs { length procs.new ≡ length procs.old }
         ensures rendez { length rendez.new ≡ length rendez.old }
         ensures pids { AreOfProcs procs.new }
         ensures ids { AreOfRendez rendez.new }
     {
+        for pid in 0..procs.len() {
+            procs[pid] = self.see_proc(Pid(pid as u64));
+        }
         for number in 0..self.rendez_count() {
             let seen = self.see_one(RendezId(number));
-            show_posted(procs, seen);
+            let sleeper = place_of(seen.posted);
+            if sleeper < procs.len() {
+                procs[sleeper].posted = Some(seen.rendez);
+            }
             show_rendez(rendez, seen);
         }
     }
@@ -150,16 +145,11 @@ impl Kernel {
     }
 }
 
-// Shows at the process that is posted there where it is, if there is room for it.
-fn show_posted(procs: &mut [ProcStatus], seen: RendezStatus)
-    requires { AreOfProcs procs.old }
-    ensures length { length procs.new ≡ length procs.old }
-    ensures pids { AreOfProcs procs.new }
-{
-    let Some(pid) = seen.posted else { return };
-    let place = pid.0 as usize;
-    if place < procs.len() {
-        procs[place].posted = Some(seen.rendez);
+// The place of the process that is posted. Nobody's is past every room.
+fn place_of(posted: Option<Pid>) -> usize {
+    match posted {
+        Some(pid) => pid.0 as usize,
+        None => usize::MAX,
     }
 }
 
