@@ -104,6 +104,17 @@ sets_two_timers =
 abbrev pub sets_no_timer : List Deed
 sets_no_timer = Asks (Collect 0) reply.Granted ∷ Rests 0 Well ∷ begun
 
+-- it has a deadline, and sleeps once before its timer is set
+abbrev pub sleeps_before_its_timer : List Deed
+sleeps_before_its_timer =
+    Times (Cancel 0) told.Removed
+    ∷ Asks (Collect 0) reply.Granted
+    ∷ Rests 0 Well
+    ∷ Times (Add 0 (pid 5) 150) told.Added
+    ∷ Asks (Collect 0) (reply.Wait 0)
+    ∷ Rests 0 Well
+    ∷ begun
+
 -- it has a deadline, and does not cancel its timer
 abbrev pub does_not_cancel : List Deed
 does_not_cancel =

@@ -244,8 +244,9 @@ it_begins : (turn_of waiter (Asks (Acquire 0) reply.Acquired ∷ []) ≡ Answere
     × (turn_of waiter (Asks (Acquire 0) reply.Worn ∷ []) ≡ Answered)
     × (turn_of waiter begun ≡ Told)
     × (turn_of timed_waiter begun ≡ Untimed)
+    × (turn_of timed_waiter (Rests 0 Well ∷ begun) ≡ Astray)
     × (turn_of timed_waiter timer_set ≡ Told)
-it_begins = (refl, refl, refl, refl, refl)
+it_begins = (refl, refl, refl, refl, refl, refl)
 
 it_sleeps : (turn_of waiter (Rests 0 Well ∷ begun) ≡ Woken)
     × (turn_of waiter (Rests 0 (Noted (only Expired)) ∷ begun) ≡ Stopped true)
@@ -297,6 +298,10 @@ no_second_timer whole = cc
 a_deadline_sets_a_timer : IsBrokenOff timed_waiter broken.sets_no_timer
 unfolding IsBrokenOff
 a_deadline_sets_a_timer whole = cc
+
+no_sleep_before_the_timer : IsBrokenOff timed_waiter broken.sleeps_before_its_timer
+unfolding IsBrokenOff
+no_sleep_before_the_timer whole = cc
 
 each_timer_is_cancelled : IsBrokenOff timed_waiter broken.does_not_cancel
 unfolding IsBrokenOff

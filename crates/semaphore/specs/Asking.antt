@@ -20,7 +20,7 @@ use Rattle.semaphore.specs.declared.timer_object.Timer.{Timer}
 use Rattle.semaphore.specs.declared.timer_object.TimerCall.{TimerCall}
 use Rattle.semaphore.specs.declared.timer_object.TimerReply.{TimerReply}
 use Rattle.semaphore.specs.declared.timer_object.TimerReply.TheVariants as told
-use Rattle.semaphore.specs.Deeds.{Deed, Ending, Caller}
+use Rattle.semaphore.specs.Deeds.{Deed, Ending, Caller, Standing, Did, Calls}
 use Rattle.semaphore.specs.Deeds.Deed.{Asks, Rests}
 use Rattle.semaphore.specs.Timers.{may_add, timer_of}
 use Rattle.semaphore.specs.Timers as timing
@@ -197,3 +197,11 @@ pub record HasWaited (caller : Caller) (answer : Option Stop) (deeds : List Deed
   pub past : List Deed
   pub waited : WaitsFor caller count past
   pub deeds_are : deeds ≡ last_deeds caller count answer past
+
+-- Whatever a caller had done who was told to wait for this grant, he goes on by a wait that ended
+-- so.
+abbrev pub WaitsOn :
+    Caller → ℕ → Option Stop → (Standing → Standing) → (Standing → Standing) → Type 0
+WaitsOn caller count answer before after =
+    (start base : Standing) (past : List Deed) → Did caller past start (before base) →
+    WaitsFor caller count past → Calls caller start (after base) (HasWaited caller answer)

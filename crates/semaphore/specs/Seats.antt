@@ -1,5 +1,5 @@
 -- What clauses see of a semaphore, of timers, and of their seats.
-use Rattle.std.specs.Prelude.{◌≡◌, ◌≤◌, ◌+◌, ℕ, Bool, true, false, List, [], ◌∷◌, Some, None}
+use Rattle.std.specs.Prelude.{◌≡◌, ◌≤◌, ◌+◌, ⊤, ℕ, Bool, true, false, List, [], ◌∷◌, Some, None}
 use Rattle.sync_base.specs.declared.ids.RendezId.{RendezId}
 use Rattle.rendez_words.specs.declared.words.Words.{Words}
 use Rattle.rendez_words.specs.Process.{pid_in}
@@ -8,6 +8,8 @@ use Rattle.sleep_wakeup.specs.Kernel.{Running, Unused}
 use Rattle.kernel_lock.specs.Seats.{IsSeatOf, SeesHistory, shares_of, number_of, view_of, seen_of}
 use Rattle.kernel_lock.specs.Seats.{opening_of, IsFirstSeat}
 use Rattle.kernel_lock.specs.View.{spent_view}
+use Rattle.semaphore.specs.declared.acquiring.Until.{Until}
+use Rattle.semaphore.specs.declared.acquiring.Until.TheVariants as until
 use Rattle.semaphore.specs.declared.sema.Sema.{Sema}
 use Rattle.semaphore.specs.declared.sema.SemaSeat.{SemaSeat}
 use Rattle.semaphore.specs.declared.timers.Timers.{Timers}
@@ -118,6 +120,16 @@ pub record IsSeatAtTimers (timers : Timers) (set : Bool) (seat : TimerSeat) : Ty
 -- between two calls of a process its timer is cancelled
 abbrev pub IsTimerSeatOf : Timers → TimerSeat → Type 0
 IsTimerSeatOf timers seat = IsSeatAtTimers timers false seat
+
+-- where a tick is to end a wait, its timer is set
+abbrev pub IsTimerSet : Until → Type 0
+IsTimerSet until.Granted = ⊤
+IsTimerSet (until.Ticked timers timer) = IsSeatAtTimers timers.now true timer.now
+
+-- whether a tick is to end it
+abbrev pub is_ticked : Until → Bool
+is_ticked until.Granted = false
+is_ticked (until.Ticked timers timer) = true
 
 -- what the seat has seen
 abbrev pub timers_seen : Timers → TimerSeat → TimersSeen

@@ -1,5 +1,6 @@
-//! How a process takes a unit.
-ghost use Rattle.std.specs.Prelude.{◌≡◌, ◌≤◌, ◌<◌, true, false, List, None, IsSome};
+//! How a process takes a unit, and sleeps where it has to wait. No call of this crate sleeps but by
+//! these.
+ghost use Rattle.std.specs.Prelude.{◌≡◌, ◌≤◌, ◌<◌, true, false, None, IsSome};
 ghost use Rattle.rendez_words.specs.Process.{pid_in};
 ghost use Rattle.rendez_words.specs.Words.{rendez_of};
 ghost use Rattle.kernel_lock.specs.Seats.{number_of, view_of};
@@ -8,26 +9,31 @@ ghost use Rattle.semaphore.specs.Acquiring.{Acquires, AcquiresNow, Semacquires};
 ghost use Rattle.semaphore.specs.Asking.{
   HasLeft,
   HasWaited,
-  WaitsFor,
+  WaitsOn,
   is_some,
   rest_ending,
   stopped_notes,
 };
-ghost use Rattle.semaphore.specs.Deeds.{Calls, Caller, Deed, Did, Slept, Standing};
+ghost use Rattle.semaphore.specs.Deeds.{Calls, Caller, Slept, Standing};
+ghost use Rattle.semaphore.specs.Turns.{is_timed};
 ghost use Rattle.semaphore.specs.Seats.{
   HasRow,
   IsCallerAt,
   IsSeatAt,
   IsSemaSeatOf,
+  IsTimerSet,
   asked,
   caller_at,
   goes_on,
+  is_ticked,
   stands,
   stepped,
 };
 
+use crate::limits::LAST_GRANT;
 use crate::sema::{Sema, SemaSeat};
 use crate::sema_asks::Begun;
+use crate::timers::{TimerSeat, Timers};
 use sleep_wakeup::Proc;
 use std::sync::Wait;
 use sync_base::{Fault, NoProbe, NoteSet, Probe, RendezId};
@@ -48,6 +54,18 @@ pub(crate) enum Stop {
     Refused,
     /// Notes ended its sleep.
     Noted(NoteSet),
+}
+
+/// What is to end a wait, beside notes and a sleep that is refused.
+#[derive(Drop)]
+pub(crate) enum Until<'t> {
+    /// Its grant alone: the call has no deadline.
+    Granted,
+    /// A tick too: this timer is set.
+    Ticked {
+        timers: &'t Timers,
+        timer: &'t TimerSeat,
+    },
 }
 
 impl Sema {
@@ -144,7 +162,8 @@ impl Sema {
             Begun::Acquired => Ok(Semacquired::Acquired),
             Begun::Worn => Err(Fault::Worn),
             Begun::Waits(count) => {
-                let stop = self.sleep_for_unit(rt, proc, seat, count, probe);
+                let until = Until::Granted;
+                let stop = self.sleep_for_unit(rt, proc, seat, count, until, probe);
                 let granted = self.leave_line(rt, seat, stop);
                 answer_wait(proc, stop, granted)
             }
@@ -152,30 +171,33 @@ impl Sema {
     }
 
     /// Sleeps until the wait is granted its unit, and collects it, or until a sleep is refused or
-    /// ended by notes.
+    /// ended by notes. The timers and the process's steps have no order between them that a clause
+    /// of a whole call could name, so this part says that the timer of a call with a deadline is
+    /// set before each sleep for a unit, and cancelled behind it.
     pub(crate) fn sleep_for_unit<R: Wait, P: Probe>(
         &self,
         rt: &R,
         proc: &mut Proc<'_>,
         seat: &mut SemaSeat,
         first: u64,
+        until: Until<'_>,
         probe: &mut P,
     ) -> Option<Stop>
         requires seat { IsSeatAt self.now true seat.old }
         requires row { HasRow self.now proc.old.words }
         requires can { first ≤ LAST_GRANT }
+        requires timer { IsTimerSet until }
         ensures seat { IsSeatAt self.now (is_some result) seat.new }
         ensures number { number_of seat.new.seat ≡ number_of seat.old.seat }
         ensures words { proc.new.words ≡ proc.old.words }
         ensures pid { proc.new.process.pid ≡ proc.old.process.pid }
 
-        // Whatever the call did before, it goes on so.
-        ensures waited { (caller : Caller) (start base : Standing) (past : List Deed) →
+        // A call goes on so that has a deadline just where a timer is set.
+        ensures waited { (caller : Caller) → is_timed caller.deadline ≡ is_ticked until.entry →
             IsCallerAt self.now proc.old seat.old caller →
-            Did caller past start (goes_on proc.old seat.old base) →
-            WaitsFor caller first past →
-            Calls caller start (goes_on proc.new seat.new base) (HasWaited caller result) }
+            WaitsOn caller first result (goes_on proc.old seat.old) (goes_on proc.new seat.new) }
     {
+        let _ = until;
         let rendez = self.rendez(seat);
         let mut count = first;
         for _ in rt.forever() {
@@ -223,13 +245,23 @@ impl Sema {
     }
 }
 
-// Sleeps once. Answers what ended the sleep, where it didn't answer well.
-pub(crate) fn rest<R: Wait>(
+/// Sleeps once at the last count, which no grant passes, so that notes alone end it.
+pub(crate) fn rest_past_grants<R: Wait>(
     rt: &R,
     proc: &mut Proc<'_>,
     rendez: RendezId,
-    threshold: u64,
 ) -> Option<Stop>
+    requires rendez { rendez.0 < rendez_of proc.old.words }
+    ensures slept { Slept rendez LAST_GRANT (rest_ending result)
+        proc.old.process proc.new.process }
+    ensures words { proc.new.words ≡ proc.old.words }
+    ensures pid { proc.new.process.pid ≡ proc.old.process.pid }
+{
+    rest(rt, proc, rendez, LAST_GRANT)
+}
+
+// Sleeps once. Answers what ended the sleep, where it didn't answer well.
+fn rest<R: Wait>(rt: &R, proc: &mut Proc<'_>, rendez: RendezId, threshold: u64) -> Option<Stop>
     requires rendez { rendez.0 < rendez_of proc.old.words }
     requires can { threshold ≤ LAST_GRANT }
     ensures slept { Slept rendez threshold (rest_ending result)

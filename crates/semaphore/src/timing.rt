@@ -1,6 +1,5 @@
 //! How a process takes a unit by a moment.
-ghost use Rattle.std.specs.Prelude.{◌≡◌, ◌≤◌, ◌<◌, true, false, ℕ, List, IsSome};
-ghost use Rattle.semaphore.specs.declared.limits.TheConstants.{LAST_GRANT};
+ghost use Rattle.std.specs.Prelude.{◌≡◌, ◌<◌, true, false, ℕ, IsSome};
 ghost use Rattle.sync_base.specs.declared.note.Note.TheVariants.{Expired};
 ghost use Rattle.sync_base.specs.NoteSet.{holds};
 ghost use Rattle.rendez_words.specs.Process.{pid_in};
@@ -8,27 +7,21 @@ ghost use Rattle.rendez_words.specs.Words.{rendez_of};
 ghost use Rattle.kernel_lock.specs.Seats.{number_of};
 ghost use Rattle.semaphore.specs.Acquiring.{AcquiresInTime, TimersSeen, without_expired};
 ghost use Rattle.semaphore.specs.Asking.{HasKept, HasLeft, Left, stopped_notes, turn_left};
-ghost use Rattle.semaphore.specs.Asking.{HasWaited, WaitsFor, is_some};
-ghost use Rattle.semaphore.specs.Deeds.{Calls, Caller, Deed, Did, Standing};
+ghost use Rattle.semaphore.specs.Deeds.{Calls, Caller, Standing};
 ghost use Rattle.semaphore.specs.TimerHistory.{WasTaken};
 ghost use Rattle.semaphore.specs.Timers.{deadline_of};
 ghost use Rattle.semaphore.specs.Turns.Turn.{Ready};
 ghost use Rattle.semaphore.specs.Seats.{
   HasRow,
-  IsCallerAt,
-  IsSeatAt,
-  IsSeatAtTimers,
   IsSemaSeatOf,
   IsTimerSeatOf,
-  goes_on,
   stands_timed,
   stepped,
   timed_caller,
   timers_seen,
 };
 
-use crate::acquiring::{Stop, rest};
-use crate::limits::LAST_GRANT;
+use crate::acquiring::{Stop, Until, rest_past_grants};
 use crate::sema::{Sema, SemaSeat};
 use crate::sema_asks::Begun;
 use crate::timer_object::deadline;
@@ -118,7 +111,8 @@ impl Sema {
             Begun::Worn => Err(Fault::Worn),
             Begun::Waits(count) => {
                 timers.add(rt, timer, proc.pid(), deadline);
-                let stop = self.sleep_in_time(rt, proc, seat, count, timers, timer, probe);
+                let until = Until::Ticked { timers, timer };
+                let stop = self.sleep_for_unit(rt, proc, seat, count, until, probe);
                 let granted = self.leave_line(rt, seat, stop);
                 let expired = timers.cancel(rt, timer);
                 let rendez = self.rendez(seat);
@@ -126,36 +120,6 @@ impl Sema {
                 answer_timed(proc, stop, granted, expired, notes)
             }
         }
-    }
-
-    // As `sleep_for_unit`, while the seat's timer is set. The timers and the process's steps have
-    // no order between them that a clause of the whole call could name, so this part says that the
-    // timer is set before each sleep for a unit, and cancelled behind it.
-    fn sleep_in_time<R: Wait, P: Probe>(
-        &self,
-        rt: &R,
-        proc: &mut Proc<'_>,
-        seat: &mut SemaSeat,
-        first: u64,
-        timers: &Timers,
-        timer: &TimerSeat,
-        probe: &mut P,
-    ) -> Option<Stop>
-        requires seat { IsSeatAt self.now true seat.old }
-        requires row { HasRow self.now proc.old.words }
-        requires can { first ≤ LAST_GRANT }
-        requires timer { IsSeatAtTimers timers.now true timer.now }
-        ensures seat { IsSeatAt self.now (is_some result) seat.new }
-        ensures number { number_of seat.new.seat ≡ number_of seat.old.seat }
-        ensures words { proc.new.words ≡ proc.old.words }
-        ensures pid { proc.new.process.pid ≡ proc.old.process.pid }
-        ensures waited { (caller : Caller) (start base : Standing) (past : List Deed) →
-            IsCallerAt self.now proc.old seat.old caller →
-            Did caller past start (goes_on proc.old seat.old base) →
-            WaitsFor caller first past →
-            Calls caller start (goes_on proc.new seat.new base) (HasWaited caller result) }
-    {
-        self.sleep_for_unit(rt, proc, seat, first, probe)
     }
 }
 
@@ -194,7 +158,7 @@ fn await_tick<R: Wait>(
         if !expired || notes.has(Note::Expired) {
             return notes;
         }
-        match rest(rt, proc, rendez, LAST_GRANT) {
+        match rest_past_grants(rt, proc, rendez) {
             None => {}
             Some(Stop::Noted(set)) => notes = notes.join(set),
             Some(Stop::Refused) => {

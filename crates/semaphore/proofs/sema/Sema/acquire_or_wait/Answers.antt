@@ -28,11 +28,12 @@ returns-in-Waits-clause-called g c =
     (ap (λ n. record { 0 = n }) (sym slept.ensures.pid)) refl refl
     (c.leave_line-granted.ensures.left caller start (goes_on slept.new.proc slept.new.seat start)
     (sym (slept.ensures.number ∙ c.in-Waits.ensures.number)) refl
-    (slept.ensures.waited caller start start (Asks (Acquire caller.number) (Wait count) ∷ [])
+    (slept.ensures.waited caller refl
     (record {
       pid_is = refl;
       rendez_is = ap (λ n. record { 0 = c.args.self.now.first + n })
           (sym c.in-Waits.ensures.number);
       number_is = sym c.in-Waits.ensures.number;
     })
+    start start (Asks (Acquire caller.number) (Wait count) ∷ [])
     (did_ask caller start _ count c.in-Waits.ensures.served) (begins caller count refl)))

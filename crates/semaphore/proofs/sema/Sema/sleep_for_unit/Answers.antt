@@ -10,7 +10,7 @@ use Rattle.semaphore.proofs.WaitLemmas.{stops, waits_on, waits_no_more}
 use Rattle.semaphore.proofs.sema.Sema.sleep_for_unit.Goals as goal
 
 pub returns-in-Some-stop-clause-waited : goal.returns-in-Some-stop-clause-waited
-returns-in-Some-stop-clause-waited g c caller start base past at did waits =
+returns-in-Some-stop-clause-waited g c caller timed at start base past did waits =
     subst
     (λ stop. Calls caller start (goes_on c.rest-stop.new.proc c.loop.seat base)
     (HasWaited caller stop))
@@ -21,10 +21,10 @@ returns-in-Some-stop-clause-waited g c caller start base past at did waits =
     (λ r. Slept r c.loop.count (ending_of c.in-Some-stop.field-0) c.loop.proc.process
     c.rest-stop.new.proc.process)
     (sym (at.rendez_is ∙ sym c.loop.invariant.rendez)) c.in-Some-stop.ensures.slept)
-    (c.loop.invariant.waits caller start base past at did waits))
+    (c.loop.invariant.waits caller at start base past did waits))
 
 pub returns-in-None-collect-clause-waited : goal.returns-in-None-collect-clause-waited
-returns-in-None-collect-clause-waited g c caller start base past at did waits =
+returns-in-None-collect-clause-waited g c caller timed at start base past did waits =
     waits_no_more caller start (goes_on c.loop.proc c.loop.seat base)
     c.rest-stop.new.proc.process (view_of c.collect.new.seat.seat) c.loop.count
     (subst
@@ -33,7 +33,7 @@ returns-in-None-collect-clause-waited g c caller start base past at did waits =
     (served_as Collect _ _ _ (view_of c.loop.seat.seat) _ _
     (at.number_is ∙ sym c.loop.invariant.number) (λ _. view_of c.loop.seat.seat)
     c.in-None-collect.ensures.served)
-    (c.loop.invariant.waits caller start base past at did waits)
+    (c.loop.invariant.waits caller at start base past did waits)
 
 pub loop-preserved : goal.loop-preserved
 loop-preserved g c =
@@ -44,7 +44,7 @@ loop-preserved g c =
       number = c.in-Some-collect.ensures.number ∙ c.loop.invariant.number;
       rendez = c.loop.invariant.rendez;
       can = c.in-Some-collect.ensures.can;
-      waits = λ caller start base past at did waits.
+      waits = λ caller at start base past did waits.
           waits_on caller start (goes_on c.loop.proc c.loop.seat base)
           c.rest-stop.new.proc.process (view_of c.collect.new.seat.seat) c.loop.count
           c.in-Some-collect.next
@@ -54,5 +54,5 @@ loop-preserved g c =
           (served_as Collect _ _ _ (view_of c.loop.seat.seat) _ _
           (at.number_is ∙ sym c.loop.invariant.number) (λ _. view_of c.loop.seat.seat)
           c.in-Some-collect.ensures.served)
-          (c.loop.invariant.waits caller start base past at did waits);
+          (c.loop.invariant.waits caller at start base past did waits);
     }

@@ -16,8 +16,8 @@ invariant-loop g l =
       number : number_of l.seat.seat ≡ number_of l.initial.seat.seat;
       rendez : l.rendez ≡ rendez_at l.self l.initial.seat;
       can : l.count ≤ LAST_GRANT;
-      waits : (caller : Caller) (start base : Standing) (past : List Deed) →
-          IsCallerAt l.self l.initial.proc l.initial.seat caller →
+      waits : (caller : Caller) → IsCallerAt l.self l.initial.proc l.initial.seat caller →
+          (start base : Standing) (past : List Deed) →
           Did caller past start (goes_on l.initial.proc l.initial.seat base) →
           WaitsFor caller l.first past →
           Calls caller start (goes_on l.proc l.seat base) (WaitsFor caller l.count);

@@ -34,7 +34,7 @@ returns-in-Waits-clause-called g c =
     moment in
     let start = stands_timed c.args.proc.now c.args.seat.now c.args.timer.now in
     let count = c.in-Waits.count in
-    let slept = c.sleep_in_time-stop in
+    let slept = c.sleep_for_unit-stop in
     let number = slept.ensures.number ∙ c.in-Waits.ensures.number in
     let base = timed c.add.new.seat start in
     let gone = asked c.leave_line-granted.new.seat (goes_on slept.new.proc slept.new.seat base) in
@@ -107,15 +107,16 @@ returns-in-Waits-clause-called g c =
     refl cancelled
     (c.leave_line-granted.ensures.left caller start (goes_on slept.new.proc slept.new.seat base)
     (sym number) refl
-    (slept.ensures.waited caller start base
-    (Times (Add caller.timer caller.pid moment) Added ∷ Asks (Acquire caller.number) (Wait count) ∷
-    [])
+    (slept.ensures.waited caller refl
     (record {
       pid_is = refl;
       rendez_is = ap (λ n. record { 0 = c.args.self.now.first + n })
           (sym c.in-Waits.ensures.number);
       number_is = sym c.in-Waits.ensures.number;
     })
+    start base
+    (Times (Add caller.timer caller.pid moment) Added ∷ Asks (Acquire caller.number) (Wait count) ∷
+    [])
     (sets_timer caller start (asked c.acquire.new.seat start) (view_of c.add.new.seat.seat) count
     moment refl added (did_ask caller start _ count c.in-Waits.ensures.served))
     (waits_timed caller count moment refl)))))
