@@ -5,14 +5,13 @@ ghost use Rattle.block_queue.specs.Meaning.{Enters};
 ghost use Rattle.block_queue.specs.Seats.{key_of, put_account, take_account};
 ghost use Rattle.pipe_dev.specs.Ends.{IsReadHand, IsWriteHand};
 ghost use Rattle.pipe_dev.specs.Rendezes.{WakesIfKnown};
-ghost use Rattle.pipe_dev.specs.WriteCalls.{HasHang};
 
 use crate::hand::ReadHand;
 use crate::read_end::ReadEnd;
 use crate::row::Row;
-use crate::waking::wake_all;
+use crate::waking::{wake_behind_put, wake_behind_take};
 use crate::write_end::WriteEnd;
-use block_queue::{PutSeat, Queue, TakeSeat};
+use block_queue::{PutSeat, Queue};
 use sleep_wakeup::Proc;
 
 impl<'p> ReadEnd<'p> {
@@ -96,24 +95,4 @@ fn hang_write(queue: &Queue, row: &Row, seat: PutSeat, proc: &mut Proc<'_>) -> P
     queue.hang_put(&mut seat);
     wake_behind_put(proc, row, &seat);
     seat
-}
-
-// Wakes both sides, behind a hangup that the reader's seat has seen.
-fn wake_behind_take(proc: &mut Proc<'_>, row: &Row, seat: &TakeSeat)
-    requires hung { HasHang (take_account seat.now).seen }
-    ensures woken { WakesIfKnown row.now proc.old proc.new.process }
-    ensures words { proc.new.words ≡ proc.old.words }
-{
-    let _ = seat;
-    wake_all(proc, row);
-}
-
-// Wakes both sides, behind a hangup that the writer's seat has seen.
-fn wake_behind_put(proc: &mut Proc<'_>, row: &Row, seat: &PutSeat)
-    requires hung { HasHang (put_account seat.now).seen }
-    ensures woken { WakesIfKnown row.now proc.old proc.new.process }
-    ensures words { proc.new.words ≡ proc.old.words }
-{
-    let _ = seat;
-    wake_all(proc, row);
 }

@@ -1,9 +1,12 @@
 //! Who wakes whom on the Rendez of a direction.
 ghost use Rattle.std.specs.Prelude.{◌≡◌, ◌<◌};
 ghost use Rattle.rendez_words.specs.Words.{rendez_of};
+ghost use Rattle.block_queue.specs.Seats.{put_account, take_account};
 ghost use Rattle.pipe_dev.specs.Rendezes.{HasRow, WakesOne, WakesWriters, WakesIfKnown};
+ghost use Rattle.pipe_dev.specs.WriteCalls.{HasHang};
 
 use crate::row::Row;
+use block_queue::{PutSeat, TakeSeat};
 use sleep_wakeup::Proc;
 use sync_base::RendezId;
 use sync_base::limits::TOP_LEVEL;
@@ -31,8 +34,29 @@ pub(crate) fn wake_writers(proc: &mut Proc<'_>, row: &Row, level: u64)
     }
 }
 
-/// Wakes both sides after a hangup, where the process is of their kernel.
-pub(crate) fn wake_all(proc: &mut Proc<'_>, row: &Row)
+/// Wakes both sides, behind a hangup that the reader's seat has seen.
+pub(crate) fn wake_behind_take(proc: &mut Proc<'_>, row: &Row, seat: &TakeSeat)
+    requires hung { HasHang (take_account seat.now).seen }
+    ensures woken { WakesIfKnown row.now proc.old proc.new.process }
+    ensures words { proc.new.words ≡ proc.old.words }
+{
+    let _ = seat;
+    wake_all(proc, row);
+}
+
+/// Wakes both sides, behind a hangup that the writer's seat has seen.
+pub(crate) fn wake_behind_put(proc: &mut Proc<'_>, row: &Row, seat: &PutSeat)
+    requires hung { HasHang (put_account seat.now).seen }
+    ensures woken { WakesIfKnown row.now proc.old proc.new.process }
+    ensures words { proc.new.words ≡ proc.old.words }
+{
+    let _ = seat;
+    wake_all(proc, row);
+}
+
+// Wakes both sides, where the process is of their kernel. No file but this can call it, so it comes
+// behind a hangup alone.
+fn wake_all(proc: &mut Proc<'_>, row: &Row)
     ensures woken { WakesIfKnown row.now proc.old proc.new.process }
     ensures words { proc.new.words ≡ proc.old.words }
 {
