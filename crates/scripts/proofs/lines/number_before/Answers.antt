@@ -1,5 +1,5 @@
 -- Fewer than 20 digits spell a number below 2^64, so one digit more does not overflow.
-use Rattle.std.proofs.Common.{◌<◌, ◌*◌, ◌+◌, ◌^◌, arith, rules}
+use Rattle.std.proofs.Common.{◌<◌, ◌*◌, ◌+◌, ◌^◌, arith}
 use Rattle.scripts.proofs.NumberLemmas.{one_more_fits}
 use Rattle.scripts.proofs.lines.number_before.Goals as goal
 
