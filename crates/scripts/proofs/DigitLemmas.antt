@@ -1,6 +1,6 @@
 -- The table of digits is the definition, and two values make the byte of two digits.
 use Rattle.std.proofs.Common.{◌≡◌, ℕ, zero, suc, ◌+◌, ◌*◌, ◌%◌, ◌<◌, ◌&&◌, Bool, true, nat_eq, List}
-use Rattle.std.proofs.Common.{length, get_or, Option, Some, None, unwrap_or, Ok, ap, arith, inl}
+use Rattle.std.proofs.Common.{length, Option, Some, None, unwrap_or, Ok, ap, arith, inl}
 use Rattle.std.proofs.Common.{inr}
 use Rattle.std.specs.Prelude.{bit_or}
 use Rattle.std.proofs.lemmas.Nat.{le_or_l, le_or_r}
@@ -10,24 +10,24 @@ use Rattle.hex.specs.Hex.{hex_digit_value, digit_or_error, pair_value, decode_pa
 use Rattle.hex.specs.Hex.{◌>>=◌}
 use Rattle.scripts.specs.Digits.{value_or_none}
 
--- the table has the values of a definition below n
-unfoldable pub agree_below : List ℕ → (ℕ → ℕ) → ℕ → Bool
-agree_below table f zero = true
-agree_below table f (suc n) = nat_eq (get_or table n 0) (f n) && agree_below table f n
+-- the entries of a table are the values of a definition below n
+unfoldable pub agree_below : (ℕ → ℕ) → (ℕ → ℕ) → ℕ → Bool
+agree_below entry f zero = true
+agree_below entry f (suc n) = nat_eq (entry n) (f n) && agree_below entry f n
 
 both_of : (x y : ℕ) (rest : Bool) → (nat_eq x y && rest) ≡ true → (x ≡ y) × (rest ≡ true)
 both_of x y rest h = grind (arith, nat_tests)
 
 -- so it has each of them
-pub agree_at : (table : List ℕ) (f : ℕ → ℕ) (n : ℕ) → agree_below table f n ≡ true → (b : ℕ)
-    → b < n → get_or table b 0 ≡ f b
+pub agree_at : (entry f : ℕ → ℕ) (n : ℕ) → agree_below entry f n ≡ true → (b : ℕ) → b < n
+    → entry b ≡ f b
 unfolding agree_below
-agree_at table f zero h b lt = absurd (omega arith)
-agree_at table f (suc n) h b lt =
-    let both = both_of (get_or table n 0) (f n) (agree_below table f n) h in
+agree_at entry f zero h b lt = absurd (omega arith)
+agree_at entry f (suc n) h b lt =
+    let both = both_of (entry n) (f n) (agree_below entry f n) h in
     elim (cases_eq b n) [
       | inl same ↦ rw same both.0
-      | inr other ↦ agree_at table f n both.1 b (omega arith)
+      | inr other ↦ agree_at entry f n both.1 b (omega arith)
     ]
 
 -- a byte of two values

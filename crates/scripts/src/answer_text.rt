@@ -4,6 +4,7 @@ ghost use Rattle.scripts.specs.AnswerText.{write_text, read_text, hex_text};
 ghost use Rattle.sync_base.specs.PlainPipe.{lent_answer};
 ghost use Rattle.scripts.specs.declared.lines.TheConstants.{LINE_FEED};
 
+use crate::digits::encode;
 use crate::lines::LINE_FEED;
 use std::alloc::AllocError;
 use sync_base::{Lent, WriteAnswer};
@@ -50,6 +51,6 @@ fn push_hex(output: &mut Vec<u8>, bytes: &[u8]) -> Result<(), AllocError>
     };
     // The digits are written where they stay.
     output.resize(end, 0)?;
-    let _ = hex::encode_to_slice(bytes, output.slice_mut(start..));
+    encode(bytes, output.slice_mut(start..));
     Ok(())
 }

@@ -1,6 +1,6 @@
 //! The lines, words and numbers of a script.
-ghost use Rattle.std.specs.Prelude.{◌≡◌, false, ◌==◌, ◌∷◌, ◌++◌, ◌+◌, ◌<◌, [], length, position};
-ghost use Rattle.std.specs.Prelude.{take, Some, MatchOption, IfSome};
+ghost use Rattle.std.specs.Prelude.{◌≡◌, false, true, ◌==◌, ◌∷◌, ◌++◌, ◌+◌, ◌-◌, ◌<◌, ◌≤◌, []};
+ghost use Rattle.std.specs.Prelude.{length, position, take, Some, MatchOption, IfSome, IsTrue};
 ghost use Rattle.std.specs.Char.{is_ascii_digit};
 ghost use Rattle.scripts.specs.Lines.{BeginsWithNumber, LeadingDigits, LeadingNumber, FirstNumber};
 ghost use Rattle.scripts.specs.Lines.{lines_of, cut_line_of, parts_of, parts_behind, words_of};
@@ -92,18 +92,60 @@ fn value(digits: &[u8]) -> Option<u64>
 }
 
 /// The number that a text begins with, before this byte, and what follows that byte. One pass over
-/// the digits finds their end too, where `next_word` and then `number` read each digit twice.
+/// the digits finds their end too, where `next_word` and then `number` read each digit twice. A
+/// text of fewer than 20 bytes, the last lines of a script, is left to those.
 #[inline(always)]
 pub fn number_before(end: u8, text: &[u8]) -> Option<(u64, &[u8])>
     requires { is_ascii_digit end ≡ false }
     ensures { IfSome result (λ found.
         BeginsWithNumber end text.now found.0 found.1.now) }
 {
-    let (n, byte, rest) = number_at(text)?;
+    if text.len() < 20 {
+        return None;
+    }
+    let mut n = 0u64;
+    let mut count = 0;
+    // Nineteen digits fit, whichever they are, and the text does not end in them. No step tests
+    // either, and the compiler writes the nineteen out.
+    'short: while count < 19 {
+        let Some(digit) = digit_value(text[count]) else {
+            return Some((n, ended(end, text, n, count)?));
+        };
+        n = 10 * n + digit;
+        count += 1;
+    }
+    let (n, count) = long_number(text, n, count)?;
+    Some((n, ended(end, text, n, count)?))
+}
+
+/// What follows the byte behind so many digits, which spell this number, where it is this byte.
+#[inline(always)]
+fn ended(end: u8, text: &[u8], number: u64, passed: usize) -> Option<&[u8]>
+    requires { LeadingDigits text.now number passed }
+    ensures { IfSome result (λ rest. BeginsWithNumber end text.now number rest.now) }
+{
+    if passed == text.len() || !spells(text, number, passed) {
+        return None;
+    }
+    let (byte, rest) = byte_behind(passed, text);
     if byte != end {
         return None;
     }
-    Some((n, rest))
+    Some(rest)
+}
+
+/// The value of a digit.
+#[inline(always)]
+fn digit_value(byte: u8) -> Option<u64>
+    ensures digit { IfSome result (λ value. is_ascii_digit byte ≡ true) }
+    ensures value { IfSome result (λ value. value ≡ byte - ZERO) }
+    ensures small { IfSome result (λ value. value ≤ 9) }
+{
+    let value = u64::from(byte).wrapping_sub(u64::from(ZERO));
+    if value > 9 {
+        return None;
+    }
+    Some(value)
 }
 
 /// The number that a text begins with, the byte behind it, and what follows that byte.
@@ -171,11 +213,23 @@ fn leading_word(text: &[u8]) -> Option<(u64, usize)>
     ensures { IfSome result (λ found. LeadingNumber text.now found.0 found.1) }
 {
     let (n, count) = leading_number(text)?;
-    match &text[..count] {
-        [] | [ZERO, _, ..] => return None,
-        _ => {}
+    if !spells(text, n, count) {
+        return None;
     }
     Some((n, count))
+}
+
+/// Whether the digits that spell a number are a word that does: one at least, with no zero in front
+/// but for the number 0.
+#[inline(always)]
+fn spells(text: &[u8], number: u64, count: usize) -> bool
+    requires { LeadingDigits text.now number count }
+    ensures { IsTrue result → LeadingNumber text.now number count }
+{
+    match &text[..count] {
+        [] | [ZERO, _, ..] => false,
+        _ => true,
+    }
 }
 
 /// The number that the first digits of a text spell, and how many they are.

@@ -117,7 +117,8 @@ fn open_line<S: Script>(alloc: Global, line: &[u8]) -> Result<Option<S>, AllocEr
 }
 
 /// Answers the lines behind the first, writes the answers piece by piece, and gives the number of
-/// the line at fault.
+/// the line at fault. As a function of its own the loop has the registers to itself.
+#[inline(never)]
 fn answer_lines<S: Script, W: Write>(
     alloc: Global,
     mut script: S,

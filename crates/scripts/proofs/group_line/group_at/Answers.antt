@@ -1,6 +1,5 @@
 -- The verb, the list and the kinds are the words of the line.
-use Rattle.std.proofs.Common.{◌∷◌, ◌++◌, List, ℕ, codes, ap, sym, subst, ◌∙◌}
-use Rattle.scripts.specs.declared.lines.TheConstants.{SPACE}
+use Rattle.std.proofs.Common.{◌∷◌, List, ℕ, codes, ap, sym, subst, ◌∙◌}
 use Rattle.scripts.specs.Lines.{words_of, BeginsWithLine}
 use Rattle.scripts.proofs.GroupLemmas.{group_asked, group_is_word}
 use Rattle.scripts.proofs.OnePassLemmas.{line_begins, line_behind_word}

@@ -1,0 +1,18 @@
+-- Fewer than 20 digits spell a number below 2^64, so one digit more does not overflow.
+use Rattle.std.proofs.Common.{◌<◌, ◌*◌, ◌+◌, ◌^◌, arith}
+use Rattle.scripts.proofs.NumberLemmas.{one_more_fits}
+use Rattle.scripts.proofs.lines.number_before.Goals as goal
+
+pub overflow_mul-n : goal.overflow_mul-n
+overflow_mul-n c =
+    let few : c.short.count < 19 = omega arith in
+    let fits : 10 * c.short.n + 9 < 2 ^ 64 =
+    one_more_fits c.short.n c.short.count c.short.invariant.below few in
+    omega (arith, fits)
+
+pub overflow_add-n : goal.overflow_add-n
+overflow_add-n c =
+    let few : c.short.count < 19 = omega arith in
+    let fits : 10 * c.short.n + 9 < 2 ^ 64 =
+    one_more_fits c.short.n c.short.count c.short.invariant.below few in
+    omega (arith, fits, c.in-Some.ensures.small)
