@@ -8,6 +8,7 @@ pub mod Vacancies
 pub mod Pools
 pub mod Pipes
 pub mod Readings
+pub mod Sharings
 pub mod Watches
 pub mod Tickers
 pub mod Halls

@@ -13,6 +13,7 @@ pub mod plan;
 pub mod pool;
 pub mod reading;
 pub mod refusals;
+pub mod sharing;
 pub mod starting;
 pub mod ticker;
 pub mod vacant;
@@ -31,6 +32,7 @@ pub use crate::starting::{NotStarted, start_child};
 // Pipes, and processes that have an end of one.
 pub use crate::pipes::{Reader, Writer, fork_writers};
 pub use crate::reading::Short;
+pub use crate::sharing::{Shared, Sharer, Unshared};
 pub use pipe_dev::{
     End, Ends, Held, Long, Opened as OpenedPipe, Parts, Pipe, PipeStart, ReadAnswer, ReadEnd,
     StoredBlock, TryAnswer, Unfinished, WriteEnd, finish,
