@@ -9,6 +9,7 @@ pub mod Pools
 pub mod Pipes
 pub mod Readings
 pub mod Sharings
+pub mod Streams
 pub mod Watches
 pub mod Tickers
 pub mod Halls

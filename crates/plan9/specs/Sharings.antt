@@ -21,11 +21,11 @@ use Rattle.plan9.specs.Pools.{ForksHolder, got, holder, stands_holding}
 
 -- the end that is shared, as it was before
 abbrev pub first_end : Shared → ReadSide
-first_end shared = shared.place
+first_end shared = shared.place.value
 
 -- and that of a process that shares it
 abbrev pub end_of : Sharer → ReadSide
-end_of sharer = sharer.place.now
+end_of sharer = sharer.place.now.value
 
 -- ---- who shares
 

@@ -15,6 +15,7 @@ pub mod reading;
 pub mod refusals;
 pub mod sharing;
 pub mod starting;
+pub mod streams;
 pub mod ticker;
 pub mod vacant;
 
@@ -33,6 +34,7 @@ pub use crate::starting::{NotStarted, start_child};
 pub use crate::pipes::{Reader, Writer, fork_writers};
 pub use crate::reading::Short;
 pub use crate::sharing::{Shared, Sharer, Unshared};
+pub use crate::streams::{ReadStream, WriteStream};
 pub use pipe_dev::{
     End, Ends, Held, Long, Opened as OpenedPipe, Parts, Pipe, PipeStart, ReadAnswer, ReadEnd,
     StoredBlock, TryAnswer, Unfinished, WriteEnd, finish,

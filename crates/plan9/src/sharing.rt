@@ -25,7 +25,7 @@ impl<'p> Fits for Lying<'p> {
 
     type Tag = Snapshot<ReadEnd<'p>>;
 
-    ghost fits = { λ first lying. IsSameReadEnd first lying.end };
+    ghost fits = { λ first lying. IsSameReadEnd first.value lying.end };
 }
 
 /// The end, for a turn. It can't be dropped: `lay_down` spends it, with whatever answer.
@@ -113,10 +113,7 @@ impl<'p> Shared<'p> {
     /// The first that has turns at the end. Refuses, in this order, as `NoRendez` a process of
     /// another kernel, which has not all Rendez of the turns, and as `NoProc` where somebody was
     /// the first before; the process comes back. Takes no memory and doesn't wait.
-    pub fn first<'s, 'k>(
-        &'s mut self,
-        proc: Proc<'k>,
-    ) -> Result<Sharer<'s, 'p, 'k>, Refused<'k>>
+    pub fn first<'s, 'k>(&'s mut self, proc: Proc<'k>) -> Result<Sharer<'s, 'p, 'k>, Refused<'k>>
         ensures fault { IfErr result
             (ComesBack (WhyNotFirst self.old.turns proc.entry) proc.entry) }
         ensures first { IfOk result (IsFirstSharer self.old proc.entry) }
@@ -140,8 +137,8 @@ impl<'p> Shared<'p> {
 
 // Puts this where the end lies, and takes what lay there.
 fn swap<'p, R: Wait>(rt: &R, place: &Place<'p>, lying: Option<Lying<'p>>) -> Option<Lying<'p>>
-    requires { IfSome lying (λ lying. IsSameReadEnd place.now lying.end) }
-    ensures { IfSome result (λ lying. IsSameReadEnd place.now lying.end) }
+    requires { IfSome lying (λ lying. IsSameReadEnd place.now.value lying.end) }
+    ensures { IfSome result (λ lying. IsSameReadEnd place.now.value lying.end) }
 {
     'trying: for _ in rt.forever() {
         let (found, claim) = place.turn(FREE, TAKEN);
@@ -156,7 +153,7 @@ fn swap<'p, R: Wait>(rt: &R, place: &Place<'p>, lying: Option<Lying<'p>>) -> Opt
 
 // Takes the end up. Who has the turn finds it there.
 fn take_up<'p, R: Wait>(rt: &R, place: &Place<'p>) -> TakenUp<'p>
-    ensures { IsSameReadEnd place.now result.end }
+    ensures { IsSameReadEnd place.now.value result.end }
 {
     'looking: for _ in rt.forever() {
         if let Some(Lying { end }) = swap(rt, place, None) {
@@ -169,7 +166,7 @@ fn take_up<'p, R: Wait>(rt: &R, place: &Place<'p>) -> TakenUp<'p>
 
 // Lays the end down where it lay.
 fn lay_down<'p, R: Wait>(rt: &R, place: &Place<'p>, taken: TakenUp<'p>)
-    requires { IsSameReadEnd place.now taken.end }
+    requires { IsSameReadEnd place.now.value taken.end }
 {
     let TakenUp { end } = taken;
     swap(rt, place, Some(Lying { end }));
@@ -187,7 +184,7 @@ impl<'s, 'k> Holder<'s, 'k> {
         buffer: &mut [u8],
     ) -> Result<ReadAnswer, Fault>
         ensures same { IsSameHolder self.old self.new }
-        ensures reads { ReadsShared place.now self.old (buffers buffer.old buffer.new) result
+        ensures reads { ReadsShared place.now.value self.old (buffers buffer.old buffer.new) result
             self.new }
     {
         let mut taken = take_up(rt, place);
