@@ -1,4 +1,5 @@
 mod ReadingLemmas
+mod SharingLemmas
 mod WorkedHalls
 mod WorkedPools
 mod WorkedWatches
