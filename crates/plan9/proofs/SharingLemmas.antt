@@ -1,5 +1,5 @@
 -- What a read of a shared end is, in the words of the end that lay there.
-use Rattle.std.proofs.Common.{◌≡◌, ◌≢◌, ◌↔◌, List, [], Result, ◌∙◌, IsErrOf}
+use Rattle.std.proofs.Common.{◌≡◌, ◌≢◌, ◌↔◌, [], Result, Ok, Err, inr, ◌∙◌, IsErrOf}
 use Rattle.sync_base.specs.declared.fault.Fault.{Fault}
 use Rattle.sync_base.specs.declared.fault.Fault.TheVariants.{BadCount, NoRendez}
 use Rattle.sleep_wakeup.specs.Kernel.{Running}
@@ -9,7 +9,8 @@ use Rattle.pipe_dev.specs.Ends.{ReadSide, IsSameReadEnd}
 use Rattle.pipe_dev.specs.ReadCalls.{Reads, reader_of}
 use Rattle.pipe_dev.specs.Rendezes.{HasRow}
 use Rattle.plan9.specs.Pools.{Holding}
-use Rattle.plan9.specs.Sharings.{Buffers, ReadsShared}
+use Rattle.plan9.specs.declared.sharing.Sharer.{Sharer}
+use Rattle.plan9.specs.Sharings.{Buffers, HasTurn, ReadsInTurn, ReadsShared}
 
 -- what a read of an end tells
 pub record ReadOf (lay : ReadSide) (running : Running) (buffer : Buffers)
@@ -43,3 +44,9 @@ reads_shared end lay lies old new running buffer answer same runs seat read =
       reads = rw (← same.queue, ← same.row, ← runs) read.reads;
       seat_is = seat;
     }
+
+-- whatever it was answered, it had its turn
+pub has_turn : (old : Sharer) (buffer : Buffers) (answer : Result ReadAnswer Fault) (new : Sharer)
+    → HasTurn old buffer answer new → ReadsInTurn old buffer answer new
+has_turn old buffer (Ok answer) new turn = turn
+has_turn old buffer (Err why) new turn = inr turn
