@@ -1,12 +1,14 @@
--- What clauses see of a read end that several processes share, each of which reads in its turn. Own:
--- the turn is the unit of a semaphore, where Plan 9's pipes have a lock (qlock in lock(2)): a note ends the
--- wait for it.
+-- What clauses see of a read end that several processes share, each of which reads in its turn.
+-- Own: the turn is the unit of a semaphore, where Plan 9's pipes have a lock (qlock in lock(2)), so
+-- that a note ends the wait for it.
 use Rattle.std.specs.Prelude.{◌≡◌, ◌≢◌, ◌↔◌, ◌⊎◌, ⊤, ℕ, true, List, [], Result, Ok, Err, IsErrOf}
 use Rattle.sync_base.specs.declared.fault.Fault.{Fault}
 use Rattle.sync_base.specs.declared.fault.Fault.TheVariants.{BadCount, NoRendez}
-use Rattle.sleep_wakeup.specs.Kernel.{Running, Unused}
+use Rattle.sleep_wakeup.specs.Kernel.{Running, Unused, HasRendez, rendez_less}
 use Rattle.semaphore.specs.Acquiring.{Semacquires}
 use Rattle.semaphore.specs.Deeds.{Calls}
+use Rattle.semaphore.specs.Opening.{WhyNotOpened}
+use Rattle.semaphore.specs.Procs.{IsProcCount}
 use Rattle.semaphore.specs.Releasing.{Releases}
 use Rattle.block_queue.specs.Seats.{key_of}
 use Rattle.pipe_dev.specs.declared.answers.ReadAnswer.{ReadAnswer}
@@ -16,7 +18,7 @@ use Rattle.pipe_dev.specs.Rendezes.{HasRow}
 use Rattle.plan9.specs.declared.sharing.Shared.{Shared}
 use Rattle.plan9.specs.declared.sharing.Sharer.{Sharer}
 use Rattle.plan9.specs.declared.sharing.Unshared.{Unshared}
-use Rattle.plan9.specs.Pools.{Holding, IsNewPool, IsFirstHolder, IsSameHolder, IsSameParent}
+use Rattle.plan9.specs.Pools.{Holding, IsNewPool, IsFirstHolder, IsSameHolder}
 use Rattle.plan9.specs.Pools.{ForksHolder, got, holder, stands_holding}
 
 -- the end that is shared, as it was before
@@ -29,17 +31,21 @@ end_of sharer = sharer.place.now.value
 
 -- ---- who shares
 
--- a new pool of one unit, whose holder has the turn, and this end
-pub record IsNewShared (roster : Unused) (end : ReadSide) (procs : ℕ) (shared : Shared) :
-    Type 0 where
-  pub turns : IsNewPool roster 1 procs shared.turns
+-- a new pool of one unit, whose holder has the turn, and this end; so many Rendez are used up
+pub record IsNewShared (before : Unused) (end : ReadSide) (procs : ℕ) (shared : Shared)
+    (after : Unused) : Type 0 where
+  pub in_range : IsProcCount procs
+  pub room : HasRendez before procs
+  pub turns : IsNewPool before 1 procs shared.turns
   pub end_is : first_end shared ≡ end
+  pub roster : after ≡ rendez_less procs before
 
--- it was refused for such a reason, and the end comes back
-pub record EndComesBack (Why : Fault → Type 0) (end : ReadSide) (refused : Unshared) :
-    Type 0 where
-  pub why : Why refused.fault
+-- it was refused, as a semaphore of one unit is, and no Rendez is used up; the end comes back
+pub record IsNotShared (before : Unused) (end : ReadSide) (procs : ℕ) (refused : Unshared)
+    (after : Unused) : Type 0 where
+  pub why : WhyNotOpened before 1 procs refused.fault
   pub end_is : refused.end ≡ end
+  pub roster : after ≡ before
 
 -- the process is the first that has turns at the end
 pub record IsFirstSharer (shared : Shared) (running : Running) (sharer : Sharer) : Type 0 where
@@ -92,6 +98,7 @@ pub record ReadsShared (end : ReadSide) (old : Holding) (buffer : Buffers)
       → (IsErrOf answer NoRendez ↔ ¬ HasRow old.running.words end.row)
   pub reads : Reads (key_of end.queue) end.row (reader_of lay old.running) buffer.before answer
       (reader_of lies new.running) buffer.after
+  pub same : IsSameHolder old new
   pub seat_is : new.seat ≡ old.seat
 
 -- it got its turn, read, and gave the turn back

@@ -2,8 +2,9 @@
 //! what belongs together.
 //! Read the lists below from the top: what every call speaks of; a kernel and its processes, with
 //! `plan`; what comes back where a process is refused, with `refusals`, and children on threads,
-//! with `starting`; pipes, with `pipes` and `reading`; semaphores, with `pool` and `vacant`;
-//! timers, with `clock` and `ticker`; tag spaces, with `hall`; and what else a caller may prove.
+//! with `starting`; pipes, with `pipes`, `reading`, `sharing` and `streams`; semaphores, with
+//! `pool` and `vacant`; timers, with `clock` and `ticker`; tag spaces, with `hall`; and what else a
+//! caller may prove.
 #![tactic(auto)]
 
 pub mod clock;

@@ -72,14 +72,11 @@ impl<'p> From<Unshared<'p>> for Fault {
 }
 
 impl<'p> Shared<'p> {
-    ghost use Rattle.std.specs.Prelude.{◌≡◌, IfOk, IfErr, IfSome, OnOk, OnErr};
-    ghost use Rattle.sleep_wakeup.specs.Kernel.{HasRendez, rendez_less};
-    ghost use Rattle.semaphore.specs.Opening.{WhyNotOpened};
-    ghost use Rattle.semaphore.specs.Procs.{IsProcCount};
+    ghost use Rattle.std.specs.Prelude.{IfOk, IfErr, IfSome};
     ghost use Rattle.pipe_dev.specs.Ends.{IsSameReadEnd};
     ghost use Rattle.plan9.specs.Pools.{WhyNotFirst};
     ghost use Rattle.plan9.specs.Refusals.{ComesBack};
-    ghost use Rattle.plan9.specs.Sharings.{EndComesBack, IsFirstSharer, IsNewShared, first_end};
+    ghost use Rattle.plan9.specs.Sharings.{IsFirstSharer, IsNewShared, IsNotShared, first_end};
 
     /// Lets so many processes share a read end. It takes as many Rendez as there are processes.
     /// Refuses, in this order, as `NoProc` where the processes are not from 1 to 1,024, `NoRendez`
@@ -90,15 +87,13 @@ impl<'p> Shared<'p> {
         end: ReadEnd<'p>,
         procs: u64,
     ) -> Result<Shared<'p>, Unshared<'p>>
-        // Refused first, and then no Rendez is used up.
-        ensures in_range { OnOk result (IsProcCount procs) }
-        ensures room { OnOk result (HasRendez roster.old procs) }
-        ensures fault { IfErr result (EndComesBack (WhyNotOpened roster.old 1 procs) end.entry) }
-        ensures refused { OnErr result (roster.new ≡ roster.old) }
+        // Refused first, and then the end comes back.
+        ensures refused { IfErr result (λ refused.
+            IsNotShared roster.old end.entry procs refused roster.new) }
 
         // Otherwise the end lies there, and nobody has had a turn.
-        ensures opened { IfOk result (IsNewShared roster.old end.entry procs) }
-        ensures given { OnOk result (roster.new ≡ rendez_less procs roster.old) }
+        ensures opened { IfOk result (λ shared.
+            IsNewShared roster.old end.entry procs shared roster.new) }
     {
         match Pool::new(alloc, roster, 1, procs) {
             Ok(turns) => {
@@ -173,7 +168,6 @@ fn lay_down<'p, R: Wait>(rt: &R, place: &Place<'p>, taken: TakenUp<'p>)
 }
 
 impl<'s, 'k> Holder<'s, 'k> {
-    ghost use Rattle.plan9.specs.Pools.{IsSameHolder};
     ghost use Rattle.plan9.specs.Sharings.{ReadsShared, buffers};
 
     // Reads from the end that it has taken up, and lays it down.
@@ -183,8 +177,7 @@ impl<'s, 'k> Holder<'s, 'k> {
         place: &Place<'_>,
         buffer: &mut [u8],
     ) -> Result<ReadAnswer, Fault>
-        ensures same { IsSameHolder self.old self.new }
-        ensures reads { ReadsShared place.now.value self.old (buffers buffer.old buffer.new) result
+        ensures { ReadsShared place.now.value self.old (buffers buffer.old buffer.new) result
             self.new }
     {
         let mut taken = take_up(rt, place);

@@ -69,6 +69,9 @@ fn kind_of(fault: Fault) -> ErrorKind
 }
 
 impl<'r, 'p, 'k, R: Wait> Read for ReadStream<'r, 'p, 'k, R> {
+    ghost use Rattle.std.specs.Prelude.{None};
+    ghost use Rattle.std.specs.Io.{ReadsAtMost};
+    ghost use Rattle.std.specs.Io.KnownBytes.{ReadConsumes};
     ghost use Rattle.plan9.specs.Streams.{Streams, lent};
 
     /// Reads as `Reader::next_piece`, and answers no bytes at the end alone: empty writes are
@@ -100,6 +103,9 @@ impl<'r, 'p, 'k, R: Wait> Read for ReadStream<'r, 'p, 'k, R> {
 }
 
 impl<'r, 'p, 'k, R: Wait> Write for WriteStream<'r, 'p, 'k, R> {
+    ghost use Rattle.std.specs.Prelude.{None};
+    ghost use Rattle.std.specs.Io.{WritesAtMost};
+    ghost use Rattle.std.specs.Io.KnownBytes.{WriteAppends};
     ghost use Rattle.plan9.specs.Streams.{StreamsOut};
 
     /// Writes the first 65,536 bytes, or fewer where there are fewer, as one write, and answers how
@@ -107,6 +113,7 @@ impl<'r, 'p, 'k, R: Wait> Write for WriteStream<'r, 'p, 'k, R> {
     /// as `ReadStream` tells it.
     fn write(&mut self, buf: &[u8]) -> io::Result<usize>
         ensures bound { WritesAtMost result buf.now }
+        ensures bytes { WriteAppends None None result buf.now }
         ensures writes { StreamsOut self.old.writer buf.now result self.new.fault
             self.new.writer }
     {
