@@ -1,4 +1,6 @@
 mod ReadingLemmas
+mod SharingLemmas
+mod StreamLemmas
 mod WorkedHalls
 mod WorkedPools
 mod WorkedWatches

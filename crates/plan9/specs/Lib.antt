@@ -8,6 +8,8 @@ pub mod Vacancies
 pub mod Pools
 pub mod Pipes
 pub mod Readings
+pub mod Sharings
+pub mod Streams
 pub mod Watches
 pub mod Tickers
 pub mod Halls

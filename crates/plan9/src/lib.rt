@@ -2,8 +2,9 @@
 //! what belongs together.
 //! Read the lists below from the top: what every call speaks of; a kernel and its processes, with
 //! `plan`; what comes back where a process is refused, with `refusals`, and children on threads,
-//! with `starting`; pipes, with `pipes` and `reading`; semaphores, with `pool` and `vacant`;
-//! timers, with `clock` and `ticker`; tag spaces, with `hall`; and what else a caller may prove.
+//! with `starting`; pipes, with `pipes`, `reading`, `sharing` and `streams`; semaphores, with
+//! `pool` and `vacant`; timers, with `clock` and `ticker`; tag spaces, with `hall`; and what else a
+//! caller may prove.
 #![tactic(auto)]
 
 pub mod clock;
@@ -13,7 +14,9 @@ pub mod plan;
 pub mod pool;
 pub mod reading;
 pub mod refusals;
+pub mod sharing;
 pub mod starting;
+pub mod streams;
 pub mod ticker;
 pub mod vacant;
 
@@ -34,6 +37,8 @@ pub use crate::starting::{NotStarted, start_child};
 // Pipes, and processes that have an end of one.
 pub use crate::pipes::{Reader, Writer, fork_writers};
 pub use crate::reading::Short;
+pub use crate::sharing::{Shared, Sharer, Unshared};
+pub use crate::streams::{ReadStream, WriteStream};
 pub use pipe_dev::{
     End, Ends, Held, Long, Opened as OpenedPipe, Parts, Pipe, PipeStart, ReadAnswer, ReadEnd,
     StoredBlock, TryAnswer, Unfinished, WriteEnd, finish,

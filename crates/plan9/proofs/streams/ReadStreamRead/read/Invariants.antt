@@ -1,0 +1,10 @@
+-- some empty writes were passed
+use Rattle.plan9.specs.Streams.{lent}
+use Rattle.plan9.proofs.StreamLemmas.{Passed}
+use Rattle.plan9.proofs.streams.ReadStreamRead.read.Given as goal
+
+abbrev pub invariant-reading : goal.invariant-reading
+invariant-reading g l =
+    record {
+      so_far : Passed (lent l.initial.self.reader l.initial.buf) (lent l.self.reader l.buf);
+    }

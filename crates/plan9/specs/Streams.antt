@@ -1,0 +1,116 @@
+-- What std's `Read` and `Write` do of a reader and a writer. After std::io.
+use Rattle.std.specs.Prelude.{◌≡◌, ◌≢◌, ◌⊎◌, ⊤, ℕ, zero, suc, min, List, [], length, take}
+use Rattle.std.specs.Prelude.{Option, Some, None, Result, Ok, Err}
+use Rattle.std.specs.IoError.{error_kind}
+use Rattle.std.specs.declared.io.Error.{Error}
+use Rattle.std.specs.declared.io.ErrorKind.{ErrorKind}
+use Rattle.std.specs.declared.io.ErrorKind.TheVariants as kind
+use Rattle.sync_base.specs.declared.fault.Fault.{Fault}
+use Rattle.sync_base.specs.declared.fault.Fault.TheVariants as fault
+use Rattle.sync_base.specs.declared.limits.TheConstants.{ATOMIC_SIZE}
+use Rattle.block_queue.specs.Seats.{key_of}
+use Rattle.pipe_dev.specs.Ends.{IsSameWriteEnd}
+use Rattle.pipe_dev.specs.Rounds.{Rounds}
+use Rattle.pipe_dev.specs.WriteCalls.{Writes, writer_of}
+use Rattle.plan9.specs.declared.pipes.Reader.{Reader}
+use Rattle.plan9.specs.declared.pipes.Writer.{Writer}
+use Rattle.plan9.specs.Readings.{ReadsPiece}
+
+-- the kind of error that a fault is; notes are of no kind that std's calls pass over
+abbrev pub kind_of : Fault → ErrorKind
+kind_of fault.Memory = kind.OutOfMemory
+kind_of fault.Hungup = kind.BrokenPipe
+kind_of fault.DoubleSleep = kind.ResourceBusy
+kind_of other = kind.Other
+
+-- the error is of the kind of this fault, which is kept beside it
+pub record TellsOf (fault : Fault) (kept : Option Fault) (error : Error) : Type 0 where
+  pub kept_is : kept ≡ Some fault
+  pub kind_is : error_kind error ≡ kind_of fault
+
+-- ---- a read
+
+-- a reader, and the buffer that it fills
+pub record Lent : Type 0 where
+  pub reader : Reader
+  pub buffer : List ℕ
+
+abbrev pub lent : Reader → List ℕ → Lent
+lent reader buffer = record { reader = reader; buffer = buffer }
+
+-- one piece, or the end, or a fault
+abbrev pub Takes : Lent → Result (Option ℕ) Fault → Lent → Type 0
+Takes old answer new = ReadsPiece old.reader old.buffer answer new.reader new.buffer
+
+-- an empty write was read, which has no byte
+abbrev pub PassesEmpty : Lent → Lent → Type 0
+PassesEmpty old new = Takes old (Ok (Some 0)) new
+
+-- std says no bytes for the end
+abbrev pub piece_or_end : ℕ → Option ℕ
+piece_or_end zero = None
+piece_or_end (suc count) = Some (suc count)
+
+-- how a read of the stream ends, where this is the last fault
+abbrev pub EndsTaking : Lent → Result ℕ Error → Option Fault → Lent → Type 0
+EndsTaking old (Ok count) kept new = Takes old (Ok (piece_or_end count)) new
+EndsTaking old (Err error) kept new =
+    (why : Fault) × Takes old (Err why) new × TellsOf why kept error
+
+-- it passed the empty writes, and then it ended
+pub record TakesNext (old : Lent) (answer : Result ℕ Error) (kept : Option Fault) (new : Lent) :
+    Type 0 where
+  pub times : ℕ
+  pub before : Lent
+  pub passed : Rounds PassesEmpty times old before
+  pub ended : EndsTaking before answer kept new
+
+-- a buffer with no room has no bytes, and nothing is done
+pub record TakesNothing (old : Lent) (answer : Result ℕ Error) (new : Lent) : Type 0 where
+  pub no_room : old.buffer ≡ []
+  pub answer_is : answer ≡ Ok 0
+  pub same : new ≡ old
+
+-- what a read of the stream did, where this is the last fault then
+abbrev pub Streams : Lent → Result ℕ Error → Option Fault → Lent → Type 0
+Streams old answer kept new = TakesNothing old answer new ⊎ TakesNext old answer kept new
+
+-- ---- a write
+
+-- no bytes are no write
+pub record WritesNothing (old : Writer) (bytes : List ℕ) (answer : Result ℕ Error)
+    (new : Writer) : Type 0 where
+  pub no_bytes : bytes ≡ []
+  pub answer_is : answer ≡ Ok 0
+  pub same : new ≡ old
+
+-- the bytes of one write: those in front, up to the atomic size
+abbrev pub front_of : List ℕ → List ℕ
+front_of bytes = take (min (length bytes) ATOMIC_SIZE) bytes
+
+-- one write of these bytes, which was answered so
+abbrev pub WritesOnce : Writer → List ℕ → Result ℕ Fault → Writer → Type 0
+WritesOnce old bytes answer new =
+    Writes (key_of old.end.queue) old.end.row old.end.writer bytes
+    (writer_of old.end old.proc) answer (writer_of new.end new.proc)
+
+-- how that is told, where this is the last fault then: so many bytes, or an error
+abbrev pub EndsWriting :
+    Writer → List ℕ → Result ℕ Error → Option Fault → Writer → Type 0
+EndsWriting old bytes (Ok count) kept new =
+    (count ≡ length (front_of bytes))
+    × ((number : ℕ) × WritesOnce old (front_of bytes) (Ok number) new)
+EndsWriting old bytes (Err error) kept new =
+    (why : Fault) × WritesOnce old (front_of bytes) (Err why) new × TellsOf why kept error
+
+-- it is of the same end, and of the same kernel
+pub record IsSameWriter (old new : Writer) : Type 0 where
+  pub end_is : IsSameWriteEnd old.end new.end
+  pub words_are : new.proc.words ≡ old.proc.words
+
+-- what a write of the stream did
+abbrev pub StreamsOut :
+    Writer → List ℕ → Result ℕ Error → Option Fault → Writer → Type 0
+StreamsOut old bytes answer kept new =
+    IsSameWriter old new
+    × (WritesNothing old bytes answer new ⊎ EndsWriting old bytes answer kept new)

@@ -1,0 +1,252 @@
+//! A read end that several processes share: each reads in its turn, and a note ends its wait.
+ghost use Rattle.std.specs.Prelude.{◌≡◌, IfSome};
+ghost use Rattle.pipe_dev.specs.Ends.{IsSameReadEnd};
+
+use crate::pool::{Holder, Pool};
+use crate::refusals::Refused;
+use crate::vacant::NotHolder;
+use counted_slot::{Counted, FREE, Fits, TAKEN};
+use pipe_dev::{ReadAnswer, ReadEnd};
+use sleep_wakeup::{Proc, Roster};
+use std::alloc::Global;
+use std::snapshot::Snapshot;
+use std::sync::Wait;
+use std::thread::yield_now;
+use sync_base::{Fault, Pid};
+
+/// The end that lies between two turns.
+#[derive(Drop)]
+pub(crate) struct Lying<'p> {
+    end: ReadEnd<'p>,
+}
+
+impl<'p> Fits for Lying<'p> {
+    ghost use Rattle.pipe_dev.specs.Ends.{IsSameReadEnd};
+
+    type Tag = Snapshot<ReadEnd<'p>>;
+
+    ghost fits = { λ first lying. IsSameReadEnd first.value lying.end };
+}
+
+/// The end, for a turn. It can't be dropped: `lay_down` spends it, with whatever answer.
+#[must_use]
+struct TakenUp<'p> {
+    end: ReadEnd<'p>,
+}
+
+/// Where the end lies while nobody has the turn.
+type Place<'p> = Counted<Option<Lying<'p>>>;
+
+/// A read end that several processes share.
+#[derive(Drop)]
+pub struct Shared<'p> {
+    turns: Pool,
+    place: Place<'p>,
+}
+
+/// A process that reads from a shared read end in its turn. One thread has it at a time, and may
+/// hand it to another.
+#[derive(Drop)]
+pub struct Sharer<'s, 'p, 'k> {
+    holder: Holder<'s, 'k>,
+    place: &'s Place<'p>,
+}
+
+/// Why no read end is shared. The end comes back.
+#[derive(Drop)]
+pub struct Unshared<'p> {
+    pub end: ReadEnd<'p>,
+    pub fault: Fault,
+}
+
+impl<'p> From<Unshared<'p>> for Fault {
+    ghost use Rattle.std.specs.Prelude.{◌≡◌};
+
+    ghost from_gives = { λ refused fault. fault ≡ refused.fault };
+
+    /// The end is let go. Takes no memory and doesn't wait.
+    fn from(refused: Unshared<'p>) -> Fault {
+        let Unshared { end: _, fault } = refused;
+        fault
+    }
+}
+
+impl<'p> Shared<'p> {
+    ghost use Rattle.std.specs.Prelude.{IfOk, IfErr, IfSome};
+    ghost use Rattle.pipe_dev.specs.Ends.{IsSameReadEnd};
+    ghost use Rattle.plan9.specs.Pools.{WhyNotFirst};
+    ghost use Rattle.plan9.specs.Refusals.{ComesBack};
+    ghost use Rattle.plan9.specs.Sharings.{IsFirstSharer, IsNewShared, IsNotShared, first_end};
+
+    /// Lets so many processes share a read end. It takes as many Rendez as there are processes.
+    /// Refuses, in this order, as `NoProc` where the processes are not from 1 to 1,024, `NoRendez`
+    /// and `Memory`; the end comes back. Doesn't wait.
+    pub fn new(
+        alloc: Global,
+        roster: &mut Roster<'_>,
+        end: ReadEnd<'p>,
+        procs: u64,
+    ) -> Result<Shared<'p>, Unshared<'p>>
+        // Refused first, and then the end comes back.
+        ensures refused { IfErr result (λ refused.
+            IsNotShared roster.old end.entry procs refused roster.new) }
+
+        // Otherwise the end lies there, and nobody has had a turn.
+        ensures opened { IfOk result (λ shared.
+            IsNewShared roster.old end.entry procs shared roster.new) }
+    {
+        match Pool::new(alloc, roster, 1, procs) {
+            Ok(turns) => {
+                let first = Snapshot::of(&end);
+                let place = Counted::new(Some(Lying { end }), &first);
+                Ok(Shared { turns, place })
+            }
+            Err(fault) => Err(Unshared { end, fault }),
+        }
+    }
+
+    /// The first that has turns at the end. Refuses, in this order, as `NoRendez` a process of
+    /// another kernel, which has not all Rendez of the turns, and as `NoProc` where somebody was
+    /// the first before; the process comes back. Takes no memory and doesn't wait.
+    pub fn first<'s, 'k>(&'s mut self, proc: Proc<'k>) -> Result<Sharer<'s, 'p, 'k>, Refused<'k>>
+        ensures fault { IfErr result
+            (ComesBack (WhyNotFirst self.old.turns proc.entry) proc.entry) }
+        ensures first { IfOk result (IsFirstSharer self.old proc.entry) }
+    {
+        let Shared { turns, place } = self;
+        let holder = turns.first(proc)?;
+        Ok(Sharer { holder, place })
+    }
+
+    /// The end, which nobody shares any more. Takes no memory and doesn't wait.
+    pub fn into_end(self) -> Option<ReadEnd<'p>>
+        ensures { IfSome result (IsSameReadEnd (first_end self.entry)) }
+    {
+        let Shared { turns: _, place } = self;
+        match place.into_inner() {
+            Some(Lying { end }) => Some(end),
+            None => None,
+        }
+    }
+}
+
+// Puts this where the end lies, and takes what lay there.
+fn swap<'p, R: Wait>(rt: &R, place: &Place<'p>, lying: Option<Lying<'p>>) -> Option<Lying<'p>>
+    requires { IfSome lying (λ lying. IsSameReadEnd place.now.value lying.end) }
+    ensures { IfSome result (λ lying. IsSameReadEnd place.now.value lying.end) }
+{
+    'trying: for _ in rt.forever() {
+        let (found, claim) = place.turn(FREE, TAKEN);
+        if found == FREE {
+            return claim.put(lying, FREE);
+        }
+        claim.done();
+        yield_now();
+    }
+    unreachable!()
+}
+
+// Takes the end up. Who has the turn finds it there.
+fn take_up<'p, R: Wait>(rt: &R, place: &Place<'p>) -> TakenUp<'p>
+    ensures { IsSameReadEnd place.now.value result.end }
+{
+    'looking: for _ in rt.forever() {
+        if let Some(Lying { end }) = swap(rt, place, None) {
+            return TakenUp { end };
+        }
+        yield_now();
+    }
+    unreachable!()
+}
+
+// Lays the end down where it lay.
+fn lay_down<'p, R: Wait>(rt: &R, place: &Place<'p>, taken: TakenUp<'p>)
+    requires { IsSameReadEnd place.now.value taken.end }
+{
+    let TakenUp { end } = taken;
+    swap(rt, place, Some(Lying { end }));
+}
+
+impl<'s, 'k> Holder<'s, 'k> {
+    ghost use Rattle.plan9.specs.Sharings.{ReadsShared, buffers};
+
+    // Reads from the end that it has taken up, and lays it down.
+    fn read_shared<R: Wait>(
+        &mut self,
+        rt: &R,
+        place: &Place<'_>,
+        buffer: &mut [u8],
+    ) -> Result<ReadAnswer, Fault>
+        ensures { ReadsShared place.now.value self.old (buffers buffer.old buffer.new) result
+            self.new }
+    {
+        let mut taken = take_up(rt, place);
+        let answer = taken.end.read(rt, &mut self.proc, buffer);
+        lay_down(rt, place, taken);
+        answer
+    }
+}
+
+impl<'s, 'p, 'k> Sharer<'s, 'p, 'k> {
+    ghost use Rattle.std.specs.Prelude.{◌≡◌, IfOk, IfErr};
+    ghost use Rattle.plan9.specs.Pools.{IsSameParent, WhyNoFork, forking};
+    ghost use Rattle.plan9.specs.Sharings.{ForksSharer, IsSameSharer, ReadsInTurn, buffers, end_of};
+
+    /// Reads in its turn, which comes in the order of asking: as `Reader::read` from the end that
+    /// it finds, which then lies there for the next. It waits for its turn, and where nothing is
+    /// there to be read yet. Takes no memory.
+    ///
+    /// Refuses, in this order, as `Holder::acquire` does where it waits for its turn, and then as
+    /// `Reader::read` does: with any answer the end lies there again and the turn is given back.
+    /// So notes end either wait, as `Interrupted`. After qlock in lock(2), and read(2).
+    pub fn read<R: Wait>(&mut self, rt: &R, buffer: &mut [u8]) -> Result<ReadAnswer, Fault>
+        ensures same { IsSameSharer self.old self.new }
+        ensures turn { ReadsInTurn self.old (buffers buffer.old buffer.new) result self.new }
+    {
+        self.holder.acquire(rt)?;
+        let answer = self.holder.read_shared(rt, self.place, buffer);
+        let _sum = self.holder.release(rt, 1);
+        answer
+    }
+
+    /// A child of this process, in its note group, that has turns at the end as well.
+    /// Refuses as `Holder::fork` does. It waits for the semaphore's lock. Takes no memory.
+    pub fn fork<R: Wait>(
+        &mut self,
+        rt: &R,
+        roster: &mut Roster<'k>,
+    ) -> Result<Sharer<'s, 'p, 'k>, NotHolder<'s, 'k>>
+        ensures same { IsSameParent self.old.holder self.new.holder }
+        ensures end { end_of self.new ≡ end_of self.old }
+        ensures fault { IfErr result (λ refused.
+            WhyNoFork (forking roster.old self.old.holder) (forking roster.new self.new.holder)
+            refused.unseated refused.fault) }
+        ensures forked { IfOk result (λ child.
+            ForksSharer roster.old self.old self.new child roster.new) }
+    {
+        let holder = self.holder.fork(rt, roster)?;
+        Ok(Sharer {
+            holder,
+            place: self.place,
+        })
+    }
+
+    /// The pid of its process. Takes no memory and doesn't wait.
+    pub fn pid(&self) -> Pid
+        ensures { result.0 ≡ self.now.holder.running.process.pid }
+    {
+        self.holder.pid()
+    }
+
+    /// Its process. It has no turns any more, nor has another in its place. Takes no memory and
+    /// doesn't wait.
+    pub fn into_proc(self) -> Proc<'k>
+        ensures { result ≡ self.entry.holder.running }
+    {
+        let Sharer { holder, place: _ } = self;
+        holder.into_proc()
+    }
+}
+
+#[cfg(test)]
+mod tests;

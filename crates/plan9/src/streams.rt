@@ -1,0 +1,140 @@
+//! A reader and a writer as std's `Read` and `Write`, for code that knows no pipes.
+ghost use Rattle.std.specs.Prelude.{◌≡◌};
+ghost use Rattle.plan9.specs.Streams.{kind_of as kind};
+
+use crate::pipes::{Reader, Writer};
+use std::alloc::Global;
+use std::io::{self, ErrorKind, Read, Write};
+use std::sync::Wait;
+use sync_base::Fault;
+use sync_base::limits::ATOMIC_SIZE;
+
+/// A reader as std's `Read`, with what its waits ask for. Both may be taken out again.
+#[derive(Drop)]
+pub struct ReadStream<'r, 'p, 'k, R> {
+    pub rt: &'r R,
+    pub reader: Reader<'p, 'k>,
+    /// The fault of the last call that failed: an `io::Error` has no more than its kind.
+    pub fault: Option<Fault>,
+}
+
+/// A writer as std's `Write`, with what its calls ask for. All may be taken out again.
+#[derive(Drop)]
+pub struct WriteStream<'r, 'p, 'k, R> {
+    pub alloc: Global,
+    pub rt: &'r R,
+    pub writer: Writer<'p, 'k>,
+    /// The fault of the last call that failed: an `io::Error` has no more than its kind.
+    pub fault: Option<Fault>,
+}
+
+impl<'r, 'p, 'k, R> ReadStream<'r, 'p, 'k, R> {
+    /// A stream of this reader. Takes no memory and doesn't wait.
+    pub fn new(rt: &'r R, reader: Reader<'p, 'k>) -> ReadStream<'r, 'p, 'k, R>
+        ensures { result.reader ≡ reader.entry }
+    {
+        ReadStream {
+            rt,
+            reader,
+            fault: None,
+        }
+    }
+}
+
+impl<'r, 'p, 'k, R> WriteStream<'r, 'p, 'k, R> {
+    /// A stream of this writer. Takes no memory and doesn't wait.
+    pub fn new(alloc: Global, rt: &'r R, writer: Writer<'p, 'k>) -> WriteStream<'r, 'p, 'k, R>
+        ensures { result.writer ≡ writer.entry }
+    {
+        WriteStream {
+            alloc,
+            rt,
+            writer,
+            fault: None,
+        }
+    }
+}
+
+// The kind of error that a fault is. Notes are of the kind `Other`: std's calls pass over an
+// `Interrupted` and try again, and so the notes would be lost.
+fn kind_of(fault: Fault) -> ErrorKind
+    ensures { result ≡ kind fault }
+{
+    match fault {
+        Fault::Memory => ErrorKind::OutOfMemory,
+        Fault::Hungup => ErrorKind::BrokenPipe,
+        Fault::DoubleSleep => ErrorKind::ResourceBusy,
+        _ => ErrorKind::Other,
+    }
+}
+
+impl<'r, 'p, 'k, R: Wait> Read for ReadStream<'r, 'p, 'k, R> {
+    ghost use Rattle.std.specs.Prelude.{None};
+    ghost use Rattle.std.specs.Io.{ReadsAtMost};
+    ghost use Rattle.std.specs.Io.KnownBytes.{ReadConsumes};
+    ghost use Rattle.plan9.specs.Streams.{Streams, lent};
+
+    /// Reads as `Reader::next_piece`, and answers no bytes at the end alone: empty writes are
+    /// passed. A buffer of no bytes is given none, and nothing is read. It waits. Takes no memory.
+    /// A fault is in `fault`; the error is `OutOfMemory`, `BrokenPipe` for `Hungup`, `ResourceBusy`
+    /// for `DoubleSleep`, and else `Other`, also where notes ended the wait.
+    fn read(&mut self, buf: &mut [u8]) -> io::Result<usize>
+        ensures bound { ReadsAtMost result buf.new }
+        ensures bytes { ReadConsumes None None result buf.new }
+        ensures reads { Streams (lent self.old.reader buf.old) result self.new.fault
+            (lent self.new.reader buf.new) }
+    {
+        if buf.is_empty() {
+            return Ok(0);
+        }
+        'reading: for _ in self.rt.forever() {
+            match self.reader.next_piece(self.rt, buf) {
+                Ok(Some(0)) => {}
+                Ok(Some(count)) => return Ok(count),
+                Ok(None) => return Ok(0),
+                Err(fault) => {
+                    self.fault = Some(fault);
+                    return Err(io::Error::from(kind_of(fault)));
+                }
+            }
+        }
+        unreachable!()
+    }
+}
+
+impl<'r, 'p, 'k, R: Wait> Write for WriteStream<'r, 'p, 'k, R> {
+    ghost use Rattle.std.specs.Prelude.{None};
+    ghost use Rattle.std.specs.Io.{WritesAtMost};
+    ghost use Rattle.std.specs.Io.KnownBytes.{WriteAppends};
+    ghost use Rattle.plan9.specs.Streams.{StreamsOut};
+
+    /// Writes the first 65,536 bytes, or fewer where there are fewer, as one write, and answers how
+    /// many; no bytes are no write. It waits, and takes memory, as `Writer::write`. A fault is told
+    /// as `ReadStream` tells it.
+    fn write(&mut self, buf: &[u8]) -> io::Result<usize>
+        ensures bound { WritesAtMost result buf.now }
+        ensures bytes { WriteAppends None None result buf.now }
+        ensures writes { StreamsOut self.old.writer buf.now result self.new.fault
+            self.new.writer }
+    {
+        let count = buf.len().min(ATOMIC_SIZE as usize);
+        if count == 0 {
+            return Ok(0);
+        }
+        match self.writer.write(self.alloc, self.rt, &buf[..count]) {
+            Ok(_) => Ok(count),
+            Err(fault) => {
+                self.fault = Some(fault);
+                Err(io::Error::from(kind_of(fault)))
+            }
+        }
+    }
+
+    /// Nothing is held back. Takes no memory and doesn't wait.
+    fn flush(&mut self) -> io::Result<()> {
+        Ok(())
+    }
+}
+
+#[cfg(test)]
+mod tests;
