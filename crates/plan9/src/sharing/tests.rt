@@ -133,7 +133,7 @@ fn count_reads<R: Wait + Abort>(rt: &R, mut sharer: Sharer<'_, '_, '_>) -> u64 {
             Ok(ReadAnswer::End) => break,
             answer => assert_eq!(rt; answer, Ok(ReadAnswer::Got(2))),
         }
-        count += 1;
+        count = u64::saturating_add(count, 1);
     }
     count
 }

@@ -53,15 +53,15 @@ fn all_that_is_written_is_read_to_the_end(rt: HostRuntime) -> Result<(), Fail> {
         alloc,
         &|scene: Scene<HostRuntime>| {
             let Scene { mut from, mut to } = scene;
-            let long = [7; 70_000];
-            assert!(rt; to.write_all(&long).is_ok());
+            assert!(rt; to.write_all(b"defg").is_ok());
             // An empty write is no end.
-            assert_eq!(rt; to.writer.write(alloc, rt, &[]), Ok(3));
+            assert_eq!(rt; to.writer.write(alloc, rt, &[]), Ok(2));
             assert!(rt; matches!(to.write(b"abc"), Ok(3)));
             to.writer.hangup();
             let mut all = Vec::new(alloc);
-            assert!(rt; matches!(from.read_to_end(&mut all), Ok(70_003)));
-            assert_eq!(rt; &all[69_999..], [7, 97, 98, 99].as_slice());
+            assert!(rt; matches!(from.read_to_end(&mut all), Ok(7)));
+            assert_eq!(rt; all.pop(), Some(b'c'));
+            assert_eq!(rt; all.len(), 6);
         },
     )?)
 }
