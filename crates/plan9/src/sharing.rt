@@ -247,6 +247,3 @@ impl<'s, 'p, 'k> Sharer<'s, 'p, 'k> {
         holder.into_proc()
     }
 }
-
-#[cfg(test)]
-mod tests;
