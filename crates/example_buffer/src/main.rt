@@ -1,11 +1,8 @@
 //! A bounded buffer: a producer fills four places, and a consumer empties them, until ten ticks go
-//! by with no item. One semaphore counts the free places, and one the items. Read `beat` first.
+//! by with no item. One semaphore counts the free places, and one the items.
 #![tactic(auto)]
 
-mod beat;
-
-use crate::beat::Beat;
-use plan9::{Fault, Flags, Kernel, Note, NoteSet, OpenedKernel, Pool, Started, Ticker};
+use plan9::{Beat, Fault, Flags, Kernel, Note, NoteSet, OpenedKernel, Pool, Started, Ticker};
 use std::alloc::Global;
 use std::sync::Wait;
 use std::sync::atomic::{AtomicU64, Ordering};
@@ -34,7 +31,7 @@ fn run<R: Threads + Wait + Clock + Sync>(rt: &R, alloc: Global) -> Result<u64, F
                 filled.release(rt, 1)?;
             }
             let proc = free.into_proc();
-            Ok(Ticker { watch, proc }.run(rt, &mut Beat { rt, now: 0 }))
+            Ok(Ticker { watch, proc }.run(rt, &mut Beat::new(rt)))
         });
         let producing = producing.ok().ok_or(Fault::Device)?;
         let mut sum = 0u64;

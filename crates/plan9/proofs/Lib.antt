@@ -3,5 +3,7 @@ mod SharingLemmas
 mod StreamLemmas
 mod WorkedHalls
 mod WorkedPools
+mod WorkedSharings
+mod WorkedStreams
 mod WorkedWatches
 mod WorkedWriters

@@ -51,7 +51,7 @@ pub use semaphore::{OpenedSema, Sema, SemaSeat, Semacquired};
 
 // Timers, for waits that end, and seats that have them.
 pub use crate::clock::{Clock, Watch};
-pub use crate::ticker::{Ticker, Time};
+pub use crate::ticker::{Beat, Ticker, Time};
 pub use semaphore::{OpenedTimers, TimerSeat, Timers};
 
 // Tag spaces: rendezvous, rfork of them, and processes that are members of one.

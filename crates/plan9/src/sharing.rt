@@ -247,3 +247,6 @@ impl<'s, 'p, 'k> Sharer<'s, 'p, 'k> {
         holder.into_proc()
     }
 }
+
+#[cfg(test)]
+mod tests;

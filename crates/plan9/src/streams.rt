@@ -135,3 +135,6 @@ impl<'r, 'p, 'k, R: Wait> Write for WriteStream<'r, 'p, 'k, R> {
         Ok(())
     }
 }
+
+#[cfg(test)]
+mod tests;

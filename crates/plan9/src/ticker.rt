@@ -2,12 +2,56 @@
 use crate::clock::Watch;
 use sleep_wakeup::Proc;
 use std::sync::Wait;
+use std::thread::sleep;
+use std::time::{Clock, Duration, Instant};
 use sync_base::NoteSet;
 
 /// What tells a ticker when to tick.
 pub trait Time {
     /// Waits until the next moment to tick at, if it likes, and says which it is, in milliseconds.
     fn next(&mut self) -> u64;
+}
+
+/// Real time: a moment each millisecond, from 0 on where it was made.
+#[derive(Drop)]
+pub struct Beat<'r, R> {
+    rt: &'r R,
+    began: Option<Instant>,
+    now: u64,
+}
+
+impl<'r, R: Clock> Beat<'r, R> {
+    /// Begins at the moment 0, by the system's clock. Takes no memory and doesn't wait.
+    pub fn new(rt: &'r R) -> Beat<'r, R> {
+        Beat {
+            rt,
+            began: Instant::now(rt).ok(),
+            now: 0,
+        }
+    }
+
+    // The milliseconds since it began, where the clock can be read.
+    fn passed(&self) -> Option<u64> {
+        let passed = self.began?.elapsed(self.rt).ok()?;
+        u64::try_from(passed.as_millis()).ok()
+    }
+}
+
+impl<'r, R: Clock> Time for Beat<'r, R> {
+    ghost use Rattle.std.specs.Prelude.{◌≡◌, ◌≤◌};
+
+    /// Sleeps for a millisecond, and says how many have passed since it began, which are never
+    /// fewer than it said before. Where the clock can't be read it counts each as one. A note does
+    /// not end the sleep. Takes no memory.
+    fn next(&mut self) -> u64
+        ensures on { self.old.now ≤ self.new.now }
+        ensures moment { result ≡ self.new.now }
+    {
+        sleep(self.rt, Duration::from_millis(1));
+        let counted = self.now.saturating_add(1);
+        self.now = self.passed().unwrap_or(counted).max(self.now);
+        self.now
+    }
 }
 
 /// A process that tells a clock the time, by a seat at its timers: `Ticker { watch, proc }`.

@@ -2,8 +2,8 @@
 //! Rendez and no seat.
 use crate::{
     Clock, Ends, Fault, Flags, Hall, Holder, Kernel, Left, Note, NoteSet, OpenedKernel, OpenedPipe,
-    Parts, Pipe, Plan, Pool, Proc, ReadEnd, Reader, Roster, Started, Tag, TryAnswer, WriteEnd,
-    Writer, fork_writers,
+    Parts, Pipe, Plan, Pool, Proc, ReadEnd, Reader, Roster, Shared, Started, Tag, TryAnswer,
+    Unshared, WriteEnd, Writer, fork_writers,
 };
 use std::alloc::Global;
 use std::process::Abort;
@@ -261,4 +261,44 @@ fn build_a_plan(rt: &impl Abort, alloc: Global) -> Result<(), Fault> {
 #[test]
 fn a_plan_that_is_refused_memory_is_built_once_more(rt: HostRuntime) -> Result<(), Fail> {
     Ok(build_a_plan(&rt, rt.alloc())?)
+}
+
+// This end, shared by two. Where memory is refused the end comes back, and is shared then.
+fn shared_of<'p>(
+    rt: &impl Abort,
+    alloc: Global,
+    roster: &mut Roster<'_>,
+    end: ReadEnd<'p>,
+) -> Result<Shared<'p>, Fault> {
+    let left = roster.left();
+    match Shared::new(alloc, roster, end, 2) {
+        Ok(shared) => Ok(shared),
+        Err(Unshared { end, fault }) => {
+            assert_eq!(rt; fault, Fault::Memory);
+            assert_eq!(rt; roster.left(), left);
+            Ok(Shared::new(alloc, roster, end, 2)?)
+        }
+    }
+}
+
+fn share_an_end<R: Wait + Abort>(rt: &R, alloc: Global) -> Result<(), Fault> {
+    let OpenedKernel { kernel, start } = Kernel::new(alloc, 2, 6)?;
+    let Started { mut roster, proc } = kernel.start(start);
+    let OpenedPipe { pipe, start } = Pipe::new(alloc, &mut roster, 4, 1)?;
+    let ends: Ends<'_> = pipe.ends(start);
+    let near: Parts<'_> = ends.first.parts();
+    let mut shared = shared_of(rt, alloc, &mut roster, near.read)?;
+    assert_eq!(rt; roster.left(), Left { pids: 1, rendez: 0 });
+    let mut one = shared.first(proc)?;
+    let mut other = one.fork(rt, &mut roster)?;
+    // Each has its turn.
+    assert_eq!(rt; other.read(rt, &mut []), Err(Fault::BadCount));
+    assert_eq!(rt; one.read(rt, &mut []), Err(Fault::BadCount));
+    assert!(rt; shared.into_end().is_some());
+    Ok(())
+}
+
+#[test]
+fn an_end_that_is_refused_memory_is_shared_once_more(rt: HostRuntime) -> Result<(), Fail> {
+    Ok(share_an_end(&rt, rt.alloc())?)
 }

@@ -1,0 +1,43 @@
+-- What is no read and no write of a stream: each against one row of what the streams say.
+use Rattle.std.proofs.Common.{◌≡◌, ◌≢◌, ℕ, List, [], length, Option, Some, None, Result, Ok, Err}
+use Rattle.std.proofs.Common.{inl, inr}
+use Rattle.std.specs.declared.io.Error.{Error}
+use Rattle.std.specs.IoError.{error_kind}
+use Rattle.sync_base.specs.declared.fault.Fault.{Fault}
+use Rattle.plan9.specs.declared.pipes.Writer.{Writer}
+use Rattle.plan9.specs.Streams.{Lent, Streams, StreamsOut, Takes, TakesNext, TellsOf}
+use Rattle.plan9.specs.Streams.{WritesOnce, front_of, kind_of}
+
+module _ (why : Fault) (kept : Option Fault) (error : Error) where
+  -- the fault is not kept, or the error is of another kind
+  fault_is_lost : kept ≢ Some why → TellsOf why kept error → ⊥
+  fault_is_lost lost tells = lost tells.kept_is
+
+  error_of_another_kind : error_kind error ≢ kind_of why → TellsOf why kept error → ⊥
+  error_of_another_kind other tells = other tells.kind_is
+
+module _ (old new : Lent) (kept : Option Fault) where
+  -- no bytes are said where there is room, and nothing was read to the end
+  no_end_was_read : old.buffer ≢ [] → ((before : Lent) → Takes before (Ok None) new → ⊥)
+      → Streams old (Ok 0) kept new → ⊥
+  no_end_was_read room none (inl nothing) = room nothing.no_room
+  no_end_was_read room none (inr next) = none next.before next.ended
+
+  -- bytes are said where no piece of as many was read
+  bytes_of_no_piece : ((before : Lent) → Takes before (Ok (Some 3)) new → ⊥)
+      → TakesNext old (Ok 3) kept new → ⊥
+  bytes_of_no_piece none next = none next.before next.ended
+
+module _ (old new : Writer) (bytes : List ℕ) (kept : Option Fault) where
+  -- bytes are taken that were not written
+  more_than_is_written : bytes ≢ [] → 3 ≢ length (front_of bytes)
+      → StreamsOut old bytes (Ok 3) kept new → ⊥
+  more_than_is_written some other (same, inl nothing) = some nothing.no_bytes
+  more_than_is_written some other (same, inr (count, wrote)) = other count
+
+  -- they are said to be written, and no write was accepted
+  no_write_was_accepted : bytes ≢ []
+      → ((number : ℕ) → WritesOnce old (front_of bytes) (Ok number) new → ⊥)
+      → StreamsOut old bytes (Ok 3) kept new → ⊥
+  no_write_was_accepted some none (same, inl nothing) = some nothing.no_bytes
+  no_write_was_accepted some none (same, inr (count, (number, wrote))) = none number wrote

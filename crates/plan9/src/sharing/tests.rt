@@ -1,0 +1,132 @@
+//! Two that share a read end: who reads next, and what a note or a refusal leaves.
+use super::{Shared, Sharer};
+use crate::{Writer, fork_writers};
+use pipe_dev::{End, Opened, Parts, Pipe, ReadAnswer};
+use sleep_wakeup::{Kernel, Opened as OpenedKernel, Started};
+use std::alloc::Global;
+use std::process::Abort;
+use std::sync::Wait;
+use std::test::Fail;
+use std::thread::{Threads, join};
+use sync_base::{Fault, Note, NoteSet};
+
+// Two writes: whoever comes first reads the first.
+fn read_what_is_next<R: Wait + Abort>(
+    rt: &R,
+    alloc: Global,
+    one: &mut Sharer<'_, '_, '_>,
+    other: &mut Sharer<'_, '_, '_>,
+    writer: &mut Writer<'_, '_>,
+) {
+    assert_eq!(rt; writer.write(alloc, rt, b"ab"), Ok(1));
+    assert_eq!(rt; writer.write(alloc, rt, b"cde"), Ok(2));
+    let mut buffer = [0; 4];
+    assert_eq!(rt; other.read(rt, &mut buffer), Ok(ReadAnswer::Got(2)));
+    assert_eq!(rt; buffer, *b"ab\0\0");
+    assert_eq!(rt; one.read(rt, &mut buffer), Ok(ReadAnswer::Got(3)));
+    assert_eq!(rt; buffer, *b"cde\0");
+}
+
+// One has the turn, and a note ends the wait of the other for it.
+fn end_the_wait_for_a_turn<R: Wait + Abort>(
+    rt: &R,
+    one: &mut Sharer<'_, '_, '_>,
+    other: &mut Sharer<'_, '_, '_>,
+) {
+    let alarm = NoteSet::of(Note::Alarm);
+    assert_eq!(rt; one.holder.acquire(rt), Ok(()));
+    assert_eq!(rt; one.holder.postnote(other.pid(), alarm), Ok(()));
+    let read = other.read(rt, &mut [0; 4]);
+    assert_eq!(rt; read, Err(Fault::Interrupted(alarm)));
+    assert_eq!(rt; one.holder.release(rt, 1), Ok(1));
+}
+
+// Nothing is there to be read: a note ends the wait for it, and no buffer is refused. The end lies
+// there for the next.
+fn leave_the_end_to_the_next<R: Wait + Abort>(
+    rt: &R,
+    alloc: Global,
+    one: &mut Sharer<'_, '_, '_>,
+    other: &mut Sharer<'_, '_, '_>,
+    writer: &mut Writer<'_, '_>,
+) {
+    let alarm = NoteSet::of(Note::Alarm);
+    let mut buffer = [0; 4];
+    assert_eq!(rt; writer.proc.postnote(one.pid(), alarm), Ok(()));
+    assert_eq!(rt; one.read(rt, &mut buffer), Err(Fault::Interrupted(alarm)));
+    assert_eq!(rt; other.read(rt, &mut []), Err(Fault::BadCount));
+    assert_eq!(rt; writer.write(alloc, rt, b"abcde"), Ok(3));
+    assert_eq!(rt; one.read(rt, &mut buffer), Ok(ReadAnswer::Got(4)));
+    assert_eq!(rt; other.read(rt, &mut buffer), Ok(ReadAnswer::Got(1)));
+}
+
+// Reads to the end, and counts what comes: each read is one whole write of two bytes.
+fn count_reads<R: Wait + Abort>(rt: &R, mut sharer: Sharer<'_, '_, '_>) -> u64 {
+    let mut buffer = [0; 4];
+    let mut count = 0u64;
+    for _ in rt.forever() {
+        match sharer.read(rt, &mut buffer) {
+            Ok(ReadAnswer::End) => break,
+            answer => assert_eq!(rt; answer, Ok(ReadAnswer::Got(2))),
+        }
+        count = count.saturating_add(1);
+    }
+    count
+}
+
+// Writes a hundred pairs of bytes, and hangs up.
+fn write_pairs<R: Wait + Abort>(rt: &R, alloc: Global, mut writer: Writer<'_, '_>) {
+    for _ in 0..100 {
+        assert!(rt; writer.write(alloc, rt, b"ab").is_ok());
+    }
+    writer.hangup();
+}
+
+// Both read while the writer writes: no write is torn, and none is lost.
+fn read_in_turn<'s, 'p, 'k, R: Threads + Wait + Abort + Sync>(
+    rt: &R,
+    alloc: Global,
+    one: Sharer<'s, 'p, 'k>,
+    other: Sharer<'s, 'p, 'k>,
+    writer: Writer<'p, 'k>,
+) -> Option<u64> {
+    let (first, (second, ())) = join(
+        rt,
+        || count_reads(rt, one),
+        || join(
+            rt,
+            || count_reads(rt, other),
+            || write_pairs(rt, alloc, writer),
+        ),
+    );
+    first.checked_add(second)
+}
+
+// Two share an end in turn, until it is one's own again.
+fn share_in_turn<R: Threads + Wait + Abort + Sync>(rt: &R, alloc: Global) -> Result<(), Fault> {
+    let OpenedKernel { kernel, start } = Kernel::new(alloc, 3, 8)?;
+    let Started {
+        mut roster,
+        mut proc,
+    } = kernel.start(start);
+    let Opened { pipe, start } = Pipe::new(alloc, &mut roster, 4, 1)?;
+    let ends = pipe.ends(start);
+    let near: End<'_> = ends.first;
+    let far: Parts<'_> = ends.second.parts();
+    let mut writers = fork_writers(alloc, &mut roster, &mut proc, near.parts().writes)?;
+    let mut shared = Shared::new(alloc, &mut roster, far.read, 2)?;
+    let mut writer = writers.pop().ok_or(Fault::NoProc)?;
+    let mut one = shared.first(proc)?;
+    let mut other = one.fork(rt, &mut roster)?;
+    read_what_is_next(rt, alloc, &mut one, &mut other, &mut writer);
+    end_the_wait_for_a_turn(rt, &mut one, &mut other);
+    leave_the_end_to_the_next(rt, alloc, &mut one, &mut other, &mut writer);
+    assert_eq!(rt; read_in_turn(rt, alloc, one, other, writer), Some(100));
+    assert!(rt; shared.into_end().is_some());
+    Ok(())
+}
+
+#[test]
+fn two_read_in_turn_and_tear_no_write(rt: HostRuntime) -> Result<(), Fail> {
+    Ok(share_in_turn(&rt, rt.alloc())?)
+}
