@@ -1,4 +1,5 @@
 mod ReadingLemmas
+pub mod Sending
 mod SharingLemmas
 mod StreamLemmas
 mod WorkedHalls

@@ -2,7 +2,7 @@
 use super::{Shared, Sharer};
 use crate::{Writer, fork_writers};
 use pipe_dev::{End, Opened, Parts, Pipe, ReadAnswer};
-use sleep_wakeup::{Kernel, Opened as OpenedKernel, Started};
+use sleep_wakeup::{Kernel, Opened as OpenedKernel, Proc, Roster, Started};
 use std::alloc::Global;
 use std::process::Abort;
 use std::sync::Wait;
@@ -83,12 +83,12 @@ fn write_pairs<R: Wait + Abort>(rt: &R, alloc: Global, mut writer: Writer<'_, '_
 }
 
 // Both read while the writer writes: no write is torn, and none is lost.
-fn read_in_turn<'s, 'p, 'k, R: Threads + Wait + Abort + Sync>(
+fn read_in_turn<R: Threads + Wait + Abort + Sync>(
     rt: &R,
     alloc: Global,
-    one: Sharer<'s, 'p, 'k>,
-    other: Sharer<'s, 'p, 'k>,
-    writer: Writer<'p, 'k>,
+    one: Sharer<'_, '_, '_>,
+    other: Sharer<'_, '_, '_>,
+    writer: Writer<'_, '_>,
 ) -> Option<u64> {
     let (first, (second, ())) = join(
         rt,
@@ -100,6 +100,24 @@ fn read_in_turn<'s, 'p, 'k, R: Threads + Wait + Abort + Sync>(
         ),
     );
     first.checked_add(second)
+}
+
+// Two take turns.
+fn take_turns<'k, R: Threads + Wait + Abort + Sync>(
+    rt: &R,
+    alloc: Global,
+    shared: &mut Shared<'_>,
+    roster: &mut Roster<'k>,
+    proc: Proc<'k>,
+    mut writer: Writer<'_, '_>,
+) -> Result<(), Fault> {
+    let mut one = shared.first(proc)?;
+    let mut other = one.fork(rt, roster)?;
+    read_what_is_next(rt, alloc, &mut one, &mut other, &mut writer);
+    end_the_wait_for_a_turn(rt, &mut one, &mut other);
+    leave_the_end_to_the_next(rt, alloc, &mut one, &mut other, &mut writer);
+    assert_eq!(rt; read_in_turn(rt, alloc, one, other, writer), Some(100));
+    Ok(())
 }
 
 // Two share an end in turn, until it is one's own again.
@@ -115,13 +133,8 @@ fn share_in_turn<R: Threads + Wait + Abort + Sync>(rt: &R, alloc: Global) -> Res
     let far: Parts<'_> = ends.second.parts();
     let mut writers = fork_writers(alloc, &mut roster, &mut proc, near.parts().writes)?;
     let mut shared = Shared::new(alloc, &mut roster, far.read, 2)?;
-    let mut writer = writers.pop().ok_or(Fault::NoProc)?;
-    let mut one = shared.first(proc)?;
-    let mut other = one.fork(rt, &mut roster)?;
-    read_what_is_next(rt, alloc, &mut one, &mut other, &mut writer);
-    end_the_wait_for_a_turn(rt, &mut one, &mut other);
-    leave_the_end_to_the_next(rt, alloc, &mut one, &mut other, &mut writer);
-    assert_eq!(rt; read_in_turn(rt, alloc, one, other, writer), Some(100));
+    let writer = writers.pop().ok_or(Fault::NoProc)?;
+    take_turns(rt, alloc, &mut shared, &mut roster, proc, writer)?;
     assert!(rt; shared.into_end().is_some());
     Ok(())
 }

@@ -281,6 +281,20 @@ fn shared_of<'p>(
     }
 }
 
+// This process has its turn, and a child of it.
+fn each_has_its_turn<'k, R: Wait + Abort>(
+    rt: &R,
+    shared: &mut Shared<'_>,
+    roster: &mut Roster<'k>,
+    proc: Proc<'k>,
+) -> Result<(), Fault> {
+    let mut one = shared.first(proc)?;
+    let mut other = one.fork(rt, roster)?;
+    assert_eq!(rt; other.read(rt, &mut []), Err(Fault::BadCount));
+    assert_eq!(rt; one.read(rt, &mut []), Err(Fault::BadCount));
+    Ok(())
+}
+
 fn share_an_end<R: Wait + Abort>(rt: &R, alloc: Global) -> Result<(), Fault> {
     let OpenedKernel { kernel, start } = Kernel::new(alloc, 2, 6)?;
     let Started { mut roster, proc } = kernel.start(start);
@@ -289,11 +303,7 @@ fn share_an_end<R: Wait + Abort>(rt: &R, alloc: Global) -> Result<(), Fault> {
     let near: Parts<'_> = ends.first.parts();
     let mut shared = shared_of(rt, alloc, &mut roster, near.read)?;
     assert_eq!(rt; roster.left(), Left { pids: 1, rendez: 0 });
-    let mut one = shared.first(proc)?;
-    let mut other = one.fork(rt, &mut roster)?;
-    // Each has its turn.
-    assert_eq!(rt; other.read(rt, &mut []), Err(Fault::BadCount));
-    assert_eq!(rt; one.read(rt, &mut []), Err(Fault::BadCount));
+    each_has_its_turn(rt, &mut shared, &mut roster, proc)?;
     assert!(rt; shared.into_end().is_some());
     Ok(())
 }
