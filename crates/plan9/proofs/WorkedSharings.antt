@@ -1,6 +1,6 @@
 -- What is no shared end, nobody who shares one and no turn: each against one row of what the calls
 -- of a shared end say.
-use Rattle.std.proofs.Common.{◌≡◌, ◌≢◌, ℕ, List, [], Result, Ok, Err, inl, inr}
+use Rattle.std.proofs.Common.{◌≡◌, ◌≢◌, ℕ, List, [], Result, Ok, Err, IfErr, inl, inr, subst}
 use Rattle.sync_base.specs.declared.fault.Fault.{Fault}
 use Rattle.sync_base.specs.declared.fault.Fault.TheVariants as fault
 use Rattle.sleep_wakeup.specs.Kernel.{Running, Unused, HasRendez, rendez_less}
@@ -112,7 +112,8 @@ module _ (end : ReadSide) (old new : Holding) (buffer : Buffers) where
 
   -- a read of a buffer with no bytes is not refused
   no_bytes_are_read : buffer.before ≡ [] → ReadsShared end old buffer (Ok (read.Got 3)) new → ⊥
-  no_bytes_are_read none reads = reads.bad_count.1 none
+  no_bytes_are_read none reads =
+    subst (λ (answer : Result ReadAnswer Fault). IfErr answer (λ why. ⊥)) (reads.bad_count.1 none) tt
 
   -- a read takes units with it
   read_takes_units : new.seat ≢ old.seat → ReadsShared end old buffer (Ok (read.Got 3)) new → ⊥

@@ -7,7 +7,6 @@ use std::alloc::Global;
 use std::process::Abort;
 use std::sync::Wait;
 use std::test::Fail;
-use std::thread::{Threads, join};
 use sync_base::{Fault, Note, NoteSet};
 
 // Two writes: whoever comes first reads the first.
@@ -60,50 +59,20 @@ fn leave_the_end_to_the_next<R: Wait + Abort>(
     assert_eq!(rt; other.read(rt, &mut buffer), Ok(ReadAnswer::Got(1)));
 }
 
-// Reads to the end, and counts what comes: each read is one whole write of two bytes.
-fn count_reads<R: Wait + Abort>(rt: &R, mut sharer: Sharer<'_, '_, '_>) -> u64 {
-    let mut buffer = [0; 4];
-    let mut count = 0u64;
-    for _ in rt.forever() {
-        match sharer.read(rt, &mut buffer) {
-            Ok(ReadAnswer::End) => break,
-            answer => assert_eq!(rt; answer, Ok(ReadAnswer::Got(2))),
-        }
-        count = count.saturating_add(1);
-    }
-    count
-}
-
-// Writes a hundred pairs of bytes, and hangs up.
-fn write_pairs<R: Wait + Abort>(rt: &R, alloc: Global, mut writer: Writer<'_, '_>) {
-    for _ in 0..100 {
-        assert!(rt; writer.write(alloc, rt, b"ab").is_ok());
-    }
-    writer.hangup();
-}
-
-// Both read while the writer writes: no write is torn, and none is lost.
-fn read_in_turn<R: Threads + Wait + Abort + Sync>(
+// To both the end is the end.
+fn read_the_end<R: Wait + Abort>(
     rt: &R,
-    alloc: Global,
-    one: Sharer<'_, '_, '_>,
-    other: Sharer<'_, '_, '_>,
-    writer: Writer<'_, '_>,
-) -> Option<u64> {
-    let (first, (second, ())) = join(
-        rt,
-        || count_reads(rt, one),
-        || join(
-            rt,
-            || count_reads(rt, other),
-            || write_pairs(rt, alloc, writer),
-        ),
-    );
-    first.checked_add(second)
+    one: &mut Sharer<'_, '_, '_>,
+    other: &mut Sharer<'_, '_, '_>,
+    writer: &mut Writer<'_, '_>,
+) {
+    writer.hangup();
+    assert_eq!(rt; other.read(rt, &mut [0; 4]), Ok(ReadAnswer::End));
+    assert_eq!(rt; one.read(rt, &mut [0; 4]), Ok(ReadAnswer::End));
 }
 
 // Two take turns.
-fn take_turns<'k, R: Threads + Wait + Abort + Sync>(
+fn take_turns<'k, R: Wait + Abort>(
     rt: &R,
     alloc: Global,
     shared: &mut Shared<'_>,
@@ -116,12 +85,12 @@ fn take_turns<'k, R: Threads + Wait + Abort + Sync>(
     read_what_is_next(rt, alloc, &mut one, &mut other, &mut writer);
     end_the_wait_for_a_turn(rt, &mut one, &mut other);
     leave_the_end_to_the_next(rt, alloc, &mut one, &mut other, &mut writer);
-    assert_eq!(rt; read_in_turn(rt, alloc, one, other, writer), Some(100));
+    read_the_end(rt, &mut one, &mut other, &mut writer);
     Ok(())
 }
 
 // Two share an end in turn, until it is one's own again.
-fn share_in_turn<R: Threads + Wait + Abort + Sync>(rt: &R, alloc: Global) -> Result<(), Fault> {
+fn share_in_turn<R: Wait + Abort>(rt: &R, alloc: Global) -> Result<(), Fault> {
     let OpenedKernel { kernel, start } = Kernel::new(alloc, 3, 8)?;
     let Started {
         mut roster,
@@ -140,6 +109,6 @@ fn share_in_turn<R: Threads + Wait + Abort + Sync>(rt: &R, alloc: Global) -> Res
 }
 
 #[test]
-fn two_read_in_turn_and_tear_no_write(rt: HostRuntime) -> Result<(), Fail> {
+fn two_read_in_turn(rt: HostRuntime) -> Result<(), Fail> {
     Ok(share_in_turn(&rt, rt.alloc())?)
 }
