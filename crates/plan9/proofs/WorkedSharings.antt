@@ -102,18 +102,19 @@ module _ (old new : Sharer) (before after : List ℕ) where
 
 module _ (end : ReadSide) (old new : Holding) (buffer : Buffers) where
   -- an end of another pipe lay there, or lies there then
-  end_of_another_pipe_lay_there : (answer : Result ReadAnswer Fault) → ((lay : ReadSide) → lay.queue ≢ end.queue)
-      → ReadsShared end old buffer answer new → ⊥
+  end_of_another_pipe_lay_there : (answer : Result ReadAnswer Fault)
+      → ((lay : ReadSide) → lay.queue ≢ end.queue) → ReadsShared end old buffer answer new → ⊥
   end_of_another_pipe_lay_there answer other reads = other reads.lay reads.lay_is.queue
 
-  end_of_another_pipe_lies_there : (answer : Result ReadAnswer Fault) → ((lies : ReadSide) → lies.row ≢ end.row)
-      → ReadsShared end old buffer answer new → ⊥
+  end_of_another_pipe_lies_there : (answer : Result ReadAnswer Fault)
+      → ((lies : ReadSide) → lies.row ≢ end.row) → ReadsShared end old buffer answer new → ⊥
   end_of_another_pipe_lies_there answer other reads = other reads.lies reads.lies_is.row
 
   -- a read of a buffer with no bytes is not refused
   no_bytes_are_read : buffer.before ≡ [] → ReadsShared end old buffer (Ok (read.Got 3)) new → ⊥
   no_bytes_are_read none reads =
-    subst (λ (answer : Result ReadAnswer Fault). IfErr answer (λ why. ⊥)) (reads.bad_count.1 none) tt
+    subst (λ (answer : Result ReadAnswer Fault). IfErr answer (λ why. ⊥))
+      (reads.bad_count.1 none) tt
 
   -- a read takes units with it
   read_takes_units : new.seat ≢ old.seat → ReadsShared end old buffer (Ok (read.Got 3)) new → ⊥

@@ -1,12 +1,14 @@
+-- each run has its child, which may go to another thread
 use Rattle.std.proofs.Common.{rules}
 use Rattle.plan9.proofs.Sending.{child_crosses}
 use Rattle.plan9.proofs.tests.calls.fn.start_two.scope.Goals as goal
 
--- each run has its child, which may go to another thread
 pub start_child-first-requires : goal.start_child-first-requires
 start_child-first-requires g c κs =
-    (search child_crosses depth 20, (search child_crosses depth 20, (search rules, (search rules, search rules))))
+    (search child_crosses depth 20,
+    (search child_crosses depth 20, (search rules, (search rules, search rules))))
 
 pub start_child-second-requires : goal.start_child-second-requires
 start_child-second-requires g c κs =
-    (search child_crosses depth 20, (search child_crosses depth 20, (search rules, (search rules, search rules))))
+    (search child_crosses depth 20,
+    (search child_crosses depth 20, (search rules, (search rules, search rules))))
