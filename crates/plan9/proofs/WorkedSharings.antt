@@ -113,7 +113,7 @@ module _ (end : ReadSide) (old new : Holding) (buffer : Buffers) where
   -- a read of a buffer with no bytes is not refused
   no_bytes_are_read : buffer.before ≡ [] → ReadsShared end old buffer (Ok (read.Got 3)) new → ⊥
   no_bytes_are_read none reads =
-    subst (λ (answer : Result ReadAnswer Fault). IfErr answer (λ why. ⊥))
+      subst (λ (answer : Result ReadAnswer Fault). IfErr answer (λ why. ⊥))
       (reads.bad_count.1 none) tt
 
   -- a read takes units with it
