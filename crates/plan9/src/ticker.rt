@@ -38,18 +38,18 @@ impl<'r, R: Clock> Beat<'r, R> {
 }
 
 impl<'r, R: Clock> Time for Beat<'r, R> {
-    ghost use Rattle.std.specs.Prelude.{◌≡◌, ◌≤◌};
+    ghost use Rattle.std.specs.Prelude.{◌≡◌, ◌+◌, ◌<◌, ◌^◌};
 
-    /// Sleeps for a millisecond, and says how many have passed since it began, which are never
-    /// fewer than it said before. Where the clock can't be read it counts each as one. A note does
-    /// not end the sleep. Takes no memory.
+    /// Sleeps for a millisecond, and says how many have passed since it began: more than it said
+    /// before, up to the last number. Where the clock can't be read it counts each as one. A note
+    /// does not end the sleep. Takes no memory.
     fn next(&mut self) -> u64
-        ensures on { self.old.now ≤ self.new.now }
+        ensures on { self.old.now + 1 < 2 ^ 64 → self.old.now < self.new.now }
         ensures moment { result ≡ self.new.now }
     {
         sleep(self.rt, Duration::from_millis(1));
         let counted = self.now.saturating_add(1);
-        self.now = self.passed().unwrap_or(counted).max(self.now);
+        self.now = self.passed().unwrap_or(counted).max(counted);
         self.now
     }
 }
