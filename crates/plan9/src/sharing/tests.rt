@@ -1,4 +1,5 @@
-//! Two that share a read end: who reads next, and what a note or a refusal leaves.
+//! Two that share a read end: who reads next, what a note or a refusal leaves, and that no write is
+//! torn or lost where they read on threads of their own.
 use super::{Shared, Sharer};
 use crate::{Writer, fork_writers};
 use pipe_dev::{End, Opened, Parts, Pipe, ReadAnswer};
@@ -7,6 +8,7 @@ use std::alloc::Global;
 use std::process::Abort;
 use std::sync::Wait;
 use std::test::Fail;
+use std::thread::{Threads, join};
 use sync_base::{Fault, Note, NoteSet};
 
 // Two writes: whoever comes first reads the first.
@@ -59,38 +61,74 @@ fn leave_the_end_to_the_next<R: Wait + Abort>(
     assert_eq!(rt; other.read(rt, &mut buffer), Ok(ReadAnswer::Got(1)));
 }
 
-// To both the end is the end.
-fn read_the_end<R: Wait + Abort>(
-    rt: &R,
-    one: &mut Sharer<'_, '_, '_>,
-    other: &mut Sharer<'_, '_, '_>,
-    writer: &mut Writer<'_, '_>,
-) {
-    writer.hangup();
-    assert_eq!(rt; other.read(rt, &mut [0; 4]), Ok(ReadAnswer::End));
-    assert_eq!(rt; one.read(rt, &mut [0; 4]), Ok(ReadAnswer::End));
+// Reads to the end, and counts what comes: each read is one whole write of two bytes.
+fn count_reads<R: Wait + Abort>(rt: &R, mut sharer: Sharer<'_, '_, '_>) -> u64 {
+    let mut buffer = [0; 4];
+    let mut count = 0u64;
+    for _ in rt.forever() {
+        match sharer.read(rt, &mut buffer) {
+            Ok(ReadAnswer::End) => break,
+            answer => assert_eq!(rt; answer, Ok(ReadAnswer::Got(2))),
+        }
+        count = count.saturating_add(1);
+    }
+    count
 }
 
-// Two take turns.
-fn take_turns<'k, R: Wait + Abort>(
+// Each reads on a thread of its own, until both have come to the end.
+fn read_at_once<'s, 'p, 'k, R: Threads + Wait + Abort + Sync>(
+    rt: &R,
+    one: Sharer<'s, 'p, 'k>,
+    other: Sharer<'s, 'p, 'k>,
+) -> u64 {
+    let (first, second) = join(rt, || count_reads(rt, one), || count_reads(rt, other));
+    first.saturating_add(second)
+}
+
+// Writes a hundred pairs of bytes, and hangs up.
+fn write_pairs<R: Wait + Abort>(rt: &R, alloc: Global, mut writer: Writer<'_, '_>) {
+    for _ in 0..100 {
+        assert!(rt; writer.write(alloc, rt, b"ab").is_ok());
+    }
+    writer.hangup();
+}
+
+// Both read while a third writes: no write is torn, and none is lost.
+fn read_while_one_writes<'s, 'p, 'k, R: Threads + Wait + Abort + Sync>(
     rt: &R,
     alloc: Global,
-    shared: &mut Shared<'_>,
+    one: Sharer<'s, 'p, 'k>,
+    other: Sharer<'s, 'p, 'k>,
+    writer: Writer<'p, 'k>,
+) {
+    let (count, ()) = join(
+        rt,
+        || read_at_once(rt, one, other),
+        || write_pairs(rt, alloc, writer),
+    );
+    assert_eq!(rt; count, 100);
+}
+
+// Two take turns, on this thread and then on two.
+fn take_turns<'p, 'k, R: Threads + Wait + Abort + Sync>(
+    rt: &R,
+    alloc: Global,
+    shared: &mut Shared<'p>,
     roster: &mut Roster<'k>,
     proc: Proc<'k>,
-    mut writer: Writer<'_, '_>,
+    mut writer: Writer<'p, 'k>,
 ) -> Result<(), Fault> {
     let mut one = shared.first(proc)?;
     let mut other = one.fork(rt, roster)?;
     read_what_is_next(rt, alloc, &mut one, &mut other, &mut writer);
     end_the_wait_for_a_turn(rt, &mut one, &mut other);
     leave_the_end_to_the_next(rt, alloc, &mut one, &mut other, &mut writer);
-    read_the_end(rt, &mut one, &mut other, &mut writer);
+    read_while_one_writes(rt, alloc, one, other, writer);
     Ok(())
 }
 
 // Two share an end in turn, until it is one's own again.
-fn share_in_turn<R: Wait + Abort>(rt: &R, alloc: Global) -> Result<(), Fault> {
+fn share_in_turn<R: Threads + Wait + Abort + Sync>(rt: &R, alloc: Global) -> Result<(), Fault> {
     let OpenedKernel { kernel, start } = Kernel::new(alloc, 3, 8)?;
     let Started {
         mut roster,
@@ -109,6 +147,6 @@ fn share_in_turn<R: Wait + Abort>(rt: &R, alloc: Global) -> Result<(), Fault> {
 }
 
 #[test]
-fn two_read_in_turn(rt: HostRuntime) -> Result<(), Fail> {
+fn two_read_in_turn_and_tear_no_write(rt: HostRuntime) -> Result<(), Fail> {
     Ok(share_in_turn(&rt, rt.alloc())?)
 }
