@@ -18,3 +18,4 @@ mod ToldLemmas
 mod WorkedDevices
 mod WorkedSchedules
 mod WorkedScripts
+mod WorkedTold

@@ -18,6 +18,7 @@ pub mod SizeLemmas
 pub mod CoreRuns
 pub mod TakesKept
 pub mod NoLostWakeup
+mod WorkedLimits
 mod WorkedRuns
 pub mod PlacesKept
 pub mod WhereaboutsLemmas

@@ -1,4 +1,5 @@
 mod PlainPipeLemmas
 mod StreamLawLemmas
 mod StreamLemmas
+mod WorkedPipes
 mod WorkedStreams
