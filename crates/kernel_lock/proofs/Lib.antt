@@ -13,3 +13,4 @@ pub mod SlotLemmas
 pub mod SplitLemmas
 pub mod WatchKeeps
 pub mod WorkedLocks
+mod WorkedSeats

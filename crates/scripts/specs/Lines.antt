@@ -96,7 +96,6 @@ pub record LeadingDigits (text : List ℕ) (number count : ℕ) : Type 0 where
   pub within : count ≤ length text
   pub digits : list_all is_ascii_digit (take count text) ≡ true
   pub value : number ≡ decimal_value (take count text)
-  pub small : number < 2 ^ 64
 
 -- the first bytes of the text are so many digits, and a word that spells this number
 pub record LeadingNumber (text : List ℕ) (number count : ℕ) : Type 0 where

@@ -19,6 +19,7 @@ pub mod CoreRuns
 pub mod TakesKept
 pub mod NoLostWakeup
 mod WorkedLimits
+mod WorkedPlaces
 mod WorkedRuns
 pub mod PlacesKept
 pub mod WhereaboutsLemmas

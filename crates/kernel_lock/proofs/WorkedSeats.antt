@@ -1,0 +1,32 @@
+-- What the clauses of a lock's calls tell of its seats, in plain words.
+use Rattle.std.proofs.Common.{◌≡◌, ◌<◌, ◌∷◌, ap, IsTrue}
+use Rattle.std.specs.Prelude.{max}
+use Rattle.histories.specs.Account.{has_number}
+use Rattle.kernel_lock.specs.declared.lock_seat.LockSeat.{LockSeat}
+use Rattle.kernel_lock.specs.declared.locked.Locked.{Locked}
+use Rattle.kernel_lock.specs.Definition.{Definition}
+use Rattle.kernel_lock.specs.Seats.{limit_of, shares_of, seen_of, given_of, view_of}
+use Rattle.kernel_lock.specs.Seats.{HasAll, Splits, KnowsAllGiven, Joins, Applies, served_by}
+
+module _ {Object Request Reply : Type 0}
+    (lock : Locked Object Request Reply) (old new other : LockSeat Object Request Reply) where
+  who_has_all_has_the_first : HasAll old → IsTrue (has_number (shares_of old) 0)
+  who_has_all_has_the_first all = all.first
+
+  a_child_is_below_the_limit : Splits lock old new other
+      → (view_of other).account.number < limit_of lock
+  a_child_is_below_the_limit splits = splits.limit_is
+
+  who_is_refused_knows_of_all : KnowsAllGiven lock old new → given_of new ≡ limit_of lock
+  who_is_refused_knows_of_all refused = ap (λ view. view.given) refused.same
+
+  the_joined_know_what_either_knew : Joins old other new
+      → given_of new ≡ max (given_of old) (given_of other)
+  the_joined_know_what_either_knew joins = joins.given
+
+module _ {Object State Request Reply : Type 0}
+    (definition : Definition Object State Request Reply)
+    (old new : LockSeat Object Request Reply) (request : Request) (reply : Reply) where
+  what_was_served_is_the_newest : (applies : Applies definition old request reply new)
+      → seen_of new ≡ served_by definition old request reply ∷ applies.account.past
+  what_was_served_is_the_newest applies = ap (λ account. account.seen) applies.account.new_is
