@@ -1,11 +1,12 @@
 -- What the clauses of a lock's calls tell of its seats, in plain words.
-use Rattle.std.proofs.Common.{◌≡◌, ◌<◌, ◌∷◌, ap, IsTrue}
+use Rattle.std.proofs.Common.{◌≡◌, ◌≢◌, ◌<◌, ◌∷◌, ap, IsTrue}
 use Rattle.std.specs.Prelude.{max}
 use Rattle.histories.specs.Account.{has_number}
 use Rattle.kernel_lock.specs.declared.lock_seat.LockSeat.{LockSeat}
 use Rattle.kernel_lock.specs.declared.locked.Locked.{Locked}
 use Rattle.kernel_lock.specs.Definition.{Definition}
 use Rattle.kernel_lock.specs.Seats.{limit_of, shares_of, seen_of, given_of, view_of}
+use Rattle.kernel_lock.specs.Steppers.{Stepper, IsSameStepper}
 use Rattle.kernel_lock.specs.Seats.{HasAll, Splits, KnowsAllGiven, Joins, Applies, served_by}
 
 module _ {Object Request Reply : Type 0}
@@ -30,3 +31,11 @@ module _ {Object State Request Reply : Type 0}
   what_was_served_is_the_newest : (applies : Applies definition old request reply new)
       → seen_of new ≡ served_by definition old request reply ∷ applies.account.past
   what_was_served_is_the_newest applies = ap (λ account. account.seen) applies.account.new_is
+
+-- a step leaves a seat at its table, and under its name there
+module _ {Object Request Reply : Type 0} (before after : Stepper Object Request Reply) where
+  a_seat_of_another_table : after.table_id ≢ before.table_id → ¬ IsSameStepper before after
+  a_seat_of_another_table other same = other same.table
+
+  a_seat_of_another_name : after.id ≢ before.id → ¬ IsSameStepper before after
+  a_seat_of_another_name other same = other same.id

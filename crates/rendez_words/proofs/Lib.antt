@@ -12,4 +12,7 @@ pub mod RunLemmas
 pub mod SeatKeeps
 pub mod StepAnswers
 pub mod StepKeeps
+mod WorkedAnswers
+mod WorkedRefusals
+mod WorkedStates
 pub mod WorkedWords

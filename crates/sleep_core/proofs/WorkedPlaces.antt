@@ -1,5 +1,5 @@
 -- Where nobody is posted, and what is no cause of a sleep's end: each against one row.
-use Rattle.std.proofs.Common.{◌≡◌, inl, inr, arith, [], ◌∷◌}
+use Rattle.std.proofs.Common.{inl, inr, arith, [], ◌∷◌}
 use Rattle.sleep_core.specs.declared.phase.Phase.TheVariants.{Woken}
 use Rattle.sleep_core.specs.History.{Passed}
 use Rattle.sleep_core.specs.Promises.{IsCaused}

@@ -2,3 +2,4 @@ pub mod BrokenLemmas
 pub mod CallLemmas
 pub mod GroupLemmas
 mod WorkedForks
+mod WorkedRosters

@@ -1,0 +1,68 @@
+-- Pids of other words, Rendez that are there, and faults that do not say why: each against one row.
+use Rattle.std.proofs.Common.{◌≡◌, ◌≢◌, ◌<◌, ◌+◌, ℕ, arith, refl, ap}
+use Rattle.sync_base.specs.declared.fault.Fault.TheVariants as fault
+use Rattle.sync_base.specs.declared.ids.RendezId.{RendezId}
+use Rattle.sync_base.specs.declared.limits.TheConstants.{TOP_LEVEL}
+use Rattle.sleep_core.specs.declared.phase.Phase.TheVariants as phase
+use Rattle.rendez_words.specs.declared.words.Words.{Words}
+use Rattle.rendez_words.specs.Process.{Process, PidsLeft}
+use Rattle.rendez_words.specs.Words.{table_of, procs_of, rendez_of, ArePidsOf, MayPost}
+use Rattle.rendez_words.specs.Words.{WhyNotPosted, WhyNotRaised, IsOfWakeup}
+
+abbrev at_rendez : ℕ → RendezId
+at_rendez number = record { 0 = number }
+
+module _ (words : Words) (pids : PidsLeft) where
+  pids_of_another_table : pids.table ≢ table_of words → ¬ ArePidsOf words pids
+  pids_of_another_table other of_these = other of_these.table
+
+  a_pid_past_the_last : ¬ ArePidsOf words (record pids { next = procs_of words + 1 })
+  a_pid_past_the_last of_these = let next = of_these.next in omega (arith, next)
+
+-- none is posted past the last Rendez, or for a level above the greatest
+module _ (words : Words) (rendez : RendezId) where
+  nobody_is_posted_past_the_last_rendez : ¬ MayPost words (at_rendez (rendez_of words)) 0
+  nobody_is_posted_past_the_last_rendez may = let in_it = may.rendez_in in omega (arith, in_it)
+
+  nobody_is_posted_for_more_than_the_greatest : ¬ MayPost words rendez TOP_LEVEL
+  nobody_is_posted_for_more_than_the_greatest may = may.not_top refl
+
+module _ (words : Words) (before after : Process) (rendez : RendezId) where
+  a_rendez_that_is_there_is_no_reason : rendez.0 < rendez_of words
+      → ¬ WhyNotPosted words before rendez 0 after fault.NoRendez
+  a_rendez_that_is_there_is_no_reason there why =
+      let out = why.0 in omega (arith, there, out)
+
+  a_level_that_is_not_the_greatest_is_no_reason :
+      ¬ WhyNotPosted words before rendez 0 after fault.BadLevel
+  a_level_that_is_not_the_greatest_is_no_reason why =
+      let top = why.1 in omega (arith, top)
+
+  -- the level is tested before who sleeps there
+  a_sleeper_is_no_reason_before_the_level :
+      ¬ WhyNotPosted words before rendez TOP_LEVEL after fault.DoubleSleep
+  a_sleeper_is_no_reason_before_the_level why = why.0.not_top refl
+
+  no_sleep_is_refused_for_memory : ¬ WhyNotPosted words before rendez 0 after fault.Memory
+  no_sleep_is_refused_for_memory why = why
+
+  no_wakeup_of_a_rendez_that_is_there_is_refused : rendez.0 < rendez_of words
+      → ¬ WhyNotRaised words before rendez after fault.NoRendez
+  no_wakeup_of_a_rendez_that_is_there_is_refused there why =
+      let out = why.0 in omega (arith, there, out)
+
+  no_wakeup_is_refused_for_its_level : ¬ WhyNotRaised words before rendez after fault.BadLevel
+  no_wakeup_is_refused_for_its_level why = why
+
+-- ---- a receipt of another wakeup
+
+a_receipt_of_another_rendez : ¬ IsOfWakeup (phase.Owing (at_rendez 0) 5)
+    (record { rendez = at_rendez 1; level = 5 })
+a_receipt_of_another_rendez of_it = let one : 1 ≡ 0 = ap (λ it. it.0) of_it.0 in omega (arith, one)
+
+a_receipt_of_another_level : ¬ IsOfWakeup (phase.Holding (record { 0 = 2 }) (at_rendez 0) 5)
+    (record { rendez = at_rendez 0; level = 6 })
+a_receipt_of_another_level of_it = let six = of_it.1 in omega (arith, six)
+
+a_receipt_of_no_wakeup : ¬ IsOfWakeup phase.Idle (record { rendez = at_rendez 0; level = 5 })
+a_receipt_of_no_wakeup of_it = of_it
