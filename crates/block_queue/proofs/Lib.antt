@@ -17,3 +17,5 @@ pub mod ObjectLemmas
 pub mod CrowdLemmas
 pub mod WorkedQueue
 pub mod WorkedObject
+mod WorkedGathers
+mod WorkedRefusals

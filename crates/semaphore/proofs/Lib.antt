@@ -14,6 +14,7 @@ mod TimerLemmas
 mod TournamentLemmas
 mod WaitLemmas
 mod WorkedCalls
+mod WorkedEndings
 mod WorkedOpenings
 mod WorkedUnits
 pub mod Broken
