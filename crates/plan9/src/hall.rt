@@ -124,7 +124,7 @@ impl<'s, 'k> Guest<'s, 'k> {
     ghost use Rattle.sync_base.specs.declared.fault.Fault.TheVariants.{NoProc};
     ghost use Rattle.rendez_words.specs.Steps.{notes};
     ghost use Rattle.rendez_words.specs.Words.{procs_of};
-    ghost use Rattle.tag_space.specs.Members.{number_of, seen_of, space_of};
+    ghost use Rattle.tag_space.specs.Members.{party_of, seen_of};
     ghost use Rattle.tag_space.specs.Outcome.{Exchange};
     ghost use Rattle.tag_space.specs.Walk.{Walks};
     ghost use Rattle.plan9.specs.Refusals.{ComesBack};
@@ -149,11 +149,12 @@ impl<'s, 'k> Guest<'s, 'k> {
         ensures same { IsSameGuest self.old self.new }
 
         // The member made one call, which is in a pair exactly where a value is answered.
-        ensures exchange { Exchange (space_of self.old.space) (number_of self.old.member) tag value
-            (seen_of self.old.member) (seen_of self.new.member) result }
+        ensures exchange { Exchange (party_of self.old.space self.old.member)
+            (record { tag = tag; value = value }) (seen_of self.old.member)
+            (seen_of self.new.member) result }
 
         // What the member asked, and how its process slept and woke its partner.
-        ensures walk { Walks (guest_caller self.old) tag value
+        ensures walk { Walks (guest_caller self.old) (record { tag = tag; value = value })
             (guest_point self.old) (guest_point self.new) result }
     {
         self.space

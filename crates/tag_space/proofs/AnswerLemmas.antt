@@ -13,8 +13,9 @@ use Rattle.tag_space.specs.Promises.{WaitApart}
 
 module _ (space : Space) (past : List Entry) (apart : WaitApart past) where
   -- two calls with one tag find one call
-  one_found : (tag g h m n i j : ℕ) → Finds space past tag g m i → Finds space past tag h n j →
-      Met g m i ≡ Met h n j
+  one_found : (tag g h m n i j : ℕ)
+      → Finds space past tag (record { given = g; other = m; count = i })
+      → Finds space past tag (record { given = h; other = n; count = j }) → Met g m i ≡ Met h n j
   one_found tag g h m n i j first second =
       let same : m ≡ n = apart m n first.offer second.offer first.waits second.waits (first.tag_is ∙
       sym second.tag_is) in

@@ -9,7 +9,8 @@ use Rattle.tag_space.specs.declared.calls.GroupReply.TheVariants.{WasMet, Wait, 
 use Rattle.sync_base.specs.declared.ids.Tag.{Tag}
 use Rattle.tag_space.specs.declared.member.Member.{Member}
 use Rattle.tag_space.specs.declared.space.TagSpace.{TagSpace}
-use Rattle.tag_space.specs.Members.{space_of, number_of, seen_of, IsOneOf, IsMemberOf, IsSameMember}
+use Rattle.tag_space.specs.Members.{space_of, number_of, party_of, seen_of}
+use Rattle.tag_space.specs.Members.{IsOneOf, IsMemberOf, IsSameMember}
 use Rattle.tag_space.specs.Outcome.{Exchange, calls_by}
 use Rattle.tag_space.proofs.OtherLemmas.{newest_is_own}
 use Rattle.tag_space.specs.Rendezvous.{Entry, Space, Offer, rendezvous, stage_of}
@@ -119,8 +120,8 @@ module _ (space : TagSpace) (before after : Member) (offer : Offer) (answer : Re
 
   -- a call that has ended is an exchange: one call of the caller's, with its tag and value
   pub exchanged : (tag : Tag) (value : ℕ) → offer.tag ≡ tag.0 → offer.value ≡ value
-      → Exchange (space_of space) (number_of before) tag value (seen_of before) (seen_of after)
-      answer
+      → Exchange (party_of space before) (record { tag = tag; value = value }) (seen_of before)
+      (seen_of after) answer
   exchanged tag value tag_is value_is =
       record {
         offer = offer;

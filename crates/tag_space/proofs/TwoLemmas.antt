@@ -7,7 +7,7 @@ use Rattle.sync_base.specs.declared.fault.Fault.{Fault}
 use Rattle.sync_base.specs.declared.ids.Tag.{Tag}
 use Rattle.tag_space.specs.declared.member.Member.{Member}
 use Rattle.tag_space.specs.declared.space.TagSpace.{TagSpace}
-use Rattle.tag_space.specs.Members.{space_of, number_of, seen_of, IsOneOf}
+use Rattle.tag_space.specs.Members.{space_of, number_of, party_of, seen_of, IsOneOf}
 use Rattle.tag_space.specs.Outcome.{calls_by, IsOneOfCalls, IsInPair, HasPartner, Exchange}
 use Rattle.tag_space.specs.Outcome.{ComesOf}
 use Rattle.tag_space.specs.Promises.{IsAlone}
@@ -87,10 +87,10 @@ module _ (space : TagSpace) (this this_after other other_after joined : Member)
     (other_same : number_of other_after ≡ number_of other)
     (none : calls_by (number_of other) (seen_of other) ≡ []) (tag : Tag) (value others : ℕ)
     (answer other_answer : Result ℕ Fault)
-    (call : Exchange (space_of space) (number_of this) tag value (seen_of this) (seen_of this_after)
-    answer)
-    (other_call : Exchange (space_of space) (number_of other) tag others (seen_of other)
-    (seen_of other_after) other_answer) where
+    (call : Exchange (party_of space this) (record { tag = tag; value = value }) (seen_of this)
+    (seen_of this_after) answer)
+    (other_call : Exchange (party_of space other) (record { tag = tag; value = others })
+    (seen_of other) (seen_of other_after) other_answer) where
   onlys : calls_by (number_of other_after) (seen_of other_after) ≡ other_call.offer ∷ []
   onlys =
       ap (λ n. calls_by n (seen_of other_after)) other_same ∙ other_call.one

@@ -21,13 +21,13 @@ use Rattle.tag_space.specs.declared.forking.Child.{Child}
 use Rattle.tag_space.specs.declared.member.Member.{Member}
 use Rattle.tag_space.specs.Forks.{left_by}
 use Rattle.tag_space.specs.Forks.{AreKnown, asks_child, asks_space, callers_space, childs_space}
-use Rattle.tag_space.specs.Forks.{JoinsParent, ComesBack, LeavesMember, IsUntouched}
+use Rattle.tag_space.specs.Forks.{rfork_of, JoinsParent, ComesBack, LeavesMember, IsUntouched}
 use Rattle.tag_space.specs.Forks.{GivesMember, HasSpent}
 use Rattle.tag_space.specs.Members.{number_of, seen_of}
 use Rattle.tag_space.specs.Outcome.{calls_by, IsOneOfPairs, IsInPair, word_of}
 use Rattle.tag_space.specs.Outcome.{IsOneOfCalls, HasPartner, Exchange}
 use Rattle.tag_space.specs.Spaces.{IsFurtherMember, IsKeptIn, JoinsMembers}
-use Rattle.tag_space.specs.Rendezvous.{Entry, Offer, Pair, pairs_of}
+use Rattle.tag_space.specs.Rendezvous.{Entry, Party, Offered, Offer, Pair, pairs_of}
 use Rattle.tag_space.specs.Walk.{Point, Caller, Turn, last_count, PutsBack}
 use Rattle.tag_space.specs.Walk.{EndsWait}
 use Rattle.tag_space.proofs.WorkedSpaces.{told, gives, offer, two, one_waits, one_is_found}
@@ -119,8 +119,15 @@ no_call_from_nowhere (inr none) = none
 
 -- ---- the exchange
 
+-- member 0 of a space of two, and what it offers
+abbrev the_first : Party
+the_first = record { space = two; member = 0 }
+
+abbrev seven_and_five : Offered
+seven_and_five = record { tag = record { 0 = 7 }; value = 5 }
+
 -- the member's one call, its own, is in a pair
-who_waited_exchanged : Exchange two 0 (record { 0 = 7 }) 5 [] one_is_told (Ok 9)
+who_waited_exchanged : Exchange the_first seven_and_five [] one_is_told (Ok 9)
 who_waited_exchanged =
     record {
       offer = offer 0 0 7 5;
@@ -133,7 +140,7 @@ who_waited_exchanged =
 
 -- the call of another is not the member's
 anothers_call_is_not_its_own :
-    (exchange : Exchange two 0 (record { 0 = 7 }) 5 [] one_is_told (Ok 9))
+    (exchange : Exchange the_first seven_and_five [] one_is_told (Ok 9))
     → exchange.offer ≡ offer 1 1 7 9 → ⊥
 anothers_call_is_not_its_own exchange is =
     let member : 0 ≡ 1 = sym exchange.member_is ∙ ap (λ (o : Offer). o.member) is in
@@ -291,27 +298,28 @@ rfrend_moves_it leaves = leaves.stays refl
 
 module _ (unused : Unused) (space : TagSpace) (before after further : Member) where
   -- a refusal with any flags but RFPROC hands the member back as it was
-  a_bad_flag_hands_it_back : ComesBack unused space (flags 8) before after → after ≡ before
+  a_bad_flag_hands_it_back : ComesBack (rfork_of unused space (flags 8)) before after
+      → after ≡ before
   a_bad_flag_hands_it_back (inl same) = same
   a_bad_flag_hands_it_back (inr wants) = absurd (a_bad_flag_joins_nobody wants.joins)
 
-  rfrend_hands_it_back : ComesBack unused space (flags 2) before after → after ≡ before
+  rfrend_hands_it_back : ComesBack (rfork_of unused space (flags 2)) before after → after ≡ before
   rfrend_hands_it_back (inl same) = same
   rfrend_hands_it_back (inr wants) = absurd (rfrend_alone_joins_nobody wants.joins)
 
-  both_hand_it_back : ComesBack unused space (flags 3) before after → after ≡ before
+  both_hand_it_back : ComesBack (rfork_of unused space (flags 3)) before after → after ≡ before
   both_hand_it_back (inl same) = same
   both_hand_it_back (inr wants) = absurd (both_join_nobody wants.joins)
 
   -- and with RFPROC where no pid is left
-  no_pid_hands_it_back : (HasPid unused → ⊥) → ComesBack unused space (flags 1) before after
-      → after ≡ before
+  no_pid_hands_it_back : (HasPid unused → ⊥)
+      → ComesBack (rfork_of unused space (flags 1)) before after → after ≡ before
   no_pid_hands_it_back none (inl same) = same
   no_pid_hands_it_back none (inr wants) = absurd (none wants.pid)
 
   -- where all members were given it may know that
   it_comes_back_knowing_all : HasPid unused → KnowsAllGiven space.lock before.seat after.seat
-      → ComesBack unused space (flags 1) before after
+      → ComesBack (rfork_of unused space (flags 1)) before after
   it_comes_back_knowing_all pid all =
       inr (record { joins = rfproc_alone_joins_its_parent; pid = pid; all_given = all })
 

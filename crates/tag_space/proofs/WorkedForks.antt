@@ -14,10 +14,10 @@ use Rattle.tag_space.specs.declared.member.Member.{Member}
 use Rattle.tag_space.specs.declared.space.TagSpace.{TagSpace}
 use Rattle.tag_space.specs.Members.{HasRow, IsMemberOf, IsSameMember, number_of}
 use Rattle.tag_space.specs.Spaces.{IsNewSpace, IsFirstMember, IsFurtherMember}
-use Rattle.tag_space.specs.Forks.{AreKnown, asks_child, asks_space, WhyNotForked, WantsMember}
-use Rattle.tag_space.specs.Forks.{JoinsParent, ComesBack, HasSpace, HasChild, MovesCaller}
-use Rattle.tag_space.specs.Forks.{KeepsMember, LeavesMember, IsUntouched, GivesMember, HasSpent}
-use Rattle.tag_space.specs.Forks.{IsFirstThere, IsChild, IsGroup, HasFurther, IsSpent}
+use Rattle.tag_space.specs.Forks.{AreKnown, asks_child, asks_space, WantsMember, rfork_of}
+use Rattle.tag_space.specs.Forks.{WhyNotForked, JoinsParent, ComesBack, HasSpace, HasChild}
+use Rattle.tag_space.specs.Forks.{MovesCaller, KeepsMember, LeavesMember, IsUntouched, GivesMember}
+use Rattle.tag_space.specs.Forks.{HasSpent, IsFirstThere, IsChild, IsGroup, HasFurther, IsSpent}
 use Rattle.tag_space.specs.Forks.{WhyNotInside, WhyNotOutside}
 
 -- ---- what each flag may do
@@ -28,16 +28,17 @@ flags_of bits = record { bits = bits }
 
 module _ (unused : Unused) (space : TagSpace) (before after : Member) where
   -- a flag that is not known is refused, whatever is left
-  an_unknown_flag_is_refused : WhyNotForked unused space (flags_of 8) before after fault.BadFlags
+  an_unknown_flag_is_refused :
+      WhyNotForked (rfork_of unused space (flags_of 8)) before after fault.BadFlags
   an_unknown_flag_is_refused known = omega (arith, known)
 
   -- RFPROC is refused where no pid is left, or all members were given
   rfproc_finds_no_pid : (HasPid unused → ⊥)
-      → WhyNotForked unused space (flags_of 1) before after fault.NoProc
+      → WhyNotForked (rfork_of unused space (flags_of 1)) before after fault.NoProc
   rfproc_finds_no_pid none = inl (record { known = omega arith; child = refl; none = none })
 
   rfproc_finds_no_member : HasPid unused → KnowsAllGiven space.lock before.seat after.seat
-      → WhyNotForked unused space (flags_of 1) before after fault.NoProc
+      → WhyNotForked (rfork_of unused space (flags_of 1)) before after fault.NoProc
   rfproc_finds_no_member pid all =
       inr (record {
         joins = record { child = refl; no_space = false≢true };
@@ -47,27 +48,27 @@ module _ (unused : Unused) (space : TagSpace) (before after : Member) where
 
   -- RFREND alone needs no pid: it is refused where no row is left, or else no memory
   rfrend_finds_no_row : (HasRendez unused space.procs → ⊥)
-      → WhyNotForked unused space (flags_of 2) before after fault.NoRendez
+      → WhyNotForked (rfork_of unused space (flags_of 2)) before after fault.NoRendez
   rfrend_finds_no_row none =
       (record { known = omega arith; pid = λ asked. absurd (false≢true asked); space = refl }, none)
 
   rfrend_finds_no_memory : HasRendez unused space.procs
-      → WhyNotForked unused space (flags_of 2) before after fault.Memory
+      → WhyNotForked (rfork_of unused space (flags_of 2)) before after fault.Memory
   rfrend_finds_no_memory row =
       (record { known = omega arith; pid = λ asked. absurd (false≢true asked); space = refl }, row)
 
   -- both need a pid, and then a row
   both_find_no_pid : (HasPid unused → ⊥)
-      → WhyNotForked unused space (flags_of 3) before after fault.NoProc
+      → WhyNotForked (rfork_of unused space (flags_of 3)) before after fault.NoProc
   both_find_no_pid none = inl (record { known = omega arith; child = refl; none = none })
 
   both_find_no_row : HasPid unused → (HasRendez unused space.procs → ⊥)
-      → WhyNotForked unused space (flags_of 3) before after fault.NoRendez
+      → WhyNotForked (rfork_of unused space (flags_of 3)) before after fault.NoRendez
   both_find_no_row pid none =
       (record { known = omega arith; pid = λ asked. pid; space = refl }, none)
 
   -- a refusal hands the member back
-  it_comes_back_as_it_was : (flags : Flags) → ComesBack unused space flags before before
+  it_comes_back_as_it_was : (flags : Flags) → ComesBack (rfork_of unused space flags) before before
   it_comes_back_as_it_was flags = inl refl
 
 module _ (unused : Unused) (old new : TagSpace) (child : Child) where
@@ -127,60 +128,61 @@ nobody_knows space before after fewer knows =
 
 module _ (unused : Unused) (space : TagSpace) (flags : Flags) (before after : Member) where
   -- flags are refused that are known
-  known_flags_are_bad : AreKnown flags → WhyNotForked unused space flags before after fault.BadFlags
-      → ⊥
+  known_flags_are_bad : AreKnown flags
+      → WhyNotForked (rfork_of unused space flags) before after fault.BadFlags → ⊥
   known_flags_are_bad known why = why known
 
   -- a row is asked for with unknown flags, where none was asked for, before a pid, or is there
   a_row_for_unknown_flags : (AreKnown flags → ⊥)
-      → WhyNotForked unused space flags before after fault.NoRendez → ⊥
+      → WhyNotForked (rfork_of unused space flags) before after fault.NoRendez → ⊥
   a_row_for_unknown_flags unknown (wants, none) = unknown wants.known
 
   a_row_for_no_space : (IsTrue (asks_space flags) → ⊥)
-      → WhyNotForked unused space flags before after fault.NoRendez → ⊥
+      → WhyNotForked (rfork_of unused space flags) before after fault.NoRendez → ⊥
   a_row_for_no_space unasked (wants, none) = unasked wants.space
 
   a_row_before_a_pid : IsTrue (asks_child flags) → (HasPid unused → ⊥)
-      → WhyNotForked unused space flags before after fault.NoRendez → ⊥
+      → WhyNotForked (rfork_of unused space flags) before after fault.NoRendez → ⊥
   a_row_before_a_pid child no_pid (wants, none) = no_pid (wants.pid child)
 
   a_row_that_is_left : HasRendez unused space.procs
-      → WhyNotForked unused space flags before after fault.NoRendez → ⊥
+      → WhyNotForked (rfork_of unused space flags) before after fault.NoRendez → ⊥
   a_row_that_is_left left (wants, none) = none left
 
   -- memory is refused before a row
   memory_before_a_row : (HasRendez unused space.procs → ⊥)
-      → WhyNotForked unused space flags before after fault.Memory → ⊥
+      → WhyNotForked (rfork_of unused space flags) before after fault.Memory → ⊥
   memory_before_a_row none (wants, left) = none left
 
   -- a pid, or a member, is refused that nobody asked for, or that is left
   no_child_was_asked_for : (IsTrue (asks_child flags) → ⊥)
-      → WhyNotForked unused space flags before after fault.NoProc → ⊥
+      → WhyNotForked (rfork_of unused space flags) before after fault.NoProc → ⊥
   no_child_was_asked_for unasked (inl wants) = unasked wants.child
   no_child_was_asked_for unasked (inr wants) = unasked wants.joins.child
 
   a_pid_for_unknown_flags : (AreKnown flags → ⊥) → given_of after.seat < limit_of space.lock
-      → WhyNotForked unused space flags before after fault.NoProc → ⊥
+      → WhyNotForked (rfork_of unused space flags) before after fault.NoProc → ⊥
   a_pid_for_unknown_flags unknown fewer (inl wants) = unknown wants.known
   a_pid_for_unknown_flags unknown fewer (inr wants) =
       nobody_knows space before after fewer wants.all_given
 
   a_pid_and_a_member_are_left : HasPid unused → given_of after.seat < limit_of space.lock
-      → WhyNotForked unused space flags before after fault.NoProc → ⊥
+      → WhyNotForked (rfork_of unused space flags) before after fault.NoProc → ⊥
   a_pid_and_a_member_are_left pid fewer (inl wants) = wants.none pid
   a_pid_and_a_member_are_left pid fewer (inr wants) =
       nobody_knows space before after fewer wants.all_given
 
-  a_member_before_a_pid : (HasPid unused → ⊥) → WantsMember unused space flags before after → ⊥
+  a_member_before_a_pid : (HasPid unused → ⊥)
+      → WantsMember (rfork_of unused space flags) before after → ⊥
   a_member_before_a_pid none wants = none wants.pid
 
   a_member_for_a_new_space : IsTrue (asks_space flags)
-      → WantsMember unused space flags before after → ⊥
+      → WantsMember (rfork_of unused space flags) before after → ⊥
   a_member_for_a_new_space asked wants = wants.joins.no_space asked
 
   -- a refused member comes back as another, while a member is left
   another_comes_back : after ≢ before → given_of after.seat < limit_of space.lock
-      → ComesBack unused space flags before after → ⊥
+      → ComesBack (rfork_of unused space flags) before after → ⊥
   another_comes_back other fewer (inl same) = other same
   another_comes_back other fewer (inr wants) =
       nobody_knows space before after fewer wants.all_given

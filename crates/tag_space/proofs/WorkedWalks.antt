@@ -6,14 +6,13 @@ use Rattle.histories.specs.declared.account.Account.{Account}
 use Rattle.sleep_wakeup.specs.Kernel.{Unused}
 use Rattle.sync_base.specs.declared.fault.Fault.{Fault}
 use Rattle.sync_base.specs.declared.fault.Fault.TheVariants as fault
-use Rattle.sync_base.specs.declared.ids.Tag.{Tag}
 use Rattle.sync_base.specs.declared.flags.Flags.{Flags}
 use Rattle.tag_space.specs.declared.calls.GroupCall.{GroupCall}
 use Rattle.tag_space.specs.declared.calls.GroupReply.{GroupReply}
 use Rattle.tag_space.specs.declared.member.Member.{Member}
 use Rattle.tag_space.specs.declared.space.TagSpace.{TagSpace}
-use Rattle.tag_space.specs.Forks.{WhyNotForked, WhyNotInside, WhyNotOutside}
-use Rattle.tag_space.specs.Rendezvous.{Entry}
+use Rattle.tag_space.specs.Forks.{rfork_of, WhyNotForked, WhyNotInside, WhyNotOutside}
+use Rattle.tag_space.specs.Rendezvous.{Entry, Offered}
 use Rattle.tag_space.specs.Spaces.{WhyNoGroup, WhyNoSpace}
 use Rattle.tag_space.specs.Walk.{Point, Caller, Turn, Asks, Asked, last_point, AreTurns}
 use Rattle.tag_space.specs.Walk.{HasWaited, IsTold, Leaves, IsToldLate, EndsWait}
@@ -84,23 +83,23 @@ leaving_adds caller first count why after leaves =
     let more = asked_adds _ _ leaves.woken after leaves.left in
     omega (arith, waited, same, more)
 
-module _ (caller : Caller) (tag : Tag) (value : ℕ) (before after : Point) where
+module _ (caller : Caller) (offered : Offered) (before after : Point) where
   -- the kernel has the Rendez of every member, and no call is refused for want of one
-  no_rendez : Walks caller tag value before after (Err fault.NoRendez) → ⊥
+  no_rendez : Walks caller offered before after (Err fault.NoRendez) → ⊥
   no_rendez (inl found) = found
   no_rendez (inr (inl waits)) = waits.ends
   no_rendez (inr (inr worn)) = worn
 
   -- a call that found its partner, or had none to find, was not worn out
-  worn_with_a_value : (given : ℕ) → IsWorn caller tag value before after (Ok given) → ⊥
+  worn_with_a_value : (given : ℕ) → IsWorn caller offered before after (Ok given) → ⊥
   worn_with_a_value given worn = worn
 
-  worn_by_a_note : IsWorn caller tag value before after (Err fault.DoubleSleep) → ⊥
+  worn_by_a_note : IsWorn caller offered before after (Err fault.DoubleSleep) → ⊥
   worn_by_a_note worn = worn
 
   -- a call that is worn out is one entry
   worn_without_a_call : seen_at after ≡ seen_at before
-      → Walks caller tag value before after (Err fault.Worn) → ⊥
+      → Walks caller offered before after (Err fault.Worn) → ⊥
   worn_without_a_call same (inl found) = found
   worn_without_a_call same (inr (inl waits)) = waits.ends
   worn_without_a_call same (inr (inr worn)) =
@@ -109,7 +108,7 @@ module _ (caller : Caller) (tag : Tag) (value : ℕ) (before after : Point) wher
 
   -- no value comes to who asked nothing
   no_call_at_all : (given : ℕ) → seen_at after ≡ seen_at before
-      → Walks caller tag value before after (Ok given) → ⊥
+      → Walks caller offered before after (Ok given) → ⊥
   no_call_at_all given same (inl finds) =
       let more = asked_adds _ _ before finds.met finds.called in
       let then = unasked_adds_none finds.met after finds.unasked in
@@ -130,7 +129,7 @@ module _ (caller : Caller) (tag : Tag) (value : ℕ) (before after : Point) wher
 
   -- nor is who asked nothing refused
   refused_without_a_call : seen_at after ≡ seen_at before
-      → Walks caller tag value before after (Err fault.DoubleSleep) → ⊥
+      → Walks caller offered before after (Err fault.DoubleSleep) → ⊥
   refused_without_a_call same (inl found) = found
   refused_without_a_call same (inr (inl waits)) =
       let more = asked_adds _ _ before waits.first waits.called in
@@ -141,7 +140,8 @@ module _ (caller : Caller) (tag : Tag) (value : ℕ) (before after : Point) wher
 -- ---- why nothing is made: for none of these reasons
 
 module _ (unused : Unused) (space : TagSpace) (flags : Flags) (before after : Member) where
-  forked_by_a_double_sleep : WhyNotForked unused space flags before after fault.DoubleSleep → ⊥
+  forked_by_a_double_sleep :
+      WhyNotForked (rfork_of unused space flags) before after fault.DoubleSleep → ⊥
   forked_by_a_double_sleep why = why
 
   inside_for_want_of_memory : WhyNotInside unused space before after fault.Memory → ⊥

@@ -55,28 +55,36 @@ pub record WantsPid (unused : Unused) (flags : Flags) : Type 0 where
   pub child : IsTrue (asks_child flags)
   pub none : ¬ HasPid unused
 
+-- a call of rfork(2): what is left when it comes, the caller's space, and the flags
+pub record Rfork : Type 0 where
+  pub unused : Unused
+  pub space : TagSpace
+  pub flags : Flags
+
+-- the call with these
+abbrev pub rfork_of : Unused → TagSpace → Flags → Rfork
+rfork_of unused space flags = record { unused = unused; space = space; flags = flags }
+
 -- a member of the parent's space was asked for, and all were given
-pub record WantsMember (unused : Unused) (space : TagSpace) (flags : Flags) (before after : Member)
-    : Type 0 where
-  pub joins : JoinsParent flags
-  pub pid : HasPid unused
-  pub all_given : KnowsAllGiven space.lock before.seat after.seat
+pub record WantsMember (rfork : Rfork) (before after : Member) : Type 0 where
+  pub joins : JoinsParent rfork.flags
+  pub pid : HasPid rfork.unused
+  pub all_given : KnowsAllGiven rfork.space.lock before.seat after.seat
 
 -- Own: the flags are tested first, then the pid, the Rendez, the member, and then the memory.
-abbrev pub WhyNotForked : Unused → TagSpace → Flags → Member → Member → Fault → Type 0
-WhyNotForked unused space flags before after fault.BadFlags = ¬ AreKnown flags
-WhyNotForked unused space flags before after fault.NoProc =
-    WantsPid unused flags ⊎ WantsMember unused space flags before after
-WhyNotForked unused space flags before after fault.NoRendez =
-    WantsRow unused flags × (¬ HasRendez unused space.procs)
-WhyNotForked unused space flags before after fault.Memory =
-    WantsRow unused flags × HasRendez unused space.procs
-WhyNotForked unused space flags before after other = ⊥
+abbrev pub WhyNotForked : Rfork → Member → Member → Fault → Type 0
+WhyNotForked rfork before after fault.BadFlags = ¬ AreKnown rfork.flags
+WhyNotForked rfork before after fault.NoProc =
+    WantsPid rfork.unused rfork.flags ⊎ WantsMember rfork before after
+WhyNotForked rfork before after fault.NoRendez =
+    WantsRow rfork.unused rfork.flags × (¬ HasRendez rfork.unused rfork.space.procs)
+WhyNotForked rfork before after fault.Memory =
+    WantsRow rfork.unused rfork.flags × HasRendez rfork.unused rfork.space.procs
+WhyNotForked rfork before after other = ⊥
 
 -- A refusal hands the member back as it was; where all members were given, it knows that too.
-abbrev pub ComesBack : Unused → TagSpace → Flags → Member → Member → Type 0
-ComesBack unused space flags before after =
-    (after ≡ before) ⊎ WantsMember unused space flags before after
+abbrev pub ComesBack : Rfork → Member → Member → Type 0
+ComesBack rfork before after = (after ≡ before) ⊎ WantsMember rfork before after
 
 -- the caller's space afterwards: a new one with RFREND alone, else its own
 abbrev pub callers_space : Flags → TagSpace → Option TagSpace → TagSpace

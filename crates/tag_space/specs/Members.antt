@@ -9,7 +9,7 @@ use Rattle.rendez_words.specs.Words.{rendez_of}
 use Rattle.sync_base.specs.declared.ids.RendezId.{RendezId}
 use Rattle.tag_space.specs.declared.member.Member.{Member}
 use Rattle.tag_space.specs.declared.space.TagSpace.{TagSpace}
-use Rattle.tag_space.specs.Rendezvous.{Entry, Space, rendezvous, stage_of}
+use Rattle.tag_space.specs.Rendezvous.{Entry, Space, Party, rendezvous, stage_of}
 use Rattle.tag_space.specs.Rendezvous.Stage.{Over}
 
 -- how many members the space has, none of which was met when it was made
@@ -26,6 +26,10 @@ seen_of member = seats.seen_of member.seat
 
 abbrev pub number_of : Member → ℕ
 number_of member = seats.number_of member.seat
+
+-- the member, as a party of an exchange in its space
+abbrev pub party_of : TagSpace → Member → Party
+party_of space member = record { space = space_of space; member = number_of member }
 
 -- the Rendez of the member with this number
 abbrev pub rendez_of_member : TagSpace → ℕ → RendezId

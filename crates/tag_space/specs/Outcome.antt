@@ -5,11 +5,11 @@ use Rattle.std.specs.Prelude.{Result, Ok, Err}
 use Rattle.histories.specs.History.{IsLegal}
 use Rattle.sync_base.specs.declared.fault.Fault.{Fault}
 use Rattle.sync_base.specs.declared.fault.Fault.TheVariants as fault
-use Rattle.sync_base.specs.declared.ids.Tag.{Tag}
 use Rattle.tag_space.specs.declared.calls.GroupCall.{GroupCall}
 use Rattle.tag_space.specs.declared.calls.GroupCall.TheVariants.{Call}
 use Rattle.tag_space.specs.declared.meeting.TheConstants.{INTERRUPTED}
-use Rattle.tag_space.specs.Rendezvous.{Entry, Space, Offer, Pair, pairs_of, rendezvous}
+use Rattle.tag_space.specs.Rendezvous.{Entry, Space, Party, Offered, Offer, Pair}
+use Rattle.tag_space.specs.Rendezvous.{pairs_of, rendezvous}
 use Rattle.tag_space.specs.Promises.{IsAlone}
 
 -- a request of the history, with this number: a call of the member stands before the others
@@ -70,14 +70,14 @@ ComesOf space history offer (Err why) = IsOutForGood space history offer
 
 -- The member made one call, its own, with this tag and this value. It is answered with a value
 -- exactly where that call is in a pair: the partner's.
-pub record Exchange (space : Space) (member : ℕ) (tag : Tag) (value : ℕ) (before after : List Entry)
+pub record Exchange (party : Party) (offered : Offered) (before after : List Entry)
     (answer : Result ℕ Fault) : Type 0 where
   pub offer : Offer
-  pub one : calls_by member after ≡ offer ∷ calls_by member before
-  pub member_is : offer.member ≡ member
-  pub tag_is : offer.tag ≡ tag.0
-  pub value_is : offer.value ≡ value
-  pub outcome : ComesOf space after offer answer
+  pub one : calls_by party.member after ≡ offer ∷ calls_by party.member before
+  pub member_is : offer.member ≡ party.member
+  pub tag_is : offer.tag ≡ offered.tag.0
+  pub value_is : offer.value ≡ offered.value
+  pub outcome : ComesOf party.space after offer answer
 
 -- After rendezvous(2): the word for an interruption is ~0.
 abbrev pub word_of : Result ℕ Fault → Result ℕ Fault

@@ -6,6 +6,7 @@ use Rattle.std.specs.Prelude.{◌≡◌, ◌≢◌, ◌==◌, ℕ, ◌+◌, ◌<
 use Rattle.std.specs.Prelude.{Option, Some, None, List, [], ◌∷◌, ◌++◌, length, count_by}
 use Rattle.histories.specs.History.{Meaning}
 use Rattle.kernel_lock.specs.declared.view.Served.{Served}
+use Rattle.sync_base.specs.declared.ids.Tag.{Tag}
 use Rattle.tag_space.specs.Group.{member_of}
 use Rattle.tag_space.specs.declared.calls.GroupCall.{GroupCall}
 use Rattle.tag_space.specs.declared.calls.GroupCall.TheVariants.{Call, Collect, Leave}
@@ -23,7 +24,17 @@ pub record Space : Type 0 where
   pub members : ℕ
   pub count : ℕ
 
--- what a member gives in a call of rendezvous(2)
+-- a member of a space, which is one party of an exchange
+pub record Party : Type 0 where
+  pub space : Space
+  pub member : ℕ
+
+-- what a call of rendezvous(2) offers: a tag, and a value for whoever calls with the same tag
+pub record Offered : Type 0 where
+  pub tag : Tag
+  pub value : ℕ
+
+-- one call of rendezvous(2) in a history: who made it, and what it offers
 pub record Offer : Type 0 where
   pub number : ℕ  -- how many entries stood before the call: no other call has this number
   pub member : ℕ
@@ -120,14 +131,20 @@ abbrev pub NobodyWaits : List Entry → ℕ → Type 0
 NobodyWaits past tag =
     (member : ℕ) (offer : Offer) → stage_of past member ≡ Waits offer → offer.tag ≢ tag
 
--- a call with this tag finds a call that waits: whose it is, the value that it gives,
+-- what a call is told of the one that it found: the value that this one gives, whose it is,
 -- and how often the calls of that member were met with this one
-pub record Finds (space : Space) (past : List Entry) (tag given other count : ℕ) : Type 0 where
+pub record Found : Type 0 where
+  pub given : ℕ
+  pub other : ℕ
+  pub count : ℕ
+
+-- a call with this tag finds a call that waits, and is told this of it
+pub record Finds (space : Space) (past : List Entry) (tag : ℕ) (found : Found) : Type 0 where
   pub offer : Offer
-  pub waits : stage_of past other ≡ Waits offer
+  pub waits : stage_of past found.other ≡ Waits offer
   pub tag_is : offer.tag ≡ tag
-  pub given_is : given ≡ offer.value
-  pub count_is : count ≡ count_of space past other + 1
+  pub given_is : found.given ≡ offer.value
+  pub count_is : found.count ≡ count_of space past found.other + 1
 
 -- the member's call was found by one that gives this value
 pub record IsMet (past : List Entry) (member given : ℕ) : Type 0 where
@@ -143,7 +160,8 @@ pub record IsUnmet (space : Space) (past : List Entry) (member : ℕ) : Type 0 w
 -- the call may be answered so after this history
 abbrev pub IsAnswered : Space → List Entry → GroupCall → GroupReply → Type 0
 IsAnswered space past (Call member tag value) (Met given other count) =
-    MayCall space past member × Finds space past tag.0 given other count
+    MayCall space past member
+    × Finds space past tag.0 (record { given = given; other = other; count = count })
 IsAnswered space past (Call member tag value) (Wait count) =
     MayCall space past member × NobodyWaits past tag.0
     × (count ≡ count_of space past member) × (count ≢ LAST_MEETING)

@@ -14,7 +14,6 @@ use Rattle.sync_base.specs.NoteSet.{no_notes}
 use Rattle.sync_base.specs.declared.fault.Fault.{Fault}
 use Rattle.sync_base.specs.declared.fault.Fault.TheVariants as fault
 use Rattle.sync_base.specs.declared.ids.RendezId.{RendezId}
-use Rattle.sync_base.specs.declared.ids.Tag.{Tag}
 use Rattle.tag_space.specs.declared.calls.GroupCall.{GroupCall}
 use Rattle.tag_space.specs.declared.calls.GroupCall.TheVariants.{Call, Collect, Leave}
 use Rattle.tag_space.specs.declared.calls.GroupReply.{GroupReply}
@@ -24,7 +23,7 @@ use Rattle.tag_space.specs.declared.space.TagSpace.{TagSpace}
 use Rattle.tag_space.specs.Group.{member_of}
 use Rattle.tag_space.specs.Members.{rendez_of_member, account_of, number_of, space_of}
 use Rattle.tag_space.specs.Outcome.{Exchange, word_of}
-use Rattle.tag_space.specs.Rendezvous.{Entry}
+use Rattle.tag_space.specs.Rendezvous.{Entry, Party, Offered}
 
 -- where a member stands on its way: what it knows, and the steps of its process
 pub record Point : Type 0 where
@@ -45,6 +44,10 @@ at_point member proc = record { account = account_of member; process = proc.proc
 abbrev pub caller_of : TagSpace → Member → Running → Caller
 caller_of space member proc =
     record { space = space; words = proc.words; member = number_of member }
+
+-- who calls, as a party of an exchange
+abbrev pub party_at : Caller → Party
+party_at caller = record { space = space_of caller.space; member = caller.member }
 
 abbrev pub own_rendez : Caller → RendezId
 own_rendez caller = rendez_of_member caller.space caller.member
@@ -171,47 +174,48 @@ pub record Woken (space : TagSpace) (number count : ℕ) (before after : Process
   pub wakes : Wakes before (rendez_of_member space number) count after done
 
 -- the call found one that waits, and woke its Rendez, once, with the count of its meetings
-pub record Finds (caller : Caller) (tag : Tag) (value given : ℕ) (before after : Point)
+pub record Finds (caller : Caller) (offered : Offered) (given : ℕ) (before after : Point)
     : Type 0 where
   pub other : ℕ
   pub count : ℕ
   pub met : Point
-  pub called : Asked (Call caller.member tag value) (Met given other count) before met
+  pub called : Asked (Call caller.member offered.tag offered.value) (Met given other count)
+      before met
   pub woken : Woken caller.space other count met.process after.process
   pub unasked : after.account ≡ met.account
 
 -- the call had to wait, and the wait ended with this answer
-pub record Waits (caller : Caller) (tag : Tag) (value : ℕ) (before after : Point)
+pub record Waits (caller : Caller) (offered : Offered) (before after : Point)
     (answer : Result ℕ Fault) : Type 0 where
   pub count : ℕ
   pub first : Point
-  pub called : Asked (Call caller.member tag value) (Wait count) before first
+  pub called : Asked (Call caller.member offered.tag offered.value) (Wait count) before first
   pub ends : EndsWait caller first count after answer
 
 -- the call was worn out, and did nothing more
-abbrev pub IsWorn : Caller → Tag → ℕ → Point → Point → Result ℕ Fault → Type 0
-IsWorn caller tag value before after (Err fault.Worn) =
-    Asked (Call caller.member tag value) Worn before after
-IsWorn caller tag value before after other = ⊥
+abbrev pub IsWorn : Caller → Offered → Point → Point → Result ℕ Fault → Type 0
+IsWorn caller offered before after (Err fault.Worn) =
+    Asked (Call caller.member offered.tag offered.value) Worn before after
+IsWorn caller offered before after other = ⊥
 
-abbrev pub IsFound : Caller → Tag → ℕ → Point → Point → Result ℕ Fault → Type 0
-IsFound caller tag value before after (Ok given) = Finds caller tag value given before after
-IsFound caller tag value before after (Err why) = ⊥
+-- the call found a partner, and was answered the value that this one gave
+abbrev pub IsFound : Caller → Offered → Point → Point → Result ℕ Fault → Type 0
+IsFound caller offered before after (Ok given) = Finds caller offered given before after
+IsFound caller offered before after (Err why) = ⊥
 
 -- One call of rendezvous makes one Call. Where that finds a partner it wakes the partner's Rendez
 -- and sleeps never; where it waits, it sleeps on its own Rendez with the count that it was told
 -- last, until it is told of a meeting or leaves; and it wakes nobody.
-abbrev pub Walks : Caller → Tag → ℕ → Point → Point → Result ℕ Fault → Type 0
-Walks caller tag value before after answer =
-    IsFound caller tag value before after answer
-    ⊎ Waits caller tag value before after answer
-    ⊎ IsWorn caller tag value before after answer
+abbrev pub Walks : Caller → Offered → Point → Point → Result ℕ Fault → Type 0
+Walks caller offered before after answer =
+    IsFound caller offered before after answer
+    ⊎ Waits caller offered before after answer
+    ⊎ IsWorn caller offered before after answer
 
 -- the same call, and the word for its answer
-pub record RendezvousesInWords (caller : Caller) (tag : Tag) (value : ℕ) (before after : Point)
+pub record RendezvousesInWords (caller : Caller) (offered : Offered) (before after : Point)
     (told : Result ℕ Fault) : Type 0 where
   pub answer : Result ℕ Fault
   pub told_is : told ≡ word_of answer
-  pub exchange : Exchange (space_of caller.space) caller.member tag value before.account.seen
-      after.account.seen answer
-  pub walk : Walks caller tag value before after answer
+  pub exchange : Exchange (party_at caller) offered before.account.seen after.account.seen answer
+  pub walk : Walks caller offered before after answer

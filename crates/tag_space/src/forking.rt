@@ -12,6 +12,7 @@ ghost use Rattle.tag_space.specs.Forks.{
   callers_space,
   childs_space,
   left_by,
+  rfork_of,
   others_of,
   IsChild,
   IsFirstThere,
@@ -91,11 +92,11 @@ pub fn rfork<'k, R: Wait>(
     // Refused first, and then nothing is used up.
     ensures known { OnOk result (AreKnown flags) }
     ensures fault { IfErr result (λ refused.
-        WhyNotForked roster.old space.now flags member refused.member refused.fault) }
+        WhyNotForked (rfork_of roster.old space.now flags) member refused.member refused.fault) }
     ensures back { IfErr result (λ refused. IsMemberOf space.now refused.member) }
     ensures same { IfErr result (λ refused. IsSameMember member refused.member) }
     ensures as_it_was { IfErr result (λ refused.
-        ComesBack roster.old space.now flags member refused.member) }
+        ComesBack (rfork_of roster.old space.now flags) member refused.member) }
     ensures refused { OnErr result (roster.new ≡ roster.old) }
 
     // Otherwise the flags say who is in which space.

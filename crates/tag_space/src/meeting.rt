@@ -4,7 +4,7 @@ ghost use Rattle.rendez_words.specs.Words.{rendez_of};
 ghost use Rattle.sleep_wakeup.specs.Calls.{WhyNotSlept, Wakes};
 ghost use Rattle.tag_space.specs.declared.limits.TheConstants.{LAST_MEETING};
 ghost use Rattle.tag_space.specs.Members.{IsMemberOf, IsOneOf, IsSameMember, HasRow};
-ghost use Rattle.tag_space.specs.Members.{space_of, account_of, number_of, seen_of};
+ghost use Rattle.tag_space.specs.Members.{account_of, number_of, party_of, seen_of};
 ghost use Rattle.tag_space.specs.Outcome.{Exchange};
 ghost use Rattle.tag_space.specs.Walk.{Walks, EndsWait, GivesUp, PutsBack, Woken};
 ghost use Rattle.tag_space.specs.Walk.{RendezvousesInWords, at_point, caller_of};
@@ -43,12 +43,13 @@ impl TagSpace {
         ensures words { proc.new.words ≡ proc.old.words }
 
         // The member made one call, which is in a pair exactly where a value is answered.
-        ensures exchange { Exchange (space_of self.now) (number_of member.old) tag value
-            (seen_of member.old) (seen_of member.new) result }
+        ensures exchange { Exchange (party_of self.now member.old)
+            (record { tag = tag; value = value }) (seen_of member.old) (seen_of member.new) result }
 
         // What the member asked, and how its process slept and woke its partner.
-        ensures walk { Walks (caller_of self.now member.old proc.old) tag value
-            (at_point member.old proc.old) (at_point member.new proc.new) result }
+        ensures walk { Walks (caller_of self.now member.old proc.old)
+            (record { tag = tag; value = value }) (at_point member.old proc.old)
+            (at_point member.new proc.new) result }
     {
         self.rendezvous_probed(rt, proc, member, tag, value, &mut NoProbe)
     }
@@ -71,12 +72,13 @@ impl TagSpace {
         ensures words { proc.new.words ≡ proc.old.words }
 
         // The member made one call, which is in a pair exactly where a value is answered.
-        ensures exchange { Exchange (space_of self.now) (number_of member.old) tag value
-            (seen_of member.old) (seen_of member.new) result }
+        ensures exchange { Exchange (party_of self.now member.old)
+            (record { tag = tag; value = value }) (seen_of member.old) (seen_of member.new) result }
 
         // What the member asked, and how its process slept and woke its partner.
-        ensures walk { Walks (caller_of self.now member.old proc.old) tag value
-            (at_point member.old proc.old) (at_point member.new proc.new) result }
+        ensures walk { Walks (caller_of self.now member.old proc.old)
+            (record { tag = tag; value = value }) (at_point member.old proc.old)
+            (at_point member.new proc.new) result }
     {
         probe.at(1);
         let answer = self.meet(rt, proc, member, tag, value, probe);
@@ -101,8 +103,9 @@ impl TagSpace {
         ensures words { proc.new.words ≡ proc.old.words }
 
         // It is the word for the answer of a rendezvous.
-        ensures word { RendezvousesInWords (caller_of self.now member.old proc.old) tag value
-            (at_point member.old proc.old) (at_point member.new proc.new) result }
+        ensures word { RendezvousesInWords (caller_of self.now member.old proc.old)
+            (record { tag = tag; value = value }) (at_point member.old proc.old)
+            (at_point member.new proc.new) result }
     {
         match self.rendezvous(rt, proc, member, tag, value) {
             Err(Fault::Interrupted(_)) => Ok(INTERRUPTED),
@@ -125,10 +128,11 @@ impl TagSpace {
         ensures member { IsMemberOf self.now member.new }
         ensures same { IsSameMember member.old member.new }
         ensures words { proc.new.words ≡ proc.old.words }
-        ensures exchange { Exchange (space_of self.now) (number_of member.old) tag value
-            (seen_of member.old) (seen_of member.new) result }
-        ensures walk { Walks (caller_of self.now member.old proc.old) tag value
-            (at_point member.old proc.old) (at_point member.new proc.new) result }
+        ensures exchange { Exchange (party_of self.now member.old)
+            (record { tag = tag; value = value }) (seen_of member.old) (seen_of member.new) result }
+        ensures walk { Walks (caller_of self.now member.old proc.old)
+            (record { tag = tag; value = value }) (at_point member.old proc.old)
+            (at_point member.new proc.new) result }
     {
         match self.call(rt, member, tag, value) {
             Called::Met {

@@ -2,7 +2,7 @@
 //! threads of their own each is answered what the other gave, or neither is answered.
 ghost use Rattle.std.specs.Prelude.{◌≡◌, [], IfOk, OnOk, IsOk};
 ghost use Rattle.tag_space.specs.Members.{IsMemberOf, IsSameMember, HasRow};
-ghost use Rattle.tag_space.specs.Members.{space_of, number_of, seen_of};
+ghost use Rattle.tag_space.specs.Members.{number_of, party_of, seen_of};
 ghost use Rattle.tag_space.specs.Outcome.{Exchange, calls_by};
 
 use crate::tests::scene::{Scene, TAG, forked, opened};
@@ -45,10 +45,12 @@ fn call_both<'k, R: Wait + Threads + Sync>(
     ensures second { IsMemberOf space.now result.second.member }
     ensures first_same { IsSameMember first.entry.member result.first.member }
     ensures second_same { IsSameMember second.entry.member result.second.member }
-    ensures first_call { Exchange (space_of space.now) (number_of first.entry.member) tag values.0
-        (seen_of first.entry.member) (seen_of result.first.member) result.answers.first }
-    ensures second_call { Exchange (space_of space.now) (number_of second.entry.member) tag values.1
-        (seen_of second.entry.member) (seen_of result.second.member) result.answers.second }
+    ensures first_call { Exchange (party_of space.now first.entry.member)
+        (record { tag = tag; value = values.0 }) (seen_of first.entry.member)
+        (seen_of result.first.member) result.answers.first }
+    ensures second_call { Exchange (party_of space.now second.entry.member)
+        (record { tag = tag; value = values.1 }) (seen_of second.entry.member)
+        (seen_of result.second.member) result.answers.second }
 {
     let Child {
         mut proc,
