@@ -21,3 +21,5 @@ mod TwoLemmas
 mod WorkedCalls
 mod WorkedWalks
 mod WorkedForks
+mod WorkedReasons
+mod WorkedMembers
