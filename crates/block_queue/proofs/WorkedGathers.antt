@@ -18,7 +18,8 @@ module _ (key : Key) (take : TakeSeat) (puts : List PutSeat) (gathered : Gathere
 
   abbrev emptied : List Entry
   emptied =
-      with_blocks (begun_number key.first (queue_after key history).pipe) gathered.blocks.items history
+      with_blocks (begun_number key.first (queue_after key history).pipe) gathered.blocks.items
+      history
 
   each_writer_has_seen_a_past_of_it : AreTheirPasts history puts
   each_writer_has_seen_a_past_of_it = gathers.puts_past

@@ -1,13 +1,18 @@
--- Pids of other words, Rendez that are there, and faults that do not say why: each against one row.
-use Rattle.std.proofs.Common.{◌≡◌, ◌≢◌, ◌<◌, ◌+◌, ℕ, arith, refl, ap}
+-- Pids of other words, Rendez that are there, faults that do not say why, and what a check tells:
+-- each against one row.
+use Rattle.std.proofs.Common.{◌≡◌, ◌≢◌, ◌<◌, ◌+◌, ℕ, true, arith, refl, ap, sym, ◌∙◌}
 use Rattle.sync_base.specs.declared.fault.Fault.TheVariants as fault
 use Rattle.sync_base.specs.declared.ids.RendezId.{RendezId}
 use Rattle.sync_base.specs.declared.limits.TheConstants.{TOP_LEVEL}
+use Rattle.sleep_core.specs.declared.answer.Answer.TheVariants as answer
+use Rattle.sleep_core.specs.declared.event.Event.TheVariants.{Check}
 use Rattle.sleep_core.specs.declared.phase.Phase.TheVariants as phase
+use Rattle.sleep_core.specs.Runs.{IsRun, world_of, own, kept}
+use Rattle.sleep_core.specs.Step.{answer_to}
 use Rattle.rendez_words.specs.declared.words.Words.{Words}
-use Rattle.rendez_words.specs.Process.{Process, PidsLeft}
+use Rattle.rendez_words.specs.Process.{Process, PidsLeft, pid_in}
 use Rattle.rendez_words.specs.Words.{table_of, procs_of, rendez_of, ArePidsOf, MayPost}
-use Rattle.rendez_words.specs.Words.{WhyNotPosted, WhyNotRaised, IsOfWakeup}
+use Rattle.rendez_words.specs.Words.{WhyNotPosted, WhyNotRaised, IsOfWakeup, IsChecked}
 
 abbrev at_rendez : ℕ → RendezId
 at_rendez number = record { 0 = number }
@@ -66,3 +71,22 @@ a_receipt_of_another_level of_it = let six = of_it.1 in omega (arith, six)
 
 a_receipt_of_no_wakeup : ¬ IsOfWakeup phase.Idle (record { rendez = at_rendez 0; level = 5 })
 a_receipt_of_no_wakeup of_it = of_it
+
+-- ---- what a check tells
+
+module _ (words : Words) (sleeper raiser : Process) (checked : IsChecked words sleeper raiser true)
+  where
+    it_is_of_a_run : IsRun (procs_of words) (rendez_of words) checked.run
+    it_is_of_a_run = checked.legal
+
+    in_that_run_the_sleeper_is_posted_no_more :
+        answer_to (world_of (procs_of words) (rendez_of words) checked.run) (Check (pid_in sleeper))
+        ≡ answer.Released
+    in_that_run_the_sleeper_is_posted_no_more = checked.answered
+
+    -- that run has the steps of both: who checks itself is one process
+    who_has_one_pid_has_one_trace : sleeper.pid ≡ raiser.pid → sleeper.trace ≡ raiser.trace
+    who_has_one_pid_has_one_trace same =
+        checked.sleeper_is
+        ∙ ap (λ (pid : ℕ). kept (own pid checked.run)) same
+        ∙ sym checked.raiser_is

@@ -1,6 +1,6 @@
 -- What no kernel begins with, what a roster has not left, what no rfork, sleep or wakeup answers,
 -- and what no look shows: each against one row.
-use Rattle.std.proofs.Common.{◌≡◌, ◌≢◌, ℕ, List, [], ◌∷◌, length, inl, inr, refl, ap, arith}
+use Rattle.std.proofs.Common.{◌≡◌, ◌≢◌, ◌<◌, ℕ, List, [], ◌∷◌, length, inl, inr, refl, ap, arith}
 use Rattle.sync_base.specs.declared.fault.Fault.TheVariants as fault
 use Rattle.sync_base.specs.declared.flags.Flags.{Flags}
 use Rattle.sync_base.specs.declared.ids.RendezId.{RendezId}
@@ -8,16 +8,18 @@ use Rattle.sync_base.specs.NoteSet.{no_notes}
 use Rattle.sleep_core.specs.Runs.{Entry}
 use Rattle.rendez_words.specs.declared.states.Done.{Done}
 use Rattle.rendez_words.specs.declared.words.Words.{Words}
-use Rattle.rendez_words.specs.Process.{Process}
+use Rattle.rendez_words.specs.Process.{Process, PidsLeft}
 use Rattle.rendez_words.specs.Steps.{raises}
-use Rattle.rendez_words.specs.Words.{table_of, procs_of, rendez_of}
+use Rattle.rendez_words.specs.Words.{table_of, procs_of, rendez_of, IsProcessOf, ArePidsOf}
+use Rattle.sleep_wakeup.specs.declared.kernel.Start.{Start}
 use Rattle.sleep_wakeup.specs.declared.status.ProcStatus.{ProcStatus}
 use Rattle.sleep_wakeup.specs.declared.status.RendezStatus.{RendezStatus}
 use Rattle.sleep_wakeup.specs.Calls.{WhyNotSlept, Wakes, Ends}
 use Rattle.sleep_wakeup.specs.Forks.{HasPid, MayFork, WhyNotForked}
-use Rattle.sleep_wakeup.specs.Groups.{first_group}
-use Rattle.sleep_wakeup.specs.Kernel.{Running, Unused, HasSizes, HasGroup, HasRendez}
-use Rattle.sleep_wakeup.specs.Starts.{IsFirst, HasAllLeft}
+use Rattle.sleep_wakeup.specs.Groups.{first_group, Membership, AreNumbers}
+use Rattle.sleep_wakeup.specs.Kernel.{Running, Unused, Counts, HasSizes, HasGroup, HasRendez}
+use Rattle.sleep_wakeup.specs.Kernel.{AreLeftOf, AreGroupsOf, IsRoster}
+use Rattle.sleep_wakeup.specs.Starts.{IsStartOf, IsFirst, HasAllLeft}
 use Rattle.sleep_wakeup.specs.Status.{AreOfProcs, AreOfRendez}
 
 -- a process of the words with this pid and these steps
@@ -90,6 +92,61 @@ module _ (words : Words) where
   no_child_without_a_pid (inl (inl nobody)) = omega (arith, nobody)
   no_child_without_a_pid (inl (inr nobody)) = omega (arith, nobody)
   no_child_without_a_pid (inr may) = no_pid_is_left may.1
+
+-- ---- what is no start, and no roster of these words
+
+module _ (words : Words) (start : Start) where
+  a_start_has_the_first_process : start.seat.pid ≢ 0 → ¬ IsStartOf words start
+  a_start_has_the_first_process other of_it = other of_it.first
+
+  it_is_of_the_words : ¬ IsProcessOf words start.seat → ¬ IsStartOf words start
+  it_is_of_the_words other of_it = other of_it.process
+
+  it_has_made_no_step : start.seat.trace ≢ [] → ¬ IsStartOf words start
+  it_has_made_no_step other of_it = other of_it.unused
+
+  the_pids_are_of_the_words : ¬ ArePidsOf words start.pids → ¬ IsStartOf words start
+  the_pids_are_of_the_words other of_it = other of_it.pids
+
+  the_next_pid_is_1 : start.pids.next ≢ 1 → ¬ IsStartOf words start
+  the_next_pid_is_1 other of_it = other of_it.next
+
+  there_is_one_group : start.groups.groups ≢ first_group → ¬ IsStartOf words start
+  there_is_one_group other of_it = other of_it.groups
+
+  one_pid_was_given : start.groups.given ≢ 1 → ¬ IsStartOf words start
+  one_pid_was_given other of_it = other of_it.given
+
+  there_is_room_for_all : start.groups.room ≢ procs_of words → ¬ IsStartOf words start
+  there_is_room_for_all other of_it = other of_it.room
+
+module _ (words : Words) (pids : PidsLeft) (own : Membership) (counts : Counts) where
+  a_count_of_another_pid : pids.next ≢ counts.next_pid → ¬ AreLeftOf words pids counts
+  a_count_of_another_pid other left_of = other left_of.next_is
+
+  a_count_past_the_last_rendez : rendez_of words < counts.next_rendez
+      → ¬ AreLeftOf words pids counts
+  a_count_past_the_last_rendez past left_of =
+      let in_it = left_of.rendez_in in omega (arith, past, in_it)
+
+  a_count_of_other_sizes : procs_of words ≢ counts.procs → ¬ AreLeftOf words pids counts
+  a_count_of_other_sizes other left_of = other left_of.sizes.procs_are
+
+  groups_of_other_pids : own.given ≢ counts.next_pid → ¬ AreGroupsOf own counts
+  groups_of_other_pids other groups_of = other groups_of.given_is
+
+  groups_with_other_room : own.room ≢ counts.procs → ¬ AreGroupsOf own counts
+  groups_with_other_room other groups_of = other groups_of.room_is
+
+  a_roster_with_other_pids_left : ¬ AreLeftOf words pids counts → ¬ IsRoster words pids own counts
+  a_roster_with_other_pids_left other roster = other roster.left_is
+
+  a_roster_with_other_groups : ¬ AreGroupsOf own counts → ¬ IsRoster words pids own counts
+  a_roster_with_other_groups other roster = other roster.groups_are
+
+-- a kernel gave its first pid
+no_pid_was_given : ¬ AreNumbers [] 0 0
+no_pid_was_given numbers = let some = numbers.some in omega (arith, some)
 
 -- ---- what is no reason
 
