@@ -1,3 +1,4 @@
 mod CrewLemmas
+mod WorkedLimits
 mod WorkedRuns
 mod WritingLemmas

@@ -3,7 +3,9 @@ pub mod Sending
 mod SharingLemmas
 mod StreamLemmas
 mod WorkedHalls
+mod WorkedPlans
 mod WorkedPools
+mod WorkedReads
 mod WorkedSharings
 mod WorkedStreams
 mod WorkedWatches

@@ -1,0 +1,129 @@
+-- What no plan counts, what is not spare, what does not come back, and what no ticker does: each
+-- against one row.
+use Rattle.std.proofs.Common.{◌≢◌, ◌+◌, ℕ, Some, refl, arith}
+use Rattle.sync_base.specs.declared.limits.TheConstants.{MAX_PROCS, MAX_RENDEZ}
+use Rattle.sync_base.specs.declared.note.NoteSet.{NoteSet}
+use Rattle.sync_base.specs.NoteSet.{no_notes}
+use Rattle.rendez_words.specs.Steps.{drains}
+use Rattle.sleep_wakeup.specs.Forks.{HasPid}
+use Rattle.sleep_wakeup.specs.Kernel.{Running, Unused, next_process}
+use Rattle.tag_space.specs.declared.member.Member.{Member}
+use Rattle.tag_space.specs.declared.space.TagSpace.{TagSpace}
+use Rattle.tag_space.specs.Members.{IsMemberOf}
+use Rattle.semaphore.specs.declared.sema.Sema.{Sema}
+use Rattle.semaphore.specs.declared.sema.SemaSeat.{SemaSeat}
+use Rattle.semaphore.specs.declared.timers.Timers.{Timers}
+use Rattle.semaphore.specs.declared.timers.TimerSeat.{TimerSeat}
+use Rattle.semaphore.specs.Seats.{IsSemaSeatOf, IsTimerSeatOf}
+use Rattle.pipe_dev.specs.Rounds.{Rounds}
+use Rattle.plan9.specs.declared.starting.NotStarted.TheVariants.{NoProc, NoThread}
+use Rattle.plan9.specs.declared.ticker.Ticker.{Ticker}
+use Rattle.plan9.specs.Halls.{IsRowOfSpace, IsSpareMember}
+use Rattle.plan9.specs.Plans.{Planned, IsPlan, CountsProcs, CountsProcsAlone, CountsRendez, Seats}
+use Rattle.plan9.specs.Pools.{IsSpareOf}
+use Rattle.plan9.specs.Startings.{IsNotStarted, IsAsItWas}
+use Rattle.plan9.specs.Tickers.{Looks, TicksOnce, EndsTicking, TicksOn}
+use Rattle.plan9.specs.Vacancies.{IsRowOf}
+use Rattle.plan9.specs.Watches.{IsSpareTimer}
+
+-- ---- plans
+
+-- so many processes and Rendez
+abbrev counted : ℕ → ℕ → Planned
+counted procs rendez = record { procs = procs; rendez = rendez }
+
+no_plan_is_of_no_process : ¬ IsPlan (counted 0 1)
+no_plan_is_of_no_process plan = let some = plan.some in omega (arith, some)
+
+no_plan_counts_two_processes_too_many : ¬ IsPlan (counted (MAX_PROCS + 2) 1)
+no_plan_counts_two_processes_too_many plan =
+    let limited = plan.procs_limited in omega (arith, limited)
+
+no_plan_counts_two_rendez_too_many : ¬ IsPlan (counted 1 (MAX_RENDEZ + 2))
+no_plan_counts_two_rendez_too_many plan =
+    let limited = plan.rendez_limited in omega (arith, limited)
+
+who_wants_fewer_takes_none_away : ¬ CountsProcs 2 (counted 3 0) (counted 2 0)
+who_wants_fewer_takes_none_away counts =
+    let stays = counts.as_before (omega arith) in omega (arith, stays)
+
+too_many_processes_are_not_forgotten : ¬ CountsProcs (MAX_PROCS + 1) (counted 1 0) (counted 5 0)
+too_many_processes_are_not_forgotten counts =
+    let many = counts.too_many (omega arith) in omega (arith, many)
+
+who_wants_processes_alone_takes_none_away : ¬ CountsProcsAlone 2 (counted 3 0) (counted 2 0)
+who_wants_processes_alone_takes_none_away counts =
+    let stays = counts.procs.as_before (omega arith) in omega (arith, stays)
+
+processes_alone_want_no_rendez : ¬ CountsProcsAlone 2 (counted 2 0) (counted 2 1)
+processes_alone_want_no_rendez counts = let same = counts.rendez in omega (arith, same)
+
+too_many_rendez_are_not_forgotten : ¬ CountsRendez (MAX_RENDEZ + 1) (counted 1 0) (counted 1 5)
+too_many_rendez_are_not_forgotten counts =
+    let many = counts.too_many (omega arith) in omega (arith, many)
+
+an_object_takes_no_process_away : ¬ Seats 2 (counted 3 0) (counted 2 2)
+an_object_takes_no_process_away seats =
+    let stays = seats.procs.as_before (omega arith) in omega (arith, stays)
+
+an_object_wants_a_rendez_for_each : ¬ Seats 2 (counted 2 0) (counted 2 1)
+an_object_wants_a_rendez_for_each seats =
+    let two = seats.rendez.more (omega arith) in omega (arith, two)
+
+-- ---- what is not spare
+
+module _ (sema : Sema) (seat : SemaSeat) where
+  a_seat_of_another_semaphore : ¬ IsSemaSeatOf sema seat → ¬ IsSpareOf sema (Some seat)
+  a_seat_of_another_semaphore other spare = other spare
+
+  a_semaphore_of_another_row : sema.first ≢ 3 → ¬ IsRowOf sema 3 2
+  a_semaphore_of_another_row other row = other row.first_is
+
+module _ (timers : Timers) (seat : TimerSeat) where
+  a_seat_of_other_timers : ¬ IsTimerSeatOf timers seat → ¬ IsSpareTimer timers (Some seat)
+  a_seat_of_other_timers other spare = other spare
+
+module _ (space : TagSpace) (member : Member) where
+  a_member_of_another_space : ¬ IsMemberOf space member → ¬ IsSpareMember space (Some member)
+  a_member_of_another_space other spare = other spare
+
+  a_space_of_another_row : space.first.0 ≢ 3 → ¬ IsRowOfSpace space 3 2
+  a_space_of_another_row other row = other row.first_is
+
+-- ---- a child that was not started
+
+module _ {Make Run : Type 0} (Gives : Running → Run → Type 0) (make back : Make) (run : Run)
+    (before : Unused) where
+  a_pid_that_is_left_is_no_reason : HasPid before → ¬ IsNotStarted Gives make before (NoProc back)
+  a_pid_that_is_left_is_no_reason has why = why.1 has
+
+  the_run_of_another_process : ¬ Gives (next_process before) run
+      → ¬ IsNotStarted Gives make before (NoThread run)
+  the_run_of_another_process other why = other why.1
+
+who_made_a_step_is_not_as_it_was : (old new : Running) → new ≢ old → ¬ IsAsItWas old new
+who_made_a_step_is_not_as_it_was old new other same = other same
+
+-- ---- a ticker
+
+module _ (old new : Running) (came : NoteSet) where
+  notes_that_were_not_taken : new.process ≢ drains old.process came → ¬ Looks old came new
+  notes_that_were_not_taken other looks = other looks.took
+
+module _ (old new : Ticker) (came : NoteSet) where
+  notes_end_it_before_a_tick : ((looked : Running) → ¬ Looks old.proc no_notes looked)
+      → ¬ TicksOnce old new
+  notes_end_it_before_a_tick pending ticks = pending ticks.looked ticks.none
+
+  no_notes_end_it_not : ¬ EndsTicking old no_notes new
+  no_notes_end_it_not ends = ends.some refl
+
+  a_tick_behind_its_notes : new.watch ≢ old.watch → ¬ EndsTicking old came new
+  a_tick_behind_its_notes other ends = other ends.watch_is
+
+  an_end_without_a_look : ¬ Looks old.proc came new.proc → ¬ EndsTicking old came new
+  an_end_without_a_look other ends = other ends.looked
+
+  an_end_of_no_ticks : ((times : ℕ) (before : Ticker) → ¬ Rounds TicksOnce times old before)
+      → ¬ TicksOn old came new
+  an_end_of_no_ticks none ticks = none ticks.times ticks.before ticks.ticked

@@ -1,0 +1,47 @@
+-- What a read, a write and a turn are, and what no stream answers: each against one row.
+use Rattle.std.proofs.Common.{◌≡◌, ◌≤◌, ℕ, List, length, Option, Some, Result, Ok, Err}
+use Rattle.std.specs.Prelude.{⊤}
+use Rattle.std.specs.declared.io.Error.{Error}
+use Rattle.sync_base.specs.declared.fault.Fault.{Fault}
+use Rattle.sync_base.specs.declared.fault.Fault.TheVariants as fault
+use Rattle.semaphore.specs.Acquiring.{Acquires}
+use Rattle.pipe_dev.specs.WriteCalls.{writer_of}
+use Rattle.plan9.specs.declared.pipes.Reader.{Reader}
+use Rattle.plan9.specs.declared.pipes.Writer.{Writer}
+use Rattle.plan9.specs.Pools.{Holding, got, holder}
+use Rattle.plan9.specs.Readings.{ReadsBy}
+use Rattle.plan9.specs.Sharings.{AsksForTurn}
+use Rattle.plan9.specs.Streams.{Lent, Takes, TakesNothing, WritesNothing, WritesOnce, EndsWriting}
+use Rattle.plan9.specs.Streams.{front_of}
+
+-- who asks for a turn acquires the unit, or says why not
+who_asks_for_a_turn_acquires : (old new : Holding) (answer : Result ⊤ Fault)
+    → (asks : AsksForTurn old answer new) → Acquires (holder old) (got answer) asks.deeds
+who_asks_for_a_turn_acquires old new answer asks = asks.promise
+
+-- a read that is refused leaves its buffer as it was
+a_refused_read_leaves_the_buffer : (old new : Reader) (buffer buffer' : List ℕ)
+    → ReadsBy old buffer (Err fault.BadCount) new buffer' → buffer' ≡ buffer
+a_refused_read_leaves_the_buffer old new buffer buffer' reads = reads.buffer_same
+
+module _ (old new : Lent) where
+  -- a piece lies in the buffer
+  a_piece_fits : Takes old (Ok (Some 3)) new → 3 ≤ length new.buffer
+  a_piece_fits takes = takes.fits
+
+  no_bytes_are_read_into_no_room : ¬ TakesNothing old (Ok 3) new
+  no_bytes_are_read_into_no_room takes = let no : Ok 3 ≡ Ok 0 = takes.answer_is in cc
+
+module _ (old new : Writer) (bytes : List ℕ) (kept : Option Fault) (error : Error) where
+  nothing_is_written_of_no_bytes : ¬ WritesNothing old bytes (Ok 3) new
+  nothing_is_written_of_no_bytes writes = let no : Ok 3 ≡ Ok 0 = writes.answer_is in cc
+
+  -- a write that is too big leaves its writer as it was
+  a_write_too_big_does_nothing : WritesOnce old bytes (Err fault.TooBig) new
+      → writer_of new.end new.proc ≡ writer_of old.end old.proc
+  a_write_too_big_does_nothing wrote = wrote
+
+  -- an error is of a write that was refused
+  an_error_of_no_write : ((why : Fault) → ¬ WritesOnce old (front_of bytes) (Err why) new)
+      → ¬ EndsWriting old bytes (Err error) kept new
+  an_error_of_no_write none (why, wrote, told) = none why wrote
