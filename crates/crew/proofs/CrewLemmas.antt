@@ -16,12 +16,14 @@ use Rattle.crew.specs.Tally.{AreOfOneRun, IsTallyOf}
 
 -- what was read lies in the buffer
 got_fits : (key : Key) (row : Row) (old : Reader) (buffer : List ℕ) (count : ℕ) (new : Reader)
-    (buffer' : List ℕ) → Reads key row old buffer (Ok (read.Got count)) new buffer'
+    (buffer' : List ℕ)
+    → Reads key row (calling old buffer) (Ok (read.Got count)) (calling new buffer')
     → count ≤ length buffer'
 got_fits key row old buffer count new buffer' reads = by row.mode reads
   where
     by : (mode : Mode)
-        → InMode mode (KeepsTrying key row old buffer (Ok (read.Got count)) new buffer')
+        → InMode mode
+        (KeepsTrying key row (calling old buffer) (Ok (read.Got count)) (calling new buffer'))
         (KeepsReading key row (calling old buffer) (Ok (read.Got count)) (calling new buffer'))
         → count ≤ length buffer'
     by Message trying =
@@ -46,11 +48,13 @@ got_fits key row old buffer count new buffer' reads = by row.mode reads
 -- a read that answers how many bytes it got has got no more than its buffer holds
 pub answer_fits : (key : Key) (row : Row) (old : Reader) (buffer : List ℕ)
     (answer : Result ReadAnswer Fault) (count : ℕ) (new : Reader) (buffer' : List ℕ)
-    → Reads key row old buffer answer new buffer' → answer ≡ Ok (read.Got count)
+    → Reads key row (calling old buffer) answer (calling new buffer') → answer ≡ Ok (read.Got count)
     → count ≤ length buffer'
 answer_fits key row old buffer answer count new buffer' reads is =
     got_fits key row old buffer count new buffer'
-    (subst (λ (a : Result ReadAnswer Fault). Reads key row old buffer a new buffer') is reads)
+    (subst
+    (λ (a : Result ReadAnswer Fault). Reads key row (calling old buffer) a (calling new buffer')) is
+    reads)
 
 -- what counts for the same run counts by the same options
 pub still_of : (opts : ThreadsOpts) (old new : Tally) → IsTallyOf opts old → AreOfOneRun old new

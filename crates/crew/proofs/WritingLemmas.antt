@@ -14,7 +14,6 @@ use Rattle.block_queue.specs.declared.entry.Entry.{Entry}
 use Rattle.block_queue.specs.declared.entry.Entry.TheVariants.{Hung}
 use Rattle.block_queue.specs.declared.view.Key.{Key}
 use Rattle.block_queue.specs.Meaning.{Enters}
-use Rattle.block_queue.specs.Seats.{key_of}
 use Rattle.pipe_dev.specs.declared.answers.ReadAnswer.{ReadAnswer}
 use Rattle.pipe_dev.specs.declared.answers.ReadAnswer.TheVariants as read
 use Rattle.pipe_dev.specs.declared.row.Row.{Row}
@@ -22,7 +21,7 @@ use Rattle.pipe_dev.specs.Chain.{written_by}
 use Rattle.pipe_dev.specs.Ends.{IsSameWriteEnd}
 use Rattle.pipe_dev.specs.ReadCalls.{Reader, Reads, InMode, KeepsTrying, KeepsReading, calling}
 use Rattle.pipe_dev.specs.Sides.{HasWrittenJust}
-use Rattle.pipe_dev.specs.WriteCalls.{Writes, writer_of}
+use Rattle.pipe_dev.specs.WriteCalls.{Writes, call_of, writer_of}
 use Rattle.pipe_dev.proofs.SideLemmas.{writes_add}
 use Rattle.crew.specs.declared.crew.Writer.{Writer}
 use Rattle.crew.specs.Message.{message_of}
@@ -36,12 +35,12 @@ hung_now key seat old new enters = ap (λ (a : Account Entry). is_hung a.seen) e
 
 -- a read that was answered the end
 at_end_now : (key : Key) (row : Row) (old : Reader) (buffer : List ℕ) (new : Reader)
-    (buffer' : List ℕ) → Reads key row old buffer (Ok read.End) new buffer'
+    (buffer' : List ℕ) → Reads key row (calling old buffer) (Ok read.End) (calling new buffer')
     → is_at_end new.account.seen ≡ true
 at_end_now key row old buffer new buffer' reads = by row.mode reads
   where
     by : (mode : Mode)
-        → InMode mode (KeepsTrying key row old buffer (Ok read.End) new buffer')
+        → InMode mode (KeepsTrying key row (calling old buffer) (Ok read.End) (calling new buffer'))
         (KeepsReading key row (calling old buffer) (Ok read.End) (calling new buffer'))
         → is_at_end new.account.seen ≡ true
     by Message trying =
@@ -53,19 +52,21 @@ at_end_now key row old buffer new buffer' reads = by row.mode reads
 -- the same, of an answer that is the end
 pub at_end : (key : Key) (row : Row) (old : Reader) (buffer : List ℕ)
     (answer : Result ReadAnswer Fault) (new : Reader) (buffer' : List ℕ)
-    → Reads key row old buffer answer new buffer' → answer ≡ Ok read.End
+    → Reads key row (calling old buffer) answer (calling new buffer') → answer ≡ Ok read.End
     → is_at_end new.account.seen ≡ true
 at_end key row old buffer answer new buffer' reads is =
     at_end_now key row old buffer new buffer'
-    (subst (λ (a : Result ReadAnswer Fault). Reads key row old buffer a new buffer') is reads)
+    (subst
+    (λ (a : Result ReadAnswer Fault). Reads key row (calling old buffer) a (calling new buffer')) is
+    reads)
 
 -- no read is refused as a bad argument
 never_bad : (key : Key) (row : Row) (old : Reader) (buffer : List ℕ) (new : Reader)
-    (buffer' : List ℕ) → Reads key row old buffer (Err BadArg) new buffer' → ⊥
+    (buffer' : List ℕ) → Reads key row (calling old buffer) (Err BadArg) (calling new buffer') → ⊥
 never_bad key row old buffer new buffer' reads = by row.mode reads
   where
     by : (mode : Mode)
-        → InMode mode (KeepsTrying key row old buffer (Err BadArg) new buffer')
+        → InMode mode (KeepsTrying key row (calling old buffer) (Err BadArg) (calling new buffer'))
         (KeepsReading key row (calling old buffer) (Err BadArg) (calling new buffer')) → ⊥
     by Message trying = trying.ended.0.failed
     by Stream reading = reading.ended.failed
@@ -73,10 +74,12 @@ never_bad key row old buffer new buffer' reads = by row.mode reads
 -- the same, of an answer that is one
 pub no_bad_read : (key : Key) (row : Row) (old : Reader) (buffer : List ℕ)
     (answer : Result ReadAnswer Fault) (new : Reader) (buffer' : List ℕ)
-    → Reads key row old buffer answer new buffer' → ¬ (answer ≡ Err BadArg)
+    → Reads key row (calling old buffer) answer (calling new buffer') → ¬ (answer ≡ Err BadArg)
 no_bad_read key row old buffer answer new buffer' reads is =
     never_bad key row old buffer new buffer'
-    (subst (λ (a : Result ReadAnswer Fault). Reads key row old buffer a new buffer') is reads)
+    (subst
+    (λ (a : Result ReadAnswer Fault). Reads key row (calling old buffer) a (calling new buffer')) is
+    reads)
 
 -- what is taken of a list that goes on behind it
 pub kept_items : (len : ℕ) (xs ys : List ℕ) → length xs ≡ len → take len (xs ++ ys) ≡ xs
@@ -119,8 +122,7 @@ then_written old between new first second =
 -- a write that is counted where it was accepted
 pub written_on : (old new : Writer) (before after : Running) (block : List ℕ)
     (answer : Result ℕ Fault)
-    → Writes (key_of old.end.queue) old.end.row old.end.writer block (writer_of old.end before)
-    answer (writer_of new.end after)
+    → Writes (call_of old.end block) (writer_of old.end before) answer (writer_of new.end after)
     → IsSameWriteEnd old.end new.end → new.number ≡ old.number → new.writes ≡ old.writes
     → vec_len new.message ≡ vec_len old.message
     → messages_of (vec_len old.message) old.number new.done

@@ -25,7 +25,7 @@ use Rattle.pipe_dev.specs.Parts.{Part}
 use Rattle.pipe_dev.specs.ReadCalls.{Reads, InMode, KeepsTrying, KeepsReading, calling}
 use Rattle.pipe_dev.specs.ReadCalls.{reader_of}
 use Rattle.pipe_dev.specs.Sides.{HasWrittenJust}
-use Rattle.pipe_dev.specs.WriteCalls.{Writes, writer_of}
+use Rattle.pipe_dev.specs.WriteCalls.{Writes, call_of, writer_of}
 use Rattle.pipe_dev.proofs.SideLemmas.{reads_add, read_ends_hang_up, writes_add, write_ends_hang_up}
 use Rattle.example_headline.specs.declared.reader.Reader.{Reader}
 use Rattle.example_headline.specs.declared.writer.Writer.{Writer}
@@ -64,10 +64,9 @@ grown (Err why) buffer parts parts' adds =
 -- a read whose part is kept
 pub read_on : (old new : Reader) (before after : Running) (buffer : List ℕ)
     (answer : Result ReadAnswer Fault) (buffer' : List ℕ) → buffer ≢ []
-    → Reads (key_of old.end.queue) old.end.row (reader_of old.end before) buffer answer
-    (reader_of new.end after) buffer'
-    → IsSameReadEnd old.end new.end → new.got.items ≡ old.got.items ++ got_by answer buffer'
-    → HasReadOn old new
+    → Reads (key_of old.end.queue) old.end.row (calling (reader_of old.end before) buffer) answer
+    (calling (reader_of new.end after) buffer') → IsSameReadEnd old.end new.end
+    → new.got.items ≡ old.got.items ++ got_by answer buffer' → HasReadOn old new
 read_on old new before after buffer answer buffer' room reads same got =
     record {
       end = same;
@@ -89,14 +88,14 @@ read_on old new before after buffer answer buffer' room reads same got =
 -- a read that was answered the end has seen it
 pub sees_end : (key : Key) (row : Row) (old end : ReadSide) (before after : Running)
     (buffer buffer' : List ℕ) → row.mode ≡ Message
-    → Reads key row (reader_of old before) buffer (Ok read.End) (reader_of end after) buffer'
-    → HasSeenEnd end
+    → Reads key row (calling (reader_of old before) buffer) (Ok read.End)
+    (calling (reader_of end after) buffer') → HasSeenEnd end
 sees_end key row old end before after buffer buffer' mode reads = by row.mode mode reads
   where
     by : (m : Mode) → m ≡ Message
         → InMode m
-        (KeepsTrying key row (reader_of old before) buffer (Ok read.End) (reader_of end after)
-        buffer')
+        (KeepsTrying key row (calling (reader_of old before) buffer) (Ok read.End)
+        (calling (reader_of end after) buffer'))
         (KeepsReading key row (calling (reader_of old before) buffer) (Ok read.End)
         (calling (reader_of end after) buffer'))
         → HasSeenEnd end
@@ -157,8 +156,7 @@ some_room xs count many some none =
 -- a write that is counted where it was accepted
 pub written_on : (old new : Writer) (before after : Running) (block : List ℕ)
     (answer : Result ℕ Fault)
-    → Writes (key_of old.end.queue) old.end.row old.end.writer block (writer_of old.end before)
-    answer (writer_of new.end after)
+    → Writes (call_of old.end block) (writer_of old.end before) answer (writer_of new.end after)
     → IsSameWriteEnd old.end new.end → new.messages ≡ old.messages
     → take new.accepted new.messages.items
     ≡ take old.accepted old.messages.items ++ written_by answer block

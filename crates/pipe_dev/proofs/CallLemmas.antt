@@ -19,7 +19,8 @@ use Rattle.pipe_dev.specs.ReadCalls.{Calling, calling, came_to, TriesOn, GivesBy
 use Rattle.pipe_dev.specs.ReadCalls.{FailsOn, is_got}
 use Rattle.pipe_dev.specs.ReadSteps.{found_of}
 use Rattle.pipe_dev.specs.Rendezes.{HasRow, reader_rendez, writer_rendez}
-use Rattle.pipe_dev.specs.WriteCalls.{Writer, FindsFull, FailsForRoom, EndsWrite, IsAsked}
+use Rattle.pipe_dev.specs.WriteCalls.{WriteCall, Writer, FindsFull, FailsForRoom}
+use Rattle.pipe_dev.specs.WriteCalls.{EndsWrite, IsAsked}
 use Rattle.pipe_dev.proofs.ModeLemmas.{got_at, not_yet_at, end_at}
 use Rattle.pipe_dev.proofs.RoundLemmas.{fails_asleep, not_yet_low, full_low}
 
@@ -94,43 +95,42 @@ fails_on words key row old between came number rendez after why first has is tri
     }
 
 -- such a fault is answered by no other step of a write
-failed_write : (key : Key) (row : Row) (writer : ℕ) (block : List ℕ) (old : Writer) (why : Fault)
-    (new : Writer) → FailsForRoom key row writer block old why new
-    → EndsWrite key row writer block old (Err why) new × IsAsked (Err why)
-failed_write key row writer block old (fault.Interrupted notes) new fails = (fails, tt)
-failed_write key row writer block old fault.DoubleSleep new fails = (fails, tt)
-failed_write key row writer block old fault.NoRendez new fails = absurd fails.failed
-failed_write key row writer block old fault.BadLevel new fails = absurd fails.failed
-failed_write key row writer block old fault.Memory new fails = absurd fails.failed
-failed_write key row writer block old fault.Hungup new fails = absurd fails.failed
-failed_write key row writer block old fault.TooBig new fails = absurd fails.failed
-failed_write key row writer block old fault.BadArg new fails = absurd fails.failed
-failed_write key row writer block old fault.BadCount new fails = absurd fails.failed
-failed_write key row writer block old fault.BadSize new fails = absurd fails.failed
-failed_write key row writer block old fault.Worn new fails = absurd fails.failed
-failed_write key row writer block old fault.NoProc new fails = absurd fails.failed
-failed_write key row writer block old fault.BadFlags new fails = absurd fails.failed
-failed_write key row writer block old (fault.Script line) new fails = absurd fails.failed
-failed_write key row writer block old fault.TimedOut new fails = absurd fails.failed
-failed_write key row writer block old fault.Device new fails = absurd fails.failed
+failed_write : (call : WriteCall) (old : Writer) (why : Fault) (new : Writer)
+    → FailsForRoom call old why new → EndsWrite call old (Err why) new × IsAsked (Err why)
+failed_write call old (fault.Interrupted notes) new fails = (fails, tt)
+failed_write call old fault.DoubleSleep new fails = (fails, tt)
+failed_write call old fault.NoRendez new fails = absurd fails.failed
+failed_write call old fault.BadLevel new fails = absurd fails.failed
+failed_write call old fault.Memory new fails = absurd fails.failed
+failed_write call old fault.Hungup new fails = absurd fails.failed
+failed_write call old fault.TooBig new fails = absurd fails.failed
+failed_write call old fault.BadArg new fails = absurd fails.failed
+failed_write call old fault.BadCount new fails = absurd fails.failed
+failed_write call old fault.BadSize new fails = absurd fails.failed
+failed_write call old fault.Worn new fails = absurd fails.failed
+failed_write call old fault.NoProc new fails = absurd fails.failed
+failed_write call old fault.BadFlags new fails = absurd fails.failed
+failed_write call old (fault.Script line) new fails = absurd fails.failed
+failed_write call old fault.TimedOut new fails = absurd fails.failed
+failed_write call old fault.Device new fails = absurd fails.failed
 
 -- the sleep of a write did not end well
-pub write_fails : (words : Words) (key : Key) (row : Row) (writer : ℕ) (block : List ℕ)
-    (old : Writer) (account : Account Entry) (number : ℕ) (rendez : RendezId) (after : Process)
-    (why : Fault) → key.first ≡ 0 → HasRow words row → writer < row.writers
-    → rendez ≡ writer_rendez row writer
-    → FindsFull key writer block number old (record { account = account; process = old.process })
+pub write_fails : (words : Words) (call : WriteCall) (old : Writer) (account : Account Entry)
+    (number : ℕ) (rendez : RendezId) (after : Process) (why : Fault) → call.key.first ≡ 0
+    → HasRow words call.row → call.writer < call.row.writers
+    → rendez ≡ writer_rendez call.row call.writer
+    → FindsFull call number old (record { account = account; process = old.process })
     → WhyNotSlept words old.process rendez number after why
-    → EndsWrite key row writer block old (Err why) (record { account = account; process = after })
+    → EndsWrite call old (Err why) (record { account = account; process = after })
     × IsAsked (Err why)
-write_fails words key row writer block old account number rendez after why first has writer_in is
-    found told =
-    failed_write key row writer block old why (record { account = account; process = after })
+write_fails words call old account number rendez after why first has writer_in is found told =
+    failed_write call old why (record { account = account; process = after })
     record {
       number = number;
       found = found;
-      failed = fails_asleep words old.process (writer_rendez row writer) number after why
+      failed = fails_asleep words old.process (writer_rendez call.row call.writer) number after
+          why
           (omega (arith, has, writer_in))
-          (full_low key writer block number old.account account first found.entered)
+          (full_low call.key call.writer call.bytes number old.account account first found.entered)
           (subst (λ (r : RendezId). WhyNotSlept words old.process r number after why) is told);
     }

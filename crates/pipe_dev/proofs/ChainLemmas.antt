@@ -90,20 +90,19 @@ got_next key row old new left (inl goes) parts parts' =
 got_next key row old new left (inr out) parts parts' =
     inr record { none_left = out.none_left; taken = out.taken }
 
-got_part : (key : Key) (row : Row) (old : Reader) (buffer : List ℕ) (count : ℕ) (new : Reader)
-    (buffer' : List ℕ) (parts : List Part) → buffer ≢ []
-    → (gets : Gets key row old buffer count new buffer')
-    → AddsPart key (reading_at old parts)
-    (reading_at new (part_of (length buffer) gets.left ∷ parts))
-got_part key row old buffer count new buffer' parts room gets =
+got_part : (key : Key) (row : Row) (old : Calling) (count : ℕ) (new : Calling) (parts : List Part)
+    → old.buffer ≢ [] → (gets : Gets key row old count new)
+    → AddsPart key (reading_at old.reader parts)
+    (reading_at new.reader (part_of (length old.buffer) gets.left ∷ parts))
+got_part key row old count new parts room gets =
     record {
-      room = length buffer;
-      some_room = has_room buffer room;
-      part = part_of (length buffer) gets.left;
+      room = length old.buffer;
+      some_room = has_room old.buffer room;
+      part = part_of (length old.buffer) gets.left;
       taken = record {
         left = gets.left;
-        next = got_next key row old new gets.left gets.next parts
-            (part_of (length buffer) gets.left ∷ parts);
+        next = got_next key row old.reader new.reader gets.left gets.next parts
+            (part_of (length old.buffer) gets.left ∷ parts);
         part_is = refl;
         rest = gets.rest;
       };
@@ -132,34 +131,34 @@ no_step key Adds old new parts same adds =
       steps = ap (λ (r : Reader). reading_at r parts) same;
     }
 
-tried_steps : (key : Key) (row : Row) (old : Reader) (buffer : List ℕ)
-    (answer : Result ReadAnswer Fault) (new : Reader) (buffer' : List ℕ) → buffer ≢ []
-    → KeepsTrying key row old buffer answer new buffer'
-    → (parts : List Part) → IsOfSteps key (AddsRead Message answer buffer') old parts new
-tried_steps key row old buffer (Ok (read.Got count)) new buffer' room reads parts =
+tried_steps : (key : Key) (row : Row) (old : Calling) (answer : Result ReadAnswer Fault)
+    (new : Calling) → old.buffer ≢ [] → KeepsTrying key row old answer new → (parts : List Part)
+    → IsOfSteps key (AddsRead Message answer new.buffer) old.reader parts new.reader
+tried_steps key row old (Ok (read.Got count)) new room reads parts =
     let gets = reads.ended in
     record {
-      parts' = part_of (length buffer) gets.left ∷ parts;
-      added = got_one (part_of (length buffer) gets.left) buffer buffer' count parts gets.filled;
+      parts' = part_of (length old.buffer) gets.left ∷ parts;
+      added = got_one (part_of (length old.buffer) gets.left) old.buffer new.buffer count parts
+          gets.filled;
       times = suc reads.times;
       steps = record {
         between = reading_at reads.between parts;
-        rounds = slept_rounds key row reads.times old reads.between parts reads.slept;
-        last = inl (got_part key row reads.between buffer count new buffer' parts room gets);
+        rounds = slept_rounds key row reads.times old.reader reads.between parts reads.slept;
+        last = inl (got_part key row (calling reads.between old.buffer) count new parts room gets);
       };
     }
-tried_steps key row old buffer (Ok read.End) new buffer' room reads parts =
+tried_steps key row old (Ok read.End) new room reads parts =
     record {
       parts' = parts;
       added = refl;
       times = suc reads.times;
       steps = record {
         between = reading_at reads.between parts;
-        rounds = slept_rounds key row reads.times old reads.between parts reads.slept;
-        last = inr (found_none key End reads.between new parts tt reads.ended.0);
+        rounds = slept_rounds key row reads.times old.reader reads.between parts reads.slept;
+        last = inr (found_none key End reads.between new.reader parts tt reads.ended.0);
       };
     }
-tried_steps key row old buffer (Err why) new buffer' room reads parts =
+tried_steps key row old (Err why) new room reads parts =
     let fails = reads.ended.0 in
     record {
       parts' = parts;
@@ -167,10 +166,10 @@ tried_steps key row old buffer (Err why) new buffer' room reads parts =
       times = suc reads.times;
       steps = record {
         between = reading_at reads.between parts;
-        rounds = slept_rounds key row reads.times old reads.between parts reads.slept;
+        rounds = slept_rounds key row reads.times old.reader reads.between parts reads.slept;
         last = inr
             (found_none key (NotYet fails.number) reads.between
-            (record new { process = reads.between.process }) parts tt fails.found.none);
+            (record new.reader { process = reads.between.process }) parts tt fails.found.none);
       };
     }
 
@@ -461,16 +460,15 @@ kept_steps key row old (Err why) new room reads parts =
     }))
 
 -- in each mode
-by_mode_steps : (key : Key) (row : Row) (old : Reader) (buffer : List ℕ)
-    (answer : Result ReadAnswer Fault) (new : Reader) (buffer' : List ℕ) → buffer ≢ []
-    → (mode : Mode)
-    → InMode mode (KeepsTrying key row old buffer answer new buffer')
-    (KeepsReading key row (calling old buffer) answer (calling new buffer'))
-    → (parts : List Part) → IsOfSteps key (AddsRead mode answer buffer') old parts new
-by_mode_steps key row old buffer answer new buffer' room Message reads parts =
-    tried_steps key row old buffer answer new buffer' room reads parts
-by_mode_steps key row old buffer answer new buffer' room Stream reads parts =
-    kept_steps key row (calling old buffer) answer (calling new buffer') room reads parts
+by_mode_steps : (key : Key) (row : Row) (old : Calling) (answer : Result ReadAnswer Fault)
+    (new : Calling) → old.buffer ≢ [] → (mode : Mode)
+    → InMode mode (KeepsTrying key row old answer new) (KeepsReading key row old answer new)
+    → (parts : List Part)
+    → IsOfSteps key (AddsRead mode answer new.buffer) old.reader parts new.reader
+by_mode_steps key row old answer new room Message reads parts =
+    tried_steps key row old answer new room reads parts
+by_mode_steps key row old answer new room Stream reads parts =
+    kept_steps key row old answer new room reads parts
 
 -- a read that was refused at once
 refused_steps : (key : Key) (why : Fault) (old new : Reader) (buffer' : List ℕ)
@@ -484,86 +482,85 @@ refused_steps key why old new buffer' parts Stream same =
 
 -- each read is steps of its end, and adds the parts whose bytes it got in its buffer
 pub reads_are_steps : ReadsAreSteps
-reads_are_steps key row old buffer (Ok answer) new buffer' room reads parts =
-    by_mode_steps key row old buffer (Ok answer) new buffer' room row.mode reads parts
-reads_are_steps key row old buffer (Err fault.BadCount) new buffer' room reads parts =
-    refused_steps key fault.BadCount old new buffer' parts row.mode reads.same
-reads_are_steps key row old buffer (Err fault.NoRendez) new buffer' room reads parts =
-    refused_steps key fault.NoRendez old new buffer' parts row.mode reads.same
-reads_are_steps key row old buffer (Err why) new buffer' room reads parts =
-    by_mode_steps key row old buffer (Err why) new buffer' room row.mode reads parts
+reads_are_steps key row old (Ok answer) new room reads parts =
+    by_mode_steps key row old (Ok answer) new room row.mode reads parts
+reads_are_steps key row old (Err fault.BadCount) new room reads parts =
+    refused_steps key fault.BadCount old.reader new.reader new.buffer parts row.mode reads.same
+reads_are_steps key row old (Err fault.NoRendez) new room reads parts =
+    refused_steps key fault.NoRendez old.reader new.reader new.buffer parts row.mode reads.same
+reads_are_steps key row old (Err why) new room reads parts =
+    by_mode_steps key row old (Err why) new room row.mode reads parts
 
-tried_got : (key : Key) (row : Row) (old : Reader) (buffer : List ℕ) (count : ℕ) (new : Reader)
-    (buffer' : List ℕ) → buffer ≢ [] → (mode : Mode)
-    → InMode mode (Gets key row old buffer count new buffer')
-    (GivesBytes key row (calling old buffer) count (calling new buffer'))
-    → (parts : List Part) → IsOfSteps key (AddsTry mode (try.Got count) buffer') old parts new
-tried_got key row old buffer count new buffer' room Message gets parts =
+tried_got : (key : Key) (row : Row) (old : Calling) (count : ℕ) (new : Calling) → old.buffer ≢ []
+    → (mode : Mode) → InMode mode (Gets key row old count new) (GivesBytes key row old count new)
+    → (parts : List Part)
+    → IsOfSteps key (AddsTry mode (try.Got count) new.buffer) old.reader parts new.reader
+tried_got key row old count new room Message gets parts =
     record {
-      parts' = part_of (length buffer) gets.left ∷ parts;
-      added = got_one (part_of (length buffer) gets.left) buffer buffer' count parts gets.filled;
+      parts' = part_of (length old.buffer) gets.left ∷ parts;
+      added = got_one (part_of (length old.buffer) gets.left) old.buffer new.buffer count parts
+          gets.filled;
       times = 1;
       steps = record {
-        between = reading_at old parts;
+        between = reading_at old.reader parts;
         rounds = refl;
-        last = inl (got_part key row old buffer count new buffer' parts room gets);
+        last = inl (got_part key row old count new parts room gets);
       };
     }
-tried_got key row old buffer count new buffer' room Stream gives parts =
-    added_steps key (AddsTry Stream (try.Got count) buffer') old new parts (take count buffer')
+tried_got key row old count new room Stream gives parts =
+    added_steps key (AddsTry Stream (try.Got count) new.buffer) old.reader new.reader parts
+    (take count new.buffer) (λ parts' adds. adds)
+    (try_adds key row old count gives.why new parts room gives.tried)
+
+tried_not_yet : (key : Key) (row : Row) (old new : Calling) → old.buffer ≢ [] → (mode : Mode)
+    → InMode mode (IsNotYet key old.reader new.reader × (new.buffer ≡ old.buffer))
+    (IsNotYetOn key row old new) → (parts : List Part)
+    → IsOfSteps key (AddsTry mode try.NotYet new.buffer) old.reader parts new.reader
+tried_not_yet key row old new room Message tries parts =
+    record {
+      parts' = parts;
+      added = refl;
+      times = 1;
+      steps = record {
+        between = reading_at old.reader parts;
+        rounds = refl;
+        last = inr (found_none key (NotYet tries.0.number) old.reader new.reader parts tt
+            tries.0.found.none);
+      };
+    }
+tried_not_yet key row old new room Stream tries parts =
+    added_steps key (AddsTry Stream try.NotYet new.buffer) old.reader new.reader parts []
     (λ parts' adds. adds)
-    (try_adds key row (calling old buffer) count gives.why (calling new buffer') parts room
-    gives.tried)
+    (try_adds key row old 0 (stop.NotYet tries.number) new parts room tries.tried)
 
-tried_not_yet : (key : Key) (row : Row) (old : Reader) (buffer : List ℕ) (new : Reader)
-    (buffer' : List ℕ) → buffer ≢ [] → (mode : Mode)
-    → InMode mode (IsNotYet key old new × (buffer' ≡ buffer))
-    (IsNotYetOn key row (calling old buffer) (calling new buffer'))
-    → (parts : List Part) → IsOfSteps key (AddsTry mode try.NotYet buffer') old parts new
-tried_not_yet key row old buffer new buffer' room Message tries parts =
+tried_end : (key : Key) (row : Row) (old new : Calling) → old.buffer ≢ [] → (mode : Mode)
+    → InMode mode (FindsEnd key old.reader new.reader × (new.buffer ≡ old.buffer))
+    (TriesOn key row old (came_to 0 stop.End) new) → (parts : List Part)
+    → IsOfSteps key (AddsTry mode try.End new.buffer) old.reader parts new.reader
+tried_end key row old new room Message tries parts =
     record {
       parts' = parts;
       added = refl;
       times = 1;
       steps = record {
-        between = reading_at old parts;
+        between = reading_at old.reader parts;
         rounds = refl;
-        last = inr (found_none key (NotYet tries.0.number) old new parts tt tries.0.found.none);
+        last = inr (found_none key End old.reader new.reader parts tt tries.0);
       };
     }
-tried_not_yet key row old buffer new buffer' room Stream tries parts =
-    added_steps key (AddsTry Stream try.NotYet buffer') old new parts [] (λ parts' adds. adds)
-    (try_adds key row (calling old buffer) 0 (stop.NotYet tries.number) (calling new buffer') parts
-    room tries.tried)
-
-tried_end : (key : Key) (row : Row) (old : Reader) (buffer : List ℕ) (new : Reader)
-    (buffer' : List ℕ) → buffer ≢ [] → (mode : Mode)
-    → InMode mode (FindsEnd key old new × (buffer' ≡ buffer))
-    (TriesOn key row (calling old buffer) (came_to 0 stop.End) (calling new buffer'))
-    → (parts : List Part) → IsOfSteps key (AddsTry mode try.End buffer') old parts new
-tried_end key row old buffer new buffer' room Message tries parts =
-    record {
-      parts' = parts;
-      added = refl;
-      times = 1;
-      steps = record {
-        between = reading_at old parts;
-        rounds = refl;
-        last = inr (found_none key End old new parts tt tries.0);
-      };
-    }
-tried_end key row old buffer new buffer' room Stream tries parts =
-    added_steps key (AddsTry Stream try.End buffer') old new parts [] (λ parts' adds. adds)
-    (try_adds key row (calling old buffer) 0 stop.End (calling new buffer') parts room tries)
+tried_end key row old new room Stream tries parts =
+    added_steps key (AddsTry Stream try.End new.buffer) old.reader new.reader parts []
+    (λ parts' adds. adds)
+    (try_adds key row old 0 stop.End new parts room tries)
 
 -- and so is each read that does not wait
 pub tries_are_steps : TriesAreSteps
-tries_are_steps key row old buffer (try.Got count) new buffer' room tries parts =
-    tried_got key row old buffer count new buffer' room row.mode tries parts
-tries_are_steps key row old buffer try.NotYet new buffer' room tries parts =
-    tried_not_yet key row old buffer new buffer' room row.mode tries parts
-tries_are_steps key row old buffer try.End new buffer' room tries parts =
-    tried_end key row old buffer new buffer' room row.mode tries parts
+tries_are_steps key row old (try.Got count) new room tries parts =
+    tried_got key row old count new room row.mode tries parts
+tries_are_steps key row old try.NotYet new room tries parts =
+    tried_not_yet key row old new room row.mode tries parts
+tries_are_steps key row old try.End new room tries parts =
+    tried_end key row old new room row.mode tries parts
 
 -- a hangup by the reader is one step of its end, and adds no part
 pub hangups_are_steps : HangupsAreSteps

@@ -14,7 +14,7 @@ use Rattle.block_queue.specs.Seats.{key_of}
 use Rattle.pipe_dev.specs.declared.row.Row.{Row}
 use Rattle.pipe_dev.specs.Ends.{WriteSide, IsSameWriteEnd}
 use Rattle.pipe_dev.specs.Rendezes.{HasRow}
-use Rattle.pipe_dev.specs.WriteCalls.{Writer, Writes, atomic_writes, atomic_writes_in}
+use Rattle.pipe_dev.specs.WriteCalls.{Writer, Writes, atomic_writes, atomic_writes_in, call_of}
 
 le-true : (a b : ℕ) → a ≤ b → nat_le a b ≡ true
 le-true a b low = grind (arith, nat_tests)
@@ -88,14 +88,15 @@ one_done done block others blocks is =
 
 -- the end stays where it is
 pub wrote_at : (old now : WriteSide) (block : List ℕ) (before : Writer) (answer : Result ℕ Fault)
-    (after : Writer) → IsSameWriteEnd old now
-    → Writes (key_of now.queue) now.row now.writer block before answer after
-    → Writes (key_of old.queue) old.row old.writer block before answer after
+    (after : Writer) → IsSameWriteEnd old now → Writes (call_of now block) before answer after
+    → Writes (call_of old block) before answer after
 wrote_at old now block before answer after same wrote =
-    subst (λ (q : Queue). Writes (key_of q) old.row old.writer block before answer after) same.queue
-    (subst (λ (r : Row). Writes (key_of now.queue) r old.writer block before answer after) same.row
-    (subst (λ (n : ℕ). Writes (key_of now.queue) now.row n block before answer after) same.writer
-    wrote))
+    subst (λ (q : Queue). Writes (record (call_of old block) { key = key_of q }) before answer
+    after) same.queue
+    (subst (λ (r : Row). Writes (record (call_of old block) { key = key_of now.queue; row = r })
+    before answer after) same.row
+    (subst (λ (n : ℕ). Writes (record (call_of now block) { writer = n }) before answer after)
+    same.writer wrote))
 
 -- the next write is cut off
 pub cut_next : (bytes left front back : List ℕ) (done : List (List ℕ)) → ATOMIC_SIZE < length left

@@ -29,7 +29,7 @@ use Rattle.pipe_dev.specs.Filling.{Taker, TakesPart, TakesMore, Filling, Lending
 use Rattle.pipe_dev.specs.Filling.{IsLeft, IsTakenOut, FindsNothing, FindsNotThere}
 use Rattle.pipe_dev.specs.Filling.{has_none, goes_further, number_of, last_number, IsFilledBy}
 use Rattle.pipe_dev.specs.Parts.{Part, part_of, bytes_of}
-use Rattle.pipe_dev.specs.ReadCalls.{Reader, GoesOn, TakesOut, Gets, FindsNone, FindsNotYet}
+use Rattle.pipe_dev.specs.ReadCalls.{GoesOn, TakesOut, Gets, FindsNone, FindsNotYet}
 use Rattle.pipe_dev.specs.ReadCalls.{FindsEnd}
 use Rattle.pipe_dev.specs.ReadCalls.{SleepsForWrite, FailsForWrite, EndsRead, KeepsTrying}
 use Rattle.pipe_dev.specs.ReadCalls.{Reads, Tries}
@@ -146,8 +146,7 @@ one_got : (key : Key) (row : Row) (old : Calling) (count : ℕ) (new : Calling) 
     → ReadsOne key (lending_of old) filling → (lending_of new).taker ≡ filling.taker
     → IsFilledBy (bytes_of filling.parts) old.buffer new.buffer count
     → WakesWith row (last_number old.reader.rest filling.parts) old.reader.process
-    new.reader.process
-    → Gets key row old.reader old.buffer count new.reader new.buffer
+    new.reader.process → Gets key row old count new
 one_got key row old count new filling one taker filled woken =
     record {
       left = left;
@@ -199,7 +198,7 @@ one_got key row old count new filling one taker filled woken =
 -- so a try of messages that had enough gets one
 pub message_gets : (key : Key) (row : Row) (old : Calling) (count : ℕ) (new : Calling)
     → row.mode ≡ Message → TriesOn key row old (came_to count stop.Enough) new
-    → Gets key row old.reader old.buffer count new.reader new.buffer
+    → Gets key row old count new
 message_gets key row old count new is tries =
     by
     (one_or_none key row.mode (lending_of old) is tries.fills.times tries.fills.filling
@@ -207,7 +206,7 @@ message_gets key row old count new is tries =
   where
     by : (tries.fills.filling ≡ begins (lending_of old).taker)
         ⊎ ReadsOne key (lending_of old) tries.fills.filling
-        → Gets key row old.reader old.buffer count new.reader new.buffer
+        → Gets key row old count new
     by (inl none) =
         let has = ap (λ (f : Filling). has_none f.parts) none in
         let goes = in_message row.mode (length old.buffer) tries.fills.filling.parts is in
@@ -323,13 +322,11 @@ message_end key row old count new is tries =
 
 -- bytes that are told of a message are those of one
 pub message_bytes : (key : Key) (row : Row) (old : Calling) (count : ℕ) (new : Calling)
-    → row.mode ≡ Message → GivesBytes key row old count new
-    → Gets key row old.reader old.buffer count new.reader new.buffer
+    → row.mode ≡ Message → GivesBytes key row old count new → Gets key row old count new
 message_bytes key row old count new is gives = by gives.why gives.tried gives.got
   where
     by : (why : Stop) → TriesOn key row old (came_to count why) new
-        → is_got (came_to count why) ≡ true
-        → Gets key row old.reader old.buffer count new.reader new.buffer
+        → is_got (came_to count why) ≡ true → Gets key row old count new
     by stop.Enough tried got = message_gets key row old count new is tried
     by (stop.NotYet number) tried got =
         let none = (message_not_yet key row old count number new is tried).count_is in
@@ -403,11 +400,10 @@ failed_message key row old why new is fails =
     )
 
 ends_message : (key : Key) (row : Row) (old : Calling) (buffer : List ℕ)
-    (answer : Result ReadAnswer Fault) (new : Calling) → row.mode ≡ Message
-    → old.buffer ≡ buffer → EndsOn key row old answer new
-    → EndsRead key row old.reader buffer answer new.reader new.buffer
+    (answer : Result ReadAnswer Fault) (new : Calling) → row.mode ≡ Message → old.buffer ≡ buffer
+    → EndsOn key row old answer new → EndsRead key row (calling old.reader buffer) answer new
 ends_message key row old buffer (Ok (read.Got count)) new is same ends =
-    subst (λ (xs : List ℕ). Gets key row old.reader xs count new.reader new.buffer) same
+    subst (λ (xs : List ℕ). Gets key row (calling old.reader xs) count new) same
     (message_bytes key row old count new is ends)
 ends_message key row old buffer (Ok read.End) new is same ends =
     let told = message_end key row old 0 new is ends in (told.found, told.buffer ∙ same)
@@ -417,7 +413,7 @@ ends_message key row old buffer (Err why) new is same ends =
 -- a read of messages that goes on as its mode says keeps trying
 pub keeps_trying : (key : Key) (row : Row) (old : Calling) (answer : Result ReadAnswer Fault)
     (new : Calling) → row.mode ≡ Message → KeepsReading key row old answer new
-    → KeepsTrying key row old.reader old.buffer answer new.reader new.buffer
+    → KeepsTrying key row old answer new
 keeps_trying key row old answer new is reads =
     let slept = slept_messages key row reads.times old reads.between is reads.slept in
     record {
@@ -433,67 +429,56 @@ in_mode : (mode : Mode) (OfMessages OfStream : Type 0) → (mode ≡ Message →
 in_mode Message OfMessages OfStream of_messages of_stream = of_messages refl
 in_mode Stream OfMessages OfStream of_messages of_stream = of_stream
 
-by_its_mode : (key : Key) (row : Row) (old : Reader) (buffer : List ℕ)
-    (answer : Result ReadAnswer Fault) (new : Reader) (buffer' : List ℕ)
-    → KeepsReading key row (calling old buffer) answer (calling new buffer')
-    → InMode row.mode (KeepsTrying key row old buffer answer new buffer')
-    (KeepsReading key row (calling old buffer) answer (calling new buffer'))
-by_its_mode key row old buffer answer new buffer' reads =
-    in_mode row.mode (KeepsTrying key row old buffer answer new buffer')
-    (KeepsReading key row (calling old buffer) answer (calling new buffer'))
-    (λ is. keeps_trying key row (calling old buffer) answer (calling new buffer') is reads) reads
+by_its_mode : (key : Key) (row : Row) (old : Calling) (answer : Result ReadAnswer Fault)
+    (new : Calling) → KeepsReading key row old answer new
+    → InMode row.mode (KeepsTrying key row old answer new) (KeepsReading key row old answer new)
+by_its_mode key row old answer new reads =
+    in_mode row.mode (KeepsTrying key row old answer new) (KeepsReading key row old answer new)
+    (λ is. keeps_trying key row old answer new is reads) reads
 
 -- a read that asked the queue is answered by no refusal that comes first
-pub reads_by_mode : (key : Key) (row : Row) (old : Reader) (buffer : List ℕ)
-    (answer : Result ReadAnswer Fault) (new : Reader) (buffer' : List ℕ)
-    → KeepsReading key row (calling old buffer) answer (calling new buffer')
-    → Reads key row old buffer answer new buffer'
-reads_by_mode key row old buffer (Ok answer) new buffer' reads =
-    by_its_mode key row old buffer (Ok answer) new buffer' reads
-reads_by_mode key row old buffer (Err fault.BadCount) new buffer' reads = absurd reads.ended.failed
-reads_by_mode key row old buffer (Err fault.NoRendez) new buffer' reads = absurd reads.ended.failed
-reads_by_mode key row old buffer (Err why) new buffer' reads =
-    by_its_mode key row old buffer (Err why) new buffer' reads
+pub reads_by_mode : (key : Key) (row : Row) (old : Calling) (answer : Result ReadAnswer Fault)
+    (new : Calling) → KeepsReading key row old answer new → Reads key row old answer new
+reads_by_mode key row old (Ok answer) new reads =
+    by_its_mode key row old (Ok answer) new reads
+reads_by_mode key row old (Err fault.BadCount) new reads = absurd reads.ended.failed
+reads_by_mode key row old (Err fault.NoRendez) new reads = absurd reads.ended.failed
+reads_by_mode key row old (Err why) new reads =
+    by_its_mode key row old (Err why) new reads
 
-tries_in_mode : (key : Key) (row : Row) (old : Reader) (buffer : List ℕ) (count : ℕ) (why : Stop)
-    (told : Found) (new : Reader) (buffer' : List ℕ) → found_at count why ≡ told
-    → TriesOn key row (calling old buffer) (came_to count why) (calling new buffer')
-    → Tries key row old buffer (answer_of told) new buffer'
-tries_in_mode key row old buffer count why (found.Got got) new buffer' is tried =
+tries_in_mode : (key : Key) (row : Row) (old : Calling) (count : ℕ) (why : Stop) (told : Found)
+    (new : Calling) → found_at count why ≡ told → TriesOn key row old (came_to count why) new
+    → Tries key row old (answer_of told) new
+tries_in_mode key row old count why (found.Got got) new is tried =
     let said = got_at count why got is in
-    let gives : GivesBytes key row (calling old buffer) got (calling new buffer') = record {
+    let gives : GivesBytes key row old got new = record {
       why = why;
-      tried = subst (λ (n : ℕ). TriesOn key row (calling old buffer) (came_to n why)
-          (calling new buffer')) said.0 tried;
+      tried = subst (λ (n : ℕ). TriesOn key row old (came_to n why) new) said.0 tried;
       got = subst (λ (n : ℕ). is_got (came_to n why) ≡ true) said.0 said.1;
     } in
-    in_mode row.mode (Gets key row old buffer got new buffer')
-    (GivesBytes key row (calling old buffer) got (calling new buffer'))
-    (λ mode. message_bytes key row (calling old buffer) got (calling new buffer') mode gives) gives
-tries_in_mode key row old buffer count why (found.NotYet number) new buffer' is tried =
-    let none = subst (λ (c : Came). TriesOn key row (calling old buffer) c (calling new buffer'))
+    in_mode row.mode (Gets key row old got new) (GivesBytes key row old got new)
+    (λ mode. message_bytes key row old got new mode gives) gives
+tries_in_mode key row old count why (found.NotYet number) new is tried =
+    let none = subst (λ (c : Came). TriesOn key row old c new)
     (not_yet_at count why number is) tried in
-    in_mode row.mode (IsNotYet key old new × (buffer' ≡ buffer))
-    (IsNotYetOn key row (calling old buffer) (calling new buffer'))
-    (λ mode. let said = message_not_yet key row (calling old buffer) 0 number
-    (calling new buffer') mode none in (
+    in_mode row.mode (IsNotYet key old.reader new.reader × (new.buffer ≡ old.buffer))
+    (IsNotYetOn key row old new)
+    (λ mode. let said = message_not_yet key row old 0 number new mode none in (
       record { number = number; found = said.found },
       said.buffer,
     ))
     (record { number = number; tried = none })
-tries_in_mode key row old buffer count why found.End new buffer' is tried =
-    let none = subst (λ (c : Came). TriesOn key row (calling old buffer) c (calling new buffer'))
+tries_in_mode key row old count why found.End new is tried =
+    let none = subst (λ (c : Came). TriesOn key row old c new)
     (end_at count why is) tried in
-    in_mode row.mode (FindsEnd key old new × (buffer' ≡ buffer))
-    (TriesOn key row (calling old buffer) (came_to 0 stop.End) (calling new buffer'))
-    (λ mode. let said = message_end key row (calling old buffer) 0 (calling new buffer') mode
-    none in (said.found, said.buffer)) none
+    in_mode row.mode (FindsEnd key old.reader new.reader × (new.buffer ≡ old.buffer))
+    (TriesOn key row old (came_to 0 stop.End) new)
+    (λ mode. let said = message_end key row old 0 new mode none in (said.found, said.buffer)) none
 
 -- a read that does not wait
-pub tries_by_mode : (key : Key) (row : Row) (old : Reader) (buffer : List ℕ) (came : Came)
-    (answer : TryAnswer) (new : Reader) (buffer' : List ℕ)
-    → TriesOn key row (calling old buffer) came (calling new buffer')
-    → answer ≡ answer_of (found_of came) → Tries key row old buffer answer new buffer'
-tries_by_mode key row old buffer came answer new buffer' tried is =
-    subst (λ (a : TryAnswer). Tries key row old buffer a new buffer') (sym is)
-    (tries_in_mode key row old buffer came.count came.stop (found_of came) new buffer' refl tried)
+pub tries_by_mode : (key : Key) (row : Row) (old : Calling) (came : Came) (answer : TryAnswer)
+    (new : Calling) → TriesOn key row old came new → answer ≡ answer_of (found_of came)
+    → Tries key row old answer new
+tries_by_mode key row old came answer new tried is =
+    subst (λ (a : TryAnswer). Tries key row old a new) (sym is)
+    (tries_in_mode key row old came.count came.stop (found_of came) new refl tried)

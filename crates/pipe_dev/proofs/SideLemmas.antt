@@ -24,14 +24,14 @@ use Rattle.pipe_dev.specs.Ends.{reading_of}
 use Rattle.pipe_dev.specs.Finishing.{left_state, holdings_of, shares_of}
 use Rattle.pipe_dev.specs.Openings.{IsNewWriteEnd}
 use Rattle.pipe_dev.specs.Parts.{Part}
-use Rattle.pipe_dev.specs.ReadCalls.{reader_of}
+use Rattle.pipe_dev.specs.ReadCalls.{calling, reader_of}
 use Rattle.pipe_dev.specs.Reading.{Reading, first_reading}
 use Rattle.pipe_dev.specs.Rounds.{Rounds}
 use Rattle.pipe_dev.specs.Sides.{HasReadJust, HasWrittenJust, AddsToRead, AreSameWriteEnds}
 use Rattle.pipe_dev.specs.SideLaws.{NewEndsAreUnused, ReadsAddToTheirEnd, TriesAddToTheirEnd}
 use Rattle.pipe_dev.specs.SideLaws.{ReadEndsHangUp, WritesAddToTheirEnd, WriteEndsHangUp}
 use Rattle.pipe_dev.specs.SideLaws.{CallsKeepAllEnds, FinishesFindAccepted}
-use Rattle.pipe_dev.specs.WriteCalls.{writer_of}
+use Rattle.pipe_dev.specs.WriteCalls.{call_of, writer_of}
 use Rattle.pipe_dev.proofs.ChainLemmas.{reads_are_steps, tries_are_steps}
 use Rattle.pipe_dev.proofs.ChainLemmas.{each_write_is_read_whole_and_once}
 use Rattle.pipe_dev.proofs.LawLemmas.{all_accepted}
@@ -98,8 +98,8 @@ steps_add Adds old new parts parts' times made same adds rounds =
 pub reads_add : ReadsAddToTheirEnd
 reads_add old new before after buffer answer buffer' room reads same parts made =
     let call =
-    reads_are_steps (key_of old.queue) old.row (reader_of old before) buffer answer
-    (reader_of new after) buffer' room reads parts in
+    reads_are_steps (key_of old.queue) old.row (calling (reader_of old before) buffer) answer
+    (calling (reader_of new after) buffer') room reads parts in
     steps_add (AddsRead old.row.mode answer buffer') old new parts call.parts' call.times made same
     call.added
     call.steps
@@ -108,8 +108,8 @@ reads_add old new before after buffer answer buffer' room reads same parts made 
 pub tries_add : TriesAddToTheirEnd
 tries_add old new before after buffer answer buffer' room tries same parts made =
     let call =
-    tries_are_steps (key_of old.queue) old.row (reader_of old before) buffer answer
-    (reader_of new after) buffer' room tries parts in
+    tries_are_steps (key_of old.queue) old.row (calling (reader_of old before) buffer) answer
+    (calling (reader_of new after) buffer') room tries parts in
     steps_add (AddsTry old.row.mode answer buffer') old new parts call.parts' call.times made same
     call.added
     call.steps
@@ -135,8 +135,8 @@ writes_add old new before after block answer writes same =
       just = λ blocks written.
           subst (λ (w : ℕ). HasWritten new.account w (blocks ++ written_by answer block))
           (sym same.writer)
-          (writes_add_what_was_accepted (key_of old.queue) old.row old.writer block
-          (writer_of old before) answer (writer_of new after) writes blocks written);
+          (writes_add_what_was_accepted (call_of old block) (writer_of old before) answer
+          (writer_of new after) writes blocks written);
     }
 
 -- a hangup by a writer adds nothing to what its end has written

@@ -144,9 +144,9 @@ releases sizes s shows after rendez level gone returned =
 -- once a write has returned, whoever fell asleep on the reader's Rendez below its number is not
 -- posted there
 pub writes_wake_the_reader : WritesWakeTheReader
-writes_wake_the_reader sizes s shows key row writer block number old new accepts gone =
-    releases sizes s shows new.process (reader_rendez row) number gone
-    (has_woken old.process (reader_rendez row) number new.process accepts.woken)
+writes_wake_the_reader sizes s shows call number old new accepts gone =
+    releases sizes s shows new.process (reader_rendez call.row) number gone
+    (has_woken old.process (reader_rendez call.row) number new.process accepts.woken)
 
 -- once a read that took a write out has returned, whoever fell asleep on a writer's Rendez below
 -- the number of that write is not posted there

@@ -32,10 +32,11 @@ use Rattle.pipe_dev.specs.Chain.{IsMade, IsNoBlock, AddsNothing}
 use Rattle.pipe_dev.specs.Ends.{ReadSide, WriteSide, AreAllEnds}
 use Rattle.pipe_dev.specs.Parts.{Part}
 use Rattle.pipe_dev.specs.ReadCalls.{Reader, Reads, Tries, GoesOn, TakesOut, FindsNotYet}
-use Rattle.pipe_dev.specs.ReadCalls.{SleepsForWrite}
+use Rattle.pipe_dev.specs.ReadCalls.{SleepsForWrite, calling}
 use Rattle.pipe_dev.specs.Reading.{Reading}
 use Rattle.pipe_dev.specs.Rendezes.{HasRow, WakesAll, WakesIfKnown, WakesWriters}
-use Rattle.pipe_dev.specs.WriteCalls.{Writer, Writes, WritesLong, atomic_writes, bytes_in}
+use Rattle.pipe_dev.specs.WriteCalls.{WriteCall, Writer, Writes, WritesLong}
+use Rattle.pipe_dev.specs.WriteCalls.{atomic_writes, bytes_in}
 use Rattle.pipe_dev.proofs.ReadingLemmas.{what_is_read_is_right}
 
 abbrev a : List ℕ
@@ -396,8 +397,8 @@ module _ (table : TableId) where
       }
 
   -- it slept once, and then got the write whole and woke its writer with the number 1
-  waits_and_reads : Reads tight rendez_row (reader unread idle) (0 ∷ 0 ∷ 0 ∷ []) (Ok (read.Got 2))
-      (reader has_taken (woke reader_woken 4 1)) (97 ∷ 98 ∷ 0 ∷ [])
+  waits_and_reads : Reads tight rendez_row (calling (reader unread idle) (0 ∷ 0 ∷ 0 ∷ []))
+      (Ok (read.Got 2)) (calling (reader has_taken (woke reader_woken 4 1)) (97 ∷ 98 ∷ 0 ∷ []))
   waits_and_reads =
       record {
         times = 1;
@@ -415,8 +416,8 @@ module _ (table : TableId) where
         };
       }
 
-  reads_to_the_end : Reads tight rendez_row (reader unread idle) b (Ok read.End)
-      (reader has_ended idle) b
+  reads_to_the_end : Reads tight rendez_row (calling (reader unread idle) b) (Ok read.End)
+      (calling (reader has_ended idle) b)
   reads_to_the_end =
       record {
         times = 0;
@@ -428,8 +429,9 @@ module _ (table : TableId) where
         );
       }
 
-  read_is_interrupted : Reads tight rendez_row (reader unread idle) b
-      (Err (fault.Interrupted (only Interrupt))) (reader told (slept idle 3 0 (only Interrupt))) b
+  read_is_interrupted : Reads tight rendez_row (calling (reader unread idle) b)
+      (Err (fault.Interrupted (only Interrupt)))
+      (calling (reader told (slept idle 3 0 (only Interrupt))) b)
   read_is_interrupted =
       record {
         times = 0;
@@ -445,9 +447,9 @@ module _ (table : TableId) where
         );
       }
 
-  read_sleeps_where_another_does : Reads tight rendez_row (reader unread idle) b
+  read_sleeps_where_another_does : Reads tight rendez_row (calling (reader unread idle) b)
       (Err fault.DoubleSleep)
-      (reader told (posts idle (at_rendez 3) 0 answer.DoubleSleep)) b
+      (calling (reader told (posts idle (at_rendez 3) 0 answer.DoubleSleep)) b)
   read_sleeps_where_another_does =
       record {
         times = 0;
@@ -456,25 +458,25 @@ module _ (table : TableId) where
         ended = (record { number = 0; found = finds_not_yet; failed = refl }, refl);
       }
 
-  read_of_no_bytes : Reads tight rendez_row (reader unread idle) [] (Err fault.BadCount)
-      (reader unread idle) []
+  read_of_no_bytes : Reads tight rendez_row (calling (reader unread idle) []) (Err fault.BadCount)
+      (calling (reader unread idle) [])
   read_of_no_bytes = record { same = refl; buffer_same = refl }
 
-  read_of_another_kernel : Reads tight rendez_row (reader unread idle) b (Err fault.NoRendez)
-      (reader unread idle) b
+  read_of_another_kernel : Reads tight rendez_row (calling (reader unread idle) b)
+      (Err fault.NoRendez) (calling (reader unread idle) b)
   read_of_another_kernel = record { same = refl; buffer_same = refl }
 
-  refused_read_asks : Reads tight rendez_row (reader unread idle) b (Err fault.NoRendez)
-      (reader told idle) b → ⊥
+  refused_read_asks : Reads tight rendez_row (calling (reader unread idle) b) (Err fault.NoRendez)
+      (calling (reader told idle) b) → ⊥
   refused_read_asks reads = let seen = ap (λ (r : Reader). r.account.seen) reads.same in cc
 
-  refused_read_writes_its_buffer : Reads tight rendez_row (reader unread idle) b
-      (Err fault.BadCount)
-      (reader unread idle) a → ⊥
+  refused_read_writes_its_buffer : Reads tight rendez_row (calling (reader unread idle) b)
+      (Err fault.BadCount) (calling (reader unread idle) a) → ⊥
   refused_read_writes_its_buffer reads = let bytes = reads.buffer_same in cc
 
   read_ends_for_want_of_memory : (new : Reader)
-      → Reads tight rendez_row (reader unread idle) b (Err fault.Memory) new b → ⊥
+      → Reads tight rendez_row (calling (reader unread idle) b) (Err fault.Memory) (calling new b)
+      → ⊥
   read_ends_for_want_of_memory new reads = reads.ended.0.failed
 
   read_tries_again_at_once : SleepsForWrite tight rendez_row (reader unread idle)
@@ -491,8 +493,8 @@ module _ (table : TableId) where
   abbrev begun : Process → Reader
   begun process = record { account = has_taken; rest = Some second_byte; process = process }
 
-  tries_and_begins : Tries tight rendez_row (reader told reader_woken) (0 ∷ []) (try.Got 1)
-      (begun (woke reader_woken 4 1)) (97 ∷ [])
+  tries_and_begins : Tries tight rendez_row (calling (reader told reader_woken) (0 ∷ []))
+      (try.Got 1) (calling (begun (woke reader_woken 4 1)) (97 ∷ []))
   tries_and_begins =
       record {
         left = record { place = 0; writer = 0; bytes = a };
@@ -505,8 +507,8 @@ module _ (table : TableId) where
         rest = refl;
       }
 
-  tries_and_goes_on : Tries tight rendez_row (begun idle) (0 ∷ 0 ∷ []) (try.Got 1)
-      (reader has_taken idle) (98 ∷ 0 ∷ [])
+  tries_and_goes_on : Tries tight rendez_row (calling (begun idle) (0 ∷ 0 ∷ [])) (try.Got 1)
+      (calling (reader has_taken idle) (98 ∷ 0 ∷ []))
   tries_and_goes_on =
       record {
         left = second_byte;
@@ -515,15 +517,17 @@ module _ (table : TableId) where
         rest = refl;
       }
 
-  tries_too_early : Tries tight rendez_row (reader unread idle) b try.NotYet (reader told idle) b
+  tries_too_early : Tries tight rendez_row (calling (reader unread idle) b) try.NotYet
+      (calling (reader told idle) b)
   tries_too_early = (record { number = 0; found = finds_not_yet }, refl)
 
-  tries_at_the_end : Tries tight rendez_row (reader unread idle) b try.End (reader has_ended idle) b
+  tries_at_the_end : Tries tight rendez_row (calling (reader unread idle) b) try.End
+      (calling (reader has_ended idle) b)
   tries_at_the_end =
       (record { none_left = refl; entered = finds_the_end; rest = refl; process = refl }, refl)
 
-  try_wakes_no_writer : Tries tight rendez_row (reader told idle) (0 ∷ []) (try.Got 1) (begun idle)
-      (97 ∷ []) → ⊥
+  try_wakes_no_writer : Tries tight rendez_row (calling (reader told idle) (0 ∷ [])) (try.Got 1)
+      (calling (begun idle) (97 ∷ [])) → ⊥
   try_wakes_no_writer tries = by tries.left tries.next
     where
       by : (left : Part) → GoesOn (reader told idle) left (begun idle)
@@ -532,12 +536,12 @@ module _ (table : TableId) where
       by left (inr out) =
           is_not_idle out.woken.between (left.place + 1) out.woken.last.woken.ends
 
-  try_sleeps : Tries tight rendez_row (reader unread idle) b try.NotYet
-      (reader told reader_woken) b → ⊥
+  try_sleeps : Tries tight rendez_row (calling (reader unread idle) b) try.NotYet
+      (calling (reader told reader_woken) b) → ⊥
   try_sleeps tries = let trace = ap (λ (p : Process). p.trace) tries.0.found.none.process in cc
 
-  try_at_the_end_fills_its_buffer : Tries tight rendez_row (reader unread idle) b try.End
-      (reader has_ended idle) a → ⊥
+  try_at_the_end_fills_its_buffer : Tries tight rendez_row (calling (reader unread idle) b) try.End
+      (calling (reader has_ended idle) a) → ⊥
   try_at_the_end_fills_its_buffer tries = let bytes = tries.1 in cc
 
   -- ---- what calls make of a read end
@@ -673,8 +677,12 @@ module _ (table : TableId) where
   abbrev second_written : Writer
   second_written = writer has_put_both (woke writer_woken 3 2)
 
+  -- a write of these bytes by the one writer
+  abbrev call : List ℕ → WriteCall
+  call bytes = record { key = tight; row = rendez_row; writer = 0; bytes = bytes }
+
   -- it found no room and slept once, and then was accepted and woke the reader with the number 2
-  waits_and_writes : Writes tight rendez_row 0 b (writer has_put idle) (Ok 2) second_written
+  waits_and_writes : Writes (call b) (writer has_put idle) (Ok 2) second_written
   waits_and_writes =
       record {
         times = 1;
@@ -702,7 +710,7 @@ module _ (table : TableId) where
         };
       }
 
-  write_comes_too_late : Writes tight rendez_row 0 b (writer unwritten idle) (Err fault.Hungup)
+  write_comes_too_late : Writes (call b) (writer unwritten idle) (Err fault.Hungup)
       (writer is_late (notes idle (pid_in idle) (only ClosedPipe)))
   write_comes_too_late =
       record {
@@ -712,7 +720,7 @@ module _ (table : TableId) where
         ended = record { entered = finds_the_hangup; knew = tt; noted = refl };
       }
 
-  numbers_are_worn_out : Writes (record tight { first = LAST_WRITE }) rendez_row 0 b
+  numbers_are_worn_out : Writes (record (call b) { key = record tight { first = LAST_WRITE } })
       (writer unwritten idle) (Err fault.Worn) (writer is_worn idle)
   numbers_are_worn_out =
       record {
@@ -722,9 +730,8 @@ module _ (table : TableId) where
         ended = record { entered = finds_no_number; process = refl };
       }
 
-  write_is_interrupted : Writes tight rendez_row 0 b (writer has_put idle)
-      (Err (fault.Interrupted (only Interrupt)))
-      (writer was_full (slept idle 4 0 (only Interrupt)))
+  write_is_interrupted : Writes (call b) (writer has_put idle)
+      (Err (fault.Interrupted (only Interrupt))) (writer was_full (slept idle 4 0 (only Interrupt)))
   write_is_interrupted =
       record {
         times = 0;
@@ -737,8 +744,7 @@ module _ (table : TableId) where
         };
       }
 
-  write_sleeps_where_another_does : Writes tight rendez_row 0 b (writer has_put idle)
-      (Err fault.DoubleSleep)
+  write_sleeps_where_another_does : Writes (call b) (writer has_put idle) (Err fault.DoubleSleep)
       (writer was_full (posts idle (at_rendez 4) 0 answer.DoubleSleep))
   write_sleeps_where_another_does =
       record {
@@ -752,30 +758,29 @@ module _ (table : TableId) where
         };
       }
 
-  write_is_too_big : Writes tight rendez_row 0 b (writer has_put idle) (Err fault.TooBig)
-      (writer has_put idle)
+  write_is_too_big : Writes (call b) (writer has_put idle) (Err fault.TooBig) (writer has_put idle)
   write_is_too_big = refl
 
-  write_of_another_kernel : Writes tight rendez_row 0 b (writer has_put idle) (Err fault.NoRendez)
+  write_of_another_kernel : Writes (call b) (writer has_put idle) (Err fault.NoRendez)
       (writer has_put idle)
   write_of_another_kernel = refl
 
-  write_finds_no_memory : Writes tight rendez_row 0 b (writer has_put idle) (Err fault.Memory)
+  write_finds_no_memory : Writes (call b) (writer has_put idle) (Err fault.Memory)
       (writer has_put idle)
   write_finds_no_memory = refl
 
-  refused_write_asks : Writes tight rendez_row 0 b (writer has_put idle) (Err fault.NoRendez)
+  refused_write_asks : Writes (call b) (writer has_put idle) (Err fault.NoRendez)
       (writer was_full idle) → ⊥
   refused_write_asks same = let seen = ap (λ (w : Writer). length w.account.seen) same in cc
 
-  late_write_posts_no_note : Writes tight rendez_row 0 b (writer unwritten idle) (Err fault.Hungup)
+  late_write_posts_no_note : Writes (call b) (writer unwritten idle) (Err fault.Hungup)
       (writer is_late idle) → ⊥
   late_write_posts_no_note writes =
       let trace = ap (λ (p : Process). p.trace) writes.ended.noted in cc
 
   -- ---- a long write
 
-  fits_in_one : WritesLong tight rendez_row 0 b (writer has_put idle)
+  fits_in_one : WritesLong (call b) (writer has_put idle)
       (record { taken = 1; fault = None }) second_written
   fits_in_one =
       record {
@@ -790,7 +795,7 @@ module _ (table : TableId) where
         ended = (refl, refl);
       }
 
-  stops_at_the_first : WritesLong tight rendez_row 0 b (writer has_put idle)
+  stops_at_the_first : WritesLong (call b) (writer has_put idle)
       (record { taken = 0; fault = Some fault.NoRendez }) (writer has_put idle)
   stops_at_the_first =
       record {
@@ -801,7 +806,7 @@ module _ (table : TableId) where
         ended = (b, [], refl, refl);
       }
 
-  loses_count : (new : Writer) → WritesLong tight rendez_row 0 b (writer has_put idle)
+  loses_count : (new : Writer) → WritesLong (call b) (writer has_put idle)
       (record { taken = 0; fault = None }) new → ⊥
   loses_count new long =
       let done : long.done ≡ b ∷ [] = sym (reverse-reverse long.done) ∙ ap reverse long.ended.1 in
@@ -810,9 +815,9 @@ module _ (table : TableId) where
 
   -- of two writes the second was refused
   stops_at_the_second : (bytes front back : List ℕ) → atomic_writes bytes ≡ front ∷ back ∷ []
-      → (old between new : Writer) → Writes tight rendez_row 0 front old (Ok 1) between
-      → Writes tight rendez_row 0 back between (Err fault.Hungup) new
-      → WritesLong tight rendez_row 0 bytes old
+      → (old between new : Writer) → Writes (call front) old (Ok 1) between
+      → Writes (call back) between (Err fault.Hungup) new
+      → WritesLong (call bytes) old
       (record { taken = length front; fault = Some fault.Hungup }) new
   stops_at_the_second bytes front back cut old between new first second =
       record {

@@ -544,12 +544,12 @@ module _ (table : TableId) where
       }
 
   -- so it is answered
-  answers_all : Tries loose row (reader unread idle) zeros (try.Got 3)
-      (reader told (woke idle 3)) (97 ∷ 98 ∷ 99 ∷ 0 ∷ [])
+  answers_all : Tries loose row (calling (reader unread idle) zeros) (try.Got 3)
+      (calling (reader told (woke idle 3)) (97 ∷ 98 ∷ 99 ∷ 0 ∷ []))
   answers_all = record { why = stop.NotYet 3; tried = joins_all; got = refl }
 
-  reads_all : Reads loose row (reader unread idle) zeros (Ok (read.Got 3))
-      (reader told (woke idle 3)) (97 ∷ 98 ∷ 99 ∷ 0 ∷ [])
+  reads_all : Reads loose row (calling (reader unread idle) zeros) (Ok (read.Got 3))
+      (calling (reader told (woke idle 3)) (97 ∷ 98 ∷ 99 ∷ 0 ∷ []))
   reads_all =
       record {
         times = 0;
@@ -665,7 +665,8 @@ module _ (table : TableId) where
         woken = refl;
       }
 
-  tries_a_byte : Tries loose row (begun idle) (0 ∷ []) (try.Got 1) (reader one_out idle) (98 ∷ [])
+  tries_a_byte : Tries loose row (calling (begun idle) (0 ∷ [])) (try.Got 1)
+      (calling (reader one_out idle) (98 ∷ []))
   tries_a_byte = record { why = stop.Enough; tried = goes_on_in_it; got = refl }
 
   -- ---- no byte
@@ -705,8 +706,8 @@ module _ (table : TableId) where
         woken = wakes_with_one;
       }
 
-  tries_too_early : Tries loose row (reader unread idle) b try.NotYet
-      (reader told_empty (woke idle 1)) b
+  tries_too_early : Tries loose row (calling (reader unread idle) b) try.NotYet
+      (calling (reader told_empty (woke idle 1)) b)
   tries_too_early = record { number = 1; tried = passes_an_empty_write }
 
   -- it wakes first, and then sleeps with the number that it was told
@@ -720,9 +721,9 @@ module _ (table : TableId) where
         slept = sleeps (woke idle 1) 3 1 no_notes;
       }
 
-  read_is_interrupted : Reads loose row (reader unread idle) b
+  read_is_interrupted : Reads loose row (calling (reader unread idle) b)
       (Err (fault.Interrupted (only Interrupt)))
-      (reader told_empty (slept (woke idle 1) 3 1 (only Interrupt))) b
+      (calling (reader told_empty (slept (woke idle 1) 3 1 (only Interrupt))) b)
   read_is_interrupted =
       record {
         times = 0;
@@ -736,8 +737,9 @@ module _ (table : TableId) where
         };
       }
 
-  read_sleeps_where_another_does : Reads loose row (reader unread idle) b (Err fault.DoubleSleep)
-      (reader told_empty (posts (woke idle 1) (at_rendez 3) 1 answer.DoubleSleep)) b
+  read_sleeps_where_another_does : Reads loose row (calling (reader unread idle) b)
+      (Err fault.DoubleSleep)
+      (calling (reader told_empty (posts (woke idle 1) (at_rendez 3) 1 answer.DoubleSleep)) b)
   read_sleeps_where_another_does =
       record {
         times = 0;
@@ -765,10 +767,12 @@ module _ (table : TableId) where
         woken = refl;
       }
 
-  tries_at_the_end : Tries loose row (reader unread idle) b try.End (reader has_ended idle) b
+  tries_at_the_end : Tries loose row (calling (reader unread idle) b) try.End
+      (calling (reader has_ended idle) b)
   tries_at_the_end = finds_an_end
 
-  reads_to_the_end : Reads loose row (reader unread idle) b (Ok read.End) (reader has_ended idle) b
+  reads_to_the_end : Reads loose row (calling (reader unread idle) b) (Ok read.End)
+      (calling (reader has_ended idle) b)
   reads_to_the_end =
       record {
         times = 0;
@@ -779,7 +783,7 @@ module _ (table : TableId) where
 
   -- an end has no byte
   end_fills_its_buffer : (new : Reader)
-      → Tries loose row (reader unread idle) b try.End new a → ⊥
+      → Tries loose row (calling (reader unread idle) b) try.End (calling new a) → ⊥
   end_fills_its_buffer new tries =
       let filled = tries.fills.filled in
       let none : length (bytes_of tries.fills.filling.parts) ≡ 0 = sym filled.count_is in
@@ -788,6 +792,6 @@ module _ (table : TableId) where
       absurd (omega (arith, none, size))
 
   -- a read that is refused at once did nothing
-  refused_read_passes : Reads loose row (reader unread idle) b (Err fault.NoRendez)
-      (reader passed idle) b → ⊥
+  refused_read_passes : Reads loose row (calling (reader unread idle) b) (Err fault.NoRendez)
+      (calling (reader passed idle) b) → ⊥
   refused_read_passes reads = let seen = ap (λ (r : Reader). r.account.seen) reads.same in cc

@@ -19,7 +19,7 @@ use Rattle.pipe_dev.specs.Chain.{HasWritten, AddsOne, written_by, IsNoBlock}
 use Rattle.pipe_dev.specs.Finishing.{Finishes, Holdings}
 use Rattle.pipe_dev.specs.Laws.{NoWriteAfterHangup, read_and_held}
 use Rattle.pipe_dev.specs.Parts.{Part, pieces_of, bytes_by, part_of, rest_of}
-use Rattle.pipe_dev.specs.ReadCalls.{Reader, Gets, GoesOn, TakesOut, IsFilled}
+use Rattle.pipe_dev.specs.ReadCalls.{Reader, Gets, GoesOn, TakesOut, IsFilled, calling}
 use Rattle.pipe_dev.specs.Reading.{IsRight}
 use Rattle.pipe_dev.specs.Rendezes.{WakesOne, WakesWriters, reader_rendez}
 use Rattle.pipe_dev.specs.Rounds.{FailsAsleep}
@@ -129,8 +129,8 @@ module _ (process : Process) (account : Account Entry) (key : Key) (row : Row) w
   abbrev reader : Option Part → Reader
   reader rest = record { account = account; rest = rest; process = process }
 
-  goes_on : Gets key row (reader (Some abc)) (0 ∷ 0 ∷ []) 2 (reader (Some (part 0 0 (99 ∷ []))))
-      (97 ∷ 98 ∷ [])
+  goes_on : Gets key row (calling (reader (Some abc)) (0 ∷ 0 ∷ [])) 2
+      (calling (reader (Some (part 0 0 (99 ∷ [])))) (97 ∷ 98 ∷ []))
   goes_on =
       record {
         left = abc;
@@ -141,7 +141,8 @@ module _ (process : Process) (account : Account Entry) (key : Key) (row : Row) w
 
   -- a write that was begun is read to its end and no further, however much room there is
   joins_the_next : (new : Reader) (buffer' : List ℕ)
-      → Gets key row (reader (Some (part 0 0 (97 ∷ [])))) (0 ∷ 0 ∷ []) 2 new buffer' → ⊥
+      → Gets key row (calling (reader (Some (part 0 0 (97 ∷ [])))) (0 ∷ 0 ∷ [])) 2
+      (calling new buffer') → ⊥
   joins_the_next new buffer' gets = by gets.next
     where
       left_in : Option Part → Part

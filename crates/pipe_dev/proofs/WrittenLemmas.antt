@@ -18,13 +18,13 @@ use Rattle.block_queue.specs.History.{seat_of}
 use Rattle.block_queue.specs.Meaning.{Enters}
 use Rattle.block_queue.specs.Opening.{new_account}
 use Rattle.block_queue.proofs.SeatLemmas.{entered_own}
-use Rattle.pipe_dev.specs.declared.row.Row.{Row}
 use Rattle.pipe_dev.specs.CallLaws.{NewEndsHaveWrittenNothing, WritesAddWhatWasAccepted}
 use Rattle.pipe_dev.specs.CallLaws.{HangupsWriteNothing}
 use Rattle.pipe_dev.specs.Chain.{HasWritten, written_by}
 use Rattle.pipe_dev.specs.Finishing.{accepted_in}
 use Rattle.pipe_dev.specs.Rounds.{Rounds}
-use Rattle.pipe_dev.specs.WriteCalls.{Writer, Asks, EndsWrite, HasHang, SleepsForRoom}
+use Rattle.pipe_dev.specs.WriteCalls.{WriteCall, Writer, Asks, EndsWrite, HasHang}
+use Rattle.pipe_dev.specs.WriteCalls.{SleepsForRoom}
 
 -- the seat knows these of the shares of this writer
 abbrev Are : ℕ → List (List ℕ) → List (Share Entry) → Type 0
@@ -77,48 +77,50 @@ entered_none key entry old new writer blocks enters by_it says written =
     (entered key entry old new writer blocks [] enters by_it
     (λ mine. says mine ∙ sym (append-nil (accepted_in mine))) written)
 
-all_rounds : (key : Key) (row : Row) (writer : ℕ) (block : List ℕ) (times : ℕ) (old new : Writer)
-    (blocks : List (List ℕ)) → Rounds (SleepsForRoom key row writer block) times old new
-    → HasWritten old.account writer blocks → HasWritten new.account writer blocks
-all_rounds key row writer block zero old new blocks rounds written =
-    subst (λ (w : Writer). HasWritten w.account writer blocks) (sym rounds) written
-all_rounds key row writer block (suc times) old new blocks rounds written =
-    entered_none key (Full writer block rounds.last.number) rounds.between.account new.account
-    writer blocks
+all_rounds : (call : WriteCall) (times : ℕ) (old new : Writer) (blocks : List (List ℕ))
+    → Rounds (SleepsForRoom call) times old new → HasWritten old.account call.writer blocks
+    → HasWritten new.account call.writer blocks
+all_rounds call zero old new blocks rounds written =
+    subst (λ (w : Writer). HasWritten w.account call.writer blocks) (sym rounds) written
+all_rounds call (suc times) old new blocks rounds written =
+    entered_none call.key (Full call.writer call.bytes rounds.last.number) rounds.between.account
+    new.account
+    call.writer blocks
     rounds.last.found.entered refl (λ mine. refl)
-    (all_rounds key row writer block times old rounds.between blocks rounds.rounds written)
+    (all_rounds call times old rounds.between blocks rounds.rounds written)
 
-at_end : (key : Key) (row : Row) (writer : ℕ) (block : List ℕ) (old : Writer)
-    (answer : Result ℕ Fault)
-    (new : Writer) (blocks : List (List ℕ)) → EndsWrite key row writer block old answer new
-    → HasWritten old.account writer blocks
-    → HasWritten new.account writer (blocks ++ written_by answer block)
-at_end key row writer block old (Ok number) new blocks ends written =
-    entered_none key (Stood writer number) ends.stands.between new.account writer
-    (blocks ++ block ∷ [])
+at_end : (call : WriteCall) (old : Writer) (answer : Result ℕ Fault) (new : Writer)
+    (blocks : List (List ℕ)) → EndsWrite call old answer new
+    → HasWritten old.account call.writer blocks
+    → HasWritten new.account call.writer (blocks ++ written_by answer call.bytes)
+at_end call old (Ok number) new blocks ends written =
+    entered_none call.key (Stood call.writer number) ends.stands.between new.account call.writer
+    (blocks ++ call.bytes ∷ [])
     ends.stands.stood refl (λ mine. refl)
-    (entered key (Taken writer block number) old.account ends.stands.between writer blocks
-    (block ∷ [])
+    (entered call.key (Taken call.writer call.bytes number) old.account ends.stands.between
+    call.writer blocks
+    (call.bytes ∷ [])
     ends.stands.taken refl (λ mine. refl) written)
-at_end key row writer block old (Err fault.Hungup) new blocks ends written =
-    entered key (Hungup writer block) old.account new.account writer blocks [] ends.entered refl
+at_end call old (Err fault.Hungup) new blocks ends written =
+    entered call.key (Hungup call.writer call.bytes) old.account new.account call.writer blocks []
+    ends.entered refl
     (λ mine. sym (append-nil (accepted_in mine))) written
-at_end key row writer block old (Err fault.Worn) new blocks ends written =
-    entered key (Worn writer block) old.account new.account writer blocks [] ends.entered refl
+at_end call old (Err fault.Worn) new blocks ends written =
+    entered call.key (Worn call.writer call.bytes) old.account new.account call.writer blocks []
+    ends.entered refl
     (λ mine. sym (append-nil (accepted_in mine))) written
-at_end key row writer block old (Err why) new blocks ends written =
-    entered key (Full writer block ends.number) old.account new.account writer blocks []
+at_end call old (Err why) new blocks ends written =
+    entered call.key (Full call.writer call.bytes ends.number) old.account new.account call.writer
+    blocks []
     ends.found.entered refl
     (λ mine. sym (append-nil (accepted_in mine))) written
 
-asked : (key : Key) (row : Row) (writer : ℕ) (block : List ℕ) (old : Writer)
-    (answer : Result ℕ Fault)
-    (new : Writer) (blocks : List (List ℕ)) → Asks key row writer block old answer new
-    → HasWritten old.account writer blocks
-    → HasWritten new.account writer (blocks ++ written_by answer block)
-asked key row writer block old answer new blocks asks written =
-    at_end key row writer block asks.between answer new blocks asks.ended
-    (all_rounds key row writer block asks.times old asks.between blocks asks.slept written)
+asked : (call : WriteCall) (old : Writer) (answer : Result ℕ Fault) (new : Writer)
+    (blocks : List (List ℕ)) → Asks call old answer new → HasWritten old.account call.writer blocks
+    → HasWritten new.account call.writer (blocks ++ written_by answer call.bytes)
+asked call old answer new blocks asks written =
+    at_end call asks.between answer new blocks asks.ended
+    (all_rounds call asks.times old asks.between blocks asks.slept written)
 
 untouched : (old new : Writer) (writer : ℕ) (blocks : List (List ℕ)) → new ≡ old
     → HasWritten old.account writer blocks → HasWritten new.account writer (blocks ++ [])
@@ -140,17 +142,16 @@ new_ends_have_written_nothing writer =
 
 -- a write's bytes come behind what was written exactly where it is answered a number
 pub writes_add_what_was_accepted : WritesAddWhatWasAccepted
-writes_add_what_was_accepted key row writer block old (Ok number) new wrote blocks written =
-    asked key row writer block old (Ok number) new blocks wrote written
-writes_add_what_was_accepted key row writer block old (Err fault.TooBig) new wrote blocks written =
-    untouched old new writer blocks wrote written
-writes_add_what_was_accepted key row writer block old (Err fault.NoRendez) new wrote blocks
-    written =
-    untouched old new writer blocks wrote written
-writes_add_what_was_accepted key row writer block old (Err fault.Memory) new wrote blocks written =
-    untouched old new writer blocks wrote written
-writes_add_what_was_accepted key row writer block old (Err why) new wrote blocks written =
-    asked key row writer block old (Err why) new blocks wrote written
+writes_add_what_was_accepted call old (Ok number) new wrote blocks written =
+    asked call old (Ok number) new blocks wrote written
+writes_add_what_was_accepted call old (Err fault.TooBig) new wrote blocks written =
+    untouched old new call.writer blocks wrote written
+writes_add_what_was_accepted call old (Err fault.NoRendez) new wrote blocks written =
+    untouched old new call.writer blocks wrote written
+writes_add_what_was_accepted call old (Err fault.Memory) new wrote blocks written =
+    untouched old new call.writer blocks wrote written
+writes_add_what_was_accepted call old (Err why) new wrote blocks written =
+    asked call old (Err why) new blocks wrote written
 
 -- after a hangup by a writer it has written what it had written before
 pub hangups_write_nothing : HangupsWriteNothing

@@ -13,24 +13,24 @@ use Rattle.pipe_dev.specs.declared.row.Row.{Row}
 use Rattle.pipe_dev.specs.Chain.{IsMade, IsOfSteps, AddsRead, AddsTry, AddsNone}
 use Rattle.pipe_dev.specs.Chain.{HasWritten, written_by}
 use Rattle.pipe_dev.specs.Parts.{Part}
-use Rattle.pipe_dev.specs.ReadCalls.{Reader, Reads, Tries}
+use Rattle.pipe_dev.specs.ReadCalls.{Reader, Calling, Reads, Tries}
 use Rattle.pipe_dev.specs.Reading.{Reading, IsReading}
-use Rattle.pipe_dev.specs.WriteCalls.{Writer, Writes}
+use Rattle.pipe_dev.specs.WriteCalls.{WriteCall, Writer, Writes}
 
 -- each call of a read end is such steps, and what it got is what stands in its buffer
 abbrev pub ReadsAreSteps : Type 0
 ReadsAreSteps =
-    (key : Key) (row : Row) (old : Reader) (buffer : List ℕ) (answer : Result ReadAnswer Fault)
-    (new : Reader) (buffer' : List ℕ) → buffer ≢ []
-    → Reads key row old buffer answer new buffer'
-    → (parts : List Part) → IsOfSteps key (AddsRead row.mode answer buffer') old parts new
+    (key : Key) (row : Row) (old : Calling) (answer : Result ReadAnswer Fault) (new : Calling)
+    → old.buffer ≢ [] → Reads key row old answer new
+    → (parts : List Part)
+    → IsOfSteps key (AddsRead row.mode answer new.buffer) old.reader parts new.reader
 
 abbrev pub TriesAreSteps : Type 0
 TriesAreSteps =
-    (key : Key) (row : Row) (old : Reader) (buffer : List ℕ) (answer : TryAnswer)
-    (new : Reader) (buffer' : List ℕ) → buffer ≢ []
-    → Tries key row old buffer answer new buffer'
-    → (parts : List Part) → IsOfSteps key (AddsTry row.mode answer buffer') old parts new
+    (key : Key) (row : Row) (old : Calling) (answer : TryAnswer) (new : Calling)
+    → old.buffer ≢ [] → Tries key row old answer new
+    → (parts : List Part)
+    → IsOfSteps key (AddsTry row.mode answer new.buffer) old.reader parts new.reader
 
 abbrev pub HangupsAreSteps : Type 0
 HangupsAreSteps =
@@ -50,10 +50,10 @@ NewEndsHaveWrittenNothing = (writer : ℕ) → HasWritten (new_account (writer +
 
 abbrev pub WritesAddWhatWasAccepted : Type 0
 WritesAddWhatWasAccepted =
-    (key : Key) (row : Row) (writer : ℕ) (block : List ℕ) (old : Writer)
-    (answer : Result ℕ Fault) (new : Writer) → Writes key row writer block old answer new
-    → (blocks : List (List ℕ)) → HasWritten old.account writer blocks
-    → HasWritten new.account writer (blocks ++ written_by answer block)
+    (call : WriteCall) (old : Writer) (answer : Result ℕ Fault) (new : Writer)
+    → Writes call old answer new
+    → (blocks : List (List ℕ)) → HasWritten old.account call.writer blocks
+    → HasWritten new.account call.writer (blocks ++ written_by answer call.bytes)
 
 abbrev pub HangupsWriteNothing : Type 0
 HangupsWriteNothing =

@@ -44,6 +44,14 @@ abbrev pub reader_of : ReadSide → Running → Reader
 reader_of side proc =
     record { account = side.account; rest = side.rest; process = proc.process }
 
+-- a reader and the buffer that its call fills
+pub record Calling : Type 0 where
+  pub reader : Reader
+  pub buffer : List ℕ
+
+abbrev pub calling : Reader → List ℕ → Calling
+calling reader buffer = record { reader = reader; buffer = buffer }
+
 -- ---- the bytes
 
 -- the buffer has the bytes of the part in front, and is as it was behind them
@@ -70,12 +78,12 @@ pub record TakesOut (key : Key) (row : Row) (old : Reader) (left : Part) (new : 
 
 -- Got: the buffer was filled with what it has room for of the write that was begun, or of the next
 -- one; what is left of it is kept
-pub record Gets (key : Key) (row : Row) (old : Reader) (buffer : List ℕ) (count : ℕ)
-    (new : Reader) (buffer' : List ℕ) : Type 0 where
+pub record Gets (key : Key) (row : Row) (old : Calling) (count : ℕ) (new : Calling) :
+    Type 0 where
   pub left : Part
-  pub next : GoesOn old left new ⊎ TakesOut key row old left new
-  pub filled : IsFilled (part_of (length buffer) left) buffer buffer' count
-  pub rest : new.rest ≡ rest_of (length buffer) left
+  pub next : GoesOn old.reader left new.reader ⊎ TakesOut key row old.reader left new.reader
+  pub filled : IsFilled (part_of (length old.buffer) left) old.buffer new.buffer count
+  pub rest : new.reader.rest ≡ rest_of (length old.buffer) left
 
 -- a take found nothing: no write was begun, this entry was made, and nothing else was done
 pub record FindsNone (key : Key) (found : Entry) (old new : Reader) : Type 0 where
@@ -114,21 +122,20 @@ pub record FailsForWrite (key : Key) (row : Row) (old : Reader) (why : Fault) (n
   pub failed : FailsAsleep old.process (reader_rendez row) number new.process why
 
 -- how a read ends
-abbrev pub EndsRead :
-    Key → Row → Reader → List ℕ → Result ReadAnswer Fault → Reader → List ℕ → Type 0
-EndsRead key row old buffer (Ok (read.Got count)) new buffer' =
-    Gets key row old buffer count new buffer'
-EndsRead key row old buffer (Ok read.End) new buffer' = FindsEnd key old new × (buffer' ≡ buffer)
-EndsRead key row old buffer (Err why) new buffer' =
-    FailsForWrite key row old why new × (buffer' ≡ buffer)
+abbrev pub EndsRead : Key → Row → Calling → Result ReadAnswer Fault → Calling → Type 0
+EndsRead key row old (Ok (read.Got count)) new = Gets key row old count new
+EndsRead key row old (Ok read.End) new =
+    FindsEnd key old.reader new.reader × (new.buffer ≡ old.buffer)
+EndsRead key row old (Err why) new =
+    FailsForWrite key row old.reader why new.reader × (new.buffer ≡ old.buffer)
 
 -- some times it found nothing and slept; and then it ended
-pub record KeepsTrying (key : Key) (row : Row) (old : Reader) (buffer : List ℕ)
-    (answer : Result ReadAnswer Fault) (new : Reader) (buffer' : List ℕ) : Type 0 where
+pub record KeepsTrying (key : Key) (row : Row) (old : Calling)
+    (answer : Result ReadAnswer Fault) (new : Calling) : Type 0 where
   pub times : ℕ
   pub between : Reader
-  pub slept : Rounds (SleepsForWrite key row) times old between
-  pub ended : EndsRead key row between buffer answer new buffer'
+  pub slept : Rounds (SleepsForWrite key row) times old.reader between
+  pub ended : EndsRead key row (calling between old.buffer) answer new
 
 -- a read that was refused at once did nothing
 pub record IsUntouchedRead (old : Reader) (buffer : List ℕ) (new : Reader) (buffer' : List ℕ) :
@@ -142,14 +149,6 @@ reader_with hand proc =
     record { account = take_account hand.seat; rest = hand.rest; process = proc.process }
 
 -- ---- in either mode
-
--- a reader and the buffer that its call fills
-pub record Calling : Type 0 where
-  pub reader : Reader
-  pub buffer : List ℕ
-
-abbrev pub calling : Reader → List ℕ → Calling
-calling reader buffer = record { reader = reader; buffer = buffer }
 
 abbrev pub lending_of : Calling → Lending
 lending_of call =
@@ -230,23 +229,22 @@ InMode Message OfMessages OfStream = OfMessages
 InMode Stream OfMessages OfStream = OfStream
 
 -- what a read that does not wait did, by its answer
-abbrev pub Tries : Key → Row → Reader → List ℕ → TryAnswer → Reader → List ℕ → Type 0
-Tries key row old buffer (try.Got count) new buffer' =
-    InMode row.mode (Gets key row old buffer count new buffer')
-    (GivesBytes key row (calling old buffer) count (calling new buffer'))
-Tries key row old buffer try.NotYet new buffer' =
-    InMode row.mode (IsNotYet key old new × (buffer' ≡ buffer))
-    (IsNotYetOn key row (calling old buffer) (calling new buffer'))
-Tries key row old buffer try.End new buffer' =
-    InMode row.mode (FindsEnd key old new × (buffer' ≡ buffer))
-    (TriesOn key row (calling old buffer) (came_to 0 stop.End) (calling new buffer'))
+abbrev pub Tries : Key → Row → Calling → TryAnswer → Calling → Type 0
+Tries key row old (try.Got count) new =
+    InMode row.mode (Gets key row old count new) (GivesBytes key row old count new)
+Tries key row old try.NotYet new =
+    InMode row.mode (IsNotYet key old.reader new.reader × (new.buffer ≡ old.buffer))
+    (IsNotYetOn key row old new)
+Tries key row old try.End new =
+    InMode row.mode (FindsEnd key old.reader new.reader × (new.buffer ≡ old.buffer))
+    (TriesOn key row old (came_to 0 stop.End) new)
 
 -- What a read did, by its answer. Own: a read into a buffer of no bytes is refused first, and then
 -- one by a process of another kernel; they do nothing.
-abbrev pub Reads :
-    Key → Row → Reader → List ℕ → Result ReadAnswer Fault → Reader → List ℕ → Type 0
-Reads key row old buffer (Err fault.BadCount) new buffer' = IsUntouchedRead old buffer new buffer'
-Reads key row old buffer (Err fault.NoRendez) new buffer' = IsUntouchedRead old buffer new buffer'
-Reads key row old buffer answer new buffer' =
-    InMode row.mode (KeepsTrying key row old buffer answer new buffer')
-    (KeepsReading key row (calling old buffer) answer (calling new buffer'))
+abbrev pub Reads : Key → Row → Calling → Result ReadAnswer Fault → Calling → Type 0
+Reads key row old (Err fault.BadCount) new =
+    IsUntouchedRead old.reader old.buffer new.reader new.buffer
+Reads key row old (Err fault.NoRendez) new =
+    IsUntouchedRead old.reader old.buffer new.reader new.buffer
+Reads key row old answer new =
+    InMode row.mode (KeepsTrying key row old answer new) (KeepsReading key row old answer new)

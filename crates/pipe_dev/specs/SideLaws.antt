@@ -16,10 +16,10 @@ use Rattle.pipe_dev.specs.Ends.{ReadSide, WriteSide, AreAllEnds, IsSameReadEnd, 
 use Rattle.pipe_dev.specs.Finishing.{GivesHeld}
 use Rattle.pipe_dev.specs.Openings.{IsLaneOf, AreNewEnds}
 use Rattle.pipe_dev.specs.Parts.{Part}
-use Rattle.pipe_dev.specs.ReadCalls.{Reads, Tries, reader_of}
+use Rattle.pipe_dev.specs.ReadCalls.{Reads, Tries, calling, reader_of}
 use Rattle.pipe_dev.specs.Sides.{HasReadJust, AreUnused, AddsToRead, AddsToWritten}
 use Rattle.pipe_dev.specs.Sides.{AreSameWriteEnds, FindsAccepted}
-use Rattle.pipe_dev.specs.WriteCalls.{Writes, writer_of}
+use Rattle.pipe_dev.specs.WriteCalls.{Writes, call_of, writer_of}
 
 -- the ends of a new direction have read and written nothing
 abbrev pub NewEndsAreUnused : Type 0
@@ -32,8 +32,8 @@ abbrev pub ReadsAddToTheirEnd : Type 0
 ReadsAddToTheirEnd =
     (old new : ReadSide) (before after : Running) (buffer : List ℕ)
     (answer : Result ReadAnswer Fault) (buffer' : List ℕ) → buffer ≢ []
-    → Reads (key_of old.queue) old.row (reader_of old before) buffer answer
-    (reader_of new after) buffer'
+    → Reads (key_of old.queue) old.row (calling (reader_of old before) buffer) answer
+    (calling (reader_of new after) buffer')
     → IsSameReadEnd old new
     → (parts : List Part) → HasReadJust old parts
     → AddsToRead (AddsRead old.row.mode answer buffer') old parts new
@@ -42,8 +42,8 @@ abbrev pub TriesAddToTheirEnd : Type 0
 TriesAddToTheirEnd =
     (old new : ReadSide) (before after : Running) (buffer : List ℕ) (answer : TryAnswer)
     (buffer' : List ℕ) → buffer ≢ []
-    → Tries (key_of old.queue) old.row (reader_of old before) buffer answer
-    (reader_of new after) buffer'
+    → Tries (key_of old.queue) old.row (calling (reader_of old before) buffer) answer
+    (calling (reader_of new after) buffer')
     → IsSameReadEnd old new
     → (parts : List Part) → HasReadJust old parts
     → AddsToRead (AddsTry old.row.mode answer buffer') old parts new
@@ -58,8 +58,7 @@ ReadEndsHangUp =
 abbrev pub WritesAddToTheirEnd : Type 0
 WritesAddToTheirEnd =
     (old new : WriteSide) (before after : Running) (block : List ℕ) (answer : Result ℕ Fault)
-    → Writes (key_of old.queue) old.row old.writer block (writer_of old before) answer
-    (writer_of new after)
+    → Writes (call_of old block) (writer_of old before) answer (writer_of new after)
     → IsSameWriteEnd old new → AddsToWritten (written_by answer block) old new
 
 abbrev pub WriteEndsHangUp : Type 0

@@ -21,7 +21,7 @@ use Rattle.pipe_dev.specs.declared.filling.Came.{Came}
 use Rattle.pipe_dev.specs.Filling.{last_number}
 use Rattle.pipe_dev.specs.ReadCalls.{Reader, TakesOut, Calling, TriesOn}
 use Rattle.pipe_dev.specs.Rendezes.{WakesAll, reader_rendez, writer_rendez}
-use Rattle.pipe_dev.specs.WriteCalls.{Writer, Accepts}
+use Rattle.pipe_dev.specs.WriteCalls.{WriteCall, Writer, Accepts}
 
 -- between any two steps of running threads, the process of these steps has a seat and has gone on
 pub record HasGoneOn (views : List View) (process : Process) : Type 0 where
@@ -35,9 +35,9 @@ pub record HasGoneOn (views : List View) (process : Process) : Type 0 where
 abbrev pub WritesWakeTheReader : Type 0
 WritesWakeTheReader =
     (sizes : Sizes) (s : _) (shows : ShowsCore sizes s)
-    → (key : Key) (row : Row) (writer : ℕ) (block : List ℕ) (number : ℕ) (old new : Writer)
-    → Accepts key row writer block number old new → HasGoneOn s.views new.process
-    → ReleasesBelow (world_of sizes.procs sizes.rendez shows.run) (reader_rendez row) number
+    → (call : WriteCall) (number : ℕ) (old new : Writer)
+    → Accepts call number old new → HasGoneOn s.views new.process
+    → ReleasesBelow (world_of sizes.procs sizes.rendez shows.run) (reader_rendez call.row) number
 
 -- So with each writer's Rendez, once a read that took a write out has returned.
 abbrev pub ReadsWakeEachWriter : Type 0

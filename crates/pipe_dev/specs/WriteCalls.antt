@@ -14,11 +14,12 @@ use Rattle.sleep_wakeup.specs.Calls.{Sleeps}
 use Rattle.sleep_wakeup.specs.Kernel.{Running}
 use Rattle.block_queue.specs.declared.entry.Entry.{Entry}
 use Rattle.block_queue.specs.declared.entry.Entry.TheVariants as entry
+use Rattle.block_queue.specs.declared.queue.Queue.{Queue}
 use Rattle.block_queue.specs.declared.view.Key.{Key}
 use Rattle.block_queue.specs.Calls.{Stands}
 use Rattle.block_queue.specs.Meaning.{Enters}
 use Rattle.block_queue.specs.declared.seats.PutSeat.{PutSeat}
-use Rattle.block_queue.specs.Seats.{put_account}
+use Rattle.block_queue.specs.Seats.{key_of, put_account}
 use Rattle.block_queue.specs.Steps.{saw_hangup}
 use Rattle.pipe_dev.specs.declared.answers.Long.{Long}
 use Rattle.pipe_dev.specs.declared.row.Row.{Row}
@@ -34,33 +35,44 @@ pub record Writer : Type 0 where
 abbrev pub writer_of : WriteSide → Running → Writer
 writer_of side proc = record { account = side.account; process = proc.process }
 
+-- a call of write: the queue and the Rendez of the direction, who writes there, and the bytes
+pub record WriteCall : Type 0 where
+  pub key : Key
+  pub row : Row
+  pub writer : ℕ
+  pub bytes : List ℕ
+
+-- the write of these bytes at this end
+abbrev pub call_of : WriteSide → List ℕ → WriteCall
+call_of side bytes =
+    record { key = key_of side.queue; row = side.row; writer = side.writer; bytes = bytes }
+
 -- a put found no room: this entry was made, and nothing else was done. A writer that knew of the
 -- hangup is not told so.
-pub record FindsFull (key : Key) (writer : ℕ) (block : List ℕ) (number : ℕ) (old new : Writer) :
-    Type 0 where
-  pub entered : Enters key (entry.Full writer block number) old.account new.account
-  pub fresh : saw_hangup key old.account ≡ false
+pub record FindsFull (call : WriteCall) (number : ℕ) (old new : Writer) : Type 0 where
+  pub entered : Enters call.key (entry.Full call.writer call.bytes number)
+      old.account new.account
+  pub fresh : saw_hangup call.key old.account ≡ false
   pub process : new.process ≡ old.process
 
 -- it was answered Full, and slept on its own Rendez with the number of that answer, and well
-pub record SleepsForRoom (key : Key) (row : Row) (writer : ℕ) (block : List ℕ)
-    (old new : Writer) : Type 0 where
+pub record SleepsForRoom (call : WriteCall) (old new : Writer) : Type 0 where
   pub number : ℕ
-  pub found : FindsFull key writer block number old (record new { process = old.process })
-  pub slept : Sleeps old.process (writer_rendez row writer) number no_notes new.process
+  pub found : FindsFull call number old (record new { process = old.process })
+  pub slept : Sleeps old.process (writer_rendez call.row call.writer) number no_notes new.process
 
 -- the sleep did not end well
-pub record FailsForRoom (key : Key) (row : Row) (writer : ℕ) (block : List ℕ) (old : Writer)
-    (why : Fault) (new : Writer) : Type 0 where
+pub record FailsForRoom (call : WriteCall) (old : Writer) (why : Fault) (new : Writer) :
+    Type 0 where
   pub number : ℕ
-  pub found : FindsFull key writer block number old (record new { process = old.process })
-  pub failed : FailsAsleep old.process (writer_rendez row writer) number new.process why
+  pub found : FindsFull call number old (record new { process = old.process })
+  pub failed : FailsAsleep old.process (writer_rendez call.row call.writer) number
+      new.process why
 
 -- the write was accepted and stands, and the reader was woken with its number
-pub record Accepts (key : Key) (row : Row) (writer : ℕ) (block : List ℕ) (number : ℕ)
-    (old new : Writer) : Type 0 where
-  pub stands : Stands key writer block number old.account new.account
-  pub woken : WakesOne old.process (reader_rendez row) number new.process
+pub record Accepts (call : WriteCall) (number : ℕ) (old new : Writer) : Type 0 where
+  pub stands : Stands call.key call.writer call.bytes number old.account new.account
+  pub woken : WakesOne old.process (reader_rendez call.row) number new.process
 
 -- someone hung the direction up, as far as this history tells
 abbrev pub HasHang : List Entry → Type 0
@@ -70,39 +82,39 @@ HasHang (other ∷ past) = HasHang past
 
 -- Hungup: the writer has seen the hangup, and the note of a write on a closed pipe was posted to
 -- the process that calls
-pub record IsTooLate (key : Key) (writer : ℕ) (block : List ℕ) (old new : Writer) : Type 0 where
-  pub entered : Enters key (entry.Hungup writer block) old.account new.account
+pub record IsTooLate (call : WriteCall) (old new : Writer) : Type 0 where
+  pub entered : Enters call.key (entry.Hungup call.writer call.bytes) old.account new.account
   pub knew : HasHang new.account.seen
   pub noted : new.process ≡ notes old.process (pid_in old.process) (only ClosedPipe)
 
 -- the last number is given
-pub record IsWornOut (key : Key) (writer : ℕ) (block : List ℕ) (old new : Writer) : Type 0 where
-  pub entered : Enters key (entry.Worn writer block) old.account new.account
+pub record IsWornOut (call : WriteCall) (old new : Writer) : Type 0 where
+  pub entered : Enters call.key (entry.Worn call.writer call.bytes) old.account new.account
   pub process : new.process ≡ old.process
 
 -- how a write ends that asked the queue
-abbrev pub EndsWrite : Key → Row → ℕ → List ℕ → Writer → Result ℕ Fault → Writer → Type 0
-EndsWrite key row writer block old (Ok number) new = Accepts key row writer block number old new
-EndsWrite key row writer block old (Err fault.Hungup) new = IsTooLate key writer block old new
-EndsWrite key row writer block old (Err fault.Worn) new = IsWornOut key writer block old new
-EndsWrite key row writer block old (Err why) new = FailsForRoom key row writer block old why new
+abbrev pub EndsWrite : WriteCall → Writer → Result ℕ Fault → Writer → Type 0
+EndsWrite call old (Ok number) new = Accepts call number old new
+EndsWrite call old (Err fault.Hungup) new = IsTooLate call old new
+EndsWrite call old (Err fault.Worn) new = IsWornOut call old new
+EndsWrite call old (Err why) new = FailsForRoom call old why new
 
 -- it found the direction full some times and slept; and then it ended
-pub record Asks (key : Key) (row : Row) (writer : ℕ) (block : List ℕ) (old : Writer)
-    (answer : Result ℕ Fault) (new : Writer) : Type 0 where
+pub record Asks (call : WriteCall) (old : Writer) (answer : Result ℕ Fault) (new : Writer) :
+    Type 0 where
   pub times : ℕ
   pub between : Writer
-  pub slept : Rounds (SleepsForRoom key row writer block) times old between
-  pub ended : EndsWrite key row writer block between answer new
+  pub slept : Rounds (SleepsForRoom call) times old between
+  pub ended : EndsWrite call between answer new
 
 -- What a write did, by its answer. Own: a write above the atomic size is refused first, and then
 -- one by a process of another kernel; they and a write for whose block there is no memory do
 -- nothing.
-abbrev pub Writes : Key → Row → ℕ → List ℕ → Writer → Result ℕ Fault → Writer → Type 0
-Writes key row writer block old (Err fault.TooBig) new = new ≡ old
-Writes key row writer block old (Err fault.NoRendez) new = new ≡ old
-Writes key row writer block old (Err fault.Memory) new = new ≡ old
-Writes key row writer block old answer new = Asks key row writer block old answer new
+abbrev pub Writes : WriteCall → Writer → Result ℕ Fault → Writer → Type 0
+Writes call old (Err fault.TooBig) new = new ≡ old
+Writes call old (Err fault.NoRendez) new = new ≡ old
+Writes call old (Err fault.Memory) new = new ≡ old
+Writes call old answer new = Asks call old answer new
 
 -- ---- a long write
 
@@ -117,11 +129,14 @@ atomic_writes_in (suc fuel) bytes =
 abbrev pub atomic_writes : List ℕ → List (List ℕ)
 atomic_writes bytes = atomic_writes_in (length bytes) bytes
 
+-- one of the writes of a long write: these bytes of it
+abbrev pub call_for : WriteCall → List ℕ → WriteCall
+call_for long block = record long { bytes = block }
+
 -- a write that was accepted, with some number
-pub record WritesWell (key : Key) (row : Row) (writer : ℕ) (block : List ℕ) (old new : Writer) :
-    Type 0 where
+pub record WritesWell (call : WriteCall) (old new : Writer) : Type 0 where
   pub number : ℕ
-  pub accepted : Writes key row writer block old (Ok number) new
+  pub accepted : Writes call old (Ok number) new
 
 -- these were written, and then one more
 pub record WritesNext (WritesBefore : Writer → Type 0) (Write : Writer → Writer → Type 0)
@@ -130,39 +145,42 @@ pub record WritesNext (WritesBefore : Writer → Type 0) (Write : Writer → Wri
   pub others : WritesBefore between
   pub last : Write between new
 
--- each of these was accepted, one after the other, the newest first
-abbrev pub WritesEach : Key → Row → ℕ → List (List ℕ) → Writer → Writer → Type 0
-WritesEach key row writer [] old new = new ≡ old
-WritesEach key row writer (block ∷ blocks) old new =
-    WritesNext (WritesEach key row writer blocks old) (WritesWell key row writer block) new
+-- each of these writes of a long write was accepted, one after the other, the newest first
+abbrev pub WritesEach : WriteCall → List (List ℕ) → Writer → Writer → Type 0
+WritesEach call [] old new = new ≡ old
+WritesEach call (block ∷ blocks) old new =
+    WritesNext (WritesEach call blocks old) (WritesWell (call_for call block)) new
 
 abbrev pub bytes_in : List (List ℕ) → ℕ
 bytes_in [] = 0
 bytes_in (block ∷ blocks) = bytes_in blocks + length block
 
 -- the long write ended so: all was written, or the next write was answered this fault
-abbrev pub EndsLong :
-    Key → Row → ℕ → List ℕ → List (List ℕ) → Writer → Option Fault → Writer → Type 0
-EndsLong key row writer bytes done old None new =
-    (new ≡ old) × (reverse done ≡ atomic_writes bytes)
-EndsLong key row writer bytes done old (Some why) new =
+abbrev pub EndsLong : WriteCall → List (List ℕ) → Writer → Option Fault → Writer → Type 0
+EndsLong call done old None new = (new ≡ old) × (reverse done ≡ atomic_writes call.bytes)
+EndsLong call done old (Some why) new =
     (block : List ℕ) × (others : List (List ℕ))
-    × (atomic_writes bytes ≡ reverse done ++ block ∷ others)
-    × Writes key row writer block old (Err why) new
+    × (atomic_writes call.bytes ≡ reverse done ++ block ∷ others)
+    × Writes (call_for call block) old (Err why) new
 
 -- What a long write did: the writes that it is cut into, in their order, up to the first that was
 -- not accepted; and it counts the bytes of those that were.
-pub record WritesLong (key : Key) (row : Row) (writer : ℕ) (bytes : List ℕ) (old : Writer)
-    (long : Long) (new : Writer) : Type 0 where
+pub record WritesLong (call : WriteCall) (old : Writer) (long : Long) (new : Writer) :
+    Type 0 where
   pub done : List (List ℕ)
   pub between : Writer
-  pub written : WritesEach key row writer done old between
+  pub written : WritesEach call done old between
   pub taken : long.taken ≡ bytes_in done
-  pub ended : EndsLong key row writer bytes done between long.fault new
+  pub ended : EndsLong call done between long.fault new
 
 -- the writer that has this seat
 abbrev pub writer_with : PutSeat → Running → Writer
 writer_with seat proc = record { account = put_account seat; process = proc.process }
+
+-- the write of these bytes by this seat
+abbrev pub call_with : Queue → Row → PutSeat → List ℕ → WriteCall
+call_with queue row seat bytes =
+    record { key = key_of queue; row = row; writer = seat.writer; bytes = bytes }
 
 -- an answer that comes only from a put or a sleep
 abbrev pub IsAsked : Result ℕ Fault → Type 0

@@ -22,7 +22,7 @@ impl<'p> ReadEnd<'p> {
     ghost use Rattle.sync_base.specs.declared.fault.Fault.TheVariants.{BadCount, NoRendez};
     ghost use Rattle.block_queue.specs.Seats.{key_of};
     ghost use Rattle.pipe_dev.specs.Ends.{IsSameReadEnd};
-    ghost use Rattle.pipe_dev.specs.ReadCalls.{Reads, Tries, IsUntouchedRead, reader_of};
+    ghost use Rattle.pipe_dev.specs.ReadCalls.{Reads, Tries, IsUntouchedRead, calling, reader_of};
     ghost use Rattle.pipe_dev.specs.Rendezes.{HasRow};
 
     /// Reads what is next: fills the buffer, up to its end or to the end of one write, whichever
@@ -49,8 +49,8 @@ impl<'p> ReadEnd<'p> {
 
         // It read, slept and woke so, or did nothing.
         ensures read { Reads (key_of self.old.queue) self.old.row
-            (reader_of self.old proc.old) buffer.old result
-            (reader_of self.new proc.new) buffer.new }
+            (calling (reader_of self.old proc.old) buffer.old) result
+            (calling (reader_of self.new proc.new) buffer.new) }
         ensures end { IsSameReadEnd self.old self.new }
         ensures words { proc.new.words ≡ proc.old.words }
     {
@@ -85,8 +85,8 @@ impl<'p> ReadEnd<'p> {
 
         // Otherwise it read and woke so.
         ensures tried { IfOk result (λ answer. Tries (key_of self.old.queue) self.old.row
-            (reader_of self.old proc.old) buffer.old answer
-            (reader_of self.new proc.new) buffer.new) }
+            (calling (reader_of self.old proc.old) buffer.old) answer
+            (calling (reader_of self.new proc.new) buffer.new)) }
 
         ensures end { IsSameReadEnd self.old self.new }
         ensures words { proc.new.words ≡ proc.old.words }
@@ -250,8 +250,9 @@ fn try_once(
     requires room { buffer.old ≢ [] }
     ensures hand { IsReadHand queue.now row.now result.hand }
     ensures words { proc.new.words ≡ proc.old.words }
-    ensures tried { Tries (key_of queue.now) row.now (reader_with hand proc.old) buffer.old
-        result.answer (reader_with result.hand proc.new) buffer.new }
+    ensures tried { Tries (key_of queue.now) row.now
+        (calling (reader_with hand proc.old) buffer.old) result.answer
+        (calling (reader_with result.hand proc.new) buffer.new) }
 {
     let Tried { hand, came } = try_with(queue, row, hand, proc, buffer);
     let answer = answer_to(came);

@@ -9,10 +9,9 @@ use sync_base::limits::ATOMIC_SIZE;
 impl<'p> WriteEnd<'p> {
     ghost use Rattle.std.specs.Prelude.{◌≡◌, ◌≢◌, ◌↔◌, Some};
     ghost use Rattle.sync_base.specs.declared.fault.Fault.TheVariants.{TooBig, NoRendez};
-    ghost use Rattle.block_queue.specs.Seats.{key_of};
     ghost use Rattle.pipe_dev.specs.Ends.{IsSameWriteEnd};
     ghost use Rattle.pipe_dev.specs.Rendezes.{HasRow};
-    ghost use Rattle.pipe_dev.specs.WriteCalls.{WritesLong, writer_of};
+    ghost use Rattle.pipe_dev.specs.WriteCalls.{WritesLong, call_of, writer_of};
 
     /// Writes these bytes as writes of the atomic size, and one of the rest; no bytes are one empty
     /// write. It waits as `write` does, and stops at the first fault. None is `TooBig`; `NoRendez`
@@ -31,7 +30,7 @@ impl<'p> WriteEnd<'p> {
             ↔ ¬ HasRow proc.old.words self.old.row }
 
         // It wrote so, up to the first write that was not accepted.
-        ensures wrote { WritesLong (key_of self.old.queue) self.old.row self.old.writer bytes.now
+        ensures wrote { WritesLong (call_of self.old bytes.now)
             (writer_of self.old proc.old) result (writer_of self.new proc.new) }
         ensures end { IsSameWriteEnd self.old self.new }
         ensures words { proc.new.words ≡ proc.old.words }

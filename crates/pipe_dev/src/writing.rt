@@ -1,9 +1,8 @@
 //! How a direction is written.
 ghost use Rattle.std.specs.Prelude.{◌≡◌};
-ghost use Rattle.block_queue.specs.Seats.{key_of};
 ghost use Rattle.pipe_dev.specs.Ends.{IsWriteHand};
 ghost use Rattle.pipe_dev.specs.Rendezes.{HasRow};
-ghost use Rattle.pipe_dev.specs.WriteCalls.{Asks, IsAsked, writer_with};
+ghost use Rattle.pipe_dev.specs.WriteCalls.{Asks, IsAsked, call_with, writer_with};
 ghost use Rattle.pipe_dev.specs.WriteSteps.{IfOver, IfAgain};
 
 use crate::row::Row;
@@ -20,10 +19,9 @@ impl<'p> WriteEnd<'p> {
     ghost use Rattle.std.specs.Prelude.{◌≡◌, ◌<◌, ◌≤◌, ◌↔◌, length, IsErrOf};
     ghost use Rattle.sync_base.specs.declared.fault.Fault.TheVariants.{TooBig, NoRendez};
     ghost use Rattle.sync_base.specs.declared.limits.TheConstants.{ATOMIC_SIZE};
-    ghost use Rattle.block_queue.specs.Seats.{key_of};
     ghost use Rattle.pipe_dev.specs.Ends.{IsSameWriteEnd};
     ghost use Rattle.pipe_dev.specs.Rendezes.{HasRow};
-    ghost use Rattle.pipe_dev.specs.WriteCalls.{Writes, writer_of};
+    ghost use Rattle.pipe_dev.specs.WriteCalls.{Writes, call_of, writer_of};
 
     /// Writes these bytes as one write, which is read whole and in one piece, and answers its
     /// number. Where there is no room it waits. Memory is taken for the bytes.
@@ -48,7 +46,7 @@ impl<'p> WriteEnd<'p> {
             → (IsErrOf result NoRendez ↔ ¬ HasRow proc.old.words self.old.row) }
 
         // It wrote, slept and woke so, or did nothing.
-        ensures wrote { Writes (key_of self.old.queue) self.old.row self.old.writer bytes.now
+        ensures wrote { Writes (call_of self.old bytes.now)
             (writer_of self.old proc.old) result (writer_of self.new proc.new) }
         ensures end { IsSameWriteEnd self.old self.new }
         ensures words { proc.new.words ≡ proc.old.words }
@@ -113,7 +111,7 @@ fn write_with<R: Wait>(
     requires kernel { HasRow proc.old.words row.now }
     ensures seat { IsWriteHand queue.now row.now seat.writer result.seat }
     ensures words { proc.new.words ≡ proc.old.words }
-    ensures asked { Asks (key_of queue.now) row.now seat.writer block
+    ensures asked { Asks (call_with queue.now row.now seat block)
         (writer_with seat proc.old) result.answer
         (writer_with result.seat proc.new) }
     ensures answer { IsAsked result.answer }
@@ -144,9 +142,9 @@ fn write_round<R: Wait>(
     requires kernel { HasRow proc.old.words row.now }
     ensures seat { IsWriteHand queue.now row.now seat.writer result.seat }
     ensures words { proc.new.words ≡ proc.old.words }
-    ensures over { IfOver result.turn (key_of queue.now) row.now seat.writer block
+    ensures over { IfOver result.turn (call_with queue.now row.now seat block)
         (writer_with seat proc.old) (writer_with result.seat proc.new) }
-    ensures again { IfAgain result.turn (key_of queue.now) row.now seat.writer block
+    ensures again { IfAgain result.turn (call_with queue.now row.now seat block)
         (writer_with seat proc.old) (writer_with result.seat proc.new) }
 {
     let mut seat = seat;

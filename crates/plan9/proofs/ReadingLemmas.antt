@@ -21,12 +21,13 @@ use Rattle.plan9.specs.Readings.{ReadsBy, ReadsPiece, filling, read_answer}
 -- what was read lies in the buffer
 got_fits : (key : Key) (row : Row) (old : calls.Reader) (buffer : List ℕ) (count : ℕ)
     (new : calls.Reader) (buffer' : List ℕ)
-    → Reads key row old buffer (Ok (read.Got count)) new buffer'
+    → Reads key row (calling old buffer) (Ok (read.Got count)) (calling new buffer')
     → count ≤ length buffer'
 got_fits key row old buffer count new buffer' reads = by row.mode reads
   where
     by : (mode : Mode)
-        → InMode mode (KeepsTrying key row old buffer (Ok (read.Got count)) new buffer')
+        → InMode mode
+        (KeepsTrying key row (calling old buffer) (Ok (read.Got count)) (calling new buffer'))
         (KeepsReading key row (calling old buffer) (Ok (read.Got count)) (calling new buffer'))
         → count ≤ length buffer'
     by Message trying =
@@ -51,7 +52,8 @@ got_fits key row old buffer count new buffer' reads = by row.mode reads
 -- a piece lies in the buffer into which it was read
 pub piece_lies : (key : Key) (row : Row) (old : calls.Reader) (buffer : List ℕ)
     (answer : Result (Option ℕ) Fault) (new : calls.Reader) (buffer' : List ℕ)
-    → Reads key row old buffer (read_answer answer) new buffer' → LiesIn buffer' answer
+    → Reads key row (calling old buffer) (read_answer answer) (calling new buffer')
+    → LiesIn buffer' answer
 piece_lies key row old buffer (Ok (Some count)) new buffer' reads =
     got_fits key row old buffer count new buffer' reads
 piece_lies key row old buffer (Ok None) new buffer' reads = tt

@@ -6,7 +6,7 @@ use Rattle.sleep_wakeup.specs.Kernel.{Running}
 use Rattle.block_queue.specs.Seats.{key_of}
 use Rattle.pipe_dev.specs.declared.answers.ReadAnswer.{ReadAnswer}
 use Rattle.pipe_dev.specs.Ends.{ReadSide, IsSameReadEnd}
-use Rattle.pipe_dev.specs.ReadCalls.{Reads, reader_of}
+use Rattle.pipe_dev.specs.ReadCalls.{Reads, calling, reader_of}
 use Rattle.pipe_dev.specs.Rendezes.{HasRow}
 use Rattle.plan9.specs.Pools.{Holding, IsSameHolder}
 use Rattle.plan9.specs.declared.sharing.Sharer.{Sharer}
@@ -21,8 +21,8 @@ pub record ReadOf (lay : ReadSide) (running : Running) (buffer : Buffers)
   pub no_rendez : buffer.before ≢ []
       → (IsErrOf answer NoRendez ↔ ¬ HasRow running.words lay.row)
   -- else it read so
-  pub reads : Reads (key_of lay.queue) lay.row (reader_of lay running) buffer.before answer
-      (reader_of lies after) buffer.after
+  pub reads : Reads (key_of lay.queue) lay.row (calling (reader_of lay running) buffer.before)
+      answer (calling (reader_of lies after) buffer.after)
   -- and the end is of the direction of which it was
   pub same : IsSameReadEnd lay lies
 

@@ -13,7 +13,7 @@ use Rattle.semaphore.specs.Releasing.{Releases}
 use Rattle.block_queue.specs.Seats.{key_of}
 use Rattle.pipe_dev.specs.declared.answers.ReadAnswer.{ReadAnswer}
 use Rattle.pipe_dev.specs.Ends.{ReadSide, IsSameReadEnd}
-use Rattle.pipe_dev.specs.ReadCalls.{Reads, reader_of}
+use Rattle.pipe_dev.specs.ReadCalls.{Reads, calling, reader_of}
 use Rattle.pipe_dev.specs.Rendezes.{HasRow}
 use Rattle.plan9.specs.declared.sharing.Shared.{Shared}
 use Rattle.plan9.specs.declared.sharing.Sharer.{Sharer}
@@ -96,8 +96,8 @@ pub record ReadsShared (end : ReadSide) (old : Holding) (buffer : Buffers)
   pub bad_count : IsErrOf answer BadCount ↔ (buffer.before ≡ [])
   pub no_rendez : buffer.before ≢ []
       → (IsErrOf answer NoRendez ↔ ¬ HasRow old.running.words end.row)
-  pub reads : Reads (key_of end.queue) end.row (reader_of lay old.running) buffer.before answer
-      (reader_of lies new.running) buffer.after
+  pub reads : Reads (key_of end.queue) end.row (calling (reader_of lay old.running) buffer.before)
+      answer (calling (reader_of lies new.running) buffer.after)
   pub same : IsSameHolder old new
   pub seat_is : new.seat ≡ old.seat
 

@@ -8,10 +8,9 @@ use Rattle.std.specs.declared.io.ErrorKind.TheVariants as kind
 use Rattle.sync_base.specs.declared.fault.Fault.{Fault}
 use Rattle.sync_base.specs.declared.fault.Fault.TheVariants as fault
 use Rattle.sync_base.specs.declared.limits.TheConstants.{ATOMIC_SIZE}
-use Rattle.block_queue.specs.Seats.{key_of}
 use Rattle.pipe_dev.specs.Ends.{IsSameWriteEnd}
 use Rattle.pipe_dev.specs.Rounds.{Rounds}
-use Rattle.pipe_dev.specs.WriteCalls.{Writes, writer_of}
+use Rattle.pipe_dev.specs.WriteCalls.{Writes, call_of, writer_of}
 use Rattle.plan9.specs.declared.pipes.Reader.{Reader}
 use Rattle.plan9.specs.declared.pipes.Writer.{Writer}
 use Rattle.plan9.specs.Readings.{ReadsPiece}
@@ -91,8 +90,7 @@ front_of bytes = take (min (length bytes) ATOMIC_SIZE) bytes
 -- one write of these bytes, which was answered so
 abbrev pub WritesOnce : Writer → List ℕ → Result ℕ Fault → Writer → Type 0
 WritesOnce old bytes answer new =
-    Writes (key_of old.end.queue) old.end.row old.end.writer bytes
-    (writer_of old.end old.proc) answer (writer_of new.end new.proc)
+    Writes (call_of old.end bytes) (writer_of old.end old.proc) answer (writer_of new.end new.proc)
 
 -- how that is told, where this is the last fault then: so many bytes, or an error
 abbrev pub EndsWriting :

@@ -31,7 +31,7 @@ impl<'p, 'k> Reader<'p, 'k> {
     ghost use Rattle.block_queue.specs.Meaning.{Enters};
     ghost use Rattle.block_queue.specs.Seats.{key_of};
     ghost use Rattle.pipe_dev.specs.Ends.{IsSameReadEnd};
-    ghost use Rattle.pipe_dev.specs.ReadCalls.{Reads, Tries, IsUntouchedRead, reader_of};
+    ghost use Rattle.pipe_dev.specs.ReadCalls.{Reads, Tries, IsUntouchedRead, calling, reader_of};
     ghost use Rattle.pipe_dev.specs.Rendezes.{HasRow, WakesIfKnown};
 
     /// A process with a read end. Takes no memory and doesn't wait.
@@ -60,8 +60,8 @@ impl<'p, 'k> Reader<'p, 'k> {
 
         // It read, slept and woke so, or did nothing.
         ensures read { Reads (key_of self.old.end.queue) self.old.end.row
-            (reader_of self.old.end self.old.proc) buffer.old result
-            (reader_of self.new.end self.new.proc) buffer.new }
+            (calling (reader_of self.old.end self.old.proc) buffer.old) result
+            (calling (reader_of self.new.end self.new.proc) buffer.new) }
         ensures end { IsSameReadEnd self.old.end self.new.end }
         ensures words { self.new.proc.words ≡ self.old.proc.words }
     {
@@ -85,8 +85,8 @@ impl<'p, 'k> Reader<'p, 'k> {
 
         // Otherwise it read and woke so.
         ensures tried { IfOk result (λ answer. Tries (key_of self.old.end.queue) self.old.end.row
-            (reader_of self.old.end self.old.proc) buffer.old answer
-            (reader_of self.new.end self.new.proc) buffer.new) }
+            (calling (reader_of self.old.end self.old.proc) buffer.old) answer
+            (calling (reader_of self.new.end self.new.proc) buffer.new)) }
         ensures end { IsSameReadEnd self.old.end self.new.end }
         ensures words { self.new.proc.words ≡ self.old.proc.words }
     {
@@ -118,7 +118,7 @@ impl<'p, 'k> Writer<'p, 'k> {
     ghost use Rattle.block_queue.specs.Seats.{key_of};
     ghost use Rattle.pipe_dev.specs.Ends.{IsSameWriteEnd};
     ghost use Rattle.pipe_dev.specs.Rendezes.{HasRow, WakesIfKnown};
-    ghost use Rattle.pipe_dev.specs.WriteCalls.{Writes, WritesLong, writer_of};
+    ghost use Rattle.pipe_dev.specs.WriteCalls.{Writes, WritesLong, call_of, writer_of};
 
     /// A process with a write end. Takes no memory and doesn't wait.
     pub fn new(end: WriteEnd<'p>, proc: Proc<'k>) -> Writer<'p, 'k>
@@ -145,8 +145,8 @@ impl<'p, 'k> Writer<'p, 'k> {
             → (IsErrOf result NoRendez ↔ ¬ HasRow self.old.proc.words self.old.end.row) }
 
         // It wrote, slept and woke so, or did nothing.
-        ensures wrote { Writes (key_of self.old.end.queue) self.old.end.row self.old.end.writer
-            bytes.now (writer_of self.old.end self.old.proc) result
+        ensures wrote { Writes (call_of self.old.end bytes.now)
+            (writer_of self.old.end self.old.proc) result
             (writer_of self.new.end self.new.proc) }
         ensures end { IsSameWriteEnd self.old.end self.new.end }
         ensures words { self.new.proc.words ≡ self.old.proc.words }
@@ -165,8 +165,8 @@ impl<'p, 'k> Writer<'p, 'k> {
             ↔ ¬ HasRow self.old.proc.words self.old.end.row }
 
         // It wrote so, up to the first write that was not accepted.
-        ensures wrote { WritesLong (key_of self.old.end.queue) self.old.end.row
-            self.old.end.writer bytes.now (writer_of self.old.end self.old.proc) result
+        ensures wrote { WritesLong (call_of self.old.end bytes.now)
+            (writer_of self.old.end self.old.proc) result
             (writer_of self.new.end self.new.proc) }
         ensures end { IsSameWriteEnd self.old.end self.new.end }
         ensures words { self.new.proc.words ≡ self.old.proc.words }

@@ -4,15 +4,15 @@ use Rattle.rendez_words.specs.Process.{pid_in}
 use Rattle.rendez_words.specs.Steps.{notes}
 use Rattle.block_queue.specs.Seats.{key_of, put_account}
 use Rattle.pipe_dev.specs.Rendezes.{writer_rendez}
-use Rattle.pipe_dev.specs.WriteCalls.{writer_with}
+use Rattle.pipe_dev.specs.WriteCalls.{call_with, writer_with}
 use Rattle.pipe_dev.proofs.CallLemmas.{write_fails}
 use Rattle.pipe_dev.proofs.RoundLemmas.{hungup_knew}
 use Rattle.pipe_dev.proofs.writing.write_round.Goals as goal
 
 pub returns-in-Err-clause-over : goal.returns-in-Err-clause-over
 returns-in-Err-clause-over g c =
-    write_fails c.args.proc.now.words (key_of c.args.queue.now) c.args.row.now c.args.seat.writer
-    c.args.block
+    write_fails c.args.proc.now.words
+    (call_with c.args.queue.now c.args.row.now c.args.seat c.args.block)
     (writer_with c.args.seat c.args.proc.now) (put_account c.put.new.seat) c.in-Full.number
     c.writer.result
     c.sleep.new.self.process c.in-Err.fault c.requires.seat.row_is.first c.requires.kernel

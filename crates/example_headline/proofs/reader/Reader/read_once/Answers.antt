@@ -8,7 +8,7 @@ use Rattle.sync_base.specs.declared.fault.Fault.{Fault}
 use Rattle.block_queue.specs.Seats.{key_of}
 use Rattle.pipe_dev.specs.declared.answers.ReadAnswer.{ReadAnswer}
 use Rattle.pipe_dev.specs.declared.answers.ReadAnswer.TheVariants as read
-use Rattle.pipe_dev.specs.ReadCalls.{Reads, reader_of}
+use Rattle.pipe_dev.specs.ReadCalls.{Reads, calling, reader_of}
 use Rattle.example_headline.proofs.CrewLemmas.{read_on, refusal_is_no_answer, some_room}
 use Rattle.example_headline.proofs.CrewLemmas.{sees_end}
 use Rattle.pipe_dev.specs.declared.row.Row.{Row}
@@ -44,8 +44,9 @@ returns-in-Got g c =
           (c.as_mut_slice.ensures.len ∙ c.in_ok-buffer.ensures.len) (omega arith))
           (subst (λ (answer : ReadAnswer).
           Reads (key_of c.args.self.now.end.queue) c.args.self.now.end.row
-          (reader_of c.args.self.now.end c.args.self.now.proc) c.as_mut_slice.result.now
-          (Ok answer) (reader_of c.read.new.self c.read.new.proc) c.read.new.buffer) c.in-Got.is
+          (calling (reader_of c.args.self.now.end c.args.self.now.proc) c.as_mut_slice.result.now)
+          (Ok answer) (calling (reader_of c.read.new.self c.read.new.proc) c.read.new.buffer))
+          c.in-Got.is
           c.in_ok-count.ensures.read) c.in_ok-count.ensures.end
           (c.push_reserved.ensures.items
           ∙ (ap (λ (xs : List (List ℕ)). xs ++ c.of.result ∷ []) c.in_ok-reserve.ensures.items
@@ -58,9 +59,10 @@ pub returns-in-End : goal.returns-in-End
 returns-in-End g c =
     let old = c.args.self.now in
     let reads = subst (λ (answer : ReadAnswer).
-    Reads (key_of old.end.queue) old.end.row (reader_of old.end old.proc)
-    c.as_mut_slice.result.now (Ok answer) (reader_of c.read.new.self c.read.new.proc)
-    c.read.new.buffer) c.in-End.is c.in_ok-count.ensures.read in
+    Reads (key_of old.end.queue) old.end.row
+    (calling (reader_of old.end old.proc) c.as_mut_slice.result.now) (Ok answer)
+    (calling (reader_of c.read.new.self c.read.new.proc) c.read.new.buffer)) c.in-End.is
+    c.in_ok-count.ensures.read in
     record {
       on = read_on old _ old.proc c.read.new.proc c.as_mut_slice.result.now (Ok read.End)
           c.read.new.buffer

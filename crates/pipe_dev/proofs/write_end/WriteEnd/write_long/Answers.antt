@@ -18,7 +18,8 @@ returns-in-Err-clause-wrote g c =
         atomic_writes c.split_at.result.1.now,
         cut_next c.args.bytes.now c.writing.left.now _ _ written.0 c.writing-test.true
             c.split_at.ensures.front c.split_at.ensures.back written.3,
-        wrote_at c.args.self.now c.writing.self _ _ (Err c.in-Err.fault) _ c.writing.invariant.end
+        wrote_at c.args.self.now c.writing.self _ _ (Err c.in-Err.fault)
+            (writer_of c.write.new.self c.write.new.proc) c.writing.invariant.end
             c.in-Err.ensures.wrote,
       );
     }
@@ -45,8 +46,9 @@ writing-preserved g c =
           last = record {
             number = c.in_default.field-0;
             accepted =
-                wrote_at c.args.self.now c.writing.self _ _ (Ok c.in_default.field-0) _
-                c.writing.invariant.end c.in_default.ensures.wrote;
+                wrote_at c.args.self.now c.writing.self _ _ (Ok c.in_default.field-0)
+                (writer_of c.write.new.self c.write.new.proc) c.writing.invariant.end
+                c.in_default.ensures.wrote;
           };
         },
         omega (arith, taken, front_len),
@@ -71,8 +73,9 @@ returns-in-Ok-clause-wrote g c =
         last = record {
           number = c.in-Ok.field-0;
           accepted =
-              wrote_at c.args.self.now c.writing.self _ _ (Ok c.in-Ok.field-0) _
-              c.writing.invariant.end c.in-Ok.ensures.wrote;
+              wrote_at c.args.self.now c.writing.self _ _ (Ok c.in-Ok.field-0)
+              (writer_of c.write-2.new.self c.write-2.new.proc) c.writing.invariant.end
+              c.in-Ok.ensures.wrote;
         };
       };
       taken = omega (arith, taken);
@@ -95,8 +98,9 @@ returns-in-Err-write-clause-wrote g c =
         c.writing.left.now,
         [],
         cut_last c.args.bytes.now c.writing.left.now written.0 (omega (arith, short)) written.3,
-        wrote_at c.args.self.now c.writing.self _ _ (Err c.in-Err-write.fault) _
-            c.writing.invariant.end c.in-Err-write.ensures.wrote,
+        wrote_at c.args.self.now c.writing.self _ _ (Err c.in-Err-write.fault)
+            (writer_of c.write-2.new.self c.write-2.new.proc) c.writing.invariant.end
+            c.in-Err-write.ensures.wrote,
       );
     }
 
