@@ -17,3 +17,4 @@ pub mod WorkedCalls
 pub mod WorkedFills
 pub mod SideLemmas
 pub mod WorkedOpenings
+pub mod WorkedHands

@@ -1,0 +1,68 @@
+-- What an end has between two calls and what a round of a call comes to, in plain words.
+use Rattle.std.proofs.Common.{◌≡◌, ℕ, List, [], ◌∷◌, Some, None}
+use Rattle.std.specs.Prelude.{Err}
+use Rattle.sync_base.specs.declared.fault.Fault.TheVariants as fault
+use Rattle.sync_base.specs.NoteSet.{no_notes}
+use Rattle.sleep_wakeup.specs.Calls.{Sleeps}
+use Rattle.block_queue.specs.declared.queue.Queue.{Queue}
+use Rattle.block_queue.specs.declared.seats.PutSeat.{PutSeat}
+use Rattle.block_queue.specs.declared.view.Key.{Key}
+use Rattle.pipe_dev.specs.declared.row.Row.{Row}
+use Rattle.pipe_dev.specs.Ends.{WriteSide, HasReadHand, HasWriteHand}
+use Rattle.pipe_dev.specs.ReadCalls.{Calling}
+use Rattle.pipe_dev.specs.ReadSteps.{IfOver as IfReadOver, IfSlept}
+use Rattle.pipe_dev.specs.Rendezes.{reader_rendez}
+use Rattle.pipe_dev.specs.Seating.{AreSeated}
+use Rattle.pipe_dev.specs.WriteCalls.{WriteCall, Writer, HasHang, IsTooLate}
+use Rattle.pipe_dev.specs.WriteSteps.{IfOver as IfWriteOver, IfAgain}
+use Rattle.pipe_dev.specs.declared.writing.Turn.TheVariants.{Over, Again}
+
+module _ (queue : Queue) (row : Row) where
+  -- between two calls nobody has taken its hand from an end
+  read_end_has_its_hand : HasReadHand queue row None → ⊥
+  read_end_has_its_hand away = away
+
+  write_end_has_its_seat : (writer : ℕ) → HasWriteHand queue row writer None → ⊥
+  write_end_has_its_seat writer away = away
+
+  -- and the seat is that of its writer
+  the_seat_is_its_writers : (writer : ℕ) (seat : PutSeat)
+      → HasWriteHand queue row writer (Some seat) → seat.writer ≡ writer
+  the_seat_is_its_writers writer seat has = has.writer_is
+
+  -- no seat is left without an end, and no end is of no seat
+  seat_has_no_end : (seat : PutSeat) → AreSeated queue row (seat ∷ []) [] → ⊥
+  seat_has_no_end seat none = cc
+
+  end_has_no_seat : (write : WriteSide) → AreSeated queue row [] (write ∷ []) → ⊥
+  end_has_no_seat write one = cc
+
+module _ (key : Key) (row : Row) (old new : Calling) where
+  -- no round is over for want of memory
+  round_wants_memory : IfReadOver (Some (Err fault.Memory)) key row old new → ⊥
+  round_wants_memory over = over.failed
+
+  -- a round that goes on has slept on the reader's Rendez
+  a_round_that_goes_on_slept : (slept : IfSlept None key row old new)
+      → Sleeps slept.before (reader_rendez row) slept.number no_notes new.reader.process
+  a_round_that_goes_on_slept slept = slept.slept
+
+module _ (call : WriteCall) (old new : Writer) where
+  -- no round of a write finds its bytes too big, or its process of another kernel, or wants memory
+  round_finds_too_big : IfWriteOver (Over (Err fault.TooBig)) call old new → ⊥
+  round_finds_too_big over = over.1
+
+  round_finds_no_rendez : IfWriteOver (Over (Err fault.NoRendez)) call old new → ⊥
+  round_finds_no_rendez over = over.1
+
+  round_of_a_write_wants_memory : IfWriteOver (Over (Err fault.Memory)) call old new → ⊥
+  round_of_a_write_wants_memory over = over.1
+
+  -- who is told of a hangup has seen it
+  who_is_too_late_has_seen_it : IsTooLate call old new → HasHang new.account.seen
+  who_is_too_late_has_seen_it late = late.knew
+
+  -- a round that goes on hands the bytes back
+  a_round_that_goes_on_hands_back : (back : List ℕ) → IfAgain (Again back) call old new
+      → back ≡ call.bytes
+  a_round_that_goes_on_hands_back back again = again.1
