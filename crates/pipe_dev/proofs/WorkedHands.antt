@@ -1,5 +1,5 @@
 -- What an end has between two calls and what a round of a call comes to, in plain words.
-use Rattle.std.proofs.Common.{◌≡◌, ℕ, List, [], ◌∷◌, Some, None}
+use Rattle.std.proofs.Common.{◌≡◌, ℕ, true, List, [], ◌∷◌, Some, None}
 use Rattle.std.specs.Prelude.{Err}
 use Rattle.sync_base.specs.declared.fault.Fault.TheVariants as fault
 use Rattle.sync_base.specs.NoteSet.{no_notes}
@@ -7,13 +7,15 @@ use Rattle.sleep_wakeup.specs.Calls.{Sleeps}
 use Rattle.block_queue.specs.declared.queue.Queue.{Queue}
 use Rattle.block_queue.specs.declared.seats.PutSeat.{PutSeat}
 use Rattle.block_queue.specs.declared.view.Key.{Key}
+use Rattle.block_queue.specs.Steps.{saw_hangup}
 use Rattle.pipe_dev.specs.declared.row.Row.{Row}
 use Rattle.pipe_dev.specs.Ends.{WriteSide, HasReadHand, HasWriteHand}
 use Rattle.pipe_dev.specs.ReadCalls.{Calling}
 use Rattle.pipe_dev.specs.ReadSteps.{IfOver as IfReadOver, IfSlept}
-use Rattle.pipe_dev.specs.Rendezes.{reader_rendez}
+use Rattle.pipe_dev.specs.Rendezes.{reader_rendez, writer_rendez}
 use Rattle.pipe_dev.specs.Seating.{AreSeated}
-use Rattle.pipe_dev.specs.WriteCalls.{WriteCall, Writer, HasHang, IsTooLate}
+use Rattle.pipe_dev.specs.WriteCalls.{WriteCall, Writer, HasHang, IsTooLate, IsWornOut}
+use Rattle.pipe_dev.specs.WriteCalls.{FindsFull, SleepsForRoom}
 use Rattle.pipe_dev.specs.WriteSteps.{IfOver as IfWriteOver, IfAgain}
 use Rattle.pipe_dev.specs.declared.writing.Turn.TheVariants.{Over, Again}
 
@@ -66,3 +68,21 @@ module _ (call : WriteCall) (old new : Writer) where
   a_round_that_goes_on_hands_back : (back : List ℕ) → IfAgain (Again back) call old new
       → back ≡ call.bytes
   a_round_that_goes_on_hands_back back again = again.1
+
+  -- who is told that the last number is given makes no step
+  worn_out_makes_no_step : IsWornOut call old new → new.process ≡ old.process
+  worn_out_makes_no_step worn = worn.process
+
+  -- who has seen the hangup is not told that there is no room
+  full_behind_a_hangup : (number : ℕ) → saw_hangup call.key old.account ≡ true
+      → FindsFull call number old new → ⊥
+  full_behind_a_hangup number saw full = let fresh = full.fresh in cc
+
+  -- and who is told so makes no step there
+  full_makes_no_step : (number : ℕ) → FindsFull call number old new → new.process ≡ old.process
+  full_makes_no_step number full = full.process
+
+  -- a round that goes on has slept on the writer's own Rendez
+  a_write_that_goes_on_slept : (slept : SleepsForRoom call old new)
+      → Sleeps old.process (writer_rendez call.row call.writer) slept.number no_notes new.process
+  a_write_that_goes_on_slept slept = slept.slept

@@ -55,6 +55,14 @@ module _ (opened : Opened) (opens : Opens 16 3 10 opened) where
       let back = rows.back in
       absurd (omega (arith, few, three, first, back))
 
+  -- and none of 13 those there
+  no_rows_of_13 : (words : Words) → rendez_of words ≡ 13 → opened.start.there.row.writers ≡ 3
+      → ¬ HasRows words opened
+  no_rows_of_13 words few three rows =
+      let first = opens.there_first in
+      let there = rows.there in
+      absurd (omega (arith, few, three, first, there))
+
 -- ---- what no new pipe is
 
 module _ (opened : Opened) where
