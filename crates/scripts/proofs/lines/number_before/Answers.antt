@@ -15,4 +15,4 @@ overflow_add-n c =
     let few : c.short.count < 19 = omega arith in
     let fits : 10 * c.short.n + 9 < 2 ^ 64 =
     one_more_fits c.short.n c.short.count c.short.invariant.below few in
-    omega (arith, fits)
+    omega (arith, fits, c.in-Some.ensures.small)
