@@ -11,7 +11,7 @@ use Rattle.std.proofs.lemmas.List.{take-append-le}
 use Rattle.std.proofs.lemmas.Bool.Decides.{nat_tests}
 use Rattle.sync_base.specs.declared.fault.Fault.{Fault}
 use Rattle.scripts.specs.declared.script.TheConstants.{MAX_SCRIPT}
-use Rattle.scripts.specs.Script.{Language, Told, told}
+use Rattle.scripts.specs.Script.{Language, Told, growth, told}
 use Rattle.scripts.specs.Device.{AppendsFront, GivesSome, GivesBehind, TakesUpTo, WritesTold, Tells}
 use Rattle.scripts.specs.Device.{IsOutside}
 
@@ -190,7 +190,7 @@ pub gives_behind : (most : ℕ) (old new : Option (List ℕ)) (count : Option �
     (before room after : List ℕ)
     → IfSome count (λ n. GivesSome most old new n room) → length room ≡ most
     → start ≡ length before → after ≡ take (start + unwrap_or count 0) (before ++ room)
-    → IfSome count (λ n. GivesBehind most old new n before after)
+    → IfSome count (λ n. GivesBehind most old new n (growth before after))
 gives_behind most old new None start before room after gives len is cut = tt
 gives_behind most old new (Some n) start before room after gives len is cut =
     record {

@@ -18,6 +18,7 @@ use Rattle.scripts.specs.declared.lines.TheConstants.{COMMA, LINE_FEED, SPACE}
 use Rattle.scripts.specs.Lines.{is_comma, is_space, is_word, number_of, onto_first, parts_behind}
 use Rattle.scripts.specs.Lines.{parts_of, words_of}
 use Rattle.scripts.specs.EventText.{event_text}
+use Rattle.scripts.specs.Script.{growth}
 use Rattle.scripts.specs.ScriptLaws.{lines_text}
 use Rattle.scripts.specs.Schedule.{answer_lines, answered, event_of, group_of, is_above}
 use Rattle.scripts.specs.Schedule.{joined_lines, kinds_of, notes_to, pids_of, rising_behind}
@@ -115,7 +116,8 @@ posting_goes notes pids world now old new word words n next longer so_far is ste
 
 -- behind the last word all are posted
 pub posting_ends : (notes : NoteSet) (pids : List ℕ) (world now : State) (old new : List ℕ)
-    → Posting notes pids world now old new [] → PostsEach notes pids world now old new
+    → Posting notes pids world now old new []
+    → PostsEach notes pids world now (growth old new)
 posting_ends notes pids world now old new so_far =
     let left : so_far.left ≡ [] = cc in
     record {
@@ -143,7 +145,7 @@ joined_all line (next ∷ lines) =
 
 -- what is written for a group, as the language says it
 pub group_written : (notes : NoteSet) (list : PidList) (pids : List ℕ) (world now : State)
-    (old new : List ℕ) → PostsEach notes pids world now old new → listed list ≡ Some pids
+    (old new : List ℕ) → PostsEach notes pids world now (growth old new) → listed list ≡ Some pids
     → new ≡ old ++ joined_lines (answer_lines world (notes_to notes pids)) ++ LINE_FEED ∷ []
 group_written notes list [] world now old new posts is = absurd (some_listed list is)
 group_written notes list (pid ∷ pids) world now old new posts is =

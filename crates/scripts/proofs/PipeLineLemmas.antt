@@ -14,7 +14,7 @@ use Rattle.hex.proofs.HexLemmas.{decode_of-ok}
 use Rattle.sync_base.specs.Pipe.{PipeState}
 use Rattle.scripts.specs.declared.lines.TheConstants.{LINE_FEED, SPACE}
 use Rattle.scripts.specs.declared.pipe_line.PipeOp.{PipeOp}
-use Rattle.scripts.specs.Script.{Answers}
+use Rattle.scripts.specs.Script.{Answers, growth}
 use Rattle.scripts.specs.Lines.{is_space, is_word, lines_of, cut_line_of, words_of, words_behind}
 use Rattle.scripts.specs.Lines.{number_of, number_within, BeginsWithLine}
 use Rattle.scripts.specs.PipeScript.{Op, Writes, Hangs_up, answered, pipe_language, bytes_of, op_of}
@@ -74,14 +74,14 @@ pub no_op : (op : Option Op) → op ≡ None → IsOp op None
 no_op op none = rw none tt
 
 -- what a line asks for was answered
-pub answers_op : {T : Type 0} (stands : T → PipeState → Type 0) (s : PipeState) (asked : Option Op)
-    (op : PipeOp) (t : T) (old new : List ℕ) → IsOp asked (Some op)
-    → stands t (answered s (asked_by op)).after
+pub answers_op : (StandsFor : PipeState → Type 0) (s : PipeState) (asked : Option Op)
+    (op : PipeOp) (old new : List ℕ) → IsOp asked (Some op)
+    → StandsFor (answered s (asked_by op)).after
     → new ≡ old ++ (answered s (asked_by op)).text ++ LINE_FEED ∷ []
-    → Answers stands (option_map (answered s) asked) old true t new
-answers_op stands s None op t old new is stands_after written = absurd is
-answers_op stands s (Some asked) op t old new is stands_after written = (
-  subst (λ (o : Op). stands t (answered s o).after) is stands_after,
+    → Answers StandsFor (option_map (answered s) asked) true (growth old new)
+answers_op StandsFor s None op old new is stands_after written = absurd is
+answers_op StandsFor s (Some asked) op old new is stands_after written = (
+  subst (λ (o : Op). StandsFor (answered s o).after) is stands_after,
   subst
       (λ (o : Op). new ≡ old ++ (answered s o).text ++ LINE_FEED ∷ []) is written,
 )

@@ -1,8 +1,7 @@
 -- A schedule comes only to worlds that events from the opening one lead to, and in those no wakeup
 -- is lost.
 use Rattle.std.proofs.Common.{◌≡◌, ℕ, Bool, true, false, List, [], ◌∷◌, ◌++◌, codes, Option, None}
-use Rattle.std.proofs.Common.{Some, Result, Ok, Err, Bor, refl, ap, sym, subst, ◌∙◌}
-use Rattle.std.specs.Prelude.{IfOk}
+use Rattle.std.proofs.Common.{Some, refl, ap, sym, subst, ◌∙◌}
 use Rattle.sleep_core.specs.declared.event.Event.{Event}
 use Rattle.sleep_core.specs.State.{State, opening}
 use Rattle.sleep_core.specs.Step.{answer_to, world_after}
@@ -12,9 +11,8 @@ use Rattle.sleep_core.proofs.OversleepLemmas.{decides_lost}
 use Rattle.scripts.specs.declared.event_line.Size.{Size}
 use Rattle.scripts.specs.declared.lines.TheConstants.{LINE_FEED}
 use Rattle.scripts.specs.Lines.{words_of}
-use Rattle.scripts.specs.declared.schedule.Schedule.{Schedule}
-use Rattle.scripts.specs.Script.{Answered, AnswersFirst}
-use Rattle.scripts.specs.Schedule.{IsWorld, schedule_language, size_of, event_of, events_of}
+use Rattle.scripts.specs.Script.{Answered}
+use Rattle.scripts.specs.Schedule.{schedule_language, size_of, event_of, events_of}
 use Rattle.scripts.specs.EventText.{event_text}
 use Rattle.scripts.specs.ScriptLaws.{answers_of, NoScheduleSaysLost}
 use Rattle.scripts.proofs.ToldLemmas.{Stays}
@@ -102,24 +100,3 @@ pub event_answered : (s : State) (line : List ℕ) (words : List (List ℕ)) (ev
     → schedule_language.answer_to s line
     ≡ Some (record { text = event_text (answer_to s event); after = world_after s event })
 event_answered s line words event is asks = rw (is, asks) refl
-
--- a schedule comes as far as its world
-pub world_first : {E : Type 0} (s now : State) (text old new : List ℕ)
-    (result : Result (Option (Bor (List ℕ))) E)
-    → IfOk result (λ rest. AnswersFirst IsWorld schedule_language s text old rest now new)
-    → IfOk result (λ rest. AnswersFirst
-    (λ (schedule : Schedule) (state : State). schedule.world ≡ state) schedule_language s text old
-    rest (record { world = now }) new)
-world_first s now text old new (Err e) answers = answers
-world_first s now text old new (Ok None) answers = answers
-world_first s now text old new (Ok (Some rest)) answers =
-    record {
-      line = answers.line;
-      answered = answers.answered;
-      lines = answers.lines;
-      cut = answers.cut;
-      shorter = answers.shorter;
-      in_grammar = answers.in_grammar;
-      stands_after = answers.stands_after;
-      written = answers.written;
-    }

@@ -12,7 +12,8 @@ use Rattle.scripts.specs.declared.script.TheConstants.{MAX_LINE, MAX_SCRIPT}
 use Rattle.scripts.specs.Lines.{lines_of, cut_line_of, BeginsWithLine}
 use Rattle.scripts.specs.Device.{AppendsFront}
 use Rattle.scripts.specs.Script.{Language, Answered, Told, Answers, fault_at, answer_then, if_fits}
-use Rattle.scripts.specs.Script.{told, lines_told, told_from, FirstAnswered, IsStuck}
+use Rattle.scripts.specs.Script.{told, lines_told, told_from, FirstAnswered, IsStuck, following}
+use Rattle.scripts.specs.Script.{growth, stage}
 use Rattle.scripts.proofs.DeviceLemmas.{IsWriting, appends_then, appends_nothing, appends_front}
 use Rattle.scripts.specs.ScriptLaws.{lines_text}
 use Rattle.scripts.proofs.TextLemmas.{lines_text-lines}
@@ -50,19 +51,19 @@ pub record GoesOn {T S : Type 0} (stands : T → S → Type 0) (language : Langu
   pub cut_is : cut_line_of rest ≡ cut
   -- what was written, what is held back and what the lines to come answer are all that is owed
   pub writing : IsWriting old now said.output
-      (held ++ (told_from language (too_long || nat_lt 0 (length cut)) state number
+      (held ++ (told_from language (too_long || nat_lt 0 (length cut)) (stage state number)
       (lines_of rest)).output)
   -- the whole is at fault where the lines to come are
-  pub fault : said.fault ≡ (told_from language (too_long || nat_lt 0 (length cut)) state number
-      (lines_of rest)).fault
+  pub fault : said.fault ≡ (told_from language (too_long || nat_lt 0 (length cut))
+      (stage state number) (lines_of rest)).fault
 
 -- before the first line nothing is written, and nothing is held back
 pub goes_begin : {T S : Type 0} (stands : T → S → Type 0) (language : Language S)
     (too_long : Bool) (old : Option (List ℕ)) (s : S) (t : T) (held lines : List ℕ) → stands t s
     → held ≡ []
     → GoesOn stands language too_long (cut_line_of lines)
-    (told_from language (too_long || nat_lt 0 (length (cut_line_of lines))) s 2 (lines_of lines))
-    old old t 2 held lines
+    (told_from language (too_long || nat_lt 0 (length (cut_line_of lines))) (stage s 2)
+    (lines_of lines)) old old t 2 held lines
 goes_begin stands language too_long old s t held lines stands_now none =
     record {
       state = s;
@@ -71,7 +72,8 @@ goes_begin stands language too_long old s t held lines stands_now none =
       writing = record {
         written = [];
         whole = ap (λ (h : List ℕ). h ++ (told_from language
-            (too_long || nat_lt 0 (length (cut_line_of lines))) s 2 (lines_of lines)).output) none;
+            (too_long || nat_lt 0 (length (cut_line_of lines))) (stage s 2)
+            (lines_of lines)).output) none;
         appended = appends_nothing old;
       };
       fault = refl;
@@ -81,39 +83,41 @@ goes_begin stands language too_long old s t held lines stands_now none =
 told-answered : {S : Type 0} (language : Language S) (is_cut : Bool) (s : S) (number : ℕ)
     (line : List ℕ) (lines : List (List ℕ)) (answered : Answered S)
     → if_fits (language.answer_to s) line ≡ Some answered
-    → told_from language is_cut s number (line ∷ lines)
-    ≡ answer_then answered.text (told_from language is_cut answered.after (number + 1) lines)
+    → told_from language is_cut (stage s number) (line ∷ lines)
+    ≡ answer_then answered.text
+    (told_from language is_cut (stage answered.after (number + 1)) lines)
 told-answered {S} language is_cut s number line lines answered is =
     ap (λ (a : Option (Answered S)). option_map_or
     (λ (answered : Answered S). answer_then answered.text
-    (told_from language is_cut answered.after (number + 1) lines)) a (fault_at number)) is
+    (told_from language is_cut (stage answered.after (number + 1)) lines)) a (fault_at number)) is
 
 -- and where it is not in the grammar
 told-refused : {S : Type 0} (language : Language S) (is_cut : Bool) (s : S) (number : ℕ)
     (line : List ℕ) (lines : List (List ℕ)) → if_fits (language.answer_to s) line ≡ None
-    → told_from language is_cut s number (line ∷ lines) ≡ fault_at number
+    → told_from language is_cut (stage s number) (line ∷ lines) ≡ fault_at number
 told-refused {S} language is_cut s number line lines is =
     ap (λ (a : Option (Answered S)). option_map_or
     (λ (answered : Answered S). answer_then answered.text
-    (told_from language is_cut answered.after (number + 1) lines)) a (fault_at number)) is
+    (told_from language is_cut (stage answered.after (number + 1)) lines)) a (fault_at number)) is
 
 -- an answer is held back behind the others
 pub goes_answered : {T S : Type 0} (stands : T → S → Type 0) (language : Language S)
     (too_long : Bool) (cut : List ℕ) (said : Told) (old now : Option (List ℕ)) (t t' : T)
     (number : ℕ) (held rest held' rest' : List ℕ)
     (goes : GoesOn stands language too_long cut said old now t number held rest)
-    → FirstAnswered stands language goes.state rest held t' rest' held'
+    → FirstAnswered (following language goes.state (stands t')) rest rest' (growth held held')
     → GoesOn stands language too_long cut said old now t' (number + 1) held' rest'
 goes_answered stands language too_long cut said old now t t' number held rest held' rest' goes
     first =
     let is_cut = too_long || nat_lt 0 (length cut) in
-    let more = told_from language is_cut first.answered.after (number + 1) (lines_of rest') in
-    let says : told_from language is_cut goes.state number (lines_of rest)
+    let more = told_from language is_cut (stage first.answered.after (number + 1))
+    (lines_of rest') in
+    let says : told_from language is_cut (stage goes.state number) (lines_of rest)
     ≡ answer_then first.answered.text more =
-    ap (told_from language is_cut goes.state number) first.lines
+    ap (told_from language is_cut (stage goes.state number)) first.lines
     ∙ told-answered language is_cut goes.state number first.line (lines_of rest')
     first.answered first.in_grammar in
-    let same : held ++ (told_from language is_cut goes.state number (lines_of rest)).output
+    let same : held ++ (told_from language is_cut (stage goes.state number) (lines_of rest)).output
     ≡ held' ++ more.output = rw (says, first.written) (simp append_assoc) in
     record {
       state = first.answered.after;
@@ -143,7 +147,7 @@ pub goes_written : {T S : Type 0} (stands : T → S → Type 0) (language : Lang
     → GoesOn stands language too_long cut said old next t number none rest
 goes_written stands language too_long cut said old now next t number held rest none goes appends
     is =
-    let more = (told_from language (too_long || nat_lt 0 (length cut)) goes.state number
+    let more = (told_from language (too_long || nat_lt 0 (length cut)) (stage goes.state number)
     (lines_of rest)).output in
     record {
       state = goes.state;
@@ -193,7 +197,8 @@ pub goes_end : {T S : Type 0} (stands : T → S → Type 0) (language : Language
     (cut : List ℕ) (said : Told) (old now : Option (List ℕ)) (t t' : T) (number : ℕ)
     (held rest held' : List ℕ) (b : Bool) (fault : Option ℕ)
     (goes : GoesOn stands language too_long cut said old now t number held rest)
-    → IsStuck stands language goes.state rest t' → b ≡ (too_long || nat_lt 0 (length rest))
+    → IsStuck (following language goes.state (stands t')) rest
+    → b ≡ (too_long || nat_lt 0 (length rest))
     → (b ≡ true → (fault ≡ Some number) × (held' ≡ held))
     → (b ≡ false → (s : S) → stands t' s
     → (fault ≡ None) × (held' ≡ held ++ language.farewell s))
@@ -205,7 +210,7 @@ goes_end {T} {S} stands language too_long cut said old now t t' number held rest
     is_cut = too_long || nat_lt 0 (length cut)
 
     joined : (last : Told)
-        → told_from language is_cut goes.state number (lines_of rest) ≡ last
+        → told_from language is_cut (stage goes.state number) (lines_of rest) ≡ last
         → held' ≡ held ++ last.output → fault ≡ last.fault
         → IsWriting old now said.output (held' ++ []) × (fault ≡ said.fault)
     joined last says held_is fault_is = (
@@ -220,12 +225,12 @@ goes_end {T} {S} stands language too_long cut said old now t t' number held rest
         ap (λ (r : List ℕ). too_long || nat_lt 0 (length r))
         (sym (no_lines-cut rest cut none goes.cut_is)) ∙ sym is
 
-    says_fault : b ≡ true → IsStuck stands language goes.state rest t'
-        → told_from language is_cut goes.state number (lines_of rest) ≡ fault_at number
+    says_fault : b ≡ true → IsStuck (following language goes.state (stands t')) rest
+        → told_from language is_cut (stage goes.state number) (lines_of rest) ≡ fault_at number
     says_fault is_true (inl none) =
         rw (none.0, none_left none.0 ∙ is_true) refl
     says_fault is_true (inr (line, lines, lines_is, refused)) =
-        ap (told_from language is_cut goes.state number) lines_is
+        ap (told_from language is_cut (stage goes.state number)) lines_is
         ∙ told-refused language is_cut goes.state number line lines refused
 
     no_long : (v : Bool) → (v || true) ≡ false → ⊥
@@ -242,7 +247,7 @@ goes_end {T} {S} stands language too_long cut said old now t t' number held rest
         ∙ (ap (λ (l : List ℕ). too_long || nat_lt 0 (length l)) (sym rest_is)
         ∙ (sym is ∙ is_false)) in no_long too_long long
 
-    says_end : b ≡ false → IsStuck stands language goes.state rest t'
+    says_end : b ≡ false → IsStuck (following language goes.state (stands t')) rest
         → IsWriting old now said.output (held' ++ []) × (fault ≡ said.fault)
     says_end is_false (inl none) =
         let ends = at_end is_false goes.state none.1 in
@@ -259,22 +264,24 @@ goes_end {T} {S} stands language too_long cut said old now t t' number held rest
     by_case false is_false = says_end is_false stuck
 
 -- a line that was split off and answered
-pub line_answered : {T S : Type 0} (stands : T → S → Type 0) (language : Language S) (s : S)
-    (text old : List ℕ) (t : T) (line rest new : List ℕ) (is_answered : Bool)
+pub line_answered : {S : Type 0} (StandsFor : S → Type 0) (language : Language S) (s : S)
+    (text old line rest new : List ℕ) (is_answered : Bool)
     → lines_of text ≡ line ∷ lines_of rest → cut_line_of text ≡ cut_line_of rest
     → length rest < length text → length line ≤ MAX_LINE
-    → Answers stands (language.answer_to s line) old is_answered t new → is_answered ≡ true
-    → FirstAnswered stands language s text old t rest new
-line_answered {T} {S} stands language s text old t line rest new is_answered lines cut shorter
+    → Answers StandsFor (language.answer_to s line) is_answered (growth old new)
+    → is_answered ≡ true
+    → FirstAnswered (following language s StandsFor) text rest (growth old new)
+line_answered {S} StandsFor language s text old line rest new is_answered lines cut shorter
     fits answers is_true = by_answer (language.answer_to s line) refl answers
   where
     by_answer : (o : Option (Answered S)) → language.answer_to s line ≡ o
-        → Answers stands o old is_answered t new
-        → FirstAnswered stands language s text old t rest new
+        → Answers StandsFor o is_answered (growth old new)
+        → FirstAnswered (following language s StandsFor) text rest (growth old new)
     by_answer None is answers =
-        absurd (subst (λ v. Answers stands None old v t new) is_true answers)
+        absurd (subst (λ v. Answers StandsFor None v (growth old new)) is_true answers)
     by_answer (Some answered) is answers =
-        let both = subst (λ v. Answers stands (Some answered) old v t new) is_true answers in
+        let both = subst (λ v. Answers StandsFor (Some answered) v (growth old new)) is_true
+        answers in
         record {
           line = line;
           answered = answered;
@@ -287,14 +294,14 @@ line_answered {T} {S} stands language s text old t line rest new is_answered lin
         }
 
 -- a line that was found in one pass and answered
-pub found_answered : {T S : Type 0} (stands : T → S → Type 0) (language : Language S) (s : S)
-    (text old : List ℕ) (t : T) (words : List (List ℕ)) (rest new : List ℕ)
+pub found_answered : {S : Type 0} (StandsFor : S → Type 0) (language : Language S) (s : S)
+    (text old : List ℕ) (words : List (List ℕ)) (rest new : List ℕ)
     (answered : Answered S) (begins : BeginsWithLine text words rest)
     → length text - length rest ≤ MAX_LINE
-    → language.answer_to s begins.line ≡ Some answered → stands t answered.after
+    → language.answer_to s begins.line ≡ Some answered → StandsFor answered.after
     → new ≡ old ++ answered.text ++ LINE_FEED ∷ []
-    → FirstAnswered stands language s text old t rest new
-found_answered stands language s text old t words rest new answered begins near is stands_after
+    → FirstAnswered (following language s StandsFor) text rest (growth old new)
+found_answered StandsFor language s text old words rest new answered begins near is stands_after
     written =
     let split = begins_lines text words rest begins in
     let longer = begins_length text words rest begins in

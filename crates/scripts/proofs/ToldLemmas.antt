@@ -6,7 +6,7 @@ use Rattle.std.proofs.Common.{append_assoc, arith}
 use Rattle.std.specs.Option.{option_map_or}
 use Rattle.scripts.specs.declared.script.TheConstants.{MAX_LINE}
 use Rattle.scripts.specs.Script.{Language, Answered, Told, fault_at, answer_then, if_fits}
-use Rattle.scripts.specs.Script.{told_from, lines_told}
+use Rattle.scripts.specs.Script.{told_from, lines_told, stage}
 use Rattle.scripts.specs.ScriptLaws.{without_farewell}
 
 -- what a line that reads as this and these lines say; the first of them has this number
@@ -14,12 +14,12 @@ abbrev said_with : {S : Type 0} → Language S → Bool → ℕ → List (List �
 said_with {S} language is_cut n rest answer =
     option_map_or
     (λ (answered : Answered S). answer_then answered.text
-    (told_from language is_cut answered.after (n + 1) rest)) answer (fault_at n)
+    (told_from language is_cut (stage answered.after (n + 1)) rest)) answer (fault_at n)
 
 -- what lines say behind a first line that opens this
 abbrev said_from : {S : Type 0} → Language S → Bool → List (List ℕ) → Option S → Told
 said_from language is_cut rest opened =
-    option_map_or (λ s. told_from language is_cut s 2 rest) opened (fault_at 1)
+    option_map_or (λ s. told_from language is_cut (stage s 2) rest) opened (fault_at 1)
 
 -- the text goes on
 abbrev pub Grows : List ℕ → List ℕ → Type 0
@@ -39,25 +39,27 @@ grows_behind text old new (more, is) =
 -- by induction on the lines: their answers stand first, however many follow
 answers_grow : {S : Type 0} (language : Language S) (is_cut goes_cut : Bool) (s : S) (n : ℕ)
     (lines more : List (List ℕ))
-    → Grows (told_from (without_farewell language) is_cut s n lines).output
-    (told_from (without_farewell language) goes_cut s n (lines ++ more)).output
+    → Grows (told_from (without_farewell language) is_cut (stage s n) lines).output
+    (told_from (without_farewell language) goes_cut (stage s n) (lines ++ more)).output
 answers_grow {S} language is_cut goes_cut s n [] more =
-    let all = (told_from (without_farewell language) goes_cut s n more).output in
+    let all = (told_from (without_farewell language) goes_cut (stage s n) more).output in
     (all, ap (λ t. t ++ all) (sym (no_answer is_cut n)))
 answers_grow {S} language is_cut goes_cut s n (line ∷ lines) more =
     step (if_fits (language.answer_to s) line)
     (λ t. answers_grow language is_cut goes_cut t (n + 1) lines more)
   where
     step : (v : Option (Answered S))
-        → ((t : S) → Grows (told_from (without_farewell language) is_cut t (n + 1) lines).output
-        (told_from (without_farewell language) goes_cut t (n + 1) (lines ++ more)).output)
+        → ((t : S)
+        → Grows (told_from (without_farewell language) is_cut (stage t (n + 1)) lines).output
+        (told_from (without_farewell language) goes_cut (stage t (n + 1)) (lines ++ more)).output)
         → Grows (said_with (without_farewell language) is_cut n lines v).output
         (said_with (without_farewell language) goes_cut n (lines ++ more) v).output
     step None rest = ([], refl)
     step (Some x) rest =
         grows_behind x.text
-        (told_from (without_farewell language) is_cut x.after (n + 1) lines).output
-        (told_from (without_farewell language) goes_cut x.after (n + 1) (lines ++ more)).output
+        (told_from (without_farewell language) is_cut (stage x.after (n + 1)) lines).output
+        (told_from (without_farewell language) goes_cut (stage x.after (n + 1))
+        (lines ++ more)).output
         (rest x.after)
 
 -- longer lists of lines keep the answers
@@ -77,13 +79,13 @@ lines_grow {S} language is_cut goes_cut (line ∷ lines) more = step (if_fits la
 
 -- what is cut has a fault, and where there is none, the front of the lines has none
 cut_of-fault : {S : Type 0} (language : Language S) (s : S) (n : ℕ) (lines : List (List ℕ))
-    → (told_from language true s n lines).fault ≡ None → ⊥
+    → (told_from language true (stage s n) lines).fault ≡ None → ⊥
 cut_of-fault language s n [] none = cc
 cut_of-fault {S} language s n (line ∷ lines) none =
     step (if_fits (language.answer_to s) line) (λ t. cut_of-fault language t (n + 1) lines) none
   where
     step : (v : Option (Answered S))
-        → ((t : S) → (told_from language true t (n + 1) lines).fault ≡ None → ⊥)
+        → ((t : S) → (told_from language true (stage t (n + 1)) lines).fault ≡ None → ⊥)
         → (said_with language true n lines v).fault ≡ None → ⊥
     step None rest is = cc
     step (Some x) rest is = rest x.after is
@@ -100,16 +102,17 @@ cut_lines-fault {S} language (line ∷ lines) none = step (if_fits language.open
 
 -- by induction on the lines: where all have no fault, the first of them have none
 front_of-sound : {S : Type 0} (language : Language S) (is_cut : Bool) (s : S) (n : ℕ)
-    (lines more : List (List ℕ)) → (told_from language is_cut s n (lines ++ more)).fault ≡ None
-    → (told_from language false s n lines).fault ≡ None
+    (lines more : List (List ℕ))
+    → (told_from language is_cut (stage s n) (lines ++ more)).fault ≡ None
+    → (told_from language false (stage s n) lines).fault ≡ None
 front_of-sound language is_cut s n [] more none = refl
 front_of-sound {S} language is_cut s n (line ∷ lines) more none =
     step (if_fits (language.answer_to s) line)
     (λ t. front_of-sound language is_cut t (n + 1) lines more) none
   where
     step : (v : Option (Answered S))
-        → ((t : S) → (told_from language is_cut t (n + 1) (lines ++ more)).fault ≡ None
-        → (told_from language false t (n + 1) lines).fault ≡ None)
+        → ((t : S) → (told_from language is_cut (stage t (n + 1)) (lines ++ more)).fault ≡ None
+        → (told_from language false (stage t (n + 1)) lines).fault ≡ None)
         → (said_with language is_cut n (lines ++ more) v).fault ≡ None
         → (said_with language false n lines v).fault ≡ None
     step None rest is = is
@@ -177,8 +180,8 @@ farewell_behind language P text told answers (last, missing) = (
 farewell_of : {S : Type 0} (language : Language S) (P : S → Type 0) → Stays language P
     → (is_cut : Bool) (s : S) → P s
     → (n : ℕ) (lines : List (List ℕ))
-    → EndsByFarewell language P (told_from language is_cut s n lines)
-    (told_from (without_farewell language) is_cut s n lines)
+    → EndsByFarewell language P (told_from language is_cut (stage s n) lines)
+    (told_from (without_farewell language) is_cut (stage s n) lines)
 farewell_of {S} language P stays is_cut s held n [] = at_end is_cut
   where
     at_end : (cut : Bool)
@@ -192,14 +195,15 @@ farewell_of {S} language P stays is_cut s held n (line ∷ lines) =
     (λ t still. farewell_of language P stays is_cut t still (n + 1) lines)
   where
     step : (v : Option (Answered S)) → if_fits (language.answer_to s) line ≡ v
-        → ((t : S) → P t → EndsByFarewell language P (told_from language is_cut t (n + 1) lines)
-        (told_from (without_farewell language) is_cut t (n + 1) lines))
+        → ((t : S) → P t
+        → EndsByFarewell language P (told_from language is_cut (stage t (n + 1)) lines)
+        (told_from (without_farewell language) is_cut (stage t (n + 1)) lines))
         → EndsByFarewell language P (said_with language is_cut n lines v)
         (said_with (without_farewell language) is_cut n lines v)
     step None is rest = at_fault language P n
     step (Some x) is rest =
-        farewell_behind language P x.text (told_from language is_cut x.after (n + 1) lines)
-        (told_from (without_farewell language) is_cut x.after (n + 1) lines)
+        farewell_behind language P x.text (told_from language is_cut (stage x.after (n + 1)) lines)
+        (told_from (without_farewell language) is_cut (stage x.after (n + 1)) lines)
         (rest x.after (stays.answered s line x held (fits (language.answer_to s) line x is)))
 
 -- the farewell comes last, and not where a line is at fault
@@ -231,9 +235,10 @@ pub record Leaves {S : Type 0} (language : Language S) (s : S) (n : ℕ) (lines 
   -- there are as many lines as that
   pub within : k ≤ length lines
   -- what was told is what those lines answer, with no farewell
-  pub output : told.output ≡ (told_from (without_farewell language) false s n (take k lines)).output
+  pub output : told.output
+      ≡ (told_from (without_farewell language) false (stage s n) (take k lines)).output
   -- those lines alone have no fault
-  pub fault : (told_from language false s n (take k lines)).fault ≡ None
+  pub fault : (told_from language false (stage s n) (take k lines)).fault ≡ None
 
 -- the line at fault is the first of these
 same_line : (n m : ℕ) → Some n ≡ Some m → m ≡ n + 0
@@ -241,8 +246,8 @@ same_line n m is = let same : n ≡ m = cc in omega arith
 
 -- by induction on the lines: a fault leaves the answers before it
 fault_leaves : {S : Type 0} (language : Language S) (is_cut : Bool) (s : S) (n : ℕ)
-    (lines : List (List ℕ)) (m : ℕ) → (told_from language is_cut s n lines).fault ≡ Some m
-    → Leaves language s n lines (told_from language is_cut s n lines) m
+    (lines : List (List ℕ)) (m : ℕ) → (told_from language is_cut (stage s n) lines).fault ≡ Some m
+    → Leaves language s n lines (told_from language is_cut (stage s n) lines) m
 fault_leaves {S} language is_cut s n [] m h = at_end is_cut h
   where
     at_end : (cut : Bool)
@@ -257,8 +262,8 @@ fault_leaves {S} language is_cut s n (line ∷ lines) m h =
     (λ t. fault_leaves language is_cut t (n + 1) lines m) h
   where
     step : (v : Option (Answered S)) → if_fits (language.answer_to s) line ≡ v
-        → ((t : S) → (told_from language is_cut t (n + 1) lines).fault ≡ Some m
-        → Leaves language t (n + 1) lines (told_from language is_cut t (n + 1) lines) m)
+        → ((t : S) → (told_from language is_cut (stage t (n + 1)) lines).fault ≡ Some m
+        → Leaves language t (n + 1) lines (told_from language is_cut (stage t (n + 1)) lines) m)
         → (said_with language is_cut n lines v).fault ≡ Some m
         → Leaves language s n (line ∷ lines) (said_with language is_cut n lines v) m
     step None reads rest is =

@@ -16,7 +16,8 @@ more_than_asked takes = let within : 3 ≤ 2 = takes.within in omega (arith, wit
 module _ (says : List ℕ → Told) (result : Result (Unit {0}) Fault) where
   -- it reads on behind what tells that a script is too long
   reads_on : (unread : List ℕ) → MAX_SCRIPT + 1 < length unread
-      → Runs says (Some unread) (Some []) None None result → ⊥
+      → Runs says
+      (record { unread = Some unread; left = Some []; held = None; written = None }) result → ⊥
   reads_on unread long runs = by runs.at_most
     where
       by : TakesAtMost (MAX_SCRIPT + 1) (Some unread) (Some []) → ⊥
@@ -27,7 +28,13 @@ module _ (says : List ℕ → Told) (result : Result (Unit {0}) Fault) where
 
   -- it writes before it has read its script
   writes_before_it_reads :
-      Runs says (Some (5 ∷ [])) (Some (5 ∷ [])) (Some []) (Some (1 ∷ [])) result → ⊥
+      Runs says
+      (record {
+        unread = Some (5 ∷ []);
+        left = Some (5 ∷ []);
+        held = Some [];
+        written = Some (1 ∷ []);
+      }) result → ⊥
   writes_before_it_reads runs = by runs.reads_first
     where
       no_more : (input : List ℕ) → 5 ∷ [] ≡ input ++ 5 ∷ []
@@ -43,7 +50,9 @@ module _ (says : List ℕ → Told) (result : Result (Unit {0}) Fault) where
       by (inr (input, takes)) = no_more input takes.taken takes.most_or_all
 
 -- it ends for a fault that no run has
-ends_for_a_bad_argument : (says : List ℕ → Told) → Runs says None None None None (Err BadArg) → ⊥
+ends_for_a_bad_argument : (says : List ℕ → Told)
+    → Runs says (record { unread = None; left = None; held = None; written = None }) (Err BadArg)
+    → ⊥
 ends_for_a_bad_argument says runs = by runs.faults
   where
     by : IsOutside BadArg → ⊥

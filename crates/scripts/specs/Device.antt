@@ -6,7 +6,7 @@ use Rattle.std.specs.Io.KnownBytes.{Appends, Consumes, IsAtEnd, Keeps}
 use Rattle.sync_base.specs.declared.fault.Fault.{Fault}
 use Rattle.sync_base.specs.declared.fault.Fault.TheVariants.{Memory, Script, Device}
 use Rattle.scripts.specs.declared.script.TheConstants.{MAX_SCRIPT}
-use Rattle.scripts.specs.Script.{Told}
+use Rattle.scripts.specs.Script.{Growth, Told}
 
 -- at most this many bytes were taken
 abbrev pub TakesAtMost : ℕ → Option (List ℕ) → Option (List ℕ) → Type 0
@@ -31,11 +31,11 @@ pub record GivesSome (most : ℕ) (old new : Option (List ℕ)) (n : ℕ) (room 
 
 -- a read of at most so many bytes put n of them behind what was there before, and none only at the
 -- end or where none were asked for
-pub record GivesBehind (most : ℕ) (old new : Option (List ℕ)) (n : ℕ) (before after : List ℕ)
+pub record GivesBehind (most : ℕ) (old new : Option (List ℕ)) (n : ℕ) (input : Growth)
     : Type 0 where
   pub bytes : List ℕ
   pub taken : Consumes old new bytes
-  pub behind : after ≡ before ++ bytes
+  pub behind : input.after ≡ input.before ++ bytes
   pub counted : length bytes ≡ n
   pub within : n ≤ most
   pub end : n ≡ 0 → 0 < most → IsAtEnd new
@@ -64,12 +64,20 @@ abbrev pub IsRunFault : Fault → Type 0
 IsRunFault (Script line) = Unit {0}
 IsRunFault fault = IsOutside fault
 
+-- the reader and the writer of a run, before it and after it
+pub record Devices : Type 0 where
+  pub unread : Option (List ℕ)  -- what the reader had to give
+  pub left : Option (List ℕ)  -- what it has to give still
+  pub held : Option (List ℕ)  -- what the writer had taken
+  pub written : Option (List ℕ)  -- what it has taken by now
+
 -- A run that says this of its input ended so. No more is read than what tells that a script is too
 -- long, and nothing is written before; what is written is what the input says, and the fault is the
 -- one that it names.
-pub record Runs (says : List ℕ → Told) (unread left held written : Option (List ℕ))
-    (result : Result (Unit {0}) Fault) : Type 0 where
-  pub at_most : TakesAtMost (MAX_SCRIPT + 1) unread left
-  pub reads_first : Keeps held written ⊎ TakesScript unread left
-  pub told : IfSome unread (λ input. WritesTold (says input) held written result)
+pub record Runs (says : List ℕ → Told) (devices : Devices) (result : Result (Unit {0}) Fault)
+    : Type 0 where
+  pub at_most : TakesAtMost (MAX_SCRIPT + 1) devices.unread devices.left
+  pub reads_first : Keeps devices.held devices.written ⊎ TakesScript devices.unread devices.left
+  pub told : IfSome devices.unread
+      (λ input. WritesTold (says input) devices.held devices.written result)
   pub faults : IfErr result IsRunFault

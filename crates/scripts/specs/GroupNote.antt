@@ -9,6 +9,7 @@ use Rattle.scripts.specs.declared.group_line.GroupNote.{GroupNote}
 use Rattle.scripts.specs.declared.group_line.PidList.{PidList}
 use Rattle.scripts.specs.Lines.{BeginsWithLine, is_comma, parts_behind}
 use Rattle.scripts.specs.Schedule.{answer_lines, group_of, notes_to, pids_of, rising_behind}
+use Rattle.scripts.specs.Script.{Growth}
 use Rattle.scripts.specs.ScriptLaws.{lines_text}
 
 -- these processes, where the others rise above the first
@@ -36,7 +37,8 @@ pub record BeginsWithGroup (text : List ℕ) (group : GroupNote) (rest : List �
   pub asked : AskGroup words group
 
 -- these notes were posted to each of these processes in turn, and each answer has its line
-pub record PostsEach (notes : NoteSet) (pids : List ℕ) (world now : State) (old new : List ℕ)
+pub record PostsEach (notes : NoteSet) (pids : List ℕ) (world now : State) (output : Growth)
     : Type 0 where
   pub after : now ≡ world_after_all world (notes_to notes pids)
-  pub text : new ≡ old ++ lines_text (answer_lines world (notes_to notes pids))
+  pub text : output.after ≡ output.before
+      ++ lines_text (answer_lines world (notes_to notes pids))

@@ -1,5 +1,5 @@
 -- The lines, words and numbers of a script, as docs/SCRIPTS.md describes them.
-use Rattle.std.specs.Prelude.{◌≡◌, ◌<◌, ◌≤◌, true, length, take, ◌++◌, ◌==◌, ◌&&◌, ℕ, ◌+◌, ◌-◌, ◌*◌}
+use Rattle.std.specs.Prelude.{◌≡◌, ◌≤◌, true, length, take, ◌++◌, ◌==◌, ◌&&◌, ℕ, ◌+◌, ◌-◌, ◌*◌}
 use Rattle.std.specs.Prelude.{◌^◌, nat_lt, nat_le, Bool, not, if◌then◌else◌, List, [], ◌∷◌, fold}
 use Rattle.std.specs.Prelude.{Option, None, Some, option_and_then}
 use Rattle.std.specs.List.{list_all}

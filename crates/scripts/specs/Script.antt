@@ -36,24 +36,35 @@ answer_then text told = record { output = text ++ LINE_FEED ∷ told.output; fau
 abbrev pub if_fits : {A : Type 0} → (List ℕ → Option A) → List ℕ → Option A
 if_fits read line = if nat_le (length line) MAX_LINE then read line else None
 
--- what these lines say, from a state; the first of them has this number. Behind them the script
--- ends, or a line that
--- is cut or stands too far behind.
-abbrev pub told_from : {S : Type 0} → Language S → Bool → S → ℕ → List (List ℕ) → Told
-told_from {S} language is_cut s number [] =
-    if is_cut then fault_at number else record { output = language.farewell s; fault = None }
-told_from {S} language is_cut s number (line ∷ lines) =
+-- how far a script has come
+pub record Stage (S : Type 0) : Type 0 where
+  pub state : S
+  pub number : ℕ  -- of the line to come, counted from 1
+
+-- it has come to this state, and to the line with this number
+abbrev pub stage : {S : Type 0} → S → ℕ → Stage S
+stage state number = record { state = state; number = number }
+
+-- what these lines say, from where a script has come to. Behind them the script ends, or a line
+-- that is cut or stands too far behind.
+abbrev pub told_from : {S : Type 0} → Language S → Bool → Stage S → List (List ℕ) → Told
+told_from {S} language is_cut here [] =
+    if is_cut
+    then fault_at here.number
+    else record { output = language.farewell here.state; fault = None }
+told_from {S} language is_cut here (line ∷ lines) =
     option_map_or
     (λ (answered : Answered S). answer_then answered.text
-    (told_from language is_cut answered.after (number + 1) lines))
-    (if_fits (language.answer_to s) line)
-    (fault_at number)
+    (told_from language is_cut (stage answered.after (here.number + 1)) lines))
+    (if_fits (language.answer_to here.state) line)
+    (fault_at here.number)
 
 -- what a script of these lines says
 abbrev pub lines_told : {S : Type 0} → Language S → Bool → List (List ℕ) → Told
 lines_told language is_cut [] = fault_at 1
 lines_told language is_cut (line ∷ lines) =
-    option_map_or (λ s. told_from language is_cut s 2 lines) (if_fits language.opened_by line)
+    option_map_or (λ s. told_from language is_cut (stage s 2) lines)
+    (if_fits language.opened_by line)
     (fault_at 1)
 
 -- whether bytes follow the last whole line of the text, or follow the text
@@ -75,50 +86,67 @@ Opens stands (Some s) (Some t) = stands t s
 Opens stands None (Some t) = ⊥
 Opens stands (Some s) None = ⊥
 
--- the line was answered behind what was written before, or it is not in the grammar and nothing
--- was written
-abbrev pub Answers : {T S : Type 0} → (T → S → Type 0) → Option (Answered S) → List ℕ → Bool → T
-    → List ℕ → Type 0
-Answers stands (Some answered) old true t new =
-    stands t answered.after × (new ≡ old ++ answered.text ++ LINE_FEED ∷ [])
-Answers stands None old false t new = new ≡ old
-Answers stands (Some answered) old false t new = ⊥
-Answers stands None old true t new = ⊥
+-- a text behind which something may be written: as it was before, and as it is after
+pub record Growth : Type 0 where
+  pub before : List ℕ
+  pub after : List ℕ
+
+-- it went from the one to the other
+abbrev pub growth : List ℕ → List ℕ → Growth
+growth before after = record { before = before; after = after }
+
+-- the line was answered behind what was written before, and what the program keeps stands for the
+-- state after it; or the line is not in the grammar and nothing was written
+abbrev pub Answers : {S : Type 0} → (S → Type 0) → Option (Answered S) → Bool → Growth → Type 0
+Answers StandsFor (Some answered) true output =
+    StandsFor answered.after × (output.after ≡ output.before ++ answered.text ++ LINE_FEED ∷ [])
+Answers StandsFor None false output = output.after ≡ output.before
+Answers StandsFor (Some answered) false output = ⊥
+Answers StandsFor None true output = ⊥
+
+-- a program that follows a language
+pub record Following (S : Type 0) : Type 1 where
+  pub language : Language S
+  pub from : S  -- the state for which what it kept stood before
+  pub StandsFor : S → Type 0  -- whether what it keeps now stands for a state
+
+-- it went from this state of the language, and what it keeps now stands for these
+abbrev pub following : {S : Type 0} → Language S → S → (S → Type 0) → Following S
+following language from StandsFor =
+    record { language = language; from = from; StandsFor = StandsFor }
 
 -- The text begins with a line that was answered behind what was written before, and goes on with
 -- the rest.
-pub record FirstAnswered {T S : Type 0} (stands : T → S → Type 0) (language : Language S) (s : S)
-    (text old : List ℕ) (t : T) (rest new : List ℕ) : Type 0 where
+pub record FirstAnswered {S : Type 0} (follows : Following S) (text rest : List ℕ)
+    (output : Growth) : Type 0 where
   pub line : List ℕ
   pub answered : Answered S
   pub lines : lines_of text ≡ line ∷ lines_of rest
   pub cut : cut_line_of text ≡ cut_line_of rest
   pub shorter : length rest < length text
-  pub in_grammar : if_fits (language.answer_to s) line ≡ Some answered
-  pub stands_after : stands t answered.after
-  pub written : new ≡ old ++ answered.text ++ LINE_FEED ∷ []
+  pub in_grammar : if_fits (follows.language.answer_to follows.from) line ≡ Some answered
+  pub stands_after : follows.StandsFor answered.after
+  pub written : output.after ≡ output.before ++ answered.text ++ LINE_FEED ∷ []
 
 -- the first line of the text was answered, or nothing was done
-abbrev pub AnswersFirst : {T S : Type 0} → (T → S → Type 0) → Language S → S → List ℕ → List ℕ
-    → Option (Bor (List ℕ)) → T → List ℕ → Type 0
-AnswersFirst stands language s text old (Some rest) t new =
-    FirstAnswered stands language s text old t rest.now new
-AnswersFirst stands language s text old None t new = stands t s × (new ≡ old)
+abbrev pub AnswersFirst : {S : Type 0} → Following S → List ℕ → Option (Bor (List ℕ)) → Growth
+    → Type 0
+AnswersFirst follows text (Some rest) output = FirstAnswered follows text rest.now output
+AnswersFirst follows text None output =
+    follows.StandsFor follows.from × (output.after ≡ output.before)
 
 -- the text has no whole line, or its first one is not in the grammar
-abbrev pub IsStuck : {T S : Type 0} → (T → S → Type 0) → Language S → S → List ℕ → T → Type 0
-IsStuck stands language s text t =
-    ((lines_of text ≡ []) × stands t s)
+abbrev pub IsStuck : {S : Type 0} → Following S → List ℕ → Type 0
+IsStuck follows text =
+    ((lines_of text ≡ []) × follows.StandsFor follows.from)
     ⊎ ((line : List ℕ) × (lines : List (List ℕ)) × (lines_of text ≡ line ∷ lines)
-    × (if_fits (language.answer_to s) line ≡ None))
+    × (if_fits (follows.language.answer_to follows.from) line ≡ None))
 
 -- the first line of the text was answered, or there is none that could be
-abbrev pub AnswersNext : {T S : Type 0} → (T → S → Type 0) → Language S → S → List ℕ → List ℕ
-    → Option (Bor (List ℕ)) → T → List ℕ → Type 0
-AnswersNext stands language s text old (Some rest) t new =
-    FirstAnswered stands language s text old t rest.now new
-AnswersNext stands language s text old None t new =
-    IsStuck stands language s text t × (new ≡ old)
+abbrev pub AnswersNext : {S : Type 0} → Following S → List ℕ → Option (Bor (List ℕ)) → Growth
+    → Type 0
+AnswersNext follows text (Some rest) output = FirstAnswered follows text rest.now output
+AnswersNext follows text None output = IsStuck follows text × (output.after ≡ output.before)
 
 -- what follows a line is shorter than the text
 abbrev pub IsShorter : Option (Bor (List ℕ)) → List ℕ → Type 0

@@ -5,6 +5,7 @@ ghost use Rattle.std.specs.Io.KnownBytes.{Appends, Keeps};
 ghost use Rattle.scripts.specs.declared.script.TheConstants.{MAX_SCRIPT};
 ghost use Rattle.scripts.specs.Device.{TakesAtMost, TakesUpTo, GivesSome, GivesBehind};
 ghost use Rattle.scripts.specs.Device.{AppendsFront, IsOutside};
+ghost use Rattle.scripts.specs.Script.{growth};
 
 use crate::script::MAX_SCRIPT;
 use std::alloc::Global;
@@ -51,7 +52,8 @@ fn read_behind<R: Read>(
 ) -> Result<Option<usize>, Fault>
     requires { vec_len input.old + most ≤ MAX_SCRIPT + 1 }
     ensures some { IfOk result (λ count. IfSome count (λ n. GivesBehind most
-        (R.remaining reader.old) (R.remaining reader.new) n input.old.items input.new.items)) }
+        (R.remaining reader.old) (R.remaining reader.new) n
+        (growth input.old.items input.new.items))) }
     ensures none { IfOk result (λ count. IfNone count
         (Keeps (R.remaining reader.old) (R.remaining reader.new))) }
     ensures same { IfOk result (λ count. IfNone count (input.new.items ≡ input.old.items)) }

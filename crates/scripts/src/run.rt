@@ -24,8 +24,12 @@ pub fn run_pipe<R: Read, W: Write>(
     reader: &mut R,
     writer: &mut W,
 ) -> Result<(), Fault>
-    ensures { Runs pipe_told (R.remaining reader.old) (R.remaining reader.new)
-        (W.contents writer.old) (W.contents writer.new) result }
+    ensures { Runs pipe_told (record {
+      unread = R.remaining reader.old;
+      left = R.remaining reader.new;
+      held = W.contents writer.old;
+      written = W.contents writer.new;
+    }) result }
 {
     run_script::<PipeScript, R, W>(alloc, reader, writer)
 }
@@ -41,8 +45,12 @@ pub fn run_replay<R: Read, W: Write>(
     reader: &mut R,
     writer: &mut W,
 ) -> Result<(), Fault>
-    ensures { Runs schedule_told (R.remaining reader.old) (R.remaining reader.new)
-        (W.contents writer.old) (W.contents writer.new) result }
+    ensures { Runs schedule_told (record {
+      unread = R.remaining reader.old;
+      left = R.remaining reader.new;
+      held = W.contents writer.old;
+      written = W.contents writer.new;
+    }) result }
 {
     run_script::<Schedule, R, W>(alloc, reader, writer)
 }
@@ -57,8 +65,12 @@ pub fn run_script<S: Script, R: Read, W: Write>(
     reader: &mut R,
     writer: &mut W,
 ) -> Result<(), Fault>
-    ensures { Runs (told S.language) (R.remaining reader.old) (R.remaining reader.new)
-        (W.contents writer.old) (W.contents writer.new) result }
+    ensures { Runs (told S.language) (record {
+      unread = R.remaining reader.old;
+      left = R.remaining reader.new;
+      held = W.contents writer.old;
+      written = W.contents writer.new;
+    }) result }
 {
     let input = read_script(alloc, reader)?;
     write_answers::<S, W>(alloc, &input, writer)

@@ -7,7 +7,7 @@ ghost use Rattle.scripts.specs.EventText.{event_text};
 ghost use Rattle.scripts.specs.declared.lines.TheConstants.{LINE_FEED};
 ghost use Rattle.scripts.specs.GroupNote.{PostsEach, listed};
 ghost use Rattle.scripts.specs.Schedule.{IsWorld, schedule_language};
-ghost use Rattle.scripts.specs.Script.{AnswersFirst, IsShorter};
+ghost use Rattle.scripts.specs.Script.{AnswersFirst, IsShorter, following, growth};
 
 use crate::event_line::{event_at, parse_event, parse_size};
 use crate::event_text::push_event_answer;
@@ -94,8 +94,9 @@ fn answer_first_group<'t>(
     text: &'t [u8],
     output: &mut Vec<u8>,
 ) -> Result<Option<&'t [u8]>, AllocError>
-    ensures answered { IfOk result (λ rest. AnswersFirst IsWorld schedule_language world.old
-        text.entry.now output.old.items rest world.new output.new.items) }
+    ensures answered { IfOk result (λ rest. AnswersFirst
+        (following schedule_language world.old (IsWorld world.new))
+        text.entry.now rest (growth output.old.items output.new.items)) }
     ensures shorter { IfOk result (λ rest. IsShorter rest text.entry.now) }
 {
     let Some((group, rest)) = group_at(text) else {
@@ -117,7 +118,7 @@ fn answer_group(
     output: &mut Vec<u8>,
 ) -> Result<(), AllocError>
     ensures { (pids : List ℕ) → listed group.entry.pids ≡ Some pids → OnOk result (PostsEach
-        group.entry.notes pids world.old world.new output.old.items output.new.items) }
+        group.entry.notes pids world.old world.new (growth output.old.items output.new.items)) }
 {
     post_each(world, group, output)
 }
@@ -130,7 +131,7 @@ fn post_each(
     output: &mut Vec<u8>,
 ) -> Result<(), AllocError>
     ensures { (pids : List ℕ) → listed group.entry.pids ≡ Some pids → OnOk result (PostsEach
-        group.entry.notes pids world.old world.new output.old.items output.new.items) }
+        group.entry.notes pids world.old world.new (growth output.old.items output.new.items)) }
 {
     let notes = group.notes;
     answer_note(world, Pid(group.pids.first), notes, output)?;

@@ -5,7 +5,8 @@ ghost use Rattle.std.specs.Prelude.{nat_lt, IfOk, IfErr, OnOk};
 ghost use Rattle.scripts.specs.Lines.{lines_of, cut_line_of};
 ghost use Rattle.scripts.specs.Device.{Tells, IsOutside};
 ghost use Rattle.scripts.specs.Script.{Language, Opens, Answers, AnswersFirst, AnswersNext};
-ghost use Rattle.scripts.specs.Script.{IsShorter, if_fits, told, lines_told, told_from};
+ghost use Rattle.scripts.specs.Script.{IsShorter, following, growth, if_fits, told, lines_told};
+ghost use Rattle.scripts.specs.Script.{stage, told_from};
 
 use crate::device::write_whole;
 use crate::lines::next_line;
@@ -38,8 +39,8 @@ pub trait Script: Drop + Sized {
     /// the grammar.
     fn answer(&mut self, line: &[u8], output: &mut Vec<u8>) -> Result<bool, AllocError>
         ensures { (s : State) → stands_for self.old s → IfOk result (λ is_answered.
-            Answers stands_for (language.answer_to s line.now)
-            output.old.items is_answered self.new output.new.items) };
+            Answers (stands_for self.new) (language.answer_to s line.now) is_answered
+            (growth output.old.items output.new.items)) };
 
     /// The quick way: answers the first line of a text in one pass, and gives what follows that
     /// line. Where it gives nothing it has done nothing, and the line goes the way of `answer`.
@@ -49,8 +50,8 @@ pub trait Script: Drop + Sized {
         output: &mut Vec<u8>,
     ) -> Result<Option<&'t [u8]>, AllocError>
         ensures answered { (s : State) → stands_for self.old s → IfOk result (λ rest.
-            AnswersFirst stands_for language s text.now output.old.items
-            rest self.new output.new.items) }
+            AnswersFirst (following language s (stands_for self.new)) text.now rest
+            (growth output.old.items output.new.items)) }
         ensures shorter { IfOk result (λ rest. IsShorter rest text.now) };
 
     /// Writes what comes behind the answer to the last line.
@@ -128,7 +129,7 @@ fn answer_lines<S: Script, W: Write>(
 ) -> Result<Option<u64>, Fault>
     requires { length lines.now ≤ MAX_SCRIPT }
     ensures told { (s : S.State) → S.stands_for script s → Tells (told_from S.language
-        (is_too_long || nat_lt 0 (length (cut_line_of lines.now))) s 2 (lines_of lines.now))
+        (is_too_long || nat_lt 0 (length (cut_line_of lines.now))) (stage s 2) (lines_of lines.now))
         (W.contents writer.old) (W.contents writer.new) result }
     ensures outside { IfErr result IsOutside }
 {
@@ -184,8 +185,8 @@ fn answer_next<'t, S: Script>(
     output: &mut Vec<u8>,
 ) -> Result<Option<&'t [u8]>, AllocError>
     ensures answered { (s : S.State) → S.stands_for script.old s → IfOk result (λ rest.
-        AnswersNext S.stands_for S.language s text.now output.old.items
-        rest script.new output.new.items) }
+        AnswersNext (following S.language s (S.stands_for script.new)) text.now rest
+        (growth output.old.items output.new.items)) }
     ensures shorter { IfOk result (λ rest. IsShorter rest text.now) }
 {
     match script.answer_first(text, output)? {
@@ -201,8 +202,8 @@ fn answer_line<'t, S: Script>(
     output: &mut Vec<u8>,
 ) -> Result<Option<&'t [u8]>, AllocError>
     ensures answered { (s : S.State) → S.stands_for script.old s → IfOk result (λ rest.
-        AnswersNext S.stands_for S.language s text.now output.old.items
-        rest script.new output.new.items) }
+        AnswersNext (following S.language s (S.stands_for script.new)) text.now rest
+        (growth output.old.items output.new.items)) }
     ensures shorter { IfOk result (λ rest. IsShorter rest text.now) }
 {
     let Some((line, rest)) = next_line(text) else {

@@ -12,7 +12,7 @@ returns-clause-answered c =
     let found = c.in-Some.ensures in
     let asked = found.asked in
     let posts = c.in_ok-post_each.ensures asked.pids asked.written in
-    found_answered IsWorld schedule_language s _ _ _ found.words _ _
+    found_answered (IsWorld c.post_each.new.world) schedule_language s _ _ found.words _ _
     (answered s (notes_to c.in-Some.group.notes asked.pids)) found.begins
     c.if-taken-gt-MAX_LINE.false
     (group_answered s found.begins.line found.words _ found.begins.words_are asked.ask) posts.after

@@ -8,6 +8,7 @@ pub returns-clause-answered : goal.returns-clause-answered
 returns-clause-answered g c s stands =
     let found = c.in-Some.ensures in
     let is : c.in_ok-answer.field-0 ≡ true = grind (arith, common_steps) in
-    line_answered g.S.Script.stands_for g.S.Script.language s _ _ _ c.in-Some.line.now _ _
+    line_answered (g.S.Script.stands_for c.answer.new.self) g.S.Script.language s _ _
+    c.in-Some.line.now _ _
     c.in_ok-answer.field-0 found.lines found.cut found.shorter c.if-line-gt-MAX_LINE.false
     (c.in_ok-answer.ensures s stands) is

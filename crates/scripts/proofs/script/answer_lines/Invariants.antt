@@ -1,7 +1,7 @@
 -- What was written, what is held back and what the lines to come say make what all lines say.
 use Rattle.std.proofs.Common.{◌+◌, ◌≤◌, ◌||◌, nat_lt, length}
 use Rattle.scripts.specs.Lines.{lines_of, cut_line_of}
-use Rattle.scripts.specs.Script.{told_from}
+use Rattle.scripts.specs.Script.{stage, told_from}
 use Rattle.scripts.proofs.ScriptLemmas.{GoesOn}
 use Rattle.scripts.proofs.script.answer_lines.Given as goal
 
@@ -14,7 +14,7 @@ invariant-loop-held g l =
       counted : l.number + length l.rest ≤ 2 + length l.fn.lines;
       goes_on : (s : g.S.Script.State) → g.S.Script.stands_for l.fn.script s
           → GoesOn g.S.Script.stands_for language l.fn.is_too_long (cut_line_of l.fn.lines)
-          (told_from language is_cut s 2 (lines_of l.fn.lines))
+          (told_from language is_cut (stage s 2) (lines_of l.fn.lines))
           (g.W.Write.contents l.fn.writer) (g.W.Write.contents l.writer)
           l.script l.number l.held.items l.rest;
     }

@@ -6,5 +6,5 @@ pub returns : goal.returns
 returns c s shows =
     let asks = rw c.in-Some.is at c.in_ok-op.ensures in
     let answered = c.in_ok-answer_op.ensures s shows in
-    answers_op _ s _ c.in-Some.op _ c.args.output.now.items c.answer_op.new.output.items asks
+    answers_op _ s _ c.in-Some.op c.args.output.now.items c.answer_op.new.output.items asks
     answered.state answered.text

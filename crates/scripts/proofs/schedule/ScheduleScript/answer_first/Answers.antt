@@ -1,20 +1,17 @@
 -- The first line of the text asks for the event that was found, and is answered as that is.
-use Rattle.std.proofs.Common.{◌≡◌, arith}
-use Rattle.sleep_core.specs.State.{State}
-use Rattle.scripts.specs.declared.schedule.Schedule.{Schedule}
+use Rattle.std.proofs.Common.{arith}
 use Rattle.scripts.proofs.OnePassLemmas.{begins_length}
 use Rattle.sleep_core.specs.Step.{answer_to, world_after}
 use Rattle.scripts.specs.EventText.{event_text}
-use Rattle.scripts.specs.Schedule.{schedule_language}
+use Rattle.scripts.specs.Schedule.{IsWorld, schedule_language}
 use Rattle.scripts.proofs.ScriptLemmas.{found_answered}
-use Rattle.scripts.proofs.ScheduleLemmas.{event_answered, world_first}
+use Rattle.scripts.proofs.ScheduleLemmas.{event_answered}
 use Rattle.scripts.proofs.schedule.ScheduleScript.answer_first.Goals as goal
 
 pub returns-clause-answered : goal.returns-clause-answered
 returns-clause-answered c s same =
     let found = c.in-Some.ensures in
-    found_answered (λ (schedule : Schedule) (state : State). schedule.world ≡ state)
-    schedule_language s _ _ _ found.words _ _
+    found_answered (IsWorld c.answer_event.new.world) schedule_language s _ _ found.words _ _
     (record {
       text = event_text (answer_to s c.in-Some.event);
       after = world_after s c.in-Some.event;
@@ -32,4 +29,4 @@ returns-clause-shorter c =
 
 pub returns-in_default-clause-answered : goal.returns-in_default-clause-answered
 returns-in_default-clause-answered c s same =
-    world_first s _ _ _ _ _ (rw same at c.answer_first_group.ensures.answered)
+    rw same at c.answer_first_group.ensures.answered
