@@ -1,7 +1,7 @@
 -- What no run of a script does with its reader and its writer: each against one row of what a run
 -- promises.
 use Rattle.std.proofs.Common.{◌≡◌, ◌⊎◌, ◌<◌, ◌≤◌, ◌+◌, ◌++◌, ℕ, List, [], ◌∷◌, length, inl, inr}
-use Rattle.std.proofs.Common.{ap, arith, length-append, Result, Err, Some, None}
+use Rattle.std.proofs.Common.{ap, arith, length-append, Result, Ok, Err, Some, None}
 use Rattle.std.specs.Io.KnownBytes.{Keeps, IsAtEnd}
 use Rattle.sync_base.specs.declared.fault.Fault.{Fault}
 use Rattle.sync_base.specs.declared.fault.Fault.TheVariants.{BadArg}
@@ -58,3 +58,11 @@ ends_for_a_bad_argument says runs = by runs.faults
     by : IsOutside BadArg → ⊥
     by (inl memory) = cc
     by (inr device) = cc
+
+-- it ends well, and has not written what its script says
+ends_before_it_has_written :
+    Runs (λ input. record { output = 1 ∷ []; fault = None })
+    (record { unread = Some []; left = Some []; held = Some []; written = Some [] }) (Ok tt) → ⊥
+ends_before_it_has_written runs =
+    let none : 0 ≡ 1 = ap length runs.told.1 in
+    omega (arith, none)
