@@ -15,7 +15,9 @@ mod ScriptLawLemmas
 mod ScriptLemmas
 mod TextLemmas
 mod ToldLemmas
+mod WorkedAnswers
 mod WorkedDevices
+mod WorkedLines
 mod WorkedSchedules
 mod WorkedScripts
 mod WorkedTold
