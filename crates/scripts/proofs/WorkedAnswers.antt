@@ -4,8 +4,10 @@ use Rattle.std.proofs.Common.{◌≡◌, ◌<◌, ℕ, List, [], ◌∷◌, leng
 use Rattle.std.proofs.Common.{arith, length-append}
 use Rattle.sync_base.specs.Pipe.{PipeState}
 use Rattle.sync_base.specs.PlainPipe.{Kept, Shows}
+use Rattle.sleep_core.specs.State.{State}
 use Rattle.scripts.specs.declared.lines.TheConstants.{LINE_FEED}
 use Rattle.scripts.specs.PipeLine.{IsAnswered}
+use Rattle.scripts.specs.Schedule.{IsWorld}
 use Rattle.scripts.specs.Script.{Answered, Answers, AnswersFirst, AnswersNext, Following, Growth}
 use Rattle.scripts.specs.Script.{IsShorter, Opens, growth}
 
@@ -52,3 +54,6 @@ module _ (answered : Answered PipeState) (kept : Kept) where
   an_answer_has_a_line_end is =
       let none = ap length is.text in
       omega (arith, none, length-append answered.text (LINE_FEED ∷ []))
+
+a_world_stands_for_no_other : (world state : State) → IsWorld world state → world ≡ state
+a_world_stands_for_no_other world state is = is
