@@ -1,8 +1,10 @@
 -- Refusals that no call of a queue answers: each against one row.
 use Rattle.std.proofs.Common.{◌≡◌, ◌≢◌, ◌+◌, ℕ, List, [], ◌∷◌, true, true≢false, length, inl, inr}
 use Rattle.std.proofs.Common.{refl, ap, sym, ◌∙◌, arith}
-use Rattle.std.specs.Prelude.{None}
+use Rattle.std.specs.Prelude.{None, get_or, map}
+use Rattle.histories.specs.Account.{unused_share}
 use Rattle.histories.specs.declared.account.Account.{Account}
+use Rattle.histories.specs.declared.account.Share.{Share}
 use Rattle.sync_base.specs.Pipe.{next_write}
 use Rattle.block_queue.specs.declared.answers.PutAnswer.TheVariants as put
 use Rattle.block_queue.specs.declared.answers.TakeAnswer.TheVariants as take
@@ -10,12 +12,14 @@ use Rattle.block_queue.specs.declared.put.Tried.TheVariants.{Answered, Again}
 use Rattle.block_queue.specs.declared.entry.Entry.{Entry}
 use Rattle.block_queue.specs.declared.opening.Opened.{Opened}
 use Rattle.block_queue.specs.declared.view.Key.{Key}
+use Rattle.block_queue.specs.declared.view.View.{View}
 use Rattle.sync_base.specs.declared.limits.TheConstants.{LAST_WRITE}
 use Rattle.block_queue.specs.Calls.{Refuses, IsFreshPut, IsFreshTake}
 use Rattle.block_queue.specs.Meaning.{queue_after}
-use Rattle.block_queue.specs.Opening.{IsBadQueue, IsBadFirst, Opens}
-use Rattle.block_queue.specs.Seats.{key_of, IsTakeSeatOf}
-use Rattle.block_queue.specs.Steps.{saw_hangup}
+use Rattle.block_queue.specs.Opening.{IsBadQueue, IsBadFirst, Opens, AreNewPutSeats}
+use Rattle.block_queue.specs.Opening.{reader_account}
+use Rattle.block_queue.specs.Seats.{key_of, take_account, IsTakeSeatOf, Place, IsSamePlace}
+use Rattle.block_queue.specs.Steps.{saw_hangup, HasToHand}
 use Rattle.block_queue.specs.Tries.{IfAnswered, IfAgain, IsAgain, IsTaken}
 
 module _ (key : Key) (old new : Account Entry) where
@@ -51,6 +55,14 @@ module _ (key : Key) (opened : Opened) where
   a_queue_of_other_sizes : key_of opened.queue ≢ key → ¬ Opens key opened
   a_queue_of_other_sizes other opens = other opens.key_is
 
+  a_reader_that_was_at_work : take_account opened.take ≢ reader_account key.writers
+      → ¬ Opens key opened
+  a_reader_that_was_at_work other opens = other opens.account_is
+
+  the_writers_seats_of_another_queue :
+      ¬ AreNewPutSeats opened.queue key.writers opened.puts.items → ¬ Opens key opened
+  the_writers_seats_of_another_queue other opens = other opens.puts_are
+
   the_readers_seat_of_another_queue : ¬ IsTakeSeatOf opened.queue opened.take → ¬ Opens key opened
   the_readers_seat_of_another_queue other opens = other opens.take_is
 
@@ -73,3 +85,20 @@ hungup_is_not_taken it = it
 
 worn_is_not_taken : ¬ IsTaken (put.Worn [])
 worn_is_not_taken it = it
+
+-- a step leaves a seat at its table, and under its name there
+module _ (before after : Place) where
+  a_place_of_another_table : after.table_id ≢ before.table_id → ¬ IsSamePlace before after
+  a_place_of_another_table other same = other same.table
+
+  a_place_of_another_name : after.id ≢ before.id → ¬ IsSamePlace before after
+  a_place_of_another_name other same = other same.id
+
+-- the reader hands over no number that is its own
+what_is_its_own_is_not_handed_over : (view : View)
+    → view.account.shares ≡ unused_share 0 ∷ unused_share 0 ∷ [] → ¬ HasToHand view
+what_is_its_own_is_not_handed_over view two has =
+    let second = ap (λ (shares : List (Share Entry)).
+    get_or (map (λ share. share.number) shares) 1 0) (sym two ∙ has.shares_are) in
+    let above = has.next_is in
+    omega (arith, second, above)

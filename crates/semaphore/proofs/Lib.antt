@@ -16,6 +16,7 @@ mod WaitLemmas
 mod WorkedCalls
 mod WorkedEndings
 mod WorkedOpenings
+mod WorkedSeats
 mod WorkedUnits
 pub mod Broken
 pub mod BrokenCalls

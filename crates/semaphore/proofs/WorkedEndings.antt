@@ -1,9 +1,12 @@
 -- What a list of deeds has not: a sleep that answered well, a sleep in its turn, an ending; and
 -- what a call does not ask and not answer. Each against one row.
-use Rattle.std.proofs.Common.{◌≡◌, ◌+◌, inl, inr, [], ◌∷◌, Some, None, Ok, false, true, arith}
+use Rattle.std.proofs.Common.{Bor, ◌≡◌, ◌+◌, inl, inr, [], ◌∷◌, Some, None, Ok, false, true, arith}
 use Rattle.sync_base.specs.declared.fault.Fault.TheVariants as fault
 use Rattle.semaphore.specs.declared.acquiring.Semacquired.TheVariants as sema
 use Rattle.semaphore.specs.declared.sema_asks.Begun.TheVariants.{Waits}
+use Rattle.semaphore.specs.declared.acquiring.Until.TheVariants.{Ticked}
+use Rattle.semaphore.specs.declared.timers.Timers.{Timers}
+use Rattle.semaphore.specs.declared.timers.TimerSeat.{TimerSeat}
 use Rattle.semaphore.specs.declared.limits.TheConstants.{LAST_GRANT}
 use Rattle.semaphore.specs.declared.sema_object.SemaCall.TheVariants.{AcquireNow, Collect}
 use Rattle.semaphore.specs.declared.sema_object.SemaCall.TheVariants.{NextWake}
@@ -17,6 +20,7 @@ use Rattle.semaphore.specs.Deeds.Deed.{Asks, Times, Rests, Rouses, Posts, Drains
 use Rattle.semaphore.specs.Deeds.Ending.{Well, Noted, Double}
 use Rattle.semaphore.specs.Releasing.{IsOfRelease, Answers}
 use Rattle.semaphore.specs.SemaLaws.{AlwaysHolds}
+use Rattle.semaphore.specs.Seats.{IsSeatAtTimers, IsTimerSet}
 use Rattle.semaphore.specs.Ticking.{IsOfTick}
 use Rattle.semaphore.proofs.BrokenCalls.{waiter, timed_waiter, interrupt, pid, begun}
 
@@ -104,3 +108,9 @@ no_sum_is_answered_for_a_bad_count answers = answers
 
 what_never_holds_is_no_law : ¬ AlwaysHolds (λ value count past s. ⊥)
 what_never_holds_is_no_law holds = holds 0 1 0 [] (omega arith) (omega arith) tt
+
+-- ---- waits
+
+a_wait_until_a_tick_has_set_its_timer : (timers : Bor Timers) (timer : Bor TimerSeat)
+    → ¬ IsSeatAtTimers timers.now true timer.now → ¬ IsTimerSet (Ticked timers timer)
+a_wait_until_a_tick_has_set_its_timer timers timer unset set = unset set

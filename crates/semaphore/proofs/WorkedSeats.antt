@@ -1,0 +1,120 @@
+-- What is no lock of a semaphore or of timers, no seat of them, and nobody who calls with one: each
+-- against one row.
+use Rattle.std.proofs.Common.{◌≡◌, ◌≢◌, ◌<◌, ◌≤◌, ◌+◌, ◌^◌, ℕ, Bool, false, List, [], Option}
+use Rattle.std.proofs.Common.{length, ap, sym, ◌∙◌, arith}
+use Rattle.std.specs.Prelude.{replicate}
+use Rattle.rendez_words.specs.declared.words.Words.{Words}
+use Rattle.rendez_words.specs.Process.{pid_in}
+use Rattle.rendez_words.specs.Words.{rendez_of}
+use Rattle.sleep_wakeup.specs.Kernel.{Running}
+use Rattle.kernel_lock.specs.declared.locked.Locked.{Locked}
+use Rattle.kernel_lock.specs.Seats.{IsSeatOf, SeesHistory, shares_of, number_of, limit_of}
+use Rattle.kernel_lock.specs.Seats.{opening_of}
+use Rattle.semaphore.specs.declared.due.Due.{Due}
+use Rattle.semaphore.specs.declared.limits.TheConstants.{MAX_VALUE}
+use Rattle.semaphore.specs.declared.sema.Sema.{Sema}
+use Rattle.semaphore.specs.declared.sema.SemaSeat.{SemaSeat}
+use Rattle.semaphore.specs.declared.sema_object.SemaCall.{SemaCall}
+use Rattle.semaphore.specs.declared.sema_object.SemaReply.{SemaReply}
+use Rattle.semaphore.specs.declared.timer_object.Timer.{Timer}
+use Rattle.semaphore.specs.declared.timer_object.Timer.TheVariants.{Unset}
+use Rattle.semaphore.specs.declared.timer_object.TimerCall.{TimerCall}
+use Rattle.semaphore.specs.declared.timer_object.TimerReply.{TimerReply}
+use Rattle.semaphore.specs.declared.timers.Timers.{Timers}
+use Rattle.semaphore.specs.declared.timers.TimerSeat.{TimerSeat}
+use Rattle.semaphore.specs.Deeds.{Caller}
+use Rattle.semaphore.specs.Definitions.{sema_definition, timer_definition}
+use Rattle.semaphore.specs.Opening.{IsSemaLock, IsTimerLock}
+use Rattle.semaphore.specs.SeatLine.{IsRing}
+use Rattle.semaphore.specs.Seats.{IsSeatAt, IsSeatAtTimers, IsCallerAt, HasRow, is_waiting}
+use Rattle.semaphore.specs.Seats.{rendez_at}
+use Rattle.semaphore.specs.TimerHistory.{has_timer}
+use Rattle.semaphore.specs.Tournament.{IsTournament}
+use Rattle.semaphore.specs.Units.{SemaState}
+
+-- ---- locks
+
+module _ (lock : Locked SemaState SemaCall SemaReply) where
+  a_lock_with_other_seats : limit_of lock ≢ 3 → ¬ IsSemaLock lock 3
+  a_lock_with_other_seats other of_it = other of_it.limit
+
+  module _ (of_it : IsSemaLock lock 3) where
+    its_value_fits : of_it.value ≤ MAX_VALUE
+    its_value_fits = of_it.fits
+
+    it_opens_with_its_value : (opening_of sema_definition lock).value ≡ of_it.value
+    it_opens_with_its_value = ap (λ (state : SemaState). state.value) of_it.opening_is
+
+module _ (lock : Locked (List Timer) TimerCall TimerReply) where
+  a_lock_of_fewer_timers : limit_of lock ≢ 3 → ¬ IsTimerLock lock 3
+  a_lock_of_fewer_timers other of_it = other of_it.limit
+
+  a_lock_of_a_timer_that_is_set : opening_of timer_definition lock ≢ replicate 3 Unset
+      → ¬ IsTimerLock lock 3
+  a_lock_of_a_timer_that_is_set other of_it = other of_it.opening_is
+
+-- ---- seats
+
+module _ (sema : Sema) (waits : Bool) (seat : SemaSeat) where
+  a_seat_of_no_semaphore : ¬ IsSemaLock sema.lock sema.procs → ¬ IsSeatAt sema waits seat
+  a_seat_of_no_semaphore none at = none at.opened
+
+  a_seat_of_another_lock : ¬ IsSeatOf sema.lock seat.seat → ¬ IsSeatAt sema waits seat
+  a_seat_of_another_lock other at = other at.seat_is
+
+  a_seat_that_saw_no_history : ¬ SeesHistory sema_definition sema.lock seat.seat
+      → ¬ IsSeatAt sema waits seat
+  a_seat_that_saw_no_history none at = none at.history
+
+  a_seat_without_a_number : shares_of seat.seat ≡ [] → ¬ IsSeatAt sema waits seat
+  a_seat_without_a_number none at =
+      let one = ap (λ shares. length shares) (sym none ∙ at.shares_are) in omega (arith, one)
+
+  who_made_no_call_waits_for_nothing : (at : IsSeatAt sema waits seat) → at.mine ≡ []
+      → false ≡ waits
+  who_made_no_call_waits_for_nothing at none = sym (ap is_waiting none) ∙ at.waits_is
+
+  a_row_past_the_last_rendez : (words : Words) → rendez_of words < sema.first + sema.procs
+      → ¬ HasRow sema words
+  a_row_past_the_last_rendez words past row = omega (arith, past, row)
+
+module _ (timers : Timers) (set : Bool) (seat : TimerSeat) where
+  a_timer_of_no_timers : ¬ IsTimerLock timers.lock timers.procs → ¬ IsSeatAtTimers timers set seat
+  a_timer_of_no_timers none at = none at.opened
+
+  a_timer_of_another_lock : ¬ IsSeatOf timers.lock seat.seat → ¬ IsSeatAtTimers timers set seat
+  a_timer_of_another_lock other at = other at.seat_is
+
+  a_timer_that_saw_no_history : ¬ SeesHistory timer_definition timers.lock seat.seat
+      → ¬ IsSeatAtTimers timers set seat
+  a_timer_that_saw_no_history none at = none at.history
+
+  a_timer_without_a_number : shares_of seat.seat ≡ [] → ¬ IsSeatAtTimers timers set seat
+  a_timer_without_a_number none at =
+      let one = ap (λ shares. length shares) (sym none ∙ at.shares_are) in omega (arith, one)
+
+  who_made_no_call_has_no_timer : (at : IsSeatAtTimers timers set seat) → at.mine ≡ []
+      → false ≡ set
+  who_made_no_call_has_no_timer at none = sym (ap has_timer none) ∙ at.set_is
+
+module _ (sema : Sema) (running : Running) (seat : SemaSeat) (caller : Caller) where
+  another_process_calls : caller.pid ≢ pid_in running.process
+      → ¬ IsCallerAt sema running seat caller
+  another_process_calls other at = other at.pid_is
+
+  who_calls_sleeps_elsewhere : caller.rendez ≢ rendez_at sema seat
+      → ¬ IsCallerAt sema running seat caller
+  who_calls_sleeps_elsewhere other at = other at.rendez_is
+
+  who_calls_has_another_number : caller.number ≢ number_of seat.seat
+      → ¬ IsCallerAt sema running seat caller
+  who_calls_has_another_number other at = other at.number_is
+
+-- ---- sizes
+
+a_ring_of_too_many : (next prev : List ℕ) (stands : List Bool) → ¬ (length stands < 2 ^ 32)
+    → ¬ IsRing next prev stands 1
+a_ring_of_too_many next prev stands many ring = many ring.few
+
+a_tournament_of_too_many : (nodes : List (Option Due)) → ¬ IsTournament (2 ^ 32) nodes
+a_tournament_of_too_many nodes tournament = let few = tournament.few in omega (arith, few)
