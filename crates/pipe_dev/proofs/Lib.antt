@@ -18,3 +18,4 @@ pub mod WorkedFills
 pub mod SideLemmas
 pub mod WorkedOpenings
 pub mod WorkedHands
+mod WorkedLanes
