@@ -3,6 +3,7 @@ pub mod Sending
 mod SharingLemmas
 mod StreamLemmas
 mod WorkedHalls
+mod WorkedOthers
 mod WorkedPlans
 mod WorkedPools
 mod WorkedReads
