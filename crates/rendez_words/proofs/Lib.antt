@@ -3,6 +3,7 @@ pub mod CheckKeeps
 pub mod FlagsLemmas
 pub mod KindSteps
 pub mod LawLemmas
+pub mod LineLemmas
 pub mod OpeningKeeps
 pub mod PlaceLemmas
 pub mod ProcessLemmas

@@ -1,9 +1,11 @@
 -- Where the word of a cell lies: what is read there, and what the words are once it is written.
-use Rattle.std.proofs.Common.{◌≡◌, ◌==◌, ◌+◌, ◌-◌, Bool, true, false, Option, Some, None}
-use Rattle.std.proofs.Common.{if◌then◌else◌, ◌++◌, map, length, get_or, set, refl, sym, ◌∙◌}
-use Rattle.std.proofs.Common.{ap, subst, arith}
-use Rattle.std.proofs.lemmas.List.{get_or_append_left, get_or-append-add, get_or-map}
-use Rattle.std.proofs.lemmas.List.{set-append_left, set-append_right, map-set, set-get_or}
+use Rattle.std.proofs.Common.{◌≡◌, ◌==◌, ◌<◌, ◌+◌, ◌-◌, ◌*◌, ℕ, Bool, true, false, List}
+use Rattle.std.proofs.Common.{Option, Some, None, if◌then◌else◌, ◌++◌, length, get_or, set}
+use Rattle.std.proofs.Common.{refl, sym, ◌∙◌, ap, arith}
+use Rattle.std.specs.Prelude.{zip, flat_map}
+use Rattle.std.proofs.lemmas.List.{get_or_append_left, get_or-append-add}
+use Rattle.std.proofs.lemmas.List.{set-append_left, set-append_right, set-get_or}
+use Rattle.std.proofs.lemmas.Slice.Zip.{length-zip, get_or-zip}
 use Rattle.sleep_core.specs.declared.event.Event.{Event}
 use Rattle.sleep_core.specs.declared.event.Event.TheVariants.{Post, Withdraw, Clear}
 use Rattle.sleep_core.specs.declared.event.Event.TheVariants.{Raise, Take, Mark, Note, Drain}
@@ -19,9 +21,11 @@ use Rattle.sleep_core.specs.Step.{with_phase, with_word, with_returned, word_at,
 use Rattle.sleep_core.specs.Step.{answer_to, changed_by, world_told, world_after}
 use Rattle.sleep_core.specs.Rows.{word_left, word_after}
 use Rattle.rendez_words.specs.declared.view.Sizes.{Sizes}
-use Rattle.rendez_words.specs.FlagsWord.{flags_word}
 use Rattle.rendez_words.specs.Plays.{number_of, IsWordOf, IsCellIn}
-use Rattle.rendez_words.specs.Rule.{words_of, place}
+use Rattle.rendez_words.specs.Rule.{rendez_line, proc_line, words_of, place}
+use Rattle.rendez_words.specs.declared.view.TheConstants.{LINE}
+use Rattle.rendez_words.proofs.LineLemmas.{AreLines, length_lines, read_line, write_line}
+use Rattle.rendez_words.proofs.LineLemmas.{zip-set_first, zip-set_second}
 
 -- the world has these sizes
 pub record HasSizes (sizes : Sizes) (s : State) : Type 0 where
@@ -42,59 +46,119 @@ word_of_cell sizes s (LevelOf rendez) there = tt
 word_of_cell sizes s (FlagsOf pid) there = tt
 word_of_cell sizes s NoCell there = there
 
+-- the words of each Rendez, and those of each process
+abbrev both_of : State → List (ℕ × ℕ)
+both_of s = zip s.posted s.levels
+
+abbrev rendez_words : State → List ℕ
+rendez_words s = flat_map rendez_line (both_of s)
+
+abbrev proc_words : State → List ℕ
+proc_words s = flat_map proc_line s.flags
+
+rendez_lines : AreLines rendez_line
+rendez_lines words = refl
+
+proc_lines : AreLines proc_line
+proc_lines flags = refl
+
+-- each Rendez has both of its words
+has_both : (sizes : Sizes) (s : State) → HasSizes sizes s → length (both_of s) ≡ sizes.rendez
+has_both sizes s has =
+    let posted = has.posted in
+    let levels = has.levels in
+    let both = length-zip s.posted s.levels in
+    omega arith
+
+-- the lines of the processes lie behind all these
+behind : (sizes : Sizes) (s : State) → HasSizes sizes s
+    → length (rendez_words s) ≡ LINE * sizes.rendez
+behind sizes s has =
+    length_lines rendez_line rendez_lines (both_of s)
+    ∙ ap (λ n. LINE * n) (has_both sizes s has)
+
+-- the words of a Rendez, side by side
+both_at : (sizes : Sizes) (s : State) (rendez : ℕ) → HasSizes sizes s → rendez < sizes.rendez
+    → get_or (both_of s) rendez (0, 0) ≡ (get_or s.posted rendez 0, get_or s.levels rendez 0)
+both_at sizes s rendez has there =
+    let posted = has.posted in
+    let levels = has.levels in
+    get_or-zip s.posted s.levels rendez (0, 0) (omega arith) (omega arith)
+
+-- what is read in the line of a Rendez
+read_both : (sizes : Sizes) (s : State) (rendez j : ℕ) → HasSizes sizes s → rendez < sizes.rendez
+    → j < 2
+    → get_or (words_of s) (LINE * rendez + j) 0
+    ≡ get_or (rendez_line (get_or s.posted rendez 0, get_or s.levels rendez 0)) j 0
+read_both sizes s rendez j has there low =
+    let both = has_both sizes s has in
+    let before = behind sizes s has in
+    get_or_append_left (rendez_words s) (proc_words s) 0 (LINE * rendez + j) (omega arith)
+    ∙ read_line rendez_line rendez_lines (both_of s) rendez j (0, 0) (omega arith) (omega arith)
+    ∙ ap (λ words. get_or (rendez_line words) j 0) (both_at sizes s rendez has there)
+
 -- what is read in the place of a cell is what the cell holds
 pub read_there : (sizes : Sizes) (s : State) (cell : Cell) → HasSizes sizes s → IsCellIn sizes cell
     → get_or (words_of s) (place sizes cell) 0 ≡ number_of (word_at s cell)
 read_there sizes s (PostedOf rendez) has there =
-    let posted = has.posted in
-    get_or_append_left s.posted (s.levels ++ map flags_word s.flags) 0 rendez (omega arith)
-read_there sizes s (LevelOf rendez) has there =
-    let levels = has.levels in
-    subst (λ n. get_or (words_of s) (n + rendez) 0 ≡ get_or s.levels rendez 0) has.posted
-    (get_or-append-add s.posted (s.levels ++ map flags_word s.flags) rendez 0
-    ∙ get_or_append_left s.levels (map flags_word s.flags) 0 rendez (omega arith))
+    ap (λ i. get_or (words_of s) i 0) first ∙ read_both sizes s rendez 0 has there (omega arith)
+  where
+    first : LINE * rendez ≡ LINE * rendez + 0
+    first = omega arith
+read_there sizes s (LevelOf rendez) has there = read_both sizes s rendez 1 has there (omega arith)
 read_there sizes s (FlagsOf pid) has there =
     let flags = has.flags in
-    subst (λ n. get_or (words_of s) (n + (sizes.rendez + pid)) 0
-    ≡ flags_word (get_or s.flags pid no_flags)) has.posted
-    (get_or-append-add s.posted (s.levels ++ map flags_word s.flags) (sizes.rendez + pid) 0
-    ∙ subst (λ n. get_or (s.levels ++ map flags_word s.flags) (n + pid) 0
-    ≡ flags_word (get_or s.flags pid no_flags)) has.levels
-    (get_or-append-add s.levels (map flags_word s.flags) pid 0
-    ∙ get_or-map flags_word s.flags pid no_flags 0 (omega arith)))
+    ap (λ i. get_or (words_of s) i 0) first
+    ∙ get_or-append-add (rendez_words s) (proc_words s) (LINE * pid + 0) 0
+    ∙ read_line proc_line proc_lines s.flags pid 0 no_flags (omega arith) (omega arith)
+  where
+    first : LINE * (sizes.rendez + pid) ≡ length (rendez_words s) + (LINE * pid + 0)
+    first = let before = behind sizes s has in omega arith
 read_there sizes s NoCell has there = absurd there
+
+-- the words of a Rendez are written in its line
+write_both : (sizes : Sizes) (s : State) (rendez j n : ℕ) (after : ℕ × ℕ) → HasSizes sizes s
+    → rendez < sizes.rendez → j < 2
+    → rendez_line after ≡ set (rendez_line (get_or (both_of s) rendez (0, 0))) j n
+    → flat_map rendez_line (set (both_of s) rendez after) ++ proc_words s
+    ≡ set (words_of s) (LINE * rendez + j) n
+write_both sizes s rendez j n after has there low is =
+    let both = has_both sizes s has in
+    let before = behind sizes s has in
+    ap (λ words. words ++ proc_words s)
+    (write_line rendez_line rendez_lines (both_of s) rendez j n (0, 0) after (omega arith)
+    (omega arith) is)
+    ∙ sym (set-append_left (rendez_words s) (proc_words s) (LINE * rendez + j) n (omega arith))
 
 -- the words are written in the place of a cell as the cell is
 pub write_there : (sizes : Sizes) (s : State) (cell : Cell) (word : Word) → HasSizes sizes s
     → IsCellIn sizes cell → IsWordOf cell word
     → words_of (with_word s cell (Some word)) ≡ set (words_of s) (place sizes cell) (number_of word)
 write_there sizes s (PostedOf rendez) (Number n) has there fits =
-    let posted = has.posted in
-    sym (set-append_left s.posted (s.levels ++ map flags_word s.flags) rendez n (omega arith))
-write_there sizes s (LevelOf rendez) (Number n) has there fits =
-    let levels = has.levels in
-    sym (set-append_right s.posted (s.levels ++ map flags_word s.flags) sizes.rendez
-    (sizes.rendez + rendez) n has.posted (omega arith)
-    ∙ ap (λ i. s.posted ++ set (s.levels ++ map flags_word s.flags) i n) less
-    ∙ ap (λ xs. s.posted ++ xs) (set-append_left s.levels (map flags_word s.flags) rendez n
-    (omega arith)))
+    ap (λ both. flat_map rendez_line both ++ proc_words s)
+    (zip-set_first s.posted s.levels rendez n)
+    ∙ write_both sizes s rendez 0 n (n, get_or s.levels rendez 0) has there (omega arith)
+    (ap (λ words. set (rendez_line words) 0 n) (sym (both_at sizes s rendez has there)))
+    ∙ ap (λ i. set (words_of s) i n) first
   where
-    less : sizes.rendez + rendez - sizes.rendez ≡ rendez
-    less = omega arith
-write_there sizes s (FlagsOf pid) (Flags flags) has there fits =
-    sym (set-append_right s.posted (s.levels ++ map flags_word s.flags) sizes.rendez
-    (sizes.rendez + (sizes.rendez + pid)) (flags_word flags) has.posted (omega arith)
-    ∙ ap (λ i. s.posted ++ set (s.levels ++ map flags_word s.flags) i (flags_word flags)) first
-    ∙ ap (λ xs. s.posted ++ xs) (set-append_right s.levels (map flags_word s.flags) sizes.rendez
-    (sizes.rendez + pid) (flags_word flags) has.levels (omega arith)
-    ∙ ap (λ i. s.levels ++ set (map flags_word s.flags) i (flags_word flags)) second
-    ∙ ap (λ xs. s.levels ++ xs) (sym (map-set flags_word s.flags pid flags))))
-  where
-    first : sizes.rendez + (sizes.rendez + pid) - sizes.rendez ≡ sizes.rendez + pid
+    first : LINE * rendez + 0 ≡ LINE * rendez
     first = omega arith
-
-    second : sizes.rendez + pid - sizes.rendez ≡ pid
-    second = omega arith
+write_there sizes s (LevelOf rendez) (Number n) has there fits =
+    ap (λ both. flat_map rendez_line both ++ proc_words s)
+    (zip-set_second s.posted s.levels rendez n)
+    ∙ write_both sizes s rendez 1 n (get_or s.posted rendez 0, n) has there (omega arith)
+    (ap (λ words. set (rendez_line words) 1 n) (sym (both_at sizes s rendez has there)))
+write_there sizes s (FlagsOf pid) (Flags flags) has there fits =
+    let count = has.flags in
+    ap (λ words. rendez_words s ++ words)
+    (write_line proc_line proc_lines s.flags pid 0 (number_of (Flags flags)) no_flags flags
+    (omega arith) (omega arith) refl)
+    ∙ sym (set-append_right (rendez_words s) (proc_words s) (LINE * sizes.rendez)
+    (LINE * (sizes.rendez + pid)) (number_of (Flags flags)) (behind sizes s has) (omega arith)
+    ∙ ap (λ i. rendez_words s ++ set (proc_words s) i (number_of (Flags flags))) less)
+  where
+    less : LINE * (sizes.rendez + pid) - LINE * sizes.rendez ≡ LINE * pid + 0
+    less = omega arith
 write_there sizes s cell word has there fits = absurd fits
 
 -- what a row writes may lie in its cell

@@ -1,6 +1,6 @@
 -- What a step's own function answers: the seat of the process may make the event, and what the step
 -- told its seat is what the process has made.
-use Rattle.std.proofs.Common.{◌≡◌, ℕ, ◌+◌, ◌<◌, sym, subst, arith}
+use Rattle.std.proofs.Common.{◌≡◌, ℕ, ◌<◌, sym, subst, arith}
 use Rattle.atomic_table.specs.Table as table
 use Rattle.sleep_core.specs.declared.event.Event.{Event}
 use Rattle.sleep_core.specs.Table.{Cell}
@@ -11,11 +11,12 @@ use Rattle.rendez_words.specs.Plays.{IsCellIn, part_of, IsStep, HasStepped}
 use Rattle.rendez_words.specs.Process.{Process}
 use Rattle.rendez_words.specs.Rule.{place, ShowsCore}
 use Rattle.rendez_words.specs.States.{Place, process_at, IsPlaceOf}
+use Rattle.rendez_words.specs.View.{word_count}
 use Rattle.rendez_words.proofs.StepKeeps.{step_keeps}
 
 -- the place of a cell is one of the words
 in_words : (sizes : Sizes) (cell : Cell) → IsCellIn sizes cell
-    → place sizes cell < sizes.rendez + (sizes.rendez + sizes.procs)
+    → place sizes cell < word_count sizes
 in_words sizes (PostedOf rendez) there = omega arith
 in_words sizes (LevelOf rendez) there = omega arith
 in_words sizes (FlagsOf pid) there = omega arith
@@ -23,12 +24,12 @@ in_words sizes NoCell there = absurd there
 
 -- the word of a step is one of the table's words
 pub step_in : (sizes key : Sizes) (event : Event) (part : Part) (word words : ℕ) (does : ℕ → ℕ)
-    → sizes ≡ key → words ≡ key.rendez + (key.rendez + key.procs)
+    → sizes ≡ key → words ≡ word_count key
     → IsStep sizes event part word does → word < words
 step_in sizes key event part word words does same count step =
     subst (λ n. word < n) (sym count)
-    (subst (λ (k : Sizes). word < k.rendez + (k.rendez + k.procs)) same
-    (subst (λ n. n < sizes.rendez + (sizes.rendez + sizes.procs)) (sym step.word_is)
+    (subst (λ (k : Sizes). word < word_count k) same
+    (subst (λ n. n < word_count sizes) (sym step.word_is)
     (in_words sizes step.cell step.cell_in)))
 
 -- a step by the seat of a process keeps the rule, and makes its event

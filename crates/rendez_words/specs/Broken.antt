@@ -1,6 +1,6 @@
 -- States of the words, and what the seats know of them, that the rule does not allow, each for a
 -- reason of its own; and one that it allows. The laws cite them.
-use Rattle.std.specs.Prelude.{ℕ, List, [], ◌∷◌}
+use Rattle.std.specs.Prelude.{ℕ, List, [], ◌∷◌, ◌++◌, flat_map}
 use Rattle.atomic_table.specs.Table as table
 use Rattle.sync_base.specs.declared.ids.Pid.{Pid}
 use Rattle.sync_base.specs.declared.ids.RendezId.{RendezId}
@@ -13,6 +13,7 @@ use Rattle.rendez_words.specs.declared.view.Part.{Part}
 use Rattle.rendez_words.specs.declared.view.Sizes.{Sizes}
 use Rattle.rendez_words.specs.declared.view.View.{View}
 use Rattle.rendez_words.specs.declared.view.View.TheVariants as view
+use Rattle.rendez_words.specs.Rule.{line}
 
 abbrev pub Shown : Type 0
 Shown = table.State (Unit {0}) View
@@ -21,10 +22,14 @@ Shown = table.State (Unit {0}) View
 abbrev pub with_procs : ℕ → Sizes
 with_procs procs = record { procs = procs; rendez = 1 }
 
--- these words, in their order: who is posted, the level, and the flags of each process; and what
--- each seat knows
-abbrev pub shown : List ℕ → List View → Shown
-shown words views = record { words = words; homes = []; views = views }
+-- who is posted, the level, and the flags of each process; and what each seat knows
+abbrev pub shown : ℕ → ℕ → List ℕ → List View → Shown
+shown posted level flags views =
+    record {
+      words = line (posted ∷ level ∷ []) ++ flat_map (λ word. line (word ∷ [])) flags;
+      homes = [];
+      views = views;
+    }
 
 abbrev pub process : ℕ → Pid
 process pid = record { 0 = pid }
@@ -60,40 +65,40 @@ found_nobody = step 1 (Take (process 1)) answer.Nobody ∷ has_raised
 -- A wakeup above the threshold of a sleeper has returned, and the sleeper is still posted.
 abbrev pub wakeup_is_lost : Shown
 wakeup_is_lost =
-    shown (1 ∷ 1 ∷ 0 ∷ 0 ∷ []) (known 0 fell_asleep ∷ known 1 found_nobody ∷ [])
+    shown 1 1 (0 ∷ 0 ∷ []) (known 0 fell_asleep ∷ known 1 found_nobody ∷ [])
 
 -- a process has posted itself, and is in no posted word
 abbrev pub sleeper_is_nowhere : Shown
-sleeper_is_nowhere = shown (0 ∷ 0 ∷ 0 ∷ []) (known 0 has_posted ∷ [])
+sleeper_is_nowhere = shown 0 0 (0 ∷ []) (known 0 has_posted ∷ [])
 
 -- a process in no sleep is marked
 abbrev pub mark_is_stray : Shown
-mark_is_stray = shown (0 ∷ 0 ∷ 1 ∷ []) (known 0 [] ∷ [])
+mark_is_stray = shown 0 0 (1 ∷ []) (known 0 [] ∷ [])
 
 -- process 1 of 1 is posted
 abbrev pub stranger_is_posted : Shown
-stranger_is_posted = shown (2 ∷ 0 ∷ 0 ∷ []) []
+stranger_is_posted = shown 2 0 (0 ∷ []) []
 
 -- and has a seat
 abbrev pub stranger_has_a_seat : Shown
-stranger_has_a_seat = shown (0 ∷ 0 ∷ 0 ∷ []) (known 1 [] ∷ [])
+stranger_has_a_seat = shown 0 0 (0 ∷ []) (known 1 [] ∷ [])
 
 -- a process has two seats
 abbrev pub process_has_two_seats : Shown
-process_has_two_seats = shown (0 ∷ 0 ∷ 0 ∷ []) (known 0 [] ∷ known 0 [] ∷ [])
+process_has_two_seats = shown 0 0 (0 ∷ []) (known 0 [] ∷ known 0 [] ∷ [])
 
 -- a process to come has a seat
 abbrev pub process_to_come_has_a_seat : Shown
-process_to_come_has_a_seat = shown (0 ∷ 0 ∷ 0 ∷ []) (view.Pids 0 ∷ known 0 [] ∷ [])
+process_to_come_has_a_seat = shown 0 0 (0 ∷ []) (view.Pids 0 ∷ known 0 [] ∷ [])
 
 -- a process to come is posted
 abbrev pub process_to_come_is_posted : Shown
-process_to_come_is_posted = shown (1 ∷ 0 ∷ 0 ∷ []) (view.Pids 0 ∷ [])
+process_to_come_is_posted = shown 1 0 (0 ∷ []) (view.Pids 0 ∷ [])
 
 -- a process is joined with itself
 abbrev pub process_is_joined_with_itself : Shown
-process_is_joined_with_itself = shown (0 ∷ 0 ∷ 0 ∷ []) (view.Joined (part 0 []) (part 0 []) ∷ [])
+process_is_joined_with_itself = shown 0 0 (0 ∷ []) (view.Joined (part 0 []) (part 0 []) ∷ [])
 
 -- The rule allows the state between the raise and the take: the sleeper is posted below the level.
 abbrev pub wakeup_goes_on : Shown
-wakeup_goes_on = shown (1 ∷ 1 ∷ 0 ∷ 0 ∷ []) (known 0 fell_asleep ∷ known 1 has_raised ∷ [])
+wakeup_goes_on = shown 1 1 (0 ∷ 0 ∷ []) (known 0 fell_asleep ∷ known 1 has_raised ∷ [])

@@ -1,10 +1,11 @@
 -- The rule of the table, which holds between any two atomic steps: the words and what the seats
--- know
--- show a state of the core.
-use Rattle.std.specs.Prelude.{◌≡◌, ◌≢◌, ◌<◌, ◌≤◌, ◌+◌, ⊤, ℕ, List, [], ◌++◌, map}
+-- know show a state of the core.
+use Rattle.std.specs.Prelude.{◌≡◌, ◌≢◌, ◌<◌, ◌≤◌, ◌+◌, ◌-◌, ◌*◌, ⊤, ℕ}
+use Rattle.std.specs.Prelude.{List, [], ◌∷◌, ◌++◌, length, replicate, zip, flat_map}
 use mathlib.Core.Option.{some}
 use lib.ListN.{get_elem?}
 use Rattle.atomic_table.specs.Table as table
+use Rattle.sleep_core.specs.declared.phase.ProcFlags.{ProcFlags}
 use Rattle.sleep_core.specs.State.{State}
 use Rattle.sleep_core.specs.Runs.{Entry, IsRun, world_of, own, kept}
 use Rattle.sleep_core.specs.Table.{Cell}
@@ -13,17 +14,31 @@ use Rattle.rendez_words.specs.declared.view.Part.{Part}
 use Rattle.rendez_words.specs.declared.view.Sizes.{Sizes}
 use Rattle.rendez_words.specs.declared.view.View.{View}
 use Rattle.rendez_words.specs.declared.view.View.TheVariants as view
+use Rattle.rendez_words.specs.declared.view.TheConstants.{LINE}
 use Rattle.rendez_words.specs.FlagsWord.{flags_word}
 
--- the words of a world: who is posted in each Rendez, their levels, the flags of each process
+-- these words with a line to themselves: what lies behind them is 0 for ever
+abbrev pub line : List ℕ → List ℕ
+line words = words ++ replicate (LINE - length words) 0
+
+-- the line of a Rendez: who is posted in it, and its level
+abbrev pub rendez_line : ℕ × ℕ → List ℕ
+rendez_line words = line (words.0 ∷ words.1 ∷ [])
+
+-- the line of a process: its flags
+abbrev pub proc_line : ProcFlags → List ℕ
+proc_line flags = line (flags_word flags ∷ [])
+
+-- the words of a world: the line of each Rendez, and then that of each process
 abbrev pub words_of : State → List ℕ
-words_of state = state.posted ++ (state.levels ++ map flags_word state.flags)
+words_of state =
+    flat_map rendez_line (zip state.posted state.levels) ++ flat_map proc_line state.flags
 
 -- where the word of a cell lies among them
 abbrev pub place : Sizes → Cell → ℕ
-place sizes (PostedOf rendez) = rendez
-place sizes (LevelOf rendez) = sizes.rendez + rendez
-place sizes (FlagsOf pid) = sizes.rendez + (sizes.rendez + pid)
+place sizes (PostedOf rendez) = LINE * rendez
+place sizes (LevelOf rendez) = LINE * rendez + 1
+place sizes (FlagsOf pid) = LINE * (sizes.rendez + pid)
 place sizes NoCell = 0
 
 -- A seat has this process: no other seat has its pid, and its trace is what the run has of it, but

@@ -1,13 +1,14 @@
 -- What the seats of the table know.
-use Rattle.std.specs.Prelude.{ℕ, ◌+◌, []}
+use Rattle.std.specs.Prelude.{ℕ, ◌+◌, ◌*◌, []}
 use Rattle.rendez_words.specs.declared.view.Part.{Part}
 use Rattle.rendez_words.specs.declared.view.Sizes.{Sizes}
 use Rattle.rendez_words.specs.declared.view.View.{View}
 use Rattle.rendez_words.specs.declared.view.View.TheVariants as view
+use Rattle.rendez_words.specs.declared.view.TheConstants.{LINE}
 
--- how many words there are
+-- how many words there are: a line for each Rendez, and one for each process
 abbrev pub word_count : Sizes → ℕ
-word_count sizes = sizes.rendez + (sizes.rendez + sizes.procs)
+word_count sizes = LINE * (sizes.rendez + sizes.procs)
 
 -- a process that has made no step
 abbrev pub unused_part : ℕ → Part

@@ -11,6 +11,7 @@ ghost use Rattle.rendez_words.specs.Words.{table_of, sizes_of, procs_of, rendez_
 use crate::parking::Unwoken;
 use crate::plays::{Make, Making};
 use crate::states::Stepper;
+use crate::view::LINE;
 use crate::words::Words;
 use sleep_core::Event;
 use std::marker::Brand;
@@ -22,7 +23,7 @@ impl Words {
         requires { rendez.0 < rendez_of self.now }
         ensures { result ≡ place (sizes_of self.now) (PostedOf rendez.0) }
     {
-        rendez.0 as usize
+        (LINE * rendez.0) as usize
     }
 
     /// Where the level of the Rendez lies.
@@ -30,7 +31,7 @@ impl Words {
         requires { rendez.0 < rendez_of self.now }
         ensures { result ≡ place (sizes_of self.now) (LevelOf rendez.0) }
     {
-        (self.sizes.rendez + rendez.0) as usize
+        (LINE * rendez.0 + 1) as usize
     }
 
     /// Where the flags of the process lie.
@@ -38,7 +39,7 @@ impl Words {
         requires { pid.0 < procs_of self.now }
         ensures { result ≡ place (sizes_of self.now) (FlagsOf pid.0) }
     {
-        (self.sizes.rendez + (self.sizes.rendez + pid.0)) as usize
+        (LINE * (self.sizes.rendez + pid.0)) as usize
     }
 
     /// Reads the word.

@@ -7,7 +7,7 @@ use crate::parking::Parking;
 use crate::plays::GivePid;
 use crate::rule::WordTable;
 use crate::states::{Pids, Seat, Stepper};
-use crate::view::Sizes;
+use crate::view::{LINE, Sizes};
 use atomic_table::Table;
 use std::alloc::Global;
 use sync_base::Fault;
@@ -73,7 +73,7 @@ impl Words {
         }
         let sizes = Sizes { procs, rendez };
         let parking = Parking::new(alloc, procs)?;
-        let zeros = vec![in alloc; 0; (rendez + (rendez + procs)) as usize]?;
+        let zeros = vec![in alloc; 0; (LINE * (rendez + procs)) as usize]?;
         let (table, place) = Table::of_words(alloc, zeros.as_slice(), &sizes)?;
         let words = Words {
             table,

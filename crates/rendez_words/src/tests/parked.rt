@@ -6,6 +6,7 @@ ghost use Rattle.rendez_words.specs.Words.{IsProcessOf, procs_of};
 
 use crate::parking::Unwoken;
 use crate::tests::{FIRST, open, sleep, wakeup};
+use crate::view::LINE;
 use crate::{LookAnswer, Opened, Seat, TakeAnswer, TestAnswer, WithdrawAnswer, Words};
 use std::alloc::Global;
 use std::process::Abort;
@@ -77,7 +78,7 @@ fn rouse(words: &Words, awake: &AtomicU64) {
         if awake.load(SeqCst) == 1 {
             return;
         }
-        for word in 0..words.sizes.rendez + (words.sizes.rendez + words.sizes.procs) {
+        for word in 0..LINE * (words.sizes.rendez + words.sizes.procs) {
             words.table.shared.wake_one(word as usize);
         }
         yield_now();
