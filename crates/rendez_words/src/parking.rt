@@ -5,6 +5,7 @@
 ghost use Rattle.std.specs.Prelude.{◌≡◌, ◌≢◌, ◌==◌, ◌<◌, ◌^◌, IfOk};
 ghost use Rattle.rendez_words.specs.declared.parking.TheConstants.{AWAKE, PARKS};
 
+use crate::view::LINE;
 use std::alloc::{AllocError, Global};
 use std::marker::Model;
 use std::sync::atomic::AtomicU64;
@@ -17,18 +18,19 @@ const AWAKE: u64 = 0;
 /// What a process says that parks, or is about to.
 const PARKS: u64 = 1;
 
-/// What each process says of itself.
+/// What each process says of itself: the first word of its line. The others are never used.
 #[derive(Drop)]
 pub struct Parking {
     parks: Vec<AtomicU64>,
 }
 
 impl Model for Parking {
-    ghost use Rattle.std.specs.Prelude.{ℕ, length};
+    ghost use Rattle.std.specs.Prelude.{ℕ, length, ◌/◌};
+    ghost use Rattle.rendez_words.specs.declared.view.TheConstants.{LINE};
 
     ghost Value = { ℕ };
 
-    ghost view = { λ parking. length parking.parks.items };
+    ghost view = { λ parking. length parking.parks.items / LINE };
 }
 
 /// What a process says of itself, as it was written or found.
@@ -63,8 +65,8 @@ impl Parking {
         requires { procs < 2 ^ 32 }
         ensures { IfOk result (λ parking. parking ≡ procs) }
     {
-        let mut parks = Vec::with_capacity(alloc, procs as usize)?;
-        for _ in 0..procs {
+        let mut parks = Vec::with_capacity(alloc, (LINE * procs) as usize)?;
+        for _ in 0..LINE * procs {
             parks.push(AtomicU64::new(AWAKE))?;
         }
         Ok(Parking { parks })
@@ -106,7 +108,7 @@ impl Parking {
         ensures pid { result.pid ≡ pid }
         ensures word { result.word ≡ word }
     {
-        self.parks[pid as usize].store(word, SeqCst);
+        self.parks[(LINE * pid) as usize].store(word, SeqCst);
         Said { pid, word }
     }
 
@@ -115,7 +117,7 @@ impl Parking {
         requires { pid < self.now }
         ensures { result.pid ≡ pid }
     {
-        let word = self.parks[pid as usize].load(SeqCst);
+        let word = self.parks[(LINE * pid) as usize].load(SeqCst);
         Said { pid, word }
     }
 }

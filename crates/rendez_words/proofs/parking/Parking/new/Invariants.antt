@@ -1,7 +1,7 @@
--- Each round adds the flag of one process.
+-- Each round adds a word.
 use Rattle.std.proofs.Common.{◌≡◌, length}
 use Rattle.rendez_words.proofs.parking.Parking.new.Given as goal
 
--- as many flags as processes so far
+-- as many words as rounds so far
 abbrev pub invariant-loop : goal.invariant-loop
 invariant-loop l = length l.parks.items ≡ l.counter
