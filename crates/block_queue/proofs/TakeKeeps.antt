@@ -1,5 +1,5 @@
 -- The steps of a take and of a hangup keep the rule.
-use Rattle.std.proofs.Common.{◌≡◌, ◌≢◌, ℕ, ◌+◌, ◌<◌, Bool, true, false, List, [], ◌∷◌, length}
+use Rattle.std.proofs.Common.{◌≡◌, ◌≢◌, ℕ, ◌+◌, ◌<◌, ◌^◌, Bool, true, false, List, [], ◌∷◌, length}
 use Rattle.std.proofs.Common.{get_or, set, refl, sym, ap, subst, ◌∙◌, arith, Option, Some, None}
 use Rattle.std.specs.Prelude.{slice_get, bit_or}
 use Rattle.std.specs.List.{AllByRecursion}
@@ -68,7 +68,7 @@ module _ (key : Key) (slots id : ℕ) (me : Seated) where
           IsOneQueue key (table.stepped t 0 word id me.1 w a) ×
           HasTakeTail key me word (w, table.carried_after me.1 a)
 
-      small : me.0.taken < 4611686018427387904
+      small : me.0.taken < 2 ^ 62
       small = let given = fits.given in let within = fits.within in let taken =
           knows.taken in omega arith
 

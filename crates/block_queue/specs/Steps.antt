@@ -1,5 +1,5 @@
 -- What each kind of step tells its seat.
-use Rattle.std.specs.Prelude.{◌≡◌, ◌≢◌, ℕ, ◌+◌, ◌-◌, ◌<◌, ◌≤◌, Bool, true, false}
+use Rattle.std.specs.Prelude.{◌≡◌, ◌≢◌, ℕ, ◌+◌, ◌-◌, ◌<◌, ◌^◌, ◌≤◌, Bool, true, false}
 use Rattle.std.specs.Prelude.{List, [], ◌∷◌, Option, Some, None}
 use Rattle.atomic_table.specs.Table as table
 use Rattle.histories.specs.declared.account.Account.{Account}
@@ -93,7 +93,7 @@ pub record HasTakeTail (key : Key) (before : Seated) (found : ℕ) (after : Seat
   pub looking : found ≢ before.0.taken + MARK → after.0 ≡ staged_view (Looking left) before.0
   -- a seat that has seen a hangup, and that the queue has not ended, knows that a block is left
   pub fresh : saw_hangup key before.0.account ≡ true → left ≡ true
-  pub small : before.0.taken < 4611686018427387904
+  pub small : before.0.taken < 2 ^ 62
 
 -- TakeSequence: the next write does not stand, or the seat has its slot
 pub record HasTakeSequence (key : Key) (before : Seated) (found : ℕ) (after : Seated) : Type 0 where

@@ -1,7 +1,7 @@
 //! Where the ring keeps what. The first word is the tail; behind it stands a sequence word for each
 //! place, and each place has a slot. The writes are counted from 0, and write c is kept in place c
 //! mod limit.
-ghost use Rattle.std.specs.Prelude.{◌≡◌, ◌+◌, ◌<◌};
+ghost use Rattle.std.specs.Prelude.{◌≡◌, ◌+◌, ◌<◌, ◌^◌};
 ghost use Rattle.block_queue.specs.Places.{sequence_of, free_word, stored_word, place_of};
 
 /// The word that counts the writes that were accepted.
@@ -30,7 +30,7 @@ pub(crate) fn sequence(place: usize) -> usize
 /// What the word of its place is before a write is put there.
 pub(crate) fn free(limit: u64, count: u64) -> u64
     requires limit { 0 < limit }
-    requires small { count < 4611686018427387904 }
+    requires small { count < 2 ^ 62 }
     ensures { result ≡ free_word limit count }
 {
     2 * (count / limit)
@@ -39,7 +39,7 @@ pub(crate) fn free(limit: u64, count: u64) -> u64
 /// What it is while the write stands there.
 pub(crate) fn stored(limit: u64, count: u64) -> u64
     requires limit { 0 < limit }
-    requires small { count < 4611686018427387904 }
+    requires small { count < 2 ^ 62 }
     ensures { result ≡ stored_word limit count }
 {
     2 * (count / limit) + 1

@@ -1,5 +1,5 @@
 //! A take, and a hangup from either side.
-ghost use Rattle.std.specs.Prelude.{◌≡◌, ◌+◌, ◌<◌};
+ghost use Rattle.std.specs.Prelude.{◌≡◌, ◌+◌, ◌<◌, ◌^◌};
 ghost use Rattle.block_queue.specs.declared.entry.Entry.TheVariants.{Hung};
 ghost use Rattle.block_queue.specs.Calls.{Takes, IsFreshTake, blocks_in};
 ghost use Rattle.block_queue.specs.Meaning.{Enters};
@@ -89,7 +89,7 @@ impl Queue {
         ensures fresh { IsFreshTake (key_of self.now)
             place.old.me.0.account place.new.me.0.account result }
         ensures counted { place.new.me.0.taken ≡ taken + blocks_in result }
-        ensures small { taken < 4611686018427387904 }
+        ensures small { taken < 2 ^ 62 }
     {
         probe.at(1);
         let tail = self.take_tail::<Brand>(place);

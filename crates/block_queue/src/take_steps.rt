@@ -1,6 +1,6 @@
 //! The steps of a take and of a hangup, a function each. Above each step stand the seat before and
 //! after it, and why the rule stays.
-ghost use Rattle.std.specs.Prelude.{◌≡◌, ◌+◌, ◌<◌, [], ◌∷◌, None, Some};
+ghost use Rattle.std.specs.Prelude.{◌≡◌, ◌+◌, ◌<◌, ◌^◌, [], ◌∷◌, None, Some};
 ghost use Rattle.block_queue.specs.declared.view.Stage.TheVariants.{Free, Moving};
 ghost use Rattle.block_queue.specs.Places.{place_of};
 ghost use Rattle.block_queue.specs.Rule.{IsStageLooking};
@@ -74,7 +74,7 @@ impl Queue {
         requires asked { M.asked ≡ asks self.now 0 _block.now }
         requires stage { seat.old.me.0.stage ≡ Moving _block.now.writer _block.now.bytes }
         requires taken { taken ≡ seat.old.me.0.taken }
-        requires small { taken < 4611686018427387904 }
+        requires small { taken < 2 ^ 62 }
         requires slot { seat.old.me.1 ≡ (place_of self.now.key.limit taken, None) ∷ [] }
         ensures seat { IsSamePlace seat.old seat.new }
         ensures told { HasFreed self.now.key _block.now seat.old.me seat.new.me }

@@ -5,7 +5,7 @@ use Rattle.sync_base.specs.declared.fault.Fault.{Fault}
 use Rattle.sync_base.specs.declared.fault.Fault.TheVariants as fault
 use Rattle.sleep_wakeup.specs.Kernel.{Running, Unused, HasRendez, rendez_less}
 use Rattle.semaphore.specs.Opening.{WhyNotOpened}
-use Rattle.semaphore.specs.Procs.{IsProcCount}
+use Rattle.sleep_core.specs.Limits.{IsProcCount}
 use Rattle.pipe_dev.specs.declared.answers.ReadAnswer.{ReadAnswer}
 use Rattle.pipe_dev.specs.declared.answers.ReadAnswer.TheVariants as read
 use Rattle.pipe_dev.specs.Ends.{ReadSide}

@@ -45,7 +45,6 @@ pub use Rattle.kernel_lock.specs.Seats as LockSeats
 pub use Rattle.semaphore.specs.Acquiring
 pub use Rattle.semaphore.specs.Deeds
 pub use Rattle.semaphore.specs.Opening as SemaOpening
-pub use Rattle.semaphore.specs.Procs
 pub use Rattle.semaphore.specs.Releasing
 pub use Rattle.semaphore.specs.Seats as SemaSeats
 pub use Rattle.semaphore.specs.SemaLaws

@@ -8,7 +8,7 @@ use Rattle.sleep_wakeup.specs.Kernel.{Running, Unused, HasRendez, rendez_less}
 use Rattle.semaphore.specs.Acquiring.{Semacquires}
 use Rattle.semaphore.specs.Deeds.{Calls}
 use Rattle.semaphore.specs.Opening.{WhyNotOpened}
-use Rattle.semaphore.specs.Procs.{IsProcCount}
+use Rattle.sleep_core.specs.Limits.{IsProcCount}
 use Rattle.semaphore.specs.Releasing.{Releases}
 use Rattle.block_queue.specs.Seats.{key_of}
 use Rattle.pipe_dev.specs.declared.answers.ReadAnswer.{ReadAnswer}

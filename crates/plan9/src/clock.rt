@@ -44,7 +44,7 @@ impl<'t> Model for Watch<'t> {
 
 impl Clock {
     ghost use Rattle.std.specs.Prelude.{IfOk, IfErr, OnOk};
-    ghost use Rattle.semaphore.specs.Procs.{IsProcCount};
+    ghost use Rattle.sleep_core.specs.Limits.{IsProcCount};
     ghost use Rattle.semaphore.specs.Timers.{WhyNoTimers};
     ghost use Rattle.plan9.specs.Watches.{IsFirstWatch, IsNewClock, IsTaken};
 

@@ -70,7 +70,7 @@ impl Pool {
     ghost use Rattle.sleep_wakeup.specs.Kernel.{HasRendez, rendez_less};
     ghost use Rattle.semaphore.specs.declared.limits.TheConstants.{MAX_VALUE};
     ghost use Rattle.semaphore.specs.Opening.{WhyNotOpened};
-    ghost use Rattle.semaphore.specs.Procs.{IsProcCount};
+    ghost use Rattle.sleep_core.specs.Limits.{IsProcCount};
     ghost use Rattle.plan9.specs.Refusals.{ComesBack};
     ghost use Rattle.plan9.specs.Pools.{
       AreHolders,

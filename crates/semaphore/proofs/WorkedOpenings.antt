@@ -11,7 +11,7 @@ use Rattle.semaphore.specs.declared.sema.SemaSeat.{SemaSeat}
 use Rattle.semaphore.specs.declared.timers.Timers.{Timers}
 use Rattle.semaphore.specs.declared.timers.TimerSeat.{TimerSeat}
 use Rattle.semaphore.specs.Opening.{WhyNotOpened}
-use Rattle.semaphore.specs.Procs.{IsProcCount}
+use Rattle.sleep_core.specs.Limits.{IsProcCount}
 use Rattle.semaphore.specs.SemaHistory.{SemaEntry}
 use Rattle.semaphore.specs.TimerHistory.{TimerEntry}
 use Rattle.semaphore.specs.Seats.{IsNewSema, AreNewTimers, HasRow, IsSemaSeatOf, IsTimerSeatOf}

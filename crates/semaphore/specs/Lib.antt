@@ -4,7 +4,6 @@ pub mod Deeds
 pub mod Definitions
 pub mod Due
 pub mod Opening
-pub mod Procs
 pub mod Releasing
 pub mod SeatLine
 pub mod Seats

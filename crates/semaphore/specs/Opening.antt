@@ -12,7 +12,7 @@ use Rattle.semaphore.specs.declared.timer_object.Timer.{Timer}
 use Rattle.semaphore.specs.declared.timer_object.Timer.TheVariants.{Unset}
 use Rattle.semaphore.specs.declared.timer_object.TimerCall.{TimerCall}
 use Rattle.semaphore.specs.declared.timer_object.TimerReply.{TimerReply}
-use Rattle.semaphore.specs.Procs.{IsProcCount}
+use Rattle.sleep_core.specs.Limits.{IsProcCount}
 use Rattle.semaphore.specs.Definitions.{sema_definition, timer_definition}
 use Rattle.semaphore.specs.Units.{SemaState, opening}
 

@@ -13,7 +13,7 @@ use Rattle.semaphore.specs.declared.timer_object.TimerCall.TheVariants.{Add, Exp
 use Rattle.semaphore.specs.declared.timer_object.TimerReply.{TimerReply}
 use Rattle.semaphore.specs.declared.timer_object.TimerReply.TheVariants as reply
 use Rattle.semaphore.specs.Due.{earliest}
-use Rattle.semaphore.specs.Procs.{IsProcCount}
+use Rattle.sleep_core.specs.Limits.{IsProcCount}
 
 -- the timer of this seat
 abbrev pub timer_of : List Timer → ℕ → Timer

@@ -14,7 +14,7 @@ use Rattle.semaphore.specs.declared.sema_object.SemaCall.TheVariants.{Acquire, A
 use Rattle.semaphore.specs.declared.sema_object.SemaCall.TheVariants.{NextWake, Collect, Leave}
 use Rattle.semaphore.specs.declared.sema_object.SemaReply.{SemaReply}
 use Rattle.semaphore.specs.declared.sema_object.SemaReply.TheVariants as reply
-use Rattle.semaphore.specs.Procs.{IsProcCount}
+use Rattle.sleep_core.specs.Limits.{IsProcCount}
 use Rattle.semaphore.specs.SeatLine.{stands_in, without, with_seat, AreSeats}
 
 pub record SemaState : Type 0 where

@@ -43,7 +43,7 @@ impl Sema {
     ghost use Rattle.semaphore.specs.Asking.{IsTold};
     ghost use Rattle.semaphore.specs.Definitions.{sema_definition};
     ghost use Rattle.semaphore.specs.Opening.{WhyNotOpened};
-    ghost use Rattle.semaphore.specs.Procs.{IsProcCount};
+    ghost use Rattle.sleep_core.specs.Limits.{IsProcCount};
     ghost use Rattle.semaphore.specs.Seats.{IsSeatAt, IsSemaSeatOf, IsNewSema, rendez_at};
     ghost use Rattle.semaphore.specs.Seats.{waits_after};
 

@@ -1,6 +1,6 @@
 //! Timers, one for each seat, as an object that one thread at a time calls.
 ghost use Rattle.std.specs.Prelude.{◌≡◌, ◌<◌, length, IfOk, IfErr, OnOk, replicate};
-ghost use Rattle.semaphore.specs.Procs.{IsProcCount};
+ghost use Rattle.sleep_core.specs.Limits.{IsProcCount};
 ghost use Rattle.semaphore.specs.Timers.{answer_to, after, deadline_of, WhyNoTimers};
 ghost use Rattle.semaphore.specs.declared.timer_object.Timer.TheVariants.{Unset};
 

@@ -32,7 +32,7 @@ impl Timers {
     ghost use Rattle.kernel_lock.specs.Seats.{Splits, KnowsAllGiven, NamesOwn, number_of, view_of};
     ghost use Rattle.semaphore.specs.Asking.{IsTimed};
     ghost use Rattle.semaphore.specs.Definitions.{timer_definition};
-    ghost use Rattle.semaphore.specs.Procs.{IsProcCount};
+    ghost use Rattle.sleep_core.specs.Limits.{IsProcCount};
     ghost use Rattle.semaphore.specs.Seats.{IsSeatAtTimers, IsTimerSeatOf, AreNewTimers};
     ghost use Rattle.semaphore.specs.TimerHistory.{sets_after};
     ghost use Rattle.semaphore.specs.Timers.{WhyNoTimers};
