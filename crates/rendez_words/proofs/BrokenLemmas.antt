@@ -28,10 +28,10 @@ use Rattle.rendez_words.specs.Broken.{process_has_two_seats, process_to_come_has
 use Rattle.rendez_words.specs.Broken.{process_to_come_is_posted, process_is_joined_with_itself}
 use Rattle.rendez_words.specs.Broken.{wakeup_goes_on}
 use Rattle.rendez_words.specs.Plays.{number_of, IsCellIn}
-use Rattle.rendez_words.specs.Rule.{ShowsCore, Fits, place}
+use Rattle.rendez_words.specs.Rule.{ShowsCore, Fits, index_of}
 use Rattle.rendez_words.proofs.FlagsLemmas.{lowest}
 use Rattle.rendez_words.proofs.LawLemmas.{sleepers_have_places, seats_know, receipts_release}
-use Rattle.rendez_words.proofs.PlaceLemmas.{read_there}
+use Rattle.rendez_words.proofs.IndexLemmas.{read_there}
 use Rattle.rendez_words.proofs.StepKeeps.{sizes_of_run}
 
 -- the world that the rule gives
@@ -40,9 +40,9 @@ world sizes s shows = world_of sizes.procs sizes.rendez shows.run
 
 -- what a word says of that world
 said : (sizes : Sizes) (s : Shown) (shows : ShowsCore sizes s) (cell : Cell) → IsCellIn sizes cell
-    → get_or s.words (place sizes cell) 0 ≡ number_of (word_at (world sizes s shows) cell)
+    → get_or s.words (index_of sizes cell) 0 ≡ number_of (word_at (world sizes s shows) cell)
 said sizes s shows cell there =
-    ap (λ words. get_or words (place sizes cell) 0) shows.words
+    ap (λ words. get_or words (index_of sizes cell) 0) shows.words
     ∙ read_there sizes (world sizes s shows) cell (sizes_of_run sizes shows.run shows.legal) there
 
 -- the bits of the flags of process 0 above its mark

@@ -20,7 +20,7 @@ use Rattle.rendez_words.specs.Plays.{Seated, IsWordOf, IsStep, HasChecked}
 use Rattle.rendez_words.specs.Rule.{IsSeated, AreSeated, Fits, ShowsCore}
 use Rattle.rendez_words.specs.States.{IsUnkept, IsJoined}
 use Rattle.rendez_words.specs.View.{sleeper_in, raiser_in}
-use Rattle.rendez_words.proofs.PlaceLemmas.{word_of_cell}
+use Rattle.rendez_words.proofs.IndexLemmas.{word_of_cell}
 use Rattle.rendez_words.proofs.RunLemmas.{kept_others, fits_still}
 use Rattle.rendez_words.proofs.StepKeeps.{Comes, comes, words_step}
 

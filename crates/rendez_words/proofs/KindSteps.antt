@@ -25,7 +25,7 @@ use Rattle.rendez_words.specs.declared.words.Words.{Words}
 use Rattle.rendez_words.specs.FlagsWord.{flags_word}
 use Rattle.rendez_words.specs.Plays.{IsStage, number_of, IsWordOf, IsCellIn, part_of, IsStep}
 use Rattle.rendez_words.specs.Process.{Process, phase_in, pid_in}
-use Rattle.rendez_words.specs.Rule.{place}
+use Rattle.rendez_words.specs.Rule.{index_of}
 use Rattle.rendez_words.specs.States.{IsLooking, IsEnding}
 use Rattle.rendez_words.specs.Words.{IsProcessOf, sizes_of, procs_of, rendez_of}
 use Rattle.rendez_words.proofs.FlagsLemmas.{or_mark, or_notes}
@@ -46,7 +46,7 @@ own_step : (words : Words) (process : Process) (event : Event) (stage : Phase) (
     → ((at : Phase) → IsStage process.trace event at → at ≡ phase_in process)
     → phase_in process ≡ stage
     → cell_of event stage ≡ cell → IsCellIn (sizes_of words) cell
-    → word ≡ place (sizes_of words) cell
+    → word ≡ index_of (sizes_of words) cell
     → ((found : Word) → IsWordOf cell found → does (number_of found)
     ≡ number_of (word_after event stage found))
     → IsStep (sizes_of words) event (part_of process) word does
@@ -86,7 +86,7 @@ pub post_step : (words : Words) (process : Process) (pid : Pid) (rendez : Rendez
     (threshold word : ℕ) → pid ≡ pid_in process
     → IsProcessOf words process → phase_in process ≡ phase.Idle → rendez.0 < rendez_of words
     → threshold ≢ TOP_LEVEL
-    → word ≡ place (sizes_of words) (PostedOf rendez.0)
+    → word ≡ index_of (sizes_of words) (PostedOf rendez.0)
     → IsStep (sizes_of words) (Post pid rendez threshold) (part_of process) word
     (λ n. either (eqb n 0) (pid.0 + 1) n)
 post_step words process pid rendez threshold word pid_is is idle there low word_is =
@@ -115,7 +115,7 @@ test_does process rendez threshold word fits = absurd fits
 pub test_step : (words : Words) (process : Process) (pid : Pid) (rendez : RendezId)
     (threshold word : ℕ) → pid ≡ pid_in process
     → IsProcessOf words process → phase_in process ≡ phase.Posted rendez threshold
-    → word ≡ place (sizes_of words) (LevelOf rendez.0)
+    → word ≡ index_of (sizes_of words) (LevelOf rendez.0)
     → IsStep (sizes_of words) (Test pid) (part_of process) word (λ n. n)
 test_step words process pid rendez threshold word pid_is is posted word_is =
     subst (λ (p : Pid). IsStep (sizes_of words) (Test p) (part_of process) word (λ n. n))
@@ -160,7 +160,7 @@ look_cell process notes_end stage looks = absurd looks
 pub look_step : (words : Words) (process : Process) (pid : Pid) (notes_end : Bool) (word : ℕ)
     → pid ≡ pid_in process
     → IsProcessOf words process → IsLooking notes_end (phase_in process)
-    → word ≡ place (sizes_of words) (FlagsOf pid.0)
+    → word ≡ index_of (sizes_of words) (FlagsOf pid.0)
     → IsStep (sizes_of words) (Look pid) (part_of process) word (λ n. n)
 look_step words process pid notes_end word pid_is is looks word_is =
     subst (λ (p : Pid). IsStep (sizes_of words) (Look p) (part_of process) word (λ n. n))
@@ -168,7 +168,7 @@ look_step words process pid notes_end word pid_is is looks word_is =
     (own_step words process (Look (pid_in process)) (phase_in process) (FlagsOf process.pid) word
     (λ n. n)
     is refl refl (λ at same. same) refl (look_cell process notes_end (phase_in process) looks)
-    is.pid (word_is ∙ ap (λ (p : Pid). place (sizes_of words) (FlagsOf p.0)) pid_is)
+    is.pid (word_is ∙ ap (λ (p : Pid). index_of (sizes_of words) (FlagsOf p.0)) pid_is)
     (λ found. look_does process notes_end (phase_in process) found looks))
 
 -- Withdraw
@@ -189,7 +189,7 @@ withdraw_does process rendez word fits = absurd fits
 pub withdraw_step : (words : Words) (process : Process) (pid : Pid) (rendez : RendezId) (word : ℕ)
     → pid ≡ pid_in process
     → IsProcessOf words process → phase_in process ≡ phase.Leaving rendez
-    → word ≡ place (sizes_of words) (PostedOf rendez.0)
+    → word ≡ index_of (sizes_of words) (PostedOf rendez.0)
     → IsStep (sizes_of words) (Withdraw pid) (part_of process) word
     (λ n. either (eqb n (pid.0 + 1)) 0 n)
 withdraw_step words process pid rendez word pid_is is leaving word_is =
@@ -232,7 +232,7 @@ clear_cell process stage ends = absurd ends
 -- a clear by a process whose sleep ends is a swap of its own flags for none
 pub clear_step : (words : Words) (process : Process) (pid : Pid) (word : ℕ) → pid ≡ pid_in process
     → IsProcessOf words process → IsEnding (phase_in process)
-    → word ≡ place (sizes_of words) (FlagsOf pid.0)
+    → word ≡ index_of (sizes_of words) (FlagsOf pid.0)
     → IsStep (sizes_of words) (Clear pid) (part_of process) word (λ _. 0)
 clear_step words process pid word pid_is is ends word_is =
     subst (λ (p : Pid). IsStep (sizes_of words) (Clear p) (part_of process) word (λ _. 0))
@@ -240,7 +240,7 @@ clear_step words process pid word pid_is is ends word_is =
     (own_step words process (Clear (pid_in process)) (phase_in process) (FlagsOf process.pid) word
     (λ _. 0)
     is refl refl (λ at same. same) refl (clear_cell process (phase_in process) ends) is.pid (word_is
-    ∙ ap (λ (p : Pid). place (sizes_of words) (FlagsOf p.0)) pid_is)
+    ∙ ap (λ (p : Pid). index_of (sizes_of words) (FlagsOf p.0)) pid_is)
     (λ found. clear_does process (phase_in process) found ends))
 
 -- Raise
@@ -255,7 +255,7 @@ raise_does process rendez level word fits = absurd fits
 pub raise_step : (words : Words) (process : Process) (pid : Pid) (rendez : RendezId)
     (level word : ℕ) → pid ≡ pid_in process
     → IsProcessOf words process → phase_in process ≡ phase.Idle → rendez.0 < rendez_of words
-    → word ≡ place (sizes_of words) (LevelOf rendez.0)
+    → word ≡ index_of (sizes_of words) (LevelOf rendez.0)
     → IsStep (sizes_of words) (Raise pid rendez level) (part_of process) word (λ n. max n level)
 raise_step words process pid rendez level word pid_is is idle there word_is =
     subst (λ (p : Pid). IsStep (sizes_of words) (Raise p rendez level) (part_of process) word
@@ -281,7 +281,7 @@ take_does process rendez level word fits = absurd fits
 pub take_step : (words : Words) (process : Process) (pid : Pid) (rendez : RendezId) (level word : ℕ)
     → pid ≡ pid_in process
     → IsProcessOf words process → phase_in process ≡ phase.Owing rendez level
-    → word ≡ place (sizes_of words) (PostedOf rendez.0)
+    → word ≡ index_of (sizes_of words) (PostedOf rendez.0)
     → IsStep (sizes_of words) (Take pid) (part_of process) word (λ _. 0)
 take_step words process pid rendez level word pid_is is owing word_is =
     subst (λ (p : Pid). IsStep (sizes_of words) (Take p) (part_of process) word (λ _. 0))
@@ -304,7 +304,7 @@ mark_does process sleeper rendez level word fits = absurd fits
 pub mark_step : (words : Words) (process : Process) (pid : Pid) (sleeper : Pid) (rendez : RendezId)
     (level word bits : ℕ) → pid ≡ pid_in process
     → IsProcessOf words process → phase_in process ≡ phase.Holding sleeper rendez level
-    → word ≡ place (sizes_of words) (FlagsOf sleeper.0)
+    → word ≡ index_of (sizes_of words) (FlagsOf sleeper.0)
     → bits ≡ flags_word (record { wake = true; notes = no_notes })
     → IsStep (sizes_of words) (Mark pid) (part_of process) word (λ n. bit_or n bits)
 mark_step words process pid sleeper rendez level word bits pid_is is holding word_is bits_are =
@@ -328,7 +328,7 @@ note_does pid new stage word fits = absurd fits
 -- a note sets its bits, and not the mark, among the flags of whom it is posted to
 pub note_step : (words : Words) (process : Process) (pid : Pid) (new : NoteSet) (word bits : ℕ)
     → pid.0 < procs_of words
-    → word ≡ place (sizes_of words) (FlagsOf pid.0)
+    → word ≡ index_of (sizes_of words) (FlagsOf pid.0)
     → bits ≡ flags_word (record { wake = false; notes = new })
     → IsStep (sizes_of words) (Note pid new) (part_of process) word (λ n. bit_or n bits)
 note_step words process pid new word bits there word_is bits_are =
@@ -352,14 +352,14 @@ drain_does process word fits = absurd fits
 -- a drain by an idle process is a swap of its own flags for none
 pub drain_step : (words : Words) (process : Process) (pid : Pid) (word : ℕ) → pid ≡ pid_in process
     → IsProcessOf words process → phase_in process ≡ phase.Idle
-    → word ≡ place (sizes_of words) (FlagsOf pid.0)
+    → word ≡ index_of (sizes_of words) (FlagsOf pid.0)
     → IsStep (sizes_of words) (Drain pid) (part_of process) word (λ _. 0)
 drain_step words process pid word pid_is is idle word_is =
     subst (λ (p : Pid). IsStep (sizes_of words) (Drain p) (part_of process) word (λ _. 0))
     (sym pid_is)
     (own_step words process (Drain (pid_in process)) phase.Idle (FlagsOf process.pid) word (λ _. 0)
     is refl refl (λ at same. same) idle refl is.pid (word_is
-    ∙ ap (λ (p : Pid). place (sizes_of words) (FlagsOf p.0)) pid_is) (drain_does process))
+    ∙ ap (λ (p : Pid). index_of (sizes_of words) (FlagsOf p.0)) pid_is) (drain_does process))
 
 -- Check
 check_does : (process : Process) (rendez : RendezId) (threshold : ℕ) (found : Word)
@@ -379,7 +379,7 @@ check_does process rendez threshold word fits = absurd fits
 pub check_step : (words : Words) (process : Process) (pid : Pid) (rendez : RendezId)
     (threshold word : ℕ) → pid ≡ pid_in process
     → IsProcessOf words process → phase_in process ≡ phase.Asleep rendez threshold
-    → word ≡ place (sizes_of words) (PostedOf rendez.0)
+    → word ≡ index_of (sizes_of words) (PostedOf rendez.0)
     → IsStep (sizes_of words) (Check pid) (part_of process) word (λ n. n)
 check_step words process pid rendez threshold word pid_is is asleep word_is =
     subst (λ (p : Pid). IsStep (sizes_of words) (Check p) (part_of process) word (λ n. n))

@@ -1,11 +1,11 @@
 pub mod BrokenLemmas
 pub mod CheckKeeps
 pub mod FlagsLemmas
+pub mod IndexLemmas
 pub mod KindSteps
 pub mod LawLemmas
 pub mod LineLemmas
 pub mod OpeningKeeps
-pub mod PlaceLemmas
 pub mod ProcessLemmas
 pub mod ReceiptLemmas
 pub mod ReleasedLemmas

@@ -22,8 +22,8 @@ use Rattle.rendez_words.specs.declared.view.View.{View}
 use Rattle.rendez_words.specs.declared.words.Words.{Words}
 use Rattle.rendez_words.specs.Plays.{Seated, number_of, HasChecked, IsStep, part_of}
 use Rattle.rendez_words.specs.Process.{Process, phase_in, pid_in}
-use Rattle.rendez_words.specs.Rule.{place}
-use Rattle.rendez_words.specs.States.{Place, process_at, IsPlaceOf}
+use Rattle.rendez_words.specs.Rule.{index_of}
+use Rattle.rendez_words.specs.States.{Stepper, process_at, IsStepperOf}
 use Rattle.rendez_words.specs.View.{part_in, sleeper_in, raiser_in, joined_view}
 use Rattle.rendez_words.specs.Words.{IsProcessOf, sizes_of}
 use Rattle.rendez_words.proofs.KindSteps.{check_step}
@@ -86,19 +86,19 @@ is_true a b differ = by_test (eqb_tells a b)
     by_test (inr other) = ap not other.0
 
 -- what a seat that was joined knew
-pub joined_first : (at : Place) (pid : ℕ) (process : Process) (joined : Seated) (other : View)
-    → IsPlaceOf at pid → process_at at pid ≡ process → joined ≡ (joined_view at.me.0 other, [])
+pub joined_first : (at : Stepper) (pid : ℕ) (process : Process) (joined : Seated) (other : View)
+    → IsStepperOf at pid → process_at at pid ≡ process → joined ≡ (joined_view at.me.0 other, [])
     → sleeper_in joined.0 ≡ part_of process
-joined_first at pid process joined other placed is joined_is =
-    ap (λ (me : Seated). sleeper_in me.0) joined_is ∙ ap (λ (me : Seated). part_in me.0) placed
+joined_first at pid process joined other stepper_is is joined_is =
+    ap (λ (me : Seated). sleeper_in me.0) joined_is ∙ ap (λ (me : Seated). part_in me.0) stepper_is
     ∙ ap part_of is
 
 -- and what the other seat knew
-pub joined_second : (at : Place) (pid : ℕ) (process : Process) (joined : Seated) (first : View)
-    → IsPlaceOf at pid → process_at at pid ≡ process → joined ≡ (joined_view first at.me.0, [])
+pub joined_second : (at : Stepper) (pid : ℕ) (process : Process) (joined : Seated) (first : View)
+    → IsStepperOf at pid → process_at at pid ≡ process → joined ≡ (joined_view first at.me.0, [])
     → raiser_in joined.0 ≡ part_of process
-joined_second at pid process joined first placed is joined_is =
-    ap (λ (me : Seated). raiser_in me.0) joined_is ∙ ap (λ (me : Seated). part_in me.0) placed
+joined_second at pid process joined first stepper_is is joined_is =
+    ap (λ (me : Seated). raiser_in me.0) joined_is ∙ ap (λ (me : Seated). part_in me.0) stepper_is
     ∙ ap part_of is
 
 -- the check asks what its row of the table says
@@ -106,7 +106,7 @@ pub check_asks : (words : Words) (process : Process) (pid : Pid) (rendez : Rende
     (threshold word : ℕ) (joined : Seated) → pid ≡ pid_in process
     → sleeper_in joined.0 ≡ part_of process → IsProcessOf words process
     → phase_in process ≡ phase.Asleep rendez threshold
-    → word ≡ place (sizes_of words) (PostedOf rendez.0)
+    → word ≡ index_of (sizes_of words) (PostedOf rendez.0)
     → IsStep (sizes_of words) (Check pid) (sleeper_in joined.0) word (λ n. n)
 check_asks words process pid rendez threshold word joined pid_is sleeper_is is asleep word_is =
     subst (λ (part : Part). IsStep (sizes_of words) (Check pid) part word (λ n. n)) (sym sleeper_is)

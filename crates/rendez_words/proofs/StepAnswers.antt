@@ -9,14 +9,14 @@ use Rattle.rendez_words.specs.declared.view.Part.{Part}
 use Rattle.rendez_words.specs.declared.view.Sizes.{Sizes}
 use Rattle.rendez_words.specs.Plays.{IsCellIn, part_of, IsStep, HasStepped}
 use Rattle.rendez_words.specs.Process.{Process}
-use Rattle.rendez_words.specs.Rule.{place, ShowsCore}
-use Rattle.rendez_words.specs.States.{Place, process_at, IsPlaceOf}
+use Rattle.rendez_words.specs.Rule.{index_of, ShowsCore}
+use Rattle.rendez_words.specs.States.{Stepper, process_at, IsStepperOf}
 use Rattle.rendez_words.specs.View.{word_count}
 use Rattle.rendez_words.proofs.StepKeeps.{step_keeps}
 
--- the place of a cell is one of the words
+-- the word of a cell is one of the words
 in_words : (sizes : Sizes) (cell : Cell) → IsCellIn sizes cell
-    → place sizes cell < word_count sizes
+    → index_of sizes cell < word_count sizes
 in_words sizes (PostedOf rendez) there = omega arith
 in_words sizes (LevelOf rendez) there = omega arith
 in_words sizes (FlagsOf pid) there = omega arith
@@ -33,14 +33,14 @@ step_in sizes key event part word words does same count step =
     (in_words sizes step.cell step.cell_in)))
 
 -- a step by the seat of a process keeps the rule, and makes its event
-pub step_allowed : (sizes key : Sizes) (at : Place) (pid : ℕ) (process : Process) (slots : ℕ)
-    (event : Event) (word : ℕ) (does : ℕ → ℕ) → sizes ≡ key → IsPlaceOf at pid
+pub step_allowed : (sizes key : Sizes) (at : Stepper) (pid : ℕ) (process : Process) (slots : ℕ)
+    (event : Event) (word : ℕ) (does : ℕ → ℕ) → sizes ≡ key → IsStepperOf at pid
     → process_at at pid ≡ process
     → IsStep sizes event (part_of process) word does
     → table.Allows (ShowsCore key) slots at.id at.me word does
     (λ found after. HasStepped sizes event at.me found after)
-step_allowed sizes key at pid process slots event word does same placed is step =
+step_allowed sizes key at pid process slots event word does same stepper_is is step =
     subst (λ (k : Sizes). table.Allows (ShowsCore k) slots at.id at.me word does
     (λ found after. HasStepped sizes event at.me found after)) same
-    (step_keeps sizes slots at.id at.me (part_of (process_at at pid)) event word does placed
+    (step_keeps sizes slots at.id at.me (part_of (process_at at pid)) event word does stepper_is
     (subst (λ (p : Process). IsStep sizes event (part_of p) word does) (sym is) step))

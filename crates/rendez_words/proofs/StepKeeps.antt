@@ -19,8 +19,8 @@ use Rattle.rendez_words.specs.declared.view.Sizes.{Sizes}
 use Rattle.rendez_words.specs.declared.view.View.TheVariants as view
 use Rattle.rendez_words.specs.Plays.{Seated, IsStage, number_of, IsCellIn, part_after, IsStep}
 use Rattle.rendez_words.specs.Plays.{HasMade, HasStepped}
-use Rattle.rendez_words.specs.Rule.{words_of, place, IsSeated, Fits, ShowsCore}
-use Rattle.rendez_words.proofs.PlaceLemmas.{HasSizes, word_of_cell, read_there, words_after}
+use Rattle.rendez_words.specs.Rule.{words_of, index_of, IsSeated, Fits, ShowsCore}
+use Rattle.rendez_words.proofs.IndexLemmas.{HasSizes, word_of_cell, read_there, words_after}
 use Rattle.rendez_words.proofs.RunLemmas.{trace_more, fits_still, stage_of}
 
 -- a run leaves a world of its sizes
@@ -57,7 +57,7 @@ pub record Comes (sizes : Sizes) (run : List Entry) (event : Event) (part : Part
   pub there : IsCellIn sizes (cell_of event stage)
   -- the world answers the event as its row of the table says
   pub answered : answer_to (world_of sizes.procs sizes.rendez run) event ≡ reply event stage found
-  -- the table has that word's number at this place
+  -- the table has that word's number at this index
   pub read : get_or (words_of (world_of sizes.procs sizes.rendez run)) word 0 ≡ number_of found
   -- the words after the event are those before it, with what the step makes of this one
   pub written : words_of (world_after (world_of sizes.procs sizes.rendez run) event)
@@ -107,8 +107,8 @@ comes sizes run event part word does legal trace_is step =
     found : Word
     found = word_at w (cell_of event stage)
 
-    at_word : word ≡ place sizes (cell_of event stage)
-    at_word = step.word_is ∙ ap (place sizes) (sym cell_is)
+    at_word : word ≡ index_of sizes (cell_of event stage)
+    at_word = step.word_is ∙ ap (index_of sizes) (sym cell_is)
 
     due : IsDue w event stage found
     due =

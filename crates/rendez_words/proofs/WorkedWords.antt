@@ -5,7 +5,7 @@ use Rattle.sync_base.specs.declared.note.Note.TheVariants.{Expired}
 use Rattle.sync_base.specs.NoteSet.{no_notes, only, joined}
 use Rattle.sleep_core.specs.Table.Cell.{PostedOf, LevelOf, FlagsOf}
 use Rattle.rendez_words.specs.FlagsWord.{flags_word}
-use Rattle.rendez_words.specs.Rule.{words_of, place}
+use Rattle.rendez_words.specs.Rule.{words_of, index_of}
 use Rattle.rendez_words.specs.View.{word_count}
 
 the_mark_is_the_lowest_bit : flags_word (record { wake = true; notes = no_notes }) ≡ 1
@@ -31,13 +31,13 @@ then_expired : flags_word (record { wake = false; notes = joined (only Expired) 
 then_expired = refl
 
 -- of three processes and two Rendez
-a_posted_word : place (record { procs = 3; rendez = 2 }) (PostedOf 1) ≡ 8
+a_posted_word : index_of (record { procs = 3; rendez = 2 }) (PostedOf 1) ≡ 8
 a_posted_word = refl
 
-a_level : place (record { procs = 3; rendez = 2 }) (LevelOf 1) ≡ 9
+a_level : index_of (record { procs = 3; rendez = 2 }) (LevelOf 1) ≡ 9
 a_level = refl
 
-some_flags : place (record { procs = 3; rendez = 2 }) (FlagsOf 2) ≡ 32
+some_flags : index_of (record { procs = 3; rendez = 2 }) (FlagsOf 2) ≡ 32
 some_flags = refl
 
 how_many_words : word_count (record { procs = 3; rendez = 2 }) ≡ 40

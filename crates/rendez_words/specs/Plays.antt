@@ -17,7 +17,7 @@ use Rattle.rendez_words.specs.declared.view.View.{View}
 use Rattle.rendez_words.specs.declared.view.View.TheVariants as view
 use Rattle.rendez_words.specs.FlagsWord.{flags_word}
 use Rattle.rendez_words.specs.Process.{Process, IsOfRun}
-use Rattle.rendez_words.specs.Rule.{place}
+use Rattle.rendez_words.specs.Rule.{index_of}
 use Rattle.rendez_words.specs.View.{part_in, sleeper_in, raiser_in}
 
 -- what a seat knows and what it holds
@@ -72,7 +72,7 @@ pub record IsStep (sizes : Sizes) (event : Event) (part : Part) (word : ℕ)
   pub pid_in : (pid_of event).0 < sizes.procs
   pub cell_is : (stage : Phase) → IsStage part.trace event stage → cell_of event stage ≡ cell
   pub cell_in : IsCellIn sizes cell
-  pub word_is : word ≡ place sizes cell
+  pub word_is : word ≡ index_of sizes cell
   pub does_is : (stage : Phase) → IsStage part.trace event stage
       → (found : Word) → IsWordOf cell found
       → does (number_of found) ≡ number_of (word_after event stage found)

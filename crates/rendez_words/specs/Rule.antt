@@ -35,11 +35,11 @@ words_of state =
     flat_map rendez_line (zip state.posted state.levels) ++ flat_map proc_line state.flags
 
 -- where the word of a cell lies among them
-abbrev pub place : Sizes → Cell → ℕ
-place sizes (PostedOf rendez) = LINE * rendez
-place sizes (LevelOf rendez) = LINE * rendez + 1
-place sizes (FlagsOf pid) = LINE * (sizes.rendez + pid)
-place sizes NoCell = 0
+abbrev pub index_of : Sizes → Cell → ℕ
+index_of sizes (PostedOf rendez) = LINE * rendez
+index_of sizes (LevelOf rendez) = LINE * rendez + 1
+index_of sizes (FlagsOf pid) = LINE * (sizes.rendez + pid)
+index_of sizes NoCell = 0
 
 -- A seat has this process: no other seat has its pid, and its trace is what the run has of it, but
 -- for what is not worth keeping.

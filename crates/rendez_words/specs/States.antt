@@ -15,24 +15,24 @@ use Rattle.rendez_words.specs.Plays.{Seated}
 use Rattle.rendez_words.specs.View.{part_in, sleeper_in, raiser_in, next_in}
 
 -- the seat at the table with which steps are made
-abbrev pub Place : Type 0
-Place = Seat (Unit {0}) View
+abbrev pub Stepper : Type 0
+Stepper = Seat (Unit {0}) View
 
-abbrev pub process_at : Place → ℕ → Process
-process_at place pid =
-    record { table = place.table_id; pid = pid; trace = (part_in place.me.0).trace }
+abbrev pub process_at : Stepper → ℕ → Process
+process_at stepper pid =
+    record { table = stepper.table_id; pid = pid; trace = (part_in stepper.me.0).trace }
 
 -- the seat is that of this process
-abbrev pub IsPlaceOf : Place → ℕ → Type 0
-IsPlaceOf place pid =
-    place.me ≡ (view.Process (record { pid = pid; trace = (part_in place.me.0).trace }), [])
+abbrev pub IsStepperOf : Stepper → ℕ → Type 0
+IsStepperOf stepper pid =
+    stepper.me ≡ (view.Process (record { pid = pid; trace = (part_in stepper.me.0).trace }), [])
 
-abbrev pub pids_at : Place → PidsLeft
-pids_at place = record { table = place.table_id; next = next_in place.me.0 }
+abbrev pub pids_at : Stepper → PidsLeft
+pids_at stepper = record { table = stepper.table_id; next = next_in stepper.me.0 }
 
 -- the seat is that of the pids to come, from this one on
-abbrev pub IsPlaceOfPids : Place → ℕ → Type 0
-IsPlaceOfPids place next = place.me ≡ (view.Pids next, [])
+abbrev pub IsStepperOfPids : Stepper → ℕ → Type 0
+IsStepperOfPids stepper next = stepper.me ≡ (view.Pids next, [])
 
 abbrev pub IsPosted : Process → RendezId → ℕ → Type 0
 IsPosted process rendez threshold = phase_in process ≡ phase.Posted rendez threshold

@@ -1,4 +1,4 @@
-//! The flags of a process as one word, and back: the one place that knows the bits. The reader
+//! The flags of a process as one word, and back: the one file that knows the bits. The reader
 //! comes from `lib`.
 ghost use Rattle.std.specs.Prelude.{◌≡◌, Bool, List, ◌∷◌, if◌then◌else◌};
 ghost use Rattle.sleep_core.specs.declared.phase.ProcFlags.{ProcFlags};

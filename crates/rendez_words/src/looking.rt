@@ -8,13 +8,13 @@ ghost use Rattle.sleep_core.specs.declared.event.Event.TheVariants.{Look};
 ghost use Rattle.rendez_words.specs.FlagsWord.{flags_word};
 ghost use Rattle.rendez_words.specs.Plays.{HasMade, part_of};
 ghost use Rattle.rendez_words.specs.Process.{phase_in, pid_in};
-ghost use Rattle.rendez_words.specs.Rule.{place};
+ghost use Rattle.rendez_words.specs.Rule.{index_of};
 ghost use Rattle.rendez_words.specs.States.{IsLooking, EndsWait, KeepsWait};
 ghost use Rattle.rendez_words.specs.Words.{IsProcessOf, sizes_of, procs_of};
 
 use crate::flags_word::flags_in;
 use crate::parking::Announced;
-use crate::states::Stepper;
+use crate::states::Doer;
 use crate::words::Words;
 use sleep_core::{Event, ProcFlags};
 use std::sync::Wait;
@@ -28,19 +28,19 @@ pub(crate) struct Seen<'a> {
 
 impl Words {
     /// Looks at the flags of the process: what they are where they end its wait, or else the word.
-    pub(crate) fn look_at(&self, stepper: &mut Stepper, notes_end: bool) -> Result<ProcFlags, u64>
-        requires process { IsProcessOf self.now stepper.old }
-        requires looking { IsLooking notes_end (phase_in stepper.old) }
-        ensures table { stepper.new.table ≡ stepper.old.table }
+    pub(crate) fn look_at(&self, doer: &mut Doer, notes_end: bool) -> Result<ProcFlags, u64>
+        requires process { IsProcessOf self.now doer.old }
+        requires looking { IsLooking notes_end (phase_in doer.old) }
+        ensures table { doer.new.table ≡ doer.old.table }
         ensures made { MatchResult result
-            (λ flags. HasMade (sizes_of self.now) (Look (pid_in stepper.old))
-            (part_of stepper.old) (flags_word flags) (part_of stepper.new))
-            (λ word. HasMade (sizes_of self.now) (Look (pid_in stepper.old))
-            (part_of stepper.old) word (part_of stepper.new)) }
+            (λ flags. HasMade (sizes_of self.now) (Look (pid_in doer.old))
+            (part_of doer.old) (flags_word flags) (part_of doer.new))
+            (λ word. HasMade (sizes_of self.now) (Look (pid_in doer.old))
+            (part_of doer.old) word (part_of doer.new)) }
         ensures ends { IfOk result (EndsWait notes_end) }
-        ensures same { OnErr result (stepper.new ≡ stepper.old) }
+        ensures same { OnErr result (doer.new ≡ doer.old) }
     {
-        let word = self.look_once(stepper, notes_end);
+        let word = self.look_once(doer, notes_end);
         let flags = flags_in(word);
         if ends_wait(flags, notes_end) {
             Ok(flags)
@@ -54,24 +54,24 @@ impl Words {
     pub(crate) fn look_behind<'a>(
         &self,
         announced: &'a Announced,
-        stepper: &mut Stepper,
+        doer: &mut Doer,
         notes_end: bool,
     ) -> Result<ProcFlags, Seen<'a>>
-        requires process { IsProcessOf self.now stepper.old }
-        requires looking { IsLooking notes_end (phase_in stepper.old) }
-        requires own { announced.now.said.pid ≡ stepper.old.pid }
-        ensures table { stepper.new.table ≡ stepper.old.table }
+        requires process { IsProcessOf self.now doer.old }
+        requires looking { IsLooking notes_end (phase_in doer.old) }
+        requires own { announced.now.said.pid ≡ doer.old.pid }
+        ensures table { doer.new.table ≡ doer.old.table }
         ensures made { MatchResult result
-            (λ flags. HasMade (sizes_of self.now) (Look (pid_in stepper.old))
-            (part_of stepper.old) (flags_word flags) (part_of stepper.new))
-            (λ seen. HasMade (sizes_of self.now) (Look (pid_in stepper.old))
-            (part_of stepper.old) seen.word (part_of stepper.new)) }
+            (λ flags. HasMade (sizes_of self.now) (Look (pid_in doer.old))
+            (part_of doer.old) (flags_word flags) (part_of doer.new))
+            (λ seen. HasMade (sizes_of self.now) (Look (pid_in doer.old))
+            (part_of doer.old) seen.word (part_of doer.new)) }
         ensures ends { IfOk result (EndsWait notes_end) }
-        ensures same { OnErr result (stepper.new ≡ stepper.old) }
+        ensures same { OnErr result (doer.new ≡ doer.old) }
         ensures announced { IfErr result (λ seen.
             seen.announced.now.said.pid ≡ announced.now.said.pid) }
     {
-        match self.look_at(stepper, notes_end) {
+        match self.look_at(doer, notes_end) {
             Ok(flags) => Ok(flags),
             Err(word) => Err(Seen { announced, word }),
         }
@@ -89,7 +89,7 @@ impl Words {
     // Parks on the word of its flags.
     fn park_at<R: Wait>(&self, rt: &R, seen: Seen<'_>, word: usize, expected: u32)
         requires pid { seen.announced.now.said.pid < procs_of self.now }
-        requires word { word ≡ place (sizes_of self.now) (FlagsOf seen.announced.now.said.pid) }
+        requires word { word ≡ index_of (sizes_of self.now) (FlagsOf seen.announced.now.said.pid) }
         requires expected { expected ≡ seen.word % 2 ^ 32 }
     {
         let Seen {
@@ -101,16 +101,16 @@ impl Words {
 
     // Step Look: load of the flags. Seat: Asleep, then Woken or Leaving, or Awaiting, then Woken;
     // as it was where the flags don't end its wait.
-    fn look_once(&self, stepper: &mut Stepper, notes_end: bool) -> u64
-        requires process { IsProcessOf self.now stepper.old }
-        requires looking { IsLooking notes_end (phase_in stepper.old) }
-        ensures table { stepper.new.table ≡ stepper.old.table }
-        ensures made { HasMade (sizes_of self.now) (Look (pid_in stepper.old))
-            (part_of stepper.old) result (part_of stepper.new) }
+    fn look_once(&self, doer: &mut Doer, notes_end: bool) -> u64
+        requires process { IsProcessOf self.now doer.old }
+        requires looking { IsLooking notes_end (phase_in doer.old) }
+        ensures table { doer.new.table ≡ doer.old.table }
+        ensures made { HasMade (sizes_of self.now) (Look (pid_in doer.old))
+            (part_of doer.old) result (part_of doer.new) }
     {
         let _ = notes_end;
-        let pid = stepper.pid();
-        self.load(stepper, self.flags_word(pid), Event::Look { pid })
+        let pid = doer.pid();
+        self.load(doer, self.flags_word(pid), Event::Look { pid })
     }
 }
 

@@ -39,13 +39,13 @@ impl Words {
             let fault = Fault::NoRendez;
             return Err(Refused { seat, fault });
         }
-        let Seat { mut stepper } = seat;
-        let pid = stepper.pid();
+        let Seat { mut doer } = seat;
+        let pid = doer.pid();
         let event = Event::Raise { pid, rendez, level };
         let word = self.level_word(rendez);
-        self.fetch_max(&mut stepper, word, level, event);
+        self.fetch_max(&mut doer, word, level, event);
         Ok(Owing {
-            stepper,
+            doer,
             rendez,
             level,
         })
@@ -70,21 +70,21 @@ impl Words {
             (λ returned. IsProcessOf self.now returned.seat) (IsProcessOf self.now) }
     {
         let Owing {
-            mut stepper,
+            mut doer,
             rendez,
             level,
         } = owing;
-        let pid = stepper.pid();
+        let pid = doer.pid();
         let event = Event::Take { pid };
         let word = self.posted_word(rendez);
-        let found = self.swap(&mut stepper, word, NOBODY, event);
+        let found = self.swap(&mut doer, word, NOBODY, event);
         if found == NOBODY {
-            let seat = Seat { stepper };
+            let seat = Seat { doer };
             let done = Done { rendez, level };
             TakeAnswer::Nobody(Returned { seat, done })
         } else {
             TakeAnswer::Holding(Holding {
-                stepper,
+                doer,
                 sleeper: Pid(found - 1),
                 rendez,
                 level,
@@ -105,20 +105,20 @@ impl Words {
         ensures words { IsProcessOf self.now result.seat }
     {
         let Holding {
-            mut stepper,
+            mut doer,
             sleeper,
             rendez,
             level,
         } = holding;
-        let pid = stepper.pid();
+        let pid = doer.pid();
         let event = Event::Mark { pid };
         let mark = word_from(ProcFlags {
             wake: true,
             notes: NoteSet::empty(),
         });
-        let unwoken = self.set_flags(&mut stepper, sleeper, mark, event);
-        self.wake(unwoken, &stepper);
-        let seat = Seat { stepper };
+        let unwoken = self.set_flags(&mut doer, sleeper, mark, event);
+        self.wake(unwoken, &doer);
+        let seat = Seat { doer };
         let done = Done { rendez, level };
         Returned { seat, done }
     }

@@ -1,15 +1,15 @@
 //! Whether a sleeper was released, asked by a process whose wakeup has returned.
 ghost use Rattle.std.specs.Prelude.{◌≡◌, ◌<◌, ℕ, IsTrue, []};
 ghost use Rattle.rendez_words.specs.Plays.{IsStep, HasChecked};
-ghost use Rattle.rendez_words.specs.States.{IsAsleep, IsPlaceOf, IsJoined, IsUnkept};
+ghost use Rattle.rendez_words.specs.States.{IsAsleep, IsStepperOf, IsJoined, IsUnkept};
 ghost use Rattle.rendez_words.specs.View.{part_in, sleeper_in, joined_view};
 ghost use Rattle.rendez_words.specs.View.{sleeper_view, raiser_view};
 ghost use Rattle.rendez_words.specs.Words.{IsProcessOf, HasReceipt, IsChecked};
 ghost use Rattle.rendez_words.specs.Words.{table_of, sizes_of};
 
 use crate::plays::{CheckPosted, CutParts, JoinParts, Making};
-use crate::rule::Place;
-use crate::states::{Asleep, Checked, Done, Seat, Stepper};
+use crate::rule::Stepper;
+use crate::states::{Asleep, Checked, Doer, Done, Seat};
 use crate::words::Words;
 use sleep_core::Event;
 use std::marker::Brand;
@@ -40,83 +40,85 @@ impl Words {
         ensures seat { result.seat ≡ seat }
     {
         let Asleep {
-            stepper,
+            doer,
             rendez,
             threshold,
         } = asleep;
-        let Stepper { mut place, pid } = stepper;
-        let Seat { stepper: raiser } = seat;
-        let Stepper {
-            place: other,
+        let Doer { mut stepper, pid } = doer;
+        let Seat { doer: raiser } = seat;
+        let Doer {
+            stepper: other,
             pid: other_pid,
         } = raiser;
-        self.join(&mut place, other);
+        self.join(&mut stepper, other);
         let event = Event::Check { pid: Pid(pid) };
-        let found = self.check(&mut place, self.posted_word(rendez), event);
-        let other = self.cut(&mut place);
-        let stepper = Stepper { place, pid };
-        let raiser = Stepper {
-            place: other,
+        let found = self.check(&mut stepper, self.posted_word(rendez), event);
+        let other = self.cut(&mut stepper);
+        let doer = Doer { stepper, pid };
+        let raiser = Doer {
+            stepper: other,
             pid: other_pid,
         };
         Checked {
             asleep: Asleep {
-                stepper,
+                doer,
                 rendez,
                 threshold,
             },
-            seat: Seat { stepper: raiser },
+            seat: Seat { doer: raiser },
             released: found != pid + 1,
         }
     }
 
     // Step Join: join of the sleeper's and the raiser's seats, a load of word 0.
     // Seat: the sleeper's, then joined, with what both knew. The other is spent.
-    fn join(&self, place: &mut Place, other: Place)
-        requires place { place.old.table_id ≡ table_of self.now }
+    fn join(&self, stepper: &mut Stepper, other: Stepper)
+        requires stepper { stepper.old.table_id ≡ table_of self.now }
         requires other { other.table_id ≡ table_of self.now }
-        requires first { IsPlaceOf place.old (part_in place.old.me.0).pid }
-        requires second { IsPlaceOf other (part_in other.me.0).pid }
-        ensures table { place.new.table_id ≡ place.old.table_id }
-        ensures joined { place.new.me ≡ (joined_view place.old.me.0 other.me.0, []) }
+        requires first { IsStepperOf stepper.old (part_in stepper.old.me.0).pid }
+        requires second { IsStepperOf other (part_in other.me.0).pid }
+        ensures table { stepper.new.table_id ≡ stepper.old.table_id }
+        ensures joined { stepper.new.me ≡ (joined_view stepper.old.me.0 other.me.0, []) }
     {
-        self.table.shared.join_seat::<JoinParts>(place, other);
+        self.table.shared.join_seat::<JoinParts>(stepper, other);
     }
 
     // Step Check: load of the posted word. Seat: joined, and as it was.
-    fn check(&self, place: &mut Place, word: usize, event: Event) -> u64
-        requires place { place.old.table_id ≡ table_of self.now }
-        requires joined { IsJoined place.old.me }
-        requires step { IsStep (sizes_of self.now) event (sleeper_in place.old.me.0) word (λ n. n) }
+    fn check(&self, stepper: &mut Stepper, word: usize, event: Event) -> u64
+        requires stepper { stepper.old.table_id ≡ table_of self.now }
+        requires joined { IsJoined stepper.old.me }
+        requires step { IsStep (sizes_of self.now) event (sleeper_in stepper.old.me.0)
+            word (λ n. n) }
         requires unkept { IsUnkept event }
-        ensures table { place.new.table_id ≡ place.old.table_id }
-        ensures checked { HasChecked (sizes_of self.now) event place.old.me result place.new.me }
+        ensures table { stepper.new.table_id ≡ stepper.old.table_id }
+        ensures checked { HasChecked (sizes_of self.now) event
+            stepper.old.me result stepper.new.me }
     {
-        self.check_for::<Brand>(place, word, &event)
+        self.check_for::<Brand>(stepper, word, &event)
     }
 
-    fn check_for<M: Making>(&self, place: &mut Place, word: usize, _event: &Event) -> u64
+    fn check_for<M: Making>(&self, stepper: &mut Stepper, word: usize, _event: &Event) -> u64
         requires sizes { M.sizes ≡ sizes_of self.now }
-        requires place { place.old.table_id ≡ table_of self.now }
-        requires joined { IsJoined place.old.me }
-        requires step { IsStep M.sizes M.event (sleeper_in place.old.me.0) word (λ n. n) }
+        requires stepper { stepper.old.table_id ≡ table_of self.now }
+        requires joined { IsJoined stepper.old.me }
+        requires step { IsStep M.sizes M.event (sleeper_in stepper.old.me.0) word (λ n. n) }
         requires unkept { IsUnkept M.event }
-        ensures table { place.new.table_id ≡ place.old.table_id }
-        ensures checked { HasChecked M.sizes M.event place.old.me result place.new.me }
+        ensures table { stepper.new.table_id ≡ stepper.old.table_id }
+        ensures checked { HasChecked M.sizes M.event stepper.old.me result stepper.new.me }
     {
-        self.table.shared.load::<CheckPosted<M>>(place, word)
+        self.table.shared.load::<CheckPosted<M>>(stepper, word)
     }
 
     // Step Cut: split of the joined seat, a load of word 0.
     // Seat: joined, then the sleeper's as it was. The new seat is the raiser's as it was.
-    fn cut(&self, place: &mut Place) -> Place
-        requires place { place.old.table_id ≡ table_of self.now }
-        requires joined { IsJoined place.old.me }
-        ensures table { place.new.table_id ≡ place.old.table_id }
-        ensures other_table { result.table_id ≡ place.old.table_id }
-        ensures sleeper { place.new.me ≡ (sleeper_view place.old.me.0, []) }
-        ensures raiser { result.me ≡ (raiser_view place.old.me.0, []) }
+    fn cut(&self, stepper: &mut Stepper) -> Stepper
+        requires stepper { stepper.old.table_id ≡ table_of self.now }
+        requires joined { IsJoined stepper.old.me }
+        ensures table { stepper.new.table_id ≡ stepper.old.table_id }
+        ensures other_table { result.table_id ≡ stepper.old.table_id }
+        ensures sleeper { stepper.new.me ≡ (sleeper_view stepper.old.me.0, []) }
+        ensures raiser { result.me ≡ (raiser_view stepper.old.me.0, []) }
     {
-        self.table.shared.split_seat::<CutParts>(place)
+        self.table.shared.split_seat::<CutParts>(stepper)
     }
 }

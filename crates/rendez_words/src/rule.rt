@@ -13,7 +13,7 @@ pub struct OneRun;
 
 pub type WordTable = Table<(), View, Sizes, OneRun, Global>;
 
-pub type Place = Seat<(), View>;
+pub type Stepper = Seat<(), View>;
 
 impl TableRule<(), View, Sizes> for OneRun {
     ghost holds = { ShowsCore };

@@ -53,24 +53,24 @@ impl Words {
             let fault = Fault::BadLevel;
             return Err(Refused { seat, fault });
         }
-        let Seat { mut stepper } = seat;
-        let pid = stepper.pid();
+        let Seat { mut doer } = seat;
+        let pid = doer.pid();
         let event = Event::Post {
             pid,
             rendez,
             threshold,
         };
         let word = self.posted_word(rendez);
-        let found = self.compare_exchange(&mut stepper, word, NOBODY, pid.0 + 1, event);
+        let found = self.compare_exchange(&mut doer, word, NOBODY, pid.0 + 1, event);
         if found == NOBODY {
             Ok(Posted {
-                stepper,
+                doer,
                 rendez,
                 threshold,
             })
         } else {
             let fault = Fault::DoubleSleep;
-            let seat = Seat { stepper };
+            let seat = Seat { doer };
             Err(Refused { seat, fault })
         }
     }
@@ -87,19 +87,19 @@ impl Words {
         ensures words { IfTested result (IsProcessOf self.now) (IsProcessOf self.now) }
     {
         let Posted {
-            mut stepper,
+            mut doer,
             rendez,
             threshold,
         } = posted;
-        let pid = stepper.pid();
+        let pid = doer.pid();
         let event = Event::Test { pid };
         let word = self.level_word(rendez);
-        let level = self.load(&mut stepper, word, event);
+        let level = self.load(&mut doer, word, event);
         if level > threshold {
-            TestAnswer::Leaving(Leaving { stepper, rendez })
+            TestAnswer::Leaving(Leaving { doer, rendez })
         } else {
             TestAnswer::Asleep(Asleep {
-                stepper,
+                doer,
                 rendez,
                 threshold,
             })
@@ -117,15 +117,15 @@ impl Words {
         ensures words { IfLooked result (IsProcessOf self.now) (IsProcessOf self.now) }
     {
         let Asleep {
-            mut stepper,
+            mut doer,
             rendez,
             threshold: _,
         } = asleep;
-        let flags = self.await_flags(rt, &mut stepper, true);
+        let flags = self.await_flags(rt, &mut doer, true);
         if flags.wake {
-            LookAnswer::Woken(Woken { stepper })
+            LookAnswer::Woken(Woken { doer })
         } else {
-            LookAnswer::Leaving(Leaving { stepper, rendez })
+            LookAnswer::Leaving(Leaving { doer, rendez })
         }
     }
 
@@ -139,19 +139,16 @@ impl Words {
             (λ awaiting. awaiting ≡ withdraws leaving answer.Awaiting) }
         ensures words { IfWithdrawn result (IsProcessOf self.now) (IsProcessOf self.now) }
     {
-        let Leaving {
-            mut stepper,
-            rendez,
-        } = leaving;
-        let pid = stepper.pid();
+        let Leaving { mut doer, rendez } = leaving;
+        let pid = doer.pid();
         let event = Event::Withdraw { pid };
         let word = self.posted_word(rendez);
         let posted_as = pid.0 + 1;
-        let found = self.compare_exchange(&mut stepper, word, posted_as, NOBODY, event);
+        let found = self.compare_exchange(&mut doer, word, posted_as, NOBODY, event);
         if found == posted_as {
-            WithdrawAnswer::Out(Out { stepper })
+            WithdrawAnswer::Out(Out { doer })
         } else {
-            WithdrawAnswer::Awaiting(Awaiting { stepper })
+            WithdrawAnswer::Awaiting(Awaiting { doer })
         }
     }
 
@@ -164,9 +161,9 @@ impl Words {
         ensures looked { result ≡ looks awaiting answer.Woken }
         ensures words { IsProcessOf self.now result }
     {
-        let Awaiting { mut stepper } = awaiting;
-        self.await_flags(rt, &mut stepper, false);
-        Woken { stepper }
+        let Awaiting { mut doer } = awaiting;
+        self.await_flags(rt, &mut doer, false);
+        Woken { doer }
     }
 
     /// Ends the sleep of a process that took itself out, and takes its notes.
@@ -177,9 +174,9 @@ impl Words {
         ensures cleared { result.seat ≡ clears out result.notes }
         ensures words { IsProcessOf self.now result.seat }
     {
-        let Out { mut stepper } = out;
-        let notes = self.clear(&mut stepper);
-        let seat = Seat { stepper };
+        let Out { mut doer } = out;
+        let notes = self.clear(&mut doer);
+        let seat = Seat { doer };
         Cleared { seat, notes }
     }
 
@@ -191,9 +188,9 @@ impl Words {
         ensures cleared { result.seat ≡ clears woken result.notes }
         ensures words { IsProcessOf self.now result.seat }
     {
-        let Woken { mut stepper } = woken;
-        let notes = self.clear(&mut stepper);
-        let seat = Seat { stepper };
+        let Woken { mut doer } = woken;
+        let notes = self.clear(&mut doer);
+        let seat = Seat { doer };
         Cleared { seat, notes }
     }
 }

@@ -1,29 +1,29 @@
 //! The states between two steps: each names the calls that spend it. A seat may be dropped, the
 //! others can't be: a sleep and a wakeup are made to their end.
-use crate::rule::Place;
+use crate::rule::Stepper;
 use std::marker::Model;
 use sync_base::{Fault, NoteSet, Pid, RendezId};
 
-/// What the steps of one process are made with.
+/// A process while it makes its steps: the seat that makes them, and its pid.
 #[derive(Drop)]
-pub(crate) struct Stepper {
-    pub(crate) place: Place,
+pub(crate) struct Doer {
+    pub(crate) stepper: Stepper,
     pub(crate) pid: u64,
 }
 
-impl Model for Stepper {
+impl Model for Doer {
     ghost use Rattle.rendez_words.specs.Process.{Process};
 
     ghost Value = { Process };
 
-    ghost use Rattle.rendez_words.specs.States.{process_at, IsPlaceOf};
+    ghost use Rattle.rendez_words.specs.States.{process_at, IsStepperOf};
 
-    ghost view = { λ stepper. process_at stepper.place stepper.pid };
+    ghost view = { λ doer. process_at doer.stepper doer.pid };
 
-    ghost invariant = { λ stepper. IsPlaceOf stepper.place stepper.pid };
+    ghost invariant = { λ doer. IsStepperOf doer.stepper doer.pid };
 }
 
-impl Stepper {
+impl Doer {
     ghost use Rattle.std.specs.Prelude.{◌≡◌};
     ghost use Rattle.rendez_words.specs.Process.{pid_in};
 
@@ -38,7 +38,7 @@ impl Stepper {
 #[derive(Drop)]
 #[must_use]
 pub struct Seat {
-    pub(crate) stepper: Stepper,
+    pub(crate) doer: Doer,
 }
 
 impl Model for Seat {
@@ -48,15 +48,15 @@ impl Model for Seat {
 
     ghost Value = { Process };
 
-    ghost view = { λ seat. seat.stepper };
+    ghost view = { λ seat. seat.doer };
 
-    ghost invariant = { λ seat. phase_in seat.stepper ≡ phase.Idle };
+    ghost invariant = { λ seat. phase_in seat.doer ≡ phase.Idle };
 }
 
 /// A process that is posted and has yet to test. `test` spends it.
 #[must_use]
 pub struct Posted {
-    pub(crate) stepper: Stepper,
+    pub(crate) doer: Doer,
     pub(crate) rendez: RendezId,
     pub(crate) threshold: u64,
 }
@@ -68,16 +68,16 @@ impl Model for Posted {
 
     ghost Value = { Process };
 
-    ghost view = { λ posted. posted.stepper };
+    ghost view = { λ posted. posted.doer };
 
     ghost invariant = { λ posted.
-        phase_in posted.stepper ≡ phase.Posted posted.rendez posted.threshold };
+        phase_in posted.doer ≡ phase.Posted posted.rendez posted.threshold };
 }
 
 /// A process that waits for a wakeup or for notes. `look` spends it.
 #[must_use]
 pub struct Asleep {
-    pub(crate) stepper: Stepper,
+    pub(crate) doer: Doer,
     pub(crate) rendez: RendezId,
     pub(crate) threshold: u64,
 }
@@ -89,16 +89,16 @@ impl Model for Asleep {
 
     ghost Value = { Process };
 
-    ghost view = { λ asleep. asleep.stepper };
+    ghost view = { λ asleep. asleep.doer };
 
     ghost invariant = { λ asleep.
-        phase_in asleep.stepper ≡ phase.Asleep asleep.rendez asleep.threshold };
+        phase_in asleep.doer ≡ phase.Asleep asleep.rendez asleep.threshold };
 }
 
 /// A process that has no reason to wait any more. `withdraw` spends it.
 #[must_use]
 pub struct Leaving {
-    pub(crate) stepper: Stepper,
+    pub(crate) doer: Doer,
     pub(crate) rendez: RendezId,
 }
 
@@ -109,16 +109,16 @@ impl Model for Leaving {
 
     ghost Value = { Process };
 
-    ghost view = { λ leaving. leaving.stepper };
+    ghost view = { λ leaving. leaving.doer };
 
     ghost invariant = { λ leaving.
-        phase_in leaving.stepper ≡ phase.Leaving leaving.rendez };
+        phase_in leaving.doer ≡ phase.Leaving leaving.rendez };
 }
 
 /// A process that a wakeup has taken and not yet marked. `look_mark` spends it.
 #[must_use]
 pub struct Awaiting {
-    pub(crate) stepper: Stepper,
+    pub(crate) doer: Doer,
 }
 
 impl Model for Awaiting {
@@ -128,16 +128,16 @@ impl Model for Awaiting {
 
     ghost Value = { Process };
 
-    ghost view = { λ awaiting. awaiting.stepper };
+    ghost view = { λ awaiting. awaiting.doer };
 
     ghost invariant = { λ awaiting.
-        phase_in awaiting.stepper ≡ phase.Awaiting };
+        phase_in awaiting.doer ≡ phase.Awaiting };
 }
 
 /// A process that saw the mark of the wakeup that took it. `clear_woken` spends it.
 #[must_use]
 pub struct Woken {
-    pub(crate) stepper: Stepper,
+    pub(crate) doer: Doer,
 }
 
 impl Model for Woken {
@@ -147,16 +147,16 @@ impl Model for Woken {
 
     ghost Value = { Process };
 
-    ghost view = { λ woken. woken.stepper };
+    ghost view = { λ woken. woken.doer };
 
     ghost invariant = { λ woken.
-        phase_in woken.stepper ≡ phase.Woken };
+        phase_in woken.doer ≡ phase.Woken };
 }
 
 /// A process that took itself out of the Rendez. `clear_out` spends it.
 #[must_use]
 pub struct Out {
-    pub(crate) stepper: Stepper,
+    pub(crate) doer: Doer,
 }
 
 impl Model for Out {
@@ -166,16 +166,16 @@ impl Model for Out {
 
     ghost Value = { Process };
 
-    ghost view = { λ out. out.stepper };
+    ghost view = { λ out. out.doer };
 
     ghost invariant = { λ out.
-        phase_in out.stepper ≡ phase.Out };
+        phase_in out.doer ≡ phase.Out };
 }
 
 /// A process that has raised a level and has yet to take the sleeper. `take` spends it.
 #[must_use]
 pub struct Owing {
-    pub(crate) stepper: Stepper,
+    pub(crate) doer: Doer,
     pub(crate) rendez: RendezId,
     pub(crate) level: u64,
 }
@@ -187,16 +187,16 @@ impl Model for Owing {
 
     ghost Value = { Process };
 
-    ghost view = { λ owing. owing.stepper };
+    ghost view = { λ owing. owing.doer };
 
     ghost invariant = { λ owing.
-        phase_in owing.stepper ≡ phase.Owing owing.rendez owing.level };
+        phase_in owing.doer ≡ phase.Owing owing.rendez owing.level };
 }
 
 /// A process that took a sleeper and has yet to mark it. `mark` spends it.
 #[must_use]
 pub struct Holding {
-    pub(crate) stepper: Stepper,
+    pub(crate) doer: Doer,
     pub(crate) sleeper: Pid,
     pub(crate) rendez: RendezId,
     pub(crate) level: u64,
@@ -209,10 +209,10 @@ impl Model for Holding {
 
     ghost Value = { Process };
 
-    ghost view = { λ holding. holding.stepper };
+    ghost view = { λ holding. holding.doer };
 
     ghost invariant = { λ holding.
-        phase_in holding.stepper ≡ phase.Holding holding.sleeper holding.rendez holding.level };
+        phase_in holding.doer ≡ phase.Holding holding.sleeper holding.rendez holding.level };
 }
 
 impl Holding {
@@ -302,7 +302,7 @@ pub struct Checked {
 /// The pids not yet given. `split` gives the next one.
 #[derive(Drop)]
 pub struct Pids {
-    pub(crate) place: Place,
+    pub(crate) stepper: Stepper,
     pub(crate) next: u64,
 }
 
@@ -311,9 +311,9 @@ impl Model for Pids {
 
     ghost Value = { PidsLeft };
 
-    ghost use Rattle.rendez_words.specs.States.{pids_at, IsPlaceOfPids};
+    ghost use Rattle.rendez_words.specs.States.{pids_at, IsStepperOfPids};
 
-    ghost view = { λ pids. pids_at pids.place };
+    ghost view = { λ pids. pids_at pids.stepper };
 
-    ghost invariant = { λ pids. IsPlaceOfPids pids.place pids.next };
+    ghost invariant = { λ pids. IsStepperOfPids pids.stepper pids.next };
 }

@@ -5,12 +5,12 @@ ghost use Rattle.std.specs.Prelude.{◌≡◌, ◌==◌, ◌+◌, ◌<◌, max, 
 ghost use prog.Atomic.{either};
 ghost use Rattle.sleep_core.specs.Table.Cell.{PostedOf, LevelOf, FlagsOf};
 ghost use Rattle.rendez_words.specs.Plays.{IsStep, HasMade, part_of};
-ghost use Rattle.rendez_words.specs.Rule.{place};
+ghost use Rattle.rendez_words.specs.Rule.{index_of};
 ghost use Rattle.rendez_words.specs.Words.{table_of, sizes_of, procs_of, rendez_of};
 
 use crate::parking::Unwoken;
 use crate::plays::{Make, Making};
-use crate::states::Stepper;
+use crate::states::Doer;
 use crate::view::LINE;
 use crate::words::Words;
 use sleep_core::Event;
@@ -21,7 +21,7 @@ impl Words {
     /// Where the posted word of the Rendez lies.
     pub(crate) fn posted_word(&self, rendez: RendezId) -> usize
         requires { rendez.0 < rendez_of self.now }
-        ensures { result ≡ place (sizes_of self.now) (PostedOf rendez.0) }
+        ensures { result ≡ index_of (sizes_of self.now) (PostedOf rendez.0) }
     {
         (LINE * rendez.0) as usize
     }
@@ -29,7 +29,7 @@ impl Words {
     /// Where the level of the Rendez lies.
     pub(crate) fn level_word(&self, rendez: RendezId) -> usize
         requires { rendez.0 < rendez_of self.now }
-        ensures { result ≡ place (sizes_of self.now) (LevelOf rendez.0) }
+        ensures { result ≡ index_of (sizes_of self.now) (LevelOf rendez.0) }
     {
         (LINE * rendez.0 + 1) as usize
     }
@@ -37,173 +37,155 @@ impl Words {
     /// Where the flags of the process lie.
     pub(crate) fn flags_word(&self, pid: Pid) -> usize
         requires { pid.0 < procs_of self.now }
-        ensures { result ≡ place (sizes_of self.now) (FlagsOf pid.0) }
+        ensures { result ≡ index_of (sizes_of self.now) (FlagsOf pid.0) }
     {
         (LINE * (self.sizes.rendez + pid.0)) as usize
     }
 
     /// Reads the word.
-    pub(crate) fn load(&self, stepper: &mut Stepper, word: usize, event: Event) -> u64
-        requires table { stepper.old.table ≡ table_of self.now }
-        requires step { IsStep (sizes_of self.now) event (part_of stepper.old) word (λ n. n) }
-        ensures table { stepper.new.table ≡ stepper.old.table }
+    pub(crate) fn load(&self, doer: &mut Doer, word: usize, event: Event) -> u64
+        requires table { doer.old.table ≡ table_of self.now }
+        requires step { IsStep (sizes_of self.now) event (part_of doer.old) word (λ n. n) }
+        ensures table { doer.new.table ≡ doer.old.table }
         ensures made { HasMade (sizes_of self.now) event
-            (part_of stepper.old) result (part_of stepper.new) }
+            (part_of doer.old) result (part_of doer.new) }
     {
-        self.load_for::<Brand>(stepper, word, &event)
+        self.load_for::<Brand>(doer, word, &event)
     }
 
-    fn load_for<M: Making>(&self, stepper: &mut Stepper, word: usize, _event: &Event) -> u64
+    fn load_for<M: Making>(&self, doer: &mut Doer, word: usize, _event: &Event) -> u64
         requires sizes { M.sizes ≡ sizes_of self.now }
-        requires table { stepper.old.table ≡ table_of self.now }
-        requires step { IsStep M.sizes M.event (part_of stepper.old) word (λ n. n) }
-        ensures table { stepper.new.table ≡ stepper.old.table }
-        ensures made { HasMade M.sizes M.event (part_of stepper.old) result (part_of stepper.new) }
+        requires table { doer.old.table ≡ table_of self.now }
+        requires step { IsStep M.sizes M.event (part_of doer.old) word (λ n. n) }
+        ensures table { doer.new.table ≡ doer.old.table }
+        ensures made { HasMade M.sizes M.event (part_of doer.old) result (part_of doer.new) }
     {
-        self.table.shared.load::<Make<M>>(&mut stepper.place, word)
+        self.table.shared.load::<Make<M>>(&mut doer.stepper, word)
     }
 
     /// Writes the word, and answers what it was.
-    pub(crate) fn swap(&self, stepper: &mut Stepper, word: usize, new: u64, event: Event) -> u64
-        requires table { stepper.old.table ≡ table_of self.now }
-        requires step { IsStep (sizes_of self.now) event (part_of stepper.old) word (λ _. new) }
-        ensures table { stepper.new.table ≡ stepper.old.table }
+    pub(crate) fn swap(&self, doer: &mut Doer, word: usize, new: u64, event: Event) -> u64
+        requires table { doer.old.table ≡ table_of self.now }
+        requires step { IsStep (sizes_of self.now) event (part_of doer.old) word (λ _. new) }
+        ensures table { doer.new.table ≡ doer.old.table }
         ensures made { HasMade (sizes_of self.now) event
-            (part_of stepper.old) result (part_of stepper.new) }
+            (part_of doer.old) result (part_of doer.new) }
     {
-        self.swap_for::<Brand>(stepper, word, new, &event)
+        self.swap_for::<Brand>(doer, word, new, &event)
     }
 
-    fn swap_for<M: Making>(
-        &self,
-        stepper: &mut Stepper,
-        word: usize,
-        new: u64,
-        _event: &Event,
-    ) -> u64
+    fn swap_for<M: Making>(&self, doer: &mut Doer, word: usize, new: u64, _event: &Event) -> u64
         requires sizes { M.sizes ≡ sizes_of self.now }
-        requires table { stepper.old.table ≡ table_of self.now }
-        requires step { IsStep M.sizes M.event (part_of stepper.old) word (λ _. new) }
-        ensures table { stepper.new.table ≡ stepper.old.table }
-        ensures made { HasMade M.sizes M.event (part_of stepper.old) result (part_of stepper.new) }
+        requires table { doer.old.table ≡ table_of self.now }
+        requires step { IsStep M.sizes M.event (part_of doer.old) word (λ _. new) }
+        ensures table { doer.new.table ≡ doer.old.table }
+        ensures made { HasMade M.sizes M.event (part_of doer.old) result (part_of doer.new) }
     {
         self.table
             .shared
-            .swap::<Make<M>>(&mut stepper.place, word, new)
+            .swap::<Make<M>>(&mut doer.stepper, word, new)
     }
 
     /// Writes the word where it is `old`, and answers what it was.
     pub(crate) fn compare_exchange(
         &self,
-        stepper: &mut Stepper,
+        doer: &mut Doer,
         word: usize,
         old: u64,
         new: u64,
         event: Event,
     ) -> u64
-        requires table { stepper.old.table ≡ table_of self.now }
-        requires step { IsStep (sizes_of self.now) event (part_of stepper.old) word
+        requires table { doer.old.table ≡ table_of self.now }
+        requires step { IsStep (sizes_of self.now) event (part_of doer.old) word
             (λ n. either (n == old) new n) }
-        ensures table { stepper.new.table ≡ stepper.old.table }
+        ensures table { doer.new.table ≡ doer.old.table }
         ensures made { HasMade (sizes_of self.now) event
-            (part_of stepper.old) result (part_of stepper.new) }
+            (part_of doer.old) result (part_of doer.new) }
     {
-        self.compare_exchange_for::<Brand>(stepper, word, old, new, &event)
+        self.compare_exchange_for::<Brand>(doer, word, old, new, &event)
     }
 
     fn compare_exchange_for<M: Making>(
         &self,
-        stepper: &mut Stepper,
+        doer: &mut Doer,
         word: usize,
         old: u64,
         new: u64,
         _event: &Event,
     ) -> u64
         requires sizes { M.sizes ≡ sizes_of self.now }
-        requires table { stepper.old.table ≡ table_of self.now }
-        requires step { IsStep M.sizes M.event (part_of stepper.old) word
+        requires table { doer.old.table ≡ table_of self.now }
+        requires step { IsStep M.sizes M.event (part_of doer.old) word
             (λ n. either (n == old) new n) }
-        ensures table { stepper.new.table ≡ stepper.old.table }
-        ensures made { HasMade M.sizes M.event (part_of stepper.old) result (part_of stepper.new) }
+        ensures table { doer.new.table ≡ doer.old.table }
+        ensures made { HasMade M.sizes M.event (part_of doer.old) result (part_of doer.new) }
     {
         self.table
             .shared
-            .compare_exchange::<Make<M>>(&mut stepper.place, word, old, new)
+            .compare_exchange::<Make<M>>(&mut doer.stepper, word, old, new)
     }
 
     /// Raises the word to `least`, and answers what it was.
-    pub(crate) fn fetch_max(
-        &self,
-        stepper: &mut Stepper,
-        word: usize,
-        least: u64,
-        event: Event,
-    ) -> u64
-        requires table { stepper.old.table ≡ table_of self.now }
-        requires step { IsStep (sizes_of self.now) event (part_of stepper.old) word
+    pub(crate) fn fetch_max(&self, doer: &mut Doer, word: usize, least: u64, event: Event) -> u64
+        requires table { doer.old.table ≡ table_of self.now }
+        requires step { IsStep (sizes_of self.now) event (part_of doer.old) word
             (λ n. max n least) }
-        ensures table { stepper.new.table ≡ stepper.old.table }
+        ensures table { doer.new.table ≡ doer.old.table }
         ensures made { HasMade (sizes_of self.now) event
-            (part_of stepper.old) result (part_of stepper.new) }
+            (part_of doer.old) result (part_of doer.new) }
     {
-        self.fetch_max_for::<Brand>(stepper, word, least, &event)
+        self.fetch_max_for::<Brand>(doer, word, least, &event)
     }
 
     fn fetch_max_for<M: Making>(
         &self,
-        stepper: &mut Stepper,
+        doer: &mut Doer,
         word: usize,
         least: u64,
         _event: &Event,
     ) -> u64
         requires sizes { M.sizes ≡ sizes_of self.now }
-        requires table { stepper.old.table ≡ table_of self.now }
-        requires step { IsStep M.sizes M.event (part_of stepper.old) word (λ n. max n least) }
-        ensures table { stepper.new.table ≡ stepper.old.table }
-        ensures made { HasMade M.sizes M.event (part_of stepper.old) result (part_of stepper.new) }
+        requires table { doer.old.table ≡ table_of self.now }
+        requires step { IsStep M.sizes M.event (part_of doer.old) word (λ n. max n least) }
+        ensures table { doer.new.table ≡ doer.old.table }
+        ensures made { HasMade M.sizes M.event (part_of doer.old) result (part_of doer.new) }
     {
         self.table
             .shared
-            .fetch_max::<Make<M>>(&mut stepper.place, word, least)
+            .fetch_max::<Make<M>>(&mut doer.stepper, word, least)
     }
 
     /// Sets bits of the flags of the process, which has then yet to be woken.
-    pub(crate) fn set_flags(
-        &self,
-        stepper: &mut Stepper,
-        pid: Pid,
-        bits: u64,
-        event: Event,
-    ) -> Unwoken
+    pub(crate) fn set_flags(&self, doer: &mut Doer, pid: Pid, bits: u64, event: Event) -> Unwoken
         requires pid { pid.0 < procs_of self.now }
-        requires table { stepper.old.table ≡ table_of self.now }
-        requires step { IsStep (sizes_of self.now) event (part_of stepper.old)
-            (place (sizes_of self.now) (FlagsOf pid.0)) (λ n. bit_or n bits) }
-        ensures table { stepper.new.table ≡ stepper.old.table }
+        requires table { doer.old.table ≡ table_of self.now }
+        requires step { IsStep (sizes_of self.now) event (part_of doer.old)
+            (index_of (sizes_of self.now) (FlagsOf pid.0)) (λ n. bit_or n bits) }
+        ensures table { doer.new.table ≡ doer.old.table }
         ensures made { HasMade (sizes_of self.now) event
-            (part_of stepper.old) result.found (part_of stepper.new) }
+            (part_of doer.old) result.found (part_of doer.new) }
         ensures pid { result.pid ≡ pid.0 }
     {
         let word = self.flags_word(pid);
-        let found = self.fetch_or_for::<Brand>(stepper, word, bits, &event);
+        let found = self.fetch_or_for::<Brand>(doer, word, bits, &event);
         Unwoken::new(pid, found)
     }
 
     fn fetch_or_for<M: Making>(
         &self,
-        stepper: &mut Stepper,
+        doer: &mut Doer,
         word: usize,
         bits: u64,
         _event: &Event,
     ) -> u64
         requires sizes { M.sizes ≡ sizes_of self.now }
-        requires table { stepper.old.table ≡ table_of self.now }
-        requires step { IsStep M.sizes M.event (part_of stepper.old) word (λ n. bit_or n bits) }
-        ensures table { stepper.new.table ≡ stepper.old.table }
-        ensures made { HasMade M.sizes M.event (part_of stepper.old) result (part_of stepper.new) }
+        requires table { doer.old.table ≡ table_of self.now }
+        requires step { IsStep M.sizes M.event (part_of doer.old) word (λ n. bit_or n bits) }
+        ensures table { doer.new.table ≡ doer.old.table }
+        ensures made { HasMade M.sizes M.event (part_of doer.old) result (part_of doer.new) }
     {
         self.table
             .shared
-            .fetch_or::<Make<M>>(&mut stepper.place, word, bits)
+            .fetch_or::<Make<M>>(&mut doer.stepper, word, bits)
     }
 }

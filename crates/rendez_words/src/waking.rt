@@ -2,19 +2,19 @@
 ghost use Rattle.std.specs.Prelude.{◌≡◌, ◌<◌};
 ghost use Rattle.sleep_core.specs.Table.Cell.{FlagsOf};
 ghost use Rattle.rendez_words.specs.declared.parking.TheConstants.{PARKS};
-ghost use Rattle.rendez_words.specs.Rule.{place};
+ghost use Rattle.rendez_words.specs.Rule.{index_of};
 ghost use Rattle.rendez_words.specs.Waking.{HasSet};
 ghost use Rattle.rendez_words.specs.Words.{sizes_of, procs_of};
 
 use crate::parking::{Found, Unwoken};
-use crate::states::Stepper;
+use crate::states::Doer;
 use crate::words::Words;
 
 impl Words {
     /// Wakes the process where it parks, or is about to. Otherwise it is a load, and calls no
     /// system. Who calls it has set the flags: a process that is woken before looks, and parks
     /// again, and nobody would wake it then.
-    pub(crate) fn wake(&self, unwoken: Unwoken, _by: &Stepper)
+    pub(crate) fn wake(&self, unwoken: Unwoken, _by: &Doer)
         requires pid { unwoken.pid < procs_of self.now }
         requires set { HasSet _by.now unwoken.pid }
     {
@@ -31,7 +31,7 @@ impl Words {
     fn wake_at(&self, found: Found, word: usize)
         requires pid { found.said.pid < procs_of self.now }
         requires parks { found.said.word ≡ PARKS }
-        requires word { word ≡ place (sizes_of self.now) (FlagsOf found.said.pid) }
+        requires word { word ≡ index_of (sizes_of self.now) (FlagsOf found.said.pid) }
     {
         found.rouse();
         self.table.shared.wake_one(word);

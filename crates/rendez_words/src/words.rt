@@ -6,7 +6,7 @@ ghost use Rattle.rendez_words.specs.View.{word_count};
 use crate::parking::Parking;
 use crate::plays::GivePid;
 use crate::rule::WordTable;
-use crate::states::{Pids, Seat, Stepper};
+use crate::states::{Doer, Pids, Seat};
 use crate::view::{LINE, Sizes};
 use atomic_table::Table;
 use std::alloc::Global;
@@ -37,7 +37,7 @@ impl Words {
     ghost use Rattle.std.specs.Prelude.{◌≡◌, ◌≤◌, [], IfOk, IfErr, OnOk, OnErr};
     ghost use Rattle.sync_base.specs.declared.fault.Fault.TheVariants.{NoProc};
     ghost use Rattle.sleep_core.specs.Limits.{IsWorldSize, WhyNoWorld};
-    ghost use Rattle.rendez_words.specs.States.{IsPlaceOfPids};
+    ghost use Rattle.rendez_words.specs.States.{IsStepperOfPids};
     ghost use Rattle.rendez_words.specs.View.{next_in, one_less_view, given_view};
     ghost use Rattle.rendez_words.specs.Words.{
       IsProcessOf,
@@ -74,13 +74,13 @@ impl Words {
         let sizes = Sizes { procs, rendez };
         let parking = Parking::new(alloc, procs)?;
         let zeros = vec![in alloc; 0; (LINE * (rendez + procs)) as usize]?;
-        let (table, place) = Table::of_words(alloc, zeros.as_slice(), &sizes)?;
+        let (table, stepper) = Table::of_words(alloc, zeros.as_slice(), &sizes)?;
         let words = Words {
             table,
             sizes,
             parking,
         };
-        let mut pids = Pids { place, next: 0 };
+        let mut pids = Pids { stepper, next: 0 };
         let seat = words.give(&mut pids);
         Ok(Opened { words, seat, pids })
     }
@@ -131,9 +131,9 @@ impl Words {
         ensures one_less { pids.new ≡ one_less pids.old }
     {
         let pid = pids.next;
-        let place = self.table.shared.split_seat::<GivePid>(&mut pids.place);
+        let stepper = self.table.shared.split_seat::<GivePid>(&mut pids.stepper);
         pids.next = pid + 1;
-        let stepper = Stepper { place, pid };
-        Seat { stepper }
+        let doer = Doer { stepper, pid };
+        Seat { doer }
     }
 }

@@ -5,8 +5,8 @@ use Rattle.rendez_words.specs.Words.{procs_of}
 use Rattle.rendez_words.proofs.SeatKeeps.{gives}
 use Rattle.rendez_words.proofs.words.Words.give.Goals as goal
 
-pub split_seat-place-requires : goal.split_seat-place-requires
-split_seat-place-requires c =
+pub split_seat-stepper-requires : goal.split_seat-stepper-requires
+split_seat-stepper-requires c =
     let least = c.args.self.now.in_range.1.0 in
     let count = c.args.self.now.word_count in (
       search rules,

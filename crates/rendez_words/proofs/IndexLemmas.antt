@@ -22,7 +22,7 @@ use Rattle.sleep_core.specs.Step.{answer_to, changed_by, world_told, world_after
 use Rattle.sleep_core.specs.Rows.{word_left, word_after}
 use Rattle.rendez_words.specs.declared.view.Sizes.{Sizes}
 use Rattle.rendez_words.specs.Plays.{number_of, IsWordOf, IsCellIn}
-use Rattle.rendez_words.specs.Rule.{rendez_line, proc_line, words_of, place}
+use Rattle.rendez_words.specs.Rule.{rendez_line, proc_line, words_of, index_of}
 use Rattle.rendez_words.specs.declared.view.TheConstants.{LINE}
 use Rattle.rendez_words.proofs.LineLemmas.{AreLines, length_lines, read_line, write_line}
 use Rattle.rendez_words.proofs.LineLemmas.{zip-set_first, zip-set_second}
@@ -97,9 +97,9 @@ read_both sizes s rendez j has there low =
     ∙ read_line rendez_line rendez_lines (both_of s) rendez j (0, 0) (omega arith) (omega arith)
     ∙ ap (λ words. get_or (rendez_line words) j 0) (both_at sizes s rendez has there)
 
--- what is read in the place of a cell is what the cell holds
+-- the word of a cell is what the cell holds
 pub read_there : (sizes : Sizes) (s : State) (cell : Cell) → HasSizes sizes s → IsCellIn sizes cell
-    → get_or (words_of s) (place sizes cell) 0 ≡ number_of (word_at s cell)
+    → get_or (words_of s) (index_of sizes cell) 0 ≡ number_of (word_at s cell)
 read_there sizes s (PostedOf rendez) has there =
     ap (λ i. get_or (words_of s) i 0) first ∙ read_both sizes s rendez 0 has there (omega arith)
   where
@@ -130,10 +130,11 @@ write_both sizes s rendez j n after has there low is =
     (omega arith) is)
     ∙ sym (set-append_left (rendez_words s) (proc_words s) (LINE * rendez + j) n (omega arith))
 
--- the words are written in the place of a cell as the cell is
+-- the word of a cell is written as the cell is
 pub write_there : (sizes : Sizes) (s : State) (cell : Cell) (word : Word) → HasSizes sizes s
     → IsCellIn sizes cell → IsWordOf cell word
-    → words_of (with_word s cell (Some word)) ≡ set (words_of s) (place sizes cell) (number_of word)
+    → words_of (with_word s cell (Some word))
+    ≡ set (words_of s) (index_of sizes cell) (number_of word)
 write_there sizes s (PostedOf rendez) (Number n) has there fits =
     ap (λ both. flat_map rendez_line both ++ proc_words s)
     (zip-set_first s.posted s.levels rendez n)
@@ -194,11 +195,11 @@ words_of-with_returned s (Some wakeup) = refl
 -- the words after a write, if there is one
 words_of-with_word : (sizes : Sizes) (s : State) (cell : Cell) (new : Option Word)
     → HasSizes sizes s → IsCellIn sizes cell → MayLie cell new
-    → words_of (with_word s cell new) ≡ set (words_of s) (place sizes cell)
+    → words_of (with_word s cell new) ≡ set (words_of s) (index_of sizes cell)
     (number_of (word_left (word_at s cell) new))
 words_of-with_word sizes s cell None has there fits =
-    sym (ap (set (words_of s) (place sizes cell)) (sym (read_there sizes s cell has there))
-    ∙ set-get_or (words_of s) (place sizes cell) 0)
+    sym (ap (set (words_of s) (index_of sizes cell)) (sym (read_there sizes s cell has there))
+    ∙ set-get_or (words_of s) (index_of sizes cell) 0)
 words_of-with_word sizes s cell (Some word) has there fits =
     write_there sizes s cell word has there fits
 
@@ -206,7 +207,7 @@ words_of-with_word sizes s cell (Some word) has there fits =
 words_told : (sizes : Sizes) (s : State) (event : Event) (stage : Phase) (told : Answer)
     → HasSizes sizes s → IsCellIn sizes (cell_of event stage)
     → words_of (world_told s stage event told)
-    ≡ set (words_of s) (place sizes (cell_of event stage))
+    ≡ set (words_of s) (index_of sizes (cell_of event stage))
     (number_of (if is_refusal told then word_at s (cell_of event stage) else word_left
     (word_at s (cell_of event stage)) (stored event stage (word_at s (cell_of event stage)))))
 words_told sizes s event stage told has there = by_test (is_refusal told)
@@ -218,25 +219,25 @@ words_told sizes s event stage told has there = by_test (is_refusal told)
     found = word_at s (cell_of event stage)
 
     by_test : (refused : Bool) → words_of (if refused then s else changed_by s stage event told)
-        ≡ set (words_of s) (place sizes (cell_of event stage))
+        ≡ set (words_of s) (index_of sizes (cell_of event stage))
         (number_of (if refused then word_at s (cell_of event stage) else word_left
         (word_at s (cell_of event stage)) (stored event stage (word_at s (cell_of event stage)))))
     by_test true =
-        sym (ap (set (words_of s) (place sizes cell)) (sym (read_there sizes s cell has there))
-        ∙ set-get_or (words_of s) (place sizes cell) 0)
+        sym (ap (set (words_of s) (index_of sizes cell)) (sym (read_there sizes s cell has there))
+        ∙ set-get_or (words_of s) (index_of sizes cell) 0)
     by_test false =
         words_of-with_returned (with_phase (with_word s cell (stored event stage found))
         (pid_of event).0 (phase_after told event stage)) (returned_by told event stage)
         ∙ words_of-with_word sizes s cell (stored event stage found) has there
         (stores_its_kind event stage found)
 
--- an event that may come changes the words in the place of its cell
+-- an event that may come changes the word of its cell
 pub words_after : (sizes : Sizes) (s : State) (event : Event) → HasSizes sizes s
     → IsCellIn sizes (cell_of event (phase_of s (pid_of event).0))
     → answer_to s event ≡ reply event (phase_of s (pid_of event).0)
     (word_at s (cell_of event (phase_of s (pid_of event).0)))
     → words_of (world_after s event)
-    ≡ set (words_of s) (place sizes (cell_of event (phase_of s (pid_of event).0)))
+    ≡ set (words_of s) (index_of sizes (cell_of event (phase_of s (pid_of event).0)))
     (number_of (word_after event (phase_of s (pid_of event).0)
     (word_at s (cell_of event (phase_of s (pid_of event).0)))))
 words_after sizes s event has there answered =
