@@ -75,16 +75,16 @@ sat_same old before after new stood sat same =
 
 -- ---- all seats, in their order
 
--- the seat at each place is that of its writer, and gave no number
+-- the seat at each index is that of its writer, and gave no number
 abbrev pub AreInOrder : ℕ → List PutSeat → Type 0
 AreInOrder first puts =
-    (place : ℕ) (seat : PutSeat) → slice_get puts place ≡ Some seat →
-    (seat.writer ≡ first + place) × ((put_account seat).gave ≡ [])
+    (index : ℕ) (seat : PutSeat) → slice_get puts index ≡ Some seat →
+    (seat.writer ≡ first + index) × ((put_account seat).gave ≡ [])
 
 order_behind : (first : ℕ) (seat : PutSeat) (puts : List PutSeat) →
     AreInOrder first (seat ∷ puts) → AreInOrder (first + 1) puts
-order_behind first seat puts are place other at =
-    let known = are (suc place) other at in
+order_behind first seat puts are index other at =
+    let known = are (suc index) other at in
     let writer = known.0 in
     (omega arith, known.1)
 
@@ -117,23 +117,23 @@ pub new_are_all : (queue : Queue) (count : ℕ) (take : TakeSeat) (puts : List P
     AreAllSeats take puts
 new_are_all queue count take puts gave are =
     all_in_order take puts (gave ∙ ap (numbers_from 1) (sym are.count_is))
-    (λ place seat at.
-    let new = are.each place seat at in
+    (λ index seat at.
+    let new = are.each index seat at in
     let writer = new.writer_is in
     (omega arith, ap (λ (a : Account Entry). a.gave) new.account_is))
 
 seats_from : (queue : Queue) (seats : List PutSeat) →
-    ((place : ℕ) (seat : PutSeat) → slice_get seats place ≡ Some seat → IsPutSeatOf queue seat) →
+    ((index : ℕ) (seat : PutSeat) → slice_get seats index ≡ Some seat → IsPutSeatOf queue seat) →
     AllByRecursion (IsPutSeatOf queue) seats
 seats_from queue [] each = tt
 seats_from queue (seat ∷ seats) each =
-    (each 0 seat refl, seats_from queue seats (λ place other at. each (suc place) other at))
+    (each 0 seat refl, seats_from queue seats (λ index other at. each (suc index) other at))
 
 -- each new writer's seat is a writer's seat of its queue
 pub new_are_seats : (queue : Queue) (count : ℕ) (puts : List PutSeat) →
     AreNewPutSeats queue count puts → AllByRecursion (IsPutSeatOf queue) puts
 new_are_seats queue count puts are =
-    seats_from queue puts (λ place seat at. (are.each place seat at).seat_is)
+    seats_from queue puts (λ index seat at. (are.each index seat at).seat_is)
 
 -- a call of the reader, and one of a writer
 pub all_after_take : (old new : TakeSeat) (puts : List PutSeat) → AreAllSeats old puts →

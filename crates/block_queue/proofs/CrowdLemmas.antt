@@ -13,13 +13,13 @@ use Rattle.block_queue.specs.Seats.{IsPutSeatOf}
 
 -- ---- of each element, said both ways
 
--- what is so of each element by recursion is so of it at each place
+-- what is so of each element by recursion is so of it at each index
 pub each_all : {A : Type 0} (P : A → Type 0) (xs : List A) → AllByRecursion P xs → All P xs
 each_all P [] all i d below = absurd (omega arith)
 each_all P (x ∷ xs) all zero d below = all.0
 each_all P (x ∷ xs) all (suc i) d below = each_all P xs all.1 i d (omega arith)
 
--- what is so at each place is so of each element by recursion
+-- what is so at each index is so of each element by recursion
 pub all_each : {A : Type 0} (P : A → Type 0) (xs : List A) → All P xs → AllByRecursion P xs
 all_each P [] each = tt
 all_each P (x ∷ xs) each =

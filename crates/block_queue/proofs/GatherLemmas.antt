@@ -29,8 +29,8 @@ use Rattle.block_queue.specs.declared.view.View.{View}
 use Rattle.block_queue.specs.GatherSteps.{KnowsState}
 use Rattle.block_queue.specs.Places.{IsQueueState}
 use Rattle.block_queue.specs.Steps.{Seated, joined_view}
-use Rattle.block_queue.specs.Seats.{Place, IsFreePlaceOf, IsSamePlace, IsPutSeatOf, put_account}
-use Rattle.block_queue.specs.Seats.{put_view}
+use Rattle.block_queue.specs.Seats.{Stepper, IsFreeStepperOf, IsSameStepper, IsPutSeatOf}
+use Rattle.block_queue.specs.Seats.{put_account, put_view}
 use Rattle.block_queue.specs.Gather.{with_blocks, IsLeft, Empties, IsEmptying, IsJoining, HasJoined}
 use Rattle.block_queue.specs.Gather.{AreTheirs, AreTheirPasts, SawPasts, TellsPasts, numbers_of}
 use Rattle.block_queue.proofs.RuleMoves.{history_fits}
@@ -416,9 +416,9 @@ one_told puts old now joined rest front seat rest_is tells joined_is =
     before history saw = record { seen = saw.before.0; before = saw.before.1.1 }
 
 -- the reader's seat is free after a join
-pub joined_free : (queue : Queue) (old new : Place) (other : View) → IsFreePlaceOf queue old 0 →
-    IsSamePlace old new → new.me ≡ (joined_view old.me.0 other, old.me.1) →
-    IsFreePlaceOf queue new 0
+pub joined_free : (queue : Queue) (old new : Stepper) (other : View) → IsFreeStepperOf queue old 0 →
+    IsSameStepper old new → new.me ≡ (joined_view old.me.0 other, old.me.1) →
+    IsFreeStepperOf queue new 0
 joined_free queue old new other free same joined =
     record {
       table = same.table ∙ free.table;

@@ -12,8 +12,8 @@ use Rattle.block_queue.specs.declared.view.Stage.TheVariants.{Free}
 use Rattle.block_queue.specs.declared.view.View.{View}
 use Rattle.block_queue.specs.History.{seat_of}
 use Rattle.block_queue.specs.Meaning.{Enters}
-use Rattle.block_queue.specs.Seats.{Place, IsPlaceOf, IsFreePlaceOf, IsSamePlace, IsPutSeatOf}
-use Rattle.block_queue.specs.Seats.{IsTakeSeatOf, head_view, put_view, take_view}
+use Rattle.block_queue.specs.Seats.{Stepper, IsStepperOf, IsFreeStepperOf, IsSameStepper}
+use Rattle.block_queue.specs.Seats.{IsPutSeatOf, IsTakeSeatOf, head_view, put_view, take_view}
 use Rattle.block_queue.specs.Steps.{Seated}
 
 -- an entry leaves a seat its numbers
@@ -30,10 +30,10 @@ pub entered_number : (key : Key) (made : Entry) (old new : Account Entry) →
 entered_number key made old new enters = ap (λ (a : Account Entry). a.number) enters.adds.new_is
 
 -- a seat that made an entry stands where it stood, with its number
-pub entered_place : (queue : Queue) (old new : Place) (number : ℕ) (made : Entry) (key : Key) →
-    IsPlaceOf queue old number → IsSamePlace old new →
-    Enters key made old.me.0.account new.me.0.account → IsPlaceOf queue new number
-entered_place queue old new number made key is same enters =
+pub entered_stepper : (queue : Queue) (old new : Stepper) (number : ℕ) (made : Entry) (key : Key) →
+    IsStepperOf queue old number → IsSameStepper old new →
+    Enters key made old.me.0.account new.me.0.account → IsStepperOf queue new number
+entered_stepper queue old new number made key is same enters =
     record {
       table = same.table ∙ is.table;
       own =
@@ -41,28 +41,28 @@ entered_place queue old new number made key is same enters =
     }
 
 -- a seat that made its entry is free again
-pub entered_free : (queue : Queue) (old new : Place) (number : ℕ) (made : Entry) (key : Key) →
-    IsPlaceOf queue old number → old.me.0.account.number ≡ number → IsSamePlace old new
+pub entered_free : (queue : Queue) (old new : Stepper) (number : ℕ) (made : Entry) (key : Key) →
+    IsStepperOf queue old number → old.me.0.account.number ≡ number → IsSameStepper old new
     → Enters key made old.me.0.account new.me.0.account → new.me.0.stage ≡ Free → new.me.1 ≡ [] →
-    IsFreePlaceOf queue new number
+    IsFreeStepperOf queue new number
 entered_free queue old new number made key is number_is same enters stage no_slot =
-    let place = entered_place queue old new number made key is same enters in
+    let stepper = entered_stepper queue old new number made key is same enters in
     record {
-      table = place.table;
-      own = place.own;
+      table = stepper.table;
+      own = stepper.own;
       number_is = entered_number key made old.me.0.account new.me.0.account enters ∙ number_is;
       stage = stage;
       no_slot = no_slot;
     }
 
 -- a free seat is one that may step
-pub free_steps : (queue : Queue) (place : Place) (number : ℕ) → IsFreePlaceOf queue place number →
-    IsPlaceOf queue place number
-free_steps queue place number free = record { table = free.table; own = free.own }
+pub free_steps : (queue : Queue) (stepper : Stepper) (number : ℕ) →
+    IsFreeStepperOf queue stepper number → IsStepperOf queue stepper number
+free_steps queue stepper number free = record { table = free.table; own = free.own }
 
 -- a seat that knows what it knew may step on
-pub steps_on : (queue : Queue) (old new : Place) (number : ℕ) → IsPlaceOf queue old number →
-    IsSamePlace old new → new.me.0.account ≡ old.me.0.account → IsPlaceOf queue new number
+pub steps_on : (queue : Queue) (old new : Stepper) (number : ℕ) → IsStepperOf queue old number →
+    IsSameStepper old new → new.me.0.account ≡ old.me.0.account → IsStepperOf queue new number
 steps_on queue old new number is same account =
     record {
       table = same.table ∙ is.table;
@@ -73,10 +73,10 @@ steps_on queue old new number is same account =
 -- ---- a seat that sits down
 
 -- a writer's seat that stands up to step is a free one, with its writer's number
-pub stands_put : (queue : Queue) (seat : PutSeat) (place : Place) → IsPutSeatOf queue seat →
-    place.table_id ≡ seat.badge.table_id → place.me ≡ (put_view seat, []) →
-    IsFreePlaceOf queue place (seat.writer + 1)
-stands_put queue seat place is table me =
+pub stands_put : (queue : Queue) (seat : PutSeat) (stepper : Stepper) → IsPutSeatOf queue seat →
+    stepper.table_id ≡ seat.badge.table_id → stepper.me ≡ (put_view seat, []) →
+    IsFreeStepperOf queue stepper (seat.writer + 1)
+stands_put queue seat stepper is table me =
     record {
       table = table ∙ is.table;
       own = ap (λ (m : Seated). has_number m.0.account.shares (seat.writer + 1)) me ∙ is.own;
@@ -86,11 +86,12 @@ stands_put queue seat place is table me =
     }
 
 -- a free one with a writer's number sits down as that writer's seat
-pub sits_put : (queue : Queue) (seat : PutSeat) (place : Place) → seat.writer < queue.key.writers →
-    IsFreePlaceOf queue place (seat.writer + 1) → seat.badge.table_id ≡ place.table_id →
-    seat.badge.views ≡ place.me.0 ∷ [] → IsPutSeatOf queue seat
-sits_put queue seat place writer free table views =
-    let view : put_view seat ≡ place.me.0 = ap head_view views in
+pub sits_put : (queue : Queue) (seat : PutSeat) (stepper : Stepper) →
+    seat.writer < queue.key.writers →
+    IsFreeStepperOf queue stepper (seat.writer + 1) → seat.badge.table_id ≡ stepper.table_id →
+    seat.badge.views ≡ stepper.me.0 ∷ [] → IsPutSeatOf queue seat
+sits_put queue seat stepper writer free table views =
+    let view : put_view seat ≡ stepper.me.0 = ap head_view views in
     record {
       table = table ∙ free.table;
       views = views ∙ ap (λ (v : View). v ∷ []) (sym view);
@@ -101,10 +102,10 @@ sits_put queue seat place writer free table views =
     }
 
 -- the reader's seat that stands up to step is a free one, with number 0
-pub stands_take : (queue : Queue) (seat : TakeSeat) (place : Place) → IsTakeSeatOf queue seat →
-    place.table_id ≡ seat.badge.table_id → place.me ≡ (take_view seat, []) →
-    IsFreePlaceOf queue place 0
-stands_take queue seat place is table me =
+pub stands_take : (queue : Queue) (seat : TakeSeat) (stepper : Stepper) → IsTakeSeatOf queue seat →
+    stepper.table_id ≡ seat.badge.table_id → stepper.me ≡ (take_view seat, []) →
+    IsFreeStepperOf queue stepper 0
+stands_take queue seat stepper is table me =
     record {
       table = table ∙ is.table;
       own = ap (λ (m : Seated). has_number m.0.account.shares 0) me ∙ is.own;
@@ -114,11 +115,12 @@ stands_take queue seat place is table me =
     }
 
 -- a free one with number 0 sits down as the reader's seat
-pub sits_take : (queue : Queue) (seat : TakeSeat) (place : Place) → IsFreePlaceOf queue place 0 →
-    seat.badge.table_id ≡ place.table_id → seat.badge.views ≡ place.me.0 ∷ [] → seat.taken ≡
-    place.me.0.taken → IsTakeSeatOf queue seat
-sits_take queue seat place free table views taken =
-    let view : take_view seat ≡ place.me.0 = ap head_view views in
+pub sits_take : (queue : Queue) (seat : TakeSeat) (stepper : Stepper) →
+    IsFreeStepperOf queue stepper 0 →
+    seat.badge.table_id ≡ stepper.table_id → seat.badge.views ≡ stepper.me.0 ∷ [] → seat.taken ≡
+    stepper.me.0.taken → IsTakeSeatOf queue seat
+sits_take queue seat stepper free table views taken =
+    let view : take_view seat ≡ stepper.me.0 = ap head_view views in
     record {
       table = table ∙ free.table;
       views = views ∙ ap (λ (v : View). v ∷ []) (sym view);

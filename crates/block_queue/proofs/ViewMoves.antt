@@ -27,7 +27,7 @@ pub record Grows (first : ℕ) (s s' : QueueState) (number : ℕ) : Type 0 where
   pub puts : (n : ℕ) → n ≢ number → s'.putting n ≡ s.putting n
   -- no accepted write is lost
   pub longer : length s.pipe.accepted ≤ length s'.pipe.accepted
-  -- each accepted write keeps its place
+  -- each accepted write stays where it was
   pub kept : (c : ℕ) (write : Write) → slice_get s.pipe.accepted c ≡ Some write →
       slice_get s'.pipe.accepted c ≡ Some write
   -- a write that was stored stays stored

@@ -28,14 +28,14 @@ use Rattle.block_queue.proofs.PlaceLemmas.{next_lap}
 
 -- ---- lists
 
--- an element more behind a list leaves each place what it has
+-- an element more behind a list leaves each index what it has
 pub slice_get_snoc : {A : Type 0} (xs : List A) (x : A) (i : ℕ) → i < length xs →
     slice_get (xs ++ x ∷ []) i ≡ slice_get xs i
 slice_get_snoc [] x i below = absurd (omega arith)
 slice_get_snoc (y ∷ xs) x zero below = refl
 slice_get_snoc (y ∷ xs) x (suc i) below = slice_get_snoc xs x i (omega arith)
 
--- at the place of the old length stands the new element
+-- at the index of the old length stands the new element
 pub slice_get_last : {A : Type 0} (xs : List A) (x : A) → slice_get (xs ++ x ∷ []) (length xs) ≡
     Some x
 slice_get_last [] x = refl

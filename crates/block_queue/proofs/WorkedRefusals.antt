@@ -18,7 +18,7 @@ use Rattle.block_queue.specs.Calls.{Refuses, IsFreshPut, IsFreshTake}
 use Rattle.block_queue.specs.Meaning.{queue_after}
 use Rattle.block_queue.specs.Opening.{IsBadQueue, IsBadFirst, Opens, AreNewPutSeats}
 use Rattle.block_queue.specs.Opening.{reader_account}
-use Rattle.block_queue.specs.Seats.{key_of, take_account, IsTakeSeatOf, Place, IsSamePlace}
+use Rattle.block_queue.specs.Seats.{key_of, take_account, IsTakeSeatOf, Stepper, IsSameStepper}
 use Rattle.block_queue.specs.Steps.{saw_hangup, HasToHand}
 use Rattle.block_queue.specs.Tries.{IfAnswered, IfAgain, IsAgain, IsTaken}
 
@@ -87,12 +87,12 @@ worn_is_not_taken : ¬ IsTaken (put.Worn [])
 worn_is_not_taken it = it
 
 -- a step leaves a seat at its table, and under its name there
-module _ (before after : Place) where
-  a_place_of_another_table : after.table_id ≢ before.table_id → ¬ IsSamePlace before after
-  a_place_of_another_table other same = other same.table
+module _ (before after : Stepper) where
+  a_stepper_of_another_table : after.table_id ≢ before.table_id → ¬ IsSameStepper before after
+  a_stepper_of_another_table other same = other same.table
 
-  a_place_of_another_name : after.id ≢ before.id → ¬ IsSamePlace before after
-  a_place_of_another_name other same = other same.id
+  a_stepper_of_another_name : after.id ≢ before.id → ¬ IsSameStepper before after
+  a_stepper_of_another_name other same = other same.id
 
 -- the reader hands over no number that is its own
 what_is_its_own_is_not_handed_over : (view : View)

@@ -15,16 +15,16 @@ use Rattle.block_queue.specs.declared.view.View.{View}
 use Rattle.block_queue.specs.Steps.{Asked}
 
 -- a seat that makes its steps
-abbrev pub Place : Type 0
-Place = Seat (Option Write) View
+abbrev pub Stepper : Type 0
+Stepper = Seat (Option Write) View
 
 -- it is one of the queue's, and has this number
-pub record IsPlaceOf (queue : Queue) (place : Place) (number : ℕ) : Type 0 where
-  pub table : place.table_id ≡ queue.table.shared.table_id
-  pub own : IsTrue (has_number place.me.0.account.shares number)
+pub record IsStepperOf (queue : Queue) (stepper : Stepper) (number : ℕ) : Type 0 where
+  pub table : stepper.table_id ≡ queue.table.shared.table_id
+  pub own : IsTrue (has_number stepper.me.0.account.shares number)
 
 -- a step changes what it knows and holds, and nothing else of it
-pub record IsSamePlace (before after : Place) : Type 0 where
+pub record IsSameStepper (before after : Stepper) : Type 0 where
   pub table : after.table_id ≡ before.table_id
   pub id : after.id ≡ before.id
 
@@ -37,12 +37,12 @@ abbrev pub no_write : Write
 no_write = record { writer = 0; bytes = [] }
 
 -- it stands between two calls, and holds no slot
-pub record IsFreePlaceOf (queue : Queue) (place : Place) (number : ℕ) : Type 0 where
-  pub table : place.table_id ≡ queue.table.shared.table_id
-  pub own : IsTrue (has_number place.me.0.account.shares number)
-  pub number_is : place.me.0.account.number ≡ number
-  pub stage : place.me.0.stage ≡ Free
-  pub no_slot : place.me.1 ≡ []
+pub record IsFreeStepperOf (queue : Queue) (stepper : Stepper) (number : ℕ) : Type 0 where
+  pub table : stepper.table_id ≡ queue.table.shared.table_id
+  pub own : IsTrue (has_number stepper.me.0.account.shares number)
+  pub number_is : stepper.me.0.account.number ≡ number
+  pub stage : stepper.me.0.stage ≡ Free
+  pub no_slot : stepper.me.1 ≡ []
 
 -- the first of the views, where there is one
 abbrev pub head_view : List View → View

@@ -13,10 +13,10 @@ ghost use Rattle.block_queue.specs.Gather.{
 };
 ghost use Rattle.block_queue.specs.GatherSteps.{HasSurveyed};
 ghost use Rattle.block_queue.specs.Seats.{
-  IsFreePlaceOf,
+  IsFreeStepperOf,
   IsPutSeatOf,
   IsTakeSeatOf,
-  IsSamePlace,
+  IsSameStepper,
   asks,
   key_of,
   no_write,
@@ -29,7 +29,7 @@ use crate::places::{MARK, TAIL};
 use crate::plays::{Asks, Join, Survey};
 use crate::queue::Queue;
 use crate::queue_object::StoredBlock;
-use crate::rule::Place;
+use crate::rule::Stepper;
 use crate::seats::{PutSeat, TakeSeat};
 use crate::spare::Spare;
 use std::alloc::Global;
@@ -77,25 +77,31 @@ impl Queue {
             taken,
             mut spare,
         } = take;
-        let mut place = badge.into_seat();
-        self.join_all(&mut place, puts);
-        let tail = self.survey::<Brand>(&mut place);
+        let mut stepper = badge.into_seat();
+        self.join_all(&mut stepper, puts);
+        let tail = self.survey::<Brand>(&mut stepper);
         let hung = tail >= MARK;
         let accepted = tail % MARK;
-        self.empty(&mut place, &mut spare, taken, accepted - taken, &mut blocks);
+        self.empty(
+            &mut stepper,
+            &mut spare,
+            taken,
+            accepted - taken,
+            &mut blocks,
+        );
         spare.free();
         Ok(Gathered { blocks, hung })
     }
 
     // Joins the seats of all writers with the reader's.
-    fn join_all(&self, place: &mut Place, mut puts: Vec<PutSeat>)
-        requires place { IsFreePlaceOf self.now place.old 0 }
+    fn join_all(&self, stepper: &mut Stepper, mut puts: Vec<PutSeat>)
+        requires stepper { IsFreeStepperOf self.now stepper.old 0 }
         requires puts { AllByRecursion (IsPutSeatOf self.now) puts.items }
         requires none { AllByRecursion (λ seat. (put_account seat).gave ≡ []) puts.items }
-        ensures place { IsFreePlaceOf self.now place.new 0 }
-        ensures taken { place.new.me.0.taken ≡ place.old.me.0.taken }
-        ensures joined { HasJoined puts.items place.old.me.0.account place.new.me.0.account }
-        ensures pasts { TellsPasts puts.items place.old.me.0 [] place.new.me.0 }
+        ensures stepper { IsFreeStepperOf self.now stepper.new 0 }
+        ensures taken { stepper.new.me.0.taken ≡ stepper.old.me.0.taken }
+        ensures joined { HasJoined puts.items stepper.old.me.0.account stepper.new.me.0.account }
+        ensures pasts { TellsPasts puts.items stepper.old.me.0 [] stepper.new.me.0 }
     {
         'joining: while let Some(seat) = puts.pop() {
             let PutSeat {
@@ -104,7 +110,7 @@ impl Queue {
                 spare,
             } = seat;
             spare.free();
-            self.join(place, badge.into_seat());
+            self.join(stepper, badge.into_seat());
         }
     }
 
@@ -113,48 +119,49 @@ impl Queue {
     // Seat: Free, with the numbers of both and the longer of what they had seen, and it keeps both.
     // The other is spent.
     // Keeps the rule: both had seen a past of one history, and no put of either was under way.
-    fn join(&self, place: &mut Place, other: Place)
-        requires place { IsFreePlaceOf self.now place.old 0 }
+    fn join(&self, stepper: &mut Stepper, other: Stepper)
+        requires stepper { IsFreeStepperOf self.now stepper.old 0 }
         requires table { other.table_id ≡ self.now.table.shared.table_id }
         requires stage { other.me.0.stage ≡ Free }
         requires no_slot { other.me.1 ≡ [] }
-        ensures place { IsSamePlace place.old place.new }
-        ensures joined { place.new.me ≡ (joined_view place.old.me.0 other.me.0, place.old.me.1) }
+        ensures stepper { IsSameStepper stepper.old stepper.new }
+        ensures joined { stepper.new.me ≡
+            (joined_view stepper.old.me.0 other.me.0, stepper.old.me.1) }
     {
-        self.table.shared.join_seat::<Join>(place, other);
+        self.table.shared.join_seat::<Join>(stepper, other);
     }
 
     /// Reads what is left.
     // Step Survey: load of the tail. Seat: as it was. Keeps the rule: nothing changes.
-    fn survey<M: Asks>(&self, place: &mut Place) -> u64
-        requires place { IsFreePlaceOf self.now place.old 0 }
+    fn survey<M: Asks>(&self, stepper: &mut Stepper) -> u64
+        requires stepper { IsFreeStepperOf self.now stepper.old 0 }
         requires asked { M.asked ≡ asks self.now 0 no_write }
-        ensures place { IsSamePlace place.old place.new }
-        ensures told { HasSurveyed self.now.key place.old.me result place.new.me }
+        ensures stepper { IsSameStepper stepper.old stepper.new }
+        ensures told { HasSurveyed self.now.key stepper.old.me result stepper.new.me }
     {
-        self.table.shared.load::<Survey<M>>(place, TAIL)
+        self.table.shared.load::<Survey<M>>(stepper, TAIL)
     }
 
     // Takes so many blocks out, which is all that is left.
     fn empty(
         &self,
-        place: &mut Place,
+        stepper: &mut Stepper,
         spare: &mut Spare,
         taken: u64,
         left: u64,
         blocks: &mut Vec<StoredBlock>,
     )
-        requires place { IsFreePlaceOf self.now place.old 0 }
-        requires taken { taken ≡ place.old.me.0.taken }
-        requires left { IsLeft self.now.key place.old.me.0.account left }
+        requires stepper { IsFreeStepperOf self.now stepper.old 0 }
+        requires taken { taken ≡ stepper.old.me.0.taken }
+        requires left { IsLeft self.now.key stepper.old.me.0.account left }
         requires none { blocks.old.items ≡ [] }
         requires room { left ≤ vec_capacity blocks.old }
-        ensures emptied { Empties self.now.key left place.old.me.0.account place.new.me.0.account
-            blocks.new.items }
+        ensures emptied { Empties self.now.key left
+            stepper.old.me.0.account stepper.new.me.0.account blocks.new.items }
     {
         let mut taken = taken;
         'emptying: while (blocks.len() as u64) < left {
-            match self.take_next(place, spare, taken, &mut NoProbe) {
+            match self.take_next(stepper, spare, taken, &mut NoProbe) {
                 TakeAnswer::Block(block, writer, _) => {
                     blocks.push_reserved(StoredBlock { writer, block });
                     taken += 1;

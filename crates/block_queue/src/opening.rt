@@ -16,12 +16,12 @@ ghost use Rattle.block_queue.specs.Opening.{
   IsBadFirst,
   handing_view,
 };
-ghost use Rattle.block_queue.specs.Seats.{IsSamePlace};
+ghost use Rattle.block_queue.specs.Seats.{IsSameStepper};
 ghost use Rattle.block_queue.specs.Steps.{HasToHand, keeper_view, handed_view};
 
 use crate::plays::Hand;
 use crate::queue::Queue;
-use crate::rule::Place;
+use crate::rule::Stepper;
 use crate::seats::{PutSeat, TakeSeat};
 use crate::spare::{Slot, Spare};
 use crate::view::Key;
@@ -106,13 +106,13 @@ impl Queue {
         let mut puts = Vec::with_capacity(alloc, writers as usize)?;
         let words = zeros(alloc, limit as usize + 1)?;
         let slots = empty_slots(alloc, limit as usize)?;
-        let Ok((table, mut place)) = Table::new(alloc, words.as_slice(), slots, &key) else {
+        let Ok((table, mut stepper)) = Table::new(alloc, words.as_slice(), slots, &key) else {
             return Err(Fault::Memory);
         };
         let queue = Queue { table, key };
-        queue.hand_seats(&mut place, &mut puts);
+        queue.hand_seats(&mut stepper, &mut puts);
         let take = TakeSeat {
-            badge: place.into_badge(),
+            badge: stepper.into_badge(),
             taken: 0,
             spare: Spare::none(),
         };
@@ -120,17 +120,18 @@ impl Queue {
     }
 
     // Gives each writer its seat.
-    fn hand_seats(&self, place: &mut Place, puts: &mut Vec<PutSeat>)
-        requires table { place.old.table_id ≡ self.now.table.shared.table_id }
-        requires view { place.old.me ≡ (handing_view self.now.key.writers 0, []) }
+    fn hand_seats(&self, stepper: &mut Stepper, puts: &mut Vec<PutSeat>)
+        requires table { stepper.old.table_id ≡ self.now.table.shared.table_id }
+        requires view { stepper.old.me ≡ (handing_view self.now.key.writers 0, []) }
         requires empty { puts.old.items ≡ [] }
         requires room { self.now.key.writers ≤ vec_capacity puts.old }
-        ensures table { place.new.table_id ≡ place.old.table_id }
-        ensures view { place.new.me ≡ (handing_view self.now.key.writers self.now.key.writers, []) }
+        ensures table { stepper.new.table_id ≡ stepper.old.table_id }
+        ensures view { stepper.new.me ≡
+            (handing_view self.now.key.writers self.now.key.writers, []) }
         ensures puts { AreNewPutSeats self.now self.now.key.writers puts.new.items }
     {
         for writer in 0..self.key.writers {
-            let seat = self.hand(place);
+            let seat = self.hand(stepper);
             puts.push_reserved(PutSeat {
                 badge: seat.into_badge(),
                 writer,
@@ -143,14 +144,14 @@ impl Queue {
     // Step Hand: split of a seat, a load of the tail.
     // Seat: Free, without the number. The new seat is Free, with the number, and has made no call.
     // Keeps the rule: the number was the reader's, and no other seat's.
-    fn hand(&self, place: &mut Place) -> Place
-        requires table { place.old.table_id ≡ self.now.table.shared.table_id }
-        requires next { HasToHand place.old.me.0 }
-        ensures place { IsSamePlace place.old place.new }
-        ensures keeper { place.new.me ≡ (keeper_view place.old.me.0, place.old.me.1) }
-        ensures handed { result.me ≡ (handed_view place.old.me.0, []) }
-        ensures table { result.table_id ≡ place.old.table_id }
+    fn hand(&self, stepper: &mut Stepper) -> Stepper
+        requires table { stepper.old.table_id ≡ self.now.table.shared.table_id }
+        requires next { HasToHand stepper.old.me.0 }
+        ensures stepper { IsSameStepper stepper.old stepper.new }
+        ensures keeper { stepper.new.me ≡ (keeper_view stepper.old.me.0, stepper.old.me.1) }
+        ensures handed { result.me ≡ (handed_view stepper.old.me.0, []) }
+        ensures table { result.table_id ≡ stepper.old.table_id }
     {
-        self.table.shared.split_seat::<Hand>(place)
+        self.table.shared.split_seat::<Hand>(stepper)
     }
 }

@@ -4,10 +4,10 @@ ghost use Rattle.sync_base.specs.declared.limits.TheConstants.{LAST_WRITE};
 ghost use Rattle.block_queue.specs.declared.view.Stage.TheVariants.{Free, Placed};
 ghost use Rattle.block_queue.specs.Calls.{Puts, IsFreshPut};
 ghost use Rattle.block_queue.specs.Seats.{
-  IsFreePlaceOf,
-  IsPlaceOf,
+  IsFreeStepperOf,
+  IsStepperOf,
   IsPutSeatOf,
-  IsSamePlace,
+  IsSameStepper,
   IsSameSeat,
   key_of,
   put_account,
@@ -19,7 +19,7 @@ use crate::answers::PutAnswer;
 use crate::places::{MARK, free};
 use crate::queue::Queue;
 use crate::queue_object::StoredBlock;
-use crate::rule::Place;
+use crate::rule::Stepper;
 use crate::seats::PutSeat;
 use crate::spare::Spare;
 use std::marker::Brand;
@@ -76,9 +76,9 @@ impl Queue {
             (put_account seat.old) (put_account seat.new) result }
         ensures fresh { IsFreshPut (key_of self.now) (put_account seat.old) result }
     {
-        let mut place = seat.stand();
-        let answer = self.put_in_turn(rt, &mut place, &mut seat.spare, seat.writer, block, probe);
-        seat.sit(place);
+        let mut stepper = seat.stand();
+        let answer = self.put_in_turn(rt, &mut stepper, &mut seat.spare, seat.writer, block, probe);
+        seat.sit(stepper);
         probe.at(6);
         answer
     }
@@ -87,21 +87,21 @@ impl Queue {
     fn put_in_turn<R: Wait, P: Probe>(
         &self,
         rt: &R,
-        place: &mut Place,
+        stepper: &mut Stepper,
         spare: &mut Spare,
         writer: u64,
         block: Piece,
         probe: &mut P,
     ) -> PutAnswer
-        requires place { IsFreePlaceOf self.now place.old (writer + 1) }
-        ensures place { IsFreePlaceOf self.now place.new (writer + 1) }
+        requires stepper { IsFreeStepperOf self.now stepper.old (writer + 1) }
+        ensures stepper { IsFreeStepperOf self.now stepper.new (writer + 1) }
         ensures answer { Puts (key_of self.now) writer block
-            place.old.me.0.account place.new.me.0.account result }
-        ensures fresh { IsFreshPut (key_of self.now) place.old.me.0.account result }
+            stepper.old.me.0.account stepper.new.me.0.account result }
+        ensures fresh { IsFreshPut (key_of self.now) stepper.old.me.0.account result }
     {
         let mut block = block;
         for _ in rt.forever() {
-            match self.try_put(place, spare, writer, block, probe) {
+            match self.try_put(stepper, spare, writer, block, probe) {
                 Tried::Answered(answer) => return answer,
                 Tried::Again(back) => block = back,
             }
@@ -112,22 +112,22 @@ impl Queue {
     // One round: the tail, and then the place of the next write.
     fn try_put<P: Probe>(
         &self,
-        place: &mut Place,
+        stepper: &mut Stepper,
         spare: &mut Spare,
         writer: u64,
         block: Piece,
         probe: &mut P,
     ) -> Tried
-        requires place { IsFreePlaceOf self.now place.old (writer + 1) }
-        ensures place { IsFreePlaceOf self.now place.new (writer + 1) }
+        requires stepper { IsFreeStepperOf self.now stepper.old (writer + 1) }
+        ensures stepper { IsFreeStepperOf self.now stepper.new (writer + 1) }
         ensures answer { IfAnswered result (λ answer. Puts (key_of self.now) writer block
-            place.old.me.0.account place.new.me.0.account answer) }
-        ensures fresh { IfAnswered result (IsFreshPut (key_of self.now) place.old.me.0.account) }
+            stepper.old.me.0.account stepper.new.me.0.account answer) }
+        ensures fresh { IfAnswered result (IsFreshPut (key_of self.now) stepper.old.me.0.account) }
         ensures again { IfAgain result (λ back. back ≡ block) }
-        ensures same { IsAgain result → place.new.me ≡ place.old.me }
+        ensures same { IsAgain result → stepper.new.me ≡ stepper.old.me }
     {
         probe.at(1);
-        let tail = self.put_tail::<Brand>(place, writer, &block);
+        let tail = self.put_tail::<Brand>(stepper, writer, &block);
         if tail >= MARK {
             return Tried::Answered(PutAnswer::Hungup(block));
         }
@@ -135,7 +135,7 @@ impl Queue {
             return Tried::Answered(PutAnswer::Worn(block));
         }
         probe.at(2);
-        let word = self.put_sequence::<Brand>(place, writer, &block, tail);
+        let word = self.put_sequence::<Brand>(stepper, writer, &block, tail);
         let free = free(self.key.limit, tail);
         if word < free {
             let number = self.key.first + tail - self.key.limit;
@@ -144,40 +144,40 @@ impl Queue {
         if word > free {
             return Tried::Again(block);
         }
-        self.claim(place, spare, writer, block, tail, probe)
+        self.claim(stepper, spare, writer, block, tail, probe)
     }
 
     // The rest of a round: the write is accepted, its block is moved in, and it stands.
     fn claim<P: Probe>(
         &self,
-        place: &mut Place,
+        stepper: &mut Stepper,
         spare: &mut Spare,
         writer: u64,
         block: Piece,
         count: u64,
         probe: &mut P,
     ) -> Tried
-        requires place { IsPlaceOf self.now place.old (writer + 1) }
-        requires number { place.old.me.0.account.number ≡ writer + 1 }
-        requires stage { place.old.me.0.stage ≡ Placed count }
-        requires no_slot { place.old.me.1 ≡ [] }
+        requires stepper { IsStepperOf self.now stepper.old (writer + 1) }
+        requires number { stepper.old.me.0.account.number ≡ writer + 1 }
+        requires stage { stepper.old.me.0.stage ≡ Placed count }
+        requires no_slot { stepper.old.me.1 ≡ [] }
         requires small { self.now.key.first + count < LAST_WRITE }
-        ensures place { IsFreePlaceOf self.now place.new (writer + 1) }
+        ensures stepper { IsFreeStepperOf self.now stepper.new (writer + 1) }
         ensures answer { IfAnswered result (λ answer. Puts (key_of self.now) writer block
-            place.old.me.0.account place.new.me.0.account answer) }
+            stepper.old.me.0.account stepper.new.me.0.account answer) }
         ensures taken { IfAnswered result IsTaken }
         ensures again { IfAgain result (λ back. back ≡ block) }
-        ensures same { IsAgain result → place.new.me ≡ (staged_view Free place.old.me.0, []) }
+        ensures same { IsAgain result → stepper.new.me ≡ (staged_view Free stepper.old.me.0, []) }
     {
         probe.at(3);
-        if self.accept::<Brand>(place, writer, &block, count) != count {
+        if self.accept::<Brand>(stepper, writer, &block, count) != count {
             return Tried::Again(block);
         }
         probe.at(4);
         let asked = Snapshot::of(&block);
-        spare.keep(self.move_in(place, count, StoredBlock { writer, block }));
+        spare.keep(self.move_in(stepper, count, StoredBlock { writer, block }));
         probe.at(5);
-        self.store::<Brand>(place, writer, &asked, count);
+        self.store::<Brand>(stepper, writer, &asked, count);
         Tried::Answered(PutAnswer::Taken(self.key.first + count + 1))
     }
 }

@@ -10,7 +10,7 @@ ghost use Rattle.block_queue.specs.declared.view.Stage.TheVariants.{
   Storing,
 };
 ghost use Rattle.block_queue.specs.Places.{place_of, free_word};
-ghost use Rattle.block_queue.specs.Seats.{IsPlaceOf, IsSamePlace, asks};
+ghost use Rattle.block_queue.specs.Seats.{IsStepperOf, IsSameStepper, asks};
 ghost use Rattle.block_queue.specs.Steps.{HasPutTail, HasPutSequence, HasAccepted, HasStored};
 ghost use Rattle.sync_base.specs.declared.limits.TheConstants.{LAST_WRITE};
 
@@ -18,7 +18,7 @@ use crate::places::{TAIL, place, sequence, stored};
 use crate::plays::{Accept, Asks, PutSequence, PutTail, Store};
 use crate::queue::Queue;
 use crate::queue_object::StoredBlock;
-use crate::rule::Place;
+use crate::rule::Stepper;
 use crate::spare::{Slot, Spare};
 use std::snapshot::Snapshot;
 use sync_base::Piece;
@@ -28,12 +28,12 @@ impl Queue {
     // Step PutTail: load of the tail.
     // Seat: Free, then Free with the entry Hungup or Worn, or Counted.
     // Keeps the rule: the history gains at most a refusal, which changes no word.
-    pub(crate) fn put_tail<M: Asks>(&self, seat: &mut Place, _writer: u64, _block: &Piece) -> u64
-        requires seat { IsPlaceOf self.now seat.old (_writer + 1) }
+    pub(crate) fn put_tail<M: Asks>(&self, seat: &mut Stepper, _writer: u64, _block: &Piece) -> u64
+        requires seat { IsStepperOf self.now seat.old (_writer + 1) }
         requires asked { M.asked ≡ asks self.now 0
             (record { writer = _writer; bytes = _block.now }) }
         requires stage { seat.old.me.0.stage ≡ Free }
-        ensures seat { IsSamePlace seat.old seat.new }
+        ensures seat { IsSameStepper seat.old seat.new }
         ensures told { HasPutTail M.asked seat.old.me result seat.new.me }
     {
         self.table.shared.load::<PutTail<M>>(seat, TAIL)
@@ -45,16 +45,16 @@ impl Queue {
     // Keeps the rule: the history gains at most a refusal, which changes no word.
     pub(crate) fn put_sequence<M: Asks>(
         &self,
-        seat: &mut Place,
+        seat: &mut Stepper,
         _writer: u64,
         _block: &Piece,
         count: u64,
     ) -> u64
-        requires seat { IsPlaceOf self.now seat.old (_writer + 1) }
+        requires seat { IsStepperOf self.now seat.old (_writer + 1) }
         requires asked { M.asked ≡ asks self.now count
             (record { writer = _writer; bytes = _block.now }) }
         requires stage { seat.old.me.0.stage ≡ Counted count }
-        ensures seat { IsSamePlace seat.old seat.new }
+        ensures seat { IsSameStepper seat.old seat.new }
         ensures told { HasPutSequence M.asked seat.old.me result seat.new.me }
     {
         let word = sequence(place(self.key.limit, count));
@@ -68,17 +68,17 @@ impl Queue {
     // Keeps the rule: the tail had no mark, so the queue is not hung up, and there is room.
     pub(crate) fn accept<M: Asks>(
         &self,
-        seat: &mut Place,
+        seat: &mut Stepper,
         _writer: u64,
         _block: &Piece,
         count: u64,
     ) -> u64
-        requires seat { IsPlaceOf self.now seat.old (_writer + 1) }
+        requires seat { IsStepperOf self.now seat.old (_writer + 1) }
         requires asked { M.asked ≡ asks self.now count
             (record { writer = _writer; bytes = _block.now }) }
         requires stage { seat.old.me.0.stage ≡ Placed count }
         requires small { count < LAST_WRITE }
-        ensures seat { IsSamePlace seat.old seat.new }
+        ensures seat { IsSameStepper seat.old seat.new }
         ensures told { HasAccepted M.asked seat.old.me result seat.new.me }
     {
         self.table
@@ -88,10 +88,10 @@ impl Queue {
 
     /// Puts the block into the slot of its place, and takes out the memory that lay there.
     // Exchange of the slot, which is the seat's, as plain memory. Seat: as it was.
-    pub(crate) fn move_in(&self, seat: &mut Place, count: u64, block: StoredBlock) -> Spare
+    pub(crate) fn move_in(&self, seat: &mut Stepper, count: u64, block: StoredBlock) -> Spare
         requires seat { seat.old.table_id ≡ self.now.table.shared.table_id }
         requires empty { seat.old.me.1 ≡ (place_of self.now.key.limit count, None) ∷ [] }
-        ensures seat { IsSamePlace seat.old seat.new }
+        ensures seat { IsSameStepper seat.old seat.new }
         ensures moved { seat.new.me ≡
             (seat.old.me.0, (place_of self.now.key.limit count, Some block) ∷ []) }
     {
@@ -108,12 +108,12 @@ impl Queue {
     // Keeps the rule: no read has begun the write, and its block lies in the slot.
     pub(crate) fn store<M: Asks>(
         &self,
-        seat: &mut Place,
+        seat: &mut Stepper,
         _writer: u64,
         _block: &Snapshot<Piece>,
         count: u64,
     )
-        requires seat { IsPlaceOf self.now seat.old (_writer + 1) }
+        requires seat { IsStepperOf self.now seat.old (_writer + 1) }
         requires asked { M.asked ≡ asks self.now count
             (record { writer = _writer; bytes = _block.now.value }) }
         requires stage { seat.old.me.0.stage ≡ Storing count _writer _block.now.value }
@@ -122,7 +122,7 @@ impl Queue {
           place_of self.now.key.limit count,
           Some (record { writer = _writer; bytes = _block.now.value }),
         ) ∷ [] }
-        ensures seat { IsSamePlace seat.old seat.new }
+        ensures seat { IsSameStepper seat.old seat.new }
         ensures told { HasStored M.asked seat.old.me seat.new.me }
     {
         let word = sequence(place(self.key.limit, count));

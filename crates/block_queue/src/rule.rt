@@ -13,7 +13,7 @@ pub struct OneQueue;
 
 pub type QueueTable = Table<Slot, View, Key, OneQueue, Global>;
 
-pub type Place = Seat<Slot, View>;
+pub type Stepper = Seat<Slot, View>;
 
 impl TableRule<Slot, View, Key> for OneQueue {
     ghost holds = { IsOneQueue };

@@ -2,7 +2,7 @@
 ghost use Rattle.std.specs.Prelude.{◌≡◌, [], ◌∷◌};
 ghost use Rattle.block_queue.specs.Seats.{put_view, take_view};
 
-use crate::rule::Place;
+use crate::rule::Stepper;
 use crate::spare::Spare;
 use crate::view::View;
 use atomic_table::Badge;
@@ -35,42 +35,42 @@ impl PutSeat {
     }
 
     /// What the seat makes its steps with. A blank badge stands in for what it knows until `sit`.
-    pub(crate) fn stand(&mut self) -> Place
+    pub(crate) fn stand(&mut self) -> Stepper
         requires { self.old.badge.views ≡ put_view self.old ∷ [] }
         ensures table { result.table_id ≡ self.old.badge.table_id }
-        ensures place { result.me ≡ (put_view self.old, []) }
+        ensures stepper { result.me ≡ (put_view self.old, []) }
         ensures writer { self.new.writer ≡ self.old.writer }
     {
         mem::replace(&mut self.badge, Badge::blank()).into_seat()
     }
 
-    pub(crate) fn sit(&mut self, place: Place)
-        requires { place.me.1 ≡ [] }
-        ensures table { self.new.badge.table_id ≡ place.table_id }
-        ensures views { self.new.badge.views ≡ place.me.0 ∷ [] }
+    pub(crate) fn sit(&mut self, stepper: Stepper)
+        requires { stepper.me.1 ≡ [] }
+        ensures table { self.new.badge.table_id ≡ stepper.table_id }
+        ensures views { self.new.badge.views ≡ stepper.me.0 ∷ [] }
         ensures writer { self.new.writer ≡ self.old.writer }
     {
-        self.badge = place.into_badge();
+        self.badge = stepper.into_badge();
     }
 }
 
 impl TakeSeat {
     /// What the seat makes its steps with. A blank badge stands in for what it knows until `sit`.
-    pub(crate) fn stand(&mut self) -> Place
+    pub(crate) fn stand(&mut self) -> Stepper
         requires { self.old.badge.views ≡ take_view self.old ∷ [] }
         ensures table { result.table_id ≡ self.old.badge.table_id }
-        ensures place { result.me ≡ (take_view self.old, []) }
+        ensures stepper { result.me ≡ (take_view self.old, []) }
         ensures taken { self.new.taken ≡ self.old.taken }
     {
         mem::replace(&mut self.badge, Badge::blank()).into_seat()
     }
 
-    pub(crate) fn sit(&mut self, place: Place)
-        requires { place.me.1 ≡ [] }
-        ensures table { self.new.badge.table_id ≡ place.table_id }
-        ensures views { self.new.badge.views ≡ place.me.0 ∷ [] }
+    pub(crate) fn sit(&mut self, stepper: Stepper)
+        requires { stepper.me.1 ≡ [] }
+        ensures table { self.new.badge.table_id ≡ stepper.table_id }
+        ensures views { self.new.badge.views ≡ stepper.me.0 ∷ [] }
         ensures taken { self.new.taken ≡ self.old.taken }
     {
-        self.badge = place.into_badge();
+        self.badge = stepper.into_badge();
     }
 }

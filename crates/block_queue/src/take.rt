@@ -4,7 +4,7 @@ ghost use Rattle.block_queue.specs.declared.entry.Entry.TheVariants.{Hung};
 ghost use Rattle.block_queue.specs.Calls.{Takes, IsFreshTake, blocks_in};
 ghost use Rattle.block_queue.specs.Meaning.{Enters};
 ghost use Rattle.block_queue.specs.Seats.{
-  IsFreePlaceOf,
+  IsFreeStepperOf,
   IsPutSeatOf,
   IsTakeSeatOf,
   IsSameSeat,
@@ -17,7 +17,7 @@ use crate::answers::TakeAnswer;
 use crate::places::{MARK, stored};
 use crate::queue::Queue;
 use crate::queue_object::StoredBlock;
-use crate::rule::Place;
+use crate::rule::Stepper;
 use crate::seats::{PutSeat, TakeSeat};
 use crate::spare::Spare;
 use std::marker::Brand;
@@ -66,45 +66,45 @@ impl Queue {
         ensures fresh { IsFreshTake (key_of self.now)
             (take_account seat.old) (take_account seat.new) result }
     {
-        let mut place = seat.stand();
-        let answer = self.take_next(&mut place, &mut seat.spare, seat.taken, probe);
+        let mut stepper = seat.stand();
+        let answer = self.take_next(&mut stepper, &mut seat.spare, seat.taken, probe);
         seat.taken += blocks(&answer);
-        seat.sit(place);
+        seat.sit(stepper);
         answer
     }
 
     // The tail, and then the place of the next write.
     pub(crate) fn take_next<P: Probe>(
         &self,
-        place: &mut Place,
+        stepper: &mut Stepper,
         spare: &mut Spare,
         taken: u64,
         probe: &mut P,
     ) -> TakeAnswer
-        requires place { IsFreePlaceOf self.now place.old 0 }
-        requires taken { taken ≡ place.old.me.0.taken }
-        ensures place { IsFreePlaceOf self.now place.new 0 }
+        requires stepper { IsFreeStepperOf self.now stepper.old 0 }
+        requires taken { taken ≡ stepper.old.me.0.taken }
+        ensures stepper { IsFreeStepperOf self.now stepper.new 0 }
         ensures answer { Takes (key_of self.now)
-            place.old.me.0.account place.new.me.0.account result }
+            stepper.old.me.0.account stepper.new.me.0.account result }
         ensures fresh { IsFreshTake (key_of self.now)
-            place.old.me.0.account place.new.me.0.account result }
-        ensures counted { place.new.me.0.taken ≡ taken + blocks_in result }
+            stepper.old.me.0.account stepper.new.me.0.account result }
+        ensures counted { stepper.new.me.0.taken ≡ taken + blocks_in result }
         ensures small { taken < 2 ^ 62 }
     {
         probe.at(1);
-        let tail = self.take_tail::<Brand>(place);
+        let tail = self.take_tail::<Brand>(stepper);
         if tail == taken + MARK {
             return TakeAnswer::End;
         }
         probe.at(2);
-        let word = self.take_sequence::<Brand>(place, taken);
+        let word = self.take_sequence::<Brand>(stepper, taken);
         if word != stored(self.key.limit, taken) {
             return TakeAnswer::NotYet(self.key.first + taken);
         }
         probe.at(3);
-        let stored = self.move_out(place, taken, spare.take());
+        let stored = self.move_out(stepper, taken, spare.take());
         probe.at(4);
-        self.free_place::<Brand>(place, taken, &stored);
+        self.free_place::<Brand>(stepper, taken, &stored);
         let StoredBlock { writer, block } = stored;
         TakeAnswer::Block(block, writer, self.key.first + taken + 1)
     }
@@ -119,9 +119,9 @@ impl Queue {
         ensures hung { Enters (key_of self.now) (Hung (seat.old.writer + 1))
             (put_account seat.old) (put_account seat.new) }
     {
-        let mut place = seat.stand();
-        self.hang(&mut place, seat.writer + 1);
-        seat.sit(place);
+        let mut stepper = seat.stand();
+        self.hang(&mut stepper, seat.writer + 1);
+        seat.sit(stepper);
     }
 
     /// Hangs the queue up from the side of the reader, for good. What was accepted stays. It waits
@@ -133,18 +133,18 @@ impl Queue {
         ensures hung { Enters (key_of self.now) (Hung 0)
             (take_account seat.old) (take_account seat.new) }
     {
-        let mut place = seat.stand();
-        self.hang(&mut place, 0);
-        seat.sit(place);
+        let mut stepper = seat.stand();
+        self.hang(&mut stepper, 0);
+        seat.sit(stepper);
     }
 
-    fn hang(&self, place: &mut Place, number: u64)
-        requires place { IsFreePlaceOf self.now place.old number }
-        ensures place { IsFreePlaceOf self.now place.new number }
+    fn hang(&self, stepper: &mut Stepper, number: u64)
+        requires stepper { IsFreeStepperOf self.now stepper.old number }
+        ensures stepper { IsFreeStepperOf self.now stepper.new number }
         ensures hung { Enters (key_of self.now) (Hung number)
-            place.old.me.0.account place.new.me.0.account }
-        ensures taken { place.new.me.0.taken ≡ place.old.me.0.taken }
+            stepper.old.me.0.account stepper.new.me.0.account }
+        ensures taken { stepper.new.me.0.taken ≡ stepper.old.me.0.taken }
     {
-        self.hang_up::<Brand>(place, number);
+        self.hang_up::<Brand>(stepper, number);
     }
 }

@@ -396,8 +396,8 @@ fn blocks_in_order(run: &mut Run) -> Result<(), Fault> {
 // numbers that it was told.
 fn check_blocks(rt: &impl Abort, run: &Run) {
     let mut next = [0; MOST_WRITERS as usize];
-    for (place, read) in run.read.iter().enumerate() {
-        assert_eq!(rt; read.number, place as u64 + 1);
+    for (at, read) in run.read.iter().enumerate() {
+        assert_eq!(rt; read.number, at as u64 + 1);
         let writer = read.writer as usize;
         assert!(rt; writer < run.numbers.len() && writer < next.len());
         let index = next[writer];
@@ -446,8 +446,8 @@ fn check_object(rt: &impl Abort, alloc: Global, run: &Run, limit: u64) -> Result
     if run.gathered.hung {
         assert!(rt; matches!(object.run(QueueCall::Hang), QueueReply::Hung));
     }
-    for place in out..run.read.len() {
-        assert!(rt; is_block(object.run(QueueCall::Take), run.read.get(place)));
+    for index in out..run.read.len() {
+        assert!(rt; is_block(object.run(QueueCall::Take), run.read.get(index)));
     }
     let ended = matches!(object.run(QueueCall::Take), QueueReply::End);
     assert_eq!(rt; ended, run.gathered.hung);

@@ -12,13 +12,13 @@ emptying-preserved c =
     let room = c.emptying.invariant.room in
     let was = c.emptying.invariant.emptying in
     record {
-      place = c.take_next.ensures.place;
+      stepper = c.take_next.ensures.stepper;
       taken = sym c.in-Block.ensures.counted;
       room = omega arith;
-      emptying = subst (IsEmptying c.args.self.now.key c.args.left c.args.place.now.me.0.account
-          c.take_next.new.place.me.0.account) (sym c.push_reserved.ensures.items)
-          (one_emptied c.args.self.now.key c.args.left c.args.place.now.me.0.account
-          c.emptying.place.me.0.account c.take_next.new.place.me.0.account
+      emptying = subst (IsEmptying c.args.self.now.key c.args.left c.args.stepper.now.me.0.account
+          c.take_next.new.stepper.me.0.account) (sym c.push_reserved.ensures.items)
+          (one_emptied c.args.self.now.key c.args.left c.args.stepper.now.me.0.account
+          c.emptying.stepper.me.0.account c.take_next.new.stepper.me.0.account
           c.emptying.blocks.items (record {
             writer = c.in-Block.writer;
             bytes = c.in-Block.block;
@@ -29,15 +29,15 @@ pub unreachable-requires : goal.unreachable-requires
 unreachable-requires c =
     let more : length c.emptying.blocks.items < c.args.left =
     omega (arith, c.emptying-test.true, c.len.ensures) in
-    not_waiting c.args.self.now.key c.emptying.place.me.0.account
+    not_waiting c.args.self.now.key c.emptying.stepper.me.0.account
     (c.args.left - length c.emptying.blocks.items) c.emptying.invariant.emptying.is_left
-    (omega arith) c.in-NotYet.field-0 c.take_next.new.place.me.0.account
+    (omega arith) c.in-NotYet.field-0 c.take_next.new.stepper.me.0.account
     c.in-NotYet.ensures.answer
 
 pub unreachable-requires-in-End : goal.unreachable-requires-in-End
 unreachable-requires-in-End c =
     let more : length c.emptying.blocks.items < c.args.left =
     omega (arith, c.emptying-test.true, c.len.ensures) in
-    not_ended c.args.self.now.key c.emptying.place.me.0.account
+    not_ended c.args.self.now.key c.emptying.stepper.me.0.account
     (c.args.left - length c.emptying.blocks.items) c.emptying.invariant.emptying.is_left
-    (omega arith) c.take_next.new.place.me.0.account c.in-End.ensures.answer
+    (omega arith) c.take_next.new.stepper.me.0.account c.in-End.ensures.answer

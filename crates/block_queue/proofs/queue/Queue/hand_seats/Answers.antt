@@ -17,7 +17,7 @@ loop-writer-preserved c =
     let capacity = c.push_reserved.ensures.capacity in
     let known = ap (λ me. me.0) c.hand-seat.ensures.handed ∙ ap (λ me. handed_view me.0) view in
     record {
-      table = c.hand-seat.ensures.place.table ∙ c.loop-writer.invariant.table;
+      table = c.hand-seat.ensures.stepper.table ∙ c.loop-writer.invariant.table;
       view = c.hand-seat.ensures.keeper ∙ ap (λ me. (keeper_view me.0, me.1)) view ∙
           ap (λ v. (v, [])) (handed_on c.args.self.now.key.writers c.loop-writer.writer more);
       puts = subst (AreNewPutSeats c.args.self.now (c.loop-writer.writer + 1))

@@ -1,21 +1,21 @@
 -- The writer sits down again as it stood up: a hangup is an entry, which leaves it its numbers.
 use Rattle.std.proofs.Common.{ap, subst, sym, ◌∙◌, ◌+◌, ◌<◌}
-use Rattle.block_queue.specs.Seats.{IsFreePlaceOf, head_view}
+use Rattle.block_queue.specs.Seats.{IsFreeStepperOf, head_view}
 use Rattle.block_queue.proofs.AllSeatsLemmas.{sat_same, enters_same}
 use Rattle.block_queue.proofs.SeatLemmas.{sits_put}
 use Rattle.block_queue.proofs.queue.Queue.hang_put.Goals as goal
 
 pub returns-clause-seat : goal.returns-clause-seat
 returns-clause-seat c =
-    let writer = c.sit.ensures.writer ∙ c.stand-place.ensures.writer in
-    sits_put c.args.self.now c.sit.new.self c.hang.new.place
+    let writer = c.sit.ensures.writer ∙ c.stand-stepper.ensures.writer in
+    sits_put c.args.self.now c.sit.new.self c.hang.new.stepper
     (subst (λ n. n < c.args.self.now.key.writers) (sym writer) c.requires.seat.writer_is)
-    (subst (λ n. IsFreePlaceOf c.args.self.now c.hang.new.place (n + 1)) (sym c.sit.ensures.writer)
-    c.hang.ensures.place)
+    (subst (λ n. IsFreeStepperOf c.args.self.now c.hang.new.stepper (n + 1))
+    (sym c.sit.ensures.writer) c.hang.ensures.stepper)
     c.sit.ensures.table c.sit.ensures.views
 
 pub returns-clause-same : goal.returns-clause-same
 returns-clause-same c =
-    sat_same _ _ _ _ (ap (λ me. me.0.account) c.stand-place.ensures.place)
+    sat_same _ _ _ _ (ap (λ me. me.0.account) c.stand-stepper.ensures.stepper)
     (ap (λ views. (head_view views).account) c.sit.ensures.views)
     (enters_same _ _ _ _ c.hang.ensures.hung)

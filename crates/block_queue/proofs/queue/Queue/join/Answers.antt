@@ -6,10 +6,10 @@ use Rattle.block_queue.proofs.queue.Queue.join.Goals as goal
 pub join_seat-requires : goal.join_seat-requires
 join_seat-requires c =
     let words = c.args.self.now.words in (
-      c.requires.place.table,
+      c.requires.stepper.table,
       c.requires.table,
       c.requires.no_slot,
       omega arith,
-      join_keeps c.args.self.now.table.shared.key _ _ _ _ c.requires.place.own
-          c.requires.place.stage c.requires.stage,
+      join_keeps c.args.self.now.table.shared.key _ _ _ _ c.requires.stepper.own
+          c.requires.stepper.stage c.requires.stage,
     )

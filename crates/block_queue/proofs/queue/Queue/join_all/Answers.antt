@@ -16,11 +16,11 @@ no_more (seat ∷ seats) none = absurd (omega arith)
 
 pub joining-init : goal.joining-init
 joining-init c = record {
-  place = c.requires.place;
+  stepper = c.requires.stepper;
   taken = refl;
   puts = c.requires.puts;
   joining =
-      none_joined c.args.self.now _ _ c.requires.place.own c.requires.none;
+      none_joined c.args.self.now _ _ c.requires.stepper.own c.requires.none;
   pasts = none_told _ _;
 }
 
@@ -44,20 +44,21 @@ joining-preserved c =
     let last = last_seat c.args.self.now _ _ _ c.in-Some.ensures.items c.joining.invariant.puts in
     let joined = c.join.ensures.joined in
     record {
-      place = joined_free c.args.self.now c.joining.place c.join.new.place c.into_seat.result.me.0
-          c.joining.invariant.place c.join.ensures.place joined;
+      stepper = joined_free c.args.self.now c.joining.stepper c.join.new.stepper
+          c.into_seat.result.me.0 c.joining.invariant.stepper c.join.ensures.stepper joined;
       taken = ap (λ me. me.0.taken) joined ∙ c.joining.invariant.taken;
       puts = last.1;
-      joining = one_joined c.args.self.now c.args.puts.items c.args.place.now.me.0.account
-          c.joining.place.me.0.account c.join.new.place.me.0.account c.joining.puts.items
+      joining = one_joined c.args.self.now c.args.puts.items c.args.stepper.now.me.0.account
+          c.joining.stepper.me.0.account c.join.new.stepper.me.0.account c.joining.puts.items
           c.pop.new.self.items c.in-Some.seat c.in-Some.ensures.items c.joining.invariant.joining
-          (ap (λ me. me.0.account) joined ∙ ap (λ view. joined_account c.joining.place.me.0.account
-          view.account) (sym (ap head_view c.into_seat.ensures.2)))
+          (ap (λ me. me.0.account) joined
+          ∙ ap (λ view. joined_account c.joining.stepper.me.0.account view.account)
+          (sym (ap head_view c.into_seat.ensures.2)))
           last.0.own;
-      pasts = one_told c.args.puts.items c.args.place.now.me.0 c.joining.place.me.0
-          c.join.new.place.me.0 c.joining.puts.items c.pop.new.self.items c.in-Some.seat
+      pasts = one_told c.args.puts.items c.args.stepper.now.me.0 c.joining.stepper.me.0
+          c.join.new.stepper.me.0 c.joining.puts.items c.pop.new.self.items c.in-Some.seat
           c.in-Some.ensures.items c.joining.invariant.pasts
-          (ap (λ me. me.0) joined ∙ ap (λ view. joined_view c.joining.place.me.0 view)
+          (ap (λ me. me.0) joined ∙ ap (λ view. joined_view c.joining.stepper.me.0 view)
           (sym (ap head_view c.into_seat.ensures.2)));
     }
 
@@ -65,14 +66,14 @@ pub returns-clause-joined : goal.returns-clause-joined
 returns-clause-joined c =
     let none : c.joining.puts.items ≡ [] =
     no_more c.joining.puts.items (omega (arith, c.in_default.ensures.cases)) in
-    all_joined c.args.self.now c.args.puts.items c.args.place.now.me.0.account
-    c.joining.place.me.0.account
-    (subst (λ rest. IsJoining c.args.puts.items c.args.place.now.me.0.account rest
-    c.joining.place.me.0.account) none c.joining.invariant.joining)
+    all_joined c.args.self.now c.args.puts.items c.args.stepper.now.me.0.account
+    c.joining.stepper.me.0.account
+    (subst (λ rest. IsJoining c.args.puts.items c.args.stepper.now.me.0.account rest
+    c.joining.stepper.me.0.account) none c.joining.invariant.joining)
 
 pub returns-clause-pasts : goal.returns-clause-pasts
 returns-clause-pasts c =
     let none : c.joining.puts.items ≡ [] =
     no_more c.joining.puts.items (omega (arith, c.in_default.ensures.cases)) in
-    subst (λ rest. TellsPasts c.args.puts.items c.args.place.now.me.0 rest c.joining.place.me.0)
+    subst (λ rest. TellsPasts c.args.puts.items c.args.stepper.now.me.0 rest c.joining.stepper.me.0)
     none c.joining.invariant.pasts
