@@ -6,8 +6,8 @@ use Rattle.sync_base.specs.declared.fault.Fault.TheVariants as fault
 use Rattle.sync_base.specs.declared.ids.RendezId.{RendezId}
 use Rattle.rendez_words.specs.declared.words.Words.{Words}
 use Rattle.rendez_words.specs.Process.{Process}
-use Rattle.sync_base.specs.NoteSet.{no_notes}
-use Rattle.sleep_wakeup.specs.Calls.{WhyNotSlept, Sleeps}
+use Rattle.sleep_wakeup.specs.Calls.{WhyNotSlept}
+use Rattle.sleep_wakeup.specs.Deeds.{SleepsWell}
 use Rattle.histories.specs.declared.account.Account.{Account}
 use Rattle.block_queue.specs.declared.entry.Entry.{Entry}
 use Rattle.block_queue.specs.declared.view.Key.{Key}
@@ -62,15 +62,14 @@ tried_end key row old came new tried is =
 pub sleeps_on : (key : Key) (row : Row) (old between : Calling) (came : Came) (number : ℕ)
     (rendez : RendezId) (after : Process) → TriesOn key row old came between
     → found_of came ≡ found.NotYet number → rendez ≡ reader_rendez row
-    → Sleeps between.reader.process rendez number no_notes after
+    → SleepsWell between.reader.process rendez number after
     → SleepsOn key row old (calling (record between.reader { process = after }) between.buffer)
 sleeps_on key row old between came number rendez after tried told is slept =
     record {
       number = number;
       before = between.reader.process;
       tried = tried_not_yet key row old came number between tried told;
-      slept = subst (λ (r : RendezId). Sleeps between.reader.process r number no_notes after) is
-          slept;
+      slept = subst (λ (r : RendezId). SleepsWell between.reader.process r number after) is slept;
     }
 
 -- and one that did not end well

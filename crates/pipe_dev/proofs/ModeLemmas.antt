@@ -9,9 +9,8 @@ use Rattle.sync_base.specs.declared.fault.Fault.{Fault}
 use Rattle.sync_base.specs.declared.fault.Fault.TheVariants as fault
 use Rattle.sync_base.specs.declared.mode.Mode.{Mode}
 use Rattle.sync_base.specs.declared.mode.Mode.TheVariants.{Message, Stream}
-use Rattle.sync_base.specs.NoteSet.{no_notes}
 use Rattle.rendez_words.specs.Process.{Process}
-use Rattle.sleep_wakeup.specs.Calls.{Sleeps}
+use Rattle.sleep_wakeup.specs.Deeds.{SleepsWell, FailsAsleep}
 use Rattle.block_queue.specs.declared.entry.Entry.{Entry}
 use Rattle.block_queue.specs.declared.entry.Entry.TheVariants as entry
 use Rattle.block_queue.specs.declared.view.Key.{Key}
@@ -39,7 +38,7 @@ use Rattle.pipe_dev.specs.ReadCalls.{SleepsOn, FailsOn}
 use Rattle.pipe_dev.specs.ReadCalls.{EndsOn, KeepsReading, lending_of, is_got}
 use Rattle.pipe_dev.specs.ReadSteps.{found_at, found_of, answer_of}
 use Rattle.pipe_dev.specs.Rendezes.{WakesWith, WakesWriters, reader_rendez}
-use Rattle.pipe_dev.specs.Rounds.{Rounds, FailsAsleep}
+use Rattle.pipe_dev.specs.Rounds.{Rounds}
 
 -- ---- by what a try is answered
 
@@ -357,7 +356,7 @@ slept_message key row old new is sleeps =
           };
           fresh = told.found.fresh;
         };
-        slept = subst (λ (p : Process). Sleeps p (reader_rendez row) sleeps.number no_notes
+        slept = subst (λ (p : Process). SleepsWell p (reader_rendez row) sleeps.number
             new.reader.process) told.found.none.process sleeps.slept;
       },
       told.buffer,

@@ -9,6 +9,7 @@ use Rattle.rendez_words.specs.declared.words.Words.{Words}
 use Rattle.rendez_words.specs.Process.{Process}
 use Rattle.rendez_words.specs.Words.{rendez_of}
 use Rattle.sleep_wakeup.specs.Calls.{WhyNotSlept}
+use Rattle.sleep_wakeup.specs.Deeds.{FailsAsleep}
 use Rattle.histories.specs.declared.account.Account.{Account}
 use Rattle.histories.specs.History.{IsLegal}
 use Rattle.block_queue.specs.declared.entry.Entry.{Entry}
@@ -21,7 +22,6 @@ use Rattle.block_queue.specs.Meaning.{Enters, KnowsQueue, queue_meaning, queue_a
 use Rattle.block_queue.specs.Places.{IsQueueState}
 use Rattle.block_queue.proofs.RuleMoves.{history_fits}
 use Rattle.block_queue.proofs.StateLemmas.{begun_is}
-use Rattle.pipe_dev.specs.Rounds.{FailsAsleep}
 use Rattle.pipe_dev.specs.WriteCalls.{HasHang}
 
 -- a sleep of a Rendez that is there, below the level of a hangup

@@ -17,9 +17,9 @@ use Rattle.rendez_words.specs.Rule.{ShowsCore}
 use Rattle.rendez_words.specs.Steps.{raises, takes}
 use Rattle.rendez_words.proofs.LawLemmas.{receipts_release}
 use Rattle.sleep_wakeup.specs.Calls.{Ends}
+use Rattle.sleep_wakeup.specs.Deeds.{WakesOne}
 use Rattle.pipe_dev.specs.declared.row.Row.{Row}
-use Rattle.pipe_dev.specs.Rendezes.{WakesOne, WakesWriters, WakesWith}
-use Rattle.pipe_dev.specs.Rendezes.{reader_rendez, writer_rendez}
+use Rattle.pipe_dev.specs.Rendezes.{WakesWriters, WakesWith, reader_rendez, writer_rendez}
 use Rattle.pipe_dev.specs.WaitLaws.{HasGoneOn, WritesWakeTheReader, ReadsWakeEachWriter}
 use Rattle.pipe_dev.specs.WaitLaws.{HangupsWakeAll, TriesWakeEachWriter}
 

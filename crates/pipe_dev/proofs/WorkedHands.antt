@@ -2,8 +2,7 @@
 use Rattle.std.proofs.Common.{◌≡◌, ℕ, true, List, [], ◌∷◌, Some, None}
 use Rattle.std.specs.Prelude.{Err}
 use Rattle.sync_base.specs.declared.fault.Fault.TheVariants as fault
-use Rattle.sync_base.specs.NoteSet.{no_notes}
-use Rattle.sleep_wakeup.specs.Calls.{Sleeps}
+use Rattle.sleep_wakeup.specs.Deeds.{SleepsWell}
 use Rattle.block_queue.specs.declared.queue.Queue.{Queue}
 use Rattle.block_queue.specs.declared.seats.PutSeat.{PutSeat}
 use Rattle.block_queue.specs.declared.view.Key.{Key}
@@ -46,7 +45,7 @@ module _ (key : Key) (row : Row) (old new : Calling) where
 
   -- a round that goes on has slept on the reader's Rendez
   a_round_that_goes_on_slept : (slept : IfSlept None key row old new)
-      → Sleeps slept.before (reader_rendez row) slept.number no_notes new.reader.process
+      → SleepsWell slept.before (reader_rendez row) slept.number new.reader.process
   a_round_that_goes_on_slept slept = slept.slept
 
 module _ (call : WriteCall) (old new : Writer) where
@@ -84,5 +83,5 @@ module _ (call : WriteCall) (old new : Writer) where
 
   -- a round that goes on has slept on the writer's own Rendez
   a_write_that_goes_on_slept : (slept : SleepsForRoom call old new)
-      → Sleeps old.process (writer_rendez call.row call.writer) slept.number no_notes new.process
+      → SleepsWell old.process (writer_rendez call.row call.writer) slept.number new.process
   a_write_that_goes_on_slept slept = slept.slept

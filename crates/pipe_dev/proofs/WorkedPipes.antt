@@ -10,6 +10,7 @@ use Rattle.sync_base.specs.Pipe.{PipeState}
 use Rattle.sync_base.specs.Write.{Write}
 use Rattle.rendez_words.specs.Process.{Process}
 use Rattle.rendez_words.specs.Steps.{raises, finds_nobody}
+use Rattle.sleep_wakeup.specs.Deeds.{WakesOne}
 use Rattle.block_queue.specs.declared.entry.Entry.{Entry}
 use Rattle.block_queue.specs.declared.entry.Entry.TheVariants.{Taken, Stood, Block, Hung}
 use Rattle.block_queue.specs.declared.view.Key.{Key}
@@ -21,8 +22,7 @@ use Rattle.pipe_dev.specs.Laws.{NoWriteAfterHangup, read_and_held}
 use Rattle.pipe_dev.specs.Parts.{Part, pieces_of, bytes_by, part_of, rest_of}
 use Rattle.pipe_dev.specs.ReadCalls.{Reader, Gets, GoesOn, TakesOut, IsFilled, calling}
 use Rattle.pipe_dev.specs.Reading.{IsRight}
-use Rattle.pipe_dev.specs.Rendezes.{WakesOne, WakesWriters, reader_rendez}
-use Rattle.pipe_dev.specs.Rounds.{FailsAsleep}
+use Rattle.pipe_dev.specs.Rendezes.{WakesWriters, reader_rendez}
 use Rattle.pipe_dev.specs.WriteCalls.{HasHang, atomic_writes, bytes_in}
 
 abbrev part : ℕ → ℕ → List ℕ → Part
@@ -210,10 +210,6 @@ module _ (before_all : Process) where
           woken = record { ends = inl refl; rendez_is = refl; level_is = refl; receipt = inl refl };
         };
       }
-
-  sleep_has_no_other_fault : (before after : Process) (rendez : RendezId)
-      → FailsAsleep before rendez 0 after fault.NoRendez → ⊥
-  sleep_has_no_other_fault before after rendez fails = fails
 
 -- ---- what was written
 

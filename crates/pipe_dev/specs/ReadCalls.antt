@@ -7,9 +7,8 @@ use Rattle.sync_base.specs.declared.fault.Fault.{Fault}
 use Rattle.sync_base.specs.declared.fault.Fault.TheVariants as fault
 use Rattle.sync_base.specs.declared.mode.Mode.{Mode}
 use Rattle.sync_base.specs.declared.mode.Mode.TheVariants.{Message, Stream}
-use Rattle.sync_base.specs.NoteSet.{no_notes}
 use Rattle.rendez_words.specs.Process.{Process}
-use Rattle.sleep_wakeup.specs.Calls.{Sleeps}
+use Rattle.sleep_wakeup.specs.Deeds.{SleepsWell, FailsAsleep}
 use Rattle.sleep_wakeup.specs.Kernel.{Running}
 use Rattle.block_queue.specs.declared.answers.TakeAnswer.TheVariants as take_answer
 use Rattle.block_queue.specs.declared.entry.Entry.{Entry}
@@ -31,7 +30,7 @@ use Rattle.pipe_dev.specs.Ends.{ReadSide}
 use Rattle.pipe_dev.specs.Filling.{Lending, FillsUp, last_number}
 use Rattle.pipe_dev.specs.Parts.{Part, part_of, rest_of}
 use Rattle.pipe_dev.specs.Rendezes.{reader_rendez, WakesWriters, WakesWith}
-use Rattle.pipe_dev.specs.Rounds.{Rounds, FailsAsleep}
+use Rattle.pipe_dev.specs.Rounds.{Rounds}
 
 -- the reader between two steps of a call: what its seat knows, what is left of a write that was
 -- begun, and the process that calls
@@ -112,7 +111,7 @@ pub record IsNotYet (key : Key) (old new : Reader) : Type 0 where
 pub record SleepsForWrite (key : Key) (row : Row) (old new : Reader) : Type 0 where
   pub number : ℕ
   pub found : FindsNotYet key number old (record new { process = old.process })
-  pub slept : Sleeps old.process (reader_rendez row) number no_notes new.process
+  pub slept : SleepsWell old.process (reader_rendez row) number new.process
 
 -- the sleep did not end well
 pub record FailsForWrite (key : Key) (row : Row) (old : Reader) (why : Fault) (new : Reader) :
@@ -191,7 +190,7 @@ pub record SleepsOn (key : Key) (row : Row) (old new : Calling) : Type 0 where
   pub before : Process
   pub tried : TriesOn key row old (came_to 0 (stop.NotYet number))
       (calling (record new.reader { process = before }) new.buffer)
-  pub slept : Sleeps before (reader_rendez row) number no_notes new.reader.process
+  pub slept : SleepsWell before (reader_rendez row) number new.reader.process
 
 -- the sleep did not end well
 pub record FailsOn (key : Key) (row : Row) (old : Calling) (why : Fault) (new : Calling) :

@@ -2,11 +2,10 @@
 use Rattle.std.specs.Prelude.{◌≡◌, ℕ, zero, suc, ◌+◌, ◌≤◌, Option, None, Some}
 use Rattle.sync_base.specs.declared.ids.RendezId.{RendezId}
 use Rattle.sync_base.specs.declared.limits.TheConstants.{TOP_LEVEL}
-use Rattle.rendez_words.specs.declared.states.Done.{Done}
 use Rattle.rendez_words.specs.declared.words.Words.{Words}
 use Rattle.rendez_words.specs.Process.{Process}
 use Rattle.rendez_words.specs.Words.{rendez_of}
-use Rattle.sleep_wakeup.specs.Calls.{Wakes}
+use Rattle.sleep_wakeup.specs.Deeds.{WakesOne}
 use Rattle.sleep_wakeup.specs.Kernel.{Running}
 use Rattle.pipe_dev.specs.declared.row.Row.{Row}
 
@@ -21,12 +20,6 @@ writer_rendez row writer = record { 0 = row.first + 1 + writer }
 -- the Rendez of the direction are among the kernel's
 abbrev pub HasRow : Words → Row → Type 0
 HasRow words row = row.first + 1 + row.writers ≤ rendez_of words
-
--- a wakeup of the Rendez with this level has returned, and the process did nothing else
-pub record WakesOne (before : Process) (rendez : RendezId) (level : ℕ) (after : Process) :
-    Type 0 where
-  pub receipt : Done
-  pub woken : Wakes before rendez level after receipt
 
 -- so many writers were woken, from the first one on, and then one more
 pub record WakesNext (WakesBefore : Process → Type 0) (row : Row) (writer level : ℕ)

@@ -7,10 +7,10 @@ use Rattle.sync_base.specs.declared.fault.Fault.{Fault}
 use Rattle.sync_base.specs.declared.fault.Fault.TheVariants as fault
 use Rattle.sync_base.specs.declared.limits.TheConstants.{ATOMIC_SIZE}
 use Rattle.sync_base.specs.declared.note.Note.TheVariants.{ClosedPipe}
-use Rattle.sync_base.specs.NoteSet.{no_notes, only}
+use Rattle.sync_base.specs.NoteSet.{only}
 use Rattle.rendez_words.specs.Process.{Process, pid_in}
 use Rattle.rendez_words.specs.Steps.{notes}
-use Rattle.sleep_wakeup.specs.Calls.{Sleeps}
+use Rattle.sleep_wakeup.specs.Deeds.{SleepsWell, FailsAsleep, WakesOne}
 use Rattle.sleep_wakeup.specs.Kernel.{Running}
 use Rattle.block_queue.specs.declared.entry.Entry.{Entry}
 use Rattle.block_queue.specs.declared.entry.Entry.TheVariants as entry
@@ -24,8 +24,8 @@ use Rattle.block_queue.specs.Steps.{saw_hangup}
 use Rattle.pipe_dev.specs.declared.answers.Long.{Long}
 use Rattle.pipe_dev.specs.declared.row.Row.{Row}
 use Rattle.pipe_dev.specs.Ends.{WriteSide}
-use Rattle.pipe_dev.specs.Rendezes.{reader_rendez, writer_rendez, WakesOne}
-use Rattle.pipe_dev.specs.Rounds.{Rounds, FailsAsleep}
+use Rattle.pipe_dev.specs.Rendezes.{reader_rendez, writer_rendez}
+use Rattle.pipe_dev.specs.Rounds.{Rounds}
 
 -- the writer between two steps of a call: what its seat knows, and the process that calls
 pub record Writer : Type 0 where
@@ -59,7 +59,7 @@ pub record FindsFull (call : WriteCall) (number : ℕ) (old new : Writer) : Type
 pub record SleepsForRoom (call : WriteCall) (old new : Writer) : Type 0 where
   pub number : ℕ
   pub found : FindsFull call number old (record new { process = old.process })
-  pub slept : Sleeps old.process (writer_rendez call.row call.writer) number no_notes new.process
+  pub slept : SleepsWell old.process (writer_rendez call.row call.writer) number new.process
 
 -- the sleep did not end well
 pub record FailsForRoom (call : WriteCall) (old : Writer) (why : Fault) (new : Writer) :

@@ -1,8 +1,9 @@
 //! Who wakes whom on the Rendez of a direction.
 ghost use Rattle.std.specs.Prelude.{◌≡◌, ◌<◌};
 ghost use Rattle.rendez_words.specs.Words.{rendez_of};
+ghost use Rattle.sleep_wakeup.specs.Deeds.{WakesOne};
 ghost use Rattle.block_queue.specs.Seats.{put_account, take_account};
-ghost use Rattle.pipe_dev.specs.Rendezes.{HasRow, WakesOne, WakesWriters, WakesIfKnown};
+ghost use Rattle.pipe_dev.specs.Rendezes.{HasRow, WakesWriters, WakesIfKnown};
 ghost use Rattle.pipe_dev.specs.WriteCalls.{HasHang};
 
 use crate::row::Row;

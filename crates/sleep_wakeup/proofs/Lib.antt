@@ -1,5 +1,6 @@
 pub mod BrokenLemmas
 pub mod CallLemmas
 pub mod GroupLemmas
+mod WorkedDeeds
 mod WorkedForks
 mod WorkedRosters

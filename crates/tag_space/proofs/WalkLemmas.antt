@@ -12,7 +12,7 @@ use Rattle.tag_space.specs.declared.member.Member.{Member}
 use Rattle.tag_space.specs.declared.limits.TheConstants.{LAST_MEETING}
 use Rattle.tag_space.specs.declared.space.TagSpace.{TagSpace}
 use Rattle.tag_space.specs.Members.{IsOneOf, IsSameMember, number_of, rendez_of_member}
-use Rattle.tag_space.specs.Walk.{Point, Caller, own_rendez, SleptWell, SleptBadly, Asked, HasWaited}
+use Rattle.tag_space.specs.Walk.{Point, Caller, own_rendez, Slept, SleptBadly, Asked, HasWaited}
 use Rattle.tag_space.specs.Walk.{Leaves, GivesUp, EndsFor, EndsWait, last_count}
 
 abbrev rendez_at : ℕ → RendezId
@@ -32,16 +32,16 @@ module _ (caller : Caller) (first : Point) (count : ℕ) where
 
   -- one turn more
   pub waits_on : (asleep woken told : Point) (last next : ℕ)
-      → HasWaited caller first count asleep last → SleptWell caller last asleep woken
+      → HasWaited caller first count asleep last → Slept caller last asleep woken
       → Asked (Collect caller.member) (Wait next) woken told
       → HasWaited caller first count told next
   waits_on asleep woken told last next waited slept asked =
       record {
         turns = record { woken = woken; told = told; count = next } ∷ waited.turns;
         are_turns = (
-          subst (λ point. SleptWell caller (last_count count waited.turns) point woken)
+          subst (λ point. Slept caller (last_count count waited.turns) point woken)
               waited.now_is
-              (subst (λ n. SleptWell caller n asleep woken) waited.last_is slept),
+              (subst (λ n. Slept caller n asleep woken) waited.last_is slept),
           asked,
           waited.are_turns,
         );

@@ -8,13 +8,9 @@ use Rattle.kernel_lock.specs.Seats.{KnowsAllGiven, account_of, gave_of}
 use Rattle.sleep_wakeup.specs.Forks.{HasPid, asks_group}
 use Rattle.sleep_wakeup.specs.Groups.{begins, follows, leaves}
 use Rattle.sleep_wakeup.specs.Kernel.{Unused}
-use Rattle.rendez_words.specs.Process.{Process}
-use Rattle.rendez_words.specs.Steps.{notes}
-use Rattle.rendez_words.specs.Process.{pid_in}
 use Rattle.sync_base.specs.NoteSet.{no_notes}
 use Rattle.sync_base.specs.declared.fault.Fault.TheVariants as fault
 use Rattle.sync_base.specs.declared.flags.Flags.{Flags}
-use Rattle.sync_base.specs.declared.note.NoteSet.{NoteSet}
 use Rattle.tag_space.specs.declared.calls.GroupReply.TheVariants.{Wait}
 use Rattle.tag_space.specs.declared.space.TagSpace.{TagSpace}
 use Rattle.tag_space.specs.declared.forking.Child.{Child}
@@ -28,7 +24,7 @@ use Rattle.tag_space.specs.Outcome.{calls_by, IsOneOfPairs, IsInPair, word_of}
 use Rattle.tag_space.specs.Outcome.{IsOneOfCalls, HasPartner, Exchange}
 use Rattle.tag_space.specs.Spaces.{IsFurtherMember, IsKeptIn, JoinsMembers}
 use Rattle.tag_space.specs.Rendezvous.{Entry, Party, Offered, Offer, Pair, pairs_of}
-use Rattle.tag_space.specs.Walk.{Point, Caller, Turn, last_count, PutsBack}
+use Rattle.tag_space.specs.Walk.{Point, Caller, Turn, last_count}
 use Rattle.tag_space.specs.Walk.{EndsWait}
 use Rattle.tag_space.proofs.WorkedSpaces.{told, gives, offer, two, one_waits, one_is_found}
 use Rattle.tag_space.proofs.WorkedSpaces.{one_is_told, the_pair}
@@ -158,14 +154,6 @@ another_fault_stays : word_of (Err fault.Worn) ≡ Err fault.Worn
 another_fault_stays = refl
 
 -- ---- the steps
-
--- notes that ended a sleep are put back, and a sleep that was refused took none
-interrupted_puts_back : (before : Process) (set : NoteSet)
-    → PutsBack (fault.Interrupted set) before (notes before (pid_in before) set)
-interrupted_puts_back before set = refl
-
-refused_puts_nothing_back : (before : Process) → PutsBack fault.DoubleSleep before before
-refused_puts_nothing_back before = refl
 
 -- the last of two turns tells where the member stands, and what it was told
 the_last_turn_counts : (first woken told : Point) (turns : List Turn)

@@ -7,6 +7,7 @@ use Rattle.rendez_words.specs.Process.{Process}
 use Rattle.rendez_words.specs.Steps.{posts, tests, raises}
 use Rattle.sleep_core.specs.declared.answer.Answer.TheVariants as answer
 use Rattle.sleep_wakeup.specs.Calls.{Ends}
+use Rattle.sleep_wakeup.specs.Deeds.{WakesOne}
 use Rattle.sleep_wakeup.specs.Kernel.{Unused}
 use Rattle.sync_base.specs.declared.fault.Fault.{Fault}
 use Rattle.sync_base.specs.declared.fault.Fault.TheVariants as fault
@@ -23,7 +24,7 @@ use Rattle.tag_space.specs.Rendezvous.{Entry, Offered, Offer}
 use Rattle.tag_space.specs.Spaces.{WhyNoGroup, WhyNoSpace}
 use Rattle.tag_space.specs.Walk.{Point, Caller, Turn, Asks, Asked, last_point, AreTurns}
 use Rattle.tag_space.specs.Walk.{HasWaited, IsTold, Leaves, IsToldLate, EndsWait}
-use Rattle.tag_space.specs.Walk.{own_rendez, SleptWell, LeavesLate, Woken, Finds}
+use Rattle.tag_space.specs.Walk.{own_rendez, Slept, LeavesLate, Finds}
 use Rattle.tag_space.specs.Walk.{IsWorn, Walks, RendezvousesInWords}
 
 -- how many entries the member has seen
@@ -162,7 +163,7 @@ asked_with_a_step call told before after other asked = other asked.idle
 
 -- a sleep is some steps, and no process sleeps without one
 slept_without_a_step : (caller : Caller) (count : ℕ) (before after : Point)
-    → after.process ≡ before.process → SleptWell caller count before after → ⊥
+    → after.process ≡ before.process → Slept caller count before after → ⊥
 slept_without_a_step caller count before after same slept =
     let leaves = slept.slept.leaves in
     let tested =
@@ -184,8 +185,8 @@ notes_are_dropped member given set before after same late =
 
 -- nobody is woken by who makes no step
 woken_without_a_step : (space : TagSpace) (number count : ℕ) (before after : Process)
-    → after ≡ before → Woken space number count before after → ⊥
-woken_without_a_step space number count before after same woken = by woken.wakes.ends
+    → after ≡ before → WakesOne before (rendez_of_member space number) count after → ⊥
+woken_without_a_step space number count before after same wakes = by wakes.woken.ends
   where
     by : Ends (raises before (rendez_of_member space number) count) after → ⊥
     by (inl nobody) =

@@ -4,13 +4,11 @@ use Rattle.std.specs.Prelude.{◌≡◌, ◌⊎◌, ⊤, ℕ, List, [], ◌∷�
 use Rattle.histories.specs.Changes.{AddsEntry}
 use Rattle.histories.specs.declared.account.Account.{Account}
 use Rattle.kernel_lock.specs.Definition.{server}
-use Rattle.rendez_words.specs.declared.states.Done.{Done}
 use Rattle.rendez_words.specs.declared.words.Words.{Words}
-use Rattle.rendez_words.specs.Process.{Process, pid_in}
-use Rattle.rendez_words.specs.Steps.{notes}
-use Rattle.sleep_wakeup.specs.Calls.{Sleeps, Wakes, WhyNotSlept}
+use Rattle.rendez_words.specs.Process.{Process}
+use Rattle.sleep_wakeup.specs.Calls.{WhyNotSlept}
+use Rattle.sleep_wakeup.specs.Deeds.{SleepsWell, WakesOne, PutsBack}
 use Rattle.sleep_wakeup.specs.Kernel.{Running}
-use Rattle.sync_base.specs.NoteSet.{no_notes}
 use Rattle.sync_base.specs.declared.fault.Fault.{Fault}
 use Rattle.sync_base.specs.declared.fault.Fault.TheVariants as fault
 use Rattle.sync_base.specs.declared.ids.RendezId.{RendezId}
@@ -63,8 +61,8 @@ pub record Asked (call : GroupCall) (told : GroupReply) (before after : Point) :
   pub idle : after.process ≡ before.process
 
 -- its process slept on its own Rendez, above this count, and the sleep ended well
-pub record SleptWell (caller : Caller) (count : ℕ) (before after : Point) : Type 0 where
-  pub slept : Sleeps before.process (own_rendez caller) count no_notes after.process
+pub record Slept (caller : Caller) (count : ℕ) (before after : Point) : Type 0 where
+  pub slept : SleepsWell before.process (own_rendez caller) count after.process
   pub unasked : after.account ≡ before.account
 
 -- the sleep ended for notes, or was refused
@@ -92,7 +90,7 @@ last_count count (turn ∷ turns) = turn.count
 abbrev pub AreTurns : Caller → Point → ℕ → List Turn → Type 0
 AreTurns caller first count [] = ⊤
 AreTurns caller first count (turn ∷ turns) =
-    SleptWell caller (last_count count turns) (last_point first turns) turn.woken
+    Slept caller (last_count count turns) (last_point first turns) turn.woken
     × Asked (Collect caller.member) (Wait turn.count) turn.woken turn.told
     × AreTurns caller first count turns
 
@@ -111,7 +109,7 @@ pub record IsTold (caller : Caller) (first : Point) (count given : ℕ) (after :
   pub last : ℕ
   pub waited : HasWaited caller first count asleep last
   pub woken : Point
-  pub slept : SleptWell caller last asleep woken
+  pub slept : Slept caller last asleep woken
   pub told : Asked (Collect caller.member) (WasMet given) woken after
 
 -- its sleep ended badly, and it left before anybody had met it
@@ -123,11 +121,6 @@ pub record Leaves (caller : Caller) (first : Point) (count : ℕ) (why : Fault) 
   pub woken : Point
   pub slept : SleptBadly caller last why asleep woken
   pub left : Asked (Leave caller.member) Gone woken after
-
--- the notes that ended a sleep are pending again
-abbrev pub PutsBack : Fault → Process → Process → Type 0
-PutsBack (fault.Interrupted set) before after = after ≡ notes before (pid_in before) set
-PutsBack other before after = after ≡ before
 
 -- it left, and was told that it was met: what the sleep took is put back
 pub record LeavesLate (member : ℕ) (why : Fault) (given : ℕ) (before after : Point)
@@ -168,11 +161,6 @@ GivesUp member why before after (Ok given) = LeavesLate member why given before 
 GivesUp member why before after (Err fault) =
     Asked (Leave member) Gone before after × (fault ≡ why)
 
--- the process woke the Rendez of the member with this number, once, with this count
-pub record Woken (space : TagSpace) (number count : ℕ) (before after : Process) : Type 0 where
-  pub done : Done
-  pub wakes : Wakes before (rendez_of_member space number) count after done
-
 -- the call found one that waits, and woke its Rendez, once, with the count of its meetings
 pub record Finds (caller : Caller) (offered : Offered) (given : ℕ) (before after : Point)
     : Type 0 where
@@ -181,7 +169,7 @@ pub record Finds (caller : Caller) (offered : Offered) (given : ℕ) (before aft
   pub met : Point
   pub called : Asked (Call caller.member offered.tag offered.value) (Met given other count)
       before met
-  pub woken : Woken caller.space other count met.process after.process
+  pub woken : WakesOne met.process (rendez_of_member caller.space other) count after.process
   pub unasked : after.account ≡ met.account
 
 -- the call had to wait, and the wait ended with this answer

@@ -2,11 +2,13 @@
 ghost use Rattle.std.specs.Prelude.{◌≡◌, ◌+◌, ◌<◌, ◌≤◌};
 ghost use Rattle.rendez_words.specs.Words.{rendez_of};
 ghost use Rattle.sleep_wakeup.specs.Calls.{WhyNotSlept, Wakes};
+ghost use Rattle.sleep_wakeup.specs.Deeds.{WakesOne, PutsBack};
 ghost use Rattle.tag_space.specs.declared.limits.TheConstants.{LAST_MEETING};
 ghost use Rattle.tag_space.specs.Members.{IsMemberOf, IsOneOf, IsSameMember, HasRow};
 ghost use Rattle.tag_space.specs.Members.{account_of, number_of, party_of, seen_of};
+ghost use Rattle.tag_space.specs.Members.{rendez_of_member};
 ghost use Rattle.tag_space.specs.Outcome.{Exchange};
-ghost use Rattle.tag_space.specs.Walk.{Walks, EndsWait, GivesUp, PutsBack, Woken};
+ghost use Rattle.tag_space.specs.Walk.{Walks, EndsWait, GivesUp};
 ghost use Rattle.tag_space.specs.Walk.{RendezvousesInWords, at_point, caller_of};
 
 use crate::asking::{Called, Left, Told};
@@ -152,7 +154,8 @@ impl TagSpace {
     fn wake(&self, proc: &mut Proc, partner: u64, count: u64)
         requires partner { partner < self.now.procs }
         requires row { HasRow self.now proc.old.words }
-        ensures woken { Woken self.now partner count proc.old.process proc.new.process }
+        ensures woken { WakesOne proc.old.process (rendez_of_member self.now partner) count
+            proc.new.process }
         ensures words { proc.new.words ≡ proc.old.words }
     {
         match proc.wakeup(RendezId(self.first.0 + partner), count) {

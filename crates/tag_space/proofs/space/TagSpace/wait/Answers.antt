@@ -1,8 +1,8 @@
 -- Each sleep is in the member's own Rendez, above the count that it was told last.
 use Rattle.std.proofs.Common.{◌+◌, ◌<◌, refl, ◌∙◌, subst, arith, inl}
 use Rattle.rendez_words.specs.Words.{rendez_of}
-use Rattle.sleep_wakeup.specs.Calls.{Sleeps, WhyNotSlept}
-use Rattle.sync_base.specs.NoteSet.{no_notes}
+use Rattle.sleep_wakeup.specs.Calls.{WhyNotSlept}
+use Rattle.sleep_wakeup.specs.Deeds.{SleepsWell}
 use Rattle.tag_space.specs.declared.asking.Told.TheVariants.{Met, Wait}
 use Rattle.tag_space.specs.declared.calls.GroupCall.TheVariants.{Collect}
 use Rattle.tag_space.specs.Asking.{told_reply}
@@ -49,7 +49,7 @@ returns-in-Met-clause-ends g c =
       waited = kept.waited;
       woken = at_point c.loop.member c.sleep-slept.new.self;
       slept = record {
-        slept = subst (λ rendez. Sleeps c.loop.proc.process rendez c.loop.count no_notes
+        slept = subst (λ rendez. SleepsWell c.loop.proc.process rendez c.loop.count
             c.sleep-slept.new.self.process) own c.in-Ok.ensures.slept;
         unasked = refl;
       };
@@ -82,7 +82,7 @@ loop-preserved g c =
           (at_point c.collect.new.member c.sleep-slept.new.self) c.loop.count c.in-Wait.again
           kept.waited
           (record {
-            slept = subst (λ rendez. Sleeps c.loop.proc.process rendez c.loop.count no_notes
+            slept = subst (λ rendez. SleepsWell c.loop.proc.process rendez c.loop.count
                 c.sleep-slept.new.self.process) own c.in-Ok.ensures.slept;
             unasked = refl;
           })
