@@ -23,7 +23,7 @@ use Rattle.semaphore.specs.Acquiring.{Acquires, AcquiresNow, Semacquires, now_re
 use Rattle.semaphore.specs.Asking.{WaitsFor, HasWaited, HasLeft, Left, turn_left, ending_of}
 use Rattle.semaphore.specs.Asking.{leave_reply, granted_units, stopped_notes, now_told}
 use Rattle.semaphore.specs.Deeds.{Deed, Ending, Caller, Standing, SemaView, Slept, Did, Calls}
-use Rattle.semaphore.specs.Deeds.Deed.{Asks, Rests, Posts}
+use Rattle.semaphore.specs.Deeds.Deed.{Asks, Sleeps, Posts}
 use Rattle.semaphore.specs.Seats.{goes_on}
 use Rattle.semaphore.specs.Turns.{Turn, turn_of, next, is_whole, is_timed, left_line, ticked}
 use Rattle.semaphore.specs.Turns.Turn.{Told, Ready}
@@ -43,11 +43,11 @@ then_asks caller start now seat deeds call answer did served =
     }
 
 -- a call that sleeps has done one deed more, and its process is the one that the sleep left
-pub then_rests : (caller : Caller) (start now : Standing) (process : Process) (deeds : List Deed)
+pub then_sleeps : (caller : Caller) (start now : Standing) (process : Process) (deeds : List Deed)
     (threshold : ℕ) (ending : Ending) → Did caller deeds start now
     → Slept caller.rendez threshold ending now.process process
-    → Did caller (Rests threshold ending ∷ deeds) start (record now { process = process })
-then_rests caller start now process deeds threshold ending did slept =
+    → Did caller (Sleeps threshold ending ∷ deeds) start (record now { process = process })
+then_sleeps caller start now process deeds threshold ending did slept =
     record {
       process = (now.process, (did.process, slept));
       seat = (now.seat, (did.seat, refl));
@@ -120,7 +120,7 @@ puts_back caller start now process set left untimed cancelled granted notes note
         own = (refl, had.own);
         turn = ap (λ t. is_whole (next (is_timed caller.deadline) t (Posts caller.pid set)))
             (had.turn ∙ owes_none caller left untimed cancelled);
-        rests = had.rests;
+        sleeps = had.sleeps;
         between = had.between;
         notes = inr (ap (λ l. set ∷ l) had.posts ∙ ap (λ s. s ∷ []) (sym (had.notes ∙ notes)));
       };
@@ -153,18 +153,18 @@ left_granted : (caller : Caller) (count : ℕ) (past : List Deed) → WaitsFor c
       stop = None;
       cancelled = false;
     })
-    (Asks (Collect caller.number) reply.Granted ∷ Rests count Ending.Well ∷ past)
+    (Asks (Collect caller.number) reply.Granted ∷ Sleeps count Ending.Well ∷ past)
 left_granted caller count past waits =
     record {
       own = (refl, (tt, waits.own));
-      rests = (inl waits.told, waits.rests);
+      sleeps = (inl waits.told, waits.sleeps);
       between = waits.between;
       units = ap (λ n. 1 + n) waits.units;
       notes = waits.notes;
       posts = waits.posts;
       expired = waits.not_expired;
       why = λ e. cc;
-      turn = turn_after caller Told past (Rests count Ending.Well)
+      turn = turn_after caller Told past (Sleeps count Ending.Well)
           (Asks (Collect caller.number) reply.Granted) waits.turn;
     }
 
@@ -204,57 +204,57 @@ left_stopped : (caller : Caller) (count : ℕ) (past : List Deed) (how : Stop) (
       stop = Some how;
       cancelled = false;
     })
-    (Asks (Leave caller.number) (leave_reply granted) ∷ Rests count (ending_of how) ∷ past)
+    (Asks (Leave caller.number) (leave_reply granted) ∷ Sleeps count (ending_of how) ∷ past)
 left_stopped caller count past stop.Refused true waits =
     record {
       own = (refl, (tt, waits.own));
-      rests = (inl waits.told, waits.rests);
+      sleeps = (inl waits.told, waits.sleeps);
       between = waits.between;
       units = ap (λ n. 1 + n) waits.units;
       notes = waits.notes;
       posts = waits.posts;
       expired = waits.not_expired;
       why = λ e. inl tt;
-      turn = turn_after caller Told past (Rests count Ending.Double)
+      turn = turn_after caller Told past (Sleeps count Ending.Double)
           (Asks (Leave caller.number) reply.Granted) waits.turn;
     }
 left_stopped caller count past stop.Refused false waits =
     record {
       own = (refl, (tt, waits.own));
-      rests = (inl waits.told, waits.rests);
+      sleeps = (inl waits.told, waits.sleeps);
       between = waits.between;
       units = ap (λ n. 0 + n) waits.units;
       notes = waits.notes;
       posts = waits.posts;
       expired = waits.not_expired;
       why = λ e. inl tt;
-      turn = turn_after caller Told past (Rests count Ending.Double)
+      turn = turn_after caller Told past (Sleeps count Ending.Double)
           (Asks (Leave caller.number) reply.Gone) waits.turn;
     }
 left_stopped caller count past (stop.Noted set) true waits =
     record {
       own = (refl, (tt, waits.own));
-      rests = (inl waits.told, waits.rests);
+      sleeps = (inl waits.told, waits.sleeps);
       between = waits.between;
       units = ap (λ n. 1 + n) waits.units;
       notes = ap (λ s. joined s set) waits.notes;
       posts = waits.posts;
       expired = waits.not_expired;
       why = λ e. inl tt;
-      turn = turn_after caller Told past (Rests count (Ending.Noted set))
+      turn = turn_after caller Told past (Sleeps count (Ending.Noted set))
           (Asks (Leave caller.number) reply.Granted) waits.turn;
     }
 left_stopped caller count past (stop.Noted set) false waits =
     record {
       own = (refl, (tt, waits.own));
-      rests = (inl waits.told, waits.rests);
+      sleeps = (inl waits.told, waits.sleeps);
       between = waits.between;
       units = ap (λ n. 0 + n) waits.units;
       notes = ap (λ s. joined s set) waits.notes;
       posts = waits.posts;
       expired = waits.not_expired;
       why = λ e. inl tt;
-      turn = turn_after caller Told past (Rests count (Ending.Noted set))
+      turn = turn_after caller Told past (Sleeps count (Ending.Noted set))
           (Asks (Leave caller.number) reply.Gone) waits.turn;
     }
 

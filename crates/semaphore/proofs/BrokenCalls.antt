@@ -12,7 +12,7 @@ use Rattle.semaphore.specs.declared.sema_object.SemaReply.TheVariants as reply
 use Rattle.semaphore.specs.declared.timer_object.TimerCall.TheVariants.{Add, Expire, Cancel}
 use Rattle.semaphore.specs.declared.timer_object.TimerReply.TheVariants as told
 use Rattle.semaphore.specs.Deeds.{Caller, Deed}
-use Rattle.semaphore.specs.Deeds.Deed.{Asks, Times, Rests, Rouses, Posts, Drains}
+use Rattle.semaphore.specs.Deeds.Deed.{Asks, Times, Sleeps, Wakes, Posts, Drains}
 use Rattle.semaphore.specs.Deeds.Ending.{Well, Noted, Double}
 
 -- the process of this number
@@ -38,7 +38,7 @@ begun = Asks (Acquire 0) (reply.Wait 0) ∷ []
 
 -- it was granted a unit, and answers that it was interrupted
 abbrev pub loses_its_unit : List Deed
-loses_its_unit = Asks (Leave 0) reply.Granted ∷ Rests 0 (Noted interrupt) ∷ begun
+loses_its_unit = Asks (Leave 0) reply.Granted ∷ Sleeps 0 (Noted interrupt) ∷ begun
 
 -- its notes are gone, and it answers with a unit
 abbrev pub drops_its_notes : List Deed
@@ -46,15 +46,15 @@ drops_its_notes = loses_its_unit
 
 -- it sleeps at a threshold above the count that it was told
 abbrev pub sleeps_too_high : List Deed
-sleeps_too_high = Asks (Collect 0) reply.Granted ∷ Rests 1 Well ∷ begun
+sleeps_too_high = Asks (Collect 0) reply.Granted ∷ Sleeps 1 Well ∷ begun
 
 -- it asks again without a sleep that answered well
 abbrev pub asks_without_a_sleep : List Deed
-asks_without_a_sleep = Asks (Collect 0) (reply.Wait 0) ∷ Rests 0 Double ∷ begun
+asks_without_a_sleep = Asks (Collect 0) (reply.Wait 0) ∷ Sleeps 0 Double ∷ begun
 
 -- it wakes somebody
 abbrev pub wakes_somebody : List Deed
-wakes_somebody = Rouses 3 1 ∷ begun
+wakes_somebody = Wakes 3 1 ∷ begun
 
 -- it posts to another
 abbrev pub posts_to_another : List Deed
@@ -77,49 +77,49 @@ abbrev pub leaves_a_note_behind : List Deed
 leaves_a_note_behind =
     Times (Cancel 0) told.Expired
     ∷ Asks (Collect 0) reply.Granted
-    ∷ Rests 0 Well
+    ∷ Sleeps 0 Well
     ∷ Times (Add 0 (pid 5) 150) told.Added
     ∷ begun
 
 -- it sleeps on, though the note of the tick has come
 abbrev pub sleeps_behind_the_tick : List Deed
 sleeps_behind_the_tick =
-    Rests LAST_GRANT Well ∷ Rests LAST_GRANT (Noted (only Expired)) ∷ leaves_a_note_behind
+    Sleeps LAST_GRANT Well ∷ Sleeps LAST_GRANT (Noted (only Expired)) ∷ leaves_a_note_behind
 
 -- it sleeps for the note of the tick with a count that a grant can pass
 abbrev pub sleeps_too_low : List Deed
-sleeps_too_low = Rests 7 (Noted (only Expired)) ∷ leaves_a_note_behind
+sleeps_too_low = Sleeps 7 (Noted (only Expired)) ∷ leaves_a_note_behind
 
 -- it sets two timers, and takes one note
 abbrev pub sets_two_timers : List Deed
 sets_two_timers =
     Times (Cancel 0) told.Expired
     ∷ Asks (Leave 0) reply.Gone
-    ∷ Rests 0 (Noted (only Expired))
+    ∷ Sleeps 0 (Noted (only Expired))
     ∷ Times (Add 0 (pid 5) 150) told.Added
     ∷ Times (Add 0 (pid 5) 150) told.Added
     ∷ begun
 
 -- it has a deadline, and sets no timer
 abbrev pub sets_no_timer : List Deed
-sets_no_timer = Asks (Collect 0) reply.Granted ∷ Rests 0 Well ∷ begun
+sets_no_timer = Asks (Collect 0) reply.Granted ∷ Sleeps 0 Well ∷ begun
 
 -- it has a deadline, and sleeps once before its timer is set
 abbrev pub sleeps_before_its_timer : List Deed
 sleeps_before_its_timer =
     Times (Cancel 0) told.Removed
     ∷ Asks (Collect 0) reply.Granted
-    ∷ Rests 0 Well
+    ∷ Sleeps 0 Well
     ∷ Times (Add 0 (pid 5) 150) told.Added
     ∷ Asks (Collect 0) (reply.Wait 0)
-    ∷ Rests 0 Well
+    ∷ Sleeps 0 Well
     ∷ begun
 
 -- it has a deadline, and does not cancel its timer
 abbrev pub does_not_cancel : List Deed
 does_not_cancel =
     Asks (Collect 0) reply.Granted
-    ∷ Rests 0 Well
+    ∷ Sleeps 0 Well
     ∷ Times (Add 0 (pid 5) 150) told.Added
     ∷ begun
 
@@ -129,36 +129,36 @@ drains_what_it_put_back =
     Drains interrupt
     ∷ Posts (pid 5) interrupt
     ∷ Asks (Leave 0) reply.Granted
-    ∷ Rests 0 (Noted interrupt)
+    ∷ Sleeps 0 (Noted interrupt)
     ∷ begun
 
 -- it takes a note without a sleep, and then sleeps
 abbrev pub sleeps_past_a_note : List Deed
 sleeps_past_a_note =
-    Asks (Collect 0) reply.Granted ∷ Rests 0 Well ∷ Drains interrupt ∷ begun
+    Asks (Collect 0) reply.Granted ∷ Sleeps 0 Well ∷ Drains interrupt ∷ begun
 
 -- it sleeps on, though notes ended its sleep
 abbrev pub sleeps_on_interrupted : List Deed
 sleeps_on_interrupted =
-    Asks (Collect 0) reply.Granted ∷ Rests 0 Well ∷ Rests 0 (Noted interrupt) ∷ begun
+    Asks (Collect 0) reply.Granted ∷ Sleeps 0 Well ∷ Sleeps 0 (Noted interrupt) ∷ begun
 
 -- it sleeps on, though its sleep was refused
 abbrev pub sleeps_on_refused : List Deed
-sleeps_on_refused = Asks (Collect 0) reply.Granted ∷ Rests 0 Well ∷ Rests 0 Double ∷ begun
+sleeps_on_refused = Asks (Collect 0) reply.Granted ∷ Sleeps 0 Well ∷ Sleeps 0 Double ∷ begun
 
 -- it leaves the line, and comes again behind all others
 abbrev pub comes_again : List Deed
 comes_again =
     Asks (Collect 0) reply.Granted
-    ∷ Rests 0 Well
+    ∷ Sleeps 0 Well
     ∷ Asks (Acquire 0) (reply.Wait 0)
     ∷ Asks (Leave 0) reply.Gone
-    ∷ Rests 0 Well
+    ∷ Sleeps 0 Well
     ∷ begun
 
 -- it returns while it stands in the line
 abbrev pub stays_in_the_line : List Deed
-stays_in_the_line = Rests 0 Double ∷ begun
+stays_in_the_line = Sleeps 0 Double ∷ begun
 
 -- it gives a unit that it was not asked for
 abbrev pub makes_a_release : List Deed
@@ -170,7 +170,7 @@ abbrev pub is_timed_out : List Deed
 is_timed_out =
     Times (Cancel 0) told.Expired
     ∷ Asks (Leave 0) reply.Gone
-    ∷ Rests 0 (Noted (only Expired))
+    ∷ Sleeps 0 (Noted (only Expired))
     ∷ Times (Add 0 (pid 5) 150) told.Added
     ∷ begun
 
@@ -186,7 +186,7 @@ forgets_a_seat =
 abbrev pub wakes_with_another_count : List Deed
 wakes_with_another_count =
     Asks NextWake reply.NoWake
-    ∷ Rouses 4 3
+    ∷ Wakes 4 3
     ∷ Asks NextWake (reply.Wake 1 4)
     ∷ Asks (Release 2) (reply.Value 2)
     ∷ []
@@ -194,7 +194,7 @@ wakes_with_another_count =
 -- a release that does not ask until nobody is left to wake
 abbrev pub does_not_ask_on : List Deed
 does_not_ask_on =
-    Rouses 4 4 ∷ Asks NextWake (reply.Wake 1 4) ∷ Asks (Release 2) (reply.Value 2) ∷ []
+    Wakes 4 4 ∷ Asks NextWake (reply.Wake 1 4) ∷ Asks (Release 2) (reply.Value 2) ∷ []
 
 -- a tick that tells another process than the one whose timer expired
 abbrev pub tells_another : List Deed

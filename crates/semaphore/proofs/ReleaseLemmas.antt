@@ -6,47 +6,46 @@ use Rattle.sync_base.specs.declared.fault.Fault.TheVariants as fault
 use Rattle.sync_base.specs.declared.ids.Pid.{Pid}
 use Rattle.sync_base.specs.declared.note.Note.TheVariants.{Expired}
 use Rattle.sync_base.specs.NoteSet.{only}
-use Rattle.rendez_words.specs.declared.states.Done.{Done}
 use Rattle.rendez_words.specs.Process.{Process}
 use Rattle.rendez_words.specs.Steps as steps
-use Rattle.sleep_wakeup.specs.Calls.{Wakes}
+use Rattle.sleep_wakeup.specs.Deeds.{WakesOne}
 use Rattle.kernel_lock.specs.Calls.{Serves}
 use Rattle.semaphore.specs.declared.sema_object.SemaCall.TheVariants.{Release, NextWake}
 use Rattle.semaphore.specs.declared.sema_object.SemaReply.TheVariants as reply
 use Rattle.semaphore.specs.declared.timer_object.TimerCall.TheVariants.{Expire}
 use Rattle.semaphore.specs.declared.timer_object.TimerReply.TheVariants as told
 use Rattle.semaphore.specs.Deeds.{Deed, Caller, Standing, SemaView, TimerView, Did, Calls}
-use Rattle.semaphore.specs.Deeds.Deed.{Asks, Times, Rests, Rouses, Posts, Drains}
+use Rattle.semaphore.specs.Deeds.Deed.{Asks, Times, Sleeps, Wakes, Posts, Drains}
 use Rattle.semaphore.specs.Releasing.{IsWaking, HasWoken, Released, Releases}
 use Rattle.semaphore.specs.Ticking.{Ticks, IsTicking, GoesOn, FindsDue, ended_in}
 use Rattle.semaphore.proofs.AcquireLemmas.{then_asks, then_posts}
 use Rattle.semaphore.proofs.WaitLemmas.{then_times}
 
-then_rouses : (caller : Caller) (start now : Standing) (process : Process) (deeds : List Deed)
-    (rendez level : ℕ) (done : Done) → Did caller deeds start now
-    → Wakes now.process (record { 0 = rendez }) level process done
-    → Did caller (Rouses rendez level ∷ deeds) start (record now { process = process })
-then_rouses caller start now process deeds rendez level done did woken =
+then_wakes : (caller : Caller) (start now : Standing) (process : Process) (deeds : List Deed)
+    (rendez level : ℕ) → Did caller deeds start now
+    → WakesOne now.process (record { 0 = rendez }) level process
+    → Did caller (Wakes rendez level ∷ deeds) start (record now { process = process })
+then_wakes caller start now process deeds rendez level did woken =
     record {
-      process = (now.process, (did.process, (done, woken)));
+      process = (now.process, (did.process, woken));
       seat = (now.seat, (did.seat, refl));
       timer = (now.timer, (did.timer, refl));
     }
 
 -- it was named a seat, and woke it
 pub wakes_one : (caller : Caller) (start now : Standing) (process : Process) (seat : SemaView)
-    (first its grants : ℕ) (released : Released) (done : Done)
+    (first its grants : ℕ) (released : Released)
     → Serves (record { by = caller.number; request = NextWake; reply = reply.Wake its grants })
     now.seat seat
-    → Wakes now.process (record { 0 = first + its }) grants process done
+    → WakesOne now.process (record { 0 = first + its }) grants process
     → Calls caller start now (IsWaking first released)
     → Calls caller start (record now { process = process; seat = seat }) (IsWaking first released)
-wakes_one caller start now process seat first its grants released done served woken calls =
+wakes_one caller start now process seat first its grants released served woken calls =
     let had = calls.promise in
     record {
-      deeds = Rouses (first + its) grants ∷ Asks NextWake (reply.Wake its grants) ∷ calls.deeds;
-      did = then_rouses caller start (record now { seat = seat }) process
-          (Asks NextWake (reply.Wake its grants) ∷ calls.deeds) (first + its) grants done
+      deeds = Wakes (first + its) grants ∷ Asks NextWake (reply.Wake its grants) ∷ calls.deeds;
+      did = then_wakes caller start (record now { seat = seat }) process
+          (Asks NextWake (reply.Wake its grants) ∷ calls.deeds) (first + its) grants
           (then_asks caller start now seat calls.deeds NextWake (reply.Wake its grants) calls.did
           served) woken;
       promise = record {
@@ -227,8 +226,8 @@ goes_on_to procs (Times call told.Expired ∷ past) due many = (many, due)
 goes_on_to procs (Times call told.Absent ∷ past) due many = (many, due)
 goes_on_to procs (Times call told.Busy ∷ past) due many = (many, due)
 goes_on_to procs (Asks call answer ∷ past) due many = (many, due)
-goes_on_to procs (Rests threshold ending ∷ past) due many = (many, due)
-goes_on_to procs (Rouses rendez level ∷ past) due many = (many, due)
+goes_on_to procs (Sleeps threshold ending ∷ past) due many = (many, due)
+goes_on_to procs (Wakes rendez level ∷ past) due many = (many, due)
 goes_on_to procs (Posts pid set ∷ past) due many = (many, due)
 goes_on_to procs (Drains set ∷ past) due many = (many, due)
 

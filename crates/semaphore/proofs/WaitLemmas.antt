@@ -34,19 +34,19 @@ use Rattle.semaphore.specs.declared.timer_object.TimerCall.{TimerCall}
 use Rattle.semaphore.specs.declared.timer_object.TimerCall.TheVariants.{Add, Cancel}
 use Rattle.semaphore.specs.declared.timer_object.TimerReply.{TimerReply}
 use Rattle.semaphore.specs.declared.timer_object.TimerReply.TheVariants as told
-use Rattle.semaphore.specs.Acquiring.{TimesIts, Acquires, AcquiresInTime, TimersSeen, MayRest}
+use Rattle.semaphore.specs.Acquiring.{TimesIts, Acquires, AcquiresInTime, TimersSeen, MaySleep}
 use Rattle.semaphore.specs.Acquiring.{IsPutBack, without_expired, notes_taken, posts_in}
 use Rattle.semaphore.specs.Acquiring.{was_expired}
 use Rattle.semaphore.specs.Asking.{WaitsFor, HasWaited, HasLeft, HasKept, HasStopped, Left}
 use Rattle.semaphore.specs.Asking.{turn_left, ending_of, cancel_reply, granted_units}
 use Rattle.semaphore.specs.Deeds.{Deed, Ending, Caller, Standing, SemaView, TimerView, Slept, Steps}
 use Rattle.semaphore.specs.Deeds.{Chain, Did, Calls}
-use Rattle.semaphore.specs.Deeds.Deed.{Asks, Times, Rests, Posts, Drains}
+use Rattle.semaphore.specs.Deeds.Deed.{Asks, Times, Sleeps, Posts, Drains}
 use Rattle.semaphore.specs.TimerHistory.{TimerEntry, timer_meaning, WasTaken, AreByOthersThan}
 use Rattle.semaphore.specs.Turns.{Turn, turn_of, next, is_whole, is_timed, told_first, left_line}
 use Rattle.semaphore.specs.Turns.{ticked}
 use Rattle.semaphore.specs.Turns.Turn.{Told, Awaiting, Ready}
-use Rattle.semaphore.proofs.AcquireLemmas.{then_asks, then_rests, then_posts, turn_after}
+use Rattle.semaphore.proofs.AcquireLemmas.{then_asks, then_sleeps, then_posts, turn_after}
 use Rattle.semaphore.proofs.AcquireLemmas.{owes_no_tick}
 use Rattle.semaphore.proofs.OwnTimerLemmas.{own_timer, was_taken}
 
@@ -79,18 +79,18 @@ slept_pid rendez threshold Ending.Double before after slept = ap (λ p. p.pid) s
 
 waits_still : (caller : Caller) (count next : ℕ) (deeds : List Deed) → WaitsFor caller count deeds
     → WaitsFor caller next (Asks (Collect caller.number) (reply.Wait next) ∷
-    Rests count Ending.Well ∷ deeds)
+    Sleeps count Ending.Well ∷ deeds)
 waits_still caller count next deeds waits =
     record {
       own = (refl, (tt, waits.own));
-      rests = (inl waits.told, waits.rests);
+      sleeps = (inl waits.told, waits.sleeps);
       between = (tt, waits.between);
       told = refl;
       units = ap (λ n. 0 + n) waits.units;
       notes = waits.notes;
       posts = waits.posts;
       not_expired = waits.not_expired;
-      turn = turn_after caller Told deeds (Rests count Ending.Well)
+      turn = turn_after caller Told deeds (Sleeps count Ending.Well)
           (Asks (Collect caller.number) (reply.Wait next)) waits.turn;
     }
 
@@ -107,12 +107,12 @@ pub waits_on : (caller : Caller) (start now : Standing) (process : Process) (sea
     → Calls caller start (record now { process = process; seat = seat }) (WaitsFor caller next)
 waits_on caller start now process seat count next slept served calls =
     record {
-      deeds = Asks (Collect caller.number) (reply.Wait next) ∷ Rests count Ending.Well ∷
+      deeds = Asks (Collect caller.number) (reply.Wait next) ∷ Sleeps count Ending.Well ∷
           calls.deeds;
       did = then_asks caller start (record now { process = process }) seat
-          (Rests count Ending.Well ∷ calls.deeds)
+          (Sleeps count Ending.Well ∷ calls.deeds)
           (Collect caller.number) (reply.Wait next)
-          (then_rests caller start now process calls.deeds count Ending.Well calls.did slept)
+          (then_sleeps caller start now process calls.deeds count Ending.Well calls.did slept)
           served;
       promise = waits_still caller count next calls.deeds calls.promise;
     }
@@ -126,11 +126,11 @@ pub waits_no_more : (caller : Caller) (start now : Standing) (process : Process)
     → Calls caller start (record now { process = process; seat = seat }) (HasWaited caller None)
 waits_no_more caller start now process seat count slept served calls =
     record {
-      deeds = Asks (Collect caller.number) reply.Granted ∷ Rests count Ending.Well ∷ calls.deeds;
+      deeds = Asks (Collect caller.number) reply.Granted ∷ Sleeps count Ending.Well ∷ calls.deeds;
       did = then_asks caller start (record now { process = process }) seat
-          (Rests count Ending.Well ∷ calls.deeds)
+          (Sleeps count Ending.Well ∷ calls.deeds)
           (Collect caller.number) reply.Granted
-          (then_rests caller start now process calls.deeds count Ending.Well calls.did slept)
+          (then_sleeps caller start now process calls.deeds count Ending.Well calls.did slept)
           served;
       promise = record {
         count = count;
@@ -148,8 +148,8 @@ pub stops : (caller : Caller) (start now : Standing) (process : Process) (count 
     → Calls caller start (record now { process = process }) (HasWaited caller (Some how))
 stops caller start now process count how slept calls =
     record {
-      deeds = Rests count (ending_of how) ∷ calls.deeds;
-      did = then_rests caller start now process calls.deeds count (ending_of how) calls.did slept;
+      deeds = Sleeps count (ending_of how) ∷ calls.deeds;
+      did = then_sleeps caller start now process calls.deeds count (ending_of how) calls.did slept;
       promise = record {
         count = count;
         past = calls.deeds;
@@ -180,7 +180,7 @@ acquires_at_once caller start seat served =
         reason = tt;
         own = (refl, tt);
         turn = refl;
-        rests = tt;
+        sleeps = tt;
         between = tt;
         notes = inl (refl, refl);
       };
@@ -201,7 +201,7 @@ is_worn caller start seat served =
         reason = refl;
         own = (refl, tt);
         turn = refl;
-        rests = tt;
+        sleeps = tt;
         between = tt;
         notes = inl (refl, refl);
       };
@@ -227,7 +227,7 @@ pub begins : (caller : Caller) (count : ℕ) → caller.deadline ≡ None
 begins caller count untimed =
     record {
       own = (refl, tt);
-      rests = tt;
+      sleeps = tt;
       between = (tt, tt);
       told = refl;
       units = refl;
@@ -290,7 +290,7 @@ waits_timed caller count moment has =
         ),
         (refl, tt),
       );
-      rests = tt;
+      sleeps = tt;
       between = (tt, tt);
       told = refl;
       units = refl;
@@ -365,7 +365,7 @@ cancels caller start now timer moment expired granted notes how has served calls
           (cancel_reply expired) calls.did served;
       promise = record {
         own = (subst (TimesIts caller (Cancel caller.timer)) (sym has) refl, had.own);
-        rests = had.rests;
+        sleeps = had.sleeps;
         between = had.between;
         units = had.units;
         notes = had.notes;
@@ -379,11 +379,11 @@ cancels caller start now timer moment expired granted notes how has served calls
     }
 
 -- it sleeps for the note of a tick
-stopped_rests : (how : Option Stop) (deeds : List Deed) (threshold : ℕ) (ending : Ending)
-    → HasStopped how deeds → HasStopped how (Rests threshold ending ∷ deeds)
-stopped_rests None deeds threshold ending stopped = absurd stopped
-stopped_rests (Some stop.Refused) deeds threshold ending stopped = inr stopped
-stopped_rests (Some (stop.Noted set)) deeds threshold ending stopped = inr stopped
+stopped_sleeps : (how : Option Stop) (deeds : List Deed) (threshold : ℕ) (ending : Ending)
+    → HasStopped how deeds → HasStopped how (Sleeps threshold ending ∷ deeds)
+stopped_sleeps None deeds threshold ending stopped = absurd stopped
+stopped_sleeps (Some stop.Refused) deeds threshold ending stopped = inr stopped
+stopped_sleeps (Some (stop.Noted set)) deeds threshold ending stopped = inr stopped
 
 stopped_drains : (how : Option Stop) (deeds : List Deed) (set : NoteSet)
     → HasStopped how deeds → HasStopped how (Drains set ∷ deeds)
@@ -423,7 +423,7 @@ turn_came caller left set still =
     ∙ ap (λ b. ticked (b || holds set Expired)) still.to_come)
 
 awaits : (caller : Caller) (left : Left) (deeds : List Deed) → StillAwaits left
-    → HasLeft caller left deeds → MayRest deeds LAST_GRANT
+    → HasLeft caller left deeds → MaySleep deeds LAST_GRANT
 awaits caller left deeds still had =
     inr (
       (record {
@@ -441,18 +441,18 @@ pub awaits_well : (caller : Caller) (start now : Standing) (process : Process) (
 awaits_well caller start now process left still slept calls =
     let had = calls.promise in
     record {
-      deeds = Rests LAST_GRANT Ending.Well ∷ calls.deeds;
-      did = then_rests caller start now process calls.deeds LAST_GRANT Ending.Well calls.did slept;
+      deeds = Sleeps LAST_GRANT Ending.Well ∷ calls.deeds;
+      did = then_sleeps caller start now process calls.deeds LAST_GRANT Ending.Well calls.did slept;
       promise = record {
         own = (tt, had.own);
-        rests = (awaits caller left calls.deeds still had, had.rests);
+        sleeps = (awaits caller left calls.deeds still had, had.sleeps);
         between = had.between;
         units = had.units;
         notes = had.notes;
         posts = had.posts;
         expired = had.expired;
-        why = λ e. stopped_rests left.stop calls.deeds LAST_GRANT Ending.Well (had.why e);
-        turn = ap (λ t. next (is_timed caller.deadline) t (Rests LAST_GRANT Ending.Well))
+        why = λ e. stopped_sleeps left.stop calls.deeds LAST_GRANT Ending.Well (had.why e);
+        turn = ap (λ t. next (is_timed caller.deadline) t (Sleeps LAST_GRANT Ending.Well))
             (turn_awaits caller left calls.deeds still had)
             ∙ (sym (turn_awaits caller left calls.deeds still had) ∙ had.turn);
       };
@@ -468,19 +468,19 @@ pub awaits_noted : (caller : Caller) (start now : Standing) (process : Process) 
 awaits_noted caller start now process left set still slept calls =
     let had = calls.promise in
     record {
-      deeds = Rests LAST_GRANT (Ending.Noted set) ∷ calls.deeds;
-      did = then_rests caller start now process calls.deeds LAST_GRANT (Ending.Noted set) calls.did
+      deeds = Sleeps LAST_GRANT (Ending.Noted set) ∷ calls.deeds;
+      did = then_sleeps caller start now process calls.deeds LAST_GRANT (Ending.Noted set) calls.did
           slept;
       promise = record {
         own = (tt, had.own);
-        rests = (awaits caller left calls.deeds still had, had.rests);
+        sleeps = (awaits caller left calls.deeds still had, had.sleeps);
         between = had.between;
         units = had.units;
         notes = ap (λ s. joined s set) had.notes;
         posts = had.posts;
         expired = had.expired;
-        why = λ e. stopped_rests left.stop calls.deeds LAST_GRANT (Ending.Noted set) (had.why e);
-        turn = ap (λ t. next (is_timed caller.deadline) t (Rests LAST_GRANT (Ending.Noted set)))
+        why = λ e. stopped_sleeps left.stop calls.deeds LAST_GRANT (Ending.Noted set) (had.why e);
+        turn = ap (λ t. next (is_timed caller.deadline) t (Sleeps LAST_GRANT (Ending.Noted set)))
             (turn_awaits caller left calls.deeds still had)
             ∙ turn_came caller left set still;
       };
@@ -496,22 +496,22 @@ pub awaits_refused : (caller : Caller) (start now : Standing) (between process :
 awaits_refused caller start now between process left set still slept drained calls =
     let had = calls.promise in
     record {
-      deeds = Drains set ∷ Rests LAST_GRANT Ending.Double ∷ calls.deeds;
+      deeds = Drains set ∷ Sleeps LAST_GRANT Ending.Double ∷ calls.deeds;
       did = then_drains caller start (record now { process = between }) process
-          (Rests LAST_GRANT Ending.Double ∷ calls.deeds) set
-          (then_rests caller start now between calls.deeds LAST_GRANT Ending.Double calls.did slept)
-          drained;
+          (Sleeps LAST_GRANT Ending.Double ∷ calls.deeds) set
+          (then_sleeps caller start now between calls.deeds LAST_GRANT Ending.Double calls.did
+          slept) drained;
       promise = record {
         own = (tt, (tt, had.own));
-        rests = (awaits caller left calls.deeds still had, had.rests);
+        sleeps = (awaits caller left calls.deeds still had, had.sleeps);
         between = had.between;
         units = had.units;
         notes = ap (λ s. joined s set) had.notes;
         posts = had.posts;
         expired = had.expired;
-        why = λ e. stopped_drains left.stop (Rests LAST_GRANT Ending.Double ∷ calls.deeds) set
-            (stopped_rests left.stop calls.deeds LAST_GRANT Ending.Double (had.why e));
-        turn = turn_after caller Awaiting calls.deeds (Rests LAST_GRANT Ending.Double) (Drains set)
+        why = λ e. stopped_drains left.stop (Sleeps LAST_GRANT Ending.Double ∷ calls.deeds) set
+            (stopped_sleeps left.stop calls.deeds LAST_GRANT Ending.Double (had.why e));
+        turn = turn_after caller Awaiting calls.deeds (Sleeps LAST_GRANT Ending.Double) (Drains set)
             (turn_awaits caller left calls.deeds still had)
             ∙ turn_came caller left set still;
       };
@@ -564,7 +564,7 @@ keeps_none caller start now process left set none set_is ready same calls =
       };
       promise = record {
         own = had.own;
-        rests = had.rests;
+        sleeps = had.sleeps;
         between = had.between;
         units = had.units;
         notes = had.notes;
@@ -594,7 +594,7 @@ keeps_some caller start now process left set set_is ready noted calls =
       did = then_posts caller start now process calls.deeds caller.pid set calls.did noted;
       promise = record {
         own = (refl, had.own);
-        rests = had.rests;
+        sleeps = had.sleeps;
         between = had.between;
         units = had.units;
         notes = had.notes;
@@ -628,7 +628,7 @@ acquired_in_time caller start now seen moment left granted came calls =
         reason = tt;
         own = had.own;
         turn = had.turn;
-        rests = had.rests;
+        sleeps = had.sleeps;
         between = had.between;
         notes = subst (λ s. IsPutBack (without_expired s) (posts_in calls.deeds)) (sym had.notes)
             had.posts;
@@ -652,7 +652,7 @@ refused_in_time caller start now seen moment left granted how came calls =
         reason = subst (λ s. HasStopped s calls.deeds) how (had.why granted);
         own = had.own;
         turn = had.turn;
-        rests = had.rests;
+        sleeps = had.sleeps;
         between = had.between;
         notes = subst (λ s. IsPutBack (without_expired s) (posts_in calls.deeds)) (sym had.notes)
             had.posts;
@@ -683,7 +683,7 @@ timed_out caller start now seen moment left cancelled granted expired alone came
         };
         own = had.own;
         turn = ap is_whole (had.turn ∙ owes_no_tick caller left cancelled came);
-        rests = had.rests;
+        sleeps = had.sleeps;
         between = had.between;
         notes = inl (ap without_expired had.notes ∙ alone, had.posts);
         told = told_of left calls.deeds had.expired had.notes came;
@@ -712,7 +712,7 @@ interrupted_in_time caller start now seen moment left set its cancelled granted 
         };
         own = had.own;
         turn = ap is_whole (had.turn ∙ owes_no_tick caller left cancelled came);
-        rests = had.rests;
+        sleeps = had.sleeps;
         between = had.between;
         notes = (set_is ∙ sym (ap without_expired had.notes), had.posts);
         told = told_of left calls.deeds had.expired had.notes came;
@@ -740,7 +740,7 @@ in_time_at_once caller start seat seen moment served =
         reason = tt;
         own = (refl, tt);
         turn = refl;
-        rests = tt;
+        sleeps = tt;
         between = tt;
         notes = inl (refl, refl);
         told = λ e. cc;
@@ -764,7 +764,7 @@ in_time_worn caller start seat seen moment served =
         reason = refl;
         own = (refl, tt);
         turn = refl;
-        rests = tt;
+        sleeps = tt;
         between = tt;
         notes = inl (refl, refl);
         told = λ e. cc;

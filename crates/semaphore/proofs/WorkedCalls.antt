@@ -16,13 +16,13 @@ use Rattle.semaphore.specs.declared.timer_object.Timer.{Timer}
 use Rattle.semaphore.specs.declared.timer_object.Timer.TheVariants.{Unset}
 use Rattle.semaphore.specs.declared.timer_object.TimerCall.TheVariants.{Add, Expire, Cancel}
 use Rattle.semaphore.specs.declared.timer_object.TimerReply.TheVariants as told
-use Rattle.semaphore.specs.Acquiring.{Acquires, AcquiresInTime, TimersSeen, IsOfAcquire, MayRest}
-use Rattle.semaphore.specs.Acquiring.{RestsInTurn, SleepsBetween, IsPutBack}
+use Rattle.semaphore.specs.Acquiring.{Acquires, AcquiresInTime, TimersSeen, IsOfAcquire, MaySleep}
+use Rattle.semaphore.specs.Acquiring.{SleepsInTurn, SleepsBetween, IsPutBack}
 use Rattle.semaphore.proofs.BrokenCalls as broken
 use Rattle.semaphore.proofs.BrokenTimers as timers
 use Rattle.semaphore.proofs.BrokenCalls.{waiter, timed_waiter, interrupt, pid, begun}
 use Rattle.semaphore.specs.Deeds.{Caller, Deed}
-use Rattle.semaphore.specs.Deeds.Deed.{Asks, Times, Rests, Rouses, Posts, Drains}
+use Rattle.semaphore.specs.Deeds.Deed.{Asks, Times, Sleeps, Wakes, Posts, Drains}
 use Rattle.semaphore.specs.Deeds.Ending.{Well, Noted, Double}
 use Rattle.semaphore.specs.Releasing.{Releases, Wakeup, AsksToTheLast}
 use Rattle.semaphore.specs.Ticking.{Ticks}
@@ -41,66 +41,66 @@ abbrev timer_set : List Deed
 timer_set = Times (Add 0 (pid 5) 150) told.Added ∷ begun
 
 abbrev unit_in_time : List Deed
-unit_in_time = Asks (Collect 0) reply.Granted ∷ Rests 0 Well ∷ timer_set
+unit_in_time = Asks (Collect 0) reply.Granted ∷ Sleeps 0 Well ∷ timer_set
 
 abbrev tick_in_time : List Deed
-tick_in_time = Asks (Leave 0) reply.Gone ∷ Rests 0 (Noted (only Expired)) ∷ timer_set
+tick_in_time = Asks (Leave 0) reply.Gone ∷ Sleeps 0 (Noted (only Expired)) ∷ timer_set
 
 abbrev awaited : List Deed
 awaited = Times (Cancel 0) told.Expired ∷ unit_in_time
 
 -- it slept twice, and then had its unit
 a_wait : Acquires waiter (Ok sema.Acquired)
-    (Asks (Collect 0) reply.Granted ∷ Rests 0 Well ∷ Asks (Collect 0) (reply.Wait 0) ∷
-    Rests 0 Well ∷ begun)
+    (Asks (Collect 0) reply.Granted ∷ Sleeps 0 Well ∷ Asks (Collect 0) (reply.Wait 0) ∷
+    Sleeps 0 Well ∷ begun)
 a_wait =
     record {
       units = refl;
       reason = tt;
       own = (refl, (tt, (refl, (tt, (refl, tt)))));
       turn = refl;
-      rests = (inl refl, (inl refl, tt));
+      sleeps = (inl refl, (inl refl, tt));
       between = (tt, (tt, tt));
       notes = inl (refl, refl);
     }
 
 -- a unit and notes came together: the notes are put back
 a_unit_with_notes : Acquires waiter (Ok sema.Acquired)
-    (Posts (pid 5) interrupt ∷ Asks (Leave 0) reply.Granted ∷ Rests 0 (Noted interrupt) ∷ begun)
+    (Posts (pid 5) interrupt ∷ Asks (Leave 0) reply.Granted ∷ Sleeps 0 (Noted interrupt) ∷ begun)
 a_unit_with_notes =
     record {
       units = refl;
       reason = tt;
       own = (refl, (refl, (tt, (refl, tt))));
       turn = refl;
-      rests = (inl refl, tt);
+      sleeps = (inl refl, tt);
       between = (tt, tt);
       notes = inr refl;
     }
 
 -- notes alone came
 an_interrupted_wait : Acquires waiter (Err (fault.Interrupted interrupt))
-    (Asks (Leave 0) reply.Gone ∷ Rests 0 (Noted interrupt) ∷ begun)
+    (Asks (Leave 0) reply.Gone ∷ Sleeps 0 (Noted interrupt) ∷ begun)
 an_interrupted_wait =
     record {
       units = refl;
       reason = inl tt;
       own = (refl, (tt, (refl, tt)));
       turn = refl;
-      rests = (inl refl, tt);
+      sleeps = (inl refl, tt);
       between = (tt, tt);
       notes = (refl, refl);
     }
 
 a_refused_wait : Acquires waiter (Err fault.DoubleSleep) (Asks (Leave 0) reply.Gone ∷
-    Rests 0 Double ∷ begun)
+    Sleeps 0 Double ∷ begun)
 a_refused_wait =
     record {
       units = refl;
       reason = inl tt;
       own = (refl, (tt, (refl, tt)));
       turn = refl;
-      rests = (inl refl, tt);
+      sleeps = (inl refl, tt);
       between = (tt, tt);
       notes = inl (refl, refl);
     }
@@ -151,14 +151,14 @@ a_timed_wait : AcquiresInTime timed_waiter (record
     { opening = Unset ∷ Unset ∷ []; history = ticked }) 150
     (Ok tt)
     (Posts (pid 5) (only Alarm) ∷ Drains (joined (only Alarm) (only Expired)) ∷
-    Rests LAST_GRANT Double ∷ broken.leaves_a_note_behind)
+    Sleeps LAST_GRANT Double ∷ broken.leaves_a_note_behind)
 a_timed_wait =
     record {
       units = refl;
       reason = tt;
       own = (refl, (tt, (tt, (refl, (refl, (tt, ((refl, refl, refl), (refl, tt))))))));
       turn = refl;
-      rests = (inr ((record { expired = refl; to_come = refl }), refl), (inl refl, tt));
+      sleeps = (inr ((record { expired = refl; to_come = refl }), refl), (inl refl, tt));
       between = (tt, tt);
       notes = inr refl;
       told = λ e. refl;
@@ -174,7 +174,7 @@ it_timed_out =
       reason = record { taken = the_tick_took_it; told = refl; alone = refl };
       own = (refl, (refl, (tt, ((refl, refl, refl), (refl, tt)))));
       turn = refl;
-      rests = (inl refl, tt);
+      sleeps = (inl refl, tt);
       between = (tt, tt);
       notes = inl (refl, refl);
       told = λ e. refl;
@@ -182,7 +182,7 @@ it_timed_out =
 
 -- two units for two seats, whose Rendez are 3 and 4
 a_release : Releases 3 2 (Ok 2)
-    (Asks NextWake reply.NoWake ∷ Rouses 4 1 ∷ Asks NextWake (reply.Wake 1 1) ∷ Rouses 3 4 ∷
+    (Asks NextWake reply.NoWake ∷ Wakes 4 1 ∷ Asks NextWake (reply.Wake 1 1) ∷ Wakes 3 4 ∷
     Asks NextWake (reply.Wake 0 4) ∷ Asks (Release 2) (reply.Value 2) ∷ [])
 a_release =
     record {
@@ -244,20 +244,20 @@ it_begins : (turn_of waiter (Asks (Acquire 0) reply.Acquired ∷ []) ≡ Answere
     × (turn_of waiter (Asks (Acquire 0) reply.Worn ∷ []) ≡ Answered)
     × (turn_of waiter begun ≡ Told)
     × (turn_of timed_waiter begun ≡ Untimed)
-    × (turn_of timed_waiter (Rests 0 Well ∷ begun) ≡ Astray)
+    × (turn_of timed_waiter (Sleeps 0 Well ∷ begun) ≡ Astray)
     × (turn_of timed_waiter timer_set ≡ Told)
 it_begins = (refl, refl, refl, refl, refl, refl)
 
-it_sleeps : (turn_of waiter (Rests 0 Well ∷ begun) ≡ Woken)
-    × (turn_of waiter (Rests 0 (Noted (only Expired)) ∷ begun) ≡ Stopped true)
-    × (turn_of waiter (Rests 0 (Noted interrupt) ∷ begun) ≡ Stopped false)
-    × (turn_of waiter (Rests 0 Double ∷ begun) ≡ Stopped false)
-    × (turn_of waiter (Asks (Collect 0) (reply.Wait 0) ∷ Rests 0 Well ∷ begun) ≡ Told)
+it_sleeps : (turn_of waiter (Sleeps 0 Well ∷ begun) ≡ Woken)
+    × (turn_of waiter (Sleeps 0 (Noted (only Expired)) ∷ begun) ≡ Stopped true)
+    × (turn_of waiter (Sleeps 0 (Noted interrupt) ∷ begun) ≡ Stopped false)
+    × (turn_of waiter (Sleeps 0 Double ∷ begun) ≡ Stopped false)
+    × (turn_of waiter (Asks (Collect 0) (reply.Wait 0) ∷ Sleeps 0 Well ∷ begun) ≡ Told)
 it_sleeps = (refl, refl, refl, refl, refl)
 
-it_leaves : (turn_of waiter (Asks (Collect 0) reply.Granted ∷ Rests 0 Well ∷ begun) ≡ Ready)
-    × (turn_of waiter (Asks (Leave 0) reply.Granted ∷ Rests 0 Double ∷ begun) ≡ Ready)
-    × (turn_of waiter (Asks (Leave 0) reply.Gone ∷ Rests 0 Double ∷ begun) ≡ Ready)
+it_leaves : (turn_of waiter (Asks (Collect 0) reply.Granted ∷ Sleeps 0 Well ∷ begun) ≡ Ready)
+    × (turn_of waiter (Asks (Leave 0) reply.Granted ∷ Sleeps 0 Double ∷ begun) ≡ Ready)
+    × (turn_of waiter (Asks (Leave 0) reply.Gone ∷ Sleeps 0 Double ∷ begun) ≡ Ready)
     × (turn_of timed_waiter unit_in_time ≡ Out false)
     × (turn_of timed_waiter tick_in_time ≡ Out true)
 it_leaves = (refl, refl, refl, refl, refl)
@@ -268,12 +268,12 @@ it_cancels : (turn_of timed_waiter (Times (Cancel 0) told.Removed ∷ unit_in_ti
     × (turn_of timed_waiter (Times (Cancel 0) told.Expired ∷ tick_in_time) ≡ Ready)
 it_cancels = (refl, refl, refl, refl)
 
-it_awaits : (turn_of timed_waiter (Rests LAST_GRANT Well ∷ awaited) ≡ Awaiting)
-    × (turn_of timed_waiter (Rests LAST_GRANT (Noted interrupt) ∷ awaited) ≡ Awaiting)
-    × (turn_of timed_waiter (Rests LAST_GRANT (Noted (only Expired)) ∷ awaited) ≡ Ready)
-    × (turn_of timed_waiter (Rests LAST_GRANT Double ∷ awaited) ≡ Refused)
-    × (turn_of timed_waiter (Drains no_notes ∷ Rests LAST_GRANT Double ∷ awaited) ≡ Awaiting)
-    × (turn_of timed_waiter (Drains (only Expired) ∷ Rests LAST_GRANT Double ∷ awaited) ≡ Ready)
+it_awaits : (turn_of timed_waiter (Sleeps LAST_GRANT Well ∷ awaited) ≡ Awaiting)
+    × (turn_of timed_waiter (Sleeps LAST_GRANT (Noted interrupt) ∷ awaited) ≡ Awaiting)
+    × (turn_of timed_waiter (Sleeps LAST_GRANT (Noted (only Expired)) ∷ awaited) ≡ Ready)
+    × (turn_of timed_waiter (Sleeps LAST_GRANT Double ∷ awaited) ≡ Refused)
+    × (turn_of timed_waiter (Drains no_notes ∷ Sleeps LAST_GRANT Double ∷ awaited) ≡ Awaiting)
+    × (turn_of timed_waiter (Drains (only Expired) ∷ Sleeps LAST_GRANT Double ∷ awaited) ≡ Ready)
 it_awaits = (refl, refl, refl, refl, refl, refl)
 
 -- notes are put back at the end, and where it owes something it does not return
@@ -366,9 +366,9 @@ no_notes_are_dropped acquires = by acquires.notes
     by (inr back) = cc
 
 no_sleep_is_too_high : Acquires waiter (Ok sema.Acquired) broken.sleeps_too_high → ⊥
-no_sleep_is_too_high acquires = by acquires.rests.0
+no_sleep_is_too_high acquires = by acquires.sleeps.0
   where
-    by : MayRest begun 1 → ⊥
+    by : MaySleep begun 1 → ⊥
     by (inl is) = absurd (omega (arith, one_of 0 1 is))
     by (inr tick) = let clash : false ≡ true = tick.0.expired in cc
 
@@ -394,18 +394,18 @@ no_note_is_left_behind : (seen : TimersSeen) →
     AcquiresInTime timed_waiter seen 150 (Ok tt) broken.leaves_a_note_behind → ⊥
 no_note_is_left_behind seen acquires = let clash : false ≡ true = acquires.told refl in cc
 
-no_sleep_behind_the_tick : RestsInTurn broken.sleeps_behind_the_tick → ⊥
-no_sleep_behind_the_tick rests = by rests.0
+no_sleep_behind_the_tick : SleepsInTurn broken.sleeps_behind_the_tick → ⊥
+no_sleep_behind_the_tick sleeps = by sleeps.0
   where
-    by : MayRest (Rests LAST_GRANT (Noted (only Expired)) ∷
+    by : MaySleep (Sleeps LAST_GRANT (Noted (only Expired)) ∷
         broken.leaves_a_note_behind) LAST_GRANT → ⊥
     by (inl is) = cc
     by (inr tick) = let clash : true ≡ false = tick.0.to_come in cc
 
-no_sleep_is_too_low : RestsInTurn broken.sleeps_too_low → ⊥
-no_sleep_is_too_low rests = by rests.0
+no_sleep_is_too_low : SleepsInTurn broken.sleeps_too_low → ⊥
+no_sleep_is_too_low sleeps = by sleeps.0
   where
-    by : MayRest broken.leaves_a_note_behind 7 → ⊥
+    by : MaySleep broken.leaves_a_note_behind 7 → ⊥
     by (inl is) = cc
     by (inr tick) = absurd (omega (arith, tick.1))
 

@@ -14,9 +14,9 @@ use Rattle.semaphore.specs.declared.sema_object.SemaReply.TheVariants as reply
 use Rattle.semaphore.specs.declared.timer_object.TimerCall.TheVariants.{Expire, Cancel}
 use Rattle.semaphore.specs.declared.timer_object.TimerReply.TheVariants as told
 use Rattle.semaphore.specs.Acquiring.{AsksForIts, TimesIts, HasEnded, HasSlept, IsNoted, IsDouble}
-use Rattle.semaphore.specs.Acquiring.{RestsInTurn, SleepsBetween, WhyNotAcquired, WhyWaited}
+use Rattle.semaphore.specs.Acquiring.{SleepsInTurn, SleepsBetween, WhyNotAcquired, WhyWaited}
 use Rattle.semaphore.specs.Asking.{CanWait}
-use Rattle.semaphore.specs.Deeds.Deed.{Asks, Times, Rests, Rouses, Posts, Drains}
+use Rattle.semaphore.specs.Deeds.Deed.{Asks, Times, Sleeps, Wakes, Posts, Drains}
 use Rattle.semaphore.specs.Deeds.Ending.{Well, Noted, Double}
 use Rattle.semaphore.specs.Releasing.{IsOfRelease, Answers}
 use Rattle.semaphore.specs.SemaLaws.{AlwaysHolds}
@@ -26,7 +26,7 @@ use Rattle.semaphore.proofs.BrokenCalls.{waiter, timed_waiter, interrupt, pid, b
 
 -- ---- since it was told to wait no sleep answered well
 
-notes_are_no_sleep : ¬ HasSlept (Rests 0 (Noted interrupt) ∷ begun)
+notes_are_no_sleep : ¬ HasSlept (Sleeps 0 (Noted interrupt) ∷ begun)
 notes_are_no_sleep slept = slept
 
 an_answer_is_no_sleep : ¬ HasSlept (Asks (Collect 0) reply.Granted ∷ begun)
@@ -35,7 +35,7 @@ an_answer_is_no_sleep slept = slept
 a_timer_is_no_sleep : ¬ HasSlept (Times (Cancel 0) told.Expired ∷ begun)
 a_timer_is_no_sleep slept = slept
 
-a_wakeup_is_no_sleep : ¬ HasSlept (Rouses 1 0 ∷ begun)
+a_wakeup_is_no_sleep : ¬ HasSlept (Wakes 1 0 ∷ begun)
 a_wakeup_is_no_sleep slept = slept
 
 a_post_is_no_sleep : ¬ HasSlept (Posts (pid 5) interrupt ∷ begun)
@@ -46,11 +46,11 @@ a_drain_is_no_sleep slept = slept
 
 -- told to wait twice with no sleep between, a wakeup behind it
 a_wakeup_hides_no_missing_sleep :
-    ¬ SleepsBetween (Rouses 1 0 ∷ Asks (Collect 0) (reply.Wait 0) ∷ begun)
+    ¬ SleepsBetween (Wakes 1 0 ∷ Asks (Collect 0) (reply.Wait 0) ∷ begun)
 a_wakeup_hides_no_missing_sleep between = between.0
 
 -- a sleep for which no answer asked, a wakeup behind it
-a_wakeup_hides_no_sleep_out_of_turn : ¬ RestsInTurn (Rouses 1 0 ∷ Rests 3 Well ∷ [])
+a_wakeup_hides_no_sleep_out_of_turn : ¬ SleepsInTurn (Wakes 1 0 ∷ Sleeps 3 Well ∷ [])
 a_wakeup_hides_no_sleep_out_of_turn (inl told_so, past) = let no : None ≡ Some 3 = told_so in cc
 a_wakeup_hides_no_sleep_out_of_turn (inr awaits, past) =
     let no : false ≡ true = awaits.0.expired in cc
@@ -60,7 +60,7 @@ a_wakeup_hides_no_sleep_out_of_turn (inr awaits, past) =
 no_sleep_ended_in_nothing : ¬ HasEnded IsDouble []
 no_sleep_ended_in_nothing ended = ended
 
-no_sleep_ended_by_a_wakeup : ¬ HasEnded IsDouble (Rouses 1 0 ∷ [])
+no_sleep_ended_by_a_wakeup : ¬ HasEnded IsDouble (Wakes 1 0 ∷ [])
 no_sleep_ended_by_a_wakeup ended = ended
 
 well_is_not_noted : ¬ IsNoted Well

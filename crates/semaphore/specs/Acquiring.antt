@@ -22,7 +22,7 @@ use Rattle.semaphore.specs.declared.timer_object.TimerCall.TheVariants.{Add, Exp
 use Rattle.semaphore.specs.declared.timer_object.TimerReply.{TimerReply}
 use Rattle.semaphore.specs.declared.timer_object.TimerReply.TheVariants as timers
 use Rattle.semaphore.specs.Deeds.{Deed, Ending, Caller}
-use Rattle.semaphore.specs.Deeds.Deed.{Asks, Times, Rests, Rouses, Posts, Drains}
+use Rattle.semaphore.specs.Deeds.Deed.{Asks, Times, Sleeps, Wakes, Posts, Drains}
 use Rattle.semaphore.specs.Deeds.Ending.{Well, Noted, Double}
 use Rattle.semaphore.specs.SemaHistory.{taken_by}
 use Rattle.semaphore.specs.TimerHistory.{TimerEntry, WasTaken}
@@ -35,21 +35,21 @@ abbrev pub units_in : List Deed → ℕ
 units_in [] = 0
 units_in (Asks call answer ∷ past) = taken_by call answer + units_in past
 units_in (Times call answer ∷ past) = units_in past
-units_in (Rests threshold ending ∷ past) = units_in past
-units_in (Rouses rendez level ∷ past) = units_in past
+units_in (Sleeps threshold ending ∷ past) = units_in past
+units_in (Wakes rendez level ∷ past) = units_in past
 units_in (Posts pid set ∷ past) = units_in past
 units_in (Drains set ∷ past) = units_in past
 
 -- the notes that it took
 abbrev pub notes_taken : List Deed → NoteSet
 notes_taken [] = no_notes
-notes_taken (Rests threshold (Noted set) ∷ past) = joined (notes_taken past) set
-notes_taken (Rests threshold Well ∷ past) = notes_taken past
-notes_taken (Rests threshold Double ∷ past) = notes_taken past
+notes_taken (Sleeps threshold (Noted set) ∷ past) = joined (notes_taken past) set
+notes_taken (Sleeps threshold Well ∷ past) = notes_taken past
+notes_taken (Sleeps threshold Double ∷ past) = notes_taken past
 notes_taken (Drains set ∷ past) = joined (notes_taken past) set
 notes_taken (Asks call answer ∷ past) = notes_taken past
 notes_taken (Times call answer ∷ past) = notes_taken past
-notes_taken (Rouses rendez level ∷ past) = notes_taken past
+notes_taken (Wakes rendez level ∷ past) = notes_taken past
 notes_taken (Posts pid set ∷ past) = notes_taken past
 
 -- the notes that it posted, each time
@@ -58,8 +58,8 @@ posts_in [] = []
 posts_in (Posts pid set ∷ past) = set ∷ posts_in past
 posts_in (Asks call answer ∷ past) = posts_in past
 posts_in (Times call answer ∷ past) = posts_in past
-posts_in (Rests threshold ending ∷ past) = posts_in past
-posts_in (Rouses rendez level ∷ past) = posts_in past
+posts_in (Sleeps threshold ending ∷ past) = posts_in past
+posts_in (Wakes rendez level ∷ past) = posts_in past
 posts_in (Drains set ∷ past) = posts_in past
 
 -- what the newest answer of the semaphore told it to wait for, where that told it to wait
@@ -71,8 +71,8 @@ abbrev pub last_wait : List Deed → Option ℕ
 last_wait [] = None
 last_wait (Asks call answer ∷ past) = wait_told answer
 last_wait (Times call answer ∷ past) = last_wait past
-last_wait (Rests threshold ending ∷ past) = last_wait past
-last_wait (Rouses rendez level ∷ past) = last_wait past
+last_wait (Sleeps threshold ending ∷ past) = last_wait past
+last_wait (Wakes rendez level ∷ past) = last_wait past
 last_wait (Posts pid set ∷ past) = last_wait past
 last_wait (Drains set ∷ past) = last_wait past
 
@@ -85,8 +85,8 @@ abbrev pub was_expired : List Deed → Bool
 was_expired [] = false
 was_expired (Times call answer ∷ past) = tells_expiry answer (was_expired past)
 was_expired (Asks call answer ∷ past) = was_expired past
-was_expired (Rests threshold ending ∷ past) = was_expired past
-was_expired (Rouses rendez level ∷ past) = was_expired past
+was_expired (Sleeps threshold ending ∷ past) = was_expired past
+was_expired (Wakes rendez level ∷ past) = was_expired past
 was_expired (Posts pid set ∷ past) = was_expired past
 was_expired (Drains set ∷ past) = was_expired past
 
@@ -113,8 +113,8 @@ TimesIts caller call None = ⊥
 abbrev pub IsOfAcquire : Caller → Deed → Type 0
 IsOfAcquire caller (Asks call answer) = AsksForIts caller.number call
 IsOfAcquire caller (Times call answer) = TimesIts caller call caller.deadline
-IsOfAcquire caller (Rests threshold ending) = ⊤
-IsOfAcquire caller (Rouses rendez level) = ⊥
+IsOfAcquire caller (Sleeps threshold ending) = ⊤
+IsOfAcquire caller (Wakes rendez level) = ⊥
 IsOfAcquire caller (Posts pid set) = pid ≡ caller.pid
 IsOfAcquire caller (Drains set) = ⊤
 
@@ -125,29 +125,29 @@ pub record AwaitsTick (deeds : List Deed) : Type 0 where
 
 -- a sleep has the count that the last answer told it to wait for; or the note of a tick is awaited,
 -- and it has the last count, which no answer tells and no grant passes
-abbrev pub MayRest : List Deed → ℕ → Type 0
-MayRest past threshold =
+abbrev pub MaySleep : List Deed → ℕ → Type 0
+MaySleep past threshold =
     (last_wait past ≡ Some threshold) ⊎ (AwaitsTick past × (threshold ≡ LAST_GRANT))
 
-abbrev pub RestsInTurn : List Deed → Type 0
-RestsInTurn [] = ⊤
-RestsInTurn (Rests threshold ending ∷ past) = MayRest past threshold × RestsInTurn past
-RestsInTurn (Asks call answer ∷ past) = RestsInTurn past
-RestsInTurn (Times call answer ∷ past) = RestsInTurn past
-RestsInTurn (Rouses rendez level ∷ past) = RestsInTurn past
-RestsInTurn (Posts pid set ∷ past) = RestsInTurn past
-RestsInTurn (Drains set ∷ past) = RestsInTurn past
+abbrev pub SleepsInTurn : List Deed → Type 0
+SleepsInTurn [] = ⊤
+SleepsInTurn (Sleeps threshold ending ∷ past) = MaySleep past threshold × SleepsInTurn past
+SleepsInTurn (Asks call answer ∷ past) = SleepsInTurn past
+SleepsInTurn (Times call answer ∷ past) = SleepsInTurn past
+SleepsInTurn (Wakes rendez level ∷ past) = SleepsInTurn past
+SleepsInTurn (Posts pid set ∷ past) = SleepsInTurn past
+SleepsInTurn (Drains set ∷ past) = SleepsInTurn past
 
 -- since the last answer that told it to wait, a sleep answered well; or there was no such answer
 abbrev pub HasSlept : List Deed → Type 0
 HasSlept [] = ⊤
-HasSlept (Rests threshold Well ∷ past) = ⊤
-HasSlept (Rests threshold (Noted set) ∷ past) = HasSlept past
-HasSlept (Rests threshold Double ∷ past) = HasSlept past
+HasSlept (Sleeps threshold Well ∷ past) = ⊤
+HasSlept (Sleeps threshold (Noted set) ∷ past) = HasSlept past
+HasSlept (Sleeps threshold Double ∷ past) = HasSlept past
 HasSlept (Asks call (reply.Wait count) ∷ past) = ⊥
 HasSlept (Asks call answer ∷ past) = HasSlept past
 HasSlept (Times call answer ∷ past) = HasSlept past
-HasSlept (Rouses rendez level ∷ past) = HasSlept past
+HasSlept (Wakes rendez level ∷ past) = HasSlept past
 HasSlept (Posts pid set ∷ past) = HasSlept past
 HasSlept (Drains set ∷ past) = HasSlept past
 
@@ -157,18 +157,18 @@ SleepsBetween [] = ⊤
 SleepsBetween (Asks call (reply.Wait count) ∷ past) = HasSlept past × SleepsBetween past
 SleepsBetween (Asks call answer ∷ past) = SleepsBetween past
 SleepsBetween (Times call answer ∷ past) = SleepsBetween past
-SleepsBetween (Rests threshold ending ∷ past) = SleepsBetween past
-SleepsBetween (Rouses rendez level ∷ past) = SleepsBetween past
+SleepsBetween (Sleeps threshold ending ∷ past) = SleepsBetween past
+SleepsBetween (Wakes rendez level ∷ past) = SleepsBetween past
 SleepsBetween (Posts pid set ∷ past) = SleepsBetween past
 SleepsBetween (Drains set ∷ past) = SleepsBetween past
 
 -- one of its sleeps ended so
 abbrev pub HasEnded : (Ending → Type 0) → List Deed → Type 0
 HasEnded Ends [] = ⊥
-HasEnded Ends (Rests threshold ending ∷ past) = Ends ending ⊎ HasEnded Ends past
+HasEnded Ends (Sleeps threshold ending ∷ past) = Ends ending ⊎ HasEnded Ends past
 HasEnded Ends (Asks call answer ∷ past) = HasEnded Ends past
 HasEnded Ends (Times call answer ∷ past) = HasEnded Ends past
-HasEnded Ends (Rouses rendez level ∷ past) = HasEnded Ends past
+HasEnded Ends (Wakes rendez level ∷ past) = HasEnded Ends past
 HasEnded Ends (Posts pid set ∷ past) = HasEnded Ends past
 HasEnded Ends (Drains set ∷ past) = HasEnded Ends past
 
@@ -221,7 +221,7 @@ pub record Acquires (caller : Caller) (answer : Result Semacquired Fault) (deeds
   pub own : AllByRecursion (IsOfAcquire caller) deeds
   -- each deed came in its turn, and it owes none
   pub turn : is_whole (turn_of caller deeds) ≡ true
-  pub rests : RestsInTurn deeds
+  pub sleeps : SleepsInTurn deeds
   pub between : SleepsBetween deeds
   pub notes : KeepsNotes (notes_taken deeds) (posts_in deeds) answer
 
@@ -286,7 +286,7 @@ pub record AcquiresInTime (caller : Caller) (seen : TimersSeen) (deadline : ℕ)
   pub own : AllByRecursion (IsOfAcquire caller) deeds
   -- each deed came in its turn, and it owes none
   pub turn : is_whole (turn_of caller deeds) ≡ true
-  pub rests : RestsInTurn deeds
+  pub sleeps : SleepsInTurn deeds
   pub between : SleepsBetween deeds
   pub notes : KeepsNotes (without_expired (notes_taken deeds)) (posts_in deeds) answer
   -- where a tick had taken its timer, it took that tick's note

@@ -21,13 +21,13 @@ use Rattle.semaphore.specs.declared.timer_object.TimerCall.{TimerCall}
 use Rattle.semaphore.specs.declared.timer_object.TimerReply.{TimerReply}
 use Rattle.semaphore.specs.declared.timer_object.TimerReply.TheVariants as told
 use Rattle.semaphore.specs.Deeds.{Deed, Ending, Caller, Standing, Did, Calls}
-use Rattle.semaphore.specs.Deeds.Deed.{Asks, Rests}
+use Rattle.semaphore.specs.Deeds.Deed.{Asks, Sleeps}
 use Rattle.semaphore.specs.Timers.{may_add, timer_of}
 use Rattle.semaphore.specs.Timers as timing
 use Rattle.semaphore.specs.Turns.{Turn, turn_of, is_whole, is_timed, left_line, ticked}
 use Rattle.semaphore.specs.Turns.Turn.{Told, Ready}
 use Rattle.semaphore.specs.Units.{SemaState, IsSound, is_idle, stage_of, answer_to}
-use Rattle.semaphore.specs.Acquiring.{IsOfAcquire, RestsInTurn, SleepsBetween, HasEnded, IsNoted}
+use Rattle.semaphore.specs.Acquiring.{IsOfAcquire, SleepsInTurn, SleepsBetween, HasEnded, IsNoted}
 use Rattle.semaphore.specs.Acquiring.{IsDouble, IsPutBack, without_expired, last_wait, units_in}
 use Rattle.semaphore.specs.Acquiring.{notes_taken, posts_in, was_expired}
 
@@ -111,9 +111,9 @@ pub record IsTimed (procs number : ℕ) (set : Bool) (call : TimerCall) (answer 
   pub answer_is : answer ≡ timing.answer_to state call
 
 -- how a sleep ended
-abbrev pub rest_ending : Option Stop → Ending
-rest_ending None = Ending.Well
-rest_ending (Some how) = ending_of how
+abbrev pub sleep_ending : Option Stop → Ending
+sleep_ending None = Ending.Well
+sleep_ending (Some how) = ending_of how
 
 -- the notes that ended the wait
 abbrev pub stopped_notes : Option Stop → NoteSet
@@ -152,7 +152,7 @@ turn_left caller left =
 -- a call that waited, and has left the line
 pub record HasLeft (caller : Caller) (left : Left) (deeds : List Deed) : Type 0 where
   pub own : AllByRecursion (IsOfAcquire caller) deeds
-  pub rests : RestsInTurn deeds
+  pub sleeps : SleepsInTurn deeds
   pub between : SleepsBetween deeds
   pub units : units_in deeds ≡ granted_units left.granted
   pub notes : notes_taken deeds ≡ left.notes
@@ -164,7 +164,7 @@ pub record HasLeft (caller : Caller) (left : Left) (deeds : List Deed) : Type 0 
 -- and has put back the notes that it keeps
 pub record HasKept (caller : Caller) (left : Left) (deeds : List Deed) : Type 0 where
   pub own : AllByRecursion (IsOfAcquire caller) deeds
-  pub rests : RestsInTurn deeds
+  pub sleeps : SleepsInTurn deeds
   pub between : SleepsBetween deeds
   pub units : units_in deeds ≡ granted_units left.granted
   pub notes : notes_taken deeds ≡ left.notes
@@ -176,7 +176,7 @@ pub record HasKept (caller : Caller) (left : Left) (deeds : List Deed) : Type 0 
 -- a call that waits for this grant: it was told so, and has got and taken nothing
 pub record WaitsFor (caller : Caller) (count : ℕ) (deeds : List Deed) : Type 0 where
   pub own : AllByRecursion (IsOfAcquire caller) deeds
-  pub rests : RestsInTurn deeds
+  pub sleeps : SleepsInTurn deeds
   pub between : SleepsBetween deeds
   pub told : last_wait deeds ≡ Some count
   pub units : units_in deeds ≡ 0
@@ -188,8 +188,8 @@ pub record WaitsFor (caller : Caller) (count : ℕ) (deeds : List Deed) : Type 0
 -- what it did last
 abbrev pub last_deeds : Caller → ℕ → Option Stop → List Deed → List Deed
 last_deeds caller count None past =
-    Asks (Collect caller.number) reply.Granted ∷ Rests count Ending.Well ∷ past
-last_deeds caller count (Some how) past = Rests count (ending_of how) ∷ past
+    Asks (Collect caller.number) reply.Granted ∷ Sleeps count Ending.Well ∷ past
+last_deeds caller count (Some how) past = Sleeps count (ending_of how) ∷ past
 
 -- it waited until it was granted a unit, or until a sleep ended otherwise
 pub record HasWaited (caller : Caller) (answer : Option Stop) (deeds : List Deed) : Type 0 where

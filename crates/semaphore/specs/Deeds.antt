@@ -1,16 +1,14 @@
 -- What a call of a process does, one deed after another, newest first: it asks the semaphore and
 -- the timers, sleeps, wakes others, and posts and takes notes. From semacquire(2), over the sleep
 -- and wakeup of the paper of 1991.
-use Rattle.std.specs.Prelude.{◌≡◌, ◌≢◌, ℕ, List, [], ◌∷◌, Option}
+use Rattle.std.specs.Prelude.{◌≡◌, ℕ, List, [], ◌∷◌, Option}
+use Rattle.sync_base.specs.declared.fault.Fault.TheVariants as fault
 use Rattle.sync_base.specs.declared.ids.Pid.{Pid}
 use Rattle.sync_base.specs.declared.ids.RendezId.{RendezId}
 use Rattle.sync_base.specs.declared.note.NoteSet.{NoteSet}
-use Rattle.sync_base.specs.NoteSet.{no_notes}
-use Rattle.sleep_core.specs.declared.answer.Answer.TheVariants as answer
-use Rattle.rendez_words.specs.declared.states.Done.{Done}
 use Rattle.rendez_words.specs.Process.{Process}
-use Rattle.rendez_words.specs.Steps.{posts, notes, drains}
-use Rattle.sleep_wakeup.specs.Calls.{Sleeps, Wakes}
+use Rattle.rendez_words.specs.Steps.{notes, drains}
+use Rattle.sleep_wakeup.specs.Deeds.{SleepsWell, FailsAsleep, WakesOne}
 use Rattle.kernel_lock.specs.declared.view.View.{View}
 use Rattle.kernel_lock.specs.Calls.{Serves}
 use Rattle.semaphore.specs.declared.sema_object.SemaCall.{SemaCall}
@@ -35,9 +33,9 @@ pub data Deed : Type 0 where
   -- it asked the timers
   Times : (call : TimerCall) → (reply : TimerReply) → Deed
   -- it slept in its own Rendez, with this threshold
-  Rests : (threshold : ℕ) → (ending : Ending) → Deed
+  Sleeps : (threshold : ℕ) → (ending : Ending) → Deed
   -- it woke whoever sleeps in this Rendez, with this level
-  Rouses : (rendez level : ℕ) → Deed
+  Wakes : (rendez level : ℕ) → Deed
   -- it posted these notes to a process
   Posts : (pid : Pid) → (set : NoteSet) → Deed
   -- it took its notes without a sleep
@@ -67,20 +65,20 @@ pub record Standing : Type 0 where
 
 -- what a sleep adds to the steps of the process
 abbrev pub Slept : RendezId → ℕ → Ending → Process → Process → Type 0
-Slept rendez threshold Ending.Well before after = Sleeps before rendez threshold no_notes after
+Slept rendez threshold Ending.Well before after = SleepsWell before rendez threshold after
 Slept rendez threshold (Ending.Noted set) before after =
-    Sleeps before rendez threshold set after × (set ≢ no_notes)
+    FailsAsleep before rendez threshold after (fault.Interrupted set)
 Slept rendez threshold Ending.Double before after =
-    after ≡ posts before rendez threshold answer.DoubleSleep
+    FailsAsleep before rendez threshold after fault.DoubleSleep
 
 -- what a deed adds to the steps of the process
 abbrev pub Steps : Caller → Deed → Process → Process → Type 0
 Steps caller (Deed.Asks call reply) before after = after ≡ before
 Steps caller (Deed.Times call reply) before after = after ≡ before
-Steps caller (Deed.Rests threshold ending) before after =
+Steps caller (Deed.Sleeps threshold ending) before after =
     Slept caller.rendez threshold ending before after
-Steps caller (Deed.Rouses rendez level) before after =
-    (done : Done) × Wakes before (record { 0 = rendez }) level after done
+Steps caller (Deed.Wakes rendez level) before after =
+    WakesOne before (record { 0 = rendez }) level after
 Steps caller (Deed.Posts pid set) before after = after ≡ notes before pid set
 Steps caller (Deed.Drains set) before after = after ≡ drains before set
 
@@ -89,8 +87,8 @@ abbrev pub Asked : Caller → Deed → SemaView → SemaView → Type 0
 Asked caller (Deed.Asks call reply) before after =
     Serves (record { by = caller.number; request = call; reply = reply }) before after
 Asked caller (Deed.Times call reply) before after = after ≡ before
-Asked caller (Deed.Rests threshold ending) before after = after ≡ before
-Asked caller (Deed.Rouses rendez level) before after = after ≡ before
+Asked caller (Deed.Sleeps threshold ending) before after = after ≡ before
+Asked caller (Deed.Wakes rendez level) before after = after ≡ before
 Asked caller (Deed.Posts pid set) before after = after ≡ before
 Asked caller (Deed.Drains set) before after = after ≡ before
 
@@ -99,8 +97,8 @@ abbrev pub Timed : Caller → Deed → TimerView → TimerView → Type 0
 Timed caller (Deed.Asks call reply) before after = after ≡ before
 Timed caller (Deed.Times call reply) before after =
     Serves (record { by = caller.timer; request = call; reply = reply }) before after
-Timed caller (Deed.Rests threshold ending) before after = after ≡ before
-Timed caller (Deed.Rouses rendez level) before after = after ≡ before
+Timed caller (Deed.Sleeps threshold ending) before after = after ≡ before
+Timed caller (Deed.Wakes rendez level) before after = after ≡ before
 Timed caller (Deed.Posts pid set) before after = after ≡ before
 Timed caller (Deed.Drains set) before after = after ≡ before
 

@@ -8,7 +8,7 @@ use Rattle.semaphore.specs.declared.sema_object.SemaCall.TheVariants.{Release, N
 use Rattle.semaphore.specs.declared.sema_object.SemaReply.{SemaReply}
 use Rattle.semaphore.specs.declared.sema_object.SemaReply.TheVariants as reply
 use Rattle.semaphore.specs.Deeds.{Deed}
-use Rattle.semaphore.specs.Deeds.Deed.{Asks, Rouses}
+use Rattle.semaphore.specs.Deeds.Deed.{Asks, Wakes}
 
 -- a release of so many units, and what it was answered
 pub record Released : Type 0 where
@@ -38,7 +38,7 @@ wakeups_owed first (deed ∷ past) = wakeups_owed first past
 -- those that it made
 abbrev pub wakeups_in : List Deed → List Wakeup
 wakeups_in [] = []
-wakeups_in (Rouses rendez level ∷ past) = record { rendez = rendez; level = level } ∷
+wakeups_in (Wakes rendez level ∷ past) = record { rendez = rendez; level = level } ∷
     wakeups_in past
 wakeups_in (deed ∷ past) = wakeups_in past
 
@@ -46,7 +46,7 @@ wakeups_in (deed ∷ past) = wakeups_in past
 abbrev pub IsOfRelease : Deed → Type 0
 IsOfRelease (Asks (Release count) answer) = ⊤
 IsOfRelease (Asks NextWake answer) = ⊤
-IsOfRelease (Rouses rendez level) = ⊤
+IsOfRelease (Wakes rendez level) = ⊤
 IsOfRelease deed = ⊥
 
 -- it asked for the next seat to be woken until there was none

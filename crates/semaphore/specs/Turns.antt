@@ -9,7 +9,7 @@ use Rattle.semaphore.specs.declared.sema_object.SemaReply.TheVariants as reply
 use Rattle.semaphore.specs.declared.timer_object.TimerCall.TheVariants.{Add, Cancel}
 use Rattle.semaphore.specs.declared.timer_object.TimerReply.TheVariants as told
 use Rattle.semaphore.specs.Deeds.{Deed, Caller}
-use Rattle.semaphore.specs.Deeds.Deed.{Asks, Times, Rests, Posts, Drains}
+use Rattle.semaphore.specs.Deeds.Deed.{Asks, Times, Sleeps, Posts, Drains}
 use Rattle.semaphore.specs.Deeds.Ending.{Well, Noted, Double}
 
 -- how far a call is
@@ -65,18 +65,18 @@ next timed Fresh (Asks (Acquire seat) reply.Acquired) = Answered
 next timed Fresh (Asks (Acquire seat) reply.Worn) = Answered
 next timed Fresh (Asks (Acquire seat) (reply.Wait count)) = told_first timed
 next timed Untimed (Times (Add seat pid deadline) told.Added) = Told
-next timed Told (Rests threshold Well) = Woken
-next timed Told (Rests threshold (Noted set)) = Stopped (holds set Expired)
-next timed Told (Rests threshold Double) = Stopped false
+next timed Told (Sleeps threshold Well) = Woken
+next timed Told (Sleeps threshold (Noted set)) = Stopped (holds set Expired)
+next timed Told (Sleeps threshold Double) = Stopped false
 next timed Woken (Asks (Collect seat) (reply.Wait count)) = Told
 next timed Woken (Asks (Collect seat) reply.Granted) = left_line timed false
 next timed (Stopped came) (Asks (Leave seat) reply.Granted) = left_line timed came
 next timed (Stopped came) (Asks (Leave seat) reply.Gone) = left_line timed came
 next timed (Out came) (Times (Cancel seat) told.Removed) = Ready
 next timed (Out came) (Times (Cancel seat) told.Expired) = ticked came
-next timed Awaiting (Rests threshold Well) = Awaiting
-next timed Awaiting (Rests threshold (Noted set)) = ticked (holds set Expired)
-next timed Awaiting (Rests threshold Double) = Refused
+next timed Awaiting (Sleeps threshold Well) = Awaiting
+next timed Awaiting (Sleeps threshold (Noted set)) = ticked (holds set Expired)
+next timed Awaiting (Sleeps threshold Double) = Refused
 next timed Refused (Drains set) = ticked (holds set Expired)
 next timed Ready (Posts pid set) = Kept
 next timed turn deed = Astray

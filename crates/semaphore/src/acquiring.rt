@@ -11,7 +11,7 @@ ghost use Rattle.semaphore.specs.Asking.{
   HasWaited,
   WaitsOn,
   is_some,
-  rest_ending,
+  sleep_ending,
   stopped_notes,
 };
 ghost use Rattle.semaphore.specs.Deeds.{Calls, Caller, Slept, Standing};
@@ -202,7 +202,7 @@ impl Sema {
         let mut count = first;
         for _ in rt.forever() {
             probe.at(2);
-            let stop = rest(rt, proc, rendez, count);
+            let stop = sleep(rt, proc, rendez, count);
             probe.at(3);
             match stop {
                 None => {}
@@ -246,25 +246,25 @@ impl Sema {
 }
 
 /// Sleeps once at the last count, which no grant passes, so that notes alone end it.
-pub(crate) fn rest_past_grants<R: Wait>(
+pub(crate) fn sleep_past_grants<R: Wait>(
     rt: &R,
     proc: &mut Proc<'_>,
     rendez: RendezId,
 ) -> Option<Stop>
     requires rendez { rendez.0 < rendez_of proc.old.words }
-    ensures slept { Slept rendez LAST_GRANT (rest_ending result)
+    ensures slept { Slept rendez LAST_GRANT (sleep_ending result)
         proc.old.process proc.new.process }
     ensures words { proc.new.words ≡ proc.old.words }
     ensures pid { proc.new.process.pid ≡ proc.old.process.pid }
 {
-    rest(rt, proc, rendez, LAST_GRANT)
+    sleep(rt, proc, rendez, LAST_GRANT)
 }
 
 // Sleeps once. Answers what ended the sleep, where it didn't answer well.
-fn rest<R: Wait>(rt: &R, proc: &mut Proc<'_>, rendez: RendezId, threshold: u64) -> Option<Stop>
+fn sleep<R: Wait>(rt: &R, proc: &mut Proc<'_>, rendez: RendezId, threshold: u64) -> Option<Stop>
     requires rendez { rendez.0 < rendez_of proc.old.words }
     requires can { threshold ≤ LAST_GRANT }
-    ensures slept { Slept rendez threshold (rest_ending result)
+    ensures slept { Slept rendez threshold (sleep_ending result)
         proc.old.process proc.new.process }
     ensures words { proc.new.words ≡ proc.old.words }
     ensures pid { proc.new.process.pid ≡ proc.old.process.pid }

@@ -21,7 +21,7 @@ ghost use Rattle.semaphore.specs.Seats.{
   timers_seen,
 };
 
-use crate::acquiring::{Stop, Until, rest_past_grants};
+use crate::acquiring::{Stop, Until, sleep_past_grants};
 use crate::sema::{Sema, SemaSeat};
 use crate::sema_asks::Begun;
 use crate::timer_object::deadline;
@@ -158,7 +158,7 @@ fn await_tick<R: Wait>(
         if !expired || notes.has(Note::Expired) {
             return notes;
         }
-        match rest_past_grants(rt, proc, rendez) {
+        match sleep_past_grants(rt, proc, rendez) {
             None => {}
             Some(Stop::Noted(set)) => notes = notes.join(set),
             Some(Stop::Refused) => {

@@ -25,10 +25,10 @@ loop-preserved g c =
       wakes = λ caller start past released number did waking.
           wakes_one caller start (goes_on c.loop.proc c.loop.seat start)
           c.wakeup.new.self.process (view_of c.next_wake.new.seat.seat) c.args.self.now.first
-          c.in-Some-next_wake.grant.seat c.in-Some-next_wake.grant.grants released c.in-Ok.field-0
+          c.in-Some-next_wake.grant.seat c.in-Some-next_wake.grant.grants released
           (served_as (λ _. NextWake) _ _ _ (view_of c.loop.seat.seat) _ _
           (number ∙ sym c.loop.invariant.number) (λ _. view_of c.loop.seat.seat)
           c.in-Some-next_wake.ensures.served)
-          c.in-Ok.ensures.woken
+          (record { receipt = c.in-Ok.field-0; woken = c.in-Ok.ensures.woken })
           (c.loop.invariant.wakes caller start past released number did waking);
     }
