@@ -7,12 +7,13 @@ use Rattle.sleep_core.specs.Table.{Cell}
 use Rattle.sleep_core.specs.Table.Cell.{PostedOf, LevelOf, FlagsOf, NoCell}
 use Rattle.rendez_words.specs.declared.view.Part.{Part}
 use Rattle.rendez_words.specs.declared.view.Sizes.{Sizes}
-use Rattle.rendez_words.specs.Plays.{IsCellIn, part_of, IsStep, HasStepped}
+use Rattle.rendez_words.specs.Plays.{Seated, IsCellIn, part_of, IsStep, HasStepped}
+use Rattle.rendez_words.specs.Plays.{HasMadeWhereEmpty}
 use Rattle.rendez_words.specs.Process.{Process}
 use Rattle.rendez_words.specs.Rule.{index_of, ShowsCore}
 use Rattle.rendez_words.specs.States.{Stepper, process_at, IsStepperOf}
 use Rattle.rendez_words.specs.View.{word_count}
-use Rattle.rendez_words.proofs.StepKeeps.{step_keeps}
+use Rattle.rendez_words.proofs.StepKeeps.{step_keeps, where_empty_keeps}
 
 -- the word of a cell is one of the words
 in_words : (sizes : Sizes) (cell : Cell) → IsCellIn sizes cell
@@ -44,3 +45,18 @@ step_allowed sizes key at pid process slots event word does same stepper_is is s
     (λ found after. HasStepped sizes event at.me found after)) same
     (step_keeps sizes slots at.id at.me (part_of (process_at at pid)) event word does stepper_is
     (subst (λ (p : Process). IsStep sizes event (part_of p) word does) (sym is) step))
+
+-- a load by the seat of a process keeps the rule, and makes its event where the word is empty
+pub where_empty_allowed : (sizes key : Sizes) (at : Stepper) (pid : ℕ) (process : Process)
+    (slots : ℕ) (event : Event) (word : ℕ) → sizes ≡ key → IsStepperOf at pid
+    → process_at at pid ≡ process
+    → IsStep sizes event (part_of process) word (λ _. 0)
+    → table.Allows (ShowsCore key) slots at.id at.me word (λ n. n)
+    (λ found after. HasMadeWhereEmpty sizes event at.me found after)
+where_empty_allowed sizes key at pid process slots event word same stepper_is is step =
+    subst (λ (k : Sizes). table.Allows (ShowsCore k) slots at.id at.me word (λ n. n)
+    (λ found after. HasMadeWhereEmpty sizes event at.me found after)) same
+    (subst (λ (me : Seated). table.Allows (ShowsCore sizes) slots at.id me word (λ n. n)
+    (λ found after. HasMadeWhereEmpty sizes event me found after)) (sym stepper_is)
+    (where_empty_keeps sizes slots at.id (part_of (process_at at pid)) event word
+    (subst (λ (p : Process). IsStep sizes event (part_of p) word (λ _. 0)) (sym is) step)))

@@ -1,8 +1,12 @@
 -- A step that makes an event keeps the rule: the run is one event longer.
-use Rattle.std.proofs.Common.{◌≡◌, ⊎_elim, ℕ, ◌<◌, List, [], ◌∷◌, get_or, set}
+use Rattle.std.proofs.Common.{◌≡◌, ◌≢◌, ⊎_elim, ℕ, ◌<◌, List, [], ◌∷◌, get_or, set}
 use Rattle.std.proofs.Common.{refl, sym, ◌∙◌, ap, subst}
+use Rattle.std.proofs.lemmas.Bool.Decides.{eqb_tells}
+use Rattle.std.proofs.lemmas.List.{set-get_or}
+use mathlib.Core.Option.{some}
+use lib.ListN.{get_elem?}
 use Rattle.atomic_table.specs.Table as table
-use Rattle.atomic_table.proofs.Lists.{at_set}
+use Rattle.atomic_table.proofs.Lists.{at_set, set_again}
 use Rattle.sleep_core.specs.declared.event.Event.{Event}
 use Rattle.sleep_core.specs.declared.answer.Answer.{Answer}
 use Rattle.sleep_core.specs.declared.phase.Phase.{Phase}
@@ -16,10 +20,12 @@ use Rattle.sleep_core.proofs.TableRows.{row}
 use Rattle.sleep_core.proofs.NoLostWakeup.{runs_are_sound}
 use Rattle.rendez_words.specs.declared.view.Part.{Part}
 use Rattle.rendez_words.specs.declared.view.Sizes.{Sizes}
+use Rattle.rendez_words.specs.declared.view.View.{View}
 use Rattle.rendez_words.specs.declared.view.View.TheVariants as view
 use Rattle.rendez_words.specs.Plays.{Seated, IsStage, number_of, IsCellIn, part_after, IsStep}
-use Rattle.rendez_words.specs.Plays.{HasMade, HasStepped}
+use Rattle.rendez_words.specs.Plays.{HasMade, HasStepped, HasMadeWhereEmpty}
 use Rattle.rendez_words.specs.Rule.{words_of, index_of, IsSeated, Fits, ShowsCore}
+use Rattle.rendez_words.specs.View.{part_in}
 use Rattle.rendez_words.proofs.IndexLemmas.{HasSizes, word_of_cell, read_there, words_after}
 use Rattle.rendez_words.proofs.RunLemmas.{trace_more, fits_still, stage_of}
 
@@ -205,3 +211,53 @@ step_keeps sizes slots id me part event word does me_is step =
     subst (λ (m : Seated). table.Allows (ShowsCore sizes) slots id m word does
     (λ found after. HasStepped sizes event m found after)) (sym me_is)
     (step_keeps_at sizes slots id part event word does step)
+
+-- a load by the seat of one process keeps the rule: where it finds the word empty it makes an event
+-- that leaves it empty, and else nothing
+pub where_empty_keeps : (sizes : Sizes) (slots id : ℕ) (part : Part) (event : Event) (word : ℕ)
+    → IsStep sizes event part word (λ _. 0)
+    → table.Allows (ShowsCore sizes) slots id (view.Process part, []) word (λ n. n)
+    (λ found after. HasMadeWhereEmpty sizes event (view.Process part, []) found after)
+where_empty_keeps sizes slots id part event word step s rule homes at range =
+    ⊎_elim (λ empty. made empty.1) (λ taken. same taken.1) (eqb_tells (get_or s.words word 0) 0)
+  where
+    -- what is asked of a step that leaves this in the word
+    Made : ℕ → Type 0
+    Made left = (known : View) × (act : table.Act (Unit {0})) × table.Valid s.homes [] act
+        × ShowsCore sizes (table.stepped s word left id [] known act)
+        × HasMadeWhereEmpty sizes event (view.Process part, []) (get_or s.words word 0)
+        (known, table.carried_after [] act)
+
+    made : get_or s.words word 0 ≡ 0 → Made (get_or s.words word 0)
+    made empty =
+        let next = step_keeps_at sizes slots id part event word (λ _. 0) step s rule homes at range
+        in subst Made (sym empty) (
+          next.0,
+          next.1,
+          next.2,
+          next.3,
+          record {
+            made = λ _. subst (λ found. HasMade sizes event part found (part_in next.0)) empty
+                next.4.made;
+            same = λ taken. absurd (taken empty);
+            seat = next.4.seat;
+          },
+        )
+
+    same : get_or s.words word 0 ≢ 0 → Made (get_or s.words word 0)
+    same taken = (
+      view.Process part,
+      table.keeps,
+      tt,
+      record {
+        run = rule.run;
+        owner = rule.owner;
+        legal = rule.legal;
+        words = set-get_or s.words word 0 ∙ rule.words;
+        each_seat = subst (λ (views : List View). (seat : ℕ) (known : View)
+            → get_elem? views seat ≡ some known
+            → Fits sizes.procs rule.run rule.owner seat known)
+            (sym (set_again s.views id (view.Process part) at)) rule.each_seat;
+      },
+      record { made = λ empty. absurd (taken empty); same = λ _. refl; seat = refl },
+    )

@@ -1,5 +1,5 @@
 -- What each kind of step tells its seat, and what it asks.
-use Rattle.std.specs.Prelude.{◌≡◌, ◌<◌, ⊤, ℕ, List, [], ◌∷◌, if◌then◌else◌}
+use Rattle.std.specs.Prelude.{◌≡◌, ◌≢◌, ◌<◌, ⊤, ℕ, List, [], ◌∷◌, if◌then◌else◌}
 use Rattle.atomic_table.specs.Table as table
 use Rattle.sleep_core.specs.declared.event.Event.{Event}
 use Rattle.sleep_core.specs.declared.event.Event.TheVariants.{Note}
@@ -92,6 +92,14 @@ pub record HasMade (sizes : Sizes) (event : Event) (before : Part) (found : ℕ)
 pub record HasStepped (sizes : Sizes) (event : Event) (before : Seated) (found : ℕ)
     (after : Seated) : Type 0 where
   pub made : HasMade sizes event (part_in before.0) found (part_in after.0)
+  pub seat : after ≡ (view.Process (part_in after.0), [])
+
+-- A load, for an event that leaves its word empty: where the word was empty the event was made, and
+-- else nothing changed.
+pub record HasMadeWhereEmpty (sizes : Sizes) (event : Event) (before : Seated) (found : ℕ)
+    (after : Seated) : Type 0 where
+  pub made : found ≡ 0 → HasMade sizes event (part_in before.0) 0 (part_in after.0)
+  pub same : found ≢ 0 → after ≡ before
   pub seat : after ≡ (view.Process (part_in after.0), [])
 
 -- Check, by a joined seat: nothing changed, and the event was answered from what was found in its

@@ -1,5 +1,5 @@
 //! What each kind of step tells its seat. These types are for the proofs alone.
-ghost use Rattle.rendez_words.specs.Plays.{HasStepped, HasChecked};
+ghost use Rattle.rendez_words.specs.Plays.{HasStepped, HasMadeWhereEmpty, HasChecked};
 ghost use Rattle.rendez_words.specs.View.{one_less_view, given_view, joined_view};
 ghost use Rattle.rendez_words.specs.View.{sleeper_view, raiser_view};
 ghost use Rattle.rendez_words.specs.declared.view.View.TheVariants.{Spent};
@@ -32,6 +32,15 @@ pub struct Make<M> {
 
 impl<M: Making> Play<(), View> for Make<M> {
     ghost then = { λ _ before found after. HasStepped M.sizes M.event before found after };
+}
+
+pub struct MakeWhereEmpty<M> {
+    making: PhantomData<M>,
+}
+
+impl<M: Making> Play<(), View> for MakeWhereEmpty<M> {
+    ghost then = { λ _ before found after.
+        HasMadeWhereEmpty M.sizes M.event before found after };
 }
 
 pub struct CheckPosted<M> {

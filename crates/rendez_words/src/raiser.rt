@@ -54,7 +54,9 @@ impl Words {
     /// Takes the sleeper out of the Rendez, if there is one, whether or not its condition holds.
     /// Where nobody is there the wakeup has returned, with its receipt.
     /// Takes no memory and doesn't wait.
-    // Step Take: swap of the posted word to 0. Seat: Owing, then Idle, or Holding the sleeper.
+    // Step Take: load of the posted word that finds nobody, or else a swap of it to 0.
+    // Seat: Owing, then Idle, or Holding the sleeper.
+    // A load that finds somebody is no step: the swap tells who it was, or that nobody is left.
     pub fn take(&self, owing: Owing) -> TakeAnswer
         requires owing { IsProcessOf self.now owing }
         ensures taken { IfTaken result
@@ -77,7 +79,7 @@ impl Words {
         let pid = doer.pid();
         let event = Event::Take { pid };
         let word = self.posted_word(rendez);
-        let found = self.swap(&mut doer, word, NOBODY, event);
+        let found = self.empty_word(&mut doer, word, event);
         if found == NOBODY {
             let seat = Seat { doer };
             let done = Done { rendez, level };

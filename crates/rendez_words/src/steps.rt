@@ -1,7 +1,9 @@
-//! One function for each atomic operation, which makes an event of the core. All orderings are the
-//! table's. Each asks that the operation does to its word what the event does to its cell, and
-//! tells what the table answers to the event from what was found there.
+//! One function for each atomic operation, which makes an event of the core; and one that swaps
+//! only where a load finds something. All orderings are the table's. Each asks that the operation
+//! does to its word what the event does to its cell, and tells what the table answers to the event
+//! from what was found there.
 ghost use Rattle.std.specs.Prelude.{◌≡◌, ◌==◌, ◌+◌, ◌<◌, max, bit_or};
+ghost use Rattle.std.specs.Bool.{OnTrue, OnFalse};
 ghost use prog.Atomic.{either};
 ghost use Rattle.sleep_core.specs.Table.Cell.{PostedOf, LevelOf, FlagsOf};
 ghost use Rattle.rendez_words.specs.Plays.{IsStep, HasMade, part_of};
@@ -9,7 +11,7 @@ ghost use Rattle.rendez_words.specs.Rule.{index_of};
 ghost use Rattle.rendez_words.specs.Words.{table_of, sizes_of, procs_of, rendez_of};
 
 use crate::parking::Unwoken;
-use crate::plays::{Make, Making};
+use crate::plays::{Make, MakeWhereEmpty, Making};
 use crate::states::Doer;
 use crate::view::LINE;
 use crate::words::Words;
@@ -84,6 +86,38 @@ impl Words {
         self.table
             .shared
             .swap::<Make<M>>(&mut doer.stepper, word, new)
+    }
+
+    /// Empties the word, and answers what it was. A load that finds it empty is the step, and the
+    /// word's line stays with the processes that look at it; else the step is a swap.
+    pub(crate) fn empty_word(&self, doer: &mut Doer, word: usize, event: Event) -> u64
+        requires table { doer.old.table ≡ table_of self.now }
+        requires step { IsStep (sizes_of self.now) event (part_of doer.old) word (λ _. 0) }
+        ensures table { doer.new.table ≡ doer.old.table }
+        ensures made { HasMade (sizes_of self.now) event
+            (part_of doer.old) result (part_of doer.new) }
+    {
+        if self.load_empty_for::<Brand>(doer, word, &event) {
+            return 0;
+        }
+        self.swap_for::<Brand>(doer, word, 0, &event)
+    }
+
+    // Whether the word is empty, and then this load has made the event.
+    fn load_empty_for<M: Making>(&self, doer: &mut Doer, word: usize, _event: &Event) -> bool
+        requires sizes { M.sizes ≡ sizes_of self.now }
+        requires table { doer.old.table ≡ table_of self.now }
+        requires step { IsStep M.sizes M.event (part_of doer.old) word (λ _. 0) }
+        ensures table { doer.new.table ≡ doer.old.table }
+        ensures made { OnTrue result
+            (HasMade M.sizes M.event (part_of doer.old) 0 (part_of doer.new)) }
+        ensures same { OnFalse result (doer.new ≡ doer.old) }
+    {
+        let found = self
+            .table
+            .shared
+            .load::<MakeWhereEmpty<M>>(&mut doer.stepper, word);
+        found == 0
     }
 
     /// Writes the word where it is `old`, and answers what it was.

@@ -8,8 +8,8 @@ pub posted_word-word-requires : goal.posted_word-word-requires
 posted_word-word-requires c = in_phase c.args.self.now _ _
     (same_process _ _ _ c.owing.view_is c.requires.owing) c.owing.invariant
 
-pub swap-found-requires-clause-step : goal.swap-found-requires-clause-step
-swap-found-requires-clause-step c =
+pub empty_word-found-requires-clause-step : goal.empty_word-found-requires-clause-step
+empty_word-found-requires-clause-step c =
     take_step c.args.self.now c.owing.inside.doer _ _ _ _ c.pid-pid.ensures
     (same_process _ _ _ c.owing.view_is c.requires.owing) c.owing.invariant
     c.posted_word-word.ensures
@@ -18,4 +18,4 @@ pub returns-then-found-eq-NOBODY-clause-receipt : goal.returns-then-found-eq-NOB
 returns-then-found-eq-NOBODY-clause-receipt c =
     take_receipt c.args.self.now _ _ _ _ _ _ c.pid-pid.ensures
     (same_process _ _ _ c.owing.view_is c.requires.owing) c.owing.invariant
-    c.swap-found.ensures.table c.swap-found.ensures.made c.if-found-eq-NOBODY.true
+    c.empty_word-found.ensures.table c.empty_word-found.ensures.made c.if-found-eq-NOBODY.true
