@@ -16,7 +16,7 @@ use Rattle.scripts.specs.Schedule.{schedule_language, size_of, event_of, events_
 use Rattle.scripts.specs.EventText.{event_text}
 use Rattle.scripts.specs.ScriptLaws.{answers_of, NoScheduleSaysLost}
 use Rattle.scripts.proofs.ToldLemmas.{Stays}
-use Rattle.scripts.proofs.ScriptLawLemmas.{farewell_kept}
+use Rattle.scripts.proofs.ScriptLawLemmas.{closing_line_kept}
 
 -- events lead to this world from one of some size
 pub record IsReached (state : State) : Type 0 where
@@ -67,7 +67,7 @@ answered_is_reached state line answered reached is = by_events (events_of (words
 
 -- what a world in which no wakeup is lost is told
 says_not_lost : (state : State) → has_lost_wakeup state ≡ false
-    → schedule_language.farewell state ≡ codes "lost no" ++ LINE_FEED ∷ []
+    → schedule_language.closing_line state ≡ codes "lost no" ++ LINE_FEED ∷ []
 says_not_lost state not_lost = rw not_lost refl
 
 -- where no events lead to a lost wakeup, no schedule says that one was lost
@@ -76,7 +76,7 @@ pub says_none_lost :
     → ¬ (HasLostWakeup (world_after_all (opening procs rendez) events)))
     → NoScheduleSaysLost
 says_none_lost none_lost input none =
-    let (state, reached, is) = farewell_kept schedule_language IsReached stays input none in
+    let (state, reached, is) = closing_line_kept schedule_language IsReached stays input none in
     is ∙ ap (λ text. answers_of schedule_language input ++ text)
     (says_not_lost state (is_not_lost state reached))
   where

@@ -7,9 +7,9 @@ use Rattle.std.proofs.lemmas.Bool.Decides.{nat_tests}
 use Rattle.scripts.specs.declared.script.TheConstants.{MAX_SCRIPT}
 use Rattle.scripts.specs.Lines.{lines_of, cut_line_of}
 use Rattle.scripts.specs.Script.{Language, told, lines_told, is_cut_off}
-use Rattle.scripts.specs.ScriptLaws.{without_farewell, answers_of, lines_text, whole_lines}
+use Rattle.scripts.specs.ScriptLaws.{without_closing_line, answers_of, lines_text, whole_lines}
 use Rattle.scripts.specs.ScriptLaws.{first_lines, AnswersAreFinal, OutputIsFinal, TooLongStaysSo}
-use Rattle.scripts.specs.ScriptLaws.{FarewellComesLast, FaultHasNoFarewell, FaultIsInScript}
+use Rattle.scripts.specs.ScriptLaws.{ClosingLineComesLast, FaultHasNoClosingLine, FaultIsInScript}
 use Rattle.scripts.specs.ScriptLaws.{FaultLeavesAnswers, FirstFaultLeavesNone}
 use Rattle.scripts.specs.ScriptLaws.{LinesBeforeHaveNoFault, FrontHasNoFault, PipeOutputIsFinal}
 use Rattle.scripts.specs.PipeScript.{pipe_language}
@@ -17,7 +17,7 @@ use Rattle.scripts.proofs.DeviceLemmas.{told_by_front}
 use Rattle.scripts.proofs.TextLemmas.{ArePlain, plain_lines, plain_take, lines_of-text}
 use Rattle.scripts.proofs.TextLemmas.{cut_line_of-text, lines_of-append, first_within}
 use Rattle.scripts.proofs.TextLemmas.{lines_text-lines}
-use Rattle.scripts.proofs.ToldLemmas.{Stays, lines_grow, farewell_lines, LeavesFirst}
+use Rattle.scripts.proofs.ToldLemmas.{Stays, lines_grow, closing_line_of_lines, LeavesFirst}
 use Rattle.scripts.proofs.ToldLemmas.{fault_leaves_first, cut_lines-fault, front_lines-sound}
 
 -- the first bytes of two texts
@@ -46,52 +46,53 @@ answers_final language front rest =
     lines in (
       more,
       ap (λ all.
-          (lines_told (without_farewell language) (is_cut_off (front ++ rest)) all).output) same
+          (lines_told (without_closing_line language) (is_cut_off (front ++ rest)) all).output) same
           ∙ is,
     )
 
--- the law: the farewell comes last
-pub farewell_last : {S : Type 0} (language : Language S) → FarewellComesLast language
-farewell_last {S} language input none =
+-- the law: the closing line comes last
+pub closing_line_last : {S : Type 0} (language : Language S) → ClosingLineComesLast language
+closing_line_last {S} language input none =
     let (s, any, is) =
-    (farewell_lines language (λ _. Unit {0}) any_state (is_cut_off input) (whole_lines input)).0
-    none in (s, is)
+    (closing_line_of_lines language (λ _. Unit {0}) any_state (is_cut_off input)
+    (whole_lines input)).0 none in (s, is)
   where
     any_state : Stays language (λ _. Unit {0})
     any_state = record { opened = λ line s is. tt; answered = λ s line answered any is. tt }
 
 -- the law: and not behind a fault
-pub fault_has_no_farewell : {S : Type 0} (language : Language S) → FaultHasNoFarewell language
-fault_has_no_farewell language input n fault =
-    (farewell_lines language (λ _. Unit {0}) any_state (is_cut_off input) (whole_lines input)).1 n
-    fault
+pub fault_has_no_closing_line : {S : Type 0} (language : Language S)
+    → FaultHasNoClosingLine language
+fault_has_no_closing_line language input n fault =
+    (closing_line_of_lines language (λ _. Unit {0}) any_state (is_cut_off input)
+    (whole_lines input)).1 n fault
   where
     any_state : Stays language (λ _. Unit {0})
     any_state = record { opened = λ line s is. tt; answered = λ s line answered any is. tt }
 
--- The farewell is to a state of a kind that stays.
-pub farewell_kept : {S : Type 0} (language : Language S) (P : S → Type 0) → Stays language P
+-- The closing line is that of a state of a kind that stays.
+pub closing_line_kept : {S : Type 0} (language : Language S) (P : S → Type 0) → Stays language P
     → (input : List ℕ)
     → (told language input).fault ≡ None
     → (s : S) × P s ×
-    ((told language input).output ≡ answers_of language input ++ language.farewell s)
-farewell_kept language P stays input none =
-    (farewell_lines language P stays (is_cut_off input) (whole_lines input)).0 none
+    ((told language input).output ≡ answers_of language input ++ language.closing_line s)
+closing_line_kept language P stays input none =
+    (closing_line_of_lines language P stays (is_cut_off input) (whole_lines input)).0 none
 
--- without farewells a script writes its answers alone
-answers_alone : {S : Type 0} (language : Language S) → ((s : S) → language.farewell s ≡ [])
+-- without closing lines a script writes its answers alone
+answers_alone : {S : Type 0} (language : Language S) → ((s : S) → language.closing_line s ≡ [])
     → (input : List ℕ) → (told language input).output ≡ answers_of language input
 answers_alone language silent input = step (told language input).fault refl
   where
     step : (v : Option ℕ) → (told language input).fault ≡ v
         → (told language input).output ≡ answers_of language input
-    step (Some n) is = fault_has_no_farewell language input n is
+    step (Some n) is = fault_has_no_closing_line language input n is
     step None is =
-        let (s, last) = farewell_last language input is in
+        let (s, last) = closing_line_last language input is in
         last ∙ (ap (λ t. answers_of language input ++ t) (silent s)
         ∙ append-nil (answers_of language input))
 
--- the law: without a farewell all that is written is final
+-- the law: without a closing line all that is written is final
 pub output_final : {S : Type 0} (language : Language S) → OutputIsFinal language
 output_final language silent front rest =
     let (more, is) = answers_final language front rest in (
@@ -157,7 +158,7 @@ pub fault_keeps : {S : Type 0} (language : Language S) → FaultLeavesAnswers la
 fault_keeps language input n fault =
     let here = leaves language input n fault in
     here.output ∙
-    (ap (λ t. t.output) (sym (told_first (without_farewell language) here.k input))
+    (ap (λ t. t.output) (sym (told_first (without_closing_line language) here.k input))
     ∙ ap (λ k. answers_of language (first_lines k input)) (before n here.k here.is))
 
 -- the law: a fault in the first line leaves none

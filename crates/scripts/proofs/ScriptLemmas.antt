@@ -192,7 +192,7 @@ some_left : (x : ℕ) (r : List ℕ) → nat_lt 0 (length (x ∷ r)) ≡ true
 some_left x r = grind (arith, nat_tests)
 
 -- what comes behind the lines: a fault where bytes are left or the script is too long, and else the
--- farewell
+-- closing line
 pub goes_end : {T S : Type 0} (stands : T → S → Type 0) (language : Language S) (too_long : Bool)
     (cut : List ℕ) (said : Told) (old now : Option (List ℕ)) (t t' : T) (number : ℕ)
     (held rest held' : List ℕ) (b : Bool) (fault : Option ℕ)
@@ -201,7 +201,7 @@ pub goes_end : {T S : Type 0} (stands : T → S → Type 0) (language : Language
     → b ≡ (too_long || nat_lt 0 (length rest))
     → (b ≡ true → (fault ≡ Some number) × (held' ≡ held))
     → (b ≡ false → (s : S) → stands t' s
-    → (fault ≡ None) × (held' ≡ held ++ language.farewell s))
+    → (fault ≡ None) × (held' ≡ held ++ language.closing_line s))
     → IsWriting old now said.output (held' ++ []) × (fault ≡ said.fault)
 goes_end {T} {S} stands language too_long cut said old now t t' number held rest held' b fault
     goes stuck is at_fault at_end = by_case b refl
@@ -251,7 +251,7 @@ goes_end {T} {S} stands language too_long cut said old now t t' number held rest
         → IsWriting old now said.output (held' ++ []) × (fault ≡ said.fault)
     says_end is_false (inl none) =
         let ends = at_end is_false goes.state none.1 in
-        joined (record { output = language.farewell goes.state; fault = None })
+        joined (record { output = language.closing_line goes.state; fault = None })
         (rw (none.0, none_left none.0 ∙ is_false) refl) ends.1 ends.0
     says_end is_false (inr (line, lines, lines_is, refused)) =
         absurd (no_line line lines lines_is is_false rest refl)

@@ -1,5 +1,5 @@
--- What lists of lines say: longer lists go on, a farewell comes last, and a fault leaves what the
--- lines before it say.
+-- What lists of lines say: longer lists go on, a closing line comes last, and a fault leaves what
+-- the lines before it say.
 use Rattle.std.proofs.Common.{◌≡◌, ℕ, suc, ◌+◌, ◌<◌, ◌≤◌, nat_le, Bool, true, false, cond, List, []}
 use Rattle.std.proofs.Common.{◌∷◌, ◌++◌, length, take, Option, None, Some, refl, ap, sym, ◌∙◌}
 use Rattle.std.proofs.Common.{append_assoc, arith}
@@ -7,7 +7,7 @@ use Rattle.std.specs.Option.{option_map_or}
 use Rattle.scripts.specs.declared.script.TheConstants.{MAX_LINE}
 use Rattle.scripts.specs.Script.{Language, Answered, Told, fault_at, answer_then, if_fits}
 use Rattle.scripts.specs.Script.{told_from, lines_told, stage}
-use Rattle.scripts.specs.ScriptLaws.{without_farewell}
+use Rattle.scripts.specs.ScriptLaws.{without_closing_line}
 
 -- what a line that reads as this and these lines say; the first of them has this number
 abbrev said_with : {S : Type 0} → Language S → Bool → ℕ → List (List ℕ) → Option (Answered S) → Told
@@ -39,10 +39,10 @@ grows_behind text old new (more, is) =
 -- by induction on the lines: their answers stand first, however many follow
 answers_grow : {S : Type 0} (language : Language S) (is_cut goes_cut : Bool) (s : S) (n : ℕ)
     (lines more : List (List ℕ))
-    → Grows (told_from (without_farewell language) is_cut (stage s n) lines).output
-    (told_from (without_farewell language) goes_cut (stage s n) (lines ++ more)).output
+    → Grows (told_from (without_closing_line language) is_cut (stage s n) lines).output
+    (told_from (without_closing_line language) goes_cut (stage s n) (lines ++ more)).output
 answers_grow {S} language is_cut goes_cut s n [] more =
-    let all = (told_from (without_farewell language) goes_cut (stage s n) more).output in
+    let all = (told_from (without_closing_line language) goes_cut (stage s n) more).output in
     (all, ap (λ t. t ++ all) (sym (no_answer is_cut n)))
 answers_grow {S} language is_cut goes_cut s n (line ∷ lines) more =
     step (if_fits (language.answer_to s) line)
@@ -50,30 +50,31 @@ answers_grow {S} language is_cut goes_cut s n (line ∷ lines) more =
   where
     step : (v : Option (Answered S))
         → ((t : S)
-        → Grows (told_from (without_farewell language) is_cut (stage t (n + 1)) lines).output
-        (told_from (without_farewell language) goes_cut (stage t (n + 1)) (lines ++ more)).output)
-        → Grows (said_with (without_farewell language) is_cut n lines v).output
-        (said_with (without_farewell language) goes_cut n (lines ++ more) v).output
+        → Grows (told_from (without_closing_line language) is_cut (stage t (n + 1)) lines).output
+        (told_from (without_closing_line language) goes_cut (stage t (n + 1))
+        (lines ++ more)).output)
+        → Grows (said_with (without_closing_line language) is_cut n lines v).output
+        (said_with (without_closing_line language) goes_cut n (lines ++ more) v).output
     step None rest = ([], refl)
     step (Some x) rest =
         grows_behind x.text
-        (told_from (without_farewell language) is_cut (stage x.after (n + 1)) lines).output
-        (told_from (without_farewell language) goes_cut (stage x.after (n + 1))
+        (told_from (without_closing_line language) is_cut (stage x.after (n + 1)) lines).output
+        (told_from (without_closing_line language) goes_cut (stage x.after (n + 1))
         (lines ++ more)).output
         (rest x.after)
 
 -- longer lists of lines keep the answers
 pub lines_grow : {S : Type 0} (language : Language S) (is_cut goes_cut : Bool)
     (lines more : List (List ℕ))
-    → Grows (lines_told (without_farewell language) is_cut lines).output
-    (lines_told (without_farewell language) goes_cut (lines ++ more)).output
+    → Grows (lines_told (without_closing_line language) is_cut lines).output
+    (lines_told (without_closing_line language) goes_cut (lines ++ more)).output
 lines_grow {S} language is_cut goes_cut [] more =
-    ((lines_told (without_farewell language) goes_cut more).output, refl)
+    ((lines_told (without_closing_line language) goes_cut more).output, refl)
 lines_grow {S} language is_cut goes_cut (line ∷ lines) more = step (if_fits language.opened_by line)
   where
     step : (v : Option S)
-        → Grows (said_from (without_farewell language) is_cut lines v).output
-        (said_from (without_farewell language) goes_cut (lines ++ more) v).output
+        → Grows (said_from (without_closing_line language) is_cut lines v).output
+        (said_from (without_closing_line language) goes_cut (lines ++ more) v).output
     step None = ([], refl)
     step (Some s) = answers_grow language is_cut goes_cut s 2 lines more
 
@@ -149,79 +150,81 @@ fits {A} read line a is = by_length (nat_le (length line) MAX_LINE) refl
     by_length true within = rw within at is
     by_length false within = let bad = rw within at is in absurd (cc)
 
--- What is told, and the same without the farewell, which is one to a state of this kind.
-abbrev pub EndsByFarewell : {S : Type 0} → Language S → (S → Type 0) → Told → Told → Type 0
-EndsByFarewell {S} language P told answers =
-    (told.fault ≡ None → (s : S) × P s × (told.output ≡ answers.output ++ language.farewell s)) ×
+-- What is told, and the same without the closing line, which is that of a state of this kind.
+abbrev pub EndsInClosingLine : {S : Type 0} → Language S → (S → Type 0) → Told → Told → Type 0
+EndsInClosingLine {S} language P told answers =
+    (told.fault ≡ None → (s : S) × P s
+    × (told.output ≡ answers.output ++ language.closing_line s)) ×
     ((n : ℕ) → told.fault ≡ Some n → told.output ≡ answers.output)
 
--- a line at fault is told alike with and without a farewell
+-- a line at fault is told alike with and without a closing line
 at_fault : {S : Type 0} (language : Language S) (P : S → Type 0) (n : ℕ)
-    → EndsByFarewell language P (fault_at n) (fault_at n)
+    → EndsInClosingLine language P (fault_at n) (fault_at n)
 at_fault language P n = (λ none. cc, λ m is. refl)
 
--- behind an answer a farewell stays last
-farewell_behind : {S : Type 0} (language : Language S) (P : S → Type 0) (text : List ℕ)
+-- behind an answer a closing line stays last
+closing_line_behind : {S : Type 0} (language : Language S) (P : S → Type 0) (text : List ℕ)
     (told answers : Told)
-    → EndsByFarewell language P told answers
-    → EndsByFarewell language P (answer_then text told) (answer_then text answers)
-farewell_behind language P text told answers (last, missing) = (
+    → EndsInClosingLine language P told answers
+    → EndsInClosingLine language P (answer_then text told) (answer_then text answers)
+closing_line_behind language P text told answers (last, missing) = (
   λ none.
       let (s, held, is) = last none in (
         s,
         held,
         ap (λ t. text ++ 10 ∷ t) is
-            ∙ sym (append_assoc text (10 ∷ answers.output) (language.farewell s)),
+            ∙ sym (append_assoc text (10 ∷ answers.output) (language.closing_line s)),
       ),
   λ n fault. ap (λ t. text ++ 10 ∷ t) (missing n fault),
 )
 
--- by induction on the lines: the farewell is to the state to which they lead
-farewell_of : {S : Type 0} (language : Language S) (P : S → Type 0) → Stays language P
+-- by induction on the lines: the closing line is that of the state to which they lead
+closing_line_of_rest : {S : Type 0} (language : Language S) (P : S → Type 0) → Stays language P
     → (is_cut : Bool) (s : S) → P s
     → (n : ℕ) (lines : List (List ℕ))
-    → EndsByFarewell language P (told_from language is_cut (stage s n) lines)
-    (told_from (without_farewell language) is_cut (stage s n) lines)
-farewell_of {S} language P stays is_cut s held n [] = at_end is_cut
+    → EndsInClosingLine language P (told_from language is_cut (stage s n) lines)
+    (told_from (without_closing_line language) is_cut (stage s n) lines)
+closing_line_of_rest {S} language P stays is_cut s held n [] = at_end is_cut
   where
     at_end : (cut : Bool)
-        → EndsByFarewell language P
-        (cond cut (fault_at n) (record { output = language.farewell s; fault = None }))
+        → EndsInClosingLine language P
+        (cond cut (fault_at n) (record { output = language.closing_line s; fault = None }))
         (cond cut (fault_at n) (record { output = []; fault = None }))
     at_end true = at_fault language P n
     at_end false = (λ none. (s, held, refl), λ m is. cc)
-farewell_of {S} language P stays is_cut s held n (line ∷ lines) =
+closing_line_of_rest {S} language P stays is_cut s held n (line ∷ lines) =
     step (if_fits (language.answer_to s) line) refl
-    (λ t still. farewell_of language P stays is_cut t still (n + 1) lines)
+    (λ t still. closing_line_of_rest language P stays is_cut t still (n + 1) lines)
   where
     step : (v : Option (Answered S)) → if_fits (language.answer_to s) line ≡ v
         → ((t : S) → P t
-        → EndsByFarewell language P (told_from language is_cut (stage t (n + 1)) lines)
-        (told_from (without_farewell language) is_cut (stage t (n + 1)) lines))
-        → EndsByFarewell language P (said_with language is_cut n lines v)
-        (said_with (without_farewell language) is_cut n lines v)
+        → EndsInClosingLine language P (told_from language is_cut (stage t (n + 1)) lines)
+        (told_from (without_closing_line language) is_cut (stage t (n + 1)) lines))
+        → EndsInClosingLine language P (said_with language is_cut n lines v)
+        (said_with (without_closing_line language) is_cut n lines v)
     step None is rest = at_fault language P n
     step (Some x) is rest =
-        farewell_behind language P x.text (told_from language is_cut (stage x.after (n + 1)) lines)
-        (told_from (without_farewell language) is_cut (stage x.after (n + 1)) lines)
+        closing_line_behind language P x.text
+        (told_from language is_cut (stage x.after (n + 1)) lines)
+        (told_from (without_closing_line language) is_cut (stage x.after (n + 1)) lines)
         (rest x.after (stays.answered s line x held (fits (language.answer_to s) line x is)))
 
--- the farewell comes last, and not where a line is at fault
-pub farewell_lines : {S : Type 0} (language : Language S) (P : S → Type 0) → Stays language P
+-- the closing line comes last, and not where a line is at fault
+pub closing_line_of_lines : {S : Type 0} (language : Language S) (P : S → Type 0) → Stays language P
     → (is_cut : Bool)
     (lines : List (List ℕ))
-    → EndsByFarewell language P (lines_told language is_cut lines)
-    (lines_told (without_farewell language) is_cut lines)
-farewell_lines language P stays is_cut [] = at_fault language P 1
-farewell_lines {S} language P stays is_cut (line ∷ lines) =
+    → EndsInClosingLine language P (lines_told language is_cut lines)
+    (lines_told (without_closing_line language) is_cut lines)
+closing_line_of_lines language P stays is_cut [] = at_fault language P 1
+closing_line_of_lines {S} language P stays is_cut (line ∷ lines) =
     step (if_fits language.opened_by line) refl
   where
     step : (v : Option S) → if_fits language.opened_by line ≡ v
-        → EndsByFarewell language P (said_from language is_cut lines v)
-        (said_from (without_farewell language) is_cut lines v)
+        → EndsInClosingLine language P (said_from language is_cut lines v)
+        (said_from (without_closing_line language) is_cut lines v)
     step None is = at_fault language P 1
     step (Some s) is =
-        farewell_of language P stays is_cut s
+        closing_line_of_rest language P stays is_cut s
         (stays.opened line s (fits language.opened_by line s is)) 2 lines
 
 -- these lines are at fault in the line behind the first k: these have no fault, and their answers
@@ -234,9 +237,9 @@ pub record Leaves {S : Type 0} (language : Language S) (s : S) (n : ℕ) (lines 
   pub is : m ≡ n + k
   -- there are as many lines as that
   pub within : k ≤ length lines
-  -- what was told is what those lines answer, with no farewell
+  -- what was told is what those lines answer, with no closing line
   pub output : told.output
-      ≡ (told_from (without_farewell language) false (stage s n) (take k lines)).output
+      ≡ (told_from (without_closing_line language) false (stage s n) (take k lines)).output
   -- those lines alone have no fault
   pub fault : (told_from language false (stage s n) (take k lines)).fault ≡ None
 
@@ -251,9 +254,9 @@ fault_leaves : {S : Type 0} (language : Language S) (is_cut : Bool) (s : S) (n :
 fault_leaves {S} language is_cut s n [] m h = at_end is_cut h
   where
     at_end : (cut : Bool)
-        → (cond cut (fault_at n) (record { output = language.farewell s; fault = None })).fault ≡
-        Some m → Leaves language s n []
-        (cond cut (fault_at n) (record { output = language.farewell s; fault = None })) m
+        → (cond cut (fault_at n) (record { output = language.closing_line s; fault = None })).fault
+        ≡ Some m → Leaves language s n []
+        (cond cut (fault_at n) (record { output = language.closing_line s; fault = None })) m
     at_end true is =
         record { k = 0; is = same_line n m is; within = omega arith; output = refl; fault = refl }
     at_end false is = absurd (cc)
@@ -275,7 +278,7 @@ fault_leaves {S} language is_cut s n (line ∷ lines) m h =
           is = omega (arith, here.is);
           within = omega (arith, here.within);
           output = ap (λ t. x.text ++ 10 ∷ t) here.output
-              ∙ ap (λ v. (said_with (without_farewell language) false n (take here.k lines)
+              ∙ ap (λ v. (said_with (without_closing_line language) false n (take here.k lines)
               v).output) (sym reads);
           fault = ap (λ v. (said_with language false n (take here.k lines) v).fault) reads
               ∙ here.fault;
@@ -290,8 +293,9 @@ pub record LeavesFirst {S : Type 0} (language : Language S) (lines : List (List 
   pub is : m ≡ suc k
   -- there are as many lines as that
   pub within : k ≤ length lines
-  -- what was told is what those lines answer, with no farewell
-  pub output : told.output ≡ (lines_told (without_farewell language) false (take k lines)).output
+  -- what was told is what those lines answer, with no closing line
+  pub output : told.output
+      ≡ (lines_told (without_closing_line language) false (take k lines)).output
   -- where there are any, those lines alone have no fault
   pub fault : 0 < k → (lines_told language false (take k lines)).fault ≡ None
 
@@ -334,8 +338,8 @@ fault_leaves_first {S} language is_cut (line ∷ lines) m h =
           is = omega (arith, here.is);
           within = omega (arith, here.within);
           output = here.output
-              ∙ ap (λ v. (said_from (without_farewell language) false (take here.k lines) v).output)
-              (sym opens);
+              ∙ ap (λ v. (said_from (without_closing_line language) false
+              (take here.k lines) v).output) (sym opens);
           fault = λ some. ap (λ v. (said_from language false (take here.k lines) v).fault) opens
               ∙ here.fault;
         }

@@ -96,7 +96,7 @@ pipe_language =
     record {
       opened_by = λ line. opened_of (words_of line);
       answer_to = λ s line. option_map (answered s) (op_of (words_of line));
-      farewell = λ _. [];
+      closing_line = λ _. [];
     }
 
 -- what a pipe script says, as a function of its bytes

@@ -216,7 +216,7 @@ schedule_language =
       opened_by = λ line. option_map (λ size. opening size.procs size.rendez)
           (size_of (words_of line));
       answer_to = λ state line. option_map (answered state) (events_of (words_of line));
-      farewell = λ state. lost_text state ++ LINE_FEED ∷ [];
+      closing_line = λ state. lost_text state ++ LINE_FEED ∷ [];
     }
 
 -- a world stands for itself

@@ -17,7 +17,7 @@ pub record Answered (S : Type 0) : Type 0 where
 pub record Language (S : Type 0) : Type 0 where
   pub opened_by : List ℕ → Option S  -- the state that the first line opens
   pub answer_to : S → List ℕ → Option (Answered S)  -- what each other line does
-  pub farewell : S → List ℕ  -- what is written after the last line
+  pub closing_line : S → List ℕ  -- what is written after the last line
 
 -- what a script writes, and the first line that is not in the grammar, counted from 1
 pub record Told : Type 0 where
@@ -51,7 +51,7 @@ abbrev pub told_from : {S : Type 0} → Language S → Bool → Stage S → List
 told_from {S} language is_cut here [] =
     if is_cut
     then fault_at here.number
-    else record { output = language.farewell here.state; fault = None }
+    else record { output = language.closing_line here.state; fault = None }
 told_from {S} language is_cut here (line ∷ lines) =
     option_map_or
     (λ (answered : Answered S). answer_then answered.text

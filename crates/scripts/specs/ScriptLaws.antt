@@ -9,13 +9,17 @@ use Rattle.scripts.specs.PipeScript.{pipe_told}
 use Rattle.scripts.specs.Schedule.{schedule_language}
 
 -- the language, but that nothing is written after the last line
-abbrev pub without_farewell : {S : Type 0} → Language S → Language S
-without_farewell language =
-    record { opened_by = language.opened_by; answer_to = language.answer_to; farewell = λ _. [] }
+abbrev pub without_closing_line : {S : Type 0} → Language S → Language S
+without_closing_line language =
+    record {
+      opened_by = language.opened_by;
+      answer_to = language.answer_to;
+      closing_line = λ _. [];
+    }
 
--- what a script writes before its farewell
+-- what a script writes before its closing line
 abbrev pub answers_of : {S : Type 0} → Language S → List ℕ → List ℕ
-answers_of language input = (told (without_farewell language) input).output
+answers_of language input = (told (without_closing_line language) input).output
 
 -- these lines, each with its line feed
 abbrev pub lines_text : List (List ℕ) → List ℕ
@@ -40,10 +44,10 @@ AnswersAreFinal language =
     (front rest : List ℕ) →
     (more : List ℕ) × (answers_of language (front ++ rest) ≡ answers_of language front ++ more)
 
--- in a language without a farewell it keeps all that is written
+-- in a language without a closing line it keeps all that is written
 abbrev pub OutputIsFinal : {S : Type 0} → Language S → Type 0
 OutputIsFinal {S} language =
-    ((s : S) → language.farewell s ≡ []) →
+    ((s : S) → language.closing_line s ≡ []) →
     (front rest : List ℕ) →
     (more : List ℕ) ×
     ((told language (front ++ rest)).output ≡ (told language front).output ++ more)
@@ -60,15 +64,15 @@ TooLongStaysSo language =
     (front rest : List ℕ) → MAX_SCRIPT < length front
     → told language (front ++ rest) ≡ told language front
 
--- where no line is at fault, the farewell to some state follows the answers
-abbrev pub FarewellComesLast : {S : Type 0} → Language S → Type 0
-FarewellComesLast {S} language =
+-- where no line is at fault, the closing line of some state follows the answers
+abbrev pub ClosingLineComesLast : {S : Type 0} → Language S → Type 0
+ClosingLineComesLast {S} language =
     (input : List ℕ) → (told language input).fault ≡ None →
-    (s : S) × ((told language input).output ≡ answers_of language input ++ language.farewell s)
+    (s : S) × ((told language input).output ≡ answers_of language input ++ language.closing_line s)
 
 -- where a line is at fault, there are the answers alone
-abbrev pub FaultHasNoFarewell : {S : Type 0} → Language S → Type 0
-FaultHasNoFarewell language =
+abbrev pub FaultHasNoClosingLine : {S : Type 0} → Language S → Type 0
+FaultHasNoClosingLine language =
     (input : List ℕ) (n : ℕ) → (told language input).fault ≡ Some n →
     (told language input).output ≡ answers_of language input
 

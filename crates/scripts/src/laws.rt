@@ -4,9 +4,10 @@ ghost use Rattle.std.specs.Prelude.{◌≡◌};
 ghost use Rattle.scripts.specs.PipeScript.{pipe_language};
 ghost use Rattle.scripts.specs.Schedule.{schedule_language};
 ghost use Rattle.scripts.specs.ScriptLaws.{LinesMakeText, AnswersAreFinal, OutputIsFinal};
-ghost use Rattle.scripts.specs.ScriptLaws.{FrontHasNoFault, TooLongStaysSo, FarewellComesLast};
-ghost use Rattle.scripts.specs.ScriptLaws.{FaultHasNoFarewell, FaultIsInScript, FaultLeavesAnswers};
-ghost use Rattle.scripts.specs.ScriptLaws.{FirstFaultLeavesNone, LinesBeforeHaveNoFault};
+ghost use Rattle.scripts.specs.ScriptLaws.{FrontHasNoFault, TooLongStaysSo, ClosingLineComesLast};
+ghost use Rattle.scripts.specs.ScriptLaws.{FaultHasNoClosingLine, FaultIsInScript};
+ghost use Rattle.scripts.specs.ScriptLaws.{FaultLeavesAnswers, FirstFaultLeavesNone};
+ghost use Rattle.scripts.specs.ScriptLaws.{LinesBeforeHaveNoFault};
 ghost use Rattle.scripts.specs.ScriptLaws.{PipeOutputIsFinal, NoScheduleSaysLost};
 ghost use Rattle.scripts.specs.TextLaws.{NumbersAreReadBack, BytesAreReadBack, KindsAreReadBack};
 
@@ -14,15 +15,15 @@ use crate::lines::{COMMA, LINE_FEED, SPACE, ZERO};
 use crate::script::{MAX_LINE, MAX_SCRIPT, Script};
 use sleep_core::laws::no_lost_wakeup;
 
-/// Answers are final: a script that is cut anywhere writes, but for its farewell, a front of what
-/// the whole script writes.
+/// Answers are final: a script that is cut anywhere writes, but for its closing line, a front of
+/// what the whole script writes.
 pub fn answers_are_final<S: Script>()
     ensures answers { AnswersAreFinal S.language }
     ensures output { OutputIsFinal S.language }
     ensures sound { FrontHasNoFault S.language }
     ensures too_long { TooLongStaysSo S.language }
-    ensures farewell { FarewellComesLast S.language }
-    ensures fault { FaultHasNoFarewell S.language }
+    ensures closing_line { ClosingLineComesLast S.language }
+    ensures fault { FaultHasNoClosingLine S.language }
 {}
 
 /// A fault in a line leaves the answers of the lines before it, which have no fault themselves.
@@ -34,7 +35,7 @@ pub fn fault_leaves_answers<S: Script>()
     ensures before { LinesBeforeHaveNoFault S.language }
 {}
 
-/// The same of pipe scripts, which have no farewell, and of schedules.
+/// The same of pipe scripts, which have no closing line, and of schedules.
 pub fn pipes_and_schedules()
     ensures pipe_output { PipeOutputIsFinal }
     ensures pipe_fault { FaultLeavesAnswers pipe_language }

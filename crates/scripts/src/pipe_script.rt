@@ -71,7 +71,7 @@ impl Script for PipeScript {
         Ok(Some(rest))
     }
 
-    fn farewell(&self, _output: &mut Vec<u8>) -> Result<(), AllocError> {
+    fn push_closing_line(&self, _output: &mut Vec<u8>) -> Result<(), AllocError> {
         Ok(())
     }
 }

@@ -68,7 +68,7 @@ impl Script for Schedule {
         Ok(Some(rest))
     }
 
-    fn farewell(&self, output: &mut Vec<u8>) -> Result<(), AllocError> {
+    fn push_closing_line(&self, output: &mut Vec<u8>) -> Result<(), AllocError> {
         if self.world.is_lost() {
             output.extend_from_slice(b"lost yes\n")
         } else {

@@ -54,10 +54,10 @@ pub trait Script: Drop + Sized {
             (growth output.old.items output.new.items)) }
         ensures shorter { IfOk result (λ rest. IsShorter rest text.now) };
 
-    /// Writes what comes behind the answer to the last line.
-    fn farewell(&self, output: &mut Vec<u8>) -> Result<(), AllocError>
+    /// Writes the closing line, which comes behind the answer to the last line.
+    fn push_closing_line(&self, output: &mut Vec<u8>) -> Result<(), AllocError>
         ensures { (s : State) → stands_for self.now s →
-            OnOk result (output.new.items ≡ output.old.items ++ language.farewell s) };
+            OnOk result (output.new.items ≡ output.old.items ++ language.closing_line s) };
 }
 
 /// How many bytes of answers are held back before they are written. So few stay in the cache, and
@@ -157,7 +157,7 @@ fn is_cut(is_too_long: bool, rest: &[u8]) -> bool
 }
 
 /// Ends a script behind the last line that could be answered: the next one is at fault where bytes
-/// are left, and otherwise the farewell is written.
+/// are left, and otherwise the closing line is written.
 fn end<S: Script>(
     script: &S,
     is_cut: bool,
@@ -166,14 +166,14 @@ fn end<S: Script>(
 ) -> Result<Option<u64>, AllocError>
     ensures fault { is_cut ≡ true → IfOk result (λ fault.
         (fault ≡ Some number) × (output.new.items ≡ output.old.items)) }
-    ensures farewell { is_cut ≡ false → (s : S.State) → S.stands_for script.now s →
+    ensures closing_line { is_cut ≡ false → (s : S.State) → S.stands_for script.now s →
         IfOk result (λ fault. (fault ≡ None)
-        × (output.new.items ≡ output.old.items ++ S.language.farewell s)) }
+        × (output.new.items ≡ output.old.items ++ S.language.closing_line s)) }
 {
     if is_cut {
         return Ok(Some(number));
     }
-    script.farewell(output)?;
+    script.push_closing_line(output)?;
     Ok(None)
 }
 

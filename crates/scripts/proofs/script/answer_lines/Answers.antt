@@ -61,9 +61,9 @@ returns-in_err-write_whole-2-clause-told g c s stands =
     let ended = goes_end _ _ _ _ _ _ _ _ c.answer_next.new.script _ _ _ c.end.new.output.items
     c.is_cut.result c.in_ok-faulty_line.faulty_line goes stuck.0 c.is_cut.ensures
     (λ t. let e = c.in_ok-faulty_line.ensures.fault t in (e.0, e.1 ∙ stuck.1))
-    (λ f now standing. let e = c.in_ok-faulty_line.ensures.farewell f now standing in (
+    (λ f now standing. let e = c.in_ok-faulty_line.ensures.closing_line f now standing in (
       e.0,
-      e.1 ∙ ap (λ (h : List ℕ). h ++ g.S.Script.language.farewell now) stuck.1,
+      e.1 ∙ ap (λ (h : List ℕ). h ++ g.S.Script.language.closing_line now) stuck.1,
     )) in
     let failed = err_from_is_err_and c.from_residual-in_err-write_whole-2.result
     c.from_residual-in_err-write_whole-2.ensures.1 in
@@ -81,9 +81,9 @@ returns-clause-told g c s stands =
     let ended = goes_end _ _ _ _ _ _ _ _ c.answer_next.new.script _ _ _ c.end.new.output.items
     c.is_cut.result c.in_ok-faulty_line.faulty_line goes stuck.0 c.is_cut.ensures
     (λ t. let e = c.in_ok-faulty_line.ensures.fault t in (e.0, e.1 ∙ stuck.1))
-    (λ f now standing. let e = c.in_ok-faulty_line.ensures.farewell f now standing in (
+    (λ f now standing. let e = c.in_ok-faulty_line.ensures.closing_line f now standing in (
       e.0,
-      e.1 ∙ ap (λ (h : List ℕ). h ++ g.S.Script.language.farewell now) stuck.1,
+      e.1 ∙ ap (λ (h : List ℕ). h ++ g.S.Script.language.closing_line now) stuck.1,
     )) in (
       ended.1,
       all_written _ _ _
