@@ -12,11 +12,11 @@ use Rattle.sync_base.specs.Write.{Write}
 use Rattle.block_queue.specs.declared.queue.Queue.{Queue}
 use Rattle.block_queue.specs.Seats.{key_of}
 use Rattle.pipe_dev.specs.declared.closing.Held.{Held}
-use Rattle.pipe_dev.specs.declared.pipe.Lane.{Lane}
+use Rattle.pipe_dev.specs.declared.pipe.DirectionStart.{DirectionStart}
 use Rattle.pipe_dev.specs.Ends.{ReadSide, WriteSide, reading_of}
 use Rattle.pipe_dev.specs.Finishing.{GivesHeld, rest_bytes}
 use Rattle.pipe_dev.specs.Laws.{IsAllWritten}
-use Rattle.pipe_dev.specs.Openings.{IsLaneOf, AreNewEnds}
+use Rattle.pipe_dev.specs.Openings.{IsDirectionStartOf, AreNewEnds}
 use Rattle.pipe_dev.specs.Parts.{Part, whole_from, bytes_by}
 use Rattle.pipe_dev.specs.Reading.{seen_state}
 use Rattle.pipe_dev.specs.Sides.{HasWrittenJust}
@@ -36,18 +36,20 @@ use Rattle.example_headline.proofs.CrewLemmas.{same_ends, still_counts}
 use Rattle.example_headline.proofs.EndLemmas.{nothing_is_held}
 
 -- the ends of a new direction
-pub fresh_ends : (queue : Queue) (lane : Lane) (read : ReadSide) (writes : List WriteSide)
-    → IsLaneOf queue lane → lane.row.mode ≡ Message → AreNewEnds queue lane.row read writes
+pub fresh_ends : (queue : Queue) (start : DirectionStart) (read : ReadSide)
+    (writes : List WriteSide)
+    → IsDirectionStartOf queue start → start.row.mode ≡ Message
+    → AreNewEnds queue start.row read writes
     → IsFresh read writes
-fresh_ends queue lane read writes is_lane mode new =
+fresh_ends queue start read writes is_start mode new =
     record {
       ends = record {
         all = new.all;
         known = ap (λ row. row.writers) new.row_is
-            ∙ (is_lane.row_is.writers ∙ ap (λ q. (key_of q).writers) (sym new.queue_is));
+            ∙ (is_start.row_is.writers ∙ ap (λ q. (key_of q).writers) (sym new.queue_is));
       };
       mode = ap (λ row. row.mode) new.row_is ∙ mode;
-      unused = new_ends_are_unused queue lane read writes is_lane new;
+      unused = new_ends_are_unused queue start read writes is_start new;
     }
 
 -- a crew that has worked is still ready

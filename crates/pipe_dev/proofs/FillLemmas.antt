@@ -29,7 +29,7 @@ use Rattle.pipe_dev.specs.declared.filling.Next.{Next}
 use Rattle.pipe_dev.specs.declared.filling.Next.TheVariants as next
 use Rattle.pipe_dev.specs.declared.filling.Stop.{Stop}
 use Rattle.pipe_dev.specs.declared.filling.Stop.TheVariants as stop
-use Rattle.pipe_dev.specs.declared.hand.ReadHand.{ReadHand}
+use Rattle.pipe_dev.specs.declared.cursor.ReadCursor.{ReadCursor}
 use Rattle.pipe_dev.specs.Finishing.{left_state}
 use Rattle.pipe_dev.specs.Parts.{Part, part_of, rest_of, bytes_of}
 use Rattle.pipe_dev.specs.Rounds.{Rounds}
@@ -440,13 +440,13 @@ next_is_nearer key mode first now new room took number count more further number
 
 -- and no more
 ends_so_far : (key : Key) (mode : Mode) (first now new : Lending) (took : Option ℕ) (count : ℕ)
-    (further : Bool) (hand : ReadHand) (why : Stop)
+    (further : Bool) (cursor : ReadCursor) (why : Stop)
     → (so_far : SoFar key mode first now took count further)
     → new.buffer ≡ now.buffer
     → StopsAt key (record { mode = mode; room = length first.buffer }) why so_far.filling new.taker
     → HasFilled key mode first
-    (record { hand = hand; took = took; came = record { count = count; stop = why } }) new
-ends_so_far key mode first now new took count further hand why so_far buffer stops =
+    (record { cursor = cursor; took = took; came = record { count = count; stop = why } }) new
+ends_so_far key mode first now new took count further cursor why so_far buffer stops =
     record {
       fills = record {
         times = so_far.times;
@@ -463,29 +463,33 @@ ends_so_far key mode first now new took count further hand why so_far buffer sto
 
 -- it has enough
 pub enough_so_far : (key : Key) (mode : Mode) (first now : Lending) (took : Option ℕ) (count : ℕ)
-    (further : Bool) (hand : ReadHand) → SoFar key mode first now took count further
+    (further : Bool) (cursor : ReadCursor) → SoFar key mode first now took count further
     → further ≡ false
     → HasFilled key mode first
-    (record { hand = hand; took = took; came = record { count = count; stop = stop.Enough } }) now
-enough_so_far key mode first now took count further hand so_far enough =
-    ends_so_far key mode first now now took count further hand stop.Enough so_far refl
+    (record {
+      cursor = cursor;
+      took = took;
+      came = record { count = count; stop = stop.Enough };
+    }) now
+enough_so_far key mode first now took count further cursor so_far enough =
+    ends_so_far key mode first now now took count further cursor stop.Enough so_far refl
     (sym so_far.further_is ∙ enough, so_far.taker_is)
 
 -- the next write is not there yet
 pub not_yet_so_far : (key : Key) (mode : Mode) (first now : Lending) (new : Taker)
-    (room : List ℕ) (took : Option ℕ) (count number : ℕ) (hand : ReadHand) (given : Next)
+    (room : List ℕ) (took : Option ℕ) (count number : ℕ) (cursor : ReadCursor) (given : Next)
     → SoFar key mode first now took count true → given ≡ next.NotYet number
     → GivesNext key (room_of now count) given (record { taker = new; buffer = room })
     → HasFilled key mode first
     (record {
-      hand = hand;
+      cursor = cursor;
       took = took;
       came = record { count = count; stop = stop.NotYet number };
     }) (back_of now count new room)
-not_yet_so_far key mode first now new room took count number hand given so_far is gives =
+not_yet_so_far key mode first now new room took count number cursor given so_far is gives =
     let found = subst (λ (n : Next). GivesNext key (room_of now count) n
     (record { taker = new; buffer = room })) is gives in
-    ends_so_far key mode first now (back_of now count new room) took count true hand
+    ends_so_far key mode first now (back_of now count new room) took count true cursor
     (stop.NotYet number) so_far
     (ap (put_mid count (length now.buffer - count) now.buffer) found.1
     ∙ put_same count (length now.buffer - count) now.buffer) (
@@ -495,16 +499,16 @@ not_yet_so_far key mode first now new room took count number hand given so_far i
 
 -- or no more will come
 pub end_so_far : (key : Key) (mode : Mode) (first now : Lending) (new : Taker)
-    (room : List ℕ) (took : Option ℕ) (count : ℕ) (hand : ReadHand) (given : Next)
+    (room : List ℕ) (took : Option ℕ) (count : ℕ) (cursor : ReadCursor) (given : Next)
     → SoFar key mode first now took count true → given ≡ next.End
     → GivesNext key (room_of now count) given (record { taker = new; buffer = room })
     → HasFilled key mode first
-    (record { hand = hand; took = took; came = record { count = count; stop = stop.End } })
+    (record { cursor = cursor; took = took; came = record { count = count; stop = stop.End } })
     (back_of now count new room)
-end_so_far key mode first now new room took count hand given so_far is gives =
+end_so_far key mode first now new room took count cursor given so_far is gives =
     let found = subst (λ (n : Next). GivesNext key (room_of now count) n
     (record { taker = new; buffer = room })) is gives in
-    ends_so_far key mode first now (back_of now count new room) took count true hand
+    ends_so_far key mode first now (back_of now count new room) took count true cursor
     stop.End so_far
     (ap (put_mid count (length now.buffer - count) now.buffer) found.1
     ∙ put_same count (length now.buffer - count) now.buffer) (

@@ -11,37 +11,38 @@ use Rattle.block_queue.specs.declared.seats.PutSeat.{PutSeat}
 use Rattle.block_queue.specs.Gather.{AreAllSeats, AreTheirPasts, Gathers}
 use Rattle.block_queue.specs.Seats.{IsPutSeatOf, key_of, take_account}
 use Rattle.pipe_dev.specs.declared.closing.Held.{Held}
-use Rattle.pipe_dev.specs.declared.hand.ReadHand.{ReadHand}
+use Rattle.pipe_dev.specs.declared.cursor.ReadCursor.{ReadCursor}
 use Rattle.pipe_dev.specs.declared.row.Row.{Row}
-use Rattle.pipe_dev.specs.Ends.{ReadSide, WriteSide, AreAllEnds, IsReadHand, HasReadHand}
+use Rattle.pipe_dev.specs.Ends.{ReadSide, WriteSide, AreAllEnds, IsReadCursor, HasReadCursor}
 use Rattle.pipe_dev.specs.Ends.{account_in, rest_in}
 use Rattle.pipe_dev.specs.Finishing.{GivesHeld, HaveSeen, rest_bytes}
-use Rattle.pipe_dev.specs.Seating.{IsHandOf, AreSeatsOf, side_of}
-use Rattle.pipe_dev.proofs.SeatingLemmas.{seats_back, hands_put, hands_none, sides_back}
+use Rattle.pipe_dev.specs.Seating.{IsWriteSeatOf, AreSeatsOf, side_of}
+use Rattle.pipe_dev.proofs.SeatingLemmas.{seats_back, write_seats_put, write_seats_none, sides_back}
 use Rattle.pipe_dev.proofs.SeatingLemmas.{numbers_back, shares_back, same_entries}
 
--- the read end of this hand
-abbrev pub read_side : Queue → Row → ReadHand → ReadSide
-read_side queue row hand =
-    record { queue = queue; row = row; account = take_account hand.seat; rest = hand.rest }
+-- the read end of this cursor
+abbrev pub read_side : Queue → Row → ReadCursor → ReadSide
+read_side queue row cursor =
+    record { queue = queue; row = row; account = take_account cursor.seat; rest = cursor.rest }
 
 -- an end that was taken apart
-pub record IsApart (queue : Queue) (row : Row) (hand : ReadHand) (read : ReadSide) : Type 0 where
-  -- the read end is the one that this hand makes with its queue and its Rendez
-  pub side : read ≡ read_side queue row hand
-  -- the hand holds a seat of this queue, and has what a hand of its reader has
-  pub holds : IsReadHand queue row hand
+pub record IsApart (queue : Queue) (row : Row) (cursor : ReadCursor) (read : ReadSide) :
+    Type 0 where
+  -- the read end is the one that this cursor makes with its queue and its Rendez
+  pub side : read ≡ read_side queue row cursor
+  -- the cursor holds a seat of this queue, and has what a cursor of its reader has
+  pub holds : IsReadCursor queue row cursor
 
--- a read end whose hand is there is made of its queue, its Rendez and that hand
-pub taken_apart : (queue : Queue) (row : Row) (hands : Option ReadHand) (hand : ReadHand)
+-- a read end whose cursor is there is made of its queue, its Rendez and that cursor
+pub taken_apart : (queue : Queue) (row : Row) (held : Option ReadCursor) (cursor : ReadCursor)
     (read : ReadSide)
-    → record { queue = queue; row = row; account = account_in hands; rest = rest_in hands } ≡ read
-    → HasReadHand queue row hands → hands ≡ Some hand → IsApart queue row hand read
-taken_apart queue row hands hand read view holds some =
+    → record { queue = queue; row = row; account = account_in held; rest = rest_in held } ≡ read
+    → HasReadCursor queue row held → held ≡ Some cursor → IsApart queue row cursor read
+taken_apart queue row held cursor read view holds some =
     record {
-      side = sym view ∙ ap (λ (h : Option ReadHand).
+      side = sym view ∙ ap (λ (h : Option ReadCursor).
           record { queue = queue; row = row; account = account_in h; rest = rest_in h }) some;
-      holds = subst (HasReadHand queue row) some holds;
+      holds = subst (HasReadCursor queue row) some holds;
     }
 
 -- what the seats have seen is what their ends have seen
@@ -55,26 +56,26 @@ pasts_back history (write ∷ writes) (seat ∷ seats) are pasts = (
   pasts_back history writes seats are.1 pasts.1,
 )
 
-module _ (queue : Queue) (row : Row) (hand : ReadHand) (read : ReadSide)
-    (apart : IsApart queue row hand read) (writes : List WriteSide) (all : AreAllEnds read writes)
+module _ (queue : Queue) (row : Row) (cursor : ReadCursor) (read : ReadSide)
+    (apart : IsApart queue row cursor read) (writes : List WriteSide) (all : AreAllEnds read writes)
     (seats : List PutSeat) (are : AreSeatsOf writes seats) where
-  all_of_hand : AreAllEnds (read_side queue row hand) writes
-  all_of_hand = subst (λ (r : ReadSide). AreAllEnds r writes) apart.side all
+  all_of_cursor : AreAllEnds (read_side queue row cursor) writes
+  all_of_cursor = subst (λ (r : ReadSide). AreAllEnds r writes) apart.side all
 
   -- each seat given back is what a write end of the read end's direction holds
-  pub their_hands : AllByRecursion (IsHandOf queue row) seats
-  their_hands = seats_back (read_side queue row hand) writes seats all_of_hand.one are
+  pub their_write_seats : AllByRecursion (IsWriteSeatOf queue row) seats
+  their_write_seats = seats_back (read_side queue row cursor) writes seats all_of_cursor.one are
 
   -- each seat given back is a writer's seat of this queue
   pub their_seats : AllByRecursion (IsPutSeatOf queue) seats
-  their_seats = hands_put queue row seats their_hands
+  their_seats = write_seats_put queue row seats their_write_seats
 
   -- these are all seats of the queue: the reader's and every writer's, in order
-  pub all_seats : AreAllSeats hand.seat seats
+  pub all_seats : AreAllSeats cursor.seat seats
   all_seats =
       record {
-        order = apart.holds.gave ∙ numbers_back row.writers writes seats all_of_hand.order are;
-        none = hands_none queue row seats their_hands;
+        order = apart.holds.gave ∙ numbers_back row.writers writes seats all_of_cursor.order are;
+        none = write_seats_none queue row seats their_write_seats;
       }
 
   -- the write ends that are made of these seats again are those that were given
@@ -82,11 +83,11 @@ module _ (queue : Queue) (row : Row) (hand : ReadHand) (read : ReadSide)
       → ends ≡ map (side_of queue row) again → ends ≡ writes
   their_sides ends again same is =
       is ∙ (ap (map (side_of queue row)) same
-      ∙ sides_back (read_side queue row hand) writes seats all_of_hand.one are)
+      ∙ sides_back (read_side queue row cursor) writes seats all_of_cursor.one are)
 
   -- what is gathered of all seats, behind the rest of the begun write, is what a finish gives
   pub gives_held : (gathered : Gathered) (rest : List ℕ)
-      → Gathers (key_of queue) hand.seat seats gathered → rest ≡ rest_bytes read.rest
+      → Gathers (key_of queue) cursor.seat seats gathered → rest ≡ rest_bytes read.rest
       → GivesHeld read writes
       (record { rest = rest; writes = gathered.blocks; hung = gathered.hung })
   gives_held gathered rest gathers rest_is =
@@ -95,8 +96,8 @@ module _ (queue : Queue) (row : Row) (hand : ReadHand) (read : ReadSide)
           history = gathers.history;
           legal = gathers.legal;
           seen = gathers.past;
-          no_more_read = same_entries (take_account hand.seat).seen gathers.history 0
-              (take_account hand.seat).shares apart.holds.knows.mine gathers.mine
+          no_more_read = same_entries (take_account cursor.seat).seen gathers.history 0
+              (take_account cursor.seat).shares apart.holds.knows.mine gathers.mine
               apart.holds.seat.own;
           shares = shares_back gathers.history writes seats are gathers.puts_mine;
           rest = rest_is ∙ ap (λ (r : ReadSide). rest_bytes r.rest) apart.side;

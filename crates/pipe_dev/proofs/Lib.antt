@@ -17,5 +17,5 @@ pub mod WorkedCalls
 pub mod WorkedFills
 pub mod SideLemmas
 pub mod WorkedOpenings
-pub mod WorkedHands
-mod WorkedLanes
+pub mod WorkedEnds
+mod WorkedDirections

@@ -19,10 +19,10 @@ use Rattle.block_queue.specs.Meaning.{KnowsQueue}
 use Rattle.block_queue.specs.Opening.{IsNewPutSeat, new_account, reader_account}
 use Rattle.block_queue.specs.Seats.{IsPutSeatOf, key_of, put_account}
 use Rattle.pipe_dev.specs.declared.row.Row.{Row}
-use Rattle.pipe_dev.specs.Ends.{ReadSide, WriteSide, AreOfOne, IsRowOf, IsWriteHand}
+use Rattle.pipe_dev.specs.Ends.{ReadSide, WriteSide, AreOfOne, IsRowOf, IsWriteSeat}
 use Rattle.pipe_dev.specs.Finishing.{shares_of}
 use Rattle.pipe_dev.specs.Openings.{IsSeatToGive, IsNewWriteEnd}
-use Rattle.pipe_dev.specs.Seating.{IsHandOf, AreSeatsOf, side_of}
+use Rattle.pipe_dev.specs.Seating.{IsWriteSeatOf, AreSeatsOf, side_of}
 
 -- ---- what a new seat knows
 
@@ -61,7 +61,7 @@ seat_to_give queue row writer seat row_is new =
     let account : put_account seat ≡ new_account (seat.writer + 1)
     = new.account_is ∙ ap (λ (n : ℕ). new_account (n + 1)) (sym new.writer_is) in
     record {
-      hand = record {
+      seat_is = record {
         row_is = row_is;
         seat_is = new.seat_is;
         writer_is = refl;
@@ -130,30 +130,31 @@ new_order queue row (seat ∷ seats) =
 -- the seats of write ends of one direction with a read end are what its write ends hold
 pub seats_back : (read : ReadSide) (writes : List WriteSide) (seats : List PutSeat)
     → AllByRecursion (AreOfOne read) writes → AreSeatsOf writes seats
-    → AllByRecursion (IsHandOf read.queue read.row) seats
+    → AllByRecursion (IsWriteSeatOf read.queue read.row) seats
 seats_back read [] [] one are = tt
 seats_back read [] (seat ∷ seats) one are = absurd are
 seats_back read (write ∷ writes) [] one are = absurd are
 seats_back read (write ∷ writes) (seat ∷ seats) one are = (
-  subst (λ (q : Queue). IsWriteHand q read.row seat.writer seat) one.0.queue
-      (subst (λ (r : Row). IsWriteHand write.queue r seat.writer seat) one.0.row
-      (subst (λ (n : ℕ). IsWriteHand write.queue write.row n seat) (sym are.0.hand.writer_is)
-      are.0.hand)),
+  subst (λ (q : Queue). IsWriteSeat q read.row seat.writer seat) one.0.queue
+      (subst (λ (r : Row). IsWriteSeat write.queue r seat.writer seat) one.0.row
+      (subst (λ (n : ℕ). IsWriteSeat write.queue write.row n seat) (sym are.0.seat_is.writer_is)
+      are.0.seat_is)),
   seats_back read writes seats one.1 are.1,
 )
 
 -- a seat that a write end holds is a writer's seat of its queue
-pub hands_put : (queue : Queue) (row : Row) (seats : List PutSeat)
-    → AllByRecursion (IsHandOf queue row) seats → AllByRecursion (IsPutSeatOf queue) seats
-hands_put queue row =
-    all_weaker (IsHandOf queue row) (IsPutSeatOf queue) (λ seat hand. hand.seat_is)
+pub write_seats_put : (queue : Queue) (row : Row) (seats : List PutSeat)
+    → AllByRecursion (IsWriteSeatOf queue row) seats → AllByRecursion (IsPutSeatOf queue) seats
+write_seats_put queue row =
+    all_weaker (IsWriteSeatOf queue row) (IsPutSeatOf queue) (λ seat held. held.seat_is)
 
 -- a seat that a write end holds has no numbers that were given away
-pub hands_none : (queue : Queue) (row : Row) (seats : List PutSeat)
-    → AllByRecursion (IsHandOf queue row) seats
+pub write_seats_none : (queue : Queue) (row : Row) (seats : List PutSeat)
+    → AllByRecursion (IsWriteSeatOf queue row) seats
     → AllByRecursion (λ seat. (put_account seat).gave ≡ []) seats
-hands_none queue row =
-    all_weaker (IsHandOf queue row) (λ seat. (put_account seat).gave ≡ []) (λ seat hand. hand.gave)
+write_seats_none queue row =
+    all_weaker (IsWriteSeatOf queue row) (λ seat. (put_account seat).gave ≡ [])
+    (λ seat held. held.gave)
 
 -- the ends are made of their seats again
 pub sides_back : (read : ReadSide) (writes : List WriteSide) (seats : List PutSeat)
@@ -172,7 +173,7 @@ sides_back read (write ∷ writes) (seat ∷ seats) one are =
     (sym one.0.row)
     ∙ (ap (λ (n : ℕ). record
     { queue = write.queue; row = write.row; writer = n; account = put_account seat })
-    are.0.hand.writer_is
+    are.0.seat_is.writer_is
     ∙ ap (λ (a : Account Entry). record
     { queue = write.queue; row = write.row; writer = write.writer; account = a })
     are.0.account)))
@@ -189,7 +190,7 @@ numbers_are [] [] are = refl
 numbers_are [] (seat ∷ seats) are = absurd are
 numbers_are (write ∷ writes) [] are = absurd are
 numbers_are (write ∷ writes) (seat ∷ seats) are =
-    ap (λ (n : ℕ). (n + 1) ∷ numbers_of seats) are.0.hand.writer_is
+    ap (λ (n : ℕ). (n + 1) ∷ numbers_of seats) are.0.seat_is.writer_is
     ∙ ap (λ (ns : List ℕ). (write.writer + 1) ∷ ns) (numbers_are writes seats are.1)
 
 -- the seats of all write ends, in order, have the numbers from 1 to the count of writers

@@ -156,7 +156,7 @@ write_ends_hang_up old new enters same =
 
 -- the ends of a new direction have read and written nothing
 pub new_ends_are_unused : NewEndsAreUnused
-new_ends_are_unused queue lane read writes is_lane new =
+new_ends_are_unused queue start read writes is_lane new =
     record {
       read_none = record {
         first = ap (λ (q : Queue). (key_of q).first) new.queue_is ∙ is_lane.row_is.first;
@@ -175,7 +175,7 @@ new_ends_are_unused queue lane read writes is_lane new =
       written_none = each writes new.unwritten;
     }
   where
-    each : (ends : List WriteSide) → AllByRecursion (IsNewWriteEnd queue lane.row) ends
+    each : (ends : List WriteSide) → AllByRecursion (IsNewWriteEnd queue start.row) ends
         → AllByRecursion (λ write. HasWrittenJust write []) ends
     each [] unwritten = tt
     each (write ∷ ends) unwritten = (

@@ -9,7 +9,7 @@ use Rattle.block_queue.specs.declared.seats.PutSeat.{PutSeat}
 use Rattle.block_queue.specs.Meaning.{KnowsQueue}
 use Rattle.block_queue.specs.Seats.{IsPutSeatOf, IsTakeSeatOf, key_of, put_account, take_account}
 use Rattle.pipe_dev.specs.declared.row.Row.{Row}
-use Rattle.pipe_dev.specs.declared.hand.ReadHand.{ReadHand}
+use Rattle.pipe_dev.specs.declared.cursor.ReadCursor.{ReadCursor}
 use Rattle.pipe_dev.specs.Parts.{Part}
 use Rattle.pipe_dev.specs.Reading.{Reading, IsRest}
 
@@ -38,38 +38,38 @@ pub record IsRowOf (queue : Queue) (row : Row) : Type 0 where
   pub first : (key_of queue).first ≡ 0
 
 -- what a read end holds between two calls: the reader's seat, which gave the writers theirs
-pub record IsReadHand (queue : Queue) (row : Row) (hand : ReadHand) : Type 0 where
+pub record IsReadCursor (queue : Queue) (row : Row) (cursor : ReadCursor) : Type 0 where
   pub row_is : IsRowOf queue row
-  pub seat : IsTakeSeatOf queue hand.seat
-  pub knows : KnowsQueue (key_of queue) (take_account hand.seat)
-  pub gave : (take_account hand.seat).gave ≡ numbers_from 1 row.writers
-  pub some_left : IsRest hand.rest
+  pub seat : IsTakeSeatOf queue cursor.seat
+  pub knows : KnowsQueue (key_of queue) (take_account cursor.seat)
+  pub gave : (take_account cursor.seat).gave ≡ numbers_from 1 row.writers
+  pub some_left : IsRest cursor.rest
 
 -- what a write end holds between two calls: the seat of its writer, which gave none
-pub record IsWriteHand (queue : Queue) (row : Row) (writer : ℕ) (seat : PutSeat) : Type 0 where
+pub record IsWriteSeat (queue : Queue) (row : Row) (writer : ℕ) (seat : PutSeat) : Type 0 where
   pub row_is : IsRowOf queue row
   pub seat_is : IsPutSeatOf queue seat
   pub writer_is : seat.writer ≡ writer
   pub knows : KnowsQueue (key_of queue) (put_account seat)
   pub gave : (put_account seat).gave ≡ []
 
--- the end has its hand, or its seat, between two calls
-abbrev pub HasReadHand : Queue → Row → Option ReadHand → Type 0
-HasReadHand queue row None = ⊥
-HasReadHand queue row (Some hand) = IsReadHand queue row hand
+-- the end has its cursor, or its seat, between two calls
+abbrev pub HasReadCursor : Queue → Row → Option ReadCursor → Type 0
+HasReadCursor queue row None = ⊥
+HasReadCursor queue row (Some cursor) = IsReadCursor queue row cursor
 
-abbrev pub HasWriteHand : Queue → Row → ℕ → Option PutSeat → Type 0
-HasWriteHand queue row writer None = ⊥
-HasWriteHand queue row writer (Some seat) = IsWriteHand queue row writer seat
+abbrev pub HasWriteSeat : Queue → Row → ℕ → Option PutSeat → Type 0
+HasWriteSeat queue row writer None = ⊥
+HasWriteSeat queue row writer (Some seat) = IsWriteSeat queue row writer seat
 
--- what the hand of an end knows; where it is away there is nothing
-abbrev pub account_in : Option ReadHand → Account Entry
+-- what the cursor of an end knows; where it is away there is nothing
+abbrev pub account_in : Option ReadCursor → Account Entry
 account_in None = spent_account
-account_in (Some hand) = take_account hand.seat
+account_in (Some cursor) = take_account cursor.seat
 
-abbrev pub rest_in : Option ReadHand → Option Part
+abbrev pub rest_in : Option ReadCursor → Option Part
 rest_in None = None
-rest_in (Some hand) = hand.rest
+rest_in (Some cursor) = cursor.rest
 
 abbrev pub put_account_in : Option PutSeat → Account Entry
 put_account_in None = spent_account

@@ -7,19 +7,19 @@ use Rattle.sync_base.specs.declared.mode.Mode.{Mode}
 use Rattle.pipe_dev.specs.declared.filling.Filled.{Filled}
 use Rattle.pipe_dev.specs.declared.filling.Next.{Next}
 use Rattle.pipe_dev.specs.declared.filling.Next.TheVariants as next
-use Rattle.pipe_dev.specs.declared.hand.ReadHand.{ReadHand}
+use Rattle.pipe_dev.specs.declared.cursor.ReadCursor.{ReadCursor}
 use Rattle.pipe_dev.specs.Filling.{Taker, TakesPart, FindsNothing, FindsNotThere, Lending}
 use Rattle.pipe_dev.specs.Filling.{IsFilledBy, FillsUp, number_of, last_number}
 use Rattle.pipe_dev.specs.Parts.{Part}
 use Rattle.std.specs.Prelude.{length}
 
--- the end that has this hand
-abbrev pub taker_with : ReadHand → Taker
-taker_with hand = record { account = take_account hand.seat; rest = hand.rest }
+-- the end that has this cursor
+abbrev pub taker_with : ReadCursor → Taker
+taker_with cursor = record { account = take_account cursor.seat; rest = cursor.rest }
 
 -- and the buffer that its read fills
-abbrev pub lending_with : ReadHand → List ℕ → Lending
-lending_with hand buffer = record { taker = taker_with hand; buffer = buffer }
+abbrev pub lending_with : ReadCursor → List ℕ → Lending
+lending_with cursor buffer = record { taker = taker_with cursor; buffer = buffer }
 
 -- one part was read, with the number of its write where that was taken out for it
 pub record GivesPart (key : Key) (old : Lending) (count : ℕ) (number : Option ℕ)

@@ -10,7 +10,7 @@ pub mod ReadCalls
 pub mod WriteCalls
 pub mod ReadSteps
 pub mod WriteSteps
-pub mod Ways
+pub mod Directions
 pub mod Seating
 pub mod Finishing
 pub mod Chain

@@ -11,12 +11,12 @@ use Rattle.block_queue.specs.declared.seats.PutSeat.{PutSeat}
 use Rattle.block_queue.specs.declared.view.Key.{Key}
 use Rattle.block_queue.specs.Opening.{new_account, reader_account}
 use Rattle.block_queue.specs.Seats.{key_of, put_account, take_account}
-use Rattle.pipe_dev.specs.declared.pipe.Lane.{Lane}
+use Rattle.pipe_dev.specs.declared.pipe.DirectionStart.{DirectionStart}
 use Rattle.pipe_dev.specs.declared.pipe.Opened.{Opened}
 use Rattle.pipe_dev.specs.declared.pipe.Pipe.{Pipe}
 use Rattle.pipe_dev.specs.declared.pipe.PipeStart.{PipeStart}
 use Rattle.pipe_dev.specs.declared.row.Row.{Row}
-use Rattle.pipe_dev.specs.Ends.{ReadSide, WriteSide, IsRowOf, IsReadHand, IsWriteHand}
+use Rattle.pipe_dev.specs.Ends.{ReadSide, WriteSide, IsRowOf, IsReadCursor, IsWriteSeat}
 use Rattle.pipe_dev.specs.Ends.{AreAllEnds}
 use Rattle.pipe_dev.specs.Rendezes.{HasRow}
 
@@ -30,23 +30,23 @@ rendez_for writers = 2 * (1 + writers)
 
 -- the seat of a writer is one of the queue's, and was given to no other
 pub record IsSeatToGive (queue : Queue) (row : Row) (seat : PutSeat) : Type 0 where
-  pub hand : IsWriteHand queue row seat.writer seat
+  pub seat_is : IsWriteSeat queue row seat.writer seat
   pub unused : put_account seat ≡ new_account (seat.writer + 1)
 
 -- what the ends of this direction are made of
-pub record IsLaneOf (queue : Queue) (lane : Lane) : Type 0 where
-  pub row_is : IsRowOf queue lane.row
-  pub read : IsReadHand queue lane.row (record { seat = lane.take; rest = None })
-  pub unread : take_account lane.take ≡ reader_account lane.row.writers
-  pub writes : AllByRecursion (IsSeatToGive queue lane.row) lane.puts.items
-  pub order : map (λ seat. seat.writer) lane.puts.items ≡ numbers_from 0 lane.row.writers
-  pub none : lane.room.items ≡ []
-  pub room : length lane.puts.items ≤ vec_capacity lane.room
+pub record IsDirectionStartOf (queue : Queue) (start : DirectionStart) : Type 0 where
+  pub row_is : IsRowOf queue start.row
+  pub read : IsReadCursor queue start.row (record { seat = start.take; rest = None })
+  pub unread : take_account start.take ≡ reader_account start.row.writers
+  pub writes : AllByRecursion (IsSeatToGive queue start.row) start.puts.items
+  pub order : map (λ seat. seat.writer) start.puts.items ≡ numbers_from 0 start.row.writers
+  pub none : start.room.items ≡ []
+  pub room : length start.puts.items ≤ vec_capacity start.room
 
 -- the start was made with the pipe
 pub record IsStartOf (pipe : Pipe) (start : PipeStart) : Type 0 where
-  pub there : IsLaneOf pipe.there start.there
-  pub back : IsLaneOf pipe.back start.back
+  pub there : IsDirectionStartOf pipe.there start.there
+  pub back : IsDirectionStartOf pipe.back start.back
 
 -- a new pipe of this size and mode, with its Rendez in a row from this number on: first those of
 -- the one direction, and then those of the other

@@ -24,7 +24,7 @@ use Rattle.pipe_dev.specs.declared.answers.TryAnswer.TheVariants as try
 use Rattle.pipe_dev.specs.declared.filling.Came.{Came}
 use Rattle.pipe_dev.specs.declared.filling.Stop.{Stop}
 use Rattle.pipe_dev.specs.declared.filling.Stop.TheVariants as stop
-use Rattle.pipe_dev.specs.declared.hand.ReadHand.{ReadHand}
+use Rattle.pipe_dev.specs.declared.cursor.ReadCursor.{ReadCursor}
 use Rattle.pipe_dev.specs.declared.row.Row.{Row}
 use Rattle.pipe_dev.specs.Ends.{ReadSide}
 use Rattle.pipe_dev.specs.Filling.{Lending, FillsUp, last_number}
@@ -142,10 +142,10 @@ pub record IsUntouchedRead (old : Reader) (buffer : List ℕ) (new : Reader) (bu
   pub same : new ≡ old
   pub buffer_same : buffer' ≡ buffer
 
--- the reader that has this hand
-abbrev pub reader_with : ReadHand → Running → Reader
-reader_with hand proc =
-    record { account = take_account hand.seat; rest = hand.rest; process = proc.process }
+-- the reader that has this cursor
+abbrev pub reader_with : ReadCursor → Running → Reader
+reader_with cursor proc =
+    record { account = take_account cursor.seat; rest = cursor.rest; process = proc.process }
 
 -- ---- in either mode
 

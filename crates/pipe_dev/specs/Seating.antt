@@ -4,11 +4,11 @@ use Rattle.block_queue.specs.declared.queue.Queue.{Queue}
 use Rattle.block_queue.specs.declared.seats.PutSeat.{PutSeat}
 use Rattle.block_queue.specs.Seats.{put_account}
 use Rattle.pipe_dev.specs.declared.row.Row.{Row}
-use Rattle.pipe_dev.specs.Ends.{WriteSide, IsWriteHand}
+use Rattle.pipe_dev.specs.Ends.{WriteSide, IsWriteSeat}
 
 -- the seat is what a write end of this direction holds
-abbrev pub IsHandOf : Queue → Row → PutSeat → Type 0
-IsHandOf queue row seat = IsWriteHand queue row seat.writer seat
+abbrev pub IsWriteSeatOf : Queue → Row → PutSeat → Type 0
+IsWriteSeatOf queue row seat = IsWriteSeat queue row seat.writer seat
 
 -- the write end of this seat
 abbrev pub side_of : Queue → Row → PutSeat → WriteSide
@@ -21,7 +21,7 @@ AreSeated queue row seats writes = writes ≡ map (side_of queue row) seats
 
 -- the seat was that of this write end
 pub record IsSeatOf (write : WriteSide) (seat : PutSeat) : Type 0 where
-  pub hand : IsWriteHand write.queue write.row write.writer seat
+  pub seat_is : IsWriteSeat write.queue write.row write.writer seat
   pub account : put_account seat ≡ write.account
 
 -- these are the seats of these write ends, in their order

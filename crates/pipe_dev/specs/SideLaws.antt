@@ -10,11 +10,11 @@ use Rattle.block_queue.specs.Seats.{key_of}
 use Rattle.pipe_dev.specs.declared.answers.ReadAnswer.{ReadAnswer}
 use Rattle.pipe_dev.specs.declared.answers.TryAnswer.{TryAnswer}
 use Rattle.pipe_dev.specs.declared.closing.Held.{Held}
-use Rattle.pipe_dev.specs.declared.pipe.Lane.{Lane}
+use Rattle.pipe_dev.specs.declared.pipe.DirectionStart.{DirectionStart}
 use Rattle.pipe_dev.specs.Chain.{AddsRead, AddsTry, AddsNone, written_by}
 use Rattle.pipe_dev.specs.Ends.{ReadSide, WriteSide, AreAllEnds, IsSameReadEnd, IsSameWriteEnd}
 use Rattle.pipe_dev.specs.Finishing.{GivesHeld}
-use Rattle.pipe_dev.specs.Openings.{IsLaneOf, AreNewEnds}
+use Rattle.pipe_dev.specs.Openings.{IsDirectionStartOf, AreNewEnds}
 use Rattle.pipe_dev.specs.Parts.{Part}
 use Rattle.pipe_dev.specs.ReadCalls.{Reads, Tries, calling, reader_of}
 use Rattle.pipe_dev.specs.Sides.{HasReadJust, AreUnused, AddsToRead, AddsToWritten}
@@ -24,8 +24,9 @@ use Rattle.pipe_dev.specs.WriteCalls.{Writes, call_of, writer_of}
 -- the ends of a new direction have read and written nothing
 abbrev pub NewEndsAreUnused : Type 0
 NewEndsAreUnused =
-    (queue : Queue) (lane : Lane) (read : ReadSide) (writes : List WriteSide)
-    → IsLaneOf queue lane → AreNewEnds queue lane.row read writes → AreUnused read writes
+    (queue : Queue) (start : DirectionStart) (read : ReadSide) (writes : List WriteSide)
+    → IsDirectionStartOf queue start → AreNewEnds queue start.row read writes
+    → AreUnused read writes
 
 -- what `read`, `try_read` and `hangup` say of a read end, on the end itself
 abbrev pub ReadsAddToTheirEnd : Type 0

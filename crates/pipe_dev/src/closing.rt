@@ -6,8 +6,8 @@ ghost use Rattle.pipe_dev.specs.Ends.{AreAllEnds};
 ghost use Rattle.pipe_dev.specs.Finishing.{GivesHeld};
 ghost use Rattle.pipe_dev.specs.Seating.{AreSeatsOf};
 
+use crate::cursor::ReadCursor;
 use crate::end::seat_writers;
-use crate::hand::ReadHand;
 use crate::read_end::ReadEnd;
 use crate::write_end::WriteEnd;
 use block_queue::{Gathered, PutSeat, StoredBlock, Ungathered};
@@ -55,8 +55,8 @@ pub fn finish<'p>(
         return Err(Unfinished { read, writes });
     };
     let Emptied { puts, room } = take_seats(writes, puts);
-    let ReadEnd { queue, row, hand } = read;
-    let Some(ReadHand { seat, rest: begun }) = hand else {
+    let ReadEnd { queue, row, cursor } = read;
+    let Some(ReadCursor { seat, rest: begun }) = cursor else {
         unreachable!()
     };
     match queue.gather(alloc, seat, puts) {
@@ -66,12 +66,12 @@ pub fn finish<'p>(
             hung,
         }),
         Err(Ungathered { take, puts }) => {
-            let hand = ReadHand {
+            let cursor = ReadCursor {
                 seat: take,
                 rest: begun,
             };
             Err(Unfinished {
-                read: ReadEnd::new(queue, row, hand),
+                read: ReadEnd::new(queue, row, cursor),
                 writes: seat_writers(queue, row, puts, room),
             })
         }
@@ -110,9 +110,9 @@ impl<'p> ReadEnd<'p> {
     fn left(&self, alloc: Global) -> Result<Vec<u8>, AllocError>
         ensures { IfOk result (λ bytes. bytes.items ≡ rest_bytes self.now.rest) }
     {
-        match &self.hand {
+        match &self.cursor {
             Some(
-                ReadHand {
+                ReadCursor {
                     seat: _,
                     rest: Some(begun),
                 },

@@ -2,11 +2,11 @@
 ghost use Rattle.std.specs.Prelude.{◌≡◌, ◌≤◌, [], length};
 ghost use Rattle.std.specs.Vec.{vec_capacity};
 ghost use Rattle.std.specs.List.{AllByRecursion};
-ghost use Rattle.pipe_dev.specs.Openings.{IsLaneOf, AreNewEnds};
-ghost use Rattle.pipe_dev.specs.Seating.{AreSeated, IsHandOf};
+ghost use Rattle.pipe_dev.specs.Openings.{IsDirectionStartOf, AreNewEnds};
+ghost use Rattle.pipe_dev.specs.Seating.{AreSeated, IsWriteSeatOf};
 
-use crate::hand::ReadHand;
-use crate::pipe::{Lane, Pipe, PipeStart};
+use crate::cursor::ReadCursor;
+use crate::pipe::{DirectionStart, Pipe, PipeStart};
 use crate::read_end::ReadEnd;
 use crate::row::Row;
 use crate::write_end::WriteEnd;
@@ -47,8 +47,8 @@ impl Pipe {
             result.first.writes.items }
     {
         let PipeStart { there, back } = start;
-        let there = lay_out(&self.there, there);
-        let back = lay_out(&self.back, back);
+        let there = make_ends(&self.there, there);
+        let back = make_ends(&self.back, back);
         Ends {
             first: End {
                 read: there.read,
@@ -83,22 +83,22 @@ struct Sides<'p> {
     writes: Vec<WriteEnd<'p>>,
 }
 
-fn lay_out<'p>(queue: &'p Queue, lane: Lane<'p>) -> Sides<'p>
-    requires lane { IsLaneOf queue.now lane }
-    ensures ends { AreNewEnds queue.entry.now lane.entry.row result.read result.writes.items }
+fn make_ends<'p>(queue: &'p Queue, start: DirectionStart<'p>) -> Sides<'p>
+    requires start { IsDirectionStartOf queue.now start }
+    ensures ends { AreNewEnds queue.entry.now start.entry.row result.read result.writes.items }
 {
-    let Lane {
+    let DirectionStart {
         row,
         take,
         puts,
         room,
-    } = lane;
-    let hand = ReadHand {
+    } = start;
+    let cursor = ReadCursor {
         seat: take,
         rest: None,
     };
     Sides {
-        read: ReadEnd::new(queue, row, hand),
+        read: ReadEnd::new(queue, row, cursor),
         writes: seat_writers(queue, row, puts, room),
     }
 }
@@ -110,7 +110,7 @@ pub(crate) fn seat_writers<'p>(
     puts: Vec<PutSeat>,
     room: Vec<WriteEnd<'p>>,
 ) -> Vec<WriteEnd<'p>>
-    requires seats { AllByRecursion (IsHandOf queue.now row) puts.items }
+    requires seats { AllByRecursion (IsWriteSeatOf queue.now row) puts.items }
     requires none { room.items ≡ [] }
     requires room { length puts.items ≤ vec_capacity room }
     ensures seated { AreSeated queue.entry.now row puts.items result.items }

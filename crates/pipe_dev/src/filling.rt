@@ -1,11 +1,11 @@
 //! How a read fills its buffer, part by part, in either mode. Nobody is woken here.
 ghost use Rattle.std.specs.Prelude.{◌≡◌, ◌≢◌, []};
 ghost use Rattle.block_queue.specs.Seats.{key_of};
-ghost use Rattle.pipe_dev.specs.Ends.{IsReadHand};
+ghost use Rattle.pipe_dev.specs.Ends.{IsReadCursor};
 ghost use Rattle.pipe_dev.specs.FillSteps.{GivesNext, HasFilled, lending_with};
 
 use crate::begun::{Begun, Given};
-use crate::hand::ReadHand;
+use crate::cursor::ReadCursor;
 use crate::row::Row;
 use block_queue::{Queue, TakeAnswer};
 use sync_base::Mode;
@@ -31,7 +31,7 @@ pub struct Came {
 /// What a read made of its end and its buffer, and the number of the last write that it took out.
 #[derive(Drop)]
 pub(crate) struct Filled {
-    pub(crate) hand: ReadHand,
+    pub(crate) cursor: ReadCursor,
     pub(crate) took: Option<u64>,
     pub(crate) came: Came,
 }
@@ -46,25 +46,25 @@ pub(crate) enum Next {
 
 #[derive(Drop)]
 pub(crate) struct Step {
-    hand: ReadHand,
+    cursor: ReadCursor,
     next: Next,
 }
 
 /// Reads part by part: in message mode one, and in stream mode as far as the buffer has room.
-pub(crate) fn fill(queue: &Queue, row: &Row, hand: ReadHand, buffer: &mut [u8]) -> Filled
-    requires hand { IsReadHand queue.now row.now hand }
+pub(crate) fn fill(queue: &Queue, row: &Row, cursor: ReadCursor, buffer: &mut [u8]) -> Filled
+    requires cursor { IsReadCursor queue.now row.now cursor }
     requires room { buffer.old ≢ [] }
-    ensures hand { IsReadHand queue.now row.now result.hand }
-    ensures filled { HasFilled (key_of queue.now) row.now.mode (lending_with hand buffer.old)
-        result (lending_with result.hand buffer.new) }
+    ensures cursor { IsReadCursor queue.now row.now result.cursor }
+    ensures filled { HasFilled (key_of queue.now) row.now.mode (lending_with cursor buffer.old)
+        result (lending_with result.cursor buffer.new) }
 {
-    let mut hand = hand;
+    let mut cursor = cursor;
     let mut count: usize = 0;
     let mut took = None;
     let mut further = true;
     'filling: while further {
-        let Step { hand: now, next } = take_part(queue, row, hand, &mut buffer[count..]);
-        hand = now;
+        let Step { cursor: now, next } = take_part(queue, row, cursor, &mut buffer[count..]);
+        cursor = now;
         match next {
             Next::Part(more, number) => {
                 count += more;
@@ -77,7 +77,7 @@ pub(crate) fn fill(queue: &Queue, row: &Row, hand: ReadHand, buffer: &mut [u8]) 
             Next::NotYet(number) => {
                 let stop = Stop::NotYet(number);
                 return Filled {
-                    hand,
+                    cursor,
                     took,
                     came: Came { count, stop },
                 };
@@ -85,7 +85,7 @@ pub(crate) fn fill(queue: &Queue, row: &Row, hand: ReadHand, buffer: &mut [u8]) 
             Next::End => {
                 let stop = Stop::End;
                 return Filled {
-                    hand,
+                    cursor,
                     took,
                     came: Came { count, stop },
                 };
@@ -94,25 +94,25 @@ pub(crate) fn fill(queue: &Queue, row: &Row, hand: ReadHand, buffer: &mut [u8]) 
     }
     let stop = Stop::Enough;
     Filled {
-        hand,
+        cursor,
         took,
         came: Came { count, stop },
     }
 }
 
 // One part: of what is left of a write that was begun, or else of the next write.
-fn take_part(queue: &Queue, row: &Row, hand: ReadHand, room: &mut [u8]) -> Step
-    requires hand { IsReadHand queue.now row.now hand }
-    ensures hand { IsReadHand queue.now row.now result.hand }
-    ensures next { GivesNext (key_of queue.now) (lending_with hand room.old) result.next
-        (lending_with result.hand room.new) }
+fn take_part(queue: &Queue, row: &Row, cursor: ReadCursor, room: &mut [u8]) -> Step
+    requires cursor { IsReadCursor queue.now row.now cursor }
+    ensures cursor { IsReadCursor queue.now row.now result.cursor }
+    ensures next { GivesNext (key_of queue.now) (lending_with cursor room.old) result.next
+        (lending_with result.cursor room.new) }
 {
-    let ReadHand { mut seat, rest } = hand;
+    let ReadCursor { mut seat, rest } = cursor;
     if let Some(begun) = rest {
         let Given { count, left, spare } = begun.give(room);
         seat.spare.keep(spare);
         return Step {
-            hand: ReadHand { seat, rest: left },
+            cursor: ReadCursor { seat, rest: left },
             next: Next::Part(count, None),
         };
     }
@@ -122,7 +122,7 @@ fn take_part(queue: &Queue, row: &Row, hand: ReadHand, room: &mut [u8]) -> Step
             let Given { count, left, spare } = whole.give(room);
             seat.spare.keep(spare);
             return Step {
-                hand: ReadHand { seat, rest: left },
+                cursor: ReadCursor { seat, rest: left },
                 next: Next::Part(count, Some(number)),
             };
         }
@@ -130,7 +130,7 @@ fn take_part(queue: &Queue, row: &Row, hand: ReadHand, room: &mut [u8]) -> Step
         TakeAnswer::End => Next::End,
     };
     Step {
-        hand: ReadHand { seat, rest: None },
+        cursor: ReadCursor { seat, rest: None },
         next,
     }
 }

@@ -3,10 +3,10 @@ ghost use Rattle.std.specs.Prelude.{◌≡◌, ◌+◌};
 ghost use Rattle.block_queue.specs.declared.entry.Entry.TheVariants.{Hung};
 ghost use Rattle.block_queue.specs.Meaning.{Enters};
 ghost use Rattle.block_queue.specs.Seats.{key_of, put_account, take_account};
-ghost use Rattle.pipe_dev.specs.Ends.{IsReadHand, IsWriteHand};
+ghost use Rattle.pipe_dev.specs.Ends.{IsReadCursor, IsWriteSeat};
 ghost use Rattle.pipe_dev.specs.Rendezes.{WakesIfKnown};
 
-use crate::hand::ReadHand;
+use crate::cursor::ReadCursor;
 use crate::read_end::ReadEnd;
 use crate::row::Row;
 use crate::waking::{wake_behind_put, wake_behind_take};
@@ -33,10 +33,10 @@ impl<'p> ReadEnd<'p> {
         ensures end { IsSameReadEnd self.old self.new }
         ensures words { proc.new.words ≡ proc.old.words }
     {
-        let Some(hand) = self.hand.take() else {
+        let Some(cursor) = self.cursor.take() else {
             unreachable!()
         };
-        self.hand = Some(hang_read(self.queue, &self.row, hand, proc));
+        self.cursor = Some(hang_read(self.queue, &self.row, cursor, proc));
     }
 }
 
@@ -67,25 +67,25 @@ impl<'p> WriteEnd<'p> {
 }
 
 #[tactic(auto, using(crate::proofs::WrittenLemmas::sees_hang))]
-fn hang_read(queue: &Queue, row: &Row, hand: ReadHand, proc: &mut Proc<'_>) -> ReadHand
-    requires hand { IsReadHand queue.now row.now hand }
-    ensures hand { IsReadHand queue.now row.now result }
-    ensures rest { result.rest ≡ hand.rest }
+fn hang_read(queue: &Queue, row: &Row, cursor: ReadCursor, proc: &mut Proc<'_>) -> ReadCursor
+    requires cursor { IsReadCursor queue.now row.now cursor }
+    ensures cursor { IsReadCursor queue.now row.now result }
+    ensures rest { result.rest ≡ cursor.rest }
     ensures hung { Enters (key_of queue.now) (Hung 0)
-        (take_account hand.seat) (take_account result.seat) }
+        (take_account cursor.seat) (take_account result.seat) }
     ensures woken { WakesIfKnown row.now proc.old proc.new.process }
     ensures words { proc.new.words ≡ proc.old.words }
 {
-    let ReadHand { mut seat, rest } = hand;
+    let ReadCursor { mut seat, rest } = cursor;
     queue.hang_take(&mut seat);
     wake_behind_take(proc, row, &seat);
-    ReadHand { seat, rest }
+    ReadCursor { seat, rest }
 }
 
 #[tactic(auto, using(crate::proofs::WrittenLemmas::sees_hang))]
 fn hang_write(queue: &Queue, row: &Row, seat: PutSeat, proc: &mut Proc<'_>) -> PutSeat
-    requires seat { IsWriteHand queue.now row.now seat.writer seat }
-    ensures seat { IsWriteHand queue.now row.now seat.writer result }
+    requires seat { IsWriteSeat queue.now row.now seat.writer seat }
+    ensures seat { IsWriteSeat queue.now row.now seat.writer result }
     ensures hung { Enters (key_of queue.now) (Hung (seat.writer + 1))
         (put_account seat) (put_account result) }
     ensures woken { WakesIfKnown row.now proc.old proc.new.process }

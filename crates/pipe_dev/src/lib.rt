@@ -1,15 +1,15 @@
 //! Two-way pipes between processes, after pipe(2) and pipe(3).
-//! Read `row`, `waking`; `begun`, `hand`, `answers`; `read_end`, `filling`, `reading`; `write_end`,
-//! `writing`, `write_long`; `hanging`; `pipe`, `end`; `closing`; and then `laws`, the headline, and
-//! `side_laws`.
+//! Read `row`, `waking`; `begun`, `cursor`, `answers`; `read_end`, `filling`, `reading`;
+//! `write_end`, `writing`, `write_long`; `hanging`; `pipe`, `end`; `closing`; and then `laws`, the
+//! headline, and `side_laws`.
 #![tactic(auto)]
 
 pub mod answers;
 pub mod begun;
 pub mod closing;
+mod cursor;
 pub mod end;
 pub mod filling;
-mod hand;
 mod hanging;
 pub mod laws;
 pub mod pipe;

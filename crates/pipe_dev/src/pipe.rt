@@ -3,8 +3,8 @@ ghost use Rattle.std.specs.Prelude.{◌≡◌, ◌⊎◌, ◌↔◌, ℕ, IfOk, 
 ghost use Rattle.sync_base.specs.declared.fault.Fault.TheVariants.{BadSize, Memory};
 ghost use Rattle.block_queue.specs.Opening.{IsBadQueue};
 ghost use Rattle.block_queue.specs.Seats.{key_of};
-ghost use Rattle.pipe_dev.specs.Openings.{IsLaneOf};
-ghost use Rattle.pipe_dev.specs.Ways.{IsNewWay};
+ghost use Rattle.pipe_dev.specs.Openings.{IsDirectionStartOf};
+ghost use Rattle.pipe_dev.specs.Directions.{IsNewDirection};
 
 use crate::row::Row;
 use crate::write_end::WriteEnd;
@@ -25,13 +25,13 @@ pub struct Pipe {
 #[derive(Drop)]
 #[must_use]
 pub struct PipeStart<'p> {
-    pub(crate) there: Lane<'p>,
-    pub(crate) back: Lane<'p>,
+    pub(crate) there: DirectionStart<'p>,
+    pub(crate) back: DirectionStart<'p>,
 }
 
 /// What the ends of one direction are made of: its Rendez and seats, and room for the write ends.
 #[derive(Drop)]
-pub struct Lane<'p> {
+pub struct DirectionStart<'p> {
     pub(crate) row: Row,
     pub(crate) take: TakeSeat,
     pub(crate) puts: Vec<PutSeat>,
@@ -140,15 +140,15 @@ impl Pipe {
         if roster.left().rendez < count {
             return Err(Fault::NoRendez);
         }
-        let there = Way::new(alloc, limit, writers)?;
-        let back = Way::new(alloc, limit, writers)?;
+        let there = Direction::new(alloc, limit, writers)?;
+        let back = Direction::new(alloc, limit, writers)?;
         let first = roster.row(count)?.0;
-        let there = there.laid(Row {
+        let there = there.with_rendez(Row {
             first,
             writers,
             mode,
         });
-        let back = back.laid(Row {
+        let back = back.with_rendez(Row {
             first: first + 1 + writers,
             writers,
             mode,
@@ -159,8 +159,8 @@ impl Pipe {
                 back: back.queue,
             },
             start: PipeStart {
-                there: there.lane,
-                back: back.lane,
+                there: there.start,
+                back: back.start,
             },
         })
     }
@@ -168,7 +168,7 @@ impl Pipe {
 
 // A direction that has no Rendez yet.
 #[derive(Drop)]
-struct Way<'p> {
+struct Direction<'p> {
     queue: Queue,
     take: TakeSeat,
     puts: Vec<PutSeat>,
@@ -177,21 +177,21 @@ struct Way<'p> {
 
 // A direction, and what its ends are made of.
 #[derive(Drop)]
-struct Laid<'p> {
+struct OpenedDirection<'p> {
     queue: Queue,
-    lane: Lane<'p>,
+    start: DirectionStart<'p>,
 }
 
-impl<'p> Way<'p> {
+impl<'p> Direction<'p> {
     // A new queue, and room for the write ends.
-    fn new(alloc: Global, limit: u64, writers: u64) -> Result<Way<'p>, Fault>
+    fn new(alloc: Global, limit: u64, writers: u64) -> Result<Direction<'p>, Fault>
         ensures bad_size { IsErrOf result BadSize ↔ IsBadQueue limit writers }
         ensures faults { IfErr result (λ fault. (fault ≡ BadSize) ⊎ (fault ≡ Memory)) }
-        ensures opened { IfOk result (IsNewWay limit writers) }
+        ensures opened { IfOk result (IsNewDirection limit writers) }
     {
         let block_queue::Opened { queue, take, puts } = Queue::new(alloc, limit, writers)?;
         let room = Vec::with_capacity(alloc, writers as usize)?;
-        Ok(Way {
+        Ok(Direction {
             queue,
             take,
             puts,
@@ -200,24 +200,24 @@ impl<'p> Way<'p> {
     }
 
     // With its Rendez.
-    fn laid(self, row: Row) -> Laid<'p>
-        requires way { IsNewWay (key_of self.queue).limit row.writers self }
+    fn with_rendez(self, row: Row) -> OpenedDirection<'p>
+        requires direction { IsNewDirection (key_of self.queue).limit row.writers self }
         ensures queue { result.queue ≡ self.entry.queue }
-        ensures lane { IsLaneOf result.queue result.lane }
-        ensures row { result.lane.row ≡ row }
+        ensures start { IsDirectionStartOf result.queue result.start }
+        ensures row { result.start.row ≡ row }
     {
-        let Way {
+        let Direction {
             queue,
             take,
             puts,
             room,
         } = self;
-        let lane = Lane {
+        let start = DirectionStart {
             row,
             take,
             puts,
             room,
         };
-        Laid { queue, lane }
+        OpenedDirection { queue, start }
     }
 }

@@ -1,14 +1,14 @@
 //! How a direction is read.
 ghost use Rattle.std.specs.Prelude.{◌≡◌, ◌≢◌, []};
 ghost use Rattle.block_queue.specs.Seats.{key_of};
-ghost use Rattle.pipe_dev.specs.Ends.{IsReadHand};
+ghost use Rattle.pipe_dev.specs.Ends.{IsReadCursor};
 ghost use Rattle.pipe_dev.specs.ReadCalls.{KeepsReading, Tries, TriesOn, calling, reader_with};
 ghost use Rattle.pipe_dev.specs.ReadSteps.{IfOver, IfSlept, answer_of, found_of};
 ghost use Rattle.pipe_dev.specs.Rendezes.{HasRow};
 
 use crate::answers::{ReadAnswer, TryAnswer};
+use crate::cursor::ReadCursor;
 use crate::filling::{Came, Filled, Stop, fill};
-use crate::hand::ReadHand;
 use crate::read_end::ReadEnd;
 use crate::row::Row;
 use crate::waking::wake_writers;
@@ -54,18 +54,18 @@ impl<'p> ReadEnd<'p> {
         ensures end { IsSameReadEnd self.old self.new }
         ensures words { proc.new.words ≡ proc.old.words }
     {
-        // The refusals come before the hand is taken, so they leave the end as it was.
+        // The refusals come before the cursor is taken, so they leave the end as it was.
         if buffer.is_empty() {
             return Err(Fault::BadCount);
         }
         if !self.row.is_known_to(proc) {
             return Err(Fault::NoRendez);
         }
-        let Some(hand) = self.hand.take() else {
+        let Some(cursor) = self.cursor.take() else {
             unreachable!()
         };
-        let Done { hand, answer } = read_with(self.queue, &self.row, rt, hand, proc, buffer);
-        self.hand = Some(hand);
+        let Done { cursor, answer } = read_with(self.queue, &self.row, rt, cursor, proc, buffer);
+        self.cursor = Some(cursor);
         answer
     }
 
@@ -97,11 +97,11 @@ impl<'p> ReadEnd<'p> {
         if !self.row.is_known_to(proc) {
             return Err(Fault::NoRendez);
         }
-        let Some(hand) = self.hand.take() else {
+        let Some(cursor) = self.cursor.take() else {
             unreachable!()
         };
-        let Answered { hand, answer } = try_once(self.queue, &self.row, hand, proc, buffer);
-        self.hand = Some(hand);
+        let Answered { cursor, answer } = try_once(self.queue, &self.row, cursor, proc, buffer);
+        self.cursor = Some(cursor);
         Ok(answer)
     }
 }
@@ -109,7 +109,7 @@ impl<'p> ReadEnd<'p> {
 // A read is over: what its end holds, and the answer.
 #[derive(Drop)]
 struct Done {
-    hand: ReadHand,
+    cursor: ReadCursor,
     answer: Result<ReadAnswer, Fault>,
 }
 
@@ -124,20 +124,20 @@ pub(crate) enum Found {
 // A read that does not wait is over.
 #[derive(Drop)]
 struct Answered {
-    hand: ReadHand,
+    cursor: ReadCursor,
     answer: TryAnswer,
 }
 
 #[derive(Drop)]
 struct Tried {
-    hand: ReadHand,
+    cursor: ReadCursor,
     came: Came,
 }
 
 // How far one round of a read came: it is over, or it slept.
 #[derive(Drop)]
 struct Round {
-    hand: ReadHand,
+    cursor: ReadCursor,
     over: Option<Result<ReadAnswer, Fault>>,
 }
 
@@ -146,25 +146,25 @@ fn read_with<R: Wait>(
     queue: &Queue,
     row: &Row,
     rt: &R,
-    hand: ReadHand,
+    cursor: ReadCursor,
     proc: &mut Proc<'_>,
     buffer: &mut [u8],
 ) -> Done
-    requires hand { IsReadHand queue.now row.now hand }
+    requires cursor { IsReadCursor queue.now row.now cursor }
     requires kernel { HasRow proc.old.words row.now }
     requires room { buffer.old ≢ [] }
-    ensures hand { IsReadHand queue.now row.now result.hand }
+    ensures cursor { IsReadCursor queue.now row.now result.cursor }
     ensures words { proc.new.words ≡ proc.old.words }
     ensures read { KeepsReading (key_of queue.now) row.now
-        (calling (reader_with hand proc.old) buffer.old) result.answer
-        (calling (reader_with result.hand proc.new) buffer.new) }
+        (calling (reader_with cursor proc.old) buffer.old) result.answer
+        (calling (reader_with result.cursor proc.new) buffer.new) }
 {
-    let mut hand = hand;
+    let mut cursor = cursor;
     'reading: for _ in rt.forever() {
-        let Round { hand: now, over } = read_round(queue, row, rt, hand, proc, buffer);
-        hand = now;
+        let Round { cursor: now, over } = read_round(queue, row, rt, cursor, proc, buffer);
+        cursor = now;
         match over {
-            Some(answer) => return Done { hand, answer },
+            Some(answer) => return Done { cursor, answer },
             None => {}
         }
     }
@@ -176,36 +176,36 @@ fn read_round<R: Wait>(
     queue: &Queue,
     row: &Row,
     rt: &R,
-    hand: ReadHand,
+    cursor: ReadCursor,
     proc: &mut Proc<'_>,
     buffer: &mut [u8],
 ) -> Round
-    requires hand { IsReadHand queue.now row.now hand }
+    requires cursor { IsReadCursor queue.now row.now cursor }
     requires kernel { HasRow proc.old.words row.now }
     requires room { buffer.old ≢ [] }
-    ensures hand { IsReadHand queue.now row.now result.hand }
+    ensures cursor { IsReadCursor queue.now row.now result.cursor }
     ensures words { proc.new.words ≡ proc.old.words }
     ensures over { IfOver result.over (key_of queue.now) row.now
-        (calling (reader_with hand proc.old) buffer.old)
-        (calling (reader_with result.hand proc.new) buffer.new) }
+        (calling (reader_with cursor proc.old) buffer.old)
+        (calling (reader_with result.cursor proc.new) buffer.new) }
     ensures slept { IfSlept result.over (key_of queue.now) row.now
-        (calling (reader_with hand proc.old) buffer.old)
-        (calling (reader_with result.hand proc.new) buffer.new) }
+        (calling (reader_with cursor proc.old) buffer.old)
+        (calling (reader_with result.cursor proc.new) buffer.new) }
 {
-    let Tried { hand, came } = try_with(queue, row, hand, proc, buffer);
+    let Tried { cursor, came } = try_with(queue, row, cursor, proc, buffer);
     match found_by(came) {
         Found::Got(count) => Round {
-            hand,
+            cursor,
             over: Some(Ok(ReadAnswer::Got(count))),
         },
         Found::End => Round {
-            hand,
+            cursor,
             over: Some(Ok(ReadAnswer::End)),
         },
         Found::NotYet(number) => match proc.sleep(rt, row.reader(), number) {
-            Ok(()) => Round { hand, over: None },
+            Ok(()) => Round { cursor, over: None },
             Err(fault) => Round {
-                hand,
+                cursor,
                 over: Some(Err(fault)),
             },
         },
@@ -241,22 +241,22 @@ fn found_by(came: Came) -> Found
 fn try_once(
     queue: &Queue,
     row: &Row,
-    hand: ReadHand,
+    cursor: ReadCursor,
     proc: &mut Proc<'_>,
     buffer: &mut [u8],
 ) -> Answered
-    requires hand { IsReadHand queue.now row.now hand }
+    requires cursor { IsReadCursor queue.now row.now cursor }
     requires kernel { HasRow proc.old.words row.now }
     requires room { buffer.old ≢ [] }
-    ensures hand { IsReadHand queue.now row.now result.hand }
+    ensures cursor { IsReadCursor queue.now row.now result.cursor }
     ensures words { proc.new.words ≡ proc.old.words }
     ensures tried { Tries (key_of queue.now) row.now
-        (calling (reader_with hand proc.old) buffer.old) result.answer
-        (calling (reader_with result.hand proc.new) buffer.new) }
+        (calling (reader_with cursor proc.old) buffer.old) result.answer
+        (calling (reader_with result.cursor proc.new) buffer.new) }
 {
-    let Tried { hand, came } = try_with(queue, row, hand, proc, buffer);
+    let Tried { cursor, came } = try_with(queue, row, cursor, proc, buffer);
     let answer = answer_to(came);
-    Answered { hand, answer }
+    Answered { cursor, answer }
 }
 
 // What a read that does not wait is answered.
@@ -275,22 +275,22 @@ fn answer_to(came: Came) -> TryAnswer
 fn try_with(
     queue: &Queue,
     row: &Row,
-    hand: ReadHand,
+    cursor: ReadCursor,
     proc: &mut Proc<'_>,
     buffer: &mut [u8],
 ) -> Tried
-    requires hand { IsReadHand queue.now row.now hand }
+    requires cursor { IsReadCursor queue.now row.now cursor }
     requires kernel { HasRow proc.old.words row.now }
     requires room { buffer.old ≢ [] }
-    ensures hand { IsReadHand queue.now row.now result.hand }
+    ensures cursor { IsReadCursor queue.now row.now result.cursor }
     ensures words { proc.new.words ≡ proc.old.words }
     ensures tried { TriesOn (key_of queue.now) row.now
-        (calling (reader_with hand proc.old) buffer.old) result.came
-        (calling (reader_with result.hand proc.new) buffer.new) }
+        (calling (reader_with cursor proc.old) buffer.old) result.came
+        (calling (reader_with result.cursor proc.new) buffer.new) }
 {
-    let Filled { hand, took, came } = fill(queue, row, hand, buffer);
+    let Filled { cursor, took, came } = fill(queue, row, cursor, buffer);
     if let Some(number) = took {
         wake_writers(proc, row, number);
     }
-    Tried { hand, came }
+    Tried { cursor, came }
 }

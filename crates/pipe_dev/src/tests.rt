@@ -2,13 +2,13 @@
 //! Every test ends by itself, whatever the schedule.
 mod crowds;
 mod echo;
-mod hands;
 mod hangups;
 mod kernels;
 mod lone;
 mod memory;
 mod noted;
 mod pages;
+mod processes;
 mod runs;
 mod scene;
 mod streams;

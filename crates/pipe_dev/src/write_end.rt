@@ -16,7 +16,7 @@ pub struct WriteEnd<'p> {
 }
 
 impl<'p> Model for WriteEnd<'p> {
-    ghost use Rattle.pipe_dev.specs.Ends.{WriteSide, HasWriteHand, put_account_in};
+    ghost use Rattle.pipe_dev.specs.Ends.{WriteSide, HasWriteSeat, put_account_in};
 
     ghost Value = { WriteSide };
 
@@ -27,17 +27,17 @@ impl<'p> Model for WriteEnd<'p> {
       account = put_account_in end.seat;
     } };
 
-    ghost invariant = { λ end. HasWriteHand end.queue.now end.row end.writer end.seat };
+    ghost invariant = { λ end. HasWriteSeat end.queue.now end.row end.writer end.seat };
 }
 
 impl<'p> WriteEnd<'p> {
     ghost use Rattle.std.specs.Prelude.{◌≡◌};
     ghost use Rattle.block_queue.specs.Seats.{put_account};
-    ghost use Rattle.pipe_dev.specs.Ends.{IsWriteHand};
+    ghost use Rattle.pipe_dev.specs.Ends.{IsWriteSeat};
     ghost use Rattle.pipe_dev.specs.Rendezes.{writer_rendez};
 
     pub(crate) fn new(queue: &'p Queue, row: Row, seat: PutSeat) -> WriteEnd<'p>
-        requires { IsWriteHand queue.now row seat.writer seat }
+        requires { IsWriteSeat queue.now row seat.writer seat }
         ensures queue { result.queue ≡ queue.entry.now }
         ensures row { result.row ≡ row }
         ensures writer { result.writer ≡ seat.writer }
@@ -53,7 +53,7 @@ impl<'p> WriteEnd<'p> {
 
     /// Its seat. The end is spent.
     pub(crate) fn into_seat(self) -> PutSeat
-        ensures seat { IsWriteHand self.entry.queue self.entry.row self.entry.writer result }
+        ensures seat { IsWriteSeat self.entry.queue self.entry.row self.entry.writer result }
         ensures account { put_account result ≡ self.entry.account }
     {
         let WriteEnd {

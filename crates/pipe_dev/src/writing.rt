@@ -1,6 +1,6 @@
 //! How a direction is written.
 ghost use Rattle.std.specs.Prelude.{◌≡◌};
-ghost use Rattle.pipe_dev.specs.Ends.{IsWriteHand};
+ghost use Rattle.pipe_dev.specs.Ends.{IsWriteSeat};
 ghost use Rattle.pipe_dev.specs.Rendezes.{HasRow};
 ghost use Rattle.pipe_dev.specs.WriteCalls.{Asks, IsAsked, call_with, writer_with};
 ghost use Rattle.pipe_dev.specs.WriteSteps.{IfOver, IfAgain};
@@ -107,9 +107,9 @@ fn write_with<R: Wait>(
     proc: &mut Proc<'_>,
     block: Piece,
 ) -> Done
-    requires seat { IsWriteHand queue.now row.now seat.writer seat }
+    requires seat { IsWriteSeat queue.now row.now seat.writer seat }
     requires kernel { HasRow proc.old.words row.now }
-    ensures seat { IsWriteHand queue.now row.now seat.writer result.seat }
+    ensures seat { IsWriteSeat queue.now row.now seat.writer result.seat }
     ensures words { proc.new.words ≡ proc.old.words }
     ensures asked { Asks (call_with queue.now row.now seat block)
         (writer_with seat proc.old) result.answer
@@ -138,9 +138,9 @@ fn write_round<R: Wait>(
     proc: &mut Proc<'_>,
     block: Piece,
 ) -> Round
-    requires seat { IsWriteHand queue.now row.now seat.writer seat }
+    requires seat { IsWriteSeat queue.now row.now seat.writer seat }
     requires kernel { HasRow proc.old.words row.now }
-    ensures seat { IsWriteHand queue.now row.now seat.writer result.seat }
+    ensures seat { IsWriteSeat queue.now row.now seat.writer result.seat }
     ensures words { proc.new.words ≡ proc.old.words }
     ensures over { IfOver result.turn (call_with queue.now row.now seat block)
         (writer_with seat proc.old) (writer_with result.seat proc.new) }

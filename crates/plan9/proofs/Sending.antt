@@ -28,7 +28,7 @@ badge_sync : (V : RattleType) → IsSync (Badge.the_row V)
 badge_sync V =
     record { shared = λ d b o κ q. part_keyless (Badge.the_row V) (badge.the_send V) q d b o }
 
--- what its queue and its hand are made of
+-- what its queue and its cursor are made of
 spare_sync : IsSync Spare.the_row
 spare_sync = search (sendable, crosses) depth 30
 

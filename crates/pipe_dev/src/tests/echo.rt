@@ -1,6 +1,6 @@
 //! Both directions of one pipe at once, and an echo.
-use crate::tests::hands::{Gate, fork, write_again};
 use crate::tests::kernels::kernel_of;
+use crate::tests::processes::{Gate, fork, write_again};
 use crate::tests::scene::opened;
 use crate::{Ends, Opened, Parts, ReadAnswer, ReadEnd, WriteEnd};
 use sleep_wakeup::{Proc, Started};

@@ -4,7 +4,7 @@ ghost use Rattle.std.specs.Vec.{vec_capacity};
 ghost use Rattle.pipe_dev.specs.Ends.{AreAllEnds};
 ghost use Rattle.pipe_dev.specs.Openings.{IsStartOf};
 
-use crate::tests::hands::{Reader, Writer, fork, write_again, write_on};
+use crate::tests::processes::{Reader, Writer, fork, write_again, write_on};
 use crate::{
     Ends, Held, Long, Parts, Pipe, PipeStart, ReadAnswer, ReadEnd, TryAnswer, Unfinished, WriteEnd,
     finish,

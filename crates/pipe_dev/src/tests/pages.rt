@@ -1,7 +1,7 @@
 //! The examples of the manual page, line for line. `tests/pages` compares them with the page.
-use crate::tests::hands::{Reader, Writer};
 use crate::tests::kernels::kernel_of;
 use crate::tests::lone::{Split, lone_of};
+use crate::tests::processes::{Reader, Writer};
 use crate::tests::scene::opened;
 use crate::{Opened, ReadAnswer};
 use std::test::Fail;

@@ -2,7 +2,7 @@
 //! made of one byte, which says its writer and its number.
 ghost use Rattle.std.specs.Prelude.{⊤};
 
-use crate::tests::hands::{Gate, Reader, Writer, fork};
+use crate::tests::processes::{Gate, Reader, Writer, fork};
 use crate::{End, Ends, Opened, Pipe, ReadAnswer, ReadEnd, WriteEnd};
 use sleep_wakeup::{Kernel, Proc, Started};
 use std::alloc::{AllocError, Global};

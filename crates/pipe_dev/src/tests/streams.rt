@@ -1,8 +1,8 @@
 //! Worked runs of a direction in stream mode: what a read joins, what it passes, and what it
 //! leaves.
-use crate::tests::hands::{Gate, Reader, Writer, write_again};
 use crate::tests::kernels::kernel_of;
 use crate::tests::lone::{Split, lone_of};
+use crate::tests::processes::{Gate, Reader, Writer, write_again};
 use crate::tests::scene::opened_stream;
 use crate::{Held, Opened, Pipe, ReadAnswer, TryAnswer};
 use std::alloc::Global;

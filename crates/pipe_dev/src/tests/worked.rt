@@ -1,8 +1,8 @@
 //! Worked runs of two processes: writes that are read in parts, a long write that is cut by a
 //! hangup, a hangup that ends a wait, a read where another sleeps, and what is held.
-use crate::tests::hands::{Gate, Reader, Writer, closed, write_again, write_on};
 use crate::tests::kernels::{bytes_of, kernel_of};
 use crate::tests::lone::{Split, lone_of};
+use crate::tests::processes::{Gate, Reader, Writer, closed, write_again, write_on};
 use crate::tests::scene::opened;
 use crate::{Ends, Held, Long, Opened, Parts, Pipe, ReadAnswer, ReadEnd, TryAnswer};
 use sleep_wakeup::Proc;

@@ -1,8 +1,8 @@
 -- all seats of the queue are there, and the ends are made of them again where memory is wanting
 use Rattle.std.proofs.Common.{arith, ◌∙◌, ap, sym, subst, length}
 use Rattle.std.specs.List.{AllByRecursion}
-use Rattle.pipe_dev.specs.Seating.{IsHandOf}
-use Rattle.pipe_dev.proofs.FinishLemmas.{taken_apart, their_hands, their_seats, their_sides}
+use Rattle.pipe_dev.specs.Seating.{IsWriteSeatOf}
+use Rattle.pipe_dev.proofs.FinishLemmas.{taken_apart, their_write_seats, their_seats, their_sides}
 use Rattle.pipe_dev.proofs.FinishLemmas.{all_seats, gives_held, as_many}
 use Rattle.pipe_dev.proofs.closing.finish.Goals as goal
 
@@ -10,7 +10,7 @@ pub gather-requires-clause-puts : goal.gather-requires-clause-puts
 gather-requires-clause-puts c =
     let inside = c.read.inside in
     let apart =
-    taken_apart inside.queue.now inside.row inside.hand c.in-Some.field-0 c.args.read
+    taken_apart inside.queue.now inside.row inside.cursor c.in-Some.field-0 c.args.read
     c.read.view_is c.read.invariant c.in-Some.is in
     their_seats inside.queue.now inside.row c.in-Some.field-0 c.args.read apart c.args.writes.items
     c.requires.all c.take_seats-puts.result.puts.items c.take_seats-puts.ensures.seats
@@ -19,7 +19,7 @@ pub gather-requires-clause-all : goal.gather-requires-clause-all
 gather-requires-clause-all c =
     let inside = c.read.inside in
     let apart =
-    taken_apart inside.queue.now inside.row inside.hand c.in-Some.field-0 c.args.read
+    taken_apart inside.queue.now inside.row inside.cursor c.in-Some.field-0 c.args.read
     c.read.view_is c.read.invariant c.in-Some.is in
     all_seats inside.queue.now inside.row c.in-Some.field-0 c.args.read apart c.args.writes.items
     c.requires.all c.take_seats-puts.result.puts.items c.take_seats-puts.ensures.seats
@@ -28,7 +28,7 @@ pub returns-in-Ok-gather-clause-held : goal.returns-in-Ok-gather-clause-held
 returns-in-Ok-gather-clause-held c =
     let inside = c.read.inside in
     let apart =
-    taken_apart inside.queue.now inside.row inside.hand c.in-Some.field-0 c.args.read
+    taken_apart inside.queue.now inside.row inside.cursor c.in-Some.field-0 c.args.read
     c.read.view_is c.read.invariant c.in-Some.is in
     gives_held inside.queue.now inside.row c.in-Some.field-0 c.args.read apart c.args.writes.items
     c.requires.all c.take_seats-puts.result.puts.items c.take_seats-puts.ensures.seats
@@ -39,12 +39,13 @@ pub seat_writers-requires-clause-seats : goal.seat_writers-requires-clause-seats
 seat_writers-requires-clause-seats c =
     let inside = c.read.inside in
     let apart =
-    taken_apart inside.queue.now inside.row inside.hand c.in-Some.field-0 c.args.read
+    taken_apart inside.queue.now inside.row inside.cursor c.in-Some.field-0 c.args.read
     c.read.view_is c.read.invariant c.in-Some.is in
-    subst (AllByRecursion (IsHandOf inside.queue.now inside.row))
+    subst (AllByRecursion (IsWriteSeatOf inside.queue.now inside.row))
     (sym (ap (λ puts. puts.items) c.in-Err.ensures.puts))
-    (their_hands inside.queue.now inside.row c.in-Some.field-0 c.args.read apart c.args.writes.items
-    c.requires.all c.take_seats-puts.result.puts.items c.take_seats-puts.ensures.seats)
+    (their_write_seats inside.queue.now inside.row c.in-Some.field-0 c.args.read apart
+    c.args.writes.items c.requires.all c.take_seats-puts.result.puts.items
+    c.take_seats-puts.ensures.seats)
 
 pub seat_writers-requires-clause-room : goal.seat_writers-requires-clause-room
 seat_writers-requires-clause-room c =
@@ -59,7 +60,7 @@ pub returns-clause-writes : goal.returns-clause-writes
 returns-clause-writes c =
     let inside = c.read.inside in
     let apart =
-    taken_apart inside.queue.now inside.row inside.hand c.in-Some.field-0 c.args.read
+    taken_apart inside.queue.now inside.row inside.cursor c.in-Some.field-0 c.args.read
     c.read.view_is c.read.invariant c.in-Some.is in
     their_sides inside.queue.now inside.row c.in-Some.field-0 c.args.read apart c.args.writes.items
     c.requires.all c.take_seats-puts.result.puts.items c.take_seats-puts.ensures.seats

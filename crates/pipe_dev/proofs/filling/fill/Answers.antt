@@ -12,13 +12,13 @@ pub filling-preserved-in-Message : goal.filling-preserved-in-Message
 filling-preserved-in-Message c =
     let key = key_of c.args.queue.now in
     let mode = c.args.row.now.mode in
-    let first = lending_with c.args.hand c.args.buffer.now in
-    let now = lending_with c.filling.hand c.filling.buffer in
-    let new = taker_with c.take_part-now.result.hand in
+    let first = lending_with c.args.cursor c.args.buffer.now in
+    let now = lending_with c.filling.cursor c.filling.buffer in
+    let new = taker_with c.take_part-now.result.cursor in
     let room = c.take_part-now.new.room in
     let buffer = (back_of now c.filling.count new room).buffer in
     record {
-      hand = c.take_part-now.ensures.hand;
+      cursor = c.take_part-now.ensures.cursor;
       so_far = next_so_far key mode first now new room c.filling.took c.in-Part.number
           c.filling.count
           c.in-Part.more _
@@ -35,13 +35,13 @@ pub filling-preserved : goal.filling-preserved
 filling-preserved c =
     let key = key_of c.args.queue.now in
     let mode = c.args.row.now.mode in
-    let first = lending_with c.args.hand c.args.buffer.now in
-    let now = lending_with c.filling.hand c.filling.buffer in
-    let new = taker_with c.take_part-now.result.hand in
+    let first = lending_with c.args.cursor c.args.buffer.now in
+    let now = lending_with c.filling.cursor c.filling.buffer in
+    let new = taker_with c.take_part-now.result.cursor in
     let room = c.take_part-now.new.room in
     let buffer = (back_of now c.filling.count new room).buffer in
     record {
-      hand = c.take_part-now.ensures.hand;
+      cursor = c.take_part-now.ensures.cursor;
       so_far = next_so_far key mode first now new room c.filling.took c.in-Part.number
           c.filling.count
           c.in-Part.more _
@@ -58,16 +58,16 @@ pub filling-smaller : goal.filling-smaller
 filling-smaller c =
     let key = key_of c.args.queue.now in
     let mode = c.args.row.now.mode in
-    let first = lending_with c.args.hand c.args.buffer.now in
-    let now = lending_with c.filling.hand c.filling.buffer in
-    let new = taker_with c.take_part-now.result.hand in
+    let first = lending_with c.args.cursor c.args.buffer.now in
+    let now = lending_with c.filling.cursor c.filling.buffer in
+    let new = taker_with c.take_part-now.result.cursor in
     let room = c.take_part-now.new.room in
     let buffer = (back_of now c.filling.count new room).buffer in
-    let hand = c.filling.invariant.hand in
+    let cursor = c.filling.invariant.cursor in
     let on = nat_lt (c.filling.count + c.in-Part.more) (length buffer) in
     subst (λ b. left_to_take key new on < left_to_take key now.taker b) (sym c.filling-test.true)
     (next_is_nearer key mode first now new room c.filling.took c.in-Part.number c.filling.count
-    c.in-Part.more on hand.row_is.first hand.seat.own hand.knows
+    c.in-Part.more on cursor.row_is.first cursor.seat.own cursor.knows
     (subst (SoFar key mode first now c.filling.took c.filling.count) c.filling-test.true
     c.filling.invariant.so_far)
     (given_part key (room_of now c.filling.count) _ c.take_part-now.result.next c.in-Part.more
@@ -79,11 +79,11 @@ pub returns-in-NotYet-clause-filled : goal.returns-in-NotYet-clause-filled
 returns-in-NotYet-clause-filled c =
     let key = key_of c.args.queue.now in
     let mode = c.args.row.now.mode in
-    let first = lending_with c.args.hand c.args.buffer.now in
-    let now = lending_with c.filling.hand c.filling.buffer in
-    not_yet_so_far key mode first now (taker_with c.take_part-now.result.hand)
+    let first = lending_with c.args.cursor c.args.buffer.now in
+    let now = lending_with c.filling.cursor c.filling.buffer in
+    not_yet_so_far key mode first now (taker_with c.take_part-now.result.cursor)
     c.take_part-now.new.room c.filling.took c.filling.count c.in-NotYet.number
-    c.take_part-now.result.hand c.take_part-now.result.next
+    c.take_part-now.result.cursor c.take_part-now.result.next
     (subst (SoFar key mode first now c.filling.took c.filling.count) c.filling-test.true
     c.filling.invariant.so_far) c.in-NotYet.is c.take_part-now.ensures.next
 
@@ -91,17 +91,17 @@ pub returns-in-End-clause-filled : goal.returns-in-End-clause-filled
 returns-in-End-clause-filled c =
     let key = key_of c.args.queue.now in
     let mode = c.args.row.now.mode in
-    let first = lending_with c.args.hand c.args.buffer.now in
-    let now = lending_with c.filling.hand c.filling.buffer in
-    end_so_far key mode first now (taker_with c.take_part-now.result.hand)
+    let first = lending_with c.args.cursor c.args.buffer.now in
+    let now = lending_with c.filling.cursor c.filling.buffer in
+    end_so_far key mode first now (taker_with c.take_part-now.result.cursor)
     c.take_part-now.new.room c.filling.took c.filling.count
-    c.take_part-now.result.hand c.take_part-now.result.next
+    c.take_part-now.result.cursor c.take_part-now.result.next
     (subst (SoFar key mode first now c.filling.took c.filling.count) c.filling-test.true
     c.filling.invariant.so_far) c.in-End.is c.take_part-now.ensures.next
 
 pub returns-clause-filled : goal.returns-clause-filled
 returns-clause-filled c =
     enough_so_far (key_of c.args.queue.now) c.args.row.now.mode
-    (lending_with c.args.hand c.args.buffer.now) (lending_with c.filling.hand c.filling.buffer)
-    c.filling.took c.filling.count c.filling.further c.filling.hand c.filling.invariant.so_far
+    (lending_with c.args.cursor c.args.buffer.now) (lending_with c.filling.cursor c.filling.buffer)
+    c.filling.took c.filling.count c.filling.further c.filling.cursor c.filling.invariant.so_far
     c.filling-test.false

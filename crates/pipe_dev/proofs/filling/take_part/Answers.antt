@@ -29,7 +29,7 @@ returns-in-Block-clause-next c =
     let whole = c.whole-whole.result in
     let part = part_of (length c.args.room.now) whole in
     let key = key_of c.args.queue.now in
-    let old = take_account c.args.hand.seat in
+    let old = take_account c.args.cursor.seat in
     let new = take_account c.take.new.seat in
     record {
       part = part;

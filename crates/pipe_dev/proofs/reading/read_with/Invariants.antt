@@ -1,7 +1,7 @@
 -- so many rounds were made, and none gave a byte
 use Rattle.std.proofs.Common.{◌≡◌, ◌≢◌, [], ℕ}
 use Rattle.block_queue.specs.Seats.{key_of}
-use Rattle.pipe_dev.specs.Ends.{IsReadHand}
+use Rattle.pipe_dev.specs.Ends.{IsReadCursor}
 use Rattle.pipe_dev.specs.ReadCalls.{SleepsOn, calling, reader_with}
 use Rattle.pipe_dev.specs.Rounds.{Rounds}
 use Rattle.pipe_dev.proofs.reading.read_with.Given as goal
@@ -9,11 +9,11 @@ use Rattle.pipe_dev.proofs.reading.read_with.Given as goal
 abbrev pub invariant-reading : goal.invariant-reading
 invariant-reading g l =
     record {
-      hand : IsReadHand l.queue l.row l.hand;
+      cursor : IsReadCursor l.queue l.row l.cursor;
       words : l.proc.words ≡ l.initial.proc.words;
       room : l.buffer ≢ [];
       times : (times : ℕ)
           × Rounds (SleepsOn (key_of l.queue) l.row) times
-          (calling (reader_with l.initial.hand l.initial.proc) l.initial.buffer)
-          (calling (reader_with l.hand l.proc) l.buffer);
+          (calling (reader_with l.initial.cursor l.initial.proc) l.initial.buffer)
+          (calling (reader_with l.cursor l.proc) l.buffer);
     }

@@ -7,10 +7,10 @@ use Rattle.pipe_dev.proofs.reading.try_with.Goals.{in-Some, in_default}
 
 pub returns-clause-tried : goal.returns-clause-tried
 returns-clause-tried c =
-    let filled = c.fill-hand.ensures.filled in
+    let filled = c.fill-cursor.ensures.filled in
     let row = c.args.row.now in
     let before = c.args.proc.now.process in
-    let last = last_number c.args.hand.rest filled.fills.filling.parts in
+    let last = last_number c.args.cursor.rest filled.fills.filling.parts in
     record {
       fills = filled.fills;
       woken = elim c.match-took.branch [

@@ -1,6 +1,6 @@
 -- one round more
 use Rattle.std.proofs.Common.{suc, ◌∙◌, subst, ℕ, List}
-use Rattle.pipe_dev.specs.Ends.{IsWriteHand}
+use Rattle.pipe_dev.specs.Ends.{IsWriteSeat}
 use Rattle.pipe_dev.specs.WriteCalls.{SleepsForRoom, call_with, writer_with}
 use Rattle.pipe_dev.specs.WriteSteps.{IfAgain}
 use Rattle.pipe_dev.proofs.writing.write_with.Goals as goal
@@ -14,7 +14,7 @@ writing-preserved g c =
     subst (λ turn. IfAgain turn call old new) c.in-Again.is c.write_round-now.ensures.again in
     record {
       seat = subst
-          (λ (writer : ℕ). IsWriteHand c.args.queue.now c.args.row.now writer
+          (λ (writer : ℕ). IsWriteSeat c.args.queue.now c.args.row.now writer
           c.write_round-now.result.seat) c.writing.invariant.seat.writer_is
           c.write_round-now.ensures.seat;
       words = c.write_round-now.ensures.words ∙ c.writing.invariant.words;

@@ -1,6 +1,6 @@
 -- so many rounds were made, and the block is the same
 use Rattle.std.proofs.Common.{◌≡◌, ℕ}
-use Rattle.pipe_dev.specs.Ends.{IsWriteHand}
+use Rattle.pipe_dev.specs.Ends.{IsWriteSeat}
 use Rattle.pipe_dev.specs.Rounds.{Rounds}
 use Rattle.pipe_dev.specs.WriteCalls.{SleepsForRoom, call_with, writer_with}
 use Rattle.pipe_dev.proofs.writing.write_with.Given as goal
@@ -8,7 +8,7 @@ use Rattle.pipe_dev.proofs.writing.write_with.Given as goal
 abbrev pub invariant-writing : goal.invariant-writing
 invariant-writing g l =
     record {
-      seat : IsWriteHand l.queue l.row l.initial.seat.writer l.seat;
+      seat : IsWriteSeat l.queue l.row l.initial.seat.writer l.seat;
       words : l.proc.words ≡ l.initial.proc.words;
       block : l.block ≡ l.initial.block;
       times : (times : ℕ)

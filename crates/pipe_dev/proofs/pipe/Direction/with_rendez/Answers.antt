@@ -9,30 +9,31 @@ use Rattle.block_queue.specs.Opening.{IsNewPutSeat, reader_account}
 use Rattle.block_queue.specs.Seats.{key_of}
 use Rattle.pipe_dev.specs.Ends.{IsRowOf}
 use Rattle.pipe_dev.proofs.SeatingLemmas.{reader_knows, all_to_give, writers_in_order}
-use Rattle.pipe_dev.proofs.pipe.Way.laid.Goals as goal
+use Rattle.pipe_dev.proofs.pipe.Direction.with_rendez.Goals as goal
 
-pub returns-clause-lane : goal.returns-clause-lane
-returns-clause-lane c =
-    let way = c.requires.way in
+pub returns-clause-start : goal.returns-clause-start
+returns-clause-start c =
+    let direction = c.requires.direction in
     let queue = c.args.self.queue in
     let row_is : IsRowOf queue c.args.row = record {
-      writers = sym (ap (λ (key : Key). key.writers) way.key_is);
-      first = ap (λ (key : Key). key.first) way.key_is;
+      writers = sym (ap (λ (key : Key). key.writers) direction.key_is);
+      first = ap (λ (key : Key). key.first) direction.key_is;
     } in
-    let seats = way.puts_are.each in
-    let count = way.puts_are.count_is in
-    let room = way.room in
+    let seats = direction.puts_are.each in
+    let count = direction.puts_are.count_is in
+    let room = direction.room in
     record {
       row_is = row_is;
       read = record {
         row_is = row_is;
-        seat = way.take_is;
+        seat = direction.take_is;
         knows = subst (λ (a : Account Entry). KnowsQueue (key_of queue) a)
-            (sym (way.account_is ∙ ap reader_account row_is.writers)) (reader_knows (key_of queue));
-        gave = ap (λ (a : Account Entry). a.gave) way.account_is;
+            (sym (direction.account_is ∙ ap reader_account row_is.writers))
+            (reader_knows (key_of queue));
+        gave = ap (λ (a : Account Entry). a.gave) direction.account_is;
         some_left = tt;
       };
-      unread = way.account_is;
+      unread = direction.account_is;
       writes = all_to_give queue c.args.row 0 c.args.self.puts.items row_is
           (λ place seat there. subst (λ (n : ℕ). IsNewPutSeat queue n seat) (omega arith)
           (seats place seat there));
@@ -40,6 +41,6 @@ returns-clause-lane c =
           (λ place seat there. subst (λ (n : ℕ). IsNewPutSeat queue n seat) (omega arith)
           (seats place seat there))
           ∙ ap (numbers_from 0) count;
-      none = way.none;
+      none = direction.none;
       room = omega (arith, count, room);
     }

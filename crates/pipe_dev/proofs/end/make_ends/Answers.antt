@@ -5,23 +5,23 @@ use Rattle.histories.proofs.ListLemmas.{all_weaker}
 use Rattle.std.specs.List.{AllByRecursion}
 use Rattle.pipe_dev.specs.Ends.{ReadSide, WriteSide, AreOfOne}
 use Rattle.pipe_dev.specs.Openings.{IsNewWriteEnd, IsSeatToGive}
-use Rattle.pipe_dev.specs.Seating.{side_of, IsHandOf}
+use Rattle.pipe_dev.specs.Seating.{side_of, IsWriteSeatOf}
 use Rattle.pipe_dev.proofs.SeatingLemmas.{new_writes, new_one, new_order}
-use Rattle.pipe_dev.proofs.end.lay_out.Goals as goal
+use Rattle.pipe_dev.proofs.end.make_ends.Goals as goal
 
 pub seat_writers-requires-clause-seats : goal.seat_writers-requires-clause-seats
 seat_writers-requires-clause-seats c =
     let queue = c.args.queue.now in
-    let row = c.args.lane.row in
-    all_weaker (IsSeatToGive queue row) (IsHandOf queue row) (λ seat to_give. to_give.hand)
-    c.args.lane.puts.items c.requires.lane.writes
+    let row = c.args.start.row in
+    all_weaker (IsSeatToGive queue row) (IsWriteSeatOf queue row) (λ seat to_give. to_give.seat_is)
+    c.args.start.puts.items c.requires.start.writes
 
 pub returns : goal.returns
 returns c =
     let queue = c.args.queue.now in
-    let row = c.args.lane.row in
-    let seats = c.args.lane.puts.items in
-    let lane = c.requires.lane in
+    let row = c.args.start.row in
+    let seats = c.args.start.puts.items in
+    let start = c.requires.start in
     let seated : c.seat_writers.result.items ≡ map (side_of queue row) seats =
     c.seat_writers.ensures.seated in
     let side : ReadSide =
@@ -47,17 +47,17 @@ returns c =
       ends = record {
         queue_is = c.new.ensures.queue;
         row_is = c.new.ensures.row;
-        unread = c.new.ensures.account ∙ lane.unread;
+        unread = c.new.ensures.account ∙ start.unread;
         rest = c.new.ensures.rest;
         unwritten =
             subst (AllByRecursion (IsNewWriteEnd queue row)) (sym seated)
-            (new_writes queue row seats lane.writes);
+            (new_writes queue row seats start.writes);
         all = record {
           one = subst (λ (r : ReadSide). AllByRecursion (AreOfOne r) c.seat_writers.result.items)
               side_is
               (subst (AllByRecursion (AreOfOne side)) (sym seated) (new_one side seats));
           order = ap (map (λ (w : WriteSide). w.writer)) seated ∙ (new_order queue row seats
-              ∙ (lane.order ∙ ap (λ r. numbers_from 0 r.writers) (sym c.new.ensures.row)));
+              ∙ (start.order ∙ ap (λ r. numbers_from 0 r.writers) (sym c.new.ensures.row)));
         };
       };
     }

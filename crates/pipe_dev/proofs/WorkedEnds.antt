@@ -8,7 +8,7 @@ use Rattle.block_queue.specs.declared.seats.PutSeat.{PutSeat}
 use Rattle.block_queue.specs.declared.view.Key.{Key}
 use Rattle.block_queue.specs.Steps.{saw_hangup}
 use Rattle.pipe_dev.specs.declared.row.Row.{Row}
-use Rattle.pipe_dev.specs.Ends.{WriteSide, HasReadHand, HasWriteHand}
+use Rattle.pipe_dev.specs.Ends.{WriteSide, HasReadCursor, HasWriteSeat}
 use Rattle.pipe_dev.specs.ReadCalls.{Calling}
 use Rattle.pipe_dev.specs.ReadSteps.{IfOver as IfReadOver, IfSlept}
 use Rattle.pipe_dev.specs.Rendezes.{reader_rendez, writer_rendez}
@@ -19,16 +19,16 @@ use Rattle.pipe_dev.specs.WriteSteps.{IfOver as IfWriteOver, IfAgain}
 use Rattle.pipe_dev.specs.declared.writing.Turn.TheVariants.{Over, Again}
 
 module _ (queue : Queue) (row : Row) where
-  -- between two calls nobody has taken its hand from an end
-  read_end_has_its_hand : HasReadHand queue row None → ⊥
-  read_end_has_its_hand away = away
+  -- between two calls nobody has taken its cursor from an end
+  read_end_has_its_cursor : HasReadCursor queue row None → ⊥
+  read_end_has_its_cursor away = away
 
-  write_end_has_its_seat : (writer : ℕ) → HasWriteHand queue row writer None → ⊥
+  write_end_has_its_seat : (writer : ℕ) → HasWriteSeat queue row writer None → ⊥
   write_end_has_its_seat writer away = away
 
   -- and the seat is that of its writer
   the_seat_is_its_writers : (writer : ℕ) (seat : PutSeat)
-      → HasWriteHand queue row writer (Some seat) → seat.writer ≡ writer
+      → HasWriteSeat queue row writer (Some seat) → seat.writer ≡ writer
   the_seat_is_its_writers writer seat has = has.writer_is
 
   -- no seat is left without an end, and no end is of no seat
