@@ -7,7 +7,7 @@ use Rattle.crew.specs.declared.crew.Writer.{Writer}
 use Rattle.crew.specs.declared.opts.Report.{Report}
 use Rattle.crew.specs.declared.tally.Tally.{Tally}
 use Rattle.crew.specs.Message.{message_of}
-use Rattle.crew.specs.Tally.{TakesNext, IsNewTally, CountsNext, Tells}
+use Rattle.crew.specs.Tally.{TakesNext, IsNewTally, CountsNext, ReportsTally}
 use Rattle.crew.specs.Threads.{IsReportOf}
 use Rattle.crew.specs.Writing.{IsReadyWriter, HasEnded}
 
@@ -70,18 +70,19 @@ module _ (tally : Tally) where
 -- ---- a report
 
 module _ (tally : Tally) (report : Report) where
-  -- it tells of more writers, messages or bytes than were counted, or of an order that was not
-  tells_of_another : report.writers ≡ 3 → Tells 2 tally report → ⊥
-  tells_of_another three tells = let writers = tells.writers_is in omega (arith, three, writers)
+  -- it reports more writers, messages or bytes than were counted, or an order that was not
+  reports_another_writer : report.writers ≡ 3 → ReportsTally 2 tally report → ⊥
+  reports_another_writer three says = let writers = says.writers_is in omega (arith, three, writers)
 
-  tells_of_another_message : report.writes ≡ tally.writes + 1 → Tells 2 tally report → ⊥
-  tells_of_another_message more tells = let writes = tells.writes in omega (arith, more, writes)
+  reports_another_message : report.writes ≡ tally.writes + 1 → ReportsTally 2 tally report → ⊥
+  reports_another_message more says = let writes = says.writes in omega (arith, more, writes)
 
-  tells_of_another_byte : report.bytes ≡ tally.bytes + 1 → Tells 2 tally report → ⊥
-  tells_of_another_byte more tells = let bytes = tells.bytes in omega (arith, more, bytes)
+  reports_another_byte : report.bytes ≡ tally.bytes + 1 → ReportsTally 2 tally report → ⊥
+  reports_another_byte more says = let bytes = says.bytes in omega (arith, more, bytes)
 
-  tells_of_order : tally.in_order ≡ false → report.in_order ≡ true → Tells 2 tally report → ⊥
-  tells_of_order out order tells = let in_order = tells.in_order in cc
+  reports_an_order : tally.in_order ≡ false → report.in_order ≡ true
+      → ReportsTally 2 tally report → ⊥
+  reports_an_order out order says = let in_order = says.in_order in cc
 
 abbrev two_of_three : ThreadsOpts
 two_of_three = record { writers = 2; writes = 3; size = 16 }

@@ -41,7 +41,7 @@ pub record CountsNext (old new : Tally) (piece : List ℕ) : Type 0 where
   pub bytes : new.bytes ≡ old.bytes + length piece
 
 -- the report says what was counted, of so many writers
-pub record Tells (writers : ℕ) (tally : Tally) (report : Report) : Type 0 where
+pub record ReportsTally (writers : ℕ) (tally : Tally) (report : Report) : Type 0 where
   pub writers_is : report.writers ≡ writers
   pub writes : report.writes ≡ tally.writes
   pub bytes : report.bytes ≡ tally.bytes

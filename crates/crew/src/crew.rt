@@ -220,7 +220,7 @@ impl<'p> Reader<'p> {
 impl<'p> Counted<'p> {
     ghost use Rattle.std.specs.Prelude.{◌≡◌, Err, IfOk, IfErr, IsErrOf};
     ghost use Rattle.sync_base.specs.declared.fault.Fault.TheVariants.{BadArg};
-    ghost use Rattle.crew.specs.Tally.{Tells};
+    ghost use Rattle.crew.specs.Tally.{ReportsTally};
     ghost use Rattle.crew.specs.Threads.{IsReportOf};
 
     /// Why it did not come to the end, if it did not.
@@ -235,7 +235,7 @@ impl<'p> Counted<'p> {
     pub fn report(&self, opts: &ThreadsOpts) -> Result<Report, Fault>
         ensures fault { IfErr self.now.read (λ fault. result ≡ Err fault) }
         ensures no_bad_arg { ¬ IsErrOf result BadArg }
-        ensures told { IfOk result (Tells opts.now.writers self.now.tally) }
+        ensures told { IfOk result (ReportsTally opts.now.writers self.now.tally) }
         ensures of { IfOk result (IsReportOf opts.now) }
     {
         self.read?;

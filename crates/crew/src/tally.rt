@@ -75,7 +75,8 @@ pub struct Tally {
 impl Tally {
     ghost use Rattle.std.specs.Prelude.{◌≡◌, IfOk, true};
     ghost use Rattle.sync_base.specs.declared.threads_opts.ThreadsOpts.{ThreadsOpts};
-    ghost use Rattle.crew.specs.Tally.{AreOfOneRun, CountsNext, IsNewTally, IsTallyOf, Tells};
+    ghost use Rattle.crew.specs.Tally.{AreOfOneRun, CountsNext, IsNewTally, IsTallyOf};
+    ghost use Rattle.crew.specs.Tally.{ReportsTally};
     ghost use Rattle.crew.specs.Threads.{AreWithin, IsReportOf};
 
     /// Nothing was read.
@@ -114,7 +115,7 @@ impl Tally {
 
     /// What was read, of so many writers.
     pub fn report(&self, writers: u64) -> Report
-        ensures told { Tells writers self.now result }
+        ensures told { ReportsTally writers self.now result }
         ensures of { (opts : ThreadsOpts) → opts.writers ≡ writers → IsTallyOf opts self.now
             → IsReportOf opts result }
     {
