@@ -5,16 +5,16 @@ use Rattle.std.specs.declared.io.Error.{Error}
 use Rattle.std.specs.IoError.{error_kind}
 use Rattle.sync_base.specs.declared.fault.Fault.{Fault}
 use Rattle.plan9.specs.declared.pipes.Writer.{Writer}
-use Rattle.plan9.specs.Streams.{Lent, Streams, StreamsOut, Takes, TakesNext, TellsOf}
+use Rattle.plan9.specs.Streams.{Lent, Streams, StreamsOut, Takes, TakesNext, IsErrorFor}
 use Rattle.plan9.specs.Streams.{WritesOnce, front_of, kind_of}
 
 module _ (why : Fault) (kept : Option Fault) (error : Error) where
   -- the fault is not kept, or the error is of another kind
-  fault_is_lost : kept ≢ Some why → TellsOf why kept error → ⊥
-  fault_is_lost lost tells = lost tells.kept_is
+  fault_is_lost : kept ≢ Some why → IsErrorFor why kept error → ⊥
+  fault_is_lost lost stands = lost stands.kept_is
 
-  error_of_another_kind : error_kind error ≢ kind_of why → TellsOf why kept error → ⊥
-  error_of_another_kind other tells = other tells.kind_is
+  error_of_another_kind : error_kind error ≢ kind_of why → IsErrorFor why kept error → ⊥
+  error_of_another_kind other stands = other stands.kind_is
 
 module _ (old new : Lent) (kept : Option Fault) where
   -- no bytes are said where there is room, and nothing was read to the end

@@ -23,7 +23,7 @@ kind_of fault.DoubleSleep = kind.ResourceBusy
 kind_of other = kind.Other
 
 -- the error is of the kind of this fault, which is kept beside it
-pub record TellsOf (fault : Fault) (kept : Option Fault) (error : Error) : Type 0 where
+pub record IsErrorFor (fault : Fault) (kept : Option Fault) (error : Error) : Type 0 where
   pub kept_is : kept ≡ Some fault
   pub kind_is : error_kind error ≡ kind_of fault
 
@@ -54,7 +54,7 @@ piece_or_end (suc count) = Some (suc count)
 abbrev pub EndsTaking : Lent → Result ℕ Error → Option Fault → Lent → Type 0
 EndsTaking old (Ok count) kept new = Takes old (Ok (piece_or_end count)) new
 EndsTaking old (Err error) kept new =
-    (why : Fault) × Takes old (Err why) new × TellsOf why kept error
+    (why : Fault) × Takes old (Err why) new × IsErrorFor why kept error
 
 -- it passed the empty writes, and then it ended
 pub record TakesNext (old : Lent) (answer : Result ℕ Error) (kept : Option Fault) (new : Lent) :
@@ -99,7 +99,7 @@ EndsWriting old bytes (Ok count) kept new =
     (count ≡ length (front_of bytes))
     × ((number : ℕ) × WritesOnce old (front_of bytes) (Ok number) new)
 EndsWriting old bytes (Err error) kept new =
-    (why : Fault) × WritesOnce old (front_of bytes) (Err why) new × TellsOf why kept error
+    (why : Fault) × WritesOnce old (front_of bytes) (Err why) new × IsErrorFor why kept error
 
 -- it is of the same end, and of the same kernel
 pub record IsSameWriter (old new : Writer) : Type 0 where
