@@ -1,5 +1,5 @@
 -- Where the word of a cell lies: what is read there, and what the words are once it is written.
-use Rattle.std.proofs.Common.{◌≡◌, ◌==◌, ◌<◌, ◌+◌, ◌-◌, ◌*◌, ℕ, Bool, true, false, List}
+use Rattle.std.proofs.Common.{◌≡◌, ◌<◌, ◌+◌, ◌-◌, ◌*◌, ℕ, Bool, true, false, List}
 use Rattle.std.proofs.Common.{Option, Some, None, if◌then◌else◌, ◌++◌, length, get_or, set}
 use Rattle.std.proofs.Common.{refl, sym, ◌∙◌, ap, arith}
 use Rattle.std.specs.Prelude.{zip, flat_map}
@@ -7,19 +7,17 @@ use Rattle.std.proofs.lemmas.List.{get_or_append_left, get_or-append-add}
 use Rattle.std.proofs.lemmas.List.{set-append_left, set-append_right, set-get_or}
 use Rattle.std.proofs.lemmas.Slice.Zip.{length-zip, get_or-zip}
 use Rattle.sleep_core.specs.declared.event.Event.{Event}
-use Rattle.sleep_core.specs.declared.event.Event.TheVariants.{Post, Withdraw, Clear}
-use Rattle.sleep_core.specs.declared.event.Event.TheVariants.{Raise, Take, Mark, Note, Drain}
 use Rattle.sleep_core.specs.declared.answer.Answer.{Answer}
 use Rattle.sleep_core.specs.declared.phase.Phase.{Phase}
-use Rattle.sleep_core.specs.declared.phase.Phase.TheVariants as phase
-use Rattle.sleep_core.specs.State.{State, no_flags, phase_of, nobody, posted_as}
+use Rattle.sleep_core.specs.State.{State, no_flags, phase_of}
 use Rattle.sleep_core.specs.Table.{Cell, Word, Wakeup, pid_of, cell_of, reply, stored, phase_after}
-use Rattle.sleep_core.specs.Table.{returned_by, number_in}
+use Rattle.sleep_core.specs.Table.{returned_by}
 use Rattle.sleep_core.specs.Table.Cell.{PostedOf, LevelOf, FlagsOf, NoCell}
 use Rattle.sleep_core.specs.Table.Word.{Number, Flags}
 use Rattle.sleep_core.specs.Step.{with_phase, with_word, with_returned, word_at, is_refusal}
 use Rattle.sleep_core.specs.Step.{answer_to, changed_by, world_told, world_after}
 use Rattle.sleep_core.specs.Rows.{word_left, word_after}
+use Rattle.sleep_core.proofs.TableRows.{MayStore, stores_its_kind}
 use Rattle.rendez_words.specs.declared.view.Sizes.{Sizes}
 use Rattle.rendez_words.specs.Plays.{number_of, IsWordOf, IsCellIn}
 use Rattle.rendez_words.specs.Rule.{rendez_line, proc_line, words_of, index_of}
@@ -162,29 +160,13 @@ write_there sizes s (FlagsOf pid) (Flags flags) has there fits =
     less = omega arith
 write_there sizes s cell word has there fits = absurd fits
 
--- what a row writes may lie in its cell
-abbrev MayLie : Cell → Option Word → Type 0
-MayLie cell None = Unit {0}
-MayLie cell (Some word) = IsWordOf cell word
-
-stores_its_kind : (event : Event) (stage : Phase) (word : Word)
-    → MayLie (cell_of event stage) (stored event stage word)
-stores_its_kind (Post pid rendez threshold) phase.Idle word = tt
-stores_its_kind (Withdraw pid) (phase.Leaving rendez) word =
-    by_test (number_in word == posted_as pid.0)
-  where
-    by_test : (mine : Bool) → MayLie (PostedOf rendez.0)
-        (if mine then Some (Number nobody) else None)
-    by_test true = tt
-    by_test false = tt
-stores_its_kind (Clear pid) phase.Out word = tt
-stores_its_kind (Clear pid) phase.Woken word = tt
-stores_its_kind (Raise pid rendez level) phase.Idle word = tt
-stores_its_kind (Take pid) (phase.Owing rendez level) word = tt
-stores_its_kind (Mark pid) (phase.Holding sleeper rendez level) word = tt
-stores_its_kind (Note pid notes) stage word = tt
-stores_its_kind (Drain pid) phase.Idle word = tt
-stores_its_kind event stage word = tt
+-- what a row writes in a cell that is there lies there
+fits_there : (sizes : Sizes) (cell : Cell) (word : Word) → IsCellIn sizes cell
+    → MayStore cell (Some word) → IsWordOf cell word
+fits_there sizes (PostedOf rendez) (Number n) there fits = tt
+fits_there sizes (LevelOf rendez) (Number n) there fits = tt
+fits_there sizes (FlagsOf pid) (Flags flags) there fits = tt
+fits_there sizes cell word there fits = absurd fits
 
 -- phases and returned levels are no words
 words_of-with_returned : (s : State) (wakeup : Option Wakeup)
@@ -194,14 +176,14 @@ words_of-with_returned s (Some wakeup) = refl
 
 -- the words after a write, if there is one
 words_of-with_word : (sizes : Sizes) (s : State) (cell : Cell) (new : Option Word)
-    → HasSizes sizes s → IsCellIn sizes cell → MayLie cell new
+    → HasSizes sizes s → IsCellIn sizes cell → MayStore cell new
     → words_of (with_word s cell new) ≡ set (words_of s) (index_of sizes cell)
     (number_of (word_left (word_at s cell) new))
 words_of-with_word sizes s cell None has there fits =
     sym (ap (set (words_of s) (index_of sizes cell)) (sym (read_there sizes s cell has there))
     ∙ set-get_or (words_of s) (index_of sizes cell) 0)
 words_of-with_word sizes s cell (Some word) has there fits =
-    write_there sizes s cell word has there fits
+    write_there sizes s cell word has there (fits_there sizes cell word there fits)
 
 -- the words after an event that was told this
 words_told : (sizes : Sizes) (s : State) (event : Event) (stage : Phase) (told : Answer)

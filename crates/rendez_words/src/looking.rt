@@ -14,7 +14,7 @@ ghost use Rattle.rendez_words.specs.Words.{IsProcessOf, sizes_of, procs_of};
 
 use crate::flags_word::flags_in;
 use crate::parking::Announced;
-use crate::states::Doer;
+use crate::states::Caller;
 use crate::words::Words;
 use sleep_core::{Event, ProcFlags};
 use std::sync::Wait;
@@ -28,19 +28,19 @@ pub(crate) struct Seen<'a> {
 
 impl Words {
     /// Looks at the flags of the process: what they are where they end its wait, or else the word.
-    pub(crate) fn look_at(&self, doer: &mut Doer, notes_end: bool) -> Result<ProcFlags, u64>
-        requires process { IsProcessOf self.now doer.old }
-        requires looking { IsLooking notes_end (phase_in doer.old) }
-        ensures table { doer.new.table ≡ doer.old.table }
+    pub(crate) fn look_at(&self, caller: &mut Caller, notes_end: bool) -> Result<ProcFlags, u64>
+        requires process { IsProcessOf self.now caller.old }
+        requires looking { IsLooking notes_end (phase_in caller.old) }
+        ensures table { caller.new.table ≡ caller.old.table }
         ensures made { MatchResult result
-            (λ flags. HasMade (sizes_of self.now) (Look (pid_in doer.old))
-            (part_of doer.old) (flags_word flags) (part_of doer.new))
-            (λ word. HasMade (sizes_of self.now) (Look (pid_in doer.old))
-            (part_of doer.old) word (part_of doer.new)) }
+            (λ flags. HasMade (sizes_of self.now) (Look (pid_in caller.old))
+            (part_of caller.old) (flags_word flags) (part_of caller.new))
+            (λ word. HasMade (sizes_of self.now) (Look (pid_in caller.old))
+            (part_of caller.old) word (part_of caller.new)) }
         ensures ends { IfOk result (EndsWait notes_end) }
-        ensures same { OnErr result (doer.new ≡ doer.old) }
+        ensures same { OnErr result (caller.new ≡ caller.old) }
     {
-        let word = self.look_once(doer, notes_end);
+        let word = self.look_once(caller, notes_end);
         let flags = flags_in(word);
         if ends_wait(flags, notes_end) {
             Ok(flags)
@@ -54,24 +54,24 @@ impl Words {
     pub(crate) fn look_behind<'a>(
         &self,
         announced: &'a Announced,
-        doer: &mut Doer,
+        caller: &mut Caller,
         notes_end: bool,
     ) -> Result<ProcFlags, Seen<'a>>
-        requires process { IsProcessOf self.now doer.old }
-        requires looking { IsLooking notes_end (phase_in doer.old) }
-        requires own { announced.now.said.pid ≡ doer.old.pid }
-        ensures table { doer.new.table ≡ doer.old.table }
+        requires process { IsProcessOf self.now caller.old }
+        requires looking { IsLooking notes_end (phase_in caller.old) }
+        requires own { announced.now.said.pid ≡ caller.old.pid }
+        ensures table { caller.new.table ≡ caller.old.table }
         ensures made { MatchResult result
-            (λ flags. HasMade (sizes_of self.now) (Look (pid_in doer.old))
-            (part_of doer.old) (flags_word flags) (part_of doer.new))
-            (λ seen. HasMade (sizes_of self.now) (Look (pid_in doer.old))
-            (part_of doer.old) seen.word (part_of doer.new)) }
+            (λ flags. HasMade (sizes_of self.now) (Look (pid_in caller.old))
+            (part_of caller.old) (flags_word flags) (part_of caller.new))
+            (λ seen. HasMade (sizes_of self.now) (Look (pid_in caller.old))
+            (part_of caller.old) seen.word (part_of caller.new)) }
         ensures ends { IfOk result (EndsWait notes_end) }
-        ensures same { OnErr result (doer.new ≡ doer.old) }
+        ensures same { OnErr result (caller.new ≡ caller.old) }
         ensures announced { IfErr result (λ seen.
             seen.announced.now.said.pid ≡ announced.now.said.pid) }
     {
-        match self.look_at(doer, notes_end) {
+        match self.look_at(caller, notes_end) {
             Ok(flags) => Ok(flags),
             Err(word) => Err(Seen { announced, word }),
         }
@@ -101,16 +101,16 @@ impl Words {
 
     // Step Look: load of the flags. Seat: Asleep, then Woken or Leaving, or Awaiting, then Woken;
     // as it was where the flags don't end its wait.
-    fn look_once(&self, doer: &mut Doer, notes_end: bool) -> u64
-        requires process { IsProcessOf self.now doer.old }
-        requires looking { IsLooking notes_end (phase_in doer.old) }
-        ensures table { doer.new.table ≡ doer.old.table }
-        ensures made { HasMade (sizes_of self.now) (Look (pid_in doer.old))
-            (part_of doer.old) result (part_of doer.new) }
+    fn look_once(&self, caller: &mut Caller, notes_end: bool) -> u64
+        requires process { IsProcessOf self.now caller.old }
+        requires looking { IsLooking notes_end (phase_in caller.old) }
+        ensures table { caller.new.table ≡ caller.old.table }
+        ensures made { HasMade (sizes_of self.now) (Look (pid_in caller.old))
+            (part_of caller.old) result (part_of caller.new) }
     {
         let _ = notes_end;
-        let pid = doer.pid();
-        self.load(doer, self.flags_word(pid), Event::Look { pid })
+        let pid = caller.pid();
+        self.load(caller, self.flags_word(pid), Event::Look { pid })
     }
 }
 

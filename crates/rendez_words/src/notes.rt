@@ -35,8 +35,8 @@ impl Words {
             wake: false,
             notes: set,
         });
-        let unwoken = self.set_flags(&mut seat.doer, pid, bits, event);
-        self.wake(unwoken, &seat.doer);
+        let unwoken = self.set_flags(&mut seat.caller, pid, bits, event);
+        self.wake(unwoken, &seat.caller);
         Ok(())
     }
 
@@ -47,10 +47,10 @@ impl Words {
         ensures drained { seat.new ≡ drains seat.old result }
         ensures words { IsProcessOf self.now seat.new }
     {
-        let pid = seat.doer.pid();
+        let pid = seat.caller.pid();
         let event = Event::Drain { pid };
         let word = self.flags_word(pid);
-        let found = self.swap(&mut seat.doer, word, 0, event);
+        let found = self.swap(&mut seat.caller, word, 0, event);
         flags_in(found).notes
     }
 }

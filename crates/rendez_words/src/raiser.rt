@@ -39,13 +39,13 @@ impl Words {
             let fault = Fault::NoRendez;
             return Err(Refused { seat, fault });
         }
-        let Seat { mut doer } = seat;
-        let pid = doer.pid();
+        let Seat { mut caller } = seat;
+        let pid = caller.pid();
         let event = Event::Raise { pid, rendez, level };
         let word = self.level_word(rendez);
-        self.fetch_max(&mut doer, word, level, event);
+        self.fetch_max(&mut caller, word, level, event);
         Ok(Owing {
-            doer,
+            caller,
             rendez,
             level,
         })
@@ -72,21 +72,21 @@ impl Words {
             (λ returned. IsProcessOf self.now returned.seat) (IsProcessOf self.now) }
     {
         let Owing {
-            mut doer,
+            mut caller,
             rendez,
             level,
         } = owing;
-        let pid = doer.pid();
+        let pid = caller.pid();
         let event = Event::Take { pid };
         let word = self.posted_word(rendez);
-        let found = self.empty_word(&mut doer, word, event);
+        let found = self.empty_word(&mut caller, word, event);
         if found == NOBODY {
-            let seat = Seat { doer };
+            let seat = Seat { caller };
             let done = Done { rendez, level };
             TakeAnswer::Nobody(Returned { seat, done })
         } else {
             TakeAnswer::Holding(Holding {
-                doer,
+                caller,
                 sleeper: Pid(found - 1),
                 rendez,
                 level,
@@ -107,20 +107,20 @@ impl Words {
         ensures words { IsProcessOf self.now result.seat }
     {
         let Holding {
-            mut doer,
+            mut caller,
             sleeper,
             rendez,
             level,
         } = holding;
-        let pid = doer.pid();
+        let pid = caller.pid();
         let event = Event::Mark { pid };
         let mark = word_from(ProcFlags {
             wake: true,
             notes: NoteSet::empty(),
         });
-        let unwoken = self.set_flags(&mut doer, sleeper, mark, event);
-        self.wake(unwoken, &doer);
-        let seat = Seat { doer };
+        let unwoken = self.set_flags(&mut caller, sleeper, mark, event);
+        self.wake(unwoken, &caller);
+        let seat = Seat { caller };
         let done = Done { rendez, level };
         Returned { seat, done }
     }

@@ -9,7 +9,7 @@ ghost use Rattle.rendez_words.specs.Words.{table_of, sizes_of};
 
 use crate::plays::{CheckPosted, CutParts, JoinParts, Making};
 use crate::rule::Stepper;
-use crate::states::{Asleep, Checked, Doer, Done, Seat};
+use crate::states::{Asleep, Caller, Checked, Done, Seat};
 use crate::words::Words;
 use sleep_core::Event;
 use std::marker::Brand;
@@ -40,13 +40,13 @@ impl Words {
         ensures seat { result.seat ≡ seat }
     {
         let Asleep {
-            doer,
+            caller,
             rendez,
             threshold,
         } = asleep;
-        let Doer { mut stepper, pid } = doer;
-        let Seat { doer: raiser } = seat;
-        let Doer {
+        let Caller { mut stepper, pid } = caller;
+        let Seat { caller: raiser } = seat;
+        let Caller {
             stepper: other,
             pid: other_pid,
         } = raiser;
@@ -54,18 +54,18 @@ impl Words {
         let event = Event::Check { pid: Pid(pid) };
         let found = self.check(&mut stepper, self.posted_word(rendez), event);
         let other = self.cut(&mut stepper);
-        let doer = Doer { stepper, pid };
-        let raiser = Doer {
+        let caller = Caller { stepper, pid };
+        let raiser = Caller {
             stepper: other,
             pid: other_pid,
         };
         Checked {
             asleep: Asleep {
-                doer,
+                caller,
                 rendez,
                 threshold,
             },
-            seat: Seat { doer: raiser },
+            seat: Seat { caller: raiser },
             released: found != pid + 1,
         }
     }

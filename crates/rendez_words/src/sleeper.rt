@@ -53,24 +53,24 @@ impl Words {
             let fault = Fault::BadLevel;
             return Err(Refused { seat, fault });
         }
-        let Seat { mut doer } = seat;
-        let pid = doer.pid();
+        let Seat { mut caller } = seat;
+        let pid = caller.pid();
         let event = Event::Post {
             pid,
             rendez,
             threshold,
         };
         let word = self.posted_word(rendez);
-        let found = self.compare_exchange(&mut doer, word, NOBODY, pid.0 + 1, event);
+        let found = self.compare_exchange(&mut caller, word, NOBODY, pid.0 + 1, event);
         if found == NOBODY {
             Ok(Posted {
-                doer,
+                caller,
                 rendez,
                 threshold,
             })
         } else {
             let fault = Fault::DoubleSleep;
-            let seat = Seat { doer };
+            let seat = Seat { caller };
             Err(Refused { seat, fault })
         }
     }
@@ -87,19 +87,19 @@ impl Words {
         ensures words { IfTested result (IsProcessOf self.now) (IsProcessOf self.now) }
     {
         let Posted {
-            mut doer,
+            mut caller,
             rendez,
             threshold,
         } = posted;
-        let pid = doer.pid();
+        let pid = caller.pid();
         let event = Event::Test { pid };
         let word = self.level_word(rendez);
-        let level = self.load(&mut doer, word, event);
+        let level = self.load(&mut caller, word, event);
         if level > threshold {
-            TestAnswer::Leaving(Leaving { doer, rendez })
+            TestAnswer::Leaving(Leaving { caller, rendez })
         } else {
             TestAnswer::Asleep(Asleep {
-                doer,
+                caller,
                 rendez,
                 threshold,
             })
@@ -117,15 +117,15 @@ impl Words {
         ensures words { IfLooked result (IsProcessOf self.now) (IsProcessOf self.now) }
     {
         let Asleep {
-            mut doer,
+            mut caller,
             rendez,
             threshold: _,
         } = asleep;
-        let flags = self.await_flags(rt, &mut doer, true);
+        let flags = self.await_flags(rt, &mut caller, true);
         if flags.wake {
-            LookAnswer::Woken(Woken { doer })
+            LookAnswer::Woken(Woken { caller })
         } else {
-            LookAnswer::Leaving(Leaving { doer, rendez })
+            LookAnswer::Leaving(Leaving { caller, rendez })
         }
     }
 
@@ -139,16 +139,16 @@ impl Words {
             (λ awaiting. awaiting ≡ withdraws leaving answer.Awaiting) }
         ensures words { IfWithdrawn result (IsProcessOf self.now) (IsProcessOf self.now) }
     {
-        let Leaving { mut doer, rendez } = leaving;
-        let pid = doer.pid();
+        let Leaving { mut caller, rendez } = leaving;
+        let pid = caller.pid();
         let event = Event::Withdraw { pid };
         let word = self.posted_word(rendez);
         let posted_as = pid.0 + 1;
-        let found = self.compare_exchange(&mut doer, word, posted_as, NOBODY, event);
+        let found = self.compare_exchange(&mut caller, word, posted_as, NOBODY, event);
         if found == posted_as {
-            WithdrawAnswer::Out(Out { doer })
+            WithdrawAnswer::Out(Out { caller })
         } else {
-            WithdrawAnswer::Awaiting(Awaiting { doer })
+            WithdrawAnswer::Awaiting(Awaiting { caller })
         }
     }
 
@@ -161,9 +161,9 @@ impl Words {
         ensures looked { result ≡ looks awaiting answer.Woken }
         ensures words { IsProcessOf self.now result }
     {
-        let Awaiting { mut doer } = awaiting;
-        self.await_flags(rt, &mut doer, false);
-        Woken { doer }
+        let Awaiting { mut caller } = awaiting;
+        self.await_flags(rt, &mut caller, false);
+        Woken { caller }
     }
 
     /// Ends the sleep of a process that took itself out, and takes its notes.
@@ -174,9 +174,9 @@ impl Words {
         ensures cleared { result.seat ≡ clears out result.notes }
         ensures words { IsProcessOf self.now result.seat }
     {
-        let Out { mut doer } = out;
-        let notes = self.clear(&mut doer);
-        let seat = Seat { doer };
+        let Out { mut caller } = out;
+        let notes = self.clear(&mut caller);
+        let seat = Seat { caller };
         Cleared { seat, notes }
     }
 
@@ -188,9 +188,9 @@ impl Words {
         ensures cleared { result.seat ≡ clears woken result.notes }
         ensures words { IsProcessOf self.now result.seat }
     {
-        let Woken { mut doer } = woken;
-        let notes = self.clear(&mut doer);
-        let seat = Seat { doer };
+        let Woken { mut caller } = woken;
+        let notes = self.clear(&mut caller);
+        let seat = Seat { caller };
         Cleared { seat, notes }
     }
 }

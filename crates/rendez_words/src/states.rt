@@ -6,24 +6,24 @@ use sync_base::{Fault, NoteSet, Pid, RendezId};
 
 /// A process while it makes its steps: the seat that makes them, and its pid.
 #[derive(Drop)]
-pub(crate) struct Doer {
+pub(crate) struct Caller {
     pub(crate) stepper: Stepper,
     pub(crate) pid: u64,
 }
 
-impl Model for Doer {
+impl Model for Caller {
     ghost use Rattle.rendez_words.specs.Process.{Process};
 
     ghost Value = { Process };
 
     ghost use Rattle.rendez_words.specs.States.{process_at, IsStepperOf};
 
-    ghost view = { λ doer. process_at doer.stepper doer.pid };
+    ghost view = { λ caller. process_at caller.stepper caller.pid };
 
-    ghost invariant = { λ doer. IsStepperOf doer.stepper doer.pid };
+    ghost invariant = { λ caller. IsStepperOf caller.stepper caller.pid };
 }
 
-impl Doer {
+impl Caller {
     ghost use Rattle.std.specs.Prelude.{◌≡◌};
     ghost use Rattle.rendez_words.specs.Process.{pid_in};
 
@@ -38,7 +38,7 @@ impl Doer {
 #[derive(Drop)]
 #[must_use]
 pub struct Seat {
-    pub(crate) doer: Doer,
+    pub(crate) caller: Caller,
 }
 
 impl Model for Seat {
@@ -48,15 +48,15 @@ impl Model for Seat {
 
     ghost Value = { Process };
 
-    ghost view = { λ seat. seat.doer };
+    ghost view = { λ seat. seat.caller };
 
-    ghost invariant = { λ seat. phase_in seat.doer ≡ phase.Idle };
+    ghost invariant = { λ seat. phase_in seat.caller ≡ phase.Idle };
 }
 
 /// A process that is posted and has yet to test. `test` spends it.
 #[must_use]
 pub struct Posted {
-    pub(crate) doer: Doer,
+    pub(crate) caller: Caller,
     pub(crate) rendez: RendezId,
     pub(crate) threshold: u64,
 }
@@ -68,16 +68,16 @@ impl Model for Posted {
 
     ghost Value = { Process };
 
-    ghost view = { λ posted. posted.doer };
+    ghost view = { λ posted. posted.caller };
 
     ghost invariant = { λ posted.
-        phase_in posted.doer ≡ phase.Posted posted.rendez posted.threshold };
+        phase_in posted.caller ≡ phase.Posted posted.rendez posted.threshold };
 }
 
 /// A process that waits for a wakeup or for notes. `look` spends it.
 #[must_use]
 pub struct Asleep {
-    pub(crate) doer: Doer,
+    pub(crate) caller: Caller,
     pub(crate) rendez: RendezId,
     pub(crate) threshold: u64,
 }
@@ -89,16 +89,16 @@ impl Model for Asleep {
 
     ghost Value = { Process };
 
-    ghost view = { λ asleep. asleep.doer };
+    ghost view = { λ asleep. asleep.caller };
 
     ghost invariant = { λ asleep.
-        phase_in asleep.doer ≡ phase.Asleep asleep.rendez asleep.threshold };
+        phase_in asleep.caller ≡ phase.Asleep asleep.rendez asleep.threshold };
 }
 
 /// A process that has no reason to wait any more. `withdraw` spends it.
 #[must_use]
 pub struct Leaving {
-    pub(crate) doer: Doer,
+    pub(crate) caller: Caller,
     pub(crate) rendez: RendezId,
 }
 
@@ -109,16 +109,16 @@ impl Model for Leaving {
 
     ghost Value = { Process };
 
-    ghost view = { λ leaving. leaving.doer };
+    ghost view = { λ leaving. leaving.caller };
 
     ghost invariant = { λ leaving.
-        phase_in leaving.doer ≡ phase.Leaving leaving.rendez };
+        phase_in leaving.caller ≡ phase.Leaving leaving.rendez };
 }
 
 /// A process that a wakeup has taken and not yet marked. `look_mark` spends it.
 #[must_use]
 pub struct Awaiting {
-    pub(crate) doer: Doer,
+    pub(crate) caller: Caller,
 }
 
 impl Model for Awaiting {
@@ -128,16 +128,16 @@ impl Model for Awaiting {
 
     ghost Value = { Process };
 
-    ghost view = { λ awaiting. awaiting.doer };
+    ghost view = { λ awaiting. awaiting.caller };
 
     ghost invariant = { λ awaiting.
-        phase_in awaiting.doer ≡ phase.Awaiting };
+        phase_in awaiting.caller ≡ phase.Awaiting };
 }
 
 /// A process that saw the mark of the wakeup that took it. `clear_woken` spends it.
 #[must_use]
 pub struct Woken {
-    pub(crate) doer: Doer,
+    pub(crate) caller: Caller,
 }
 
 impl Model for Woken {
@@ -147,16 +147,16 @@ impl Model for Woken {
 
     ghost Value = { Process };
 
-    ghost view = { λ woken. woken.doer };
+    ghost view = { λ woken. woken.caller };
 
     ghost invariant = { λ woken.
-        phase_in woken.doer ≡ phase.Woken };
+        phase_in woken.caller ≡ phase.Woken };
 }
 
 /// A process that took itself out of the Rendez. `clear_out` spends it.
 #[must_use]
 pub struct Out {
-    pub(crate) doer: Doer,
+    pub(crate) caller: Caller,
 }
 
 impl Model for Out {
@@ -166,16 +166,16 @@ impl Model for Out {
 
     ghost Value = { Process };
 
-    ghost view = { λ out. out.doer };
+    ghost view = { λ out. out.caller };
 
     ghost invariant = { λ out.
-        phase_in out.doer ≡ phase.Out };
+        phase_in out.caller ≡ phase.Out };
 }
 
 /// A process that has raised a level and has yet to take the sleeper. `take` spends it.
 #[must_use]
 pub struct Owing {
-    pub(crate) doer: Doer,
+    pub(crate) caller: Caller,
     pub(crate) rendez: RendezId,
     pub(crate) level: u64,
 }
@@ -187,16 +187,16 @@ impl Model for Owing {
 
     ghost Value = { Process };
 
-    ghost view = { λ owing. owing.doer };
+    ghost view = { λ owing. owing.caller };
 
     ghost invariant = { λ owing.
-        phase_in owing.doer ≡ phase.Owing owing.rendez owing.level };
+        phase_in owing.caller ≡ phase.Owing owing.rendez owing.level };
 }
 
 /// A process that took a sleeper and has yet to mark it. `mark` spends it.
 #[must_use]
 pub struct Holding {
-    pub(crate) doer: Doer,
+    pub(crate) caller: Caller,
     pub(crate) sleeper: Pid,
     pub(crate) rendez: RendezId,
     pub(crate) level: u64,
@@ -209,10 +209,10 @@ impl Model for Holding {
 
     ghost Value = { Process };
 
-    ghost view = { λ holding. holding.doer };
+    ghost view = { λ holding. holding.caller };
 
     ghost invariant = { λ holding.
-        phase_in holding.doer ≡ phase.Holding holding.sleeper holding.rendez holding.level };
+        phase_in holding.caller ≡ phase.Holding holding.sleeper holding.rendez holding.level };
 }
 
 impl Holding {

@@ -12,7 +12,7 @@ ghost use Rattle.rendez_words.specs.Words.{table_of, sizes_of, procs_of, rendez_
 
 use crate::parking::Unwoken;
 use crate::plays::{Make, MakeWhereEmpty, Making};
-use crate::states::Doer;
+use crate::states::Caller;
 use crate::view::LINE;
 use crate::words::Words;
 use sleep_core::Event;
@@ -45,181 +45,193 @@ impl Words {
     }
 
     /// Reads the word.
-    pub(crate) fn load(&self, doer: &mut Doer, word: usize, event: Event) -> u64
-        requires table { doer.old.table ≡ table_of self.now }
-        requires step { IsStep (sizes_of self.now) event (part_of doer.old) word (λ n. n) }
-        ensures table { doer.new.table ≡ doer.old.table }
+    pub(crate) fn load(&self, caller: &mut Caller, word: usize, event: Event) -> u64
+        requires table { caller.old.table ≡ table_of self.now }
+        requires step { IsStep (sizes_of self.now) event (part_of caller.old) word (λ n. n) }
+        ensures table { caller.new.table ≡ caller.old.table }
         ensures made { HasMade (sizes_of self.now) event
-            (part_of doer.old) result (part_of doer.new) }
+            (part_of caller.old) result (part_of caller.new) }
     {
-        self.load_for::<Brand>(doer, word, &event)
+        self.load_for::<Brand>(caller, word, &event)
     }
 
-    fn load_for<M: Making>(&self, doer: &mut Doer, word: usize, _event: &Event) -> u64
+    fn load_for<M: Making>(&self, caller: &mut Caller, word: usize, _event: &Event) -> u64
         requires sizes { M.sizes ≡ sizes_of self.now }
-        requires table { doer.old.table ≡ table_of self.now }
-        requires step { IsStep M.sizes M.event (part_of doer.old) word (λ n. n) }
-        ensures table { doer.new.table ≡ doer.old.table }
-        ensures made { HasMade M.sizes M.event (part_of doer.old) result (part_of doer.new) }
+        requires table { caller.old.table ≡ table_of self.now }
+        requires step { IsStep M.sizes M.event (part_of caller.old) word (λ n. n) }
+        ensures table { caller.new.table ≡ caller.old.table }
+        ensures made { HasMade M.sizes M.event (part_of caller.old) result (part_of caller.new) }
     {
-        self.table.shared.load::<Make<M>>(&mut doer.stepper, word)
+        self.table.shared.load::<Make<M>>(&mut caller.stepper, word)
     }
 
     /// Writes the word, and answers what it was.
-    pub(crate) fn swap(&self, doer: &mut Doer, word: usize, new: u64, event: Event) -> u64
-        requires table { doer.old.table ≡ table_of self.now }
-        requires step { IsStep (sizes_of self.now) event (part_of doer.old) word (λ _. new) }
-        ensures table { doer.new.table ≡ doer.old.table }
+    pub(crate) fn swap(&self, caller: &mut Caller, word: usize, new: u64, event: Event) -> u64
+        requires table { caller.old.table ≡ table_of self.now }
+        requires step { IsStep (sizes_of self.now) event (part_of caller.old) word (λ _. new) }
+        ensures table { caller.new.table ≡ caller.old.table }
         ensures made { HasMade (sizes_of self.now) event
-            (part_of doer.old) result (part_of doer.new) }
+            (part_of caller.old) result (part_of caller.new) }
     {
-        self.swap_for::<Brand>(doer, word, new, &event)
+        self.swap_for::<Brand>(caller, word, new, &event)
     }
 
-    fn swap_for<M: Making>(&self, doer: &mut Doer, word: usize, new: u64, _event: &Event) -> u64
+    fn swap_for<M: Making>(&self, caller: &mut Caller, word: usize, new: u64, _event: &Event) -> u64
         requires sizes { M.sizes ≡ sizes_of self.now }
-        requires table { doer.old.table ≡ table_of self.now }
-        requires step { IsStep M.sizes M.event (part_of doer.old) word (λ _. new) }
-        ensures table { doer.new.table ≡ doer.old.table }
-        ensures made { HasMade M.sizes M.event (part_of doer.old) result (part_of doer.new) }
+        requires table { caller.old.table ≡ table_of self.now }
+        requires step { IsStep M.sizes M.event (part_of caller.old) word (λ _. new) }
+        ensures table { caller.new.table ≡ caller.old.table }
+        ensures made { HasMade M.sizes M.event (part_of caller.old) result (part_of caller.new) }
     {
         self.table
             .shared
-            .swap::<Make<M>>(&mut doer.stepper, word, new)
+            .swap::<Make<M>>(&mut caller.stepper, word, new)
     }
 
     /// Empties the word, and answers what it was. A load that finds it empty is the step, and the
     /// word's line stays with the processes that look at it; else the step is a swap.
-    pub(crate) fn empty_word(&self, doer: &mut Doer, word: usize, event: Event) -> u64
-        requires table { doer.old.table ≡ table_of self.now }
-        requires step { IsStep (sizes_of self.now) event (part_of doer.old) word (λ _. 0) }
-        ensures table { doer.new.table ≡ doer.old.table }
+    pub(crate) fn empty_word(&self, caller: &mut Caller, word: usize, event: Event) -> u64
+        requires table { caller.old.table ≡ table_of self.now }
+        requires step { IsStep (sizes_of self.now) event (part_of caller.old) word (λ _. 0) }
+        ensures table { caller.new.table ≡ caller.old.table }
         ensures made { HasMade (sizes_of self.now) event
-            (part_of doer.old) result (part_of doer.new) }
+            (part_of caller.old) result (part_of caller.new) }
     {
-        if self.load_empty_for::<Brand>(doer, word, &event) {
+        if self.load_empty_for::<Brand>(caller, word, &event) {
             return 0;
         }
-        self.swap_for::<Brand>(doer, word, 0, &event)
+        self.swap_for::<Brand>(caller, word, 0, &event)
     }
 
     // Whether the word is empty, and then this load has made the event.
-    fn load_empty_for<M: Making>(&self, doer: &mut Doer, word: usize, _event: &Event) -> bool
+    fn load_empty_for<M: Making>(&self, caller: &mut Caller, word: usize, _event: &Event) -> bool
         requires sizes { M.sizes ≡ sizes_of self.now }
-        requires table { doer.old.table ≡ table_of self.now }
-        requires step { IsStep M.sizes M.event (part_of doer.old) word (λ _. 0) }
-        ensures table { doer.new.table ≡ doer.old.table }
+        requires table { caller.old.table ≡ table_of self.now }
+        requires step { IsStep M.sizes M.event (part_of caller.old) word (λ _. 0) }
+        ensures table { caller.new.table ≡ caller.old.table }
         ensures made { OnTrue result
-            (HasMade M.sizes M.event (part_of doer.old) 0 (part_of doer.new)) }
-        ensures same { OnFalse result (doer.new ≡ doer.old) }
+            (HasMade M.sizes M.event (part_of caller.old) 0 (part_of caller.new)) }
+        ensures same { OnFalse result (caller.new ≡ caller.old) }
     {
         let found = self
             .table
             .shared
-            .load::<MakeWhereEmpty<M>>(&mut doer.stepper, word);
+            .load::<MakeWhereEmpty<M>>(&mut caller.stepper, word);
         found == 0
     }
 
     /// Writes the word where it is `old`, and answers what it was.
     pub(crate) fn compare_exchange(
         &self,
-        doer: &mut Doer,
+        caller: &mut Caller,
         word: usize,
         old: u64,
         new: u64,
         event: Event,
     ) -> u64
-        requires table { doer.old.table ≡ table_of self.now }
-        requires step { IsStep (sizes_of self.now) event (part_of doer.old) word
+        requires table { caller.old.table ≡ table_of self.now }
+        requires step { IsStep (sizes_of self.now) event (part_of caller.old) word
             (λ n. either (n == old) new n) }
-        ensures table { doer.new.table ≡ doer.old.table }
+        ensures table { caller.new.table ≡ caller.old.table }
         ensures made { HasMade (sizes_of self.now) event
-            (part_of doer.old) result (part_of doer.new) }
+            (part_of caller.old) result (part_of caller.new) }
     {
-        self.compare_exchange_for::<Brand>(doer, word, old, new, &event)
+        self.compare_exchange_for::<Brand>(caller, word, old, new, &event)
     }
 
     fn compare_exchange_for<M: Making>(
         &self,
-        doer: &mut Doer,
+        caller: &mut Caller,
         word: usize,
         old: u64,
         new: u64,
         _event: &Event,
     ) -> u64
         requires sizes { M.sizes ≡ sizes_of self.now }
-        requires table { doer.old.table ≡ table_of self.now }
-        requires step { IsStep M.sizes M.event (part_of doer.old) word
+        requires table { caller.old.table ≡ table_of self.now }
+        requires step { IsStep M.sizes M.event (part_of caller.old) word
             (λ n. either (n == old) new n) }
-        ensures table { doer.new.table ≡ doer.old.table }
-        ensures made { HasMade M.sizes M.event (part_of doer.old) result (part_of doer.new) }
+        ensures table { caller.new.table ≡ caller.old.table }
+        ensures made { HasMade M.sizes M.event (part_of caller.old) result (part_of caller.new) }
     {
         self.table
             .shared
-            .compare_exchange::<Make<M>>(&mut doer.stepper, word, old, new)
+            .compare_exchange::<Make<M>>(&mut caller.stepper, word, old, new)
     }
 
     /// Raises the word to `least`, and answers what it was.
-    pub(crate) fn fetch_max(&self, doer: &mut Doer, word: usize, least: u64, event: Event) -> u64
-        requires table { doer.old.table ≡ table_of self.now }
-        requires step { IsStep (sizes_of self.now) event (part_of doer.old) word
+    pub(crate) fn fetch_max(
+        &self,
+        caller: &mut Caller,
+        word: usize,
+        least: u64,
+        event: Event,
+    ) -> u64
+        requires table { caller.old.table ≡ table_of self.now }
+        requires step { IsStep (sizes_of self.now) event (part_of caller.old) word
             (λ n. max n least) }
-        ensures table { doer.new.table ≡ doer.old.table }
+        ensures table { caller.new.table ≡ caller.old.table }
         ensures made { HasMade (sizes_of self.now) event
-            (part_of doer.old) result (part_of doer.new) }
+            (part_of caller.old) result (part_of caller.new) }
     {
-        self.fetch_max_for::<Brand>(doer, word, least, &event)
+        self.fetch_max_for::<Brand>(caller, word, least, &event)
     }
 
     fn fetch_max_for<M: Making>(
         &self,
-        doer: &mut Doer,
+        caller: &mut Caller,
         word: usize,
         least: u64,
         _event: &Event,
     ) -> u64
         requires sizes { M.sizes ≡ sizes_of self.now }
-        requires table { doer.old.table ≡ table_of self.now }
-        requires step { IsStep M.sizes M.event (part_of doer.old) word (λ n. max n least) }
-        ensures table { doer.new.table ≡ doer.old.table }
-        ensures made { HasMade M.sizes M.event (part_of doer.old) result (part_of doer.new) }
+        requires table { caller.old.table ≡ table_of self.now }
+        requires step { IsStep M.sizes M.event (part_of caller.old) word (λ n. max n least) }
+        ensures table { caller.new.table ≡ caller.old.table }
+        ensures made { HasMade M.sizes M.event (part_of caller.old) result (part_of caller.new) }
     {
         self.table
             .shared
-            .fetch_max::<Make<M>>(&mut doer.stepper, word, least)
+            .fetch_max::<Make<M>>(&mut caller.stepper, word, least)
     }
 
     /// Sets bits of the flags of the process, which has then yet to be woken.
-    pub(crate) fn set_flags(&self, doer: &mut Doer, pid: Pid, bits: u64, event: Event) -> Unwoken
+    pub(crate) fn set_flags(
+        &self,
+        caller: &mut Caller,
+        pid: Pid,
+        bits: u64,
+        event: Event,
+    ) -> Unwoken
         requires pid { pid.0 < procs_of self.now }
-        requires table { doer.old.table ≡ table_of self.now }
-        requires step { IsStep (sizes_of self.now) event (part_of doer.old)
+        requires table { caller.old.table ≡ table_of self.now }
+        requires step { IsStep (sizes_of self.now) event (part_of caller.old)
             (index_of (sizes_of self.now) (FlagsOf pid.0)) (λ n. bit_or n bits) }
-        ensures table { doer.new.table ≡ doer.old.table }
+        ensures table { caller.new.table ≡ caller.old.table }
         ensures made { HasMade (sizes_of self.now) event
-            (part_of doer.old) result.found (part_of doer.new) }
+            (part_of caller.old) result.found (part_of caller.new) }
         ensures pid { result.pid ≡ pid.0 }
     {
         let word = self.flags_word(pid);
-        let found = self.fetch_or_for::<Brand>(doer, word, bits, &event);
+        let found = self.fetch_or_for::<Brand>(caller, word, bits, &event);
         Unwoken::new(pid, found)
     }
 
     fn fetch_or_for<M: Making>(
         &self,
-        doer: &mut Doer,
+        caller: &mut Caller,
         word: usize,
         bits: u64,
         _event: &Event,
     ) -> u64
         requires sizes { M.sizes ≡ sizes_of self.now }
-        requires table { doer.old.table ≡ table_of self.now }
-        requires step { IsStep M.sizes M.event (part_of doer.old) word (λ n. bit_or n bits) }
-        ensures table { doer.new.table ≡ doer.old.table }
-        ensures made { HasMade M.sizes M.event (part_of doer.old) result (part_of doer.new) }
+        requires table { caller.old.table ≡ table_of self.now }
+        requires step { IsStep M.sizes M.event (part_of caller.old) word (λ n. bit_or n bits) }
+        ensures table { caller.new.table ≡ caller.old.table }
+        ensures made { HasMade M.sizes M.event (part_of caller.old) result (part_of caller.new) }
     {
         self.table
             .shared
-            .fetch_or::<Make<M>>(&mut doer.stepper, word, bits)
+            .fetch_or::<Make<M>>(&mut caller.stepper, word, bits)
     }
 }

@@ -10,7 +10,7 @@ ghost use Rattle.rendez_words.specs.Steps.{clears};
 ghost use Rattle.rendez_words.specs.Words.{IsProcessOf, sizes_of};
 
 use crate::flags_word::flags_in;
-use crate::states::Doer;
+use crate::states::Caller;
 use crate::words::Words;
 use sleep_core::{Event, ProcFlags};
 use std::hint::spin_loop;
@@ -30,33 +30,38 @@ const PAUSES: u64 = 8;
 impl Words {
     /// Looks at the flags of the process until they end its wait: with the mark of a wakeup, or,
     /// where `notes_end` says so, with notes.
-    pub(crate) fn await_flags<R: Wait>(&self, rt: &R, doer: &mut Doer, notes_end: bool) -> ProcFlags
-        requires process { IsProcessOf self.now doer.old }
-        requires looking { IsLooking notes_end (phase_in doer.old) }
-        ensures table { doer.new.table ≡ doer.old.table }
-        ensures made { HasMade (sizes_of self.now) (Look (pid_in doer.old))
-            (part_of doer.old) (flags_word result) (part_of doer.new) }
+    pub(crate) fn await_flags<R: Wait>(
+        &self,
+        rt: &R,
+        caller: &mut Caller,
+        notes_end: bool,
+    ) -> ProcFlags
+        requires process { IsProcessOf self.now caller.old }
+        requires looking { IsLooking notes_end (phase_in caller.old) }
+        ensures table { caller.new.table ≡ caller.old.table }
+        ensures made { HasMade (sizes_of self.now) (Look (pid_in caller.old))
+            (part_of caller.old) (flags_word result) (part_of caller.new) }
         ensures ends { EndsWait notes_end result }
     {
-        match self.watch(doer, notes_end) {
+        match self.watch(caller, notes_end) {
             Some(flags) => flags,
-            None => self.rest(rt, doer, notes_end),
+            None => self.rest(rt, caller, notes_end),
         }
     }
 
     // Looks for a while, with pauses and then yields between the looks.
-    fn watch(&self, doer: &mut Doer, notes_end: bool) -> Option<ProcFlags>
-        requires process { IsProcessOf self.now doer.old }
-        requires looking { IsLooking notes_end (phase_in doer.old) }
-        ensures table { doer.new.table ≡ doer.old.table }
+    fn watch(&self, caller: &mut Caller, notes_end: bool) -> Option<ProcFlags>
+        requires process { IsProcessOf self.now caller.old }
+        requires looking { IsLooking notes_end (phase_in caller.old) }
+        ensures table { caller.new.table ≡ caller.old.table }
         ensures made { IfSome result (λ flags. HasMade (sizes_of self.now)
-            (Look (pid_in doer.old)) (part_of doer.old) (flags_word flags)
-            (part_of doer.new)) }
+            (Look (pid_in caller.old)) (part_of caller.old) (flags_word flags)
+            (part_of caller.new)) }
         ensures ends { IfSome result (EndsWait notes_end) }
-        ensures same { IfNone result (doer.new ≡ doer.old) }
+        ensures same { IfNone result (caller.new ≡ caller.old) }
     {
         for looks in 0..LOOKS + YIELDS {
-            if let Ok(flags) = self.look_at(doer, notes_end) {
+            if let Ok(flags) = self.look_at(caller, notes_end) {
                 return Some(flags);
             }
             pause(looks);
@@ -65,17 +70,17 @@ impl Words {
     }
 
     // Says that the process parks, and then looks and parks in turn.
-    fn rest<R: Wait>(&self, rt: &R, doer: &mut Doer, notes_end: bool) -> ProcFlags
-        requires process { IsProcessOf self.now doer.old }
-        requires looking { IsLooking notes_end (phase_in doer.old) }
-        ensures table { doer.new.table ≡ doer.old.table }
-        ensures made { HasMade (sizes_of self.now) (Look (pid_in doer.old))
-            (part_of doer.old) (flags_word result) (part_of doer.new) }
+    fn rest<R: Wait>(&self, rt: &R, caller: &mut Caller, notes_end: bool) -> ProcFlags
+        requires process { IsProcessOf self.now caller.old }
+        requires looking { IsLooking notes_end (phase_in caller.old) }
+        ensures table { caller.new.table ≡ caller.old.table }
+        ensures made { HasMade (sizes_of self.now) (Look (pid_in caller.old))
+            (part_of caller.old) (flags_word result) (part_of caller.new) }
         ensures ends { EndsWait notes_end result }
     {
-        let announced = self.parking.announce(doer.pid());
+        let announced = self.parking.announce(caller.pid());
         for _ in rt.forever() {
-            match self.look_behind(&announced, doer, notes_end) {
+            match self.look_behind(&announced, caller, notes_end) {
                 Ok(flags) => {
                     self.parking.leave(announced);
                     return flags;
@@ -88,15 +93,15 @@ impl Words {
 
     /// Ends a sleep, and takes the notes.
     // Step Clear: swap of the flags to 0. Seat: Out or Woken, then Idle.
-    pub(crate) fn clear(&self, doer: &mut Doer) -> NoteSet
-        requires process { IsProcessOf self.now doer.old }
-        requires ending { IsEnding (phase_in doer.old) }
-        ensures cleared { doer.new ≡ clears doer.old result }
-        ensures words { IsProcessOf self.now doer.new }
+    pub(crate) fn clear(&self, caller: &mut Caller) -> NoteSet
+        requires process { IsProcessOf self.now caller.old }
+        requires ending { IsEnding (phase_in caller.old) }
+        ensures cleared { caller.new ≡ clears caller.old result }
+        ensures words { IsProcessOf self.now caller.new }
     {
-        let pid = doer.pid();
+        let pid = caller.pid();
         let word = self.flags_word(pid);
-        let found = self.swap(doer, word, 0, Event::Clear { pid });
+        let found = self.swap(caller, word, 0, Event::Clear { pid });
         flags_in(found).notes
     }
 }

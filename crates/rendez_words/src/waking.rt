@@ -7,14 +7,14 @@ ghost use Rattle.rendez_words.specs.Waking.{HasSet};
 ghost use Rattle.rendez_words.specs.Words.{sizes_of, procs_of};
 
 use crate::parking::{Found, Unwoken};
-use crate::states::Doer;
+use crate::states::Caller;
 use crate::words::Words;
 
 impl Words {
     /// Wakes the process where it parks, or is about to. Otherwise it is a load, and calls no
     /// system. Who calls it has set the flags: a process that is woken before looks, and parks
     /// again, and nobody would wake it then.
-    pub(crate) fn wake(&self, unwoken: Unwoken, _by: &Doer)
+    pub(crate) fn wake(&self, unwoken: Unwoken, _by: &Caller)
         requires pid { unwoken.pid < procs_of self.now }
         requires set { HasSet _by.now unwoken.pid }
     {

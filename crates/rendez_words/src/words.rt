@@ -6,7 +6,7 @@ ghost use Rattle.rendez_words.specs.View.{word_count};
 use crate::parking::Parking;
 use crate::plays::GivePid;
 use crate::rule::WordTable;
-use crate::states::{Doer, Pids, Seat};
+use crate::states::{Caller, Pids, Seat};
 use crate::view::{LINE, Sizes};
 use atomic_table::Table;
 use std::alloc::Global;
@@ -133,7 +133,7 @@ impl Words {
         let pid = pids.next;
         let stepper = self.table.shared.split_seat::<GivePid>(&mut pids.stepper);
         pids.next = pid + 1;
-        let doer = Doer { stepper, pid };
-        Seat { doer }
+        let caller = Caller { stepper, pid };
+        Seat { caller }
     }
 }

@@ -65,7 +65,7 @@ row_answered s event stage word due =
     ∙ ap (reply event stage) due.is_word))
 
 -- a word is of the kind that lies in its place
-abbrev IsOfKind : Cell → Word → Type 0
+abbrev pub IsOfKind : Cell → Word → Type 0
 IsOfKind (PostedOf rendez) (Number n) = Unit {0}
 IsOfKind (LevelOf rendez) (Number n) = Unit {0}
 IsOfKind (FlagsOf pid) (Flags flags) = Unit {0}
@@ -73,7 +73,7 @@ IsOfKind NoCell NoWord = Unit {0}
 IsOfKind cell word = ⊥
 
 -- what may be written in a place
-abbrev MayStore : Cell → Option Word → Type 0
+abbrev pub MayStore : Cell → Option Word → Type 0
 MayStore NoCell (Some word) = ⊥
 MayStore cell (Some word) = IsOfKind cell word
 MayStore cell None = Unit {0}
@@ -92,7 +92,7 @@ word_at-written s cell None there fits = refl
 word_at-written s cell (Some word) there fits = absurd fits
 
 -- each row writes a word of the kind that lies there
-stores_its_kind : (event : Event) (stage : Phase) (word : Word)
+pub stores_its_kind : (event : Event) (stage : Phase) (word : Word)
     → MayStore (cell_of event stage) (stored event stage word)
 stores_its_kind (Post pid rendez threshold) phase.Idle word = tt
 stores_its_kind (Withdraw pid) (phase.Leaving rendez) word =

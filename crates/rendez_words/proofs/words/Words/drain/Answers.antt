@@ -5,5 +5,5 @@ use Rattle.rendez_words.proofs.words.Words.drain.Goals as goal
 
 pub swap-found-requires-clause-step : goal.swap-found-requires-clause-step
 swap-found-requires-clause-step c =
-    drain_step c.args.self.now c.seat.inside.doer _ _ c.pid-pid.ensures
+    drain_step c.args.self.now c.seat.inside.caller _ _ c.pid-pid.ensures
     (same_process _ _ _ c.seat.view_is c.requires.seat) c.seat.invariant c.flags_word-word.ensures

@@ -4,5 +4,5 @@ use Rattle.rendez_words.proofs.words.Words.look_once.Goals as goal
 
 pub load-requires-clause-step : goal.load-requires-clause-step
 load-requires-clause-step c =
-    look_step c.args.self.now c.args.doer.now _ _ _ c.pid-pid.ensures c.requires.process
+    look_step c.args.self.now c.args.caller.now _ _ _ c.pid-pid.ensures c.requires.process
     c.requires.looking c.flags_word.ensures

@@ -14,7 +14,7 @@ set_flags-unwoken-requires-clause-pid c =
 
 pub set_flags-unwoken-requires-clause-step : goal.set_flags-unwoken-requires-clause-step
 set_flags-unwoken-requires-clause-step c =
-    mark_step c.args.self.now c.holding.inside.doer _ _ _ _ _ _ c.pid-pid.ensures
+    mark_step c.args.self.now c.holding.inside.caller _ _ _ _ _ _ c.pid-pid.ensures
     (same_process _ _ _ c.holding.view_is c.requires.holding) c.holding.invariant refl
     (c.word_from-mark.ensures ∙ ap (λ notes. flags_word (record { wake = true; notes = notes }))
     c.empty.ensures.value)

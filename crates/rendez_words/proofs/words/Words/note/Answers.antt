@@ -9,5 +9,5 @@ set_flags-unwoken-requires-clause-step c =
     let branch = c.if-pid-self.false in
     let sizes = c.args.self.now.sizes_are in
     let same = ap (λ (k : Sizes). k.procs) sizes in
-    note_step c.args.self.now c.seat.inside.doer _ _ _ _
+    note_step c.args.self.now c.seat.inside.caller _ _ _ _
     (omega arith) refl c.word_from-bits.ensures

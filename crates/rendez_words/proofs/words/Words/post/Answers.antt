@@ -10,6 +10,6 @@ compare_exchange-found-requires-clause-step c =
     let branch = c.if-rendez-self.false in
     let sizes = c.args.self.now.sizes_are in
     let same = ap (λ (k : Sizes). k.rendez) sizes in
-    post_step c.args.self.now c.seat.inside.doer _ _ _ _ c.pid-pid.ensures
+    post_step c.args.self.now c.seat.inside.caller _ _ _ _ c.pid-pid.ensures
     (same_process _ _ _ c.seat.view_is c.requires.seat) c.seat.invariant
     (omega arith) c.if-threshold-eq-TOP_LEVEL.false c.posted_word-word.ensures

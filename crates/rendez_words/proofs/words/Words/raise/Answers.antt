@@ -10,6 +10,6 @@ fetch_max-requires-clause-step c =
     let branch = c.if-rendez-self.false in
     let sizes = c.args.self.now.sizes_are in
     let same = ap (λ (k : Sizes). k.rendez) sizes in
-    raise_step c.args.self.now c.seat.inside.doer _ _ _ _ c.pid-pid.ensures
+    raise_step c.args.self.now c.seat.inside.caller _ _ _ _ c.pid-pid.ensures
     (same_process _ _ _ c.seat.view_is c.requires.seat) c.seat.invariant
     (omega arith) c.level_word-word.ensures

@@ -6,4 +6,4 @@ use Rattle.rendez_words.proofs.words.Words.rest.Given as goal
 abbrev pub invariant-loop : goal.invariant-loop
 invariant-loop g l =
     (goal.iterator-loop g).can_next l.iterator' × (goal.iterator-loop g).is_finite l.iterator'
-    × (l.doer ≡ l.fn.doer)
+    × (l.caller ≡ l.fn.caller)

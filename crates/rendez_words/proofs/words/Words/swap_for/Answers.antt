@@ -7,6 +7,6 @@ pub swap-requires : goal.swap-requires
 swap-requires g c = (
   search rules,
   step_in _ _ _ _ _ _ _ c.requires.sizes c.args.self.now.word_count c.requires.step,
-  step_allowed _ _ _ _ _ _ _ _ _ c.requires.sizes c.doer.invariant c.doer.view_is
+  step_allowed _ _ _ _ _ _ _ _ _ c.requires.sizes c.caller.invariant c.caller.view_is
       c.requires.step,
 )

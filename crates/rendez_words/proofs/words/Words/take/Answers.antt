@@ -10,7 +10,7 @@ posted_word-word-requires c = in_phase c.args.self.now _ _
 
 pub empty_word-found-requires-clause-step : goal.empty_word-found-requires-clause-step
 empty_word-found-requires-clause-step c =
-    take_step c.args.self.now c.owing.inside.doer _ _ _ _ c.pid-pid.ensures
+    take_step c.args.self.now c.owing.inside.caller _ _ _ _ c.pid-pid.ensures
     (same_process _ _ _ c.owing.view_is c.requires.owing) c.owing.invariant
     c.posted_word-word.ensures
 

@@ -9,6 +9,6 @@ level_word-word-requires c = in_phase c.args.self.now _ _
 
 pub load-level-requires-clause-step : goal.load-level-requires-clause-step
 load-level-requires-clause-step c =
-    test_step c.args.self.now c.posted.inside.doer _ _ _ _ c.pid-pid.ensures
+    test_step c.args.self.now c.posted.inside.caller _ _ _ _ c.pid-pid.ensures
     (same_process _ _ _ c.posted.view_is c.requires.posted) c.posted.invariant
     c.level_word-word.ensures

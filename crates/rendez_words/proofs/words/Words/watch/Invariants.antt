@@ -4,4 +4,4 @@ use Rattle.rendez_words.proofs.words.Words.watch.Given as goal
 
 -- no look has changed the process so far
 abbrev pub invariant-loop-looks : goal.invariant-loop-looks
-invariant-loop-looks l = l.doer ≡ l.fn.doer
+invariant-loop-looks l = l.caller ≡ l.fn.caller

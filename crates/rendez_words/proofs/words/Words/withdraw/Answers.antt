@@ -9,6 +9,6 @@ posted_word-word-requires c = in_phase c.args.self.now _ _
 
 pub compare_exchange-found-requires-clause-step : goal.compare_exchange-found-requires-clause-step
 compare_exchange-found-requires-clause-step c =
-    withdraw_step c.args.self.now c.leaving.inside.doer _ _ _ c.pid-pid.ensures
+    withdraw_step c.args.self.now c.leaving.inside.caller _ _ _ c.pid-pid.ensures
     (same_process _ _ _ c.leaving.view_is c.requires.leaving) c.leaving.invariant
     c.posted_word-word.ensures
