@@ -1,7 +1,7 @@
 -- By the numbers.
 use Rattle.std.proofs.Common.{subst}
 use Rattle.sleep_wakeup.specs.Groups.{Membership, AreGroups}
-use Rattle.sleep_wakeup.proofs.GroupLemmas.{are_disjoint}
+use Rattle.sleep_wakeup.proofs.GroupNumbers.{are_disjoint}
 use Rattle.sleep_wakeup.proofs.groups.Groups.are_groups.Goals as goal
 
 pub returns : goal.returns

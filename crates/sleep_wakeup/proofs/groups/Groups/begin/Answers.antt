@@ -1,7 +1,8 @@
 -- The number of the new group is one above the count.
 use Rattle.std.proofs.Common.{◌≡◌, ◌∙◌, ◌+◌, ap, arith, suc, set, subst}
 use Rattle.sleep_wakeup.specs.Groups.{Membership, begins, groups_by, AreNumbers}
-use Rattle.sleep_wakeup.proofs.GroupLemmas.{begun, begun_numbers, count_within}
+use Rattle.sleep_wakeup.proofs.GroupLemmas.{begun}
+use Rattle.sleep_wakeup.proofs.GroupNumbers.{begun_numbers, count_within}
 use Rattle.std.proofs.Math.ListN.{length-set}
 use Rattle.sleep_wakeup.proofs.groups.Groups.begin.Goals as goal
 

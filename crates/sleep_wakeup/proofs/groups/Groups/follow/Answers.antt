@@ -2,7 +2,8 @@
 use Rattle.std.proofs.Common.{◌≡◌, ◌∙◌, ◌+◌, sym, ap, arith, set, get_or, subst}
 use Rattle.std.proofs.lemmas.List.{get_or_default}
 use Rattle.sleep_wakeup.specs.Groups.{Membership, begins, follows, groups_by, AreNumbers}
-use Rattle.sleep_wakeup.proofs.GroupLemmas.{followed, followed_numbers, orphaned}
+use Rattle.sleep_wakeup.proofs.GroupLemmas.{followed, orphaned}
+use Rattle.sleep_wakeup.proofs.GroupNumbers.{followed_numbers}
 use Rattle.sleep_wakeup.proofs.groups.Groups.follow.Goals as goal
 
 pub invariant_of-self : goal.invariant_of-self

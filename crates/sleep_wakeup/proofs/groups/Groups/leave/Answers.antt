@@ -4,7 +4,8 @@ use Rattle.std.proofs.Common.{subst}
 use Rattle.std.proofs.Math.ListN.{length-set}
 use Rattle.std.proofs.lemmas.List.{get_or_default}
 use Rattle.sleep_wakeup.specs.Groups.{Membership, leaves, groups_by, members_from, AreNumbers}
-use Rattle.sleep_wakeup.proofs.GroupLemmas.{left, left_numbers, stayed, count_within}
+use Rattle.sleep_wakeup.proofs.GroupLemmas.{left, stayed}
+use Rattle.sleep_wakeup.proofs.GroupNumbers.{left_numbers, count_within}
 use Rattle.sleep_wakeup.proofs.groups.Groups.leave.Goals as goal
 use Rattle.sleep_wakeup.proofs.groups.Groups.leave.Goals.{
   else-pid-self-via-then-pid-self+else-size_of-gt1,

@@ -2,7 +2,7 @@
 use Rattle.std.proofs.Common.{◌≡◌, ◌∙◌, sym, ap, length, arith, List, ℕ, get_or}
 use Rattle.std.proofs.lemmas.List.{get_or_default}
 use Rattle.sleep_wakeup.specs.Groups.{Membership, group_of, members_from, notes_each}
-use Rattle.sleep_wakeup.proofs.GroupLemmas.{found}
+use Rattle.sleep_wakeup.proofs.GroupMembers.{found}
 use Rattle.sleep_wakeup.proofs.groups.Groups.post.Goals as goal
 
 members : (c : goal.After-post_to) → members_from 0 c.index.result.now c.deref.result.now
