@@ -2,11 +2,13 @@
 //! the same line, in plain Rust. It ends with status 1 where the check failed.
 //!
 //! usage: plain WAY WRITERS WRITES SIZE, where WAY is
-//!   ring     the steps of a pipe and nothing else: a ring without a lock, a wakeup of the reader
-//!            by each write and of every writer by each read, on the words of sleep and wakeup,
-//!            each step with the operation that the library has for it
-//!   channel  std's `sync_channel(16)`, whose reader checks a block where it lies, and copies none
-//!   pipe     a pipe of the system, whose reader takes as many messages at once as are there
+//!   ring       the steps of a pipe and nothing else: a ring without a lock, a wakeup of the reader
+//!              by each write and of every writer by each read, on the words of sleep and wakeup,
+//!              each on its line and each step with the operation that the library has for it;
+//!              blocks come back to their writers through the slots of the ring
+//!   channel    std's `sync_channel(16)`, whose reader checks a block where it lies, and copies none
+//!   crossbeam  the same by crossbeam's `bounded(16)`, where the program was built with it
+//!   pipe       a pipe of the system, whose reader takes as many messages at once as are there
 use std::cell::UnsafeCell;
 use std::env;
 use std::io::{self, Read, Write};
@@ -101,19 +103,29 @@ const WAKE: i32 = 129;
 const WOKEN: u32 = 1;
 const PARKED: u32 = 2;
 
-/// The words of sleep and wakeup: level and posted of each Rendez, flags of each process. The
-/// reader is process 0 and waits at Rendez 0, writer w is process w + 1 and waits at Rendez w + 1.
+/// What is written together when a process is woken.
+struct Rendez {
+    level: AtomicU64,
+    posted: AtomicU64,
+}
+
+/// The words of sleep and wakeup: those of each Rendez, and the flags of each process. The reader is
+/// process 0 and waits at Rendez 0, writer w is process w + 1 and waits at Rendez w + 1.
 struct Words {
-    level: Vec<Line<AtomicU64>>,
-    posted: Vec<Line<AtomicU64>>,
+    rendez: Vec<Line<Rendez>>,
     flags: Vec<Line<AtomicU32>>,
 }
 
 impl Words {
     fn new(procs: usize) -> Words {
+        let rendez = |_| {
+            Line(Rendez {
+                level: AtomicU64::new(0),
+                posted: AtomicU64::new(0),
+            })
+        };
         Words {
-            level: (0..procs).map(|_| Line(AtomicU64::new(0))).collect(),
-            posted: (0..procs).map(|_| Line(AtomicU64::new(0))).collect(),
+            rendez: (0..procs).map(rendez).collect(),
             flags: (0..procs).map(|_| Line(AtomicU32::new(0))).collect(),
         }
     }
@@ -121,10 +133,10 @@ impl Words {
     /// Each process sleeps at the Rendez of its own number, until its level is above the threshold
     /// or a wakeup takes the process out.
     fn sleep(&self, me: usize, threshold: u64) {
-        let posted = &self.posted[me].0;
+        let Rendez { level, posted } = &self.rendez[me].0;
         let name = me as u64 + 1;
         posted.compare_exchange(0, name, SeqCst, SeqCst).unwrap();
-        let holds = self.level[me].0.load(SeqCst) > threshold;
+        let holds = level.load(SeqCst) > threshold;
         if !(holds && posted.compare_exchange(name, 0, SeqCst, SeqCst).is_ok()) {
             self.await_mark(me);
         }
@@ -153,9 +165,13 @@ impl Words {
         }
     }
 
-    fn wakeup(&self, rendez: usize, level: u64) {
-        self.level[rendez].0.fetch_max(level, SeqCst);
-        let held = self.posted[rendez].0.swap(0, SeqCst);
+    fn wakeup(&self, rendez: usize, reached: u64) {
+        let Rendez { level, posted } = &self.rendez[rendez].0;
+        level.fetch_max(reached, SeqCst);
+        if posted.load(SeqCst) == 0 {
+            return;
+        }
+        let held = posted.swap(0, SeqCst);
         if held != 0 {
             let flags = &self.flags[held as usize - 1].0;
             if flags.fetch_or(WOKEN, SeqCst) & PARKED != 0 {
@@ -165,7 +181,8 @@ impl Words {
     }
 }
 
-/// A place of the ring: 2 · lap where it is free, and one more where its block stands.
+/// A place of the ring: 2 · lap where it is free, and one more where its block stands. Where it is
+/// free it has a block to fill, which the reader has emptied.
 struct Place {
     sequence: AtomicU64,
     block: UnsafeCell<Vec<u8>>,
@@ -194,8 +211,10 @@ impl Ring {
         }
     }
 
-    fn write(&self, writer: usize, bytes: &[u8]) {
-        let block = bytes.to_vec();
+    /// Writes into the spare block, and leaves the one that lay in the ring.
+    fn write(&self, writer: usize, spare: &mut Vec<u8>, bytes: &[u8]) {
+        spare.clear();
+        spare.extend_from_slice(bytes);
         loop {
             let tail = self.tail.0.load(SeqCst);
             assert!(tail < MARK, "nothing is written after the hangup");
@@ -208,7 +227,7 @@ impl Ring {
             } else if sequence == free
                 && self.tail.0.compare_exchange(tail, tail + 1, SeqCst, SeqCst).is_ok()
             {
-                unsafe { *place.block.get() = block };
+                unsafe { std::mem::swap(&mut *place.block.get(), spare) };
                 place.sequence.store(free + 1, SeqCst);
                 self.words.wakeup(0, tail + 1);
                 return;
@@ -217,13 +236,14 @@ impl Ring {
     }
 
     fn wake_writers(&self, level: u64) {
-        for rendez in 1..self.words.level.len() {
+        for rendez in 1..self.words.rendez.len() {
             self.words.wakeup(rendez, level);
         }
     }
 
-    /// Reads one write into the buffer, or none at the end.
-    fn read(&self, head: &mut u64, buffer: &mut [u8]) -> Option<usize> {
+    /// Reads one write into the buffer, or none at the end. It leaves the block that it emptied
+    /// before, and keeps this one.
+    fn read(&self, head: &mut u64, emptied: &mut Vec<u8>, buffer: &mut [u8]) -> Option<usize> {
         loop {
             if self.tail.0.load(SeqCst) == *head + MARK {
                 return None;
@@ -231,12 +251,12 @@ impl Ring {
             let place = &self.places[(*head % LIMIT) as usize].0;
             let free = 2 * (*head / LIMIT);
             if place.sequence.load(SeqCst) == free + 1 {
-                let block = unsafe { std::mem::take(&mut *place.block.get()) };
+                unsafe { std::mem::swap(&mut *place.block.get(), emptied) };
                 place.sequence.store(free + 2, SeqCst);
                 *head += 1;
                 self.wake_writers(*head);
-                buffer[..block.len()].copy_from_slice(&block);
-                return Some(block.len());
+                buffer[..emptied.len()].copy_from_slice(emptied);
+                return Some(emptied.len());
             }
             self.words.sleep(0, *head);
         }
@@ -256,8 +276,9 @@ fn by_ring(opts: Opts) -> Tally {
         let reader = scope.spawn(move || {
             let mut tally = Tally::new(opts);
             let mut buffer = vec![0; opts.size];
+            let mut emptied = Vec::new();
             let mut head = 0;
-            while let Some(count) = ring.read(&mut head, &mut buffer) {
+            while let Some(count) = ring.read(&mut head, &mut emptied, &mut buffer) {
                 tally.count(&buffer[..count]);
             }
             tally
@@ -266,9 +287,10 @@ fn by_ring(opts: Opts) -> Tally {
             .map(|writer| {
                 scope.spawn(move || {
                     let mut message = vec![0; opts.size];
+                    let mut spare = Vec::new();
                     for number in 0..opts.writes {
                         fill(&mut message, writer as u64, number);
-                        ring.write(writer, &message);
+                        ring.write(writer, &mut spare, &message);
                     }
                 })
             })
@@ -304,6 +326,37 @@ fn by_channel(opts: Opts) -> Tally {
         drop(to);
         reader.join().unwrap()
     })
+}
+
+#[cfg(crossbeam)]
+fn by_crossbeam(opts: Opts) -> Tally {
+    let (to, from) = crossbeam_channel::bounded::<Vec<u8>>(LIMIT as usize);
+    thread::scope(|scope| {
+        let reader = scope.spawn(move || {
+            let mut tally = Tally::new(opts);
+            for block in from {
+                tally.count(&block);
+            }
+            tally
+        });
+        for writer in 0..opts.writers {
+            let to = to.clone();
+            scope.spawn(move || {
+                let mut message = vec![0; opts.size];
+                for number in 0..opts.writes {
+                    fill(&mut message, writer as u64, number);
+                    to.send(message.clone()).unwrap();
+                }
+            });
+        }
+        drop(to);
+        reader.join().unwrap()
+    })
+}
+
+#[cfg(not(crossbeam))]
+fn by_crossbeam(_: Opts) -> Tally {
+    panic!("built without crossbeam")
 }
 
 /// Messages of up to 4,096 bytes are written whole; a longer one is whole where one writer writes.
@@ -355,6 +408,7 @@ fn main() -> io::Result<()> {
     let tally = match words[1].as_str() {
         "ring" => by_ring(opts),
         "channel" => by_channel(opts),
+        "crossbeam" => by_crossbeam(opts),
         _ => by_pipe(opts)?,
     };
     tally.say(opts);

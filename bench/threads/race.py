@@ -1,9 +1,10 @@
 #!/usr/bin/env python3
 """Prints how fast p9sync threads is beside the plain programs, in six shapes.
 
-usage: race.py ROUNDS P9SYNC PLAIN
+usage: race.py ROUNDS P9SYNC NAME=PROGRAM..
 
-First each program's line is compared with the others'. Then they run in turn, ROUNDS times each,
+Each other program is called with its name, the writers, the writes of each and their size. First each
+program's line is compared with the others'. Then they run in turn, ROUNDS times each,
 and the one that goes first moves on by one each round. Elapsed time and processor time (of the user
 and of the system together) are medians, with the least and the most behind them; a share is the
 speed of p9sync as a part of the other's in the same round, by elapsed time and by processor time.
@@ -23,7 +24,6 @@ SHAPES = [
     (64, 5_000, 16),
     (1, 50_000, 8_192),
 ]
-WAYS = ["ring", "channel", "pipe"]
 
 
 class Run(NamedTuple):
@@ -77,7 +77,7 @@ def report(messages, runs):
     ours = runs["p9sync"]
     for name, of_side in runs.items():
         rates = [messages / 1e6 / each.elapsed for each in of_side]
-        line = f"  {name:8} {shown(rates, '7.3f')}"
+        line = f"  {name:9} {shown(rates, '7.3f')}"
         line += f"  {shown([each.processor for each in of_side], '6.2f')}"
         if name != "p9sync":
             elapsed = [theirs.elapsed / mine.elapsed for mine, theirs in zip(ours, of_side)]
@@ -88,14 +88,16 @@ def report(messages, runs):
 
 
 def main():
-    rounds, p9sync, plain = int(sys.argv[1]), sys.argv[2], sys.argv[3]
+    rounds, p9sync = int(sys.argv[1]), sys.argv[2]
+    others = dict(word.split("=", 1) for word in sys.argv[3:])
     print(f"cores: {os.cpu_count()}, medians of {rounds} alternating rounds, least and most")
     print("of each: million messages a second, processor seconds, and the share of p9sync")
     for writers, writes, size in SHAPES:
         numbers = [str(writers), str(writes), str(size)]
         options = zip(["--writers", "--writes", "--size"], numbers)
         ours = [p9sync, "threads"] + [word for pair in options for word in pair]
-        programs = {"p9sync": ours} | {way: [plain, way] + numbers for way in WAYS}
+        theirs = {name: [program, name] + numbers for name, program in others.items()}
+        programs = {"p9sync": ours} | theirs
         compare(programs)
         print(f"{writers} writers, {writes} writes each, of {size} bytes")
         report(writers * writes, time_all(programs, rounds))
