@@ -156,15 +156,15 @@ write_ends_hang_up old new enters same =
 
 -- the ends of a new direction have read and written nothing
 pub new_ends_are_unused : NewEndsAreUnused
-new_ends_are_unused queue start read writes is_lane new =
+new_ends_are_unused queue start read writes is_start new =
     record {
       read_none = record {
-        first = ap (λ (q : Queue). (key_of q).first) new.queue_is ∙ is_lane.row_is.first;
+        first = ap (λ (q : Queue). (key_of q).first) new.queue_is ∙ is_start.row_is.first;
         times = 0;
         steps = ap (λ (a : Account Entry). record { account = a; parts = []; rest = read.rest })
             (new.unread
             ∙ ap reader_account
-            (is_lane.row_is.writers
+            (is_start.row_is.writers
             ∙ ap (λ (q : Queue). (key_of q).writers) (sym new.queue_is)))
             ∙ ap (λ (r : Option Part). record {
               account = reader_account (key_of read.queue).writers;
