@@ -13,8 +13,11 @@ pub mod ChainLemmas
 pub mod WaitLemmas
 pub mod WorkedPipes
 pub mod LoneLemmas
-pub mod WorkedCalls
+pub mod WorkedEntries
+pub mod WorkedReads
+pub mod WorkedWrites
 pub mod WorkedFills
+pub mod WorkedStreams
 pub mod SideLemmas
 pub mod WorkedOpenings
 pub mod WorkedEnds

@@ -1,0 +1,374 @@
+-- Reads of messages worked out by the definitions alone, and short reads that they refuse.
+use Rattle.std.proofs.Common.{◌≡◌, ◌⊎◌, ◌+◌, [], ◌∷◌, Some, None, refl, inl, inr, ap, subst, arith}
+use Rattle.std.specs.Prelude.{Ok, Err}
+use Rattle.histories.specs.declared.account.Account.{Account}
+use Rattle.sync_base.specs.declared.fault.Fault.TheVariants as fault
+use Rattle.sync_base.specs.declared.note.Note.TheVariants.{Interrupt}
+use Rattle.sync_base.specs.NoteSet.{no_notes, only}
+use Rattle.sleep_core.specs.declared.answer.Answer.TheVariants as answer
+use Rattle.rendez_words.specs.Process.{Process, TableId}
+use Rattle.rendez_words.specs.Steps.{posts}
+use Rattle.block_queue.specs.declared.entry.Entry.{Entry}
+use Rattle.block_queue.specs.declared.entry.Entry.TheVariants as entry
+use Rattle.block_queue.specs.Meaning.{Enters}
+use Rattle.pipe_dev.specs.declared.answers.ReadAnswer.TheVariants as read
+use Rattle.pipe_dev.specs.declared.answers.TryAnswer.TheVariants as try
+use Rattle.pipe_dev.specs.Chain.{IsMade, IsNoBlock, AddsNothing}
+use Rattle.pipe_dev.specs.Parts.{Part}
+use Rattle.pipe_dev.specs.ReadCalls.{Reader, Reads, Tries, GoesOn, TakesOut, FindsNotYet}
+use Rattle.pipe_dev.specs.ReadCalls.{SleepsForWrite, calling}
+use Rattle.pipe_dev.specs.Reading.{Reading}
+use Rattle.pipe_dev.specs.Rendezes.{WakesWriters}
+use Rattle.pipe_dev.proofs.ReadingLemmas.{what_is_read_is_right}
+use Rattle.pipe_dev.proofs.WorkedEntries.{a, b, tight, IsRun, seen_1, seen_5, run_1, run_5, taker}
+use Rattle.pipe_dev.proofs.WorkedEntries.{taker_enters, unread, at_rendez, rendez_row, woke, slept}
+use Rattle.pipe_dev.proofs.WorkedEntries.{sleeps, has_notes, is_not_idle}
+
+-- ---- what the reader's seat knows
+
+-- a writer's hangup, and the end behind it; and the reader's
+run_end : IsRun tight (entry.End ∷ entry.Hung 1 ∷ [])
+run_end =
+    record {
+      legal = (
+        record { may = (refl, refl); in_turn = refl },
+        (record { may = tt; in_turn = refl }, tt),
+      );
+      within = (omega arith, (omega arith, tt));
+    }
+
+run_hung : IsRun tight (entry.Hung 0 ∷ [])
+run_hung =
+    record { legal = (record { may = tt; in_turn = refl }, tt); within = (omega arith, tt) }
+
+abbrev told : Account Entry
+told = taker (entry.NotYet 0 ∷ []) seen_1
+
+abbrev has_taken : Account Entry
+has_taken = taker (entry.Block 0 a 1 ∷ entry.NotYet 0 ∷ []) seen_5
+
+abbrev has_ended : Account Entry
+has_ended = taker (entry.End ∷ []) (entry.End ∷ entry.Hung 1 ∷ [])
+
+abbrev has_hung : Account Entry
+has_hung = taker (entry.Hung 0 ∷ []) (entry.Hung 0 ∷ [])
+
+finds_nothing : Enters tight (entry.NotYet 0) unread told
+finds_nothing = taker_enters 1 (entry.NotYet 0) [] [] [] tt refl refl refl run_1
+
+takes_out : Enters tight (entry.Block 0 a 1) told has_taken
+takes_out =
+    taker_enters 1 (entry.Block 0 a 1) (entry.Full 0 b 0 ∷ entry.Stood 0 1 ∷ entry.Taken 0 a 1 ∷ [])
+    (entry.NotYet 0 ∷ []) seen_1 (refl, (refl, (refl, tt))) refl refl refl run_5
+
+finds_the_end : Enters tight entry.End unread has_ended
+finds_the_end =
+    taker_enters 1 entry.End (entry.Hung 1 ∷ []) [] [] (refl, tt) refl refl refl run_end
+
+hangs_up : Enters tight (entry.Hung 0) unread has_hung
+hangs_up = taker_enters 1 (entry.Hung 0) [] [] [] tt refl refl refl run_hung
+
+module _ (table : TableId) where
+  abbrev idle : Process
+  idle = record { table = table; pid = 0; trace = [] }
+
+  -- ---- a read
+
+  abbrev reader : Account Entry → Process → Reader
+  reader account process = record { account = account; rest = None; process = process }
+
+  abbrev reader_woken : Process
+  reader_woken = slept idle 3 0 no_notes
+
+  finds_not_yet : FindsNotYet tight 0 (reader unread idle) (reader told idle)
+  finds_not_yet =
+      record {
+        none = record { none_left = refl; entered = finds_nothing; rest = refl; process = refl };
+        fresh = λ knew. cc;
+      }
+
+  sleeps_for_a_write : SleepsForWrite tight rendez_row (reader unread idle)
+      (reader told reader_woken)
+  sleeps_for_a_write =
+      record { number = 0; found = finds_not_yet; slept = sleeps idle 3 0 no_notes }
+
+  wakes_the_writer : WakesWriters rendez_row 1 1 reader_woken (woke reader_woken 4 1)
+  wakes_the_writer =
+      record {
+        between = reader_woken;
+        others = refl;
+        last = record {
+          receipt = record { rendez = at_rendez 4; level = 1 };
+          woken = record { ends = inl refl; rendez_is = refl; level_is = refl; receipt = inl refl };
+        };
+      }
+
+  -- it slept once, and then got the write whole and woke its writer with the number 1
+  waits_and_reads : Reads tight rendez_row (calling (reader unread idle) (0 ∷ 0 ∷ 0 ∷ []))
+      (Ok (read.Got 2)) (calling (reader has_taken (woke reader_woken 4 1)) (97 ∷ 98 ∷ 0 ∷ []))
+  waits_and_reads =
+      record {
+        times = 1;
+        between = reader told reader_woken;
+        slept = record { between = reader unread idle; rounds = refl; last = sleeps_for_a_write };
+        ended = record {
+          left = record { place = 0; writer = 0; bytes = a };
+          next = inr record {
+            none_left = refl;
+            taken = takes_out;
+            woken = wakes_the_writer;
+          };
+          filled = record { count_is = refl; bytes = refl };
+          rest = refl;
+        };
+      }
+
+  reads_to_the_end : Reads tight rendez_row (calling (reader unread idle) b) (Ok read.End)
+      (calling (reader has_ended idle) b)
+  reads_to_the_end =
+      record {
+        times = 0;
+        between = reader unread idle;
+        slept = refl;
+        ended = (
+          record { none_left = refl; entered = finds_the_end; rest = refl; process = refl },
+          refl,
+        );
+      }
+
+  read_is_interrupted : Reads tight rendez_row (calling (reader unread idle) b)
+      (Err (fault.Interrupted (only Interrupt)))
+      (calling (reader told (slept idle 3 0 (only Interrupt))) b)
+  read_is_interrupted =
+      record {
+        times = 0;
+        between = reader unread idle;
+        slept = refl;
+        ended = (
+          record {
+            number = 0;
+            found = finds_not_yet;
+            failed = (sleeps idle 3 0 (only Interrupt), has_notes);
+          },
+          refl,
+        );
+      }
+
+  read_sleeps_where_another_does : Reads tight rendez_row (calling (reader unread idle) b)
+      (Err fault.DoubleSleep)
+      (calling (reader told (posts idle (at_rendez 3) 0 answer.DoubleSleep)) b)
+  read_sleeps_where_another_does =
+      record {
+        times = 0;
+        between = reader unread idle;
+        slept = refl;
+        ended = (record { number = 0; found = finds_not_yet; failed = refl }, refl);
+      }
+
+  read_of_no_bytes : Reads tight rendez_row (calling (reader unread idle) []) (Err fault.BadCount)
+      (calling (reader unread idle) [])
+  read_of_no_bytes = record { same = refl; buffer_same = refl }
+
+  read_of_another_kernel : Reads tight rendez_row (calling (reader unread idle) b)
+      (Err fault.NoRendez) (calling (reader unread idle) b)
+  read_of_another_kernel = record { same = refl; buffer_same = refl }
+
+  refused_read_asks : Reads tight rendez_row (calling (reader unread idle) b) (Err fault.NoRendez)
+      (calling (reader told idle) b) → ⊥
+  refused_read_asks reads = let seen = ap (λ (r : Reader). r.account.seen) reads.same in cc
+
+  refused_read_writes_its_buffer : Reads tight rendez_row (calling (reader unread idle) b)
+      (Err fault.BadCount) (calling (reader unread idle) a) → ⊥
+  refused_read_writes_its_buffer reads = let bytes = reads.buffer_same in cc
+
+  read_ends_for_want_of_memory : (new : Reader)
+      → Reads tight rendez_row (calling (reader unread idle) b) (Err fault.Memory) (calling new b)
+      → ⊥
+  read_ends_for_want_of_memory new reads = reads.ended.0.failed
+
+  read_tries_again_at_once : SleepsForWrite tight rendez_row (reader unread idle)
+      (reader told idle) → ⊥
+  read_tries_again_at_once sleeps =
+      let trace = ap (λ (p : Process). p.trace) sleeps.slept.leaves.cleared in cc
+
+  -- ---- a read that does not wait
+
+  abbrev second_byte : Part
+  second_byte = record { place = 0; writer = 0; bytes = 98 ∷ [] }
+
+  -- a reader that has read the first byte of the write and holds the second
+  abbrev begun : Process → Reader
+  begun process = record { account = has_taken; rest = Some second_byte; process = process }
+
+  tries_and_begins : Tries tight rendez_row (calling (reader told reader_woken) (0 ∷ []))
+      (try.Got 1) (calling (begun (woke reader_woken 4 1)) (97 ∷ []))
+  tries_and_begins =
+      record {
+        left = record { place = 0; writer = 0; bytes = a };
+        next = inr record {
+          none_left = refl;
+          taken = takes_out;
+          woken = wakes_the_writer;
+        };
+        filled = record { count_is = refl; bytes = refl };
+        rest = refl;
+      }
+
+  tries_and_goes_on : Tries tight rendez_row (calling (begun idle) (0 ∷ 0 ∷ [])) (try.Got 1)
+      (calling (reader has_taken idle) (98 ∷ 0 ∷ []))
+  tries_and_goes_on =
+      record {
+        left = second_byte;
+        next = inl record { left_is = refl; account = refl; process = refl };
+        filled = record { count_is = refl; bytes = refl };
+        rest = refl;
+      }
+
+  tries_too_early : Tries tight rendez_row (calling (reader unread idle) b) try.NotYet
+      (calling (reader told idle) b)
+  tries_too_early = (record { number = 0; found = finds_not_yet }, refl)
+
+  tries_at_the_end : Tries tight rendez_row (calling (reader unread idle) b) try.End
+      (calling (reader has_ended idle) b)
+  tries_at_the_end =
+      (record { none_left = refl; entered = finds_the_end; rest = refl; process = refl }, refl)
+
+  try_wakes_no_writer : Tries tight rendez_row (calling (reader told idle) (0 ∷ [])) (try.Got 1)
+      (calling (begun idle) (97 ∷ [])) → ⊥
+  try_wakes_no_writer tries = by tries.left tries.next
+    where
+      by : (left : Part) → GoesOn (reader told idle) left (begun idle)
+          ⊎ TakesOut tight rendez_row (reader told idle) left (begun idle) → ⊥
+      by left (inl goes) = let none = goes.left_is in cc
+      by left (inr out) =
+          is_not_idle table out.woken.between (left.place + 1) out.woken.last.woken.ends
+
+  try_sleeps : Tries tight rendez_row (calling (reader unread idle) b) try.NotYet
+      (calling (reader told reader_woken) b) → ⊥
+  try_sleeps tries = let trace = ap (λ (p : Process). p.trace) tries.0.found.none.process in cc
+
+  try_at_the_end_fills_its_buffer : Tries tight rendez_row (calling (reader unread idle) b) try.End
+      (calling (reader has_ended idle) a) → ⊥
+  try_at_the_end_fills_its_buffer tries = let bytes = tries.1 in cc
+
+  -- ---- what calls make of a read end
+
+  -- two calls: nothing was there; and then one byte of two was read
+  made_by_two_calls : IsMade tight
+      (record {
+        account = has_taken;
+        parts = record { place = 0; writer = 0; bytes = 97 ∷ [] } ∷ [];
+        rest = Some (record { place = 0; writer = 0; bytes = 98 ∷ [] });
+      })
+  made_by_two_calls =
+      record {
+        first = refl;
+        times = 2;
+        steps = record {
+          between = record { account = told; parts = []; rest = None };
+          rounds = record {
+            between = record { account = unread; parts = []; rest = None };
+            rounds = refl;
+            last = inr record {
+              entry = entry.NotYet 0;
+              entered = finds_nothing;
+              no_block = tt;
+              rest = refl;
+              parts = refl;
+            };
+          };
+          last = inl record {
+            room = 1;
+            some_room = omega arith;
+            part = record { place = 0; writer = 0; bytes = 97 ∷ [] };
+            taken = record {
+              left = record { place = 0; writer = 0; bytes = a };
+              next = inr record { none_left = refl; taken = takes_out };
+              part_is = refl;
+              rest = refl;
+            };
+            parts = refl;
+          };
+        };
+      }
+
+  made_of_nothing : IsMade tight
+      (record {
+        account = unread;
+        parts = record { place = 0; writer = 0; bytes = a } ∷ [];
+        rest = None;
+      }) → ⊥
+  made_of_nothing made = let whole = (what_is_read_is_right tight _ made).right.whole in cc
+
+  abbrev nothing_read : Account Entry → Reading
+  nothing_read account = record { account = account; parts = []; rest = None }
+
+  abbrev first_write : Part
+  first_write = record { place = 0; writer = 0; bytes = a }
+
+  -- a call found the end
+  ends_unread : AddsNothing tight (nothing_read unread) (nothing_read has_ended)
+  ends_unread =
+      record {
+        entry = entry.End;
+        entered = finds_the_end;
+        no_block = tt;
+        rest = refl;
+        parts = refl;
+      }
+
+  made_by_an_end : IsMade tight (nothing_read has_ended)
+  made_by_an_end =
+      record {
+        first = refl;
+        times = 1;
+        steps = record {
+          between = nothing_read unread;
+          rounds = refl;
+          last = inr ends_unread;
+        };
+      }
+
+  -- a call hung the direction up
+  made_by_a_hangup : IsMade tight (nothing_read has_hung)
+  made_by_a_hangup =
+      record {
+        first = refl;
+        times = 1;
+        steps = record {
+          between = nothing_read unread;
+          rounds = refl;
+          last = inr record {
+            entry = entry.Hung 0;
+            entered = hangs_up;
+            no_block = tt;
+            rest = refl;
+            parts = refl;
+          };
+        };
+      }
+
+  end_adds_a_part : AddsNothing tight (nothing_read unread)
+      (record { account = has_ended; parts = first_write ∷ []; rest = None }) → ⊥
+  end_adds_a_part adds = let parts = adds.parts in cc
+
+  hangup_leaves_a_rest : AddsNothing tight (nothing_read unread)
+      (record { account = has_hung; parts = []; rest = Some first_write }) → ⊥
+  hangup_leaves_a_rest adds = let rest = adds.rest in cc
+
+  -- a write that was taken out is read
+  block_is_not_read : AddsNothing tight (nothing_read told) (nothing_read has_taken) → ⊥
+  block_is_not_read adds =
+      let seen = ap (λ (x : Account Entry). x.seen) adds.entered.adds.new_is in
+      let same : adds.entry ≡ entry.Block 0 a 1 = cc in
+      subst IsNoBlock same adds.no_block
+
+  made_of_a_part_at_the_end : IsMade tight
+      (record { account = has_ended; parts = first_write ∷ []; rest = None }) → ⊥
+  made_of_a_part_at_the_end made =
+      let whole = (what_is_read_is_right tight _ made).right.whole in cc
+
+  made_of_a_rest_at_a_hangup : IsMade tight
+      (record { account = has_hung; parts = []; rest = Some first_write }) → ⊥
+  made_of_a_rest_at_a_hangup made =
+      let whole = (what_is_read_is_right tight _ made).right.whole in cc

@@ -1,0 +1,408 @@
+-- Reads in stream mode worked out by the definitions alone, and the shortest ones that are refused.
+use Rattle.std.proofs.Common.{◌≡◌, ℕ, List, [], ◌∷◌, Some, None, refl, sym, ◌∙◌, inl, inr, ap}
+use Rattle.std.proofs.Common.{arith, length, map, length-append}
+use Rattle.std.specs.Prelude.{Ok, Err}
+use Rattle.histories.specs.declared.account.Account.{Account}
+use Rattle.sync_base.specs.declared.fault.Fault.TheVariants as fault
+use Rattle.sync_base.specs.declared.mode.Mode.TheVariants.{Stream}
+use Rattle.sync_base.specs.declared.note.Note.TheVariants.{Interrupt}
+use Rattle.sync_base.specs.NoteSet.{no_notes, only}
+use Rattle.sleep_core.specs.declared.answer.Answer.TheVariants as answer
+use Rattle.rendez_words.specs.Process.{Process, TableId}
+use Rattle.rendez_words.specs.Steps.{posts, raises}
+use Rattle.sleep_wakeup.specs.Calls.{Ends}
+use Rattle.block_queue.specs.declared.entry.Entry.{Entry}
+use Rattle.block_queue.specs.declared.entry.Entry.TheVariants as entry
+use Rattle.block_queue.specs.Meaning.{Enters}
+use Rattle.pipe_dev.specs.declared.answers.ReadAnswer.TheVariants as read
+use Rattle.pipe_dev.specs.declared.answers.TryAnswer.TheVariants as try
+use Rattle.pipe_dev.specs.declared.filling.Stop.TheVariants as stop
+use Rattle.pipe_dev.specs.declared.row.Row.{Row}
+use Rattle.pipe_dev.specs.Parts.{Part, bytes_of}
+use Rattle.pipe_dev.specs.ReadCalls.{Reader, Reads, Tries, calling, TriesOn, SleepsOn, came_to}
+use Rattle.pipe_dev.specs.Rendezes.{WakesWriters, WakesWith}
+use Rattle.pipe_dev.specs.Filling.{begins, last_number}
+use Rattle.pipe_dev.proofs.WorkedEntries.{a, b, IsRun, taker, taker_enters, unread, at_rendez, woke}
+use Rattle.pipe_dev.proofs.WorkedEntries.{slept, sleeps, has_notes, is_not_idle}
+use Rattle.pipe_dev.proofs.WorkedFills.{part, loose, one_out, two_out, all_out, told, takes_first}
+use Rattle.pipe_dev.proofs.WorkedFills.{finds_none, free, filling, fills_first, fills_second}
+use Rattle.pipe_dev.proofs.WorkedFills.{fills_third}
+
+-- ---- a try, and a read, of that direction and of two more
+
+abbrev row : Row
+row = record { first = 3; writers = 1; mode = Stream; small = omega arith }
+
+-- a direction with an empty write alone, and one that is hung up
+abbrev empty_written : List Entry
+empty_written = entry.Stood 0 1 ∷ entry.Taken 0 [] 1 ∷ []
+
+abbrev empty_out : List Entry
+empty_out = entry.Block 0 [] 1 ∷ empty_written
+
+run_empty_out : IsRun loose empty_out
+run_empty_out =
+    record {
+      legal = (
+        record { may = record { next = refl; number_is = refl }; in_turn = refl },
+        (
+          record { may = tt; in_turn = refl },
+          (
+            record {
+              may = record { may = (refl, omega arith); number_is = refl; given = omega arith };
+              in_turn = refl;
+            },
+            tt,
+          ),
+        ),
+      );
+      within = (omega arith, (omega arith, (omega arith, tt)));
+    }
+
+run_nothing : IsRun loose (entry.NotYet 1 ∷ empty_out)
+run_nothing =
+    record {
+      legal = (
+        record { may = record { none = inl refl; number_is = refl }; in_turn = refl },
+        run_empty_out.legal,
+      );
+      within = (omega arith, run_empty_out.within);
+    }
+
+run_ended : IsRun loose (entry.End ∷ entry.Hung 1 ∷ [])
+run_ended =
+    record {
+      legal = (
+        record { may = (refl, refl); in_turn = refl },
+        (record { may = tt; in_turn = refl }, tt),
+      );
+      within = (omega arith, (omega arith, tt));
+    }
+
+abbrev passed : Account Entry
+passed = taker (entry.Block 0 [] 1 ∷ []) empty_out
+
+abbrev told_empty : Account Entry
+told_empty = taker (entry.NotYet 1 ∷ entry.Block 0 [] 1 ∷ []) (entry.NotYet 1 ∷ empty_out)
+
+abbrev has_ended : Account Entry
+has_ended = taker (entry.End ∷ []) (entry.End ∷ entry.Hung 1 ∷ [])
+
+takes_empty : Enters loose (entry.Block 0 [] 1) unread passed
+takes_empty =
+    taker_enters 4 (entry.Block 0 [] 1) empty_written [] [] (refl, (refl, tt)) refl refl refl
+    run_empty_out
+
+finds_nothing : Enters loose (entry.NotYet 1) passed told_empty
+finds_nothing =
+    taker_enters 4 (entry.NotYet 1) [] (entry.Block 0 [] 1 ∷ []) empty_out tt refl refl refl
+    run_nothing
+
+finds_the_end : Enters loose entry.End unread has_ended
+finds_the_end =
+    taker_enters 4 entry.End (entry.Hung 1 ∷ []) [] [] (refl, tt) refl refl refl run_ended
+
+module _ (table : TableId) where
+  abbrev idle : Process
+  idle = record { table = table; pid = 0; trace = [] }
+
+  abbrev reader : Account Entry → Process → Reader
+  reader account process = record { account = account; rest = None; process = process }
+
+  abbrev zeros : List ℕ
+  zeros = 0 ∷ 0 ∷ 0 ∷ 0 ∷ []
+
+  wakes_with_three : WakesWriters row 1 3 idle (woke idle 4 3)
+  wakes_with_three =
+      record {
+        between = idle;
+        others = refl;
+        last = record {
+          receipt = record { rendez = at_rendez 4; level = 3 };
+          woken = record { ends = inl refl; rendez_is = refl; level_is = refl; receipt = inl refl };
+        };
+      }
+
+  -- it joined all three writes, was told that no more are there, and then woke its writer once
+  joins_all : TriesOn loose row (calling (reader unread idle) zeros)
+      (came_to 3 (stop.NotYet 3))
+      (calling (reader told (woke idle 4 3)) (97 ∷ 98 ∷ 99 ∷ 0 ∷ []))
+  joins_all =
+      record {
+        fills = record {
+          times = 3;
+          filling = filling all_out (part 2 b ∷ part 1 [] ∷ part 0 a ∷ []);
+          taken = record {
+            between = filling two_out (part 1 [] ∷ part 0 a ∷ []);
+            rounds = record {
+              between = filling one_out (part 0 a ∷ []);
+              rounds = record {
+                between = begins (free unread);
+                rounds = refl;
+                last = fills_first;
+              };
+              last = fills_second;
+            };
+            last = fills_third;
+          };
+          stopped = (
+            refl,
+            record {
+              nothing = record { none_left = refl; entered = finds_none; rest = refl };
+              fresh = λ knew. cc;
+            },
+          );
+          filled = record { count_is = refl; bytes_are = refl };
+        };
+        woken = wakes_with_three;
+      }
+
+  -- so it is answered
+  answers_all : Tries loose row (calling (reader unread idle) zeros) (try.Got 3)
+      (calling (reader told (woke idle 4 3)) (97 ∷ 98 ∷ 99 ∷ 0 ∷ []))
+  answers_all = record { why = stop.NotYet 3; tried = joins_all; got = refl }
+
+  reads_all : Reads loose row (calling (reader unread idle) zeros) (Ok (read.Got 3))
+      (calling (reader told (woke idle 4 3)) (97 ∷ 98 ∷ 99 ∷ 0 ∷ []))
+  reads_all =
+      record {
+        times = 0;
+        between = calling (reader unread idle) zeros;
+        slept = refl;
+        ended = answers_all;
+      }
+
+  -- a wakeup is a step at least
+  wakes_nobody : (level : ℕ) → WakesWriters row 1 level idle idle → ⊥
+  wakes_nobody level woken = is_not_idle table woken.between level woken.last.woken.ends
+
+  -- a try that took all three writes out and wakes nobody is none
+  not_woken : WakesWith row (last_number None (part 2 b ∷ part 1 [] ∷ part 0 a ∷ [])) idle idle → ⊥
+  not_woken woken = wakes_nobody 3 woken
+
+  -- nor is one that passed an empty write alone and would sleep with its writer not woken
+  sleeps_unwoken : WakesWith row (last_number None (part 0 [] ∷ [])) idle idle → ⊥
+  sleeps_unwoken woken = wakes_nobody 1 woken
+
+  -- nor is one that wakes with the number of the first write that it took out
+  wakes_with_the_first :
+      WakesWith row (last_number None (part 2 b ∷ part 1 [] ∷ part 0 a ∷ [])) idle (woke idle 4 1)
+      → ⊥
+  wakes_with_the_first woken = by woken.last.woken.ends
+    where
+      by : Ends (raises woken.between (at_rendez 4) 3) (woke idle 4 1) → ⊥
+      by (inl nobody) =
+          let events = ap (λ (p : Process). map (λ step. step.event) p.trace) nobody in
+          cc
+      by (inr sleeper) = let trace = ap (λ (p : Process). p.trace) sleeper.1 in cc
+
+  -- ---- a write that is begun, and what is left of it
+
+  wakes_with_one : WakesWriters row 1 1 idle (woke idle 4 1)
+  wakes_with_one =
+      record {
+        between = idle;
+        others = refl;
+        last = record {
+          receipt = record { rendez = at_rendez 4; level = 1 };
+          woken = record { ends = inl refl; rendez_is = refl; level_is = refl; receipt = inl refl };
+        };
+      }
+
+  abbrev second_byte : Part
+  second_byte = part 0 (98 ∷ [])
+
+  abbrev begun : Process → Reader
+  begun process = record { account = one_out; rest = Some second_byte; process = process }
+
+  -- one byte of the first write fills its buffer, and the other is kept
+  begins_a_write : TriesOn loose row (calling (reader unread idle) (0 ∷ [])) (came_to 1 stop.Enough)
+      (calling (begun (woke idle 4 1)) (97 ∷ []))
+  begins_a_write =
+      record {
+        fills = record {
+          times = 1;
+          filling = record {
+            taker = record { account = one_out; rest = Some second_byte };
+            parts = part 0 (97 ∷ []) ∷ [];
+          };
+          taken = record {
+            between = begins (free unread);
+            rounds = refl;
+            last = record {
+              further = refl;
+              part = part 0 (97 ∷ []);
+              taken = record {
+                left = part 0 a;
+                next = inr record { none_left = refl; taken = takes_first };
+                part_is = refl;
+                rest = refl;
+              };
+              parts = refl;
+            };
+          };
+          stopped = (refl, refl);
+          filled = record { count_is = refl; bytes_are = refl };
+        };
+        woken = wakes_with_one;
+      }
+
+  -- the other is read next, and nobody is woken for it
+  goes_on_in_it : TriesOn loose row (calling (begun idle) (0 ∷ [])) (came_to 1 stop.Enough)
+      (calling (reader one_out idle) (98 ∷ []))
+  goes_on_in_it =
+      record {
+        fills = record {
+          times = 1;
+          filling = filling one_out (second_byte ∷ []);
+          taken = record {
+            between = begins (record { account = one_out; rest = Some second_byte });
+            rounds = refl;
+            last = record {
+              further = refl;
+              part = second_byte;
+              taken = record {
+                left = second_byte;
+                next = inl record { left_is = refl; account = refl };
+                part_is = refl;
+                rest = refl;
+              };
+              parts = refl;
+            };
+          };
+          stopped = (refl, refl);
+          filled = record { count_is = refl; bytes_are = refl };
+        };
+        woken = refl;
+      }
+
+  tries_a_byte : Tries loose row (calling (begun idle) (0 ∷ [])) (try.Got 1)
+      (calling (reader one_out idle) (98 ∷ []))
+  tries_a_byte = record { why = stop.Enough; tried = goes_on_in_it; got = refl }
+
+  -- ---- no byte
+
+  -- an empty write was passed, for which the writer was woken
+  passes_an_empty_write : TriesOn loose row (calling (reader unread idle) b)
+      (came_to 0 (stop.NotYet 1)) (calling (reader told_empty (woke idle 4 1)) b)
+  passes_an_empty_write =
+      record {
+        fills = record {
+          times = 1;
+          filling = filling passed (part 0 [] ∷ []);
+          taken = record {
+            between = begins (free unread);
+            rounds = refl;
+            last = record {
+              further = refl;
+              part = part 0 [];
+              taken = record {
+                left = part 0 [];
+                next = inr record { none_left = refl; taken = takes_empty };
+                part_is = refl;
+                rest = refl;
+              };
+              parts = refl;
+            };
+          };
+          stopped = (
+            refl,
+            record {
+              nothing = record { none_left = refl; entered = finds_nothing; rest = refl };
+              fresh = λ knew. cc;
+            },
+          );
+          filled = record { count_is = refl; bytes_are = refl };
+        };
+        woken = wakes_with_one;
+      }
+
+  tries_too_early : Tries loose row (calling (reader unread idle) b) try.NotYet
+      (calling (reader told_empty (woke idle 4 1)) b)
+  tries_too_early = record { number = 1; tried = passes_an_empty_write }
+
+  -- it wakes first, and then sleeps with the number that it was told
+  passes_and_sleeps : SleepsOn loose row (calling (reader unread idle) b)
+      (calling (reader told_empty (slept (woke idle 4 1) 3 1 no_notes)) b)
+  passes_and_sleeps =
+      record {
+        number = 1;
+        before = woke idle 4 1;
+        tried = passes_an_empty_write;
+        slept = sleeps (woke idle 4 1) 3 1 no_notes;
+      }
+
+  read_is_interrupted : Reads loose row (calling (reader unread idle) b)
+      (Err (fault.Interrupted (only Interrupt)))
+      (calling (reader told_empty (slept (woke idle 4 1) 3 1 (only Interrupt))) b)
+  read_is_interrupted =
+      record {
+        times = 0;
+        between = calling (reader unread idle) b;
+        slept = refl;
+        ended = record {
+          number = 1;
+          before = woke idle 4 1;
+          tried = passes_an_empty_write;
+          failed = (sleeps (woke idle 4 1) 3 1 (only Interrupt), has_notes);
+        };
+      }
+
+  read_sleeps_where_another_does : Reads loose row (calling (reader unread idle) b)
+      (Err fault.DoubleSleep)
+      (calling (reader told_empty (posts (woke idle 4 1) (at_rendez 3) 1 answer.DoubleSleep)) b)
+  read_sleeps_where_another_does =
+      record {
+        times = 0;
+        between = calling (reader unread idle) b;
+        slept = refl;
+        ended = record {
+          number = 1;
+          before = woke idle 4 1;
+          tried = passes_an_empty_write;
+          failed = refl;
+        };
+      }
+
+  finds_an_end : TriesOn loose row (calling (reader unread idle) b) (came_to 0 stop.End)
+      (calling (reader has_ended idle) b)
+  finds_an_end =
+      record {
+        fills = record {
+          times = 0;
+          filling = begins (free unread);
+          taken = refl;
+          stopped = (refl, record { none_left = refl; entered = finds_the_end; rest = refl });
+          filled = record { count_is = refl; bytes_are = refl };
+        };
+        woken = refl;
+      }
+
+  tries_at_the_end : Tries loose row (calling (reader unread idle) b) try.End
+      (calling (reader has_ended idle) b)
+  tries_at_the_end = finds_an_end
+
+  reads_to_the_end : Reads loose row (calling (reader unread idle) b) (Ok read.End)
+      (calling (reader has_ended idle) b)
+  reads_to_the_end =
+      record {
+        times = 0;
+        between = calling (reader unread idle) b;
+        slept = refl;
+        ended = finds_an_end;
+      }
+
+  -- an end has no byte
+  end_fills_its_buffer : (new : Reader)
+      → Tries loose row (calling (reader unread idle) b) try.End (calling new a) → ⊥
+  end_fills_its_buffer new tries =
+      let filled = tries.fills.filled in
+      let none : length (bytes_of tries.fills.filling.parts) ≡ 0 = sym filled.count_is in
+      let size = ap length filled.bytes_are
+      ∙ length-append (bytes_of tries.fills.filling.parts) b in
+      absurd (omega (arith, none, size))
+
+  -- a read that is refused at once did nothing
+  refused_read_passes : Reads loose row (calling (reader unread idle) b) (Err fault.NoRendez)
+      (calling (reader passed idle) b) → ⊥
+  refused_read_passes reads = let seen = ap (λ (r : Reader). r.account.seen) reads.same in cc
