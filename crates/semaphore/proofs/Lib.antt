@@ -10,6 +10,8 @@ mod ReleaseLemmas
 mod SemaLawLemmas
 mod SemaLemmas
 mod TellLemmas
+mod TimedOutcomeLemmas
+mod TimedWaitLemmas
 mod TimerLemmas
 mod TournamentLemmas
 mod WaitLemmas

@@ -19,7 +19,7 @@ use Rattle.semaphore.specs.Deeds.Deed.{Asks, Times, Sleeps, Wakes, Posts, Drains
 use Rattle.semaphore.specs.Releasing.{IsWaking, HasWoken, Released, Releases}
 use Rattle.semaphore.specs.Ticking.{Ticks, IsTicking, GoesOn, FindsDue, ended_in}
 use Rattle.semaphore.proofs.AcquireLemmas.{then_asks, then_posts}
-use Rattle.semaphore.proofs.WaitLemmas.{then_times}
+use Rattle.semaphore.proofs.TimedWaitLemmas.{then_times}
 
 then_wakes : (caller : Caller) (start now : Standing) (process : Process) (deeds : List Deed)
     (rendez level : ℕ) → Did caller deeds start now

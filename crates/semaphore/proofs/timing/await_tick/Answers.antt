@@ -7,7 +7,7 @@ use Rattle.semaphore.specs.declared.limits.TheConstants.{LAST_GRANT}
 use Rattle.semaphore.specs.Asking.{HasLeft, sleep_ending}
 use Rattle.semaphore.specs.Deeds.{Calls, Ending, Slept}
 use Rattle.semaphore.specs.Seats.{stepped}
-use Rattle.semaphore.proofs.WaitLemmas.{awaits_well, awaits_noted, awaits_refused}
+use Rattle.semaphore.proofs.TimedWaitLemmas.{awaits_well, awaits_noted, awaits_refused}
 use Rattle.semaphore.proofs.timing.await_tick.Goals as goal
 
 pub loop-preserved-in-None-sleep_past_grants : goal.loop-preserved-in-None-sleep_past_grants

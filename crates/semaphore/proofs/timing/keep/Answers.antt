@@ -3,7 +3,7 @@
 use Rattle.std.proofs.Common.{sym, ap, ◌∙◌}
 use Rattle.rendez_words.specs.Process.{pid_in}
 use Rattle.rendez_words.specs.Steps as steps
-use Rattle.semaphore.proofs.WaitLemmas.{keeps_some}
+use Rattle.semaphore.proofs.TimedOutcomeLemmas.{keeps_some}
 use Rattle.semaphore.proofs.timing.keep.Goals as goal
 
 pub returns-then-not-is_empty-clause-kept : goal.returns-then-not-is_empty-clause-kept

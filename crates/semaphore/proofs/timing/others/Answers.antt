@@ -1,7 +1,7 @@
 -- a set is its kinds of note, and what is left has each that was there but the tick's
 use Rattle.std.proofs.Common.{◌&&◌, not, ap, ◌∙◌}
 use Rattle.sync_base.specs.NoteSet.{holds}
-use Rattle.semaphore.proofs.WaitLemmas.{others_are}
+use Rattle.semaphore.proofs.TimedOutcomeLemmas.{others_are}
 use Rattle.semaphore.proofs.timing.others.Goals as goal
 
 pub returns : goal.returns

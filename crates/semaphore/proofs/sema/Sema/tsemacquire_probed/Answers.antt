@@ -15,8 +15,10 @@ use Rattle.semaphore.specs.Definitions.{timer_definition}
 use Rattle.semaphore.specs.Seats.{asked, goes_on, stands_timed, stepped, timed, timed_caller}
 use Rattle.semaphore.specs.Seats.{timers_seen}
 use Rattle.semaphore.specs.TimerHistory.{timer_meaning}
-use Rattle.semaphore.proofs.WaitLemmas.{cancels, did_ask, in_time_at_once, sets_timer, tick_took}
-use Rattle.semaphore.proofs.WaitLemmas.{timed_as, waits_timed}
+use Rattle.semaphore.proofs.TimedOutcomeLemmas.{in_time_at_once}
+use Rattle.semaphore.proofs.TimedWaitLemmas.{cancels, sets_timer, tick_took, timed_as}
+use Rattle.semaphore.proofs.TimedWaitLemmas.{waits_timed}
+use Rattle.semaphore.proofs.WaitLemmas.{did_ask}
 use Rattle.semaphore.proofs.sema.Sema.tsemacquire_probed.Goals as goal
 
 pub returns-in-Acquired-clause-called : goal.returns-in-Acquired-clause-called

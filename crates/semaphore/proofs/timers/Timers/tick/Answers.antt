@@ -5,7 +5,7 @@ use Rattle.rendez_words.specs.Words.{procs_of}
 use Rattle.semaphore.specs.declared.timer_object.TimerCall.TheVariants.{Expire}
 use Rattle.semaphore.specs.Seats.{stands_ticking, ticker}
 use Rattle.semaphore.proofs.ReleaseLemmas.{ticks_more, ticks_to_none}
-use Rattle.semaphore.proofs.WaitLemmas.{timed_as}
+use Rattle.semaphore.proofs.TimedWaitLemmas.{timed_as}
 use Rattle.semaphore.proofs.timers.Timers.tick.Goals as goal
 
 pub returns-in-None-clause-called : goal.returns-in-None-clause-called
