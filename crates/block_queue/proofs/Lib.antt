@@ -12,6 +12,8 @@ pub mod HandKeeps
 pub mod OpeningKeeps
 pub mod OpeningLemmas
 pub mod GatherKeeps
+pub mod EmptyingLemmas
+pub mod JoiningLemmas
 pub mod GatherLemmas
 pub mod ObjectLemmas
 pub mod CrowdLemmas

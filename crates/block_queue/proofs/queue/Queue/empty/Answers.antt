@@ -1,7 +1,7 @@
 -- While fewer were taken than were left a block is there, so no take is told NotYet or End.
 use Rattle.std.proofs.Common.{◌<◌, ◌-◌, length, sym, subst, arith}
 use Rattle.block_queue.specs.Gather.{IsEmptying}
-use Rattle.block_queue.proofs.GatherLemmas.{one_emptied, not_ended, not_waiting}
+use Rattle.block_queue.proofs.EmptyingLemmas.{one_emptied, not_ended, not_waiting}
 use Rattle.block_queue.proofs.queue.Queue.empty.Goals as goal
 
 pub emptying-preserved : goal.emptying-preserved

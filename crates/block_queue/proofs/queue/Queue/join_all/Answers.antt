@@ -5,8 +5,8 @@ use Rattle.block_queue.specs.Gather.{IsJoining, TellsPasts}
 use Rattle.histories.specs.Changes.{joined_account}
 use Rattle.block_queue.specs.Seats.{head_view, put_view}
 use Rattle.block_queue.specs.Steps.{joined_view}
-use Rattle.block_queue.proofs.GatherLemmas.{none_told, one_told, none_joined, one_joined}
-use Rattle.block_queue.proofs.GatherLemmas.{all_joined, joined_free, last_seat}
+use Rattle.block_queue.proofs.JoiningLemmas.{none_told, one_told, none_joined, one_joined}
+use Rattle.block_queue.proofs.JoiningLemmas.{all_joined, joined_free, last_seat}
 use Rattle.block_queue.proofs.queue.Queue.join_all.Goals as goal
 
 -- a list with no length is empty
