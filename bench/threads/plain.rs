@@ -42,13 +42,18 @@ fn fill(message: &mut [u8], writer: u64, number: u64) {
     message[HEAD..].fill(number as u8);
 }
 
+/// Whether all bytes are this one: no branch hangs on a byte, so many are looked at at once.
+fn are_all(bytes: &[u8], byte: u8) -> bool {
+    bytes.iter().fold(true, |same, b| same & (*b == byte))
+}
+
 /// What was read, and whether each piece was whole and the next of its writer.
 struct Tally {
     writes: u64,
     bytes: u64,
     in_order: bool,
     next: Vec<u64>,
-    message: Vec<u8>,
+    size: usize,
 }
 
 impl Tally {
@@ -58,7 +63,7 @@ impl Tally {
             bytes: 0,
             in_order: true,
             next: vec![0; opts.writers],
-            message: vec![0; opts.size],
+            size: opts.size,
         }
     }
 
@@ -69,16 +74,16 @@ impl Tally {
     }
 
     fn is_next(&mut self, piece: &[u8]) -> bool {
-        if piece.len() != self.message.len() {
+        if piece.len() != self.size {
             return false;
         }
         let writer = u64::from_be_bytes(piece[..8].try_into().unwrap());
         let Some(next) = self.next.get_mut(writer as usize) else {
             return false;
         };
-        fill(&mut self.message, writer, *next);
+        let number = *next;
         *next += 1;
-        self.message == piece
+        piece[8..HEAD] == number.to_be_bytes() && are_all(&piece[HEAD..], number as u8)
     }
 
     fn say(&self, opts: Opts) {

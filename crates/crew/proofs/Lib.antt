@@ -2,3 +2,4 @@ mod CrewLemmas
 mod WorkedLimits
 mod WorkedRuns
 mod WritingLemmas
+mod TallyLemmas

@@ -1,6 +1,6 @@
 -- What the reader of a run on threads expects, and what it has counted.
 use Rattle.std.specs.Prelude.{◌≡◌, ◌+◌, ◌*◌, ◌<◌, ℕ, true, List, length, slice_get, slice_set}
-use Rattle.std.specs.Prelude.{vec_len, Some}
+use Rattle.std.specs.Prelude.{Some}
 use Rattle.crew.specs.declared.opts.Report.{Report}
 use Rattle.sync_base.specs.declared.threads_opts.ThreadsOpts.{ThreadsOpts}
 use Rattle.crew.specs.declared.tally.Tally.{Tally}
@@ -19,12 +19,12 @@ pub record TakesNext (each size : ℕ) (old new : List ℕ) (piece : List ℕ) :
 -- it counts what writers with these options write
 pub record IsTallyOf (opts : ThreadsOpts) (tally : Tally) : Type 0 where
   pub most : tally.most ≡ opts.writers * opts.writes
-  pub size : vec_len tally.expected.message ≡ opts.size
+  pub size : tally.expected.size ≡ opts.size
 
 -- both count what the same writers write
 pub record AreOfOneRun (old new : Tally) : Type 0 where
   pub most : new.most ≡ old.most
-  pub size : vec_len new.expected.message ≡ vec_len old.expected.message
+  pub size : new.expected.size ≡ old.expected.size
 
 -- nothing was counted, and so nothing is out of order
 pub record IsNewTally (tally : Tally) : Type 0 where
@@ -35,7 +35,7 @@ pub record IsNewTally (tally : Tally) : Type 0 where
 -- all was in order, and the piece is the next message of its writer, which is counted
 pub record CountsNext (old new : Tally) (piece : List ℕ) : Type 0 where
   pub before : old.in_order ≡ true
-  pub next : TakesNext old.expected.each (vec_len old.expected.message) old.expected.next.items
+  pub next : TakesNext old.expected.each old.expected.size old.expected.next.items
       new.expected.next.items piece
   pub writes : new.writes ≡ old.writes + 1
   pub bytes : new.bytes ≡ old.bytes + length piece

@@ -1,9 +1,9 @@
 //! What the reader finds.
-ghost use Rattle.std.specs.Prelude.{◌≡◌, ◌≤◌, ◌<◌, ◌*◌, ◌^◌, true, length, vec_len};
+ghost use Rattle.std.specs.Prelude.{◌≡◌, ◌≤◌, ◌<◌, ◌*◌, ◌^◌, true, length, replicate};
 ghost use Rattle.crew.specs.declared.message.TheConstants.{HEAD};
 ghost use Rattle.crew.specs.Message.{message_of};
 
-use crate::message::{HEAD, fill, writer_of};
+use crate::message::{HEAD, writer_of};
 use crate::opts::Report;
 use std::alloc::{AllocError, Global};
 use sync_base::ThreadsOpts;
@@ -15,24 +15,24 @@ pub struct Expected {
     pub(crate) each: u64,
     /// The number of the next message of each writer.
     pub(crate) next: Vec<u64>,
-    /// Where a message is made, to be compared.
-    pub(crate) message: Vec<u8>,
-    pub(crate) ghost head: { HEAD ≤ vec_len message },
+    /// How many bytes a message has.
+    pub(crate) size: usize,
+    pub(crate) ghost head: { HEAD ≤ size },
 }
 
 impl Expected {
-    ghost use Rattle.std.specs.Prelude.{◌≡◌, true, vec_len};
+    ghost use Rattle.std.specs.Prelude.{◌≡◌, true};
     ghost use Rattle.crew.specs.Tally.{TakesNext};
 
     // Whether the piece is the next message of its writer. Then another is the next.
     fn take_next(&mut self, piece: &[u8]) -> bool
-        ensures same { vec_len self.new.message ≡ vec_len self.old.message }
+        ensures same { self.new.size ≡ self.old.size }
         ensures each { self.new.each ≡ self.old.each }
-        ensures size { result ≡ true → length piece.now ≡ vec_len self.old.message }
-        ensures next { result ≡ true → TakesNext self.old.each (vec_len self.old.message)
+        ensures size { result ≡ true → length piece.now ≡ self.old.size }
+        ensures next { result ≡ true → TakesNext self.old.each self.old.size
             self.old.next.items self.new.next.items piece.now }
     {
-        if piece.len() != self.message.len() {
+        if piece.len() != self.size {
             return false;
         }
         let writer = writer_of(piece);
@@ -44,18 +44,28 @@ impl Expected {
         }
         let number = *next;
         *next += 1;
-        is_message(&mut self.message, writer, number, piece)
+        is_message(writer, number, piece)
     }
 }
 
-// Whether the piece is this message, which is made to be compared.
-fn is_message(room: &mut [u8], writer: u64, number: u64, piece: &[u8]) -> bool
-    requires { HEAD ≤ length room.old }
-    ensures same { length room.new ≡ length room.old }
-    ensures is { result ≡ true → piece.now ≡ message_of (length room.old) writer number }
+// Whether the piece is this message.
+fn is_message(writer: u64, number: u64, piece: &[u8]) -> bool
+    ensures { result ≡ true → piece.now ≡ message_of (length piece.now) writer number }
 {
-    fill(room, writer, number);
-    &*room == piece
+    let Some(behind) = piece.strip_prefix(&writer.to_be_bytes()) else {
+        return false;
+    };
+    let Some(filler) = behind.strip_prefix(&number.to_be_bytes()) else {
+        return false;
+    };
+    are_all(filler, (number % 256) as u8)
+}
+
+// Whether all bytes are this one. No branch hangs on a byte, so the compiler looks at many at once.
+fn are_all(bytes: &[u8], byte: u8) -> bool
+    ensures { result ≡ true → bytes.now ≡ replicate (length bytes.now) byte }
+{
+    bytes.iter().fold(true, |same, b| same & (*b == byte))
 }
 
 /// What was read, and whether each piece was a whole message and the next of its writer.
@@ -67,9 +77,9 @@ pub struct Tally {
     /// How many messages all writers have together.
     pub(crate) most: u64,
     pub(crate) expected: Expected,
-    pub(crate) ghost whole: { in_order ≡ true → bytes ≡ writes * vec_len expected.message },
+    pub(crate) ghost whole: { in_order ≡ true → bytes ≡ writes * expected.size },
     pub(crate) ghost few: { in_order ≡ true → writes ≤ most },
-    pub(crate) ghost small: { most * vec_len expected.message < 2 ^ 64 },
+    pub(crate) ghost small: { most * expected.size < 2 ^ 64 },
 }
 
 impl Tally {
@@ -93,7 +103,7 @@ impl Tally {
             expected: Expected {
                 each: opts.writes,
                 next: vec![in alloc; 0; opts.writers as usize]?,
-                message: vec![in alloc; 0; opts.size as usize]?,
+                size: opts.size as usize,
             },
         })
     }
