@@ -60,6 +60,24 @@ static const byte *notes(const byte *at, unsigned *flags) {
     }
 }
 
+/* Reads a line of notes to a group of processes, each number above the one before it, and gives the place behind it, or
+   NULL. */
+static const byte *group(const byte *at, unsigned *flags) {
+    uint64_t pid, before = 0;
+    int is_first = 1;
+    if (!BEGINS(at, "notepg ")) return NULL;
+    at += 6;
+    do {
+        at = number(at + 1, &pid);
+        if (at == NULL || (!is_first && pid <= before)) return NULL;
+        before = pid;
+        is_first = 0;
+    } while (*at == ',');
+    if (*at++ != ' ') return NULL;
+    at = notes(at, flags);
+    return at == NULL || *at != '\n' ? NULL : at + 1;
+}
+
 /* Answers whose choice can't be guessed are said without a branch. */
 struct answer { char text[16]; size_t len; };
 #define ANSWER(text) {text, sizeof text - 1}
@@ -99,7 +117,7 @@ static int is_lost(unsigned proc_count) {
 
 static void run(const byte *at, const byte *stop, int is_cut) {
     byte *o = out;
-    uint64_t line = 1, proc_count, rendez_count, pid, rendez, level;
+    uint64_t line = 1, proc_count, rendez_count, pid = 0, rendez, level;
     unsigned flags;
     struct proc *p;
     struct rendez *r;
@@ -205,6 +223,19 @@ static void run(const byte *at, const byte *stop, int is_cut) {
             o = say_pid(o, p->sleeper);
             continue;
         case 'n':
+            if (at[4] == 'p') {
+                const byte *list = at + 7;
+                at = group(at, &flags);
+                if (at == NULL) fault(o, line);
+                do {
+                    list = number(list, &pid);
+                    if (o >= out + FLUSH) o = flush(o);
+                    if (pid >= proc_count) { o = SAY(o, "no process\n"); continue; }
+                    procs[pid].flags |= flags;
+                    o = SAY(o, "noted\n");
+                } while (*list++ == ',');
+                continue;
+            }
             VERB("note", ' ');
             at = notes(at, &flags);
             if (at == NULL || *at++ != '\n') fault(o, line);
