@@ -1,8 +1,8 @@
 //! A bounded queue of blocks with hangup, which many writers and one reader share: as a sequential
 //! object, and as a ring without a lock.
 //! Read `entry`, `answers`, `queue_object` with `laws`, what holds of it; then `places`, `view`,
-//! `spare`, `rule`, `plays`, `seats`, `queue`, `opening`, `put_steps`, `put`, `take_steps`, `take`,
-//! and `gather`.
+//! `spare`, `rule`, `plays`, `seats`, `queue`, `opening`, `put_steps`, `room`, `put`, `take_steps`,
+//! `take`, and `gather`.
 #![tactic(auto)]
 
 pub mod answers;
@@ -16,6 +16,7 @@ mod put;
 mod put_steps;
 pub mod queue;
 pub mod queue_object;
+mod room;
 mod rule;
 pub mod seats;
 pub mod spare;

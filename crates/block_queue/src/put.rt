@@ -16,7 +16,7 @@ ghost use Rattle.block_queue.specs.Steps.{staged_view};
 ghost use Rattle.block_queue.specs.Tries.{IfAnswered, IfAgain, IsAgain, IsTaken};
 
 use crate::answers::PutAnswer;
-use crate::places::{MARK, free};
+use crate::places::{MARK, free, place};
 use crate::queue::Queue;
 use crate::queue_object::StoredBlock;
 use crate::rule::Stepper;
@@ -134,9 +134,10 @@ impl Queue {
         if self.key.first + tail == LAST_WRITE {
             return Tried::Answered(PutAnswer::Worn(block));
         }
+        let free = free(self.key.limit, tail);
+        self.look_for_room(place(self.key.limit, tail), free);
         probe.at(2);
         let word = self.put_sequence::<Brand>(stepper, writer, &block, tail);
-        let free = free(self.key.limit, tail);
         if word < free {
             let number = self.key.first + tail - self.key.limit;
             return Tried::Answered(PutAnswer::Full(block, number));

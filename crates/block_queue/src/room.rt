@@ -1,0 +1,36 @@
+//! How a put looks for room, before it asks whether there is any. A look is a load with no seat and
+//! no step: it stands in no history, and no contract says what it finds. The step behind it answers
+//! the put.
+ghost use Rattle.std.specs.Prelude.{◌<◌};
+
+use crate::places::sequence;
+use crate::queue::Queue;
+use std::hint::spin_loop;
+
+/// How often a put looks.
+const LOOKS: u64 = 50;
+
+/// How long it pauses behind a look that found no room.
+const PAUSES: u64 = 8;
+
+impl Queue {
+    /// Looks at a place for a while, until its word has come to this one. The reader most often
+    /// takes a block out meanwhile, and a writer that need not sleep need not be woken.
+    pub(crate) fn look_for_room(&self, place: usize, free: u64)
+        requires { place < self.now.key.limit }
+    {
+        let word = sequence(place);
+        for _ in 0..LOOKS {
+            if self.table.shared.peek(word) >= free {
+                return;
+            }
+            pause();
+        }
+    }
+}
+
+fn pause() {
+    for _ in 0..PAUSES {
+        spin_loop();
+    }
+}
