@@ -5,7 +5,8 @@
 //!   ring       the steps of a pipe and nothing else: a ring without a lock, a wakeup of the reader
 //!              by each write and of every writer by each read, on the words of sleep and wakeup,
 //!              each on its line and each step with the operation that the library has for it;
-//!              blocks come back to their writers through the slots of the ring
+//!              blocks come back to their writers through the slots of the ring, and a writer looks
+//!              for room a while before it sleeps
 //!   channel    std's `sync_channel(16)`, whose reader checks a block where it lies, and copies none
 //!   crossbeam  the same by crossbeam's `bounded(16)`, where the program was built with it
 //!   pipe       a pipe of the system, whose reader takes as many messages at once as are there
@@ -28,6 +29,21 @@ const MARK: u64 = 1 << 63;
 const LOOKS: u32 = 50;
 const PAUSES: u32 = 8;
 const YIELDS: u32 = 100;
+
+/// Whether it came true while it was looked at with pauses.
+fn looks_until(is_so: impl Fn() -> bool) -> bool {
+    for _ in 0..LOOKS {
+        if is_so() {
+            return true;
+        }
+        pause();
+    }
+    false
+}
+
+fn pause() {
+    (0..PAUSES).for_each(|_| std::hint::spin_loop());
+}
 
 #[derive(Clone, Copy)]
 struct Opts {
@@ -150,11 +166,8 @@ impl Words {
 
     fn await_mark(&self, me: usize) {
         let flags = &self.flags[me].0;
-        for _ in 0..LOOKS {
-            if flags.load(SeqCst) & WOKEN != 0 {
-                return;
-            }
-            (0..PAUSES).for_each(|_| std::hint::spin_loop());
+        if looks_until(|| flags.load(SeqCst) & WOKEN != 0) {
+            return;
         }
         for _ in 0..YIELDS {
             if flags.load(SeqCst) & WOKEN != 0 {
@@ -225,6 +238,7 @@ impl Ring {
             assert!(tail < MARK, "nothing is written after the hangup");
             let place = &self.places[(tail % LIMIT) as usize].0;
             let free = 2 * (tail / LIMIT);
+            looks_until(|| place.sequence.load(SeqCst) >= free);
             let sequence = place.sequence.load(SeqCst);
             if sequence < free {
                 // Full: all but the last LIMIT writes were taken out.
@@ -236,6 +250,9 @@ impl Ring {
                 place.sequence.store(free + 1, SeqCst);
                 self.words.wakeup(0, tail + 1);
                 return;
+            } else {
+                // Another write came first.
+                pause();
             }
         }
     }
@@ -250,12 +267,14 @@ impl Ring {
     /// before, and keeps this one.
     fn read(&self, head: &mut u64, emptied: &mut Vec<u8>, buffer: &mut [u8]) -> Option<usize> {
         loop {
-            if self.tail.0.load(SeqCst) == *head + MARK {
-                return None;
-            }
             let place = &self.places[(*head % LIMIT) as usize].0;
             let free = 2 * (*head / LIMIT);
-            if place.sequence.load(SeqCst) == free + 1 {
+            let stands = || place.sequence.load(SeqCst) == free + 1;
+            let ready = stands();
+            if !ready && self.tail.0.load(SeqCst) == *head + MARK {
+                return None;
+            }
+            if ready || stands() {
                 unsafe { std::mem::swap(&mut *place.block.get(), emptied) };
                 place.sequence.store(free + 2, SeqCst);
                 *head += 1;

@@ -26,7 +26,8 @@ use Rattle.block_queue.specs.History.{QueueState, IsRight, seat_of, after_entry}
 use Rattle.block_queue.specs.Places.{AreWords, IsQueueState, place_of, sequence_of, stored_word}
 use Rattle.block_queue.specs.Rule.{IsOneQueue, IsLooking, IsMoving, IsReader, FitsStage, put_at}
 use Rattle.block_queue.specs.Rule.{is_moving}
-use Rattle.block_queue.specs.Steps.{Seated, HasTakeTail, HasTakeSequence, HasFreed, HasHung}
+use Rattle.block_queue.specs.Steps.{Seated, HasTakeReady, HasTakeTail, HasTakeSequence}
+use Rattle.block_queue.specs.Steps.{HasFreed, HasHung}
 use Rattle.block_queue.specs.Steps.{staged_view, saw_hangup}
 use Rattle.block_queue.proofs.StateLemmas.{begun_is, hung_since}
 use Rattle.block_queue.proofs.WordMoves.{no_block, has_block, reader_takes, take_frees, hang_marks}
@@ -51,7 +52,67 @@ module _ (key : Key) (slots id : ℕ) (me : Seated) where
     knows : IsReader s rule.out me.0
     knows = (own_view key t rule id me.0 at).reader_knows reader
 
-    -- ---- the tail
+    small : me.0.taken < 2 ^ 62
+    small = let given = fits.given in let within = fits.within in let taken =
+        knows.taken in omega arith
+
+    -- ---- the next write's sequence word
+
+    abbrev index : ℕ
+    index = sequence_of (place_of key.limit me.0.taken)
+
+    abbrev next_found : ℕ
+    next_found = get_or t.words index 0
+
+    -- the word is that of the next write
+    next_word : next_found ≡ get_or t.words (sequence_of (place_of key.limit s.pipe.read_whole)) 0
+    next_word = ap (λ (n : ℕ). get_or t.words (sequence_of (place_of key.limit n)) 0) knows.taken
+
+    next_stored : stored_word key.limit me.0.taken ≡ stored_word key.limit s.pipe.read_whole
+    next_stored = ap (stored_word key.limit) knows.taken
+
+    abbrev moving_view : Write → View
+    moving_view write = staged_view (Moving write.writer write.bytes) me.0
+
+    -- where the next write stands a load of it by the reader, between two entries, takes its slot
+    module _ (idle : is_moving me.0.stage ≡ false) (no_put : (number : ℕ) →
+        put_at key.first me.0.stage number ≡ None) (same : next_found ≡
+        stored_word key.limit me.0.taken) where
+      abbrev Moved : Type 0
+      Moved = (write : Write) × table.Valid t.homes me.1
+          (table.takes (place_of key.limit me.0.taken) (Some write)) ×
+          IsOneQueue key (table.stepped t index next_found id me.1 (moving_view write)
+          (table.takes (place_of key.limit me.0.taken) (Some write)))
+
+      moves : Moved
+      moves =
+          let next = has_block key.limit key.first s rule.out t.words t.homes rule.some_room fits
+          rule.words (sym next_word ∙ same ∙ next_stored) in
+          let write : Write = next.0 in
+          let home : get_elem? t.homes (place_of key.limit me.0.taken) ≡ some (some (Some write)) =
+          ap (λ (n : ℕ). get_elem? t.homes (place_of key.limit n)) knows.taken ∙
+          next.3 (knows.out_is ∙ idle) in
+          let some_write : s.pipe.read_whole < length s.pipe.accepted =
+          slice_get_within s.pipe.accepted s.pipe.read_whole write next.1 in (
+            next.0,
+            home,
+            loaded key t.words index (set t.homes (place_of key.limit me.0.taken) none)
+                (set t.views id (moving_view next.0))
+                (rule_stays key t rule id me.0 at (moving_view next.0) true t.words
+                (set t.homes (place_of key.limit me.0.taken) none) 0 own refl refl
+                (λ other. absurd (other refl))
+                (subst (λ (n : ℕ). AreWords key.limit key.first s true t.words
+                (set t.homes (place_of key.limit n) none)) (sym knows.taken)
+                (reader_takes key.limit key.first s rule.out t.words t.homes rule.some_room fits
+                rule.words some_write))
+                record {
+                  puts = no_puts key t rule id me.0 at idle no_put;
+                  reader_knows = λ reader. record { taken = knows.taken; out_is = refl };
+                  stage = record { reader_is = reader; write_is = next.1; stored = next.2 };
+                }),
+          )
+
+    -- ---- the free reader: the next write's word, and the tail
 
     module _ (stage : me.0.stage ≡ Free) where
       abbrev word : ℕ
@@ -63,14 +124,48 @@ module _ (key : Key) (slots id : ℕ) (me : Seated) where
       no_put : (number : ℕ) → put_at key.first me.0.stage number ≡ None
       no_put number = ap (λ (z : Stage). put_at key.first z number) stage
 
+      abbrev Ready : Type 0
+      Ready = (w : View) × (a : table.Act (Option Write)) × table.Valid t.homes me.1 a ×
+          IsOneQueue key (table.stepped t index next_found id me.1 w a) ×
+          HasTakeReady key me next_found (w, table.carried_after me.1 a)
+
+      ready_moves : next_found ≡ stored_word key.limit me.0.taken → Ready
+      ready_moves same =
+          let moved = moves idle no_put same in (
+            moving_view moved.0,
+            table.takes (place_of key.limit me.0.taken) (Some moved.0),
+            moved.1,
+            moved.2,
+            record {
+              moving = λ same. (moved.0, refl);
+              passed = λ other. absurd (other same);
+              small = small;
+            },
+          )
+
+      ready_passes : next_found ≢ stored_word key.limit me.0.taken → Ready
+      ready_passes other = (
+        me.0,
+        table.keeps,
+        tt,
+        loaded key t.words index t.homes (set t.views id me.0)
+            (subst (λ (z : Stage). IsOneQueue key record {
+              words = t.words;
+              homes = t.homes;
+              views = set t.views id (staged_view z me.0);
+            }) (sym stage) (goes_on key t rule id me.0 at idle no_put Free refl (λ number. refl) 0
+            own tt)),
+        record { moving = λ same. absurd (other same); passed = λ other. refl; small = small },
+      )
+
+      ready_result : Ready
+      ready_result = dite (ℕ_discrete next_found (stored_word key.limit me.0.taken)) ready_moves
+          ready_passes
+
       abbrev Result : Type 0
       Result = (w : View) × (a : table.Act (Option Write)) × table.Valid t.homes me.1 a ×
           IsOneQueue key (table.stepped t 0 word id me.1 w a) ×
           HasTakeTail key me word (w, table.carried_after me.1 a)
-
-      small : me.0.taken < 2 ^ 62
-      small = let given = fits.given in let within = fits.within in let taken =
-          knows.taken in omega arith
 
       tail_ended : s.pipe.hung ≡ true → length s.pipe.accepted ≡ s.pipe.read_whole → Result
       tail_ended hung all =
@@ -140,15 +235,9 @@ module _ (key : Key) (slots id : ℕ) (me : Seated) where
               (own_ledger key t rule id me.0 at).seen saw in let no : true ≡ false = sym hung ∙
               unhung in cc)
 
-    -- ---- the sequence word
+    -- ---- the next write's word, behind the tail
 
     module _ (found : Bool) (stage : me.0.stage ≡ Looking found) where
-      abbrev index : ℕ
-      index = sequence_of (place_of key.limit me.0.taken)
-
-      abbrev word₂ : ℕ
-      word₂ = get_or t.words index 0
-
       idle₂ : is_moving me.0.stage ≡ false
       idle₂ = ap is_moving stage
 
@@ -161,17 +250,10 @@ module _ (key : Key) (slots id : ℕ) (me : Seated) where
 
       abbrev Result₂ : Type 0
       Result₂ = (w : View) × (a : table.Act (Option Write)) × table.Valid t.homes me.1 a ×
-          IsOneQueue key (table.stepped t index word₂ id me.1 w a) ×
-          HasTakeSequence key me word₂ (w, table.carried_after me.1 a)
+          IsOneQueue key (table.stepped t index next_found id me.1 w a) ×
+          HasTakeSequence key me next_found (w, table.carried_after me.1 a)
 
-      -- the word is that of the next write
-      next_word : word₂ ≡ get_or t.words (sequence_of (place_of key.limit s.pipe.read_whole)) 0
-      next_word = ap (λ (n : ℕ). get_or t.words (sequence_of (place_of key.limit n)) 0) knows.taken
-
-      next_stored : stored_word key.limit me.0.taken ≡ stored_word key.limit s.pipe.read_whole
-      next_stored = ap (stored_word key.limit) knows.taken
-
-      sequence_waits : word₂ ≢ stored_word key.limit me.0.taken → Result₂
+      sequence_waits : next_found ≢ stored_word key.limit me.0.taken → Result₂
       sequence_waits other =
           let not_stored : get_or t.words (sequence_of (place_of key.limit s.pipe.read_whole)) 0 ≢
           stored_word key.limit s.pipe.read_whole =
@@ -215,44 +297,24 @@ module _ (key : Key) (slots id : ℕ) (me : Seated) where
             },
           )
 
-      sequence_moves : word₂ ≡ stored_word key.limit me.0.taken → Result₂
+      sequence_moves : next_found ≡ stored_word key.limit me.0.taken → Result₂
       sequence_moves same =
-          let next = has_block key.limit key.first s rule.out t.words t.homes rule.some_room fits
-          rule.words (sym next_word ∙ same ∙ next_stored) in
-          let write : Write = next.0 in
-          let home : get_elem? t.homes (place_of key.limit me.0.taken) ≡ some (some (Some write)) =
-          ap (λ (n : ℕ). get_elem? t.homes (place_of key.limit n)) knows.taken ∙
-          next.3 (knows.out_is ∙ idle₂) in
-          let some_write : s.pipe.read_whole < length s.pipe.accepted =
-          slice_get_within s.pipe.accepted s.pipe.read_whole write next.1 in (
-            staged_view (Moving next.0.writer next.0.bytes) me.0,
-            table.takes (place_of key.limit me.0.taken) (Some next.0),
-            home,
-            loaded key t.words index (set t.homes (place_of key.limit me.0.taken) none)
-                (set t.views id (staged_view (Moving next.0.writer next.0.bytes) me.0))
-                (rule_stays key t rule id me.0 at (staged_view (Moving next.0.writer next.0.bytes)
-                me.0) true t.words (set t.homes (place_of key.limit me.0.taken) none) 0 own refl
-                refl (λ other. absurd (other refl))
-                (subst (λ (n : ℕ). AreWords key.limit key.first s true t.words
-                (set t.homes (place_of key.limit n) none)) (sym knows.taken)
-                (reader_takes key.limit key.first s rule.out t.words t.homes rule.some_room fits
-                rule.words some_write))
-                record {
-                  puts = no_puts key t rule id me.0 at idle₂ no_put₂;
-                  reader_knows = λ reader. record { taken = knows.taken; out_is = refl };
-                  stage = record { reader_is = reader; write_is = next.1; stored = next.2 };
-                }),
+          let moved = moves idle₂ no_put₂ same in (
+            moving_view moved.0,
+            table.takes (place_of key.limit me.0.taken) (Some moved.0),
+            moved.1,
+            moved.2,
             record {
               not_yet = λ other. absurd (other same);
               same_slots = λ other. absurd (other same);
               left = λ other. absurd (other same);
-              moving = λ same. (next.0, refl);
+              moving = λ same. (moved.0, refl);
             },
           )
 
       sequence_result : Result₂
-      sequence_result = dite (ℕ_discrete word₂ (stored_word key.limit me.0.taken)) sequence_moves
-          sequence_waits
+      sequence_result = dite (ℕ_discrete next_found (stored_word key.limit me.0.taken))
+          sequence_moves sequence_waits
 
     -- ---- the place is free again
 
@@ -337,6 +399,13 @@ module _ (key : Key) (slots id : ℕ) (me : Seated) where
           slots = refl;
         },
       )
+
+  -- a load of the next place's sequence word by the free reader keeps the rule, and takes the slot
+  -- where the write stands
+  pub take_ready_keeps : has_number me.0.account.shares 0 ≡ true → me.0.stage ≡ Free →
+      table.Allows (IsOneQueue key) slots id me (sequence_of (place_of key.limit me.0.taken))
+      (λ n. n) (HasTakeReady key me)
+  take_ready_keeps own stage t rule _ at _ = ready_result own t rule at stage
 
   -- a load of the tail by the free reader keeps the rule, and tells the end, or that it may look on
   pub take_tail_keeps : has_number me.0.account.shares 0 ≡ true → me.0.stage ≡ Free →

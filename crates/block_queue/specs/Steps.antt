@@ -85,6 +85,16 @@ pub record HasStored (asked : Asked) (before after : Seated) : Type 0 where
       (entry.Stood asked.write.writer (asked.key.first + asked.count + 1)) Free before.0 after.0
   pub slots : after.1 ≡ table.rest before.1
 
+-- TakeReady: the seat has the slot of the next write, which stands; or it knows no more than it did
+pub record HasTakeReady (key : Key) (before : Seated) (found : ℕ) (after : Seated) : Type 0 where
+  pub moving : found ≡ stored_word key.limit before.0.taken → (write : Write) ×
+      (after ≡ (
+        staged_view (Moving write.writer write.bytes) before.0,
+        (place_of key.limit before.0.taken, Some write) ∷ before.1,
+      ))
+  pub passed : found ≢ stored_word key.limit before.0.taken → after ≡ before
+  pub small : before.0.taken < 2 ^ 62
+
 -- TakeTail: all is taken out and no more will come; or else, and whether a block is left
 pub record HasTakeTail (key : Key) (before : Seated) (found : ℕ) (after : Seated) : Type 0 where
   pub slots : after.1 ≡ before.1

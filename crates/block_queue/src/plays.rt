@@ -8,6 +8,7 @@ ghost use Rattle.block_queue.specs.Steps.{
   HasPutSequence,
   HasAccepted,
   HasStored,
+  HasTakeReady,
   HasTakeTail,
   HasTakeSequence,
   HasFreed,
@@ -66,6 +67,14 @@ pub struct Store<M> {
 
 impl<M: Asks> Play<Slot, View> for Store<M> {
     ghost then = { λ _ before _ after. HasStored M.asked before after };
+}
+
+pub struct TakeReady<M> {
+    asked: PhantomData<M>,
+}
+
+impl<M: Asks> Play<Slot, View> for TakeReady<M> {
+    ghost then = { λ _ before found after. HasTakeReady M.asked.key before found after };
 }
 
 pub struct TakeTail<M> {

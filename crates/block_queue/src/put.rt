@@ -19,6 +19,7 @@ use crate::answers::PutAnswer;
 use crate::places::{MARK, free, place};
 use crate::queue::Queue;
 use crate::queue_object::StoredBlock;
+use crate::room::pause;
 use crate::rule::Stepper;
 use crate::seats::PutSeat;
 use crate::spare::Spare;
@@ -38,7 +39,8 @@ pub(crate) enum Tried {
 
 impl Queue {
     /// Puts a block behind the others. It waits for nobody, but begins again where another put
-    /// came first. It takes no memory.
+    /// came first, and looks some microseconds for room before it answers `Full`. It takes no
+    /// memory.
     ///
     /// Answers `Hungup` where the queue is hung up, `Worn` where the last number is given, `Full`
     /// where as many blocks stand as the limit allows, and else `Taken`. Where the queue is full
@@ -103,7 +105,10 @@ impl Queue {
         for _ in rt.forever() {
             match self.try_put(stepper, spare, writer, block, probe) {
                 Tried::Answered(answer) => return answer,
-                Tried::Again(back) => block = back,
+                Tried::Again(back) => {
+                    pause();
+                    block = back;
+                }
             }
         }
         unreachable!()

@@ -1,6 +1,6 @@
-//! How a put looks for room, before it asks whether there is any. A look is a load with no seat and
-//! no step: it stands in no history, and no contract says what it finds. The step behind it answers
-//! the put.
+//! How a put looks for room, before it asks whether there is any, and how it gives way to another
+//! put. A look is a load with no seat and no step: it stands in no history, and no contract says
+//! what it finds. The step behind it answers the put.
 ghost use Rattle.std.specs.Prelude.{◌<◌};
 
 use crate::places::sequence;
@@ -10,7 +10,7 @@ use std::hint::spin_loop;
 /// How often a put looks.
 const LOOKS: u64 = 50;
 
-/// How long it pauses behind a look that found no room.
+/// How long it pauses behind a look that found no room, and where another put came first.
 const PAUSES: u64 = 8;
 
 impl Queue {
@@ -29,7 +29,8 @@ impl Queue {
     }
 }
 
-fn pause() {
+/// Lets the others come first.
+pub(crate) fn pause() {
     for _ in 0..PAUSES {
         spin_loop();
     }

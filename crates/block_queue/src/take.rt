@@ -12,6 +12,7 @@ ghost use Rattle.block_queue.specs.Seats.{
   put_account,
   take_account,
 };
+ghost use Rattle.block_queue.specs.Tries.{IsTakingOut, HasTakenOut};
 
 use crate::answers::TakeAnswer;
 use crate::places::{MARK, stored};
@@ -54,7 +55,7 @@ impl Queue {
         self.take_probed(seat, &mut NoProbe)
     }
 
-    /// A `take` that tells a probe before each of its steps, from 1 to 4.
+    /// A `take` that tells a probe before each of its steps, from 1 to 5.
     pub fn take_probed<P: Probe>(&self, seat: &mut TakeSeat, probe: &mut P) -> TakeAnswer
         requires seat { IsTakeSeatOf self.now seat.old }
         ensures seat { IsTakeSeatOf self.now seat.new }
@@ -73,7 +74,8 @@ impl Queue {
         answer
     }
 
-    // The tail, and then the place of the next write.
+    // Where the next block stands it comes out. Else the tail says whether the queue has ended, and
+    // the block may stand since.
     pub(crate) fn take_next<P: Probe>(
         &self,
         stepper: &mut Stepper,
@@ -92,18 +94,38 @@ impl Queue {
         ensures small { taken < 2 ^ 62 }
     {
         probe.at(1);
+        let ready = self.take_ready::<Brand>(stepper, taken);
+        if ready == stored(self.key.limit, taken) {
+            return self.take_out(stepper, spare, taken, probe);
+        }
+        probe.at(2);
         let tail = self.take_tail::<Brand>(stepper);
         if tail == taken + MARK {
             return TakeAnswer::End;
         }
-        probe.at(2);
+        probe.at(3);
         let word = self.take_sequence::<Brand>(stepper, taken);
         if word != stored(self.key.limit, taken) {
             return TakeAnswer::NotYet(self.key.first + taken);
         }
-        probe.at(3);
-        let stored = self.move_out(stepper, taken, spare.take());
+        self.take_out(stepper, spare, taken, probe)
+    }
+
+    // The rest of a take: the block comes out of the slot, which is the seat's, and its place is
+    // free.
+    fn take_out<P: Probe>(
+        &self,
+        stepper: &mut Stepper,
+        spare: &mut Spare,
+        taken: u64,
+        probe: &mut P,
+    ) -> TakeAnswer
+        requires { IsTakingOut self.now taken stepper.old }
+        ensures { HasTakenOut self.now taken stepper.old stepper.new result }
+    {
         probe.at(4);
+        let stored = self.move_out(stepper, taken, spare.take());
+        probe.at(5);
         self.free_place::<Brand>(stepper, taken, &stored);
         let StoredBlock { writer, block } = stored;
         TakeAnswer::Block(block, writer, self.key.first + taken + 1)

@@ -5,16 +5,34 @@ ghost use Rattle.block_queue.specs.declared.view.Stage.TheVariants.{Free, Moving
 ghost use Rattle.block_queue.specs.Places.{place_of};
 ghost use Rattle.block_queue.specs.Rule.{IsStageLooking};
 ghost use Rattle.block_queue.specs.Seats.{IsStepperOf, IsSameStepper, asks, no_write};
-ghost use Rattle.block_queue.specs.Steps.{HasTakeTail, HasTakeSequence, HasFreed, HasHung};
+ghost use Rattle.block_queue.specs.Steps.{HasTakeReady, HasTakeTail, HasTakeSequence};
+ghost use Rattle.block_queue.specs.Steps.{HasFreed, HasHung};
 
 use crate::places::{MARK, TAIL, place, sequence, stored};
-use crate::plays::{Asks, FreePlace, Hang, TakeSequence, TakeTail};
+use crate::plays::{Asks, FreePlace, Hang, TakeReady, TakeSequence, TakeTail};
 use crate::queue::Queue;
 use crate::queue_object::StoredBlock;
 use crate::rule::Stepper;
 use crate::spare::{Slot, Spare};
 
 impl Queue {
+    /// Reads whether the next block stands, before it is asked why none does.
+    // Step TakeReady: load of the sequence word of its place. Where the block stands the slot is
+    // the seat's.
+    // Seat: Free, then Moving; or as it was.
+    // Keeps the rule: no word changes, and the history gains nothing.
+    pub(crate) fn take_ready<M: Asks>(&self, seat: &mut Stepper, taken: u64) -> u64
+        requires seat { IsStepperOf self.now seat.old 0 }
+        requires asked { M.asked ≡ asks self.now 0 no_write }
+        requires stage { seat.old.me.0.stage ≡ Free }
+        requires taken { taken ≡ seat.old.me.0.taken }
+        ensures seat { IsSameStepper seat.old seat.new }
+        ensures told { HasTakeReady self.now.key seat.old.me result seat.new.me }
+    {
+        let word = sequence(place(self.key.limit, taken));
+        self.table.shared.load::<TakeReady<M>>(seat, word)
+    }
+
     /// Reads whether the queue has ended.
     // Step TakeTail: load of the tail.
     // Seat: Free, then Free with the entry End, or Looking.

@@ -230,7 +230,7 @@ fn a_put_that_read_no_mark_finds_the_queue_full(rt: HostRuntime) -> Result<(), F
 
 #[test]
 fn a_take_sees_what_came_before_its_steps(rt: HostRuntime) -> Result<(), Fail> {
-    for point in 1..3 {
+    for point in 1..4 {
         let One {
             queue,
             mut take,
@@ -243,28 +243,30 @@ fn a_take_sees_what_came_before_its_steps(rt: HostRuntime) -> Result<(), Fail> {
             visited: false,
         };
         let answer = queue.take_probed(&mut take, &mut probe);
-        if point == 1 {
+        if point < 3 {
             assert!(rt; matches!(answer, TakeAnswer::End));
         } else {
             assert!(rt; matches!(answer, TakeAnswer::NotYet(0)));
             assert!(rt; matches!(queue.take(&mut take), TakeAnswer::End));
         }
     }
-    let One {
-        queue,
-        mut take,
-        put,
-    } = One::open(rt.alloc(), 2, 0)?;
-    let mut probe = PutAt {
-        rt: &rt,
-        queue: &queue,
-        put,
-        point: 2,
-        block: Some(block(rt.alloc(), b"a")?),
-        answer: None,
-    };
-    assert!(rt; gave(queue.take_probed(&mut take, &mut probe), b"a", 0, 1));
-    assert!(rt; matches!(probe.answer, Some(PutAnswer::Taken(1))));
+    for point in 1..4 {
+        let One {
+            queue,
+            mut take,
+            put,
+        } = One::open(rt.alloc(), 2, 0)?;
+        let mut probe = PutAt {
+            rt: &rt,
+            queue: &queue,
+            put,
+            point,
+            block: Some(block(rt.alloc(), b"a")?),
+            answer: None,
+        };
+        assert!(rt; gave(queue.take_probed(&mut take, &mut probe), b"a", 0, 1));
+        assert!(rt; matches!(probe.answer, Some(PutAnswer::Taken(1))));
+    }
     Ok(())
 }
 
