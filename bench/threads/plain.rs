@@ -7,6 +7,8 @@
 //!              each on its line and each step with the operation that the library has for it;
 //!              blocks come back to their writers through the slots of the ring, and a writer looks
 //!              for room a while before it sleeps
+//!   apart      the same, with words and blocks where a table of the library has them: all words of
+//!              the ring side by side, and the blocks elsewhere
 //!   channel    std's `sync_channel(16)`, whose reader checks a block where it lies, and copies none
 //!   crossbeam  the same by crossbeam's `bounded(16)`, where the program was built with it
 //!   pipe       a pipe of the system, whose reader takes as many messages at once as are there
@@ -199,32 +201,108 @@ impl Words {
     }
 }
 
-/// A place of the ring: 2 · lap where it is free, and one more where its block stands. Where it is
-/// free it has a block to fill, which the reader has emptied.
+/// Where a ring of LIMIT places has its words and blocks. The word of a place is 2 · lap where it is
+/// free, and one more where its block stands. Where it is free it has a block to fill, which the
+/// reader has emptied.
+trait Places: Sync {
+    fn new() -> Self;
+
+    /// How many writes were accepted.
+    fn tail(&self) -> &AtomicU64;
+
+    fn sequence(&self, place: usize) -> &AtomicU64;
+
+    fn block(&self, place: usize) -> *mut Vec<u8>;
+}
+
 struct Place {
     sequence: AtomicU64,
     block: UnsafeCell<Vec<u8>>,
 }
 
-struct Ring {
+/// Each word on the line of its block.
+struct Together {
     tail: Line<AtomicU64>,
     places: Vec<Line<Place>>,
-    words: Words,
 }
 
-unsafe impl Sync for Ring {}
+unsafe impl Sync for Together {}
 
-impl Ring {
-    fn new(writers: usize) -> Ring {
+impl Places for Together {
+    fn new() -> Together {
         let place = |_| {
             Line(Place {
                 sequence: AtomicU64::new(0),
                 block: UnsafeCell::new(Vec::new()),
             })
         };
-        Ring {
+        Together {
             tail: Line(AtomicU64::new(0)),
             places: (0..LIMIT).map(place).collect(),
+        }
+    }
+
+    fn tail(&self) -> &AtomicU64 {
+        &self.tail.0
+    }
+
+    fn sequence(&self, place: usize) -> &AtomicU64 {
+        &self.places[place].0.sequence
+    }
+
+    fn block(&self, place: usize) -> *mut Vec<u8> {
+        self.places[place].0.block.get()
+    }
+}
+
+/// As in a table of the library: all words side by side, the tail first, and the blocks elsewhere.
+struct Apart {
+    words: Vec<AtomicU64>,
+    slots: Vec<Slot>,
+}
+
+/// As large as a slot of the library's queue.
+struct Slot {
+    block: UnsafeCell<Vec<u8>>,
+    _rest: [u64; 6],
+}
+
+unsafe impl Sync for Apart {}
+
+impl Places for Apart {
+    fn new() -> Apart {
+        let slot = |_| Slot {
+            block: UnsafeCell::new(Vec::new()),
+            _rest: [0; 6],
+        };
+        Apart {
+            words: (0..=LIMIT).map(|_| AtomicU64::new(0)).collect(),
+            slots: (0..LIMIT).map(slot).collect(),
+        }
+    }
+
+    fn tail(&self) -> &AtomicU64 {
+        &self.words[0]
+    }
+
+    fn sequence(&self, place: usize) -> &AtomicU64 {
+        &self.words[place + 1]
+    }
+
+    fn block(&self, place: usize) -> *mut Vec<u8> {
+        self.slots[place].block.get()
+    }
+}
+
+struct Ring<P> {
+    places: P,
+    words: Words,
+}
+
+impl<P: Places> Ring<P> {
+    fn new(writers: usize) -> Ring<P> {
+        Ring {
+            places: P::new(),
             words: Words::new(writers + 1),
         }
     }
@@ -234,20 +312,21 @@ impl Ring {
         spare.clear();
         spare.extend_from_slice(bytes);
         loop {
-            let tail = self.tail.0.load(SeqCst);
+            let tail = self.places.tail().load(SeqCst);
             assert!(tail < MARK, "nothing is written after the hangup");
-            let place = &self.places[(tail % LIMIT) as usize].0;
+            let place = (tail % LIMIT) as usize;
+            let word = self.places.sequence(place);
             let free = 2 * (tail / LIMIT);
-            looks_until(|| place.sequence.load(SeqCst) >= free);
-            let sequence = place.sequence.load(SeqCst);
+            looks_until(|| word.load(SeqCst) >= free);
+            let sequence = word.load(SeqCst);
             if sequence < free {
                 // Full: all but the last LIMIT writes were taken out.
                 self.words.sleep(writer + 1, tail - LIMIT);
             } else if sequence == free
-                && self.tail.0.compare_exchange(tail, tail + 1, SeqCst, SeqCst).is_ok()
+                && self.places.tail().compare_exchange(tail, tail + 1, SeqCst, SeqCst).is_ok()
             {
-                unsafe { std::mem::swap(&mut *place.block.get(), spare) };
-                place.sequence.store(free + 1, SeqCst);
+                unsafe { std::mem::swap(&mut *self.places.block(place), spare) };
+                word.store(free + 1, SeqCst);
                 self.words.wakeup(0, tail + 1);
                 return;
             } else {
@@ -267,16 +346,17 @@ impl Ring {
     /// before, and keeps this one.
     fn read(&self, head: &mut u64, emptied: &mut Vec<u8>, buffer: &mut [u8]) -> Option<usize> {
         loop {
-            let place = &self.places[(*head % LIMIT) as usize].0;
+            let place = (*head % LIMIT) as usize;
+            let word = self.places.sequence(place);
             let free = 2 * (*head / LIMIT);
-            let stands = || place.sequence.load(SeqCst) == free + 1;
+            let stands = || word.load(SeqCst) == free + 1;
             let ready = stands();
-            if !ready && self.tail.0.load(SeqCst) == *head + MARK {
+            if !ready && self.places.tail().load(SeqCst) == *head + MARK {
                 return None;
             }
             if ready || stands() {
-                unsafe { std::mem::swap(&mut *place.block.get(), emptied) };
-                place.sequence.store(free + 2, SeqCst);
+                unsafe { std::mem::swap(&mut *self.places.block(place), emptied) };
+                word.store(free + 2, SeqCst);
                 *head += 1;
                 self.wake_writers(*head);
                 buffer[..emptied.len()].copy_from_slice(emptied);
@@ -287,14 +367,14 @@ impl Ring {
     }
 
     fn hangup(&self) {
-        self.tail.0.fetch_or(MARK, SeqCst);
+        self.places.tail().fetch_or(MARK, SeqCst);
         self.words.wakeup(0, u64::MAX);
         self.wake_writers(u64::MAX);
     }
 }
 
-fn by_ring(opts: Opts) -> Tally {
-    let ring = Ring::new(opts.writers);
+fn by_ring<P: Places>(opts: Opts) -> Tally {
+    let ring = Ring::<P>::new(opts.writers);
     let ring = &ring;
     thread::scope(|scope| {
         let reader = scope.spawn(move || {
@@ -430,7 +510,8 @@ fn main() -> io::Result<()> {
         size: number(4) as usize,
     };
     let tally = match words[1].as_str() {
-        "ring" => by_ring(opts),
+        "ring" => by_ring::<Together>(opts),
+        "apart" => by_ring::<Apart>(opts),
         "channel" => by_channel(opts),
         "crossbeam" => by_crossbeam(opts),
         _ => by_pipe(opts)?,

@@ -10,7 +10,7 @@ work=$top/bench/out/threads
 crates=${CROSSBEAM:-/usr/share/cargo/registry}
 mkdir -p "$work"
 
-ways="ring channel pipe"
+ways="ring apart channel pipe"
 if ls "$crates"/crossbeam-channel-* >/dev/null 2>&1; then
     ways="$ways crossbeam"
     mkdir -p "$work/crossbeam"
