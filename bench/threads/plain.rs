@@ -5,8 +5,8 @@
 //!   ring       the steps of a pipe and nothing else: a ring without a lock, a wakeup of the reader
 //!              by each write and of every writer by each read, on the words of sleep and wakeup,
 //!              each on its line and each step with the operation that the library has for it;
-//!              blocks come back to their writers through the slots of the ring, and a writer looks
-//!              for room a while before it sleeps
+//!              a block is read where it lies, and comes back to a writer through the slots of the
+//!              ring; a writer looks for room a while before it sleeps
 //!   apart      the same, with words and blocks where a table of the library has them: all words of
 //!              the ring side by side, and the blocks elsewhere
 //!   channel    std's `sync_channel(16)`, whose reader checks a block where it lies, and copies none
@@ -342,9 +342,8 @@ impl<P: Places> Ring<P> {
         }
     }
 
-    /// Reads one write into the buffer, or none at the end. It leaves the block that it emptied
-    /// before, and keeps this one.
-    fn read(&self, head: &mut u64, emptied: &mut Vec<u8>, buffer: &mut [u8]) -> Option<usize> {
+    /// Reads one write where it lies, and leaves the block that it had before; `false` at the end.
+    fn read(&self, head: &mut u64, block: &mut Vec<u8>) -> bool {
         loop {
             let place = (*head % LIMIT) as usize;
             let word = self.places.sequence(place);
@@ -352,15 +351,14 @@ impl<P: Places> Ring<P> {
             let stands = || word.load(SeqCst) == free + 1;
             let ready = stands();
             if !ready && self.places.tail().load(SeqCst) == *head + MARK {
-                return None;
+                return false;
             }
             if ready || stands() {
-                unsafe { std::mem::swap(&mut *self.places.block(place), emptied) };
+                unsafe { std::mem::swap(&mut *self.places.block(place), block) };
                 word.store(free + 2, SeqCst);
                 *head += 1;
                 self.wake_writers(*head);
-                buffer[..emptied.len()].copy_from_slice(emptied);
-                return Some(emptied.len());
+                return true;
             }
             self.words.sleep(0, *head);
         }
@@ -379,11 +377,10 @@ fn by_ring<P: Places>(opts: Opts) -> Tally {
     thread::scope(|scope| {
         let reader = scope.spawn(move || {
             let mut tally = Tally::new(opts);
-            let mut buffer = vec![0; opts.size];
-            let mut emptied = Vec::new();
+            let mut block = Vec::new();
             let mut head = 0;
-            while let Some(count) = ring.read(&mut head, &mut emptied, &mut buffer) {
-                tally.count(&buffer[..count]);
+            while ring.read(&mut head, &mut block) {
+                tally.count(&block);
             }
             tally
         });

@@ -7,8 +7,6 @@ use Rattle.std.proofs.Math.Seq.{take-append_seam}
 use Rattle.histories.specs.declared.account.Account.{Account}
 use Rattle.sync_base.specs.declared.fault.Fault.{Fault}
 use Rattle.sync_base.specs.declared.fault.Fault.TheVariants.{BadArg}
-use Rattle.sync_base.specs.declared.mode.Mode.{Mode}
-use Rattle.sync_base.specs.declared.mode.Mode.TheVariants.{Message, Stream}
 use Rattle.sleep_wakeup.specs.Kernel.{Running}
 use Rattle.block_queue.specs.declared.entry.Entry.{Entry}
 use Rattle.block_queue.specs.declared.entry.Entry.TheVariants.{Hung}
@@ -19,7 +17,8 @@ use Rattle.pipe_dev.specs.declared.answers.ReadAnswer.TheVariants as read
 use Rattle.pipe_dev.specs.declared.row.Row.{Row}
 use Rattle.pipe_dev.specs.Chain.{written_by}
 use Rattle.pipe_dev.specs.Ends.{IsSameWriteEnd}
-use Rattle.pipe_dev.specs.ReadCalls.{Reader, Reads, InMode, KeepsTrying, KeepsReading, calling}
+use Rattle.pipe_dev.specs.BlockReads.{ReadsBlock}
+use Rattle.pipe_dev.specs.ReadCalls.{Calling}
 use Rattle.pipe_dev.specs.Sides.{HasWrittenJust}
 use Rattle.pipe_dev.specs.WriteCalls.{Writes, call_of, writer_of}
 use Rattle.pipe_dev.proofs.SideLemmas.{writes_add}
@@ -34,52 +33,30 @@ pub hung_now : (key : Key) (seat : ℕ) (old new : Account Entry) → Enters key
 hung_now key seat old new enters = ap (λ (a : Account Entry). is_hung a.seen) enters.adds.new_is
 
 -- a read that was answered the end
-at_end_now : (key : Key) (row : Row) (old : Reader) (buffer : List ℕ) (new : Reader)
-    (buffer' : List ℕ) → Reads key row (calling old buffer) (Ok read.End) (calling new buffer')
-    → is_at_end new.account.seen ≡ true
-at_end_now key row old buffer new buffer' reads = by row.mode reads
-  where
-    by : (mode : Mode)
-        → InMode mode (KeepsTrying key row (calling old buffer) (Ok read.End) (calling new buffer'))
-        (KeepsReading key row (calling old buffer) (Ok read.End) (calling new buffer'))
-        → is_at_end new.account.seen ≡ true
-    by Message trying =
-        ap (λ (a : Account Entry). is_at_end a.seen) trying.ended.0.entered.adds.new_is
-    by Stream reading =
-        ap (λ (a : Account Entry). is_at_end a.seen)
-        reading.ended.fills.stopped.1.entered.adds.new_is
+at_end_now : (key : Key) (row : Row) (old new : Calling) → ReadsBlock key row old (Ok read.End) new
+    → is_at_end new.reader.account.seen ≡ true
+at_end_now key row old new reads =
+    ap (λ (a : Account Entry). is_at_end a.seen) reads.ended.0.entered.adds.new_is
 
 -- the same, of an answer that is the end
-pub at_end : (key : Key) (row : Row) (old : Reader) (buffer : List ℕ)
-    (answer : Result ReadAnswer Fault) (new : Reader) (buffer' : List ℕ)
-    → Reads key row (calling old buffer) answer (calling new buffer') → answer ≡ Ok read.End
-    → is_at_end new.account.seen ≡ true
-at_end key row old buffer answer new buffer' reads is =
-    at_end_now key row old buffer new buffer'
-    (subst
-    (λ (a : Result ReadAnswer Fault). Reads key row (calling old buffer) a (calling new buffer')) is
-    reads)
+pub at_end : (key : Key) (row : Row) (old : Calling) (answer : Result ReadAnswer Fault)
+    (new : Calling) → ReadsBlock key row old answer new → answer ≡ Ok read.End
+    → is_at_end new.reader.account.seen ≡ true
+at_end key row old answer new reads is =
+    at_end_now key row old new
+    (subst (λ (a : Result ReadAnswer Fault). ReadsBlock key row old a new) is reads)
 
 -- no read is refused as a bad argument
-never_bad : (key : Key) (row : Row) (old : Reader) (buffer : List ℕ) (new : Reader)
-    (buffer' : List ℕ) → Reads key row (calling old buffer) (Err BadArg) (calling new buffer') → ⊥
-never_bad key row old buffer new buffer' reads = by row.mode reads
-  where
-    by : (mode : Mode)
-        → InMode mode (KeepsTrying key row (calling old buffer) (Err BadArg) (calling new buffer'))
-        (KeepsReading key row (calling old buffer) (Err BadArg) (calling new buffer')) → ⊥
-    by Message trying = trying.ended.0.failed
-    by Stream reading = reading.ended.failed
+never_bad : (key : Key) (row : Row) (old new : Calling) → ReadsBlock key row old (Err BadArg) new
+    → ⊥
+never_bad key row old new reads = reads.ended.0.failed
 
 -- the same, of an answer that is one
-pub no_bad_read : (key : Key) (row : Row) (old : Reader) (buffer : List ℕ)
-    (answer : Result ReadAnswer Fault) (new : Reader) (buffer' : List ℕ)
-    → Reads key row (calling old buffer) answer (calling new buffer') → ¬ (answer ≡ Err BadArg)
-no_bad_read key row old buffer answer new buffer' reads is =
-    never_bad key row old buffer new buffer'
-    (subst
-    (λ (a : Result ReadAnswer Fault). Reads key row (calling old buffer) a (calling new buffer')) is
-    reads)
+pub no_bad_read : (key : Key) (row : Row) (old : Calling) (answer : Result ReadAnswer Fault)
+    (new : Calling) → ReadsBlock key row old answer new → ¬ (answer ≡ Err BadArg)
+no_bad_read key row old answer new reads is =
+    never_bad key row old new
+    (subst (λ (a : Result ReadAnswer Fault). ReadsBlock key row old a new) is reads)
 
 -- what is taken of a list that goes on behind it
 pub kept_items : (len : ℕ) (xs ys : List ℕ) → length xs ≡ len → take len (xs ++ ys) ≡ xs

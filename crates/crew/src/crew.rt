@@ -133,7 +133,7 @@ impl<'p> Writer<'p> {
 pub struct Reader<'p> {
     proc: Proc<'p>,
     end: ReadEnd<'p>,
-    buffer: Vec<u8>,
+    block: Vec<u8>,
     pub(crate) opts: ThreadsOpts,
     tally: Tally,
     ghost of: { IsTallyOf opts tally },
@@ -172,14 +172,15 @@ impl<'p> Reader<'p> {
         Ok(Reader {
             proc,
             end,
-            buffer: vec![in alloc; 0; opts.size as usize]?,
+            block: Vec::with_capacity(alloc, opts.size as usize)?,
             opts: *opts,
             tally: Tally::new(alloc, opts)?,
         })
     }
 
-    /// Reads and counts until the end. Where it can read no more it hangs the pipe up.
-    #[tactic(auto, using(crate::proofs::CrewLemmas::answer_fits, crate::proofs::CrewLemmas::still_of, crate::proofs::WritingLemmas::at_end, crate::proofs::WritingLemmas::no_bad_read))]
+    /// Reads and counts, block by block, until the end. Where it can read no more it hangs the pipe
+    /// up.
+    #[tactic(auto, using(crate::proofs::CrewLemmas::still_of, crate::proofs::WritingLemmas::at_end, crate::proofs::WritingLemmas::no_bad_read))]
     pub fn read_all<R: Wait>(self, rt: &R) -> Counted<'p>
         ensures opts { result.opts ≡ self.entry.opts }
         ensures run { AreOfOneRun self.entry.tally result.tally }
@@ -187,13 +188,13 @@ impl<'p> Reader<'p> {
         let Reader {
             mut proc,
             mut end,
-            mut buffer,
+            mut block,
             opts,
             mut tally,
         } = self;
         'reading: for _ in rt.forever() {
-            match end.read(rt, &mut proc, &mut buffer) {
-                Ok(ReadAnswer::Got(count)) => tally.count(&buffer[..count]),
+            match end.read_block(rt, &mut proc, &mut block) {
+                Ok(ReadAnswer::Got(_)) => tally.count(&block),
                 Ok(ReadAnswer::End) => {
                     return Counted {
                         end,

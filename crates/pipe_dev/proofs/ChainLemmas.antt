@@ -46,8 +46,9 @@ use Rattle.pipe_dev.proofs.ReadingLemmas.{what_is_read_is_right}
 -- ---- calls are steps
 
 -- a try that found nothing is a step that adds nothing
-found_none : (key : Key) (entry : Entry) (old new : Reader) (parts : List Part) → IsNoBlock entry
-    → FindsNone key entry old new → AddsNothing key (reading_at old parts) (reading_at new parts)
+pub found_none : (key : Key) (entry : Entry) (old new : Reader) (parts : List Part)
+    → IsNoBlock entry → FindsNone key entry old new
+    → AddsNothing key (reading_at old parts) (reading_at new parts)
 found_none key entry old new parts none found =
     record {
       entry = entry;
@@ -63,7 +64,8 @@ slept_round key row old new parts slept =
     found_none key (NotYet slept.number) old (record new { process = old.process }) parts tt
     slept.found.none
 
-slept_rounds : (key : Key) (row : Row) (times : ℕ) (old new : Reader) (parts : List Part)
+-- sleeps are steps that add nothing
+pub slept_rounds : (key : Key) (row : Row) (times : ℕ) (old new : Reader) (parts : List Part)
     → Rounds (SleepsForWrite key row) times old new
     → Rounds (ReadStep key) times (reading_at old parts) (reading_at new parts)
 slept_rounds key row zero old new parts rounds = ap (λ (r : Reader). reading_at r parts) rounds
@@ -80,7 +82,7 @@ has_room [] some = absurd (some refl)
 has_room (byte ∷ bytes) some = omega arith
 
 -- bytes that were got are one part more
-got_next : (key : Key) (row : Row) (old new : Reader) (left : Part)
+pub got_next : (key : Key) (row : Row) (old new : Reader) (left : Part)
     → GoesOn old left new ⊎ TakesOut key row old left new
     → (parts parts' : List Part)
     → IsLeft (taker_in (reading_at old parts)) left (taker_in (reading_at new parts'))
@@ -121,7 +123,7 @@ got_one part buffer buffer' count parts filled =
     }
 
 -- a call that did nothing adds nothing
-no_step : (key : Key) (Adds : List Part → List Part → Type 0) (old new : Reader)
+pub no_step : (key : Key) (Adds : List Part → List Part → Type 0) (old new : Reader)
     (parts : List Part) → new ≡ old → Adds parts parts → IsOfSteps key Adds old parts new
 no_step key Adds old new parts same adds =
     record {

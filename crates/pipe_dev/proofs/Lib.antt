@@ -19,6 +19,7 @@ pub mod WorkedWrites
 pub mod WorkedFills
 pub mod WorkedStreams
 pub mod SideLemmas
+pub mod BlockLemmas
 pub mod WorkedOpenings
 pub mod WorkedEnds
 mod WorkedDirections

@@ -74,7 +74,7 @@ stays_read old new parts same made =
     subst (λ (q : Queue). IsMade (key_of q) (reading_of new parts)) (sym same.queue) made
 
 -- steps add what they add
-steps_add : (Adds : List Part → List Part → Type 0) (old new : ReadSide)
+pub steps_add : (Adds : List Part → List Part → Type 0) (old new : ReadSide)
     (parts parts' : List Part) (times : ℕ) → HasReadJust old parts → IsSameReadEnd old new
     → Adds parts parts'
     → Rounds (ReadStep (key_of old.queue)) times (reading_of old parts)

@@ -13,6 +13,7 @@ use Rattle.block_queue.specs.declared.entry.Entry.TheVariants as entry
 use Rattle.block_queue.specs.Meaning.{Enters}
 use Rattle.pipe_dev.specs.declared.answers.ReadAnswer.TheVariants as read
 use Rattle.pipe_dev.specs.declared.answers.TryAnswer.TheVariants as try
+use Rattle.pipe_dev.specs.BlockReads.{ReadsBlock}
 use Rattle.pipe_dev.specs.Chain.{IsMade, IsNoBlock, AddsNothing}
 use Rattle.pipe_dev.specs.Parts.{Part}
 use Rattle.pipe_dev.specs.ReadCalls.{Reader, Reads, Tries, GoesOn, TakesOut, FindsNotYet}
@@ -250,6 +251,111 @@ module _ (table : TableId) where
   try_at_the_end_fills_its_buffer : Tries tight rendez_row (calling (reader unread idle) b) try.End
       (calling (reader has_ended idle) a) → ⊥
   try_at_the_end_fills_its_buffer tries = let bytes = tries.1 in cc
+
+  -- ---- a read of a block
+
+  -- it slept once; then the block is the write, whole, and its writer was woken with the number 1
+  waits_and_reads_a_block : ReadsBlock tight rendez_row (calling (reader unread idle) b)
+      (Ok (read.Got 2)) (calling (reader has_taken (woke reader_woken 4 1)) a)
+  waits_and_reads_a_block =
+      record {
+        times = 1;
+        between = reader told reader_woken;
+        slept = record { between = reader unread idle; rounds = refl; last = sleeps_for_a_write };
+        ended = (
+          record {
+            left = record { place = 0; writer = 0; bytes = a };
+            next = inr record { none_left = refl; taken = takes_out; woken = wakes_the_writer };
+            block_is = refl;
+            rest = refl;
+          },
+          refl,
+        );
+      }
+
+  -- of a write that was begun it reads what is left, and wakes nobody
+  reads_a_begun_block : ReadsBlock tight rendez_row (calling (begun idle) a) (Ok (read.Got 1))
+      (calling (reader has_taken idle) (98 ∷ []))
+  reads_a_begun_block =
+      record {
+        times = 0;
+        between = begun idle;
+        slept = refl;
+        ended = (
+          record {
+            left = second_byte;
+            next = inl record { left_is = refl; account = refl; process = refl };
+            block_is = refl;
+            rest = refl;
+          },
+          refl,
+        );
+      }
+
+  reads_no_block_at_the_end : ReadsBlock tight rendez_row (calling (reader unread idle) b)
+      (Ok read.End) (calling (reader has_ended idle) b)
+  reads_no_block_at_the_end =
+      record {
+        times = 0;
+        between = reader unread idle;
+        slept = refl;
+        ended = (
+          record { none_left = refl; entered = finds_the_end; rest = refl; process = refl },
+          refl,
+        );
+      }
+
+  block_read_is_interrupted : ReadsBlock tight rendez_row (calling (reader unread idle) b)
+      (Err (fault.Interrupted (only Interrupt)))
+      (calling (reader told (slept idle 3 0 (only Interrupt))) b)
+  block_read_is_interrupted =
+      record {
+        times = 0;
+        between = reader unread idle;
+        slept = refl;
+        ended = (
+          record {
+            number = 0;
+            found = finds_not_yet;
+            failed = (sleeps idle 3 0 (only Interrupt), has_notes);
+          },
+          refl,
+        );
+      }
+
+  block_read_of_another_kernel : ReadsBlock tight rendez_row (calling (reader unread idle) b)
+      (Err fault.NoRendez) (calling (reader unread idle) b)
+  block_read_of_another_kernel = record { same = refl; buffer_same = refl }
+
+  refused_block_read_asks : ReadsBlock tight rendez_row (calling (reader unread idle) b)
+      (Err fault.NoRendez) (calling (reader told idle) b) → ⊥
+  refused_block_read_asks reads = let seen = ap (λ (r : Reader). r.account.seen) reads.same in cc
+
+  block_read_leaves_a_rest :
+      ReadsBlock tight rendez_row (calling (reader told reader_woken) b) (Ok (read.Got 1))
+      (calling (begun (woke reader_woken 4 1)) (97 ∷ [])) → ⊥
+  block_read_leaves_a_rest reads = let rest = reads.ended.0.rest in cc
+
+  block_read_counts_another_size :
+      ReadsBlock tight rendez_row (calling (begun idle) a) (Ok (read.Got 2))
+      (calling (reader has_taken idle) (98 ∷ [])) → ⊥
+  block_read_counts_another_size reads = let count = reads.ended.1 in cc
+
+  block_read_takes_the_block_at_the_end :
+      ReadsBlock tight rendez_row (calling (reader unread idle) b) (Ok read.End)
+      (calling (reader has_ended idle) []) → ⊥
+  block_read_takes_the_block_at_the_end reads = let bytes = reads.ended.1 in cc
+
+  interrupted_block_read_takes_the_block :
+      ReadsBlock tight rendez_row (calling (reader unread idle) b)
+      (Err (fault.Interrupted (only Interrupt)))
+      (calling (reader told (slept idle 3 0 (only Interrupt))) []) → ⊥
+  interrupted_block_read_takes_the_block reads = let bytes = reads.ended.1 in cc
+
+  block_read_of_no_bytes_is_refused : (new : Reader)
+      → ReadsBlock tight rendez_row (calling (reader unread idle) []) (Err fault.BadCount)
+      (calling new []) → ⊥
+  block_read_of_no_bytes_is_refused new reads = reads.ended.0.failed
 
   -- ---- what calls make of a read end
 

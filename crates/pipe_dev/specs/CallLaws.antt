@@ -2,6 +2,7 @@
 use Rattle.std.specs.Prelude.{◌≡◌, ◌≢◌, ◌+◌, ◌++◌, ℕ, List, [], Result}
 use Rattle.histories.specs.declared.account.Account.{Account}
 use Rattle.sync_base.specs.declared.fault.Fault.{Fault}
+use Rattle.sync_base.specs.declared.mode.Mode.TheVariants.{Message}
 use Rattle.block_queue.specs.declared.entry.Entry.{Entry}
 use Rattle.block_queue.specs.declared.entry.Entry.TheVariants.{Hung}
 use Rattle.block_queue.specs.declared.view.Key.{Key}
@@ -10,6 +11,7 @@ use Rattle.block_queue.specs.Opening.{new_account}
 use Rattle.pipe_dev.specs.declared.answers.ReadAnswer.{ReadAnswer}
 use Rattle.pipe_dev.specs.declared.answers.TryAnswer.{TryAnswer}
 use Rattle.pipe_dev.specs.declared.row.Row.{Row}
+use Rattle.pipe_dev.specs.BlockReads.{ReadsBlock}
 use Rattle.pipe_dev.specs.Chain.{IsMade, IsOfSteps, AddsRead, AddsTry, AddsNone}
 use Rattle.pipe_dev.specs.Chain.{HasWritten, written_by}
 use Rattle.pipe_dev.specs.Parts.{Part}
@@ -31,6 +33,14 @@ TriesAreSteps =
     → old.buffer ≢ [] → Tries key row old answer new
     → (parts : List Part)
     → IsOfSteps key (AddsTry row.mode answer new.buffer) old.reader parts new.reader
+
+-- a read of a block adds one part in either mode, whose bytes are the block
+abbrev pub BlockReadsAreSteps : Type 0
+BlockReadsAreSteps =
+    (key : Key) (row : Row) (old : Calling) (answer : Result ReadAnswer Fault) (new : Calling)
+    → ReadsBlock key row old answer new
+    → (parts : List Part)
+    → IsOfSteps key (AddsRead Message answer new.buffer) old.reader parts new.reader
 
 abbrev pub HangupsAreSteps : Type 0
 HangupsAreSteps =

@@ -7,6 +7,7 @@ pub mod Rounds
 pub mod Filling
 pub mod FillSteps
 pub mod ReadCalls
+pub mod BlockReads
 pub mod WriteCalls
 pub mod ReadSteps
 pub mod WriteSteps

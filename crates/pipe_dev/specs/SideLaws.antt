@@ -2,6 +2,7 @@
 -- finds: a caller's proof from these laws alone goes from the making of a pipe to its finish.
 use Rattle.std.specs.Prelude.{◌≡◌, ◌≢◌, ◌+◌, ℕ, List, [], Result}
 use Rattle.sync_base.specs.declared.fault.Fault.{Fault}
+use Rattle.sync_base.specs.declared.mode.Mode.TheVariants.{Message}
 use Rattle.sleep_wakeup.specs.Kernel.{Running}
 use Rattle.block_queue.specs.declared.entry.Entry.TheVariants.{Hung}
 use Rattle.block_queue.specs.declared.queue.Queue.{Queue}
@@ -11,6 +12,7 @@ use Rattle.pipe_dev.specs.declared.answers.ReadAnswer.{ReadAnswer}
 use Rattle.pipe_dev.specs.declared.answers.TryAnswer.{TryAnswer}
 use Rattle.pipe_dev.specs.declared.closing.Held.{Held}
 use Rattle.pipe_dev.specs.declared.pipe.DirectionStart.{DirectionStart}
+use Rattle.pipe_dev.specs.BlockReads.{ReadsBlock}
 use Rattle.pipe_dev.specs.Chain.{AddsRead, AddsTry, AddsNone, written_by}
 use Rattle.pipe_dev.specs.Ends.{ReadSide, WriteSide, AreAllEnds, IsSameReadEnd, IsSameWriteEnd}
 use Rattle.pipe_dev.specs.Finishing.{GivesHeld}
@@ -28,7 +30,7 @@ NewEndsAreUnused =
     → IsDirectionStartOf queue start → AreNewEnds queue start.row read writes
     → AreUnused read writes
 
--- what `read`, `try_read` and `hangup` say of a read end, on the end itself
+-- what `read`, `try_read`, `read_block` and `hangup` say of a read end, on the end itself
 abbrev pub ReadsAddToTheirEnd : Type 0
 ReadsAddToTheirEnd =
     (old new : ReadSide) (before after : Running) (buffer : List ℕ)
@@ -48,6 +50,16 @@ TriesAddToTheirEnd =
     → IsSameReadEnd old new
     → (parts : List Part) → HasReadJust old parts
     → AddsToRead (AddsTry old.row.mode answer buffer') old parts new
+
+abbrev pub BlockReadsAddToTheirEnd : Type 0
+BlockReadsAddToTheirEnd =
+    (old new : ReadSide) (before after : Running) (block : List ℕ)
+    (answer : Result ReadAnswer Fault) (block' : List ℕ)
+    → ReadsBlock (key_of old.queue) old.row (calling (reader_of old before) block) answer
+    (calling (reader_of new after) block')
+    → IsSameReadEnd old new
+    → (parts : List Part) → HasReadJust old parts
+    → AddsToRead (AddsRead Message answer block') old parts new
 
 abbrev pub ReadEndsHangUp : Type 0
 ReadEndsHangUp =

@@ -2,6 +2,7 @@
 use block_queue::Spare;
 use std::alloc::{AllocError, Global};
 use std::marker::Model;
+use std::mem;
 use sync_base::Piece;
 
 /// A write that was taken out, of which a part may have been read.
@@ -89,6 +90,21 @@ impl Begun {
                 spare: Spare::none(),
             }
         }
+    }
+
+    /// Makes the block that of the bytes that are left, and gives the memory that it had. Where a
+    /// part was read the bytes move to the front of their memory, and else none moves.
+    pub(crate) fn hand_over(self, block: &mut Vec<u8>) -> Spare
+        ensures { block.new.items ≡ self.bytes }
+    {
+        let Begun {
+            block: piece,
+            at,
+            ..
+        } = self;
+        let mut bytes = piece.into_vec();
+        bytes.drain(..at);
+        Spare::of(Piece::of(mem::replace(block, bytes)))
     }
 
     /// The bytes that are left, in memory of their own.

@@ -3,6 +3,7 @@
 ghost use Rattle.pipe_dev.specs.CallLaws.{
   ReadsAreSteps,
   TriesAreSteps,
+  BlockReadsAreSteps,
   HangupsAreSteps,
   WhatIsReadIsRight,
   NewEndsHaveWrittenNothing,
@@ -22,11 +23,12 @@ ghost use Rattle.pipe_dev.specs.WaitLaws.{
 };
 
 /// Each call of a read end adds one part for the bytes that it got and nothing else; in stream mode
-/// it adds the parts that join to them, and of what has no bytes parts that are empty. What was
+/// a read adds the parts that join to them, and of what has no bytes parts that are empty. What was
 /// read stays right.
 pub fn calls_read_what_they_answer()
     ensures reads { ReadsAreSteps }
     ensures tries { TriesAreSteps }
+    ensures block_reads { BlockReadsAreSteps }
     ensures hangups { HangupsAreSteps }
     ensures right { WhatIsReadIsRight }
 {}

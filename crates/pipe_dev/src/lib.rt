@@ -1,11 +1,12 @@
 //! Two-way pipes between processes, after pipe(2) and pipe(3).
-//! Read `row`, `waking`; `begun`, `cursor`, `answers`; `read_end`, `filling`, `reading`;
-//! `write_end`, `writing`, `write_long`; `hanging`; `pipe`, `end`; `closing`; and then `laws`, the
-//! headline, and `side_laws`.
+//! Read `row`, `waking`; `begun`, `cursor`, `answers`; `read_end`, `filling`, `reading`,
+//! `block_reading`; `write_end`, `writing`, `write_long`; `hanging`; `pipe`, `end`; `closing`; and
+//! then `laws`, the headline, and `side_laws`.
 #![tactic(auto)]
 
 pub mod answers;
 pub mod begun;
+mod block_reading;
 pub mod closing;
 mod cursor;
 pub mod end;

@@ -108,9 +108,9 @@ impl<'p> ReadEnd<'p> {
 
 // A read is over: what its end holds, and the answer.
 #[derive(Drop)]
-struct Done {
-    cursor: ReadCursor,
-    answer: Result<ReadAnswer, Fault>,
+pub(crate) struct Done {
+    pub(crate) cursor: ReadCursor,
+    pub(crate) answer: Result<ReadAnswer, Fault>,
 }
 
 // What one try found. `NotYet` has the number with which to sleep.
@@ -136,9 +136,9 @@ struct Tried {
 
 // How far one round of a read came: it is over, or it slept.
 #[derive(Drop)]
-struct Round {
-    cursor: ReadCursor,
-    over: Option<Result<ReadAnswer, Fault>>,
+pub(crate) struct Round {
+    pub(crate) cursor: ReadCursor,
+    pub(crate) over: Option<Result<ReadAnswer, Fault>>,
 }
 
 // Tries and sleeps until it is answered.

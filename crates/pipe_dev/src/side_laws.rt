@@ -4,6 +4,7 @@ ghost use Rattle.pipe_dev.specs.SideLaws.{
   NewEndsAreUnused,
   ReadsAddToTheirEnd,
   TriesAddToTheirEnd,
+  BlockReadsAddToTheirEnd,
   ReadEndsHangUp,
   WritesAddToTheirEnd,
   WriteEndsHangUp,
@@ -17,6 +18,7 @@ pub fn ends_know_what_they_did()
     ensures new { NewEndsAreUnused }
     ensures reads { ReadsAddToTheirEnd }
     ensures tries { TriesAddToTheirEnd }
+    ensures block_reads { BlockReadsAddToTheirEnd }
     ensures read_hangups { ReadEndsHangUp }
     ensures writes { WritesAddToTheirEnd }
     ensures write_hangups { WriteEndsHangUp }

@@ -1,5 +1,6 @@
 //! What no clause says: that calls succeed where there is memory, and worked runs of a pipe.
 //! Every test ends by itself, whatever the schedule.
+mod blocks;
 mod crowds;
 mod echo;
 mod hangups;

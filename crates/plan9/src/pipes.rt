@@ -30,6 +30,7 @@ impl<'p, 'k> Reader<'p, 'k> {
     ghost use Rattle.block_queue.specs.declared.entry.Entry.TheVariants.{Hung};
     ghost use Rattle.block_queue.specs.Meaning.{Enters};
     ghost use Rattle.block_queue.specs.Seats.{key_of};
+    ghost use Rattle.pipe_dev.specs.BlockReads.{ReadsBlock};
     ghost use Rattle.pipe_dev.specs.Ends.{IsSameReadEnd};
     ghost use Rattle.pipe_dev.specs.ReadCalls.{Reads, Tries, IsUntouchedRead, calling, reader_of};
     ghost use Rattle.pipe_dev.specs.Rendezes.{HasRow, WakesIfKnown};
@@ -91,6 +92,32 @@ impl<'p, 'k> Reader<'p, 'k> {
         ensures words { self.new.proc.words ≡ self.old.proc.words }
     {
         self.end.try_read(&mut self.proc, buffer)
+    }
+
+    /// Reads all that is left of the write that was begun, or else the next write, and copies
+    /// nothing: the block becomes the one that was written, so its length is what was read. The
+    /// memory that it had goes to the writers, who fill it again: call with the block of the last
+    /// call. In stream mode too it reads one write, and an empty one as no bytes. Where nothing is
+    /// there yet it waits. Takes no memory.
+    ///
+    /// `End` where the direction is hung up and all is read. Refuses, in this order, as `NoRendez`
+    /// where the process is of another kernel, which has not all Rendez of the direction, and where
+    /// it would wait as `DoubleSleep` and `Interrupted`. At the end, and where it is refused, the
+    /// block is as it was. A read that took a write out wakes each writer with its number. After
+    /// pipe(3) and bread of the kernel's devices.
+    pub fn read_block<R: Wait>(&mut self, rt: &R, block: &mut Vec<u8>) -> Result<ReadAnswer, Fault>
+        // A process of a kernel that has not all Rendez of the direction is refused.
+        ensures no_rendez { IsErrOf result NoRendez
+            ↔ ¬ HasRow self.old.proc.words self.old.end.row }
+
+        // It read, slept and woke so, or did nothing.
+        ensures read { ReadsBlock (key_of self.old.end.queue) self.old.end.row
+            (calling (reader_of self.old.end self.old.proc) block.old.items) result
+            (calling (reader_of self.new.end self.new.proc) block.new.items) }
+        ensures end { IsSameReadEnd self.old.end self.new.end }
+        ensures words { self.new.proc.words ≡ self.old.proc.words }
+    {
+        self.end.read_block(rt, &mut self.proc, block)
     }
 
     /// Hangs its direction up, for all writers and for good, and wakes both sides. What was

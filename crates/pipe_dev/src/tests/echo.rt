@@ -97,7 +97,7 @@ fn ask<R: Wait>(
     Ok(back)
 }
 
-/// Sends back what comes, up to the end, and says how many.
+/// Sends back what comes, block by block, up to the end, and says how many.
 fn answer<R: Wait>(
     rt: &R,
     alloc: Global,
@@ -106,11 +106,14 @@ fn answer<R: Wait>(
     write: &mut WriteEnd,
 ) -> Result<u64, Fault> {
     let mut sent = 0u64;
+    let mut block = Vec::new(alloc);
     for _ in 0..u64::MAX {
-        let Some(number) = next_number(rt, proc, read)? else {
-            break;
-        };
-        send_number(rt, alloc, proc, write, number)?;
+        match read.read_block(rt, proc, &mut block)? {
+            ReadAnswer::Got(8) => {}
+            ReadAnswer::Got(_) => return Err(Fault::BadCount),
+            ReadAnswer::End => break,
+        }
+        write_again(rt, alloc, proc, write, &block)?;
         sent = sent.saturating_add(1);
     }
     Ok(sent)

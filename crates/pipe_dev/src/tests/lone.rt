@@ -188,6 +188,15 @@ impl<'a> Lone<'a> {
     }
 
     #[tactic(auto, using(crate::proofs::LoneLemmas::still_read))]
+    pub fn read_block<R: Wait>(
+        &mut self,
+        rt: &R,
+        block: &mut Vec<u8>,
+    ) -> Result<ReadAnswer, Fault> {
+        self.read.read_block(rt, &mut self.reader, block)
+    }
+
+    #[tactic(auto, using(crate::proofs::LoneLemmas::still_read))]
     pub fn hang_read(&mut self) {
         self.read.hangup(&mut self.reader)
     }

@@ -423,6 +423,11 @@ fn a_process_of_another_kernel_is_refused(rt: HostRuntime) -> Result<(), Fail> {
         Err(Fault::NoRendez)
     );
     assert_eq!(rt; read.read(&rt, &mut foreign, &mut []), Err(Fault::BadCount));
+    let mut block = Vec::new(rt.alloc());
+    assert_eq!(rt;
+        read.read_block(&rt, &mut foreign, &mut block),
+        Err(Fault::NoRendez)
+    );
     assert_eq!(rt;
         write.write(rt.alloc(), &rt, &mut foreign, b"b"),
         Err(Fault::NoRendez)
