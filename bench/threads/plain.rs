@@ -264,7 +264,7 @@ struct Apart {
 /// As large as a slot of the library's queue.
 struct Slot {
     block: UnsafeCell<Vec<u8>>,
-    _rest: [u64; 6],
+    _rest: [u64; 2],
 }
 
 unsafe impl Sync for Apart {}
@@ -273,7 +273,7 @@ impl Places for Apart {
     fn new() -> Apart {
         let slot = |_| Slot {
             block: UnsafeCell::new(Vec::new()),
-            _rest: [0; 6],
+            _rest: [0; 2],
         };
         Apart {
             words: (0..=LIMIT).map(|_| AtomicU64::new(0)).collect(),

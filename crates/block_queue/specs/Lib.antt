@@ -1,3 +1,4 @@
+pub mod Slots
 pub mod Calls
 pub mod Gather
 pub mod GatherSteps

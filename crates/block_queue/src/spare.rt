@@ -81,17 +81,24 @@ impl Spare {
 /// What a slot keeps: a block, or the memory of one.
 #[derive(Drop)]
 pub struct Slot {
-    stored: Option<StoredBlock>,
-    spare: Spare,
+    kept: Kept,
+}
+
+// One of the two, so that as few bytes as can be change hands.
+#[derive(Drop)]
+pub(crate) enum Kept {
+    Block(StoredBlock),
+    Memory(Spare),
 }
 
 impl Model for Slot {
     ghost use Rattle.std.specs.Prelude.{Option};
     ghost use Rattle.sync_base.specs.Write.{Write};
+    ghost use Rattle.block_queue.specs.Slots.{block_in};
 
     ghost Value = { Option Write };
 
-    ghost view = { λ slot. slot.stored };
+    ghost view = { λ slot. block_in slot.kept };
 }
 
 impl Slot {
@@ -102,8 +109,7 @@ impl Slot {
         ensures { result ≡ Some block }
     {
         Slot {
-            stored: Some(block),
-            spare: Spare::none(),
+            kept: Kept::Block(block),
         }
     }
 
@@ -112,8 +118,7 @@ impl Slot {
         ensures { result ≡ None }
     {
         Slot {
-            stored: None,
-            spare,
+            kept: Kept::Memory(spare),
         }
     }
 
@@ -121,13 +126,19 @@ impl Slot {
     pub(crate) fn into_stored(self) -> Option<StoredBlock>
         ensures { result ≡ self }
     {
-        let Slot { stored, spare: _ } = self;
-        stored
+        let Slot { kept } = self;
+        match kept {
+            Kept::Block(block) => Some(block),
+            Kept::Memory(_) => None,
+        }
     }
 
     /// The memory that it keeps.
     pub(crate) fn into_spare(self) -> Spare {
-        let Slot { stored: _, spare } = self;
-        spare
+        let Slot { kept } = self;
+        match kept {
+            Kept::Block(_) => Spare::none(),
+            Kept::Memory(spare) => spare,
+        }
     }
 }
