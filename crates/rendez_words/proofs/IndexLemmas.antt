@@ -21,7 +21,7 @@ use Rattle.sleep_core.proofs.TableRows.{MayStore, stores_its_kind}
 use Rattle.rendez_words.specs.declared.view.Sizes.{Sizes}
 use Rattle.rendez_words.specs.Plays.{number_of, IsWordOf, IsCellIn}
 use Rattle.rendez_words.specs.Rule.{rendez_line, proc_line, words_of, index_of}
-use Rattle.rendez_words.specs.declared.view.TheConstants.{LINE}
+use Rattle.sync_base.specs.declared.line.TheConstants.{LINE}
 use Rattle.rendez_words.proofs.LineLemmas.{AreLines, length_lines, read_line, write_line}
 use Rattle.rendez_words.proofs.LineLemmas.{zip-set_first, zip-set_second}
 

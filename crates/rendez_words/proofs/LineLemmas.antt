@@ -6,7 +6,7 @@ use Rattle.std.specs.Prelude.{replicate, zip, flat_map}
 use Rattle.std.proofs.lemmas.List.{length-append, get_or_append_left, get_or-append-add}
 use Rattle.std.proofs.lemmas.List.{set-append_left, set-append_right}
 use Rattle.std.proofs.lemmas.List.{replicate-append-replicate}
-use Rattle.rendez_words.specs.declared.view.TheConstants.{LINE}
+use Rattle.sync_base.specs.declared.line.TheConstants.{LINE}
 
 -- each element has a line
 abbrev pub AreLines : {X : Type 0} → (X → List ℕ) → Type 0

@@ -11,7 +11,7 @@ use Rattle.rendez_words.specs.declared.view.Sizes.{Sizes}
 use Rattle.rendez_words.specs.declared.view.View.{View}
 use Rattle.rendez_words.specs.Rule.{rendez_line, proc_line, words_of, Fits, ShowsCore}
 use Rattle.rendez_words.specs.View.{first_view, word_count}
-use Rattle.rendez_words.specs.declared.view.TheConstants.{LINE}
+use Rattle.sync_base.specs.declared.line.TheConstants.{LINE}
 use Rattle.rendez_words.proofs.LineLemmas.{zero_lines, zip-replicate}
 
 -- all lines are zeros

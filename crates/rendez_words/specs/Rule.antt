@@ -14,7 +14,7 @@ use Rattle.rendez_words.specs.declared.view.Part.{Part}
 use Rattle.rendez_words.specs.declared.view.Sizes.{Sizes}
 use Rattle.rendez_words.specs.declared.view.View.{View}
 use Rattle.rendez_words.specs.declared.view.View.TheVariants as view
-use Rattle.rendez_words.specs.declared.view.TheConstants.{LINE}
+use Rattle.sync_base.specs.declared.line.TheConstants.{LINE}
 use Rattle.rendez_words.specs.FlagsWord.{flags_word}
 
 -- these words with a line to themselves: what lies behind them is 0 for ever

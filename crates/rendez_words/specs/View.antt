@@ -4,7 +4,7 @@ use Rattle.rendez_words.specs.declared.view.Part.{Part}
 use Rattle.rendez_words.specs.declared.view.Sizes.{Sizes}
 use Rattle.rendez_words.specs.declared.view.View.{View}
 use Rattle.rendez_words.specs.declared.view.View.TheVariants as view
-use Rattle.rendez_words.specs.declared.view.TheConstants.{LINE}
+use Rattle.sync_base.specs.declared.line.TheConstants.{LINE}
 
 -- how many words there are: a line for each Rendez, and one for each process
 abbrev pub word_count : Sizes → ℕ

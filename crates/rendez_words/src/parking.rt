@@ -5,12 +5,12 @@
 ghost use Rattle.std.specs.Prelude.{◌≡◌, ◌≢◌, ◌==◌, ◌<◌, ◌^◌, IfOk};
 ghost use Rattle.rendez_words.specs.declared.parking.TheConstants.{AWAKE, PARKS};
 
-use crate::view::LINE;
 use std::alloc::{AllocError, Global};
 use std::marker::Model;
 use std::sync::atomic::AtomicU64;
 use std::sync::atomic::Ordering::SeqCst;
 use sync_base::Pid;
+use sync_base::line::LINE;
 
 /// What a process says that doesn't park.
 const AWAKE: u64 = 0;
@@ -26,7 +26,7 @@ pub struct Parking {
 
 impl Model for Parking {
     ghost use Rattle.std.specs.Prelude.{ℕ, length, ◌/◌};
-    ghost use Rattle.rendez_words.specs.declared.view.TheConstants.{LINE};
+    ghost use Rattle.sync_base.specs.declared.line.TheConstants.{LINE};
 
     ghost Value = { ℕ };
 

@@ -13,10 +13,10 @@ ghost use Rattle.rendez_words.specs.Words.{table_of, sizes_of, procs_of, rendez_
 use crate::parking::Unwoken;
 use crate::plays::{Make, MakeWhereEmpty, Making};
 use crate::states::Caller;
-use crate::view::LINE;
 use crate::words::Words;
 use sleep_core::Event;
 use std::marker::Brand;
+use sync_base::line::LINE;
 use sync_base::{Pid, RendezId};
 
 impl Words {

@@ -2,11 +2,6 @@
 //! alone see them, and they take no memory.
 use std::marker::Model;
 
-/// How many words a line has: 64 bytes, which a core takes from another at once. Each Rendez and
-/// each process has a line to itself, so that threads which step on the words of two of them don't
-/// take them from each other.
-pub(crate) const LINE: u64 = 8;
-
 /// How many processes and Rendez there are. It is fixed when the words are made.
 #[derive(Clone, Copy, Debug, PartialEq, Eq)]
 pub struct Sizes {

@@ -7,11 +7,12 @@ use crate::parking::Parking;
 use crate::plays::GivePid;
 use crate::rule::WordTable;
 use crate::states::{Caller, Pids, Seat};
-use crate::view::{LINE, Sizes};
+use crate::view::Sizes;
 use atomic_table::Table;
 use std::alloc::Global;
 use sync_base::Fault;
 use sync_base::limits::{MAX_PROCS, MAX_RENDEZ};
+use sync_base::line::LINE;
 
 /// Rendez and processes that sleep and wake each other, each process on a thread.
 #[derive(Drop)]

@@ -1,8 +1,8 @@
 //! What every layer of the library speaks of: the names of processes, Rendez and tags, the notes,
-//! the flags of rfork, the faults, the limits, and a pipe for one thread.
-//! Read `ids`, `note`, `flags`, `limits`, `fault`; then `piece`, `answers`, `mode`, `plain_pipe`
-//! and what holds of it, `laws`; `threads_opts` is what a run on threads is asked for, and `probe`
-//! is for tests of calls.
+//! the flags of rfork, the faults, the limits, the line of words, and a pipe for one thread.
+//! Read `ids`, `note`, `flags`, `limits`, `line`, `fault`; then `piece`, `answers`, `mode`,
+//! `plain_pipe` and what holds of it, `laws`; `threads_opts` is what a run on threads is asked for,
+//! and `probe` is for tests of calls.
 #![tactic(auto)]
 
 pub mod answers;
@@ -11,6 +11,7 @@ pub mod flags;
 pub mod ids;
 pub mod laws;
 pub mod limits;
+pub mod line;
 pub mod mode;
 pub mod note;
 pub mod piece;

@@ -6,7 +6,6 @@ ghost use Rattle.rendez_words.specs.Words.{IsProcessOf, procs_of};
 
 use crate::parking::Unwoken;
 use crate::tests::{FIRST, open, sleep, wakeup};
-use crate::view::LINE;
 use crate::{LookAnswer, Opened, Seat, TakeAnswer, TestAnswer, WithdrawAnswer, Words};
 use std::alloc::Global;
 use std::process::Abort;
@@ -15,6 +14,7 @@ use std::sync::atomic::AtomicU64;
 use std::sync::atomic::Ordering::SeqCst;
 use std::test::Fail;
 use std::thread::{Threads, join, yield_now};
+use sync_base::line::LINE;
 use sync_base::{Note, NoteSet, Pid};
 
 /// How often a waker yields once the sleeper has said that it parks, so that it does.
