@@ -7,8 +7,9 @@
 //!              each on its line and each step with the operation that the library has for it;
 //!              a block is read where it lies, and comes back to a writer through the slots of the
 //!              ring; a writer looks for room a while before it sleeps
-//!   apart      the same, with words and blocks where a table of the library has them: all words of
-//!              the ring side by side, and the blocks elsewhere
+//!   apart      the same, with words and blocks where a table of the library has them: the tail on a
+//!              line of its own, the words of four places on each line behind it, and the blocks
+//!              elsewhere
 //!   channel    std's `sync_channel(16)`, whose reader checks a block where it lies, and copies none
 //!   crossbeam  the same by crossbeam's `bounded(16)`, where the program was built with it
 //!   pipe       a pipe of the system, whose reader takes as many messages at once as are there
@@ -255,11 +256,17 @@ impl Places for Together {
     }
 }
 
-/// As in a table of the library: all words side by side, the tail first, and the blocks elsewhere.
+/// As in a table of the library: the tail has the first line to itself, the words of four places
+/// stand on each line behind it, two words apart, and the blocks elsewhere.
 struct Apart {
-    words: Vec<AtomicU64>,
+    tail: Line<AtomicU64>,
+    sequences: Vec<Line<[AtomicU64; WORDS]>>,
     slots: Vec<Slot>,
 }
+
+/// How many words a line has, and how many a place has, of which the first is its sequence.
+const WORDS: usize = 8;
+const STRIDE: usize = 2;
 
 /// As large as a slot of the library's queue.
 struct Slot {
@@ -276,17 +283,21 @@ impl Places for Apart {
             _rest: [0; 2],
         };
         Apart {
-            words: (0..=LIMIT).map(|_| AtomicU64::new(0)).collect(),
+            tail: Line(AtomicU64::new(0)),
+            sequences: (0..STRIDE * LIMIT as usize / WORDS)
+                .map(|_| Line(Default::default()))
+                .collect(),
             slots: (0..LIMIT).map(slot).collect(),
         }
     }
 
     fn tail(&self) -> &AtomicU64 {
-        &self.words[0]
+        &self.tail.0
     }
 
     fn sequence(&self, place: usize) -> &AtomicU64 {
-        &self.words[place + 1]
+        let word = STRIDE * place;
+        &self.sequences[word / WORDS].0[word % WORDS]
     }
 
     fn block(&self, place: usize) -> *mut Vec<u8> {

@@ -1,15 +1,12 @@
 -- Lists of seats that are taken apart from their end and put together again, as tests do it.
-use Rattle.std.proofs.Common.{◌≡◌, ℕ, zero, suc, ◌+◌, ◌<◌, List, [], ◌∷◌, ◌++◌, length}
+use Rattle.std.proofs.Common.{◌≡◌, ℕ, zero, suc, ◌+◌, List, [], ◌∷◌, ◌++◌, length}
 use Rattle.std.proofs.Common.{refl, sym, ap, subst, ◌∙◌, arith, length-append}
-use Rattle.std.specs.Prelude.{All, slice_get, slice_index_or, Some}
+use Rattle.std.specs.Prelude.{All}
 use Rattle.std.specs.List.{AllByRecursion}
 use Rattle.histories.specs.Account.{numbers_from}
 use Rattle.histories.proofs.ListLemmas.{all_append, all_past, all_since}
-use Rattle.block_queue.specs.declared.queue.Queue.{Queue}
 use Rattle.block_queue.specs.declared.seats.PutSeat.{PutSeat}
 use Rattle.block_queue.specs.Gather.{numbers_of}
-use Rattle.block_queue.specs.Opening.{AreNewPutSeats}
-use Rattle.block_queue.specs.Seats.{IsPutSeatOf}
 
 -- ---- of each element, said both ways
 

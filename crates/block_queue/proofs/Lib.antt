@@ -19,5 +19,6 @@ pub mod ObjectLemmas
 pub mod CrowdLemmas
 pub mod WorkedQueue
 pub mod WorkedObject
+mod WorkedPlaces
 mod WorkedGathers
 mod WorkedRefusals

@@ -8,15 +8,12 @@ use Rattle.std.proofs.lemmas.List.{length-append, length-drop, drop-append-le}
 use Rattle.std.proofs.lemmas.Option.{slice_get_past, slice_get_within}
 use native.Mathlib.Decide.{ℕ_discrete}
 use mathlib.Core.Logic.{dite}
-use Rattle.histories.specs.History.{IsLegal, state_after}
+use Rattle.histories.specs.History.{state_after}
 use Rattle.histories.proofs.HistoryLemmas.{state_after-append, legal_append}
-use Rattle.kernel_lock.specs.declared.view.Served.{Served}
 use Rattle.kernel_lock.specs.Definition.{meaning_of}
 use Rattle.sync_base.specs.Pipe.{begun_of}
 use Rattle.sync_base.specs.Write.{Write}
 use Rattle.sync_base.specs.declared.limits.TheConstants.{LAST_WRITE, MAX_WRITERS}
-use Rattle.block_queue.specs.declared.entry.Entry.TheVariants as entry
-use Rattle.block_queue.specs.declared.queue_object.QueueCall.{QueueCall}
 use Rattle.block_queue.specs.declared.queue_object.QueueCall.TheVariants.{Put, Take, Hang}
 use Rattle.block_queue.specs.declared.queue_object.QueueReply.{QueueReply}
 use Rattle.block_queue.specs.declared.queue_object.QueueReply.TheVariants as reply
@@ -28,7 +25,7 @@ use Rattle.block_queue.specs.QueueObject.{put_reply, take_reply, reply_to, after
 use Rattle.block_queue.specs.Laws.{Shows, IsCall, entries_of, queue_history}
 use Rattle.block_queue.specs.Laws.{EachCallIsRight, ObjectsAreQueues}
 use Rattle.block_queue.proofs.StateLemmas.{begun_is}
-use Rattle.block_queue.proofs.WordMoves.{put_here, put_else, same_some}
+use Rattle.block_queue.proofs.WordMoves.{put_here, put_else}
 
 -- what holds of both sides of a test holds of what it picks
 either_side : {X : Type 0} (P : X → Type 0) (b : Bool) (x y : X) → (b ≡ true → P x) →

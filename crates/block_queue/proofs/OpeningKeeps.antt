@@ -1,5 +1,5 @@
 -- The rule holds when the queue is made: the history is empty, and all places are free.
-use Rattle.std.proofs.Common.{◌≡◌, ℕ, zero, suc, false, ◌+◌, ◌/◌, ◌%◌, ◌<◌, ◌≤◌, List, [], ◌∷◌}
+use Rattle.std.proofs.Common.{◌≡◌, ℕ, zero, suc, false, ◌/◌, ◌%◌, ◌<◌, ◌≤◌, List, [], ◌∷◌}
 use Rattle.std.proofs.Common.{length, get_or, map, refl, sym, subst, ◌∙◌, arith, None, Some}
 use Rattle.std.specs.Prelude.{replicate, Option, slice_get}
 use Rattle.std.specs.List.{AllByRecursion}
@@ -18,7 +18,7 @@ use Rattle.block_queue.specs.declared.entry.Entry.{Entry}
 use Rattle.block_queue.specs.declared.view.Key.{Key}
 use Rattle.block_queue.specs.declared.view.View.{View}
 use Rattle.block_queue.specs.History.{seat_of, opening_state}
-use Rattle.block_queue.specs.Places.{Homes, IsPlace, AreWords, place_of, sequence_of}
+use Rattle.block_queue.specs.Places.{Homes, IsPlace, AreWords, place_of, sequence_of, ring_words}
 use Rattle.block_queue.specs.Rule.{IsOneQueue, FitsView, account_of, first_view}
 
 abbrev no_block : Option Write
@@ -49,7 +49,7 @@ no_puts_yet (number ∷ numbers) = (refl, no_puts_yet numbers)
 
 module _ (key : Key) (some_room : 0 < key.limit) (given : key.first ≤ LAST_WRITE) where
   abbrev words : List ℕ
-  words = replicate (key.limit + 1) 0
+  words = replicate (ring_words key.limit) 0
 
   abbrev homes : Homes
   homes = map some (replicate key.limit no_block)
@@ -57,9 +57,9 @@ module _ (key : Key) (some_room : 0 < key.limit) (given : key.first ≤ LAST_WRI
   opening_words : AreWords key.limit key.first (opening_state key.limit) false words homes
   opening_words =
       record {
-        word_count = length-replicate (key.limit + 1) 0;
+        word_count = length-replicate (ring_words key.limit) 0;
         slot_count = length-homes key.limit;
-        tail = zero_there (key.limit + 1) 0;
+        tail = zero_there (ring_words key.limit) 0;
         places = λ count low high. place count (omega arith);
       }
     where
@@ -73,7 +73,8 @@ module _ (key : Key) (some_room : 0 < key.limit) (given : key.first ≤ LAST_WRI
           let lap : count / key.limit ≡ 0 = div-eq_of_lt below in
           let same : count % key.limit ≡ count = mod-eq_of_lt below in
           record {
-            free = λ past. zero_there (key.limit + 1) (sequence_of (place_of key.limit count)) ∙
+            free = λ past.
+                zero_there (ring_words key.limit) (sequence_of (place_of key.limit count)) ∙
                 omega arith;
             empty = λ past. empty_there key.limit (count % key.limit) (omega arith);
             begun = λ write at unstored. absurd (no_write count write at);
@@ -82,7 +83,7 @@ module _ (key : Key) (some_room : 0 < key.limit) (given : key.first ≤ LAST_WRI
           }
 
   -- words of zero, empty slots and the one seat that has all numbers keep the rule
-  pub opening_keeps : IsOneQueue key (table.opening (replicate (key.limit + 1) 0)
+  pub opening_keeps : IsOneQueue key (table.opening (replicate (ring_words key.limit) 0)
       (replicate key.limit None) (first_view key))
   opening_keeps =
       record {

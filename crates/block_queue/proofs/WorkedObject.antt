@@ -2,7 +2,6 @@
 use Rattle.std.proofs.Common.{◌≡◌, ℕ, true, false, List, [], ◌∷◌, refl}
 use Rattle.kernel_lock.specs.declared.view.Served.{Served}
 use Rattle.sync_base.specs.declared.limits.TheConstants.{LAST_WRITE}
-use Rattle.block_queue.specs.declared.entry.Entry.{Entry}
 use Rattle.block_queue.specs.declared.entry.Entry.TheVariants.{Taken, Stood, Full, Hungup, Worn}
 use Rattle.block_queue.specs.declared.entry.Entry.TheVariants.{Block, NotYet, End, Hung}
 use Rattle.block_queue.specs.declared.queue_object.QueueCall.{QueueCall}

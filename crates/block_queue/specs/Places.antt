@@ -10,6 +10,7 @@ use lib.ListN.{get_elem?}
 use Rattle.sync_base.specs.Pipe.{PipeState}
 use Rattle.sync_base.specs.Write.{Write}
 use Rattle.sync_base.specs.declared.limits.TheConstants.{LAST_WRITE}
+use Rattle.sync_base.specs.declared.line.TheConstants.{LINE}
 use Rattle.block_queue.specs.declared.places.TheConstants.{MARK}
 use Rattle.block_queue.specs.History.{QueueState}
 
@@ -24,9 +25,13 @@ place_of limit count = count % limit
 abbrev pub lap_of : ℕ → ℕ → ℕ
 lap_of limit count = count / limit
 
--- the word of a place
+-- the word of a place: the tail has the first line to itself, and each place has two words
 abbrev pub sequence_of : ℕ → ℕ
-sequence_of place = place + 1
+sequence_of place = LINE + 2 * place
+
+-- how many words there are
+abbrev pub ring_words : ℕ → ℕ
+ring_words limit = LINE + 2 * limit
 
 -- what that word is while the place is free for the write, and while the write stands there
 abbrev pub free_word : ℕ → ℕ → ℕ
@@ -67,7 +72,7 @@ pub record IsPlace (limit first : ℕ) (s : QueueState) (out : Bool) (words : Li
 -- the words and slots of the ring are those of the direction
 pub record AreWords (limit first : ℕ) (s : QueueState) (out : Bool) (words : List ℕ)
     (homes : Homes) : Type 0 where
-  pub word_count : length words ≡ limit + 1
+  pub word_count : length words ≡ ring_words limit
   pub slot_count : length homes ≡ limit
   pub tail : slice_index words 0 ≡ tail_word s.pipe
   pub places : (count : ℕ) → s.pipe.read_whole ≤ count → count < s.pipe.read_whole + limit →

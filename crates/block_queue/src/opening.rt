@@ -19,6 +19,7 @@ ghost use Rattle.block_queue.specs.Opening.{
 ghost use Rattle.block_queue.specs.Seats.{IsSameStepper};
 ghost use Rattle.block_queue.specs.Steps.{HasToHand, keeper_view, handed_view};
 
+use crate::places::ring_words;
 use crate::plays::Hand;
 use crate::queue::Queue;
 use crate::rule::Stepper;
@@ -104,7 +105,7 @@ impl Queue {
             writers,
         };
         let mut puts = Vec::with_capacity(alloc, writers as usize)?;
-        let words = zeros(alloc, limit as usize + 1)?;
+        let words = zeros(alloc, ring_words(limit))?;
         let slots = empty_slots(alloc, limit as usize)?;
         let Ok((table, mut stepper)) = Table::new(alloc, words.as_slice(), slots, &key) else {
             return Err(Fault::Memory);

@@ -1,8 +1,18 @@
-//! Where the ring keeps what. The first word is the tail; behind it stands a sequence word for each
-//! place, and each place has a slot. The writes are counted from 0, and write c is kept in place c
-//! mod limit.
-ghost use Rattle.std.specs.Prelude.{◌≡◌, ◌+◌, ◌<◌, ◌^◌};
-ghost use Rattle.block_queue.specs.Places.{sequence_of, free_word, stored_word, place_of};
+//! Where the ring keeps what. The first word is the tail, and has its line to itself: all writers
+//! step on it, and the reader on the others. Behind that line stand two words for each place, of
+//! which the first is its sequence word, so that a line has four places: with eight, writers and
+//! the reader took it from each other. Each place has a slot. The writes are counted from 0, and
+//! write c is kept in place c mod limit.
+ghost use Rattle.std.specs.Prelude.{◌≡◌, ◌<◌, ◌^◌};
+ghost use Rattle.block_queue.specs.Places.{
+  sequence_of,
+  free_word,
+  stored_word,
+  place_of,
+  ring_words,
+};
+
+use sync_base::line::LINE;
 
 /// The word that counts the writes that were accepted.
 pub const TAIL: usize = 0;
@@ -21,10 +31,18 @@ pub(crate) fn place(limit: u64, count: u64) -> usize
 
 /// The word of a place.
 pub(crate) fn sequence(place: usize) -> usize
-    requires { place + 1 < 18446744073709551616 }
+    requires { sequence_of place < 18446744073709551616 }
     ensures { result ≡ sequence_of place }
 {
-    place + 1
+    LINE as usize + 2 * place
+}
+
+/// How many words a ring of so many places has.
+pub(crate) fn ring_words(limit: u64) -> usize
+    requires { ring_words limit < 18446744073709551616 }
+    ensures { result ≡ ring_words limit }
+{
+    (LINE + 2 * limit) as usize
 }
 
 /// What the word of its place is before a write is put there.

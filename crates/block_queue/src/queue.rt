@@ -1,10 +1,11 @@
 //! The ring.
-ghost use Rattle.std.specs.Prelude.{◌≡◌, ◌+◌, ◌<◌, ◌≤◌};
+ghost use Rattle.std.specs.Prelude.{◌≡◌, ◌<◌, ◌≤◌};
 ghost use Rattle.sync_base.specs.declared.limits.TheConstants.{
   LAST_WRITE,
   MAX_PIPE_LIMIT,
   MAX_WRITERS,
 };
+ghost use Rattle.block_queue.specs.Places.{ring_words};
 
 use crate::rule::QueueTable;
 use crate::view::Key;
@@ -16,7 +17,7 @@ pub struct Queue {
     pub(crate) table: QueueTable,
     pub(crate) key: Key,
     ghost keyed: { key ≡ table.shared.key },
-    ghost words: { table.shared.table_id.words ≡ key.limit + 1 },
+    ghost words: { table.shared.table_id.words ≡ ring_words key.limit },
     ghost slots: { table.shared.table_id.slots ≡ key.limit },
     ghost some_room: { 0 < key.limit },
     ghost limited: { key.limit ≤ MAX_PIPE_LIMIT },

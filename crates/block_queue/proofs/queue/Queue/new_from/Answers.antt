@@ -17,7 +17,8 @@ new-requires c =
     subst (λ slots. IsOneQueue key (opening c.as_slice.result.now slots (first_view key)))
     (sym c.in_ok-slots.ensures)
     (subst (λ words. IsOneQueue key (opening words (replicate c.args.limit None) (first_view key)))
-    (sym (c.as_slice.ensures.value ∙ c.in_ok-words.ensures))
+    (sym (c.as_slice.ensures.value ∙ c.in_ok-words.ensures
+    ∙ ap (λ count. replicate count 0) c.ring_words.ensures))
     (opening_keeps key some_room c.if-first-gt-LAST_WRITE.false))
 
 pub returns-clause-all : goal.returns-clause-all
