@@ -1,5 +1,5 @@
 -- What reads of blocks come to, and what they add to what their end has read.
-use Rattle.std.proofs.Common.{◌≡◌, inl, inr, ℕ, suc, ◌<◌, Bool, true, false, nat_le}
+use Rattle.std.proofs.Common.{◌≡◌, inl, ℕ, suc, ◌<◌, Bool, true, false, nat_le}
 use Rattle.std.proofs.Common.{List, ◌∷◌, length, take, refl, sym, ◌∙◌, ap, subst, arith, None, Some}
 use Rattle.std.proofs.Common.{if◌then◌else◌, drop}
 use Rattle.std.specs.Prelude.{Result, Ok, Err}
@@ -14,7 +14,6 @@ use Rattle.rendez_words.specs.Process.{Process}
 use Rattle.sleep_wakeup.specs.Calls.{WhyNotSlept}
 use Rattle.histories.specs.declared.account.Account.{Account}
 use Rattle.block_queue.specs.declared.entry.Entry.{Entry}
-use Rattle.block_queue.specs.declared.entry.Entry.TheVariants as entry
 use Rattle.block_queue.specs.declared.view.Key.{Key}
 use Rattle.block_queue.specs.Seats.{key_of}
 use Rattle.pipe_dev.specs.declared.answers.ReadAnswer.{ReadAnswer}
@@ -28,7 +27,8 @@ use Rattle.pipe_dev.specs.ReadCalls.{Reader, Calling, calling, reader_of, FindsN
 use Rattle.pipe_dev.specs.ReadCalls.{FailsForWrite}
 use Rattle.pipe_dev.specs.Rendezes.{HasRow, reader_rendez}
 use Rattle.pipe_dev.specs.SideLaws.{BlockReadsAddToTheirEnd}
-use Rattle.pipe_dev.proofs.ChainLemmas.{found_none, slept_rounds, got_next, no_step}
+use Rattle.pipe_dev.proofs.ChainLemmas.{slept_then, slept_then_ended, slept_then_failed}
+use Rattle.pipe_dev.proofs.ChainLemmas.{got_next, no_step}
 use Rattle.pipe_dev.proofs.RoundLemmas.{fails_asleep, not_yet_low}
 use Rattle.pipe_dev.proofs.SideLemmas.{steps_add}
 
@@ -92,47 +92,22 @@ kept_steps : (key : Key) (row : Row) (old : Calling) (answer : Result ReadAnswer
     → IsOfSteps key (AddsRead Message answer new.buffer) old.reader parts new.reader
 kept_steps key row old (Ok (read.Got count)) new reads parts =
     let gets = reads.ended.0 in
-    record {
-      parts' = gets.left ∷ parts;
-      added = record {
-        part = gets.left;
-        bytes = sym gets.block_is
-            ∙ sym (ap (λ n. take n new.buffer) reads.ended.1
-            ∙ take_all (length new.buffer) new.buffer (omega arith));
-        parts_are = refl;
-      };
-      times = suc reads.times;
-      steps = record {
-        between = reading_at reads.between parts;
-        rounds = slept_rounds key row reads.times old.reader reads.between parts reads.slept;
-        last = inl (block_part key row reads.between new.reader new.buffer parts gets);
-      };
-    }
+    slept_then key row (AddsRead Message (Ok (read.Got count)) new.buffer) reads.times old.reader
+    reads.between new.reader parts (gets.left ∷ parts) reads.slept
+    (record {
+      part = gets.left;
+      bytes = sym gets.block_is
+          ∙ sym (ap (λ n. take n new.buffer) reads.ended.1
+          ∙ take_all (length new.buffer) new.buffer (omega arith));
+      parts_are = refl;
+    })
+    (inl (block_part key row reads.between new.reader new.buffer parts gets))
 kept_steps key row old (Ok read.End) new reads parts =
-    record {
-      parts' = parts;
-      added = refl;
-      times = suc reads.times;
-      steps = record {
-        between = reading_at reads.between parts;
-        rounds = slept_rounds key row reads.times old.reader reads.between parts reads.slept;
-        last = inr (found_none key entry.End reads.between new.reader parts tt reads.ended.0);
-      };
-    }
+    slept_then_ended key row (AddsRead Message (Ok read.End) new.buffer) reads.times old.reader
+    reads.between new.reader parts refl reads.slept reads.ended.0
 kept_steps key row old (Err why) new reads parts =
-    let fails = reads.ended.0 in
-    record {
-      parts' = parts;
-      added = refl;
-      times = suc reads.times;
-      steps = record {
-        between = reading_at reads.between parts;
-        rounds = slept_rounds key row reads.times old.reader reads.between parts reads.slept;
-        last = inr
-            (found_none key (entry.NotYet fails.number) reads.between
-            (record new.reader { process = reads.between.process }) parts tt fails.found.none);
-      };
-    }
+    slept_then_failed key row (AddsRead Message (Err why) new.buffer) reads.times old.reader
+    reads.between new.reader parts why refl reads.slept reads.ended.0
 
 -- each read of a block is steps of its end, and adds one part, whose bytes are the block
 pub block_reads_are_steps : BlockReadsAreSteps

@@ -37,7 +37,7 @@ use Rattle.pipe_dev.specs.ReadCalls.{Reader, Gets, FindsNone, IsFilled, KeepsTry
 use Rattle.pipe_dev.specs.Parts.{part_of}
 use Rattle.pipe_dev.specs.ReadCalls.{GoesOn, TakesOut, InMode, IsNotYet, IsNotYetOn, FindsEnd}
 use Rattle.pipe_dev.specs.ReadCalls.{Calling, calling, came_to, lending_of, TriesOn, GivesBytes}
-use Rattle.pipe_dev.specs.ReadCalls.{SleepsOn, KeepsReading}
+use Rattle.pipe_dev.specs.ReadCalls.{SleepsOn, KeepsReading, FailsForWrite}
 use Rattle.pipe_dev.specs.Reading.{Reading}
 use Rattle.pipe_dev.specs.Rounds.{Rounds}
 use Rattle.pipe_dev.proofs.LawLemmas.{each_share_is_read_whole_and_once}
@@ -133,47 +133,59 @@ no_step key Adds old new parts same adds =
       steps = ap (λ (r : Reader). reading_at r parts) same;
     }
 
+-- some sleeps, and then this step
+pub slept_then : (key : Key) (row : Row) (Adds : List Part → List Part → Type 0) (times : ℕ)
+    (old between new : Reader) (parts parts' : List Part)
+    → Rounds (SleepsForWrite key row) times old between → Adds parts parts'
+    → ReadStep key (reading_at between parts) (reading_at new parts')
+    → IsOfSteps key Adds old parts new
+slept_then key row Adds times old between new parts parts' slept adds last =
+    record {
+      parts' = parts';
+      added = adds;
+      times = suc times;
+      steps = record {
+        between = reading_at between parts;
+        rounds = slept_rounds key row times old between parts slept;
+        last = last;
+      };
+    }
+
+-- some sleeps, and then the end
+pub slept_then_ended : (key : Key) (row : Row) (Adds : List Part → List Part → Type 0) (times : ℕ)
+    (old between new : Reader) (parts : List Part) → Adds parts parts
+    → Rounds (SleepsForWrite key row) times old between → FindsEnd key between new
+    → IsOfSteps key Adds old parts new
+slept_then_ended key row Adds times old between new parts adds slept finds =
+    slept_then key row Adds times old between new parts parts slept adds
+    (inr (found_none key End between new parts tt finds))
+
+-- some sleeps, and then one that did not end well
+pub slept_then_failed : (key : Key) (row : Row) (Adds : List Part → List Part → Type 0) (times : ℕ)
+    (old between new : Reader) (parts : List Part) (why : Fault) → Adds parts parts
+    → Rounds (SleepsForWrite key row) times old between → FailsForWrite key row between why new
+    → IsOfSteps key Adds old parts new
+slept_then_failed key row Adds times old between new parts why adds slept fails =
+    slept_then key row Adds times old between new parts parts slept adds
+    (inr (found_none key (NotYet fails.number) between
+    (record new { process = between.process }) parts tt fails.found.none))
+
 tried_steps : (key : Key) (row : Row) (old : Calling) (answer : Result ReadAnswer Fault)
     (new : Calling) → old.buffer ≢ [] → KeepsTrying key row old answer new → (parts : List Part)
     → IsOfSteps key (AddsRead Message answer new.buffer) old.reader parts new.reader
 tried_steps key row old (Ok (read.Got count)) new room reads parts =
     let gets = reads.ended in
-    record {
-      parts' = part_of (length old.buffer) gets.left ∷ parts;
-      added = got_one (part_of (length old.buffer) gets.left) old.buffer new.buffer count parts
-          gets.filled;
-      times = suc reads.times;
-      steps = record {
-        between = reading_at reads.between parts;
-        rounds = slept_rounds key row reads.times old.reader reads.between parts reads.slept;
-        last = inl (got_part key row (calling reads.between old.buffer) count new parts room gets);
-      };
-    }
+    let part = part_of (length old.buffer) gets.left in
+    slept_then key row (AddsRead Message (Ok (read.Got count)) new.buffer) reads.times old.reader
+    reads.between new.reader parts (part ∷ parts) reads.slept
+    (got_one part old.buffer new.buffer count parts gets.filled)
+    (inl (got_part key row (calling reads.between old.buffer) count new parts room gets))
 tried_steps key row old (Ok read.End) new room reads parts =
-    record {
-      parts' = parts;
-      added = refl;
-      times = suc reads.times;
-      steps = record {
-        between = reading_at reads.between parts;
-        rounds = slept_rounds key row reads.times old.reader reads.between parts reads.slept;
-        last = inr (found_none key End reads.between new.reader parts tt reads.ended.0);
-      };
-    }
+    slept_then_ended key row (AddsRead Message (Ok read.End) new.buffer) reads.times old.reader
+    reads.between new.reader parts refl reads.slept reads.ended.0
 tried_steps key row old (Err why) new room reads parts =
-    let fails = reads.ended.0 in
-    record {
-      parts' = parts;
-      added = refl;
-      times = suc reads.times;
-      steps = record {
-        between = reading_at reads.between parts;
-        rounds = slept_rounds key row reads.times old.reader reads.between parts reads.slept;
-        last = inr
-            (found_none key (NotYet fails.number) reads.between
-            (record new.reader { process = reads.between.process }) parts tt fails.found.none);
-      };
-    }
+    slept_then_failed key row (AddsRead Message (Err why) new.buffer) reads.times old.reader
+    reads.between new.reader parts why refl reads.slept reads.ended.0
 
 -- ---- reads that go on
 
