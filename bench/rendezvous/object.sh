@@ -9,22 +9,11 @@ top=$(cd "$here/../.." && pwd)
 work=$top/bench/out/rendezvous
 rounds=${1:-5}
 
-mkdir -p "$work/repo/crates/object_bench/src"
-for crate in sync_base histories kernel_lock sleep_core rendez_words sleep_wakeup tag_space; do
-    mkdir -p "$work/repo/crates/$crate"
-    for part in src specs proofs; do
-        rm -rf "$work/repo/crates/$crate/$part"
-        cp -R "$top/crates/$crate/$part" "$work/repo/crates/$crate/"
-    done
-done
-cp "$here/object.rattle" "$work/repo/crates/object_bench/src/main.rt"
-cp "$top/HANDLES" "$work/repo/HANDLES"
-{ grep -E '^(sync_base|histories|kernel_lock|sleep_core|rendez_words|sleep_wakeup|tag_space)[ :]' "$top/crates.txt"
-  echo "object_bench: sync_base tag_space"; } > "$work/repo/crates.txt"
-[ -d "$work/repo/.git" ] || git init -q "$work/repo"
+. "$top/bench/repo.sh"
+lay_out "sync_base histories kernel_lock sleep_core rendez_words sleep_wakeup tag_space" "object_bench: sync_base tag_space"
+cp "$here/object.rattle" "$bench/src/main.rt"
 
-cd "$work/repo/crates/object_bench"
-rt run > "$work/first" 2> "$work/build.log" || { tail -20 "$work/build.log"; exit 1; }
+build
 
 : > "$work/times"
 round=0

@@ -8,26 +8,15 @@ here=$(cd "$(dirname "$0")" && pwd)
 top=$(cd "$here/../.." && pwd)
 work=$top/bench/out/semaphore
 rounds=${1:-5}
-crates="sync_base histories sleep_core kernel_lock rendez_words sleep_wakeup semaphore"
 
-for crate in $crates; do
-    mkdir -p "$work/repo/crates/$crate"
-    for part in src specs proofs; do
-        rm -rf "$work/repo/crates/$crate/$part"
-        cp -R "$top/crates/$crate/$part" "$work/repo/crates/$crate/"
-    done
-done
-mkdir -p "$work/repo/crates/semaphore_bench/src"
-cp "$here/units.rattle" "$work/repo/crates/semaphore_bench/src/main.rt"
-cp "$top/HANDLES" "$work/repo/HANDLES"
-{ grep -E "^($(echo $crates | tr ' ' '|'))[ :]" "$top/crates.txt"
-  echo "semaphore_bench: sync_base sleep_wakeup semaphore"; } > "$work/repo/crates.txt"
-[ -d "$work/repo/.git" ] || git init -q "$work/repo"
+. "$top/bench/repo.sh"
+lay_out "sync_base histories sleep_core kernel_lock rendez_words sleep_wakeup semaphore" \
+    "semaphore_bench: sync_base sleep_wakeup semaphore"
+cp "$here/units.rattle" "$bench/src/main.rt"
 
 rustc -O -o "$work/plain" "$here/plain.rs"
 cc -O2 -pthread -o "$work/posix" "$here/posix.c"
-cd "$work/repo/crates/semaphore_bench"
-rt run > "$work/first" 2> "$work/build.log" || { tail -20 "$work/build.log"; exit 1; }
+build
 
 : > "$work/figures"
 round=0

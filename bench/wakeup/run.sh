@@ -8,23 +8,12 @@ top=$(cd "$here/../.." && pwd)
 work=$top/bench/out/wakeup
 rounds=${1:-5}
 
-for crate in sync_base sleep_core rendez_words sleep_wakeup; do
-    mkdir -p "$work/repo/crates/$crate"
-    for part in src specs proofs; do
-        rm -rf "$work/repo/crates/$crate/$part"
-        cp -R "$top/crates/$crate/$part" "$work/repo/crates/$crate/"
-    done
-done
-mkdir -p "$work/repo/crates/wakeup_bench/src"
-cp "$here/processes.rattle" "$work/repo/crates/wakeup_bench/src/main.rt"
-cp "$top/HANDLES" "$work/repo/HANDLES"
-{ grep -E '^(sync_base|sleep_core|rendez_words|sleep_wakeup)[ :]' "$top/crates.txt"
-  echo "wakeup_bench: sync_base sleep_wakeup"; } > "$work/repo/crates.txt"
-[ -d "$work/repo/.git" ] || git init -q "$work/repo"
+. "$top/bench/repo.sh"
+lay_out "sync_base sleep_core rendez_words sleep_wakeup" "wakeup_bench: sync_base sleep_wakeup"
+cp "$here/processes.rattle" "$bench/src/main.rt"
 
 rustc -O -o "$work/plain" "$here/plain.rs"
-cd "$work/repo/crates/wakeup_bench"
-rt run > "$work/first" 2> "$work/build.log" || { tail -20 "$work/build.log"; exit 1; }
+build
 
 : > "$work/figures"
 round=0
