@@ -16,7 +16,6 @@ pub mod EmptyingLemmas
 pub mod JoiningLemmas
 pub mod GatherLemmas
 pub mod ObjectLemmas
-pub mod CrowdLemmas
 pub mod WorkedQueue
 pub mod WorkedObject
 mod WorkedPlaces

@@ -2,7 +2,7 @@
 use Rattle.std.proofs.Common.{◌≡◌, ◌≢◌, inl, ℕ, zero, suc, ◌+◌, ◌-◌, ◌<◌, ◌≤◌}
 use Rattle.std.proofs.Common.{Bool, true, false, eqb, List, [], ◌∷◌, ◌++◌, length, drop}
 use Rattle.std.proofs.Common.{refl, sym, ap, subst, ◌∙◌, arith, Option, Some, None}
-use Rattle.std.specs.Prelude.{if◌then◌else◌, nat_lt, slice_get}
+use Rattle.std.specs.Prelude.{if◌then◌else◌, slice_get}
 use Rattle.std.proofs.lemmas.Bool.Decides.{nat_tests}
 use Rattle.std.proofs.lemmas.List.{length-append, length-drop, drop-append-le}
 use Rattle.std.proofs.lemmas.Option.{slice_get_past, slice_get_within}
@@ -13,7 +13,7 @@ use Rattle.histories.proofs.HistoryLemmas.{state_after-append, legal_append}
 use Rattle.kernel_lock.specs.Definition.{meaning_of}
 use Rattle.sync_base.specs.Pipe.{begun_of}
 use Rattle.sync_base.specs.Write.{Write}
-use Rattle.sync_base.specs.declared.limits.TheConstants.{LAST_WRITE, MAX_WRITERS}
+use Rattle.sync_base.specs.declared.limits.TheConstants.{LAST_WRITE}
 use Rattle.block_queue.specs.declared.queue_object.QueueCall.TheVariants.{Put, Take, Hang}
 use Rattle.block_queue.specs.declared.queue_object.QueueReply.{QueueReply}
 use Rattle.block_queue.specs.declared.queue_object.QueueReply.TheVariants as reply
@@ -176,13 +176,9 @@ module _ (first : ℕ) (kept : Kept) (s : QueueState) (by : ℕ) (shows : Shows 
         below {m} {n} low other =
             dite (ℕ_discrete m n) (λ same. absurd (other same)) (λ apart. omega arith)
 
-    put_busy : IsCall first kept s by (Put writer block) (reply.Busy block)
-    put_busy = record { legal = tt; is_first = tt; after = shows }
-
     put_right : IsCall first kept s by (Put writer block) (reply_to kept (Put writer block))
     put_right =
-        either_side Right (nat_lt writer MAX_WRITERS) (put_reply kept block) (reply.Busy block)
-        (λ known. either_side Right kept.hung (reply.Hungup block)
+        either_side Right kept.hung (reply.Hungup block)
         (if eqb (last_number kept) LAST_WRITE then reply.Worn block else not_worn)
         put_hungup
         (λ open_still. either_side Right (eqb (last_number kept) LAST_WRITE) (reply.Worn block)
@@ -193,8 +189,7 @@ module _ (first : ℕ) (kept : Kept) (s : QueueState) (by : ℕ) (shows : Shows 
         either_side Right (eqb (length kept.waiting) kept.limit)
         (reply.Full block kept.taken_out) (reply.Taken (last_number kept + 1))
         (λ full. put_full open_still apart (grind (arith, nat_tests)))
-        (λ some_room. put_taken open_still apart (λ same. absurd (grind (arith, nat_tests)))))))
-        (λ unknown. put_busy)
+        (λ some_room. put_taken open_still apart (λ same. absurd (grind (arith, nat_tests))))))
       where
         Right : QueueReply → Type 0
         Right answer = IsCall first kept s by (Put writer block) answer

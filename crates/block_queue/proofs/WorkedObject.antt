@@ -1,5 +1,5 @@
 -- Calls on a sequential queue worked out by the definitions alone, and answers that come too early.
-use Rattle.std.proofs.Common.{◌≡◌, ℕ, true, false, List, [], ◌∷◌, refl}
+use Rattle.std.proofs.Common.{◌≡◌, ℕ, true, false, List, [], ◌∷◌, Some, None, refl}
 use Rattle.kernel_lock.specs.declared.view.Served.{Served}
 use Rattle.sync_base.specs.declared.limits.TheConstants.{LAST_WRITE}
 use Rattle.block_queue.specs.declared.entry.Entry.TheVariants.{Taken, Stood, Full, Hungup, Worn}
@@ -10,7 +10,7 @@ use Rattle.block_queue.specs.declared.queue_object.QueueReply.{QueueReply}
 use Rattle.block_queue.specs.declared.queue_object.QueueReply.TheVariants as reply
 use Rattle.block_queue.specs.History.{QueueState, opening_state, after_entry}
 use Rattle.block_queue.specs.Laws.{IsFirst, queue_history}
-use Rattle.block_queue.specs.QueueObject.{Kept, new_kept, reply_to, kept_after}
+use Rattle.block_queue.specs.QueueObject.{Kept, new_kept, reply_to, kept_after, named_by}
 
 abbrev a : List ℕ
 a = 97 ∷ []
@@ -42,8 +42,14 @@ hangup_comes_before_full = refl
 worn_comes_before_taken : reply_to (new_kept 1 LAST_WRITE) (Put 0 a) ≡ reply.Worn a
 worn_comes_before_taken = refl
 
-no_such_writer : reply_to (new_kept 1 0) (Put 64 a) ≡ reply.Busy a
-no_such_writer = refl
+any_number_is_a_writer : reply_to (new_kept 1 0) (Put 64 a) ≡ reply.Taken 1
+any_number_is_a_writer = refl
+
+a_put_names_the_seat_behind_its_writer : named_by (Put 64 a) ≡ Some 65
+a_put_names_the_seat_behind_its_writer = refl
+
+the_greatest_number_names_no_seat : named_by (Put 18446744073709551615 a) ≡ None
+the_greatest_number_names_no_seat = refl
 
 block_comes_before_end : reply_to kept_hung Take ≡ reply.Block a 0 1
 block_comes_before_end = refl
@@ -64,7 +70,6 @@ calls_make_a_history : queue_history (
     ∷ served 0 Take (reply.Block a 0 1)
     ∷ served 2 (Put 1 b) (reply.Full b 0)
     ∷ served 1 (Put 0 a) (reply.Taken 1)
-    ∷ served 65 (Put 64 b) (reply.Busy b)
     ∷ served 1 (Put 0 b) (reply.Worn b)
     ∷ []) ≡
     End ∷ Hungup 0 b ∷ Hung 2 ∷ NotYet 1 ∷ Block 0 a 1 ∷ Full 1 b 0 ∷ Stood 0 1 ∷ Taken 0 a 1

@@ -19,7 +19,7 @@ use Rattle.block_queue.specs.QueueObject.{Kept, new_kept, last_number, queue_def
 use Rattle.block_queue.specs.QueueObject.{reply_to, after_reply}
 
 -- The entries of one call, newest first. Own: where calls come one behind the other, a write stands
--- as soon as it was taken, and a put of no writer is no entry.
+-- as soon as it was taken.
 abbrev pub entries_of : ℕ → QueueCall → QueueReply → List Entry
 entries_of by (Put writer block) (reply.Taken number) =
     Stood writer number ∷ Taken writer block number ∷ []
@@ -66,7 +66,6 @@ IsFirst first s (reply.Taken number) =
 IsFirst first s (reply.Block block writer number) = ⊤
 IsFirst first s reply.End = next_write s.pipe ≡ None
 IsFirst first s (reply.NotYet number) = (next_write s.pipe ≡ None) × (s.pipe.hung ≡ false)
-IsFirst first s (reply.Busy back) = ⊤
 IsFirst first s reply.Hung = ⊤
 
 -- A call that is answered so: its entries may stand behind the state, nothing before the answer may

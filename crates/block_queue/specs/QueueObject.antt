@@ -3,7 +3,7 @@ use Rattle.std.specs.Prelude.{◌==◌, ◌+◌, ℕ, Bool, true, false, nat_lt,
 use Rattle.std.specs.Prelude.{List, [], ◌∷◌, ◌++◌, length, drop, Option, Some, None}
 use Rattle.kernel_lock.specs.Definition.{Definition}
 use Rattle.sync_base.specs.Write.{Write}
-use Rattle.sync_base.specs.declared.limits.TheConstants.{LAST_WRITE, MAX_WRITERS}
+use Rattle.sync_base.specs.declared.limits.TheConstants.{LAST_WRITE}
 use Rattle.block_queue.specs.declared.queue_object.QueueCall.{QueueCall}
 use Rattle.block_queue.specs.declared.queue_object.QueueCall.TheVariants.{Put, Take, Hang}
 use Rattle.block_queue.specs.declared.queue_object.QueueReply.{QueueReply}
@@ -37,10 +37,9 @@ abbrev pub take_reply : Kept → List Write → QueueReply
 take_reply kept [] = if kept.hung then reply.End else reply.NotYet kept.taken_out
 take_reply kept (write ∷ writes) = reply.Block write.bytes write.writer (kept.taken_out + 1)
 
--- Own: no queue has a writer with such a number, and a put of it is answered Busy.
+-- Own: a put is answered alike whoever its writer is.
 abbrev pub reply_to : Kept → QueueCall → QueueReply
-reply_to kept (Put writer block) =
-    if nat_lt writer MAX_WRITERS then put_reply kept block else reply.Busy block
+reply_to kept (Put writer block) = put_reply kept block
 reply_to kept Take = take_reply kept kept.waiting
 reply_to kept Hang = reply.Hung
 
@@ -56,7 +55,8 @@ after_reply kept call answer = kept
 abbrev pub kept_after : Kept → QueueCall → Kept
 kept_after kept call = after_reply kept call (reply_to kept call)
 
--- the seat that a call names: a put by its writer, a take by the reader; anybody may hang up
+-- the seat that a call names: a put by its writer, but for the greatest number, behind which none
+-- is; a take by the reader; anybody may hang up
 abbrev pub named_by : QueueCall → Option ℕ
 named_by (Put writer block) = if nat_lt writer 18446744073709551615 then Some (writer + 1) else None
 named_by Take = Some 0

@@ -34,7 +34,7 @@ use crate::seats::{PutSeat, TakeSeat};
 use crate::spare::Spare;
 use std::alloc::Global;
 use std::marker::Brand;
-use sync_base::NoProbe;
+use sync_base::{Fault, NoProbe};
 
 /// What is left of a queue.
 #[derive(Drop)]
@@ -50,6 +50,15 @@ pub struct Gathered {
 pub struct Ungathered {
     pub take: TakeSeat,
     pub puts: Vec<PutSeat>,
+}
+
+impl Ungathered {
+    /// Why: out of memory, which is the one refusal of a gather.
+    pub fn fault(&self) -> Fault
+        ensures { result ≡ Fault.Memory }
+    {
+        Fault::Memory
+    }
 }
 
 impl Queue {

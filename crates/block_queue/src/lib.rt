@@ -22,8 +22,6 @@ pub mod seats;
 pub mod spare;
 mod take;
 mod take_steps;
-#[cfg(test)]
-mod tests;
 pub mod view;
 
 pub use answers::{PutAnswer, TakeAnswer};

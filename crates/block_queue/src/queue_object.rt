@@ -9,7 +9,7 @@ use kernel_lock::Object;
 use std::alloc::Global;
 use std::collections::VecDeque;
 use std::marker::Model;
-use sync_base::limits::{LAST_WRITE, MAX_WRITERS};
+use sync_base::limits::LAST_WRITE;
 use sync_base::{Fault, Piece};
 
 /// A block that stands in a queue, and who wrote it.
@@ -32,7 +32,7 @@ impl Model for StoredBlock {
 /// A call on a queue.
 #[derive(Drop)]
 pub enum QueueCall {
-    /// Puts the block of this writer behind the others.
+    /// Puts the block of this writer behind the others. Any number may be a writer's.
     Put(u64, Piece),
     /// Takes the next block out.
     Take,
@@ -51,8 +51,6 @@ pub enum QueueReply {
     Hungup(Piece),
     /// The last number is given.
     Worn(Piece),
-    /// No queue has such a writer.
-    Busy(Piece),
     /// The next block, who wrote it, and its number.
     Block(Piece, u64, u64),
     /// No block stands. The number is that of the last block taken out.
@@ -159,7 +157,7 @@ impl QueueObject {
 impl Object for QueueObject {
     ghost use Rattle.block_queue.specs.QueueObject.{Kept, queue_definition};
 
-    type Request = QueueCall;
+    type Call = QueueCall;
 
     type Reply = QueueReply;
 
@@ -167,7 +165,7 @@ impl Object for QueueObject {
 
     ghost definition = { queue_definition };
 
-    /// The reader is seat 0, and writer w is seat w + 1.
+    /// The reader is seat 0, and writer w is seat w + 1, where there is such a number.
     fn caller(call: &QueueCall) -> Option<u64> {
         match call {
             QueueCall::Put(writer, _) => writer.checked_add(1),
@@ -179,13 +177,7 @@ impl Object for QueueObject {
     /// Answers the call: the first reply that may be given. It takes no memory.
     fn run(&mut self, call: QueueCall) -> QueueReply {
         match call {
-            QueueCall::Put(writer, block) => {
-                if writer < MAX_WRITERS {
-                    self.put(writer, block)
-                } else {
-                    QueueReply::Busy(block)
-                }
-            }
+            QueueCall::Put(writer, block) => self.put(writer, block),
             QueueCall::Take => self.take(),
             QueueCall::Hang => {
                 self.hung = true;

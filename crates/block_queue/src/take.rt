@@ -35,6 +35,13 @@ fn blocks(answer: &TakeAnswer) -> u64
     }
 }
 
+// Passes the points of the two loads that a quick look stands for.
+fn pass_loads<P: Probe>(probe: &mut P) {
+    for point in [1, 2] {
+        probe.at(point);
+    }
+}
+
 impl Queue {
     /// Takes the next block out. It waits for nobody, and takes no memory.
     ///
@@ -55,7 +62,11 @@ impl Queue {
         self.take_probed(seat, &mut NoProbe)
     }
 
-    /// A `take` that tells a probe before each of its steps, from 1 to 5.
+    /// A `take` that tells a probe its points: 1 before it loads the tail, 2 before it loads the
+    /// sequence word, 3 before the block leaves its slot, and 4 before its place is free.
+    ///
+    /// It has a quick look at the place before point 1. Where the block stands there, both points
+    /// are passed and neither word is loaded again.
     pub fn take_probed<P: Probe>(&self, seat: &mut TakeSeat, probe: &mut P) -> TakeAnswer
         requires seat { IsTakeSeatOf self.now seat.old }
         ensures seat { IsTakeSeatOf self.now seat.new }
@@ -74,8 +85,8 @@ impl Queue {
         answer
     }
 
-    // Where the next block stands it comes out. Else the tail says whether the queue has ended, and
-    // the block may stand since.
+    // Where a quick look finds the next block it comes out, and the tail is left to the writers.
+    // Else the tail says whether the queue has ended, and the block may stand since.
     pub(crate) fn take_next<P: Probe>(
         &self,
         stepper: &mut Stepper,
@@ -93,17 +104,17 @@ impl Queue {
         ensures counted { stepper.new.me.0.taken ≡ taken + blocks_in result }
         ensures small { taken < 2 ^ 62 }
     {
-        probe.at(1);
         let ready = self.take_ready::<Brand>(stepper, taken);
         if ready == stored(self.key.limit, taken) {
+            pass_loads(probe);
             return self.take_out(stepper, spare, taken, probe);
         }
-        probe.at(2);
+        probe.at(1);
         let tail = self.take_tail::<Brand>(stepper);
         if tail == taken + MARK {
             return TakeAnswer::End;
         }
-        probe.at(3);
+        probe.at(2);
         let word = self.take_sequence::<Brand>(stepper, taken);
         if word != stored(self.key.limit, taken) {
             return TakeAnswer::NotYet(self.key.first + taken);
@@ -123,9 +134,9 @@ impl Queue {
         requires { IsTakingOut self.now taken stepper.old }
         ensures { HasTakenOut self.now taken stepper.old stepper.new result }
     {
-        probe.at(4);
+        probe.at(3);
         let stored = self.move_out(stepper, taken, spare.take());
-        probe.at(5);
+        probe.at(4);
         self.free_place::<Brand>(stepper, taken, &stored);
         let StoredBlock { writer, block } = stored;
         TakeAnswer::Block(block, writer, self.key.first + taken + 1)

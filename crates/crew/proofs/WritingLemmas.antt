@@ -1,12 +1,11 @@
 -- What a writer and a reader know when they end.
 use Rattle.std.proofs.Common.{◌≡◌, ◌+◌, ◌++◌, ℕ, suc, true, List, [], ◌∷◌, length, take, refl, sym}
 use Rattle.std.proofs.Common.{◌∙◌, ap, subst, arith}
-use Rattle.std.specs.Prelude.{Result, Ok, Err, vec_len}
+use Rattle.std.specs.Prelude.{Result, Ok, vec_len}
 use Rattle.std.proofs.lemmas.List.{append_assoc}
 use Rattle.std.proofs.Math.Seq.{take-append_seam}
 use Rattle.histories.specs.declared.account.Account.{Account}
 use Rattle.sync_base.specs.declared.fault.Fault.{Fault}
-use Rattle.sync_base.specs.declared.fault.Fault.TheVariants.{BadArg}
 use Rattle.sleep_wakeup.specs.Kernel.{Running}
 use Rattle.block_queue.specs.declared.entry.Entry.{Entry}
 use Rattle.block_queue.specs.declared.entry.Entry.TheVariants.{Hung}
@@ -44,18 +43,6 @@ pub at_end : (key : Key) (row : Row) (old : Calling) (answer : Result ReadAnswer
     → is_at_end new.reader.account.seen ≡ true
 at_end key row old answer new reads is =
     at_end_now key row old new
-    (subst (λ (a : Result ReadAnswer Fault). ReadsBlock key row old a new) is reads)
-
--- no read is refused as a bad argument
-never_bad : (key : Key) (row : Row) (old new : Calling) → ReadsBlock key row old (Err BadArg) new
-    → ⊥
-never_bad key row old new reads = reads.ended.0.failed
-
--- the same, of an answer that is one
-pub no_bad_read : (key : Key) (row : Row) (old : Calling) (answer : Result ReadAnswer Fault)
-    (new : Calling) → ReadsBlock key row old answer new → ¬ (answer ≡ Err BadArg)
-no_bad_read key row old answer new reads is =
-    never_bad key row old new
     (subst (λ (a : Result ReadAnswer Fault). ReadsBlock key row old a new) is reads)
 
 -- what is taken of a list that goes on behind it

@@ -2,6 +2,8 @@
 use Rattle.std.specs.Prelude.{◌≡◌, ◌≤◌, ◌*◌, ℕ, Bool, true, false, List, [], ◌∷◌}
 use Rattle.sync_base.specs.declared.limits.TheConstants.{MAX_WRITERS}
 use Rattle.sync_base.specs.declared.limits.TheConstants.{LEAST_SIZE, MOST_SIZE, MAX_WRITES}
+use Rattle.sync_base.specs.declared.fault.Fault.{Fault}
+use Rattle.sync_base.specs.declared.fault.Fault.TheVariants as fault
 use Rattle.sync_base.specs.declared.threads_opts.ThreadsOpts.{ThreadsOpts}
 use Rattle.block_queue.specs.declared.entry.Entry.{Entry}
 use Rattle.block_queue.specs.declared.entry.Entry.TheVariants.{End, Hung}
@@ -17,6 +19,13 @@ pub record AreWithin (opts : ThreadsOpts) : Type 0 where
   pub writers : IsBetween 1 MAX_WRITERS opts.writers
   pub writes : IsBetween 1 MAX_WRITES opts.writes
   pub size : IsBetween LEAST_SIZE MOST_SIZE opts.size
+
+-- Own: why a run is refused. The options are tested first.
+abbrev pub WhyNotRun : ThreadsOpts → Fault → Type 0
+WhyNotRun opts fault.BadArg = ¬ AreWithin opts
+WhyNotRun opts fault.Memory = AreWithin opts
+WhyNotRun opts fault.Device = AreWithin opts
+WhyNotRun opts other = ⊥
 
 -- What a run with these options may report: how many writers there were, and where all was in
 -- order just the bytes of so many messages, no more than the writers have together.

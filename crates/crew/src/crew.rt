@@ -1,7 +1,6 @@
 //! What each thread of a run does.
-ghost use Rattle.std.specs.Prelude.{◌≡◌, ◌≤◌, true, vec_len, IsErrOf};
+ghost use Rattle.std.specs.Prelude.{◌≡◌, ◌≤◌, true, vec_len};
 ghost use Rattle.std.specs.Result.{ForOk};
-ghost use Rattle.sync_base.specs.declared.fault.Fault.TheVariants.{BadArg};
 ghost use Rattle.crew.specs.declared.message.TheConstants.{HEAD};
 ghost use Rattle.crew.specs.Tally.{IsTallyOf};
 ghost use Rattle.crew.specs.Threads.{is_at_end, is_hung};
@@ -29,7 +28,6 @@ pub struct Writer<'p> {
     wrote: Result<(), Fault>,
     ghost head: { HEAD ≤ vec_len message },
     ghost few: { done ≤ writes },
-    ghost why: { ¬ IsErrOf wrote BadArg },
 }
 
 /// A writer that has hung its direction up.
@@ -40,8 +38,7 @@ pub struct Gone<'p> {
 }
 
 impl<'p> Writer<'p> {
-    ghost use Rattle.std.specs.Prelude.{◌≡◌, ◌<◌, true, false, IfOk, IsErrOf};
-    ghost use Rattle.sync_base.specs.declared.fault.Fault.TheVariants.{BadArg};
+    ghost use Rattle.std.specs.Prelude.{◌≡◌, ◌<◌, true, false, IfOk};
     ghost use Rattle.crew.specs.Threads.{AreWithin};
     ghost use Rattle.crew.specs.Writing.{HasWrittenOn, HasEnded, IsReadyWriter};
 
@@ -55,7 +52,6 @@ impl<'p> Writer<'p> {
     ) -> Result<Writer<'p>, Fault>
         requires { AreWithin opts.now }
         ensures new { IfOk result (IsReadyWriter opts.now) }
-        ensures fault { ¬ IsErrOf result BadArg }
     {
         let message = vec![in alloc; 0; opts.size as usize]?;
         let Some(proc) = roster.rfork(parent, Flags::RFPROC)? else {
@@ -74,7 +70,7 @@ impl<'p> Writer<'p> {
 
     /// Writes its messages, one after the other, as far as the gate lets it.
     #[tactic(auto, using(crate::proofs::WritingLemmas::same_writer))]
-    pub fn write_all<R: Wait, G: Gate>(self, rt: &R, alloc: Global, gate: &G) -> Writer<'p>
+    pub fn write_all<R: Wait, G: Gate>(self, alloc: Global, rt: &R, gate: &G) -> Writer<'p>
         // Each message that it counts was accepted, whole and in its order.
         ensures on { HasWrittenOn self.entry result }
 
@@ -82,12 +78,12 @@ impl<'p> Writer<'p> {
         ensures ended { HasEnded G.may_stop gate.now result }
     {
         let mut writer = self;
-        'writing: while writer.write_next(rt, alloc, gate) {}
+        'writing: while writer.write_next(alloc, rt, gate) {}
         writer
     }
 
     // Writes its next message, where it has one and the gate lets it.
-    fn write_next<R: Wait, G: Gate>(&mut self, rt: &R, alloc: Global, gate: &G) -> bool
+    fn write_next<R: Wait, G: Gate>(&mut self, alloc: Global, rt: &R, gate: &G) -> bool
         ensures on { HasWrittenOn self.old self.new }
         ensures more { result ≡ true → self.old.done < self.new.done }
         ensures ended { result ≡ false → HasEnded G.may_stop gate.now self.new }
@@ -121,9 +117,7 @@ impl<'p> Writer<'p> {
     }
 
     /// Why it wrote no more, if a write was refused.
-    pub fn wrote(&self) -> Result<(), Fault>
-        ensures { ¬ IsErrOf result BadArg }
-    {
+    pub fn wrote(&self) -> Result<(), Fault> {
         self.wrote
     }
 }
@@ -149,12 +143,10 @@ pub struct Counted<'p> {
     read: Result<(), Fault>,
     ghost of: { IsTallyOf opts tally },
     ghost ended: { ForOk read (λ _. is_at_end end.account.seen ≡ true) },
-    ghost why: { ¬ IsErrOf read BadArg },
 }
 
 impl<'p> Reader<'p> {
-    ghost use Rattle.std.specs.Prelude.{◌≡◌, IfOk, IsErrOf};
-    ghost use Rattle.sync_base.specs.declared.fault.Fault.TheVariants.{BadArg};
+    ghost use Rattle.std.specs.Prelude.{◌≡◌, IfOk};
     ghost use Rattle.crew.specs.Tally.{AreOfOneRun};
     ghost use Rattle.crew.specs.Threads.{AreWithin};
 
@@ -167,7 +159,6 @@ impl<'p> Reader<'p> {
     ) -> Result<Reader<'p>, Fault>
         requires { AreWithin opts.now }
         ensures opts { IfOk result (λ reader. reader.opts ≡ opts.now) }
-        ensures fault { ¬ IsErrOf result BadArg }
     {
         Ok(Reader {
             proc,
@@ -180,7 +171,7 @@ impl<'p> Reader<'p> {
 
     /// Reads and counts, block by block, until the end. Where it can read no more it hangs the pipe
     /// up.
-    #[tactic(auto, using(crate::proofs::CrewLemmas::still_of, crate::proofs::WritingLemmas::at_end, crate::proofs::WritingLemmas::no_bad_read))]
+    #[tactic(auto, using(crate::proofs::CrewLemmas::still_of, crate::proofs::WritingLemmas::at_end))]
     pub fn read_all<R: Wait>(self, rt: &R) -> Counted<'p>
         ensures opts { result.opts ≡ self.entry.opts }
         ensures run { AreOfOneRun self.entry.tally result.tally }
@@ -219,15 +210,12 @@ impl<'p> Reader<'p> {
 }
 
 impl<'p> Counted<'p> {
-    ghost use Rattle.std.specs.Prelude.{◌≡◌, Err, IfOk, IfErr, IsErrOf};
-    ghost use Rattle.sync_base.specs.declared.fault.Fault.TheVariants.{BadArg};
+    ghost use Rattle.std.specs.Prelude.{◌≡◌, Err, IfOk, IfErr};
     ghost use Rattle.crew.specs.Tally.{ReportsTally};
     ghost use Rattle.crew.specs.Threads.{IsReportOf};
 
     /// Why it did not come to the end, if it did not.
-    pub fn read_to_end(&self) -> Result<(), Fault>
-        ensures { ¬ IsErrOf result BadArg }
-    {
+    pub fn read_to_end(&self) -> Result<(), Fault> {
         self.read
     }
 
@@ -235,7 +223,6 @@ impl<'p> Counted<'p> {
     /// counted for a run with other options.
     pub fn report(&self, opts: &ThreadsOpts) -> Result<Report, Fault>
         ensures fault { IfErr self.now.read (λ fault. result ≡ Err fault) }
-        ensures no_bad_arg { ¬ IsErrOf result BadArg }
         ensures told { IfOk result (ReportsTally opts.now.writers self.now.tally) }
         ensures of { IfOk result (IsReportOf opts.now) }
     {
@@ -255,8 +242,7 @@ pub struct Crew<'p> {
 }
 
 impl<'p> Crew<'p> {
-    ghost use Rattle.std.specs.Prelude.{◌≡◌, All, IfOk, IsErrOf};
-    ghost use Rattle.sync_base.specs.declared.fault.Fault.TheVariants.{BadArg};
+    ghost use Rattle.std.specs.Prelude.{◌≡◌, All, IfOk};
     ghost use Rattle.block_queue.specs.Seats.{key_of};
     ghost use Rattle.crew.specs.declared.threads.TheConstants.{LIMIT};
     ghost use Rattle.crew.specs.Threads.{AreWithin};
@@ -281,7 +267,6 @@ impl<'p> Crew<'p> {
         ensures writers { IfOk result (λ crew.
             All (IsReadyWriter opts.now) crew.writers.items) }
         ensures reader { IfOk result (λ crew. crew.reader.opts ≡ opts.now) }
-        ensures fault { ¬ IsErrOf result BadArg }
     {
         let (mut roster, mut proc) = (roster, proc);
         let writers = Crew::writers_at(alloc, opts, &mut roster, &mut proc, writes)?;
@@ -300,7 +285,6 @@ impl<'p> Crew<'p> {
         requires { AreWithin opts.now }
         ensures ready { IfOk result (λ writers.
             All (IsReadyWriter opts.now) writers.items) }
-        ensures fault { ¬ IsErrOf result BadArg }
     {
         let mut writers = Vec::with_capacity(alloc, ends.len())?;
         'seating: for end in ends {

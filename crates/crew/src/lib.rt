@@ -13,6 +13,3 @@ pub use gate::{Gate, OpenGate};
 pub use opts::Report;
 pub use sync_base::ThreadsOpts;
 pub use threads::run_threads;
-
-#[cfg(test)]
-mod tests;

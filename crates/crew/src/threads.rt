@@ -1,9 +1,9 @@
 //! Many writers and one reader, each on a thread of its own, on one direction of a pipe.
-ghost use Rattle.std.specs.Prelude.{◌≡◌, ◌≢◌, ◌≤◌, ◌+◌, ◌↔◌, [], length, All, IfOk, IsErrOf};
+ghost use Rattle.std.specs.Prelude.{◌≡◌, ◌≢◌, ◌≤◌, ◌+◌, ◌↔◌, [], length, All, IfOk, IfErr, IsErrOf};
 ghost use Rattle.std.specs.Prelude.{IsSome};
 ghost use Rattle.std.specs.Vec.{vec_capacity};
 ghost use Rattle.sync_base.specs.declared.fault.Fault.TheVariants.{BadArg};
-ghost use Rattle.crew.specs.Threads.{AreWithin, IsReportOf};
+ghost use Rattle.crew.specs.Threads.{AreWithin, IsReportOf, WhyNotRun};
 ghost use Rattle.crew.specs.Writing.{HasWrittenOn, HasEnded, IsReadyWriter};
 
 use crate::crew::{Counted, Crew, Gone, Reader, Writer};
@@ -30,14 +30,20 @@ const _: () = prove!(LIMIT == 16);
 ///
 /// Refuses, in this order, as `BadArg` outside the limits of `ThreadsOpts`, as `Memory`, and as
 /// `Device` where a thread can't be started; then all others have been joined.
+///
+/// A read or a write that is refused for another reason than memory would be told as `Device` too:
+/// a note, or a hangup by somebody else. Nobody but the crew has the run's processes and ends.
 pub fn run_threads<R: Threads + Wait + Sync, G: Gate + Sync>(
-    rt: &R,
     alloc: Global,
+    rt: &R,
     opts: ThreadsOpts,
     gate: &G,
 ) -> Result<Report, Fault>
     // Refused first, and nothing else is refused so.
     ensures bad_arg { IsErrOf result BadArg ↔ ¬ AreWithin opts }
+
+    // No other refusal is known but for memory and a device.
+    ensures fault { IfErr result (WhyNotRun opts) }
 
     // Otherwise it reports what was read.
     ensures report { IfOk result (IsReportOf opts) }
@@ -45,6 +51,23 @@ pub fn run_threads<R: Threads + Wait + Sync, G: Gate + Sync>(
     if !is_within(&opts) {
         return Err(Fault::BadArg);
     }
+    match run_within(alloc, rt, opts, gate) {
+        Ok(report) => Ok(report),
+        Err(Fault::Memory) => Err(Fault::Memory),
+        Err(_) => Err(Fault::Device),
+    }
+}
+
+// Makes the kernel, the pipe and the crew, and runs them.
+fn run_within<R: Threads + Wait + Sync, G: Gate + Sync>(
+    alloc: Global,
+    rt: &R,
+    opts: ThreadsOpts,
+    gate: &G,
+) -> Result<Report, Fault>
+    requires { AreWithin opts }
+    ensures { IfOk result (IsReportOf opts) }
+{
     let rendez = 2 * (1 + opts.writers);
     let sleep_wakeup::Opened { kernel, start } = Kernel::new(alloc, opts.writers + 1, rendez)?;
     let Started { mut roster, proc } = kernel.start(start);
@@ -53,19 +76,18 @@ pub fn run_threads<R: Threads + Wait + Sync, G: Gate + Sync>(
     let Parts { read, writes: _ } = first.parts();
     let Parts { read: _, writes } = second.parts();
     let crew = Crew::new(alloc, &opts, roster, proc, read, writes)?;
-    run_crew(rt, alloc, opts, gate, crew)
+    run_crew(alloc, rt, opts, gate, crew)
 }
 
 // Runs each of the crew on a thread of its own, and joins them all.
 fn run_crew<'p, R: Threads + Wait + Sync, G: Gate + Sync>(
-    rt: &R,
     alloc: Global,
+    rt: &R,
     opts: ThreadsOpts,
     gate: &G,
     crew: Crew<'p>,
 ) -> Result<Report, Fault>
     requires writers { All (IsReadyWriter opts) crew.writers.items }
-    ensures fault { ¬ IsErrOf result BadArg }
     ensures report { IfOk result (IsReportOf opts) }
 {
     let Crew { reader, writers } = crew;
@@ -74,9 +96,7 @@ fn run_crew<'p, R: Threads + Wait + Sync, G: Gate + Sync>(
     let counted = thread::scope(
         thread::scope_env(),
         rt,
-        move |scope| -> Result<Counted, Fault>
-            ensures { ¬ IsErrOf result BadArg }
-        {
+        move |scope| -> Result<Counted, Fault> {
             let handles = Vec::with_capacity(alloc, writers.len())?;
             let Some(reading) = start_reader(scope, rt, reader) else {
                 return Err(Fault::Device);
@@ -84,7 +104,7 @@ fn run_crew<'p, R: Threads + Wait + Sync, G: Gate + Sync>(
             let Running {
                 handles,
                 all_started,
-            } = start_writers(scope, off, rt, alloc, gate, writers, handles);
+            } = start_writers(scope, off, alloc, rt, gate, writers, handles);
             let Joined { wrote, gone } = join_writers(rt, handles);
             let counted = reading.join(rt);
             if !all_started {
@@ -123,8 +143,8 @@ struct Running<'p> {
 fn start_writers<'s, 'p: 's, E, R: Wait + Sync, G: Gate + Sync>(
     scope: &Scope<'s, E>,
     off: &'s AtomicBool,
-    rt: &'s R,
     alloc: Global,
+    rt: &'s R,
     gate: &'s G,
     writers: Vec<Writer<'p>>,
     handles: Vec<JoinHandle<Writer<'p>>>,
@@ -136,7 +156,7 @@ fn start_writers<'s, 'p: 's, E, R: Wait + Sync, G: Gate + Sync>(
         match scope.spawn(
             move || -> Writer
                 ensures { HasWrittenOn writer.entry result }
-            { write_unless(off, rt, alloc, gate, writer) },
+            { write_unless(off, alloc, rt, gate, writer) },
         ) {
             Ok(handle) => handles.push_reserved(handle),
             Err(refused) => {
@@ -159,8 +179,8 @@ fn start_writers<'s, 'p: 's, E, R: Wait + Sync, G: Gate + Sync>(
 #[tactic(auto, using(crate::proofs::WritingLemmas::same_writer))]
 fn write_unless<'p, R: Wait, G: Gate>(
     off: &AtomicBool,
-    rt: &R,
     alloc: Global,
+    rt: &R,
     gate: &G,
     writer: Writer<'p>,
 ) -> Writer<'p>
@@ -169,7 +189,7 @@ fn write_unless<'p, R: Wait, G: Gate>(
     if off.load(SeqCst) {
         return writer;
     }
-    writer.write_all(rt, alloc, gate)
+    writer.write_all(alloc, rt, gate)
 }
 
 // All writers have returned: why one of them wrote no more, and the one that hung the pipe up.
@@ -177,15 +197,10 @@ fn write_unless<'p, R: Wait, G: Gate>(
 struct Joined<'p> {
     wrote: Result<(), Fault>,
     gone: Option<Gone<'p>>,
-    ghost why: { ¬ IsErrOf wrote BadArg },
 }
 
 // The first of two faults, where there is one.
-fn first_fault(first: Result<(), Fault>, second: Result<(), Fault>) -> Result<(), Fault>
-    requires first { ¬ IsErrOf first BadArg }
-    requires second { ¬ IsErrOf second BadArg }
-    ensures { ¬ IsErrOf result BadArg }
-{
+fn first_fault(first: Result<(), Fault>, second: Result<(), Fault>) -> Result<(), Fault> {
     match first {
         Ok(()) => second,
         Err(fault) => Err(fault),

@@ -20,15 +20,15 @@ use Rattle.kernel_lock.specs.Steps.{Slot, Me, FindsObject, TakesLock, HasAcquire
 use Rattle.kernel_lock.specs.View.{account_of, inside_view}
 use Rattle.kernel_lock.proofs.RuleLemmas.{lock_moves, rule_after, sits, knows_history}
 
-module _ {Object State Request Reply : Type 0}
-    (definition : Definition Object State Request Reply) where
-  module _ (key : Key Object) (slots id : ℕ) (me : Me Object Request Reply)
+module _ {Object State Call Reply : Type 0}
+    (definition : Definition Object State Call Reply) where
+  module _ (key : Key Object) (slots id : ℕ) (me : Me Object Call Reply)
       (keyed : me.0.key ≡ Some key) where
     -- the word was 0: the object and the number beside it are the history's
-    takes : (s : table.State (Slot Object) (View Object Request Reply))
+    takes : (s : table.State (Slot Object) (View Object Call Reply))
         (rule : IsOneHistory definition key s) → get_elem? s.views id ≡ some me.0 →
         get_or s.words 0 0 ≡ 0 →
-        (after : View Object Request Reply) × (act : table.Act (Slot Object)) ×
+        (after : View Object Call Reply) × (act : table.Act (Slot Object)) ×
         table.Valid s.homes me.1 act ×
         IsOneHistory definition key (table.stepped s 0 1 id me.1 after act) ×
         TakesLock definition me (after, table.carried_after me.1 act)
@@ -39,7 +39,7 @@ module _ {Object State Request Reply : Type 0}
         let fits = rule.each_seat id me.0 at in
         let given = fits.given in
         let limit = rule.limit in
-        let after : View Object Request Reply =
+        let after : View Object Call Reply =
         inside_view rule.ledger.history guarded.next me.0 in (
           after,
           table.takes 0 (Some guarded),

@@ -19,11 +19,11 @@ use Rattle.kernel_lock.specs.Rule.{Standing, IsInside, FitsStage, FitsLock, IsOn
 use Rattle.kernel_lock.specs.View.{HasOwn, account_of, parent_view, child_view}
 use Rattle.kernel_lock.proofs.RuleLemmas.{lock_moves}
 
-module _ {Object State Request Reply : Type 0}
-    (definition : Definition Object State Request Reply) where
+module _ {Object State Call Reply : Type 0}
+    (definition : Definition Object State Call Reply) where
   -- a seat that is inside and knows of room below the limit may give the next number to a new seat
-  pub divide_keeps : (key : Key Object) (id : ℕ) (before : View Object Request Reply)
-      (history : List (Served Request Reply)) → before.stage ≡ Inside history →
+  pub divide_keeps : (key : Key Object) (id : ℕ) (before : View Object Call Reply)
+      (history : List (Served Call Reply)) → before.stage ≡ Inside history →
       before.given < key.limit → HasOwn before →
       table.Splits (IsOneHistory definition key) id before (parent_view before) (child_view before)
   divide_keeps key id before history stage_is room own s rule at =
@@ -45,13 +45,13 @@ module _ {Object State Request Reply : Type 0}
             parent_fits others);
       }
     where
-      now : Standing Request Reply
+      now : Standing Call Reply
       now = record { ledger = rule.ledger; holder = rule.holder; word = get_or s.words 0 0 }
 
       new_seat : ℕ
       new_seat = length (set s.views id (parent_view before))
 
-      after : Standing Request Reply
+      after : Standing Call Reply
       after =
           record {
             ledger = ledger_gave before.account.number new_seat rule.ledger;
@@ -61,14 +61,14 @@ module _ {Object State Request Reply : Type 0}
 
       inside : IsInside now id history before.given
       inside =
-          subst (λ (stage : Stage Request Reply). FitsStage now id before.given stage) stage_is
+          subst (λ (stage : Stage Call Reply). FitsStage now id before.given stage) stage_is
           (rule.each_seat id before at).stage
 
       parent_fits : FitsLock after id (parent_view before)
       parent_fits =
           record {
             given = omega (arith, inside.given_is);
-            stage = subst (λ (stage : Stage Request Reply). FitsStage after id
+            stage = subst (λ (stage : Stage Call Reply). FitsStage after id
                 (before.given + 1) stage)
                 (sym stage_is)
                 record {
@@ -79,7 +79,7 @@ module _ {Object State Request Reply : Type 0}
                 };
           }
 
-      others : (seat : ℕ) (view : View Object Request Reply) → seat ≢ id →
+      others : (seat : ℕ) (view : View Object Call Reply) → seat ≢ id →
           get_elem? s.views seat ≡ some view → FitsLock after seat view
       others seat view other there =
           lock_moves now after seat view (rule.each_seat seat view there)

@@ -21,10 +21,10 @@ use Rattle.kernel_lock.specs.View.{HasSecond, account_of, handing_view, handed_v
 use Rattle.kernel_lock.specs.View.{second_share, other_shares}
 use Rattle.kernel_lock.proofs.RuleLemmas.{lock_stays}
 
-module _ {Object State Request Reply : Type 0}
-    (definition : Definition Object State Request Reply) where
+module _ {Object State Call Reply : Type 0}
+    (definition : Definition Object State Call Reply) where
   -- a seat outside that has two numbers may hand the second to a new seat, and all still fit
-  pub hand_keeps : (key : Key Object) (id : ℕ) (before : View Object Request Reply) →
+  pub hand_keeps : (key : Key Object) (id : ℕ) (before : View Object Call Reply) →
       before.stage ≡ Outside → HasSecond before →
       table.Splits (IsOneHistory definition key) id before (handing_view before)
       (handed_view before)
@@ -49,9 +49,9 @@ module _ {Object State Request Reply : Type 0}
             (ap (λ b. b || has_number two.others two.first.number)
             (eq-eqb two.first.number two.first.number refl))
             two.lower
-            (ap (λ (shares : List (Share (Served Request Reply))). keeping_account
+            (ap (λ (shares : List (Share (Served Call Reply))). keeping_account
             (other_shares shares) before.account) two.shares_are)
-            (ap (λ (shares : List (Share (Served Request Reply))). handed_account
+            (ap (λ (shares : List (Share (Served Call Reply))). handed_account
             (second_share shares) before.account) two.shares_are);
         each_seat = each_end (λ seat view. FitsLock after seat view)
             (set s.views id (handing_view before)) (handed_view before) (fits new_seat)
@@ -62,7 +62,7 @@ module _ {Object State Request Reply : Type 0}
       new_seat : ℕ
       new_seat = length (set s.views id (handing_view before))
 
-      after : Standing Request Reply
+      after : Standing Call Reply
       after =
           record {
             ledger = ledger_handed two.first.number two.second.number new_seat rule.ledger;
@@ -72,7 +72,7 @@ module _ {Object State Request Reply : Type 0}
 
       stays : (seat : ℕ) → FitsStage after seat before.given before.stage
       stays seat =
-          subst (λ (stage : Stage Request Reply). FitsStage after seat before.given stage)
+          subst (λ (stage : Stage Call Reply). FitsStage after seat before.given stage)
           (sym outside) tt
 
       handing_fits : (seat : ℕ) → FitsLock after seat (handing_view before)
@@ -82,7 +82,7 @@ module _ {Object State Request Reply : Type 0}
       fits : (seat : ℕ) → FitsLock after seat (handed_view before)
       fits seat = record { given = (rule.each_seat id before at).given; stage = stays seat }
 
-      others : (seat : ℕ) (view : View Object Request Reply) → seat ≢ id →
+      others : (seat : ℕ) (view : View Object Call Reply) → seat ≢ id →
           get_elem? s.views seat ≡ some view → FitsLock after seat view
       others seat view other there =
           lock_stays

@@ -19,9 +19,9 @@ use Rattle.kernel_lock.specs.Steps.{Me, HasHanded}
 use Rattle.kernel_lock.specs.View.{HasSecond, first_view, handing_view, handed_view, head_view}
 use Rattle.kernel_lock.proofs.SeatLemmas.{sits_down}
 
-module _ {Object Request Reply : Type 0} where
+module _ {Object Call Reply : Type 0} where
   -- the first seat, where it has so many numbers left from this one on
-  abbrev pub left_view : Key Object → ℕ → ℕ → View Object Request Reply
+  abbrev pub left_view : Key Object → ℕ → ℕ → View Object Call Reply
   left_view key number count =
       record {
         key = Some key;
@@ -36,7 +36,7 @@ module _ {Object Request Reply : Type 0} where
       }
 
   -- a seat to which this number was handed
-  abbrev pub new_view : Key Object → ℕ → View Object Request Reply
+  abbrev pub new_view : Key Object → ℕ → View Object Call Reply
   new_view key number =
       record {
         key = Some key;
@@ -51,8 +51,8 @@ module _ {Object Request Reply : Type 0} where
       }
 
   -- the numbers below this one were handed out, to these seats
-  pub record HandsOut (lock : Locked Object Request Reply) (number : ℕ)
-      (stepper : Stepper Object Request Reply) (others : List (LockSeat Object Request Reply))
+  pub record HandsOut (lock : Locked Object Call Reply) (number : ℕ)
+      (stepper : Stepper Object Call Reply) (others : List (LockSeat Object Call Reply))
       (capacity : ℕ) : Type 0 where
     -- so many numbers are still to be handed out
     pub count : ℕ
@@ -74,9 +74,9 @@ module _ {Object Request Reply : Type 0} where
     pub next : AreNextSeats 1 lock.limit others
 
   -- before the first number is handed out, the first seat has them all and no other seat is made
-  pub hands_first : (lock : Locked Object Request Reply) (stepper : Stepper Object Request Reply)
-      (others : List (LockSeat Object Request Reply)) (capacity : ℕ)
-      (view : View Object Request Reply) →
+  pub hands_first : (lock : Locked Object Call Reply) (stepper : Stepper Object Call Reply)
+      (others : List (LockSeat Object Call Reply)) (capacity : ℕ)
+      (view : View Object Call Reply) →
       lock.table.shared.key.more + 1 ≡ lock.limit → others ≡ [] →
       capacity ≡ lock.table.shared.key.more → stepper.table_id ≡ lock.table.shared.table_id →
       stepper.me ≡ (view, []) → view ≡ first_view lock.table.shared.key →
@@ -86,20 +86,20 @@ module _ {Object Request Reply : Type 0} where
         count = lock.table.shared.key.more;
         count_is = omega arith;
         whole = whole;
-        length_is = ap (λ (xs : List (LockSeat Object Request Reply)). length xs + 1) (sym none);
+        length_is = ap (λ (xs : List (LockSeat Object Call Reply)). length xs + 1) (sym none);
         capacity_is = room;
         table = table;
-        me_is = me ∙ ap (λ (v : View Object Request Reply). (v, [])) first;
+        me_is = me ∙ ap (λ (v : View Object Call Reply). (v, [])) first;
         seats = subst (AllByRecursion (IsSeatOf lock)) (sym none) tt;
         next = subst (AreNextSeats 1 lock.limit) (sym none) tt;
       }
 
-  second_of : (key : Key Object) (limit number count : ℕ) (me : Me Object Request Reply) →
+  second_of : (key : Key Object) (limit number count : ℕ) (me : Me Object Call Reply) →
       number + count ≡ limit → number < limit → 0 < number →
       me ≡ (left_view key number count, []) → HasSecond me.0
   second_of key limit number zero me sum below some_number is = absurd (omega arith)
   second_of key limit number (suc count) me sum below some_number is =
-      subst HasSecond (ap (λ (its : Me Object Request Reply). its.0) (sym is))
+      subst HasSecond (ap (λ (its : Me Object Call Reply). its.0) (sym is))
       record {
         first = unused_share 0;
         second = unused_share number;
@@ -108,8 +108,8 @@ module _ {Object Request Reply : Type 0} where
         lower = some_number;
       }
 
-  module _ (lock : Locked Object Request Reply) (number : ℕ)
-      (stepper : Stepper Object Request Reply) (others : List (LockSeat Object Request Reply))
+  module _ (lock : Locked Object Call Reply) (number : ℕ)
+      (stepper : Stepper Object Call Reply) (others : List (LockSeat Object Call Reply))
       (capacity : ℕ) (so_far : HandsOut lock number stepper others capacity) where
     -- while a number is left, the first seat has a second number to hand over
     pub has_second : number < lock.limit → HasSecond stepper.me.0
@@ -123,15 +123,15 @@ module _ {Object Request Reply : Type 0} where
     hands_stepper =
         record {
           table = so_far.table;
-          key = ap (λ (me : Me Object Request Reply). me.0.key) so_far.me_is;
+          key = ap (λ (me : Me Object Call Reply). me.0.key) so_far.me_is;
         }
 
     -- the seat that hands out is outside and has no slot, however far it has come
     pub hands_outside : IsOutside stepper
     hands_outside =
         record {
-          stage = ap (λ (me : Me Object Request Reply). me.0.stage) so_far.me_is;
-          no_slot = ap (λ (me : Me Object Request Reply). me.1) so_far.me_is;
+          stage = ap (λ (me : Me Object Call Reply). me.0.stage) so_far.me_is;
+          no_slot = ap (λ (me : Me Object Call Reply). me.1) so_far.me_is;
         }
 
     -- while a number is left, the list of seats has room for one more
@@ -143,8 +143,8 @@ module _ {Object Request Reply : Type 0} where
         omega arith
 
   -- one more seat behind the others
-  next_append : (number first given : ℕ) (seats : List (LockSeat Object Request Reply))
-      (seat : LockSeat Object Request Reply) → number ≡ first + length seats →
+  next_append : (number first given : ℕ) (seats : List (LockSeat Object Call Reply))
+      (seat : LockSeat Object Call Reply) → number ≡ first + length seats →
       AreNextSeats first given seats → IsNew number [] given (view_of seat) →
       AreNextSeats first given (seats ++ seat ∷ [])
   next_append number first given [] seat is before new =
@@ -153,7 +153,7 @@ module _ {Object Request Reply : Type 0} where
       (before.0, next_append number (first + 1) given seats seat (omega arith) before.1 new)
 
   handed : (key : Key Object) (limit number count : ℕ)
-      (before after child : Me Object Request Reply) →
+      (before after child : Me Object Call Reply) →
       number + count ≡ limit → number < limit → before ≡ (left_view key number count, []) →
       HasHanded before after child →
       (left : ℕ) × (number + 1 + left ≡ limit) × (after ≡ (left_view key (number + 1) left, [])) ×
@@ -163,11 +163,11 @@ module _ {Object Request Reply : Type 0} where
     count,
     omega arith,
     has.rest_is
-        ∙ ap (λ (me : Me Object Request Reply). (handing_view me.0, me.1)) is,
-    has.child_is ∙ ap (λ (me : Me Object Request Reply). (handed_view me.0, [])) is,
+        ∙ ap (λ (me : Me Object Call Reply). (handing_view me.0, me.1)) is,
+    has.child_is ∙ ap (λ (me : Me Object Call Reply). (handed_view me.0, [])) is,
   )
 
-  new_sits : (lock : Locked Object Request Reply) (seat : LockSeat Object Request Reply)
+  new_sits : (lock : Locked Object Call Reply) (seat : LockSeat Object Call Reply)
       (number : ℕ) → lock.table.shared.key.more + 1 ≡ lock.limit →
       seat.badge.table_id ≡ lock.table.shared.table_id →
       seat.badge.views ≡ new_view lock.table.shared.key number ∷ [] → seat.number ≡ number →
@@ -176,11 +176,11 @@ module _ {Object Request Reply : Type 0} where
       let view : view_of seat ≡ new_view lock.table.shared.key number = ap head_view views in (
         record {
           table = table;
-          views = views ∙ ap (λ (v : View Object Request Reply). v ∷ []) (sym view);
-          key = ap (λ (v : View Object Request Reply). v.key) view;
-          stage = ap (λ (v : View Object Request Reply). v.stage) view;
-          number = number_is ∙ sym (ap (λ (v : View Object Request Reply). v.account.number) view);
-          own = ap (λ (v : View Object Request Reply). has_number v.account.shares seat.number) view
+          views = views ∙ ap (λ (v : View Object Call Reply). v ∷ []) (sym view);
+          key = ap (λ (v : View Object Call Reply). v.key) view;
+          stage = ap (λ (v : View Object Call Reply). v.stage) view;
+          number = number_is ∙ sym (ap (λ (v : View Object Call Reply). v.account.number) view);
+          own = ap (λ (v : View Object Call Reply). has_number v.account.shares seat.number) view
               ∙ rw (eq-eqb number seat.number (sym number_is)) refl;
         },
         subst (IsNew number [] lock.limit) (sym view)
@@ -188,10 +188,10 @@ module _ {Object Request Reply : Type 0} where
       )
 
   -- one number more is handed out
-  pub hands_next : (lock : Locked Object Request Reply) (number : ℕ)
-      (before after child : Stepper Object Request Reply)
-      (others pushed : List (LockSeat Object Request Reply))
-      (seat : LockSeat Object Request Reply) (capacity room : ℕ) →
+  pub hands_next : (lock : Locked Object Call Reply) (number : ℕ)
+      (before after child : Stepper Object Call Reply)
+      (others pushed : List (LockSeat Object Call Reply))
+      (seat : LockSeat Object Call Reply) (capacity room : ℕ) →
       HandsOut lock number before others capacity → pushed ≡ others ++ seat ∷ [] →
       room ≡ capacity → number < lock.limit →
       HasHanded before.me after.me child.me → after.table_id ≡ before.table_id →
@@ -204,7 +204,7 @@ module _ {Object Request Reply : Type 0} where
       let step = handed lock.table.shared.key lock.limit number so_far.count before.me after.me
       child.me so_far.count_is below so_far.me_is has in
       let sat = new_sits lock seat number so_far.whole (badge ∙ its ∙ so_far.table)
-      (views ∙ ap (λ (me : Me Object Request Reply). me.0 ∷ []) step.3) number_is in
+      (views ∙ ap (λ (me : Me Object Call Reply). me.0 ∷ []) step.3) number_is in
       record {
         count = step.0;
         count_is = step.1;
@@ -212,7 +212,7 @@ module _ {Object Request Reply : Type 0} where
         length_is = omega (
           arith,
           length-append others (seat ∷ []),
-          ap (λ (xs : List (LockSeat Object Request Reply)). length xs) pushed_is,
+          ap (λ (xs : List (LockSeat Object Call Reply)). length xs) pushed_is,
         );
         capacity_is = room_is ∙ so_far.capacity_is;
         table = table ∙ so_far.table;
@@ -223,16 +223,16 @@ module _ {Object Request Reply : Type 0} where
             (next_append number 1 lock.limit others seat (omega arith) so_far.next sat.1);
       }
 
-  left_none : (key : Key Object) (limit number count : ℕ) (me : Me Object Request Reply) →
+  left_none : (key : Key Object) (limit number count : ℕ) (me : Me Object Call Reply) →
       number + count ≡ limit → limit ≤ number → me ≡ (left_view key number count, []) →
       me ≡ (left_view key number 0, [])
   left_none key limit number zero me sum all is = is
   left_none key limit number (suc count) me sum all is = absurd (omega arith)
 
   -- the first seat sits down with its own number alone
-  pub hands_last : (lock : Locked Object Request Reply) (number : ℕ)
-      (stepper : Stepper Object Request Reply) (others : List (LockSeat Object Request Reply))
-      (capacity : ℕ) (seat : LockSeat Object Request Reply) →
+  pub hands_last : (lock : Locked Object Call Reply) (number : ℕ)
+      (stepper : Stepper Object Call Reply) (others : List (LockSeat Object Call Reply))
+      (capacity : ℕ) (seat : LockSeat Object Call Reply) →
       HandsOut lock number stepper others capacity → lock.limit ≤ number →
       seat.badge.table_id ≡ stepper.table_id → seat.badge.views ≡ stepper.me.0 ∷ [] →
       seat.number ≡ 0 →
@@ -245,12 +245,12 @@ module _ {Object Request Reply : Type 0} where
       let last = left_none lock.table.shared.key lock.limit number so_far.count stepper.me
       so_far.count_is all so_far.me_is in
       let view : stepper.me.0 ≡ left_view lock.table.shared.key number 0 =
-      ap (λ (me : Me Object Request Reply). me.0) last in (
+      ap (λ (me : Me Object Call Reply). me.0) last in (
         sits_down lock seat stepper
             (hands_stepper lock number stepper others capacity so_far)
             (hands_outside lock number stepper others capacity so_far) table views
-            (number_is ∙ sym (ap (λ (v : View Object Request Reply). v.account.number) view))
-            (ap (λ (v : View Object Request Reply). has_number v.account.shares seat.number) view
+            (number_is ∙ sym (ap (λ (v : View Object Call Reply). v.account.number) view))
+            (ap (λ (v : View Object Call Reply). has_number v.account.shares seat.number) view
             ∙ rw (eq-eqb 0 seat.number (sym number_is)) refl),
         subst (IsNew 0 (numbers_from 1 lock.table.shared.key.more) (lock.table.shared.key.more + 1))
             (sym (ap head_view views ∙ view))
@@ -258,10 +258,10 @@ module _ {Object Request Reply : Type 0} where
         omega arith,
       )
 
-module _ {Object State Request Reply : Type 0}
-    (definition : Definition Object State Request Reply) where
+module _ {Object State Call Reply : Type 0}
+    (definition : Definition Object State Call Reply) where
   -- a seat of a new lock has seen the empty history
-  pub new_knows : (lock : Locked Object Request Reply) (seat : LockSeat Object Request Reply)
+  pub new_knows : (lock : Locked Object Call Reply) (seat : LockSeat Object Call Reply)
       (number given : ℕ) (gave : List ℕ) → IsNew number gave given (view_of seat) →
       number < limit_of lock → AllByRecursion (λ n. n < limit_of lock) gave →
       SeesHistory definition lock seat
@@ -277,8 +277,8 @@ module _ {Object State Request Reply : Type 0}
       }
 
   -- each of the other seats of a new lock knows a legal history: the empty one
-  pub next_know : (lock : Locked Object Request Reply) (number given : ℕ)
-      (seats : List (LockSeat Object Request Reply)) → AreNextSeats number given seats →
+  pub next_know : (lock : Locked Object Call Reply) (number given : ℕ)
+      (seats : List (LockSeat Object Call Reply)) → AreNextSeats number given seats →
       number + length seats ≤ limit_of lock → AllByRecursion (SeesHistory definition lock) seats
   next_know lock number given [] next within = tt
   next_know lock number given (seat ∷ seats) next within = (
@@ -288,7 +288,7 @@ module _ {Object State Request Reply : Type 0}
 
   -- the first seat of a new lock knows a legal history, the empty one, and gave numbers below the
   -- limit
-  pub first_knows : (lock : Locked Object Request Reply) (seat : LockSeat Object Request Reply)
+  pub first_knows : (lock : Locked Object Call Reply) (seat : LockSeat Object Call Reply)
       (more : ℕ) → IsFirstSeat more seat → more + 1 ≤ limit_of lock →
       SeesHistory definition lock seat
   first_knows lock seat more new within =

@@ -14,11 +14,11 @@ use Rattle.kernel_lock.specs.Rule.{Standing, FitsLock, IsOneHistory}
 use Rattle.kernel_lock.specs.View.{account_of, joined_view, spent_view}
 use Rattle.kernel_lock.proofs.RuleLemmas.{lock_stays}
 
-module _ {Object State Request Reply : Type 0}
-    (definition : Definition Object State Request Reply) where
+module _ {Object State Call Reply : Type 0}
+    (definition : Definition Object State Call Reply) where
   -- of two seats one may be made that has the numbers of both, while the other is spent
-  pub merge_keeps : (key : Key Object) (id : ℕ) (first : View Object Request Reply) (other : ℕ)
-      (second : View Object Request Reply) →
+  pub merge_keeps : (key : Key Object) (id : ℕ) (first : View Object Call Reply) (other : ℕ)
+      (second : View Object Call Reply) →
       table.Joins (IsOneHistory definition key) id first other second (joined_view first second)
       spent_view
   merge_keeps key id first other second s rule at apart there =
@@ -49,10 +49,10 @@ module _ {Object State Request Reply : Type 0}
       at_other : get_elem? s.views other ≡ some second
       at_other = sym (set_else s.views id other (joined_view first second) apart) ∙ there
 
-      now : Standing Request Reply
+      now : Standing Call Reply
       now = record { ledger = rule.ledger; holder = rule.holder; word = get_or s.words 0 0 }
 
-      after : Standing Request Reply
+      after : Standing Call Reply
       after =
           record {
             ledger = ledger_joined id other rule.ledger;
@@ -71,7 +71,7 @@ module _ {Object State Request Reply : Type 0}
                 refl).shorter;
           }
 
-      others : (seat : ℕ) (view : View Object Request Reply) → seat ≢ id →
+      others : (seat : ℕ) (view : View Object Call Reply) → seat ≢ id →
           get_elem? s.views seat ≡ some view → FitsLock after seat view
       others seat view apart at_seat =
           lock_stays now after.ledger.owner after.ledger.parent seat view

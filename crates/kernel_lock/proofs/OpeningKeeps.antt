@@ -15,8 +15,8 @@ use Rattle.kernel_lock.specs.Rule.{Standing, FitsLock, IsOneHistory}
 use Rattle.kernel_lock.specs.Steps.{Slot}
 use Rattle.kernel_lock.specs.View.{account_of, first_view}
 
-module _ {Object State Request Reply : Type 0}
-    (definition : Definition Object State Request Reply) where
+module _ {Object State Call Reply : Type 0}
+    (definition : Definition Object State Call Reply) where
   opening_keeps : (key : Key Object) (guarded : Guarded Object) →
       guarded.object ≡ key.opening.value → guarded.next ≡ key.more + 1 → key.more < key.limit →
       IsOneHistory definition key
@@ -38,13 +38,13 @@ module _ {Object State Request Reply : Type 0}
         each_seat = each_seat;
       }
     where
-      now : Standing Request Reply
+      now : Standing Call Reply
       now = record { ledger = opening_ledger key.more; holder = 0; word = 0 }
 
-      each_seat : (seat : ℕ) (view : View Object Request Reply) →
+      each_seat : (seat : ℕ) (view : View Object Call Reply) →
           get_elem? (first_view key ∷ []) seat ≡ some view → FitsLock now seat view
       each_seat zero view at =
-          subst (λ (v : View Object Request Reply). FitsLock now 0 v)
+          subst (λ (v : View Object Call Reply). FitsLock now 0 v)
           (some-injective (first_view key) view at) record { given = omega arith; stage = tt }
       each_seat (suc seat) view at = absurd (some-ne-none view (sym at))
 

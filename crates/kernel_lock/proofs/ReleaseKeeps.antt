@@ -32,18 +32,18 @@ module _ {Object : Type 0} where
       cc
 
 -- the ledger with the request that was served, if one was
-abbrev ledger_after : {Request Reply : Type 0} → Option (Served Request Reply) →
-    Ledger (Served Request Reply) → Ledger (Served Request Reply)
+abbrev ledger_after : {Call Reply : Type 0} → Option (Served Call Reply) →
+    Ledger (Served Call Reply) → Ledger (Served Call Reply)
 ledger_after None ledger = ledger
 ledger_after (Some served) ledger = ledger_with served ledger
 
-module _ {Object State Request Reply : Type 0}
-    (definition : Definition Object State Request Reply) where
-  module _ (key : Key Object) (s : table.State (Slot Object) (View Object Request Reply))
-      (rule : IsOneHistory definition key s) (id : ℕ) (me : Me Object Request Reply)
+module _ {Object State Call Reply : Type 0}
+    (definition : Definition Object State Call Reply) where
+  module _ (key : Key Object) (s : table.State (Slot Object) (View Object Call Reply))
+      (rule : IsOneHistory definition key s) (id : ℕ) (me : Me Object Call Reply)
       (at : get_elem? s.views id ≡ some me.0) where
     -- what holds of the history after the release, with a request and without
-    record Follows (served : Option (Served Request Reply)) : Type 0 where
+    record Follows (served : Option (Served Call Reply)) : Type 0 where
       history : (ledger_after served rule.ledger).history ≡
           history_with served rule.ledger.history
       next : (ledger_after served rule.ledger).next ≡ rule.ledger.next
@@ -53,7 +53,7 @@ module _ {Object State Request Reply : Type 0}
       seats : AreSeats server account_of (ledger_after served rule.ledger)
           (set s.views id (outside_view rule.ledger.history served me.0))
 
-    follows : (served : Option (Served Request Reply)) →
+    follows : (served : Option (Served Call Reply)) →
         IfSome served (IsOwnRight definition key rule.ledger.history me.0) → Follows served
     follows None right =
         record {
@@ -76,21 +76,21 @@ module _ {Object State Request Reply : Type 0}
               refl;
         }
 
-    outside_given : (history : List (Served Request Reply))
-        (served : Option (Served Request Reply)) →
+    outside_given : (history : List (Served Call Reply))
+        (served : Option (Served Call Reply)) →
         (outside_view history served me.0).given ≡ me.0.given
     outside_given history None = refl
     outside_given history (Some served) = refl
 
-    outside_fits : (now : Standing Request Reply) (history : List (Served Request Reply))
-        (served : Option (Served Request Reply)) → me.0.given ≤ now.ledger.next →
+    outside_fits : (now : Standing Call Reply) (history : List (Served Call Reply))
+        (served : Option (Served Call Reply)) → me.0.given ≤ now.ledger.next →
         FitsLock now id (outside_view history served me.0)
     outside_fits now history None given = record { given = given; stage = tt }
     outside_fits now history (Some served) given = record { given = given; stage = tt }
 
   -- storing 0 keeps the rule where what lies in the slot is what the history and the request leave
-  pub release_keeps : (key : Key Object) (served : Option (Served Request Reply)) (slots id : ℕ)
-      (me : Me Object Request Reply) → 0 < slots → IsDue definition key served me →
+  pub release_keeps : (key : Key Object) (served : Option (Served Call Reply)) (slots id : ℕ)
+      (me : Me Object Call Reply) → 0 < slots → IsDue definition key served me →
       table.Allows (IsOneHistory definition key) slots id me 0 (λ _. 0)
       (λ _ after. HasReleased served me after)
   release_keeps key served slots id me some_slot due s rule wide at _ = (
@@ -107,7 +107,7 @@ module _ {Object State Request Reply : Type 0}
     record {
       view_is = λ history stage_is.
           let same : due.history ≡ history = let e = stage_is in let f = due.stage_is in cc in
-          ap (λ (h : List (Served Request Reply)). outside_view h served me.0) same;
+          ap (λ (h : List (Served Call Reply)). outside_view h served me.0) same;
       slots_are = refl;
     },
   )
@@ -121,7 +121,7 @@ module _ {Object State Request Reply : Type 0}
           id due.history me.0.given
       inside =
           subst
-          (λ (stage : Stage Request Reply). FitsStage
+          (λ (stage : Stage Call Reply). FitsStage
           record { ledger = rule.ledger; holder = rule.holder; word = get_or s.words 0 0 }
           id me.0.given stage)
           due.stage_is fits.stage
@@ -129,7 +129,7 @@ module _ {Object State Request Reply : Type 0}
       after : Follows key s rule id me at served
       after =
           follows key s rule id me at served
-          (subst (λ (h : List (Served Request Reply)). IfSome served
+          (subst (λ (h : List (Served Call Reply)). IfSome served
           (IsOwnRight definition key h me.0))
           inside.history_is due.served_right)
 
@@ -140,7 +140,7 @@ module _ {Object State Request Reply : Type 0}
       }
       kept =
           subst
-          (λ (h : List (Served Request Reply)). IsOneHistory definition key record {
+          (λ (h : List (Served Call Reply)). IsOneHistory definition key record {
             words = set s.words 0 0;
             homes = set s.homes 0 (some (Some due.guarded));
             views = set s.views id (outside_view h served me.0);
@@ -154,7 +154,7 @@ module _ {Object State Request Reply : Type 0}
             guarded = due.guarded;
             there = set_here s.homes 0 (some (Some due.guarded)) (omega arith);
             object = due.object
-                ∙ ap (λ (h : List (Served Request Reply)). state_after (meaning_of definition)
+                ∙ ap (λ (h : List (Served Call Reply)). state_after (meaning_of definition)
                 (opening_state definition key) (history_with served h)) inside.history_is
                 ∙ ap (state_after (meaning_of definition) (opening_state definition key))
                 (sym after.history);

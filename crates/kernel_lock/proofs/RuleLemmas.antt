@@ -21,10 +21,10 @@ use Rattle.kernel_lock.specs.Definition.{Definition, server, meaning_of, opening
 use Rattle.kernel_lock.specs.Rule.{Standing, FitsStage, FitsLock, IsAtHome, IsOneHistory}
 use Rattle.kernel_lock.specs.View.{account_of}
 
-module _ {Request Reply : Type 0} where
+module _ {Call Reply : Type 0} where
   -- a stage of a seat that is not inside still fits when the history grows
-  pub stage_moves : (now now' : Standing Request Reply) (seat given : ℕ)
-      (stage : Stage Request Reply) → FitsStage now seat given stage →
+  pub stage_moves : (now now' : Standing Call Reply) (seat given : ℕ)
+      (stage : Stage Call Reply) → FitsStage now seat given stage →
       IsPast now.ledger.history now'.ledger.history → (seat ≡ now.holder → now.word ≡ 1 → ⊥) →
       FitsStage now' seat given stage
   stage_moves now now' seat given Outside fits grows not_inside = tt
@@ -34,8 +34,8 @@ module _ {Request Reply : Type 0} where
       past_trans other now.ledger.history now'.ledger.history fits grows
 
   -- and so does what it knows of the lock
-  pub lock_moves : {Object : Type 0} (now now' : Standing Request Reply) (seat : ℕ)
-      (view : View Object Request Reply) → FitsLock now seat view →
+  pub lock_moves : {Object : Type 0} (now now' : Standing Call Reply) (seat : ℕ)
+      (view : View Object Call Reply) → FitsLock now seat view →
       IsPast now.ledger.history now'.ledger.history → now.ledger.next ≤ now'.ledger.next →
       (seat ≡ now.holder → now.word ≡ 1 → ⊥) → FitsLock now' seat view
   lock_moves now now' seat view fits grows more not_inside =
@@ -46,8 +46,8 @@ module _ {Request Reply : Type 0} where
       }
 
   -- who has which number is nothing to them
-  stage_stays : (now : Standing Request Reply) (owner parent : ℕ → ℕ) (seat given : ℕ)
-      (stage : Stage Request Reply) → FitsStage now seat given stage →
+  stage_stays : (now : Standing Call Reply) (owner parent : ℕ → ℕ) (seat given : ℕ)
+      (stage : Stage Call Reply) → FitsStage now seat given stage →
       FitsStage
       record {
         ledger = record now.ledger { owner = owner; parent = parent };
@@ -66,8 +66,8 @@ module _ {Request Reply : Type 0} where
   stage_stays now owner parent seat given (Joining other) fits = fits
 
   -- a seat that fits the lock still fits where numbers change their owner or their parent
-  pub lock_stays : {Object : Type 0} (now : Standing Request Reply) (owner parent : ℕ → ℕ)
-      (seat : ℕ) (view : View Object Request Reply) → FitsLock now seat view →
+  pub lock_stays : {Object : Type 0} (now : Standing Call Reply) (owner parent : ℕ → ℕ)
+      (seat : ℕ) (view : View Object Call Reply) → FitsLock now seat view →
       FitsLock
       record {
         ledger = record now.ledger { owner = owner; parent = parent };
@@ -81,15 +81,15 @@ module _ {Request Reply : Type 0} where
         stage = stage_stays now owner parent seat view.given view.stage fits.stage;
       }
 
-module _ {Object State Request Reply : Type 0}
-    (definition : Definition Object State Request Reply) where
+module _ {Object State Call Reply : Type 0}
+    (definition : Definition Object State Call Reply) where
   -- the lock's table at any moment: its words, its slots, and what each seat knows
   abbrev pub Table : Type 0
-  Table = table.State (Option (Guarded Object)) (View Object Request Reply)
+  Table = table.State (Option (Guarded Object)) (View Object Call Reply)
 
   -- what a seat knows is a past of the one history
   pub knows_history : (key : Key Object) (s : Table) (rule : IsOneHistory definition key s)
-      (id : ℕ) (view : View Object Request Reply) → get_elem? s.views id ≡ some view →
+      (id : ℕ) (view : View Object Call Reply) → get_elem? s.views id ≡ some view →
       KnowsHistory (meaning_of definition) (opening_state definition key) key.limit view.account
   knows_history key s rule id view at =
       seats.knows_history (meaning_of definition) (opening_state definition key) key.limit
@@ -99,13 +99,13 @@ module _ {Object State Request Reply : Type 0}
   -- the rule after a step of one seat that stores a number into the word
   pub rule_after : (key : Key Object) (s : Table)
       (homes : List (maybe.Option (Option (Guarded Object)))) (id n : ℕ)
-      (after : View Object Request Reply) (ledger : Ledger (Served Request Reply)) (holder : ℕ) →
+      (after : View Object Call Reply) (ledger : Ledger (Served Call Reply)) (holder : ℕ) →
       length s.words ≡ 1 →
       IsLegal (meaning_of definition) (opening_state definition key) ledger.history →
       ledger.next ≤ key.limit → (n ≡ 0 → IsAtHome definition key ledger homes) →
       AreSeats server account_of ledger (set s.views id after) →
       FitsLock record { ledger = ledger; holder = holder; word = n } id after →
-      ((seat : ℕ) (view : View Object Request Reply) → seat ≢ id →
+      ((seat : ℕ) (view : View Object Call Reply) → seat ≢ id →
       get_elem? s.views seat ≡ some view →
       FitsLock record { ledger = ledger; holder = holder; word = n } seat view) →
       IsOneHistory definition key
@@ -132,7 +132,7 @@ module _ {Object State Request Reply : Type 0}
 
   -- a step that leaves the word, and the seat's account
   pub sits : (key : Key Object) (s : Table) (rule : IsOneHistory definition key s) (id : ℕ)
-      (before after : View Object Request Reply) → get_elem? s.views id ≡ some before →
+      (before after : View Object Call Reply) → get_elem? s.views id ≡ some before →
       after.account ≡ before.account →
       FitsLock record { ledger = rule.ledger; holder = rule.holder; word = get_or s.words 0 0 }
       id after →

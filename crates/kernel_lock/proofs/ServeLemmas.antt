@@ -23,25 +23,25 @@ use Rattle.kernel_lock.specs.View.{inside_view, outside_view}
 use Rattle.kernel_lock.proofs.ReleaseKeeps.{same_guarded}
 
 -- a number that a request names is the seat's, or else its own is
-pub caller_is_own : {Request Reply : Type 0} (shares : List (Share (Served Request Reply)))
+pub caller_is_own : {Call Reply : Type 0} (shares : List (Share (Served Call Reply)))
     (own : ℕ) (named : Option ℕ) → IfSome named (λ n. has_number shares n ≡ true) →
     has_number shares own ≡ true → IfSome named (λ n. has_number shares n ≡ true)
 caller_is_own shares own named names has = names
 
-module _ {Object Request Reply : Type 0} where
+module _ {Object Call Reply : Type 0} where
   -- a seat has the numbers that it had
-  pub keeps_numbers : (served : Served Request Reply) (old new : View Object Request Reply) →
+  pub keeps_numbers : (served : Served Call Reply) (old new : View Object Call Reply) →
       Serves served old new → (number : ℕ) → has_number old.account.shares number ≡ true →
       has_number new.account.shares number ≡ true
   keeps_numbers served old new serves number has =
-      ap (λ (account : Account (Served Request Reply)). has_number account.shares number)
+      ap (λ (account : Account (Served Call Reply)). has_number account.shares number)
       serves.account.new_is
       ∙ has_number-share_after server served old.account.shares number ∙ has
 
 -- what a seat is after a request was served, once it is outside again
-pub record HasServed {Object State Request Reply : Type 0}
-    (definition : Definition Object State Request Reply) (key : Key Object)
-    (served : Served Request Reply) (before after : Me Object Request Reply) : Type 0 where
+pub record HasServed {Object State Call Reply : Type 0}
+    (definition : Definition Object State Call Reply) (key : Key Object)
+    (served : Served Call Reply) (before after : Me Object Call Reply) : Type 0 where
   -- the seat is still one of this lock's
   pub key_is : after.0.key ≡ Some key
   -- it is outside again
@@ -54,10 +54,10 @@ pub record HasServed {Object State Request Reply : Type 0}
   pub knows : KnowsHistory (meaning_of definition) (opening_state definition key) key.limit
       after.0.account
 
-module _ {Object State Request Reply : Type 0}
-    (definition : Definition Object State Request Reply) where
+module _ {Object State Call Reply : Type 0}
+    (definition : Definition Object State Call Reply) where
   -- a seat that had no slot and took the lock has the object's slot alone
-  pub takes_slot : (before after : Me Object Request Reply) → before.1 ≡ [] →
+  pub takes_slot : (before after : Me Object Call Reply) → before.1 ≡ [] →
       TakesLock definition before after → HasOnly after
   takes_slot before after none taken =
       record {
@@ -66,8 +66,8 @@ module _ {Object State Request Reply : Type 0}
             ∙ ap (λ (slots : List (ℕ × Slot Object)). (0, Some taken.guarded) ∷ slots) none;
       }
 
-  module _ (key : Key Object) (before middle after : Me Object Request Reply)
-      (served : Served Request Reply) (keyed : before.0.key ≡ Some key) (none : before.1 ≡ [])
+  module _ (key : Key Object) (before middle after : Me Object Call Reply)
+      (served : Served Call Reply) (keyed : before.0.key ≡ Some key) (none : before.1 ≡ [])
       (taken : TakesLock definition before middle)
       (answered : HasAnswered definition served.request served.reply middle after)
       (own : has_number before.0.account.shares served.by ≡ true)
@@ -98,7 +98,7 @@ module _ {Object State Request Reply : Type 0}
         }
 
     known : after.0 ≡ inside_view taken.history taken.guarded.next before.0
-    known = ap (λ (me : Me Object Request Reply). me.0) answered.after_is ∙ taken.view_is
+    known = ap (λ (me : Me Object Call Reply). me.0) answered.after_is ∙ taken.view_is
 
     -- after the object answered right, the slot holds what the history and that request leave
     pub serving_is_due : IsDue definition key (Some served) after
@@ -107,33 +107,33 @@ module _ {Object State Request Reply : Type 0}
           history = taken.history;
           guarded = answered.left;
           others = [];
-          key_is = ap (λ (view : View Object Request Reply). view.key) known ∙ keyed;
-          stage_is = ap (λ (view : View Object Request Reply). view.stage) known;
-          slots_are = ap (λ (me : Me Object Request Reply). me.1) answered.after_is;
+          key_is = ap (λ (view : View Object Call Reply). view.key) known ∙ keyed;
+          stage_is = ap (λ (view : View Object Call Reply). view.stage) known;
+          slots_are = ap (λ (me : Me Object Call Reply). me.1) answered.after_is;
           next_is = answered.next_is
               ∙ ap (λ (guarded : Guarded Object). guarded.next) found_is
-              ∙ sym (ap (λ (view : View Object Request Reply). view.given) known);
+              ∙ sym (ap (λ (view : View Object Call Reply). view.given) known);
           object = answered.object_is
               ∙ ap (λ (q : State). definition.after q served.request) found_state;
           served_right = record {
             right = right;
-            own = ap (λ (view : View Object Request Reply).
+            own = ap (λ (view : View Object Call Reply).
                 has_number view.account.shares served.by)
                 known ∙ own;
           };
         }
 
-    abbrev last_view : View Object Request Reply
+    abbrev last_view : View Object Call Reply
     last_view =
         outside_view taken.history (Some served)
         (inside_view taken.history taken.guarded.next before.0)
 
-    last_is : (final : Me Object Request Reply) → HasReleased (Some served) after final →
+    last_is : (final : Me Object Call Reply) → HasReleased (Some served) after final →
         (final.0 ≡ last_view) × (final.1 ≡ [])
     last_is final released = (
-      released.view_is taken.history (ap (λ (view : View Object Request Reply). view.stage) known)
+      released.view_is taken.history (ap (λ (view : View Object Call Reply). view.stage) known)
           ∙ ap (outside_view taken.history (Some served)) known,
-      released.slots_are ∙ ap (λ (me : Me Object Request Reply). rest me.1) answered.after_is,
+      released.slots_are ∙ ap (λ (me : Me Object Call Reply). rest me.1) answered.after_is,
     )
 
     serves : Serves served before.0 last_view
@@ -164,17 +164,17 @@ module _ {Object State Request Reply : Type 0}
         }
 
     -- the lock taken, the request answered and the lock given back make one served request
-    pub has_served : (final : Me Object Request Reply) → HasReleased (Some served) after final →
+    pub has_served : (final : Me Object Call Reply) → HasReleased (Some served) after final →
         HasServed definition key served before final
     has_served final released =
         let is = last_is final released in
         record {
-          key_is = ap (λ (view : View Object Request Reply). view.key) is.0 ∙ keyed;
-          stage_is = ap (λ (view : View Object Request Reply). view.stage) is.0;
+          key_is = ap (λ (view : View Object Call Reply). view.key) is.0 ∙ keyed;
+          stage_is = ap (λ (view : View Object Call Reply). view.stage) is.0;
           no_slot = is.1;
           serves = subst (Serves served before.0) (sym is.0) serves;
           knows = subst
-              (λ (view : View Object Request Reply). KnowsHistory (meaning_of definition) opening
+              (λ (view : View Object Call Reply). KnowsHistory (meaning_of definition) opening
               key.limit view.account)
               (sym is.0) knows_more;
         }

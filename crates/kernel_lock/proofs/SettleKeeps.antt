@@ -18,10 +18,10 @@ use Rattle.kernel_lock.specs.Steps.{Slot, Me, HasSettled, HasMerged}
 use Rattle.kernel_lock.specs.View.{joined_view, settled_view}
 use Rattle.kernel_lock.proofs.RuleLemmas.{sits, knows_history}
 
-module _ {Object State Request Reply : Type 0}
-    (definition : Definition Object State Request Reply) where
+module _ {Object State Call Reply : Type 0}
+    (definition : Definition Object State Call Reply) where
   -- a look at the word keeps the rule, and tells that the shorter history is a past of the longer
-  pub settle_keeps : (key : Key Object) (slots id : ℕ) (me : Me Object Request Reply) →
+  pub settle_keeps : (key : Key Object) (slots id : ℕ) (me : Me Object Call Reply) →
       me.0.key ≡ Some key → table.Allows (IsOneHistory definition key) slots id me 0 (λ n. n)
       (λ _ after. HasSettled definition me after)
   settle_keeps key slots id me keyed s rule _ at _ = (
@@ -35,7 +35,7 @@ module _ {Object State Request Reply : Type 0}
       slots_are = refl;
       other = λ other joining shorter.
           let stage : FitsStage now id me.0.given (Joining other) =
-          subst (λ (its : Stage Request Reply). FitsStage now id me.0.given its) joining
+          subst (λ (its : Stage Call Reply). FitsStage now id me.0.given its) joining
           fits.stage in
           past_shorter other me.0.account.seen rule.ledger.history stage
           (rule.seats.each_seat id me.0 at).seen shorter;
@@ -48,14 +48,14 @@ module _ {Object State Request Reply : Type 0}
     },
   )
     where
-      now : Standing Request Reply
+      now : Standing Call Reply
       now = record { ledger = rule.ledger; holder = rule.holder; word = get_or s.words 0 0 }
 
       fits : FitsLock now id me.0
       fits = rule.each_seat id me.0 at
 
   -- what the steps Merge and Settle tell together
-  pasts : (first second : View Object Request Reply) (after : Me Object Request Reply)
+  pasts : (first second : View Object Call Reply) (after : Me Object Call Reply)
       (slots : List (ℕ × Slot Object)) (b : Bool) →
       nat_lt (length first.account.seen) (length second.account.seen) ≡ b →
       HasSettled definition (joined_view first second, slots) after →
@@ -84,8 +84,8 @@ module _ {Object State Request Reply : Type 0}
 
   -- a join that has settled makes one seat of two, each of which had seen a past of what that has
   -- seen
-  pub merges : (key : Key Object) (first second : View Object Request Reply)
-      (after : Me Object Request Reply) (slots : List (ℕ × Slot Object)) →
+  pub merges : (key : Key Object) (first second : View Object Call Reply)
+      (after : Me Object Call Reply) (slots : List (ℕ × Slot Object)) →
       first.key ≡ Some key → HasSettled definition (joined_view first second, slots) after →
       HasMerged definition key first second after.0
   merges key first second after slots keyed has =

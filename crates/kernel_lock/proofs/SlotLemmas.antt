@@ -4,7 +4,7 @@ use Rattle.atomic_table.specs.Table.{rest}
 use Rattle.kernel_lock.specs.Steps.{Slot, Me, HasOnly}
 
 -- a seat that has the slot alone took it last
-pub has_slot : {Object Request Reply : Type 0} (me : Me Object Request Reply) → HasOnly me →
+pub has_slot : {Object Call Reply : Type 0} (me : Me Object Call Reply) → HasOnly me →
     (slot : Slot Object) × (me.1 ≡ (0, slot) ∷ rest me.1)
 has_slot me full = (
   Some full.guarded,

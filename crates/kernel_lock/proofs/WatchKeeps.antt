@@ -7,10 +7,10 @@ use Rattle.kernel_lock.specs.Rule.{IsOneHistory}
 use Rattle.kernel_lock.specs.Steps.{Me, HasWatched}
 use Rattle.kernel_lock.proofs.RuleLemmas.{sits}
 
-module _ {Object State Request Reply : Type 0}
-    (definition : Definition Object State Request Reply) where
+module _ {Object State Call Reply : Type 0}
+    (definition : Definition Object State Call Reply) where
   -- a load of the word keeps the rule, and the seat stays as it was
-  pub watch_keeps : (key : Key Object) (slots id : ℕ) (me : Me Object Request Reply) →
+  pub watch_keeps : (key : Key Object) (slots id : ℕ) (me : Me Object Call Reply) →
       table.Allows (IsOneHistory definition key) slots id me 0 (λ n. n)
       (λ _ after. HasWatched me after)
   watch_keeps key slots id me s rule _ at _ = (

@@ -9,8 +9,8 @@ use Rattle.kernel_lock.specs.Seats.{limit_of, shares_of, seen_of, given_of, view
 use Rattle.kernel_lock.specs.Steppers.{Stepper, IsSameStepper}
 use Rattle.kernel_lock.specs.Seats.{HasAll, Splits, KnowsAllGiven, Joins, Applies, served_by}
 
-module _ {Object Request Reply : Type 0}
-    (lock : Locked Object Request Reply) (old new other : LockSeat Object Request Reply) where
+module _ {Object Call Reply : Type 0}
+    (lock : Locked Object Call Reply) (old new other : LockSeat Object Call Reply) where
   who_has_all_has_the_first : HasAll old → IsTrue (has_number (shares_of old) 0)
   who_has_all_has_the_first all = all.first
 
@@ -25,15 +25,15 @@ module _ {Object Request Reply : Type 0}
       → given_of new ≡ max (given_of old) (given_of other)
   the_joined_know_what_either_knew joins = joins.given
 
-module _ {Object State Request Reply : Type 0}
-    (definition : Definition Object State Request Reply)
-    (old new : LockSeat Object Request Reply) (request : Request) (reply : Reply) where
+module _ {Object State Call Reply : Type 0}
+    (definition : Definition Object State Call Reply)
+    (old new : LockSeat Object Call Reply) (request : Call) (reply : Reply) where
   what_was_served_is_the_newest : (applies : Applies definition old request reply new)
       → seen_of new ≡ served_by definition old request reply ∷ applies.account.past
   what_was_served_is_the_newest applies = ap (λ account. account.seen) applies.account.new_is
 
 -- a step leaves a seat at its table, and under its name there
-module _ {Object Request Reply : Type 0} (before after : Stepper Object Request Reply) where
+module _ {Object Call Reply : Type 0} (before after : Stepper Object Call Reply) where
   a_seat_of_another_table : after.table_id ≢ before.table_id → ¬ IsSameStepper before after
   a_seat_of_another_table other same = other same.table
 

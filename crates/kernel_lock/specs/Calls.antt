@@ -7,23 +7,23 @@ use Rattle.kernel_lock.specs.declared.view.Served.{Served}
 use Rattle.kernel_lock.specs.declared.view.View.{View}
 use Rattle.kernel_lock.specs.Definition.{Definition, server, meaning_of}
 
-module _ {Object Request Reply : Type 0} where
+module _ {Object Call Reply : Type 0} where
   -- a seat of a new lock: it has this number, nothing was served, it gave these numbers,
   -- and it knows how many seats were given
   pub record IsNew (number : ℕ) (gave : List ℕ) (given : ℕ)
-      (view : View Object Request Reply) : Type 0 where
+      (view : View Object Call Reply) : Type 0 where
     pub account : view.account ≡
         record { number = number; shares = unused_share number ∷ []; seen = []; gave = gave }
     pub given_is : view.given ≡ given
 
   -- a request was served: it stands behind a past that ends what the seat had seen
-  pub record Serves (served : Served Request Reply)
-      (old new : View Object Request Reply) : Type 0 where
+  pub record Serves (served : Served Call Reply)
+      (old new : View Object Call Reply) : Type 0 where
     pub account : AddsEntry server served old.account new.account
     pub given : old.given ≤ new.given
 
   -- a split: the child has the next number, which its parent gave, and has seen what that has
-  pub record GivesSeat (limit : ℕ) (old new child : View Object Request Reply) : Type 0 where
+  pub record GivesSeat (limit : ℕ) (old new child : View Object Call Reply) : Type 0 where
     pub account : GivesNumber server old.account new.account child.account
     pub later : old.given ≤ child.account.number
     pub limit_is : child.account.number < limit
@@ -32,20 +32,20 @@ module _ {Object Request Reply : Type 0} where
 
   -- a split was refused: the next number is the limit, which the seat knows now,
   -- and nothing else changed
-  pub record RefusesSeat (limit : ℕ) (old new : View Object Request Reply) : Type 0 where
+  pub record RefusesSeat (limit : ℕ) (old new : View Object Call Reply) : Type 0 where
     pub next : IsNext server old.account limit
     pub same : new ≡ record old { given = limit }
 
   -- a join: the seat has the numbers of both, and both had seen a past of what it has seen
-  pub record JoinsSeats (first second joined : View Object Request Reply) : Type 0 where
+  pub record JoinsSeats (first second joined : View Object Call Reply) : Type 0 where
     pub account : JoinsAccounts first.account second.account joined.account
     pub given : joined.given ≡ max first.given second.given
 
 -- the end: the object is what one legal history leaves, at which the seat looked for the last time
-pub record EndsHistory {Object State Request Reply : Type 0}
-    (definition : Definition Object State Request Reply) (opening : State) (limit : ℕ)
-    (view : View Object Request Reply) (object : Object) : Type 0 where
-  pub history : List (Served Request Reply)
+pub record EndsHistory {Object State Call Reply : Type 0}
+    (definition : Definition Object State Call Reply) (opening : State) (limit : ℕ)
+    (view : View Object Call Reply) (object : Object) : Type 0 where
+  pub history : List (Served Call Reply)
   pub looked : LooksAt server history view.account
   pub legal : IsHistory (meaning_of definition) opening limit history
   pub object_is : definition.state object ≡ state_after (meaning_of definition) opening history

@@ -4,28 +4,28 @@ use Rattle.histories.specs.History.{Meaning}
 use Rattle.kernel_lock.specs.declared.view.Key.{Key}
 use Rattle.kernel_lock.specs.declared.view.Served.{Served}
 
-pub record Definition (Object State Request Reply : Type 0) : Type 0 where
+pub record Definition (Object State Call Reply : Type 0) : Type 0 where
   -- what an object means
   pub state : Object → State
   -- in each state the reply to each request, and the state after it
-  pub answer : State → Request → Reply
-  pub after : State → Request → State
+  pub answer : State → Call → Reply
+  pub after : State → Call → State
   -- the number of the seat that a request names
-  pub named : Request → Option ℕ
+  pub named : Call → Option ℕ
 
 -- the number of the seat that made the request
-abbrev pub server : {Request Reply : Type 0} → Served Request Reply → ℕ
+abbrev pub server : {Call Reply : Type 0} → Served Call Reply → ℕ
 server served = served.by
 
-module _ {Object State Request Reply : Type 0}
-    (definition : Definition Object State Request Reply) where
+module _ {Object State Call Reply : Type 0}
+    (definition : Definition Object State Call Reply) where
   -- the reply is the definition's in this state, and a request that names a seat is by that seat
-  pub record IsRight (state : State) (served : Served Request Reply) : Type 0 where
+  pub record IsRight (state : State) (served : Served Call Reply) : Type 0 where
     pub reply : served.reply ≡ definition.answer state served.request
     pub named : IfSome (definition.named served.request) (λ number. number ≡ served.by)
 
   -- a history of served requests, newest first
-  abbrev pub meaning_of : Meaning State (Served Request Reply)
+  abbrev pub meaning_of : Meaning State (Served Call Reply)
   meaning_of =
       record {
         by = server;

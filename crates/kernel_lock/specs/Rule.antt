@@ -16,35 +16,35 @@ use Rattle.kernel_lock.specs.Definition.{Definition, server, meaning_of, opening
 use Rattle.kernel_lock.specs.View.{account_of}
 
 -- how a lock stands: the one history with its numbers, the seat that is inside, and the word
-pub record Standing (Request Reply : Type 0) : Type 0 where
-  pub ledger : Ledger (Served Request Reply)
+pub record Standing (Call Reply : Type 0) : Type 0 where
+  pub ledger : Ledger (Served Call Reply)
   pub holder : ℕ
   pub word : ℕ
 
-module _ {Request Reply : Type 0} (now : Standing Request Reply) (seat : ℕ) where
+module _ {Call Reply : Type 0} (now : Standing Call Reply) (seat : ℕ) where
   -- the seat is the one that is inside: the word is 1, and it knows the history
   -- and how many seats were given
-  pub record IsInside (known : List (Served Request Reply)) (given : ℕ) : Type 0 where
+  pub record IsInside (known : List (Served Call Reply)) (given : ℕ) : Type 0 where
     pub history_is : known ≡ now.ledger.history
     pub given_is : given ≡ now.ledger.next
     pub holder_is : seat ≡ now.holder
     pub word_is : now.word ≡ 1
 
-  abbrev pub FitsStage : ℕ → Stage Request Reply → Type 0
+  abbrev pub FitsStage : ℕ → Stage Call Reply → Type 0
   FitsStage given Outside = ⊤
   FitsStage given (Inside known) = IsInside known given
   FitsStage given (Joining other) = IsPast other now.ledger.history
 
-  pub record FitsLock {Object : Type 0} (view : View Object Request Reply) : Type 0 where
+  pub record FitsLock {Object : Type 0} (view : View Object Call Reply) : Type 0 where
     -- as many seats were given as it knows of
     pub given : view.given ≤ now.ledger.next
     -- a seat that is inside is the only one; a joined one saw a past of the history also before
     pub stage : FitsStage view.given view.stage
 
-module _ {Object State Request Reply : Type 0}
-    (definition : Definition Object State Request Reply) where
+module _ {Object State Call Reply : Type 0}
+    (definition : Definition Object State Call Reply) where
   -- the object lies in the slot as the history leaves it, and beside it lies the next number
-  pub record IsAtHome (key : Key Object) (ledger : Ledger (Served Request Reply))
+  pub record IsAtHome (key : Key Object) (ledger : Ledger (Served Call Reply))
       (homes : List (maybe.Option (Option (Guarded Object)))) : Type 0 where
     pub guarded : Guarded Object
     pub there : get_elem? homes 0 ≡ some (some (Some guarded))
@@ -54,9 +54,9 @@ module _ {Object State Request Reply : Type 0}
 
   -- one legal history, which each seat has seen in part, and in which its requests stand once
   pub record IsOneHistory (key : Key Object)
-      (s : table.State (Option (Guarded Object)) (View Object Request Reply)) : Type 0 where
+      (s : table.State (Option (Guarded Object)) (View Object Call Reply)) : Type 0 where
     -- the history, and who has which number
-    pub ledger : Ledger (Served Request Reply)
+    pub ledger : Ledger (Served Call Reply)
     -- the seat that is inside, where one is
     pub holder : ℕ
     -- the table has one word
@@ -70,6 +70,6 @@ module _ {Object State Request Reply : Type 0}
     -- all seats fit the one history, and no number comes from nowhere
     pub seats : AreSeats server account_of ledger s.views
     -- each seat fits the lock
-    pub each_seat : (seat : ℕ) (view : View Object Request Reply) →
+    pub each_seat : (seat : ℕ) (view : View Object Call Reply) →
         get_elem? s.views seat ≡ some view →
         FitsLock record { ledger = ledger; holder = holder; word = slice_index s.words 0 } seat view

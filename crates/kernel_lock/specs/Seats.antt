@@ -12,50 +12,50 @@ use Rattle.kernel_lock.specs.Calls.{IsNew, Serves, GivesSeat, RefusesSeat, Joins
 use Rattle.kernel_lock.specs.Definition.{Definition, meaning_of, opening_state}
 use Rattle.kernel_lock.specs.View.{head_view}
 
-module _ {Object Request Reply : Type 0} where
+module _ {Object Call Reply : Type 0} where
   -- how many seats the lock may give
-  abbrev pub limit_of : Locked Object Request Reply → ℕ
+  abbrev pub limit_of : Locked Object Call Reply → ℕ
   limit_of lock = lock.table.shared.key.limit
 
   -- what the seat knows
-  abbrev pub view_of : LockSeat Object Request Reply → View Object Request Reply
+  abbrev pub view_of : LockSeat Object Call Reply → View Object Call Reply
   view_of seat = head_view seat.badge.views
 
   -- the seat's account: its numbers with their requests, what it has seen, the numbers that it gave
-  abbrev pub account_of : LockSeat Object Request Reply → Account (Served Request Reply)
+  abbrev pub account_of : LockSeat Object Call Reply → Account (Served Call Reply)
   account_of seat = (view_of seat).account
 
   -- the number under which the seat makes the requests that name no seat
-  abbrev pub number_of : LockSeat Object Request Reply → ℕ
+  abbrev pub number_of : LockSeat Object Call Reply → ℕ
   number_of seat = seat.number
 
   -- the seat's numbers, each with its requests: its mine
-  abbrev pub shares_of : LockSeat Object Request Reply → List (Share (Served Request Reply))
+  abbrev pub shares_of : LockSeat Object Call Reply → List (Share (Served Call Reply))
   shares_of seat = (account_of seat).shares
 
   -- the history as far as the seat has seen it, newest first
-  abbrev pub seen_of : LockSeat Object Request Reply → List (Served Request Reply)
+  abbrev pub seen_of : LockSeat Object Call Reply → List (Served Call Reply)
   seen_of seat = (account_of seat).seen
 
   -- the numbers that the seat gave
-  abbrev pub gave_of : LockSeat Object Request Reply → List ℕ
+  abbrev pub gave_of : LockSeat Object Call Reply → List ℕ
   gave_of seat = (account_of seat).gave
 
   -- how many seats the seat knows to have been given: the numbers below this one
-  abbrev pub given_of : LockSeat Object Request Reply → ℕ
+  abbrev pub given_of : LockSeat Object Call Reply → ℕ
   given_of seat = (view_of seat).given
 
   -- the number is one of the seat's
-  abbrev pub HasNumber : LockSeat Object Request Reply → ℕ → Type 0
+  abbrev pub HasNumber : LockSeat Object Call Reply → ℕ → Type 0
   HasNumber seat number = IsTrue (has_number (shares_of seat) number)
 
   -- the seat has 0 and each number that it gave: all that there are
-  abbrev pub HasAll : LockSeat Object Request Reply → Type 0
+  abbrev pub HasAll : LockSeat Object Call Reply → Type 0
   HasAll seat = HasAllNumbers (account_of seat)
 
   -- the seat is one of the lock's, and stands between two calls
-  pub record IsSeatOf (lock : Locked Object Request Reply)
-      (seat : LockSeat Object Request Reply) : Type 0 where
+  pub record IsSeatOf (lock : Locked Object Call Reply)
+      (seat : LockSeat Object Call Reply) : Type 0 where
     pub table : seat.badge.table_id ≡ lock.table.shared.table_id
     pub views : seat.badge.views ≡ view_of seat ∷ []
     pub key : (view_of seat).key ≡ Some lock.table.shared.key
@@ -64,46 +64,46 @@ module _ {Object Request Reply : Type 0} where
     pub own : HasNumber seat seat.number
 
   -- the first seat of a new lock, which gave so many numbers from 1 on
-  abbrev pub IsFirstSeat : ℕ → LockSeat Object Request Reply → Type 0
+  abbrev pub IsFirstSeat : ℕ → LockSeat Object Call Reply → Type 0
   IsFirstSeat more seat = IsNew 0 (numbers_from 1 more) (more + 1) (view_of seat)
 
   -- the other seats of a new lock, numbered from this one on; so many seats were given
-  abbrev pub AreNextSeats : ℕ → ℕ → List (LockSeat Object Request Reply) → Type 0
+  abbrev pub AreNextSeats : ℕ → ℕ → List (LockSeat Object Call Reply) → Type 0
   AreNextSeats number given [] = ⊤
   AreNextSeats number given (seat ∷ seats) =
       IsNew number [] given (view_of seat) × AreNextSeats (number + 1) given seats
 
   -- a split gave the child and changed nothing else
   abbrev pub Splits :
-      Locked Object Request Reply → LockSeat Object Request Reply →
-      LockSeat Object Request Reply → LockSeat Object Request Reply → Type 0
+      Locked Object Call Reply → LockSeat Object Call Reply →
+      LockSeat Object Call Reply → LockSeat Object Call Reply → Type 0
   Splits lock old new child =
       GivesSeat (limit_of lock) (view_of old) (view_of new) (view_of child)
 
   -- a split was refused: all seats were given, as far as the seat can know
   abbrev pub KnowsAllGiven :
-      Locked Object Request Reply → LockSeat Object Request Reply →
-      LockSeat Object Request Reply → Type 0
+      Locked Object Call Reply → LockSeat Object Call Reply →
+      LockSeat Object Call Reply → Type 0
   KnowsAllGiven lock old new = RefusesSeat (limit_of lock) (view_of old) (view_of new)
 
   -- one seat was made of two
   abbrev pub Joins :
-      LockSeat Object Request Reply → LockSeat Object Request Reply →
-      LockSeat Object Request Reply → Type 0
+      LockSeat Object Call Reply → LockSeat Object Call Reply →
+      LockSeat Object Call Reply → Type 0
   Joins first second joined = JoinsSeats (view_of first) (view_of second) (view_of joined)
 
-module _ {Object State Request Reply : Type 0}
-    (definition : Definition Object State Request Reply) where
+module _ {Object State Call Reply : Type 0}
+    (definition : Definition Object State Call Reply) where
   -- what the object meant when the lock was made
-  abbrev pub opening_of : Locked Object Request Reply → State
+  abbrev pub opening_of : Locked Object Call Reply → State
   opening_of lock = opening_state definition lock.table.shared.key
 
   -- a request that names a seat names a number of this one
-  abbrev pub NamesOwn : LockSeat Object Request Reply → Request → Type 0
+  abbrev pub NamesOwn : LockSeat Object Call Reply → Call → Type 0
   NamesOwn seat request = IfSome (definition.named request) (HasNumber seat)
 
   -- the request of this seat with its reply
-  abbrev pub served_by : LockSeat Object Request Reply → Request → Reply → Served Request Reply
+  abbrev pub served_by : LockSeat Object Call Reply → Call → Reply → Served Call Reply
   served_by seat request reply =
       record {
         by = unwrap_or (definition.named request) (number_of seat);
@@ -113,17 +113,17 @@ module _ {Object State Request Reply : Type 0}
 
   -- a request was served, with this reply
   abbrev pub Applies :
-      LockSeat Object Request Reply → Request → Reply → LockSeat Object Request Reply → Type 0
+      LockSeat Object Call Reply → Call → Reply → LockSeat Object Call Reply → Type 0
   Applies old request reply new =
       Serves (served_by old request reply) (view_of old) (view_of new)
 
   -- what the seat has seen is a legal history from the opening on, with its own requests once each
-  abbrev pub SeesHistory : Locked Object Request Reply → LockSeat Object Request Reply → Type 0
+  abbrev pub SeesHistory : Locked Object Call Reply → LockSeat Object Call Reply → Type 0
   SeesHistory lock seat =
       KnowsHistory (meaning_of definition) (opening_of lock) (limit_of lock) (account_of seat)
 
   -- the object is what one legal history leaves, of which all that the seat has seen is a past
   abbrev pub Closes :
-      Locked Object Request Reply → LockSeat Object Request Reply → Object → Type 0
+      Locked Object Call Reply → LockSeat Object Call Reply → Object → Type 0
   Closes lock seat object =
       EndsHistory definition (opening_of lock) (limit_of lock) (view_of seat) object

@@ -11,28 +11,28 @@ use Rattle.kernel_lock.specs.View.{parent_view, child_view}
 
 -- a seat while it makes its steps
 abbrev pub Stepper : Type 0 → Type 0 → Type 0 → Type 0
-Stepper Object Request Reply = Seat (Slot Object) (View Object Request Reply)
+Stepper Object Call Reply = Seat (Slot Object) (View Object Call Reply)
 
-module _ {Object Request Reply : Type 0} where
+module _ {Object Call Reply : Type 0} where
   -- it is one of the lock's
-  pub record IsStepperOf (lock : Locked Object Request Reply)
-      (stepper : Stepper Object Request Reply) : Type 0 where
+  pub record IsStepperOf (lock : Locked Object Call Reply)
+      (stepper : Stepper Object Call Reply) : Type 0 where
     pub table : stepper.table_id ≡ lock.table.shared.table_id
     pub key : stepper.me.0.key ≡ Some lock.table.shared.key
 
   -- it is between two calls
-  pub record IsOutside (stepper : Stepper Object Request Reply) : Type 0 where
+  pub record IsOutside (stepper : Stepper Object Call Reply) : Type 0 where
     pub stage : stepper.me.0.stage ≡ Outside
     pub no_slot : stepper.me.1 ≡ []
 
   -- a step changes what it knows and has, and nothing else of it
-  pub record IsSameStepper (before after : Stepper Object Request Reply) : Type 0 where
+  pub record IsSameStepper (before after : Stepper Object Call Reply) : Type 0 where
     pub table : after.table_id ≡ before.table_id
     pub id : after.id ≡ before.id
 
   -- a seat that was inside gave this one
-  pub record IsChild (lock : Locked Object Request Reply) (old new : View Object Request Reply)
-      (child : LockSeat Object Request Reply) : Type 0 where
+  pub record IsChild (lock : Locked Object Call Reply) (old new : View Object Call Reply)
+      (child : LockSeat Object Call Reply) : Type 0 where
     pub room : old.given < limit_of lock
     pub parent : new ≡ parent_view old
     pub table : child.badge.table_id ≡ lock.table.shared.table_id

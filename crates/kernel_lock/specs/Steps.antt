@@ -20,45 +20,45 @@ Slot Object = Option (Guarded Object)
 
 -- what a seat knows, and the slots that it has
 abbrev pub Me : Type 0 → Type 0 → Type 0 → Type 0
-Me Object Request Reply = table.Me (Slot Object) (View Object Request Reply)
+Me Object Call Reply = table.Me (Slot Object) (View Object Call Reply)
 
-module _ {Object Request Reply : Type 0} where
+module _ {Object Call Reply : Type 0} where
   -- Watch: nothing changed
-  pub record HasWatched (before after : Me Object Request Reply) : Type 0 where
+  pub record HasWatched (before after : Me Object Call Reply) : Type 0 where
     pub same : after ≡ before
 
   -- Release: the seat is outside, and has seen the history with the request, if one was served
-  pub record HasReleased (served : Option (Served Request Reply))
-      (before after : Me Object Request Reply) : Type 0 where
-    pub view_is : (history : List (Served Request Reply)) → before.0.stage ≡ Inside history →
+  pub record HasReleased (served : Option (Served Call Reply))
+      (before after : Me Object Call Reply) : Type 0 where
+    pub view_is : (history : List (Served Call Reply)) → before.0.stage ≡ Inside history →
         after.0 ≡ outside_view history served before.0
     pub slots_are : after.1 ≡ table.rest before.1
 
   -- Divide: the seat gave the next number to a new seat
-  pub record HasDivided (before after child : Me Object Request Reply) : Type 0 where
+  pub record HasDivided (before after child : Me Object Call Reply) : Type 0 where
     pub parent_is : after ≡ (parent_view before.0, before.1)
     pub child_is : child ≡ (child_view before.0, [])
 
   -- Hand: the seat handed the second of its numbers over to a new seat
-  pub record HasHanded (before after child : Me Object Request Reply) : Type 0 where
+  pub record HasHanded (before after child : Me Object Call Reply) : Type 0 where
     pub rest_is : after ≡ (handing_view before.0, before.1)
     pub child_is : child ≡ (handed_view before.0, [])
 
   -- the seat has the slot alone, and the object lies in it
-  pub record HasOnly (me : Me Object Request Reply) : Type 0 where
+  pub record HasOnly (me : Me Object Call Reply) : Type 0 where
     pub guarded : Guarded Object
     pub slots_are : me.1 ≡ (0, Some guarded) ∷ []
 
   -- the seat is inside, and the number beside the object is the next one
-  pub record IsInsideWith (me : Me Object Request Reply) : Type 0 where
-    pub history : List (Served Request Reply)
+  pub record IsInsideWith (me : Me Object Call Reply) : Type 0 where
+    pub history : List (Served Call Reply)
     pub guarded : Guarded Object
     pub stage_is : me.0.stage ≡ Inside history
     pub slots_are : me.1 ≡ (0, Some guarded) ∷ []
     pub next_is : guarded.next ≡ me.0.given
 
   -- the object in the slot was taken out and put back as it was, with a next number beside it
-  pub record KeepsObject (before after : Me Object Request Reply) : Type 0 where
+  pub record KeepsObject (before after : Me Object Call Reply) : Type 0 where
     pub found : Guarded Object
     pub left : Guarded Object
     pub found_is : before.1 ≡ (0, Some found) ∷ []
@@ -66,11 +66,11 @@ module _ {Object Request Reply : Type 0} where
     pub object : left.object ≡ found.object
     pub next_is : left.next ≡ after.0.given
 
-module _ {Object State Request Reply : Type 0}
-    (definition : Definition Object State Request Reply) where
+module _ {Object State Call Reply : Type 0}
+    (definition : Definition Object State Call Reply) where
   -- what a seat finds inside: the object, as the history leaves it
-  pub record FindsObject (key : Key Object) (view : View Object Request Reply)
-      (history : List (Served Request Reply)) (guarded : Guarded Object) : Type 0 where
+  pub record FindsObject (key : Key Object) (view : View Object Call Reply)
+      (history : List (Served Call Reply)) (guarded : Guarded Object) : Type 0 where
     pub object : definition.state guarded.object ≡
         state_after (meaning_of definition) (opening_state definition key) history
     pub legal : IsHistory (meaning_of definition) (opening_state definition key) key.limit history
@@ -79,8 +79,8 @@ module _ {Object State Request Reply : Type 0}
         view.account
 
   -- the seat is inside and has the slot, and knows the history and the next number
-  pub record TakesLock (before after : Me Object Request Reply) : Type 0 where
-    pub history : List (Served Request Reply)
+  pub record TakesLock (before after : Me Object Call Reply) : Type 0 where
+    pub history : List (Served Call Reply)
     pub guarded : Guarded Object
     pub view_is : after.0 ≡ inside_view history guarded.next before.0
     pub slots_are : after.1 ≡ (0, Some guarded) ∷ before.1
@@ -91,22 +91,22 @@ module _ {Object State Request Reply : Type 0}
         FindsObject key before.0 history guarded
 
   -- Acquire: the seat is inside where the lock was free, and else nothing changed
-  pub record HasAcquired (before : Me Object Request Reply) (found : ℕ)
-      (after : Me Object Request Reply) : Type 0 where
+  pub record HasAcquired (before : Me Object Call Reply) (found : ℕ)
+      (after : Me Object Call Reply) : Type 0 where
     pub free : found ≡ 0 → TakesLock before after
     pub taken : found ≢ 0 → after ≡ before
 
   -- the request was answered right, and is by one of the seat's numbers
-  pub record IsOwnRight (key : Key Object) (history : List (Served Request Reply))
-      (view : View Object Request Reply) (served : Served Request Reply) : Type 0 where
+  pub record IsOwnRight (key : Key Object) (history : List (Served Call Reply))
+      (view : View Object Call Reply) (served : Served Call Reply) : Type 0 where
     pub right : IsRight definition
         (state_after (meaning_of definition) (opening_state definition key) history) served
     pub own : IsTrue (has_number view.account.shares served.by)
 
   -- what a release asks: the object in the slot is what the history and the request leave
-  pub record IsDue (key : Key Object) (served : Option (Served Request Reply))
-      (me : Me Object Request Reply) : Type 0 where
-    pub history : List (Served Request Reply)
+  pub record IsDue (key : Key Object) (served : Option (Served Call Reply))
+      (me : Me Object Call Reply) : Type 0 where
+    pub history : List (Served Call Reply)
     pub guarded : Guarded Object
     pub others : List (ℕ × Slot Object)
     pub key_is : me.0.key ≡ Some key
@@ -119,8 +119,8 @@ module _ {Object State Request Reply : Type 0}
     pub served_right : IfSome served (IsOwnRight key history me.0)
 
   -- the object answered a request as its definition says, and the next number stayed
-  pub record HasAnswered (request : Request) (reply : Reply)
-      (before after : Me Object Request Reply) : Type 0 where
+  pub record HasAnswered (request : Call) (reply : Reply)
+      (before after : Me Object Call Reply) : Type 0 where
     pub found : Guarded Object
     pub left : Guarded Object
     pub found_is : before.1 ≡ (0, Some found) ∷ []
@@ -131,10 +131,10 @@ module _ {Object State Request Reply : Type 0}
     pub reply_is : reply ≡ definition.answer (definition.state found.object) request
 
   -- Settle: the seat is outside, and of the two histories that it saw one is a past of the other
-  pub record HasSettled (before after : Me Object Request Reply) : Type 0 where
+  pub record HasSettled (before after : Me Object Call Reply) : Type 0 where
     pub view_is : after.0 ≡ settled_view before.0
     pub slots_are : after.1 ≡ before.1
-    pub other : (other : List (Served Request Reply)) → before.0.stage ≡ Joining other →
+    pub other : (other : List (Served Call Reply)) → before.0.stage ≡ Joining other →
         length other ≤ length before.0.account.seen → IsPast other before.0.account.seen
     pub knows : (key : Key Object) → before.0.key ≡ Some key →
         KnowsHistory (meaning_of definition) (opening_state definition key) key.limit
@@ -142,7 +142,7 @@ module _ {Object State Request Reply : Type 0}
 
   -- Merge and Settle: one seat of two, and both had seen a past of what it has seen
   pub record HasMerged (key : Key Object)
-      (first second merged : View Object Request Reply) : Type 0 where
+      (first second merged : View Object Call Reply) : Type 0 where
     pub view_is : merged ≡ settled_view (joined_view first second)
     pub first_past : IsPast first.account.seen merged.account.seen
     pub second_past : IsPast second.account.seen merged.account.seen

@@ -12,34 +12,34 @@ use Rattle.kernel_lock.specs.declared.view.View.{View}
 use Rattle.kernel_lock.specs.Definition.{server}
 
 -- a history with the request that was served, if one was
-abbrev pub history_with : {Request Reply : Type 0} → Option (Served Request Reply) →
-    List (Served Request Reply) → List (Served Request Reply)
+abbrev pub history_with : {Call Reply : Type 0} → Option (Served Call Reply) →
+    List (Served Call Reply) → List (Served Call Reply)
 history_with None history = history
 history_with (Some served) history = served ∷ history
 
-module _ {Request Reply : Type 0} where
+module _ {Call Reply : Type 0} where
   -- the second of a seat's numbers, and the others
-  abbrev pub second_share : List (Share (Served Request Reply)) → Share (Served Request Reply)
+  abbrev pub second_share : List (Share (Served Call Reply)) → Share (Served Call Reply)
   second_share [] = record { number = 0; mine = [] }
   second_share (first ∷ []) = first
   second_share (first ∷ second ∷ shares) = second
 
-  abbrev pub other_shares : List (Share (Served Request Reply)) →
-      List (Share (Served Request Reply))
+  abbrev pub other_shares : List (Share (Served Call Reply)) →
+      List (Share (Served Call Reply))
   other_shares [] = []
   other_shares (first ∷ []) = []
   other_shares (first ∷ second ∷ shares) = first ∷ shares
 
-module _ {Object Request Reply : Type 0} where
-  abbrev pub account_of : View Object Request Reply → Account (Served Request Reply)
+module _ {Object Call Reply : Type 0} where
+  abbrev pub account_of : View Object Call Reply → Account (Served Call Reply)
   account_of view = view.account
 
   -- a seat that was spent in a join: it has no number and has seen nothing
-  abbrev pub spent_view : View Object Request Reply
+  abbrev pub spent_view : View Object Call Reply
   spent_view = record { key = None; account = spent_account; given = 0; stage = Outside }
 
   -- the first seat of a lock, which has all numbers that were given when the lock was made
-  abbrev pub first_view : Key Object → View Object Request Reply
+  abbrev pub first_view : Key Object → View Object Call Reply
   first_view key =
       record {
         key = Some key;
@@ -49,24 +49,24 @@ module _ {Object Request Reply : Type 0} where
       }
 
   -- the seat is inside, and knows the history and how many seats were given
-  abbrev pub inside_view : List (Served Request Reply) → ℕ → View Object Request Reply →
-      View Object Request Reply
+  abbrev pub inside_view : List (Served Call Reply) → ℕ → View Object Call Reply →
+      View Object Call Reply
   inside_view history given view = record view { given = given; stage = Inside history }
 
   -- the seat is outside again; if a request was served, it has seen the history with that one
-  abbrev pub outside_view : List (Served Request Reply) → Option (Served Request Reply) →
-      View Object Request Reply → View Object Request Reply
+  abbrev pub outside_view : List (Served Call Reply) → Option (Served Call Reply) →
+      View Object Call Reply → View Object Call Reply
   outside_view history None view = record view { stage = Outside }
   outside_view history (Some served) view =
       record view { account = entered_account server served history view.account; stage = Outside }
 
   -- the seat gave the next number
-  abbrev pub parent_view : View Object Request Reply → View Object Request Reply
+  abbrev pub parent_view : View Object Call Reply → View Object Call Reply
   parent_view view =
       record view { account = parent_account view.given view.account; given = view.given + 1 }
 
   -- the seat that got it: it has seen what its parent has, and has made no request
-  abbrev pub child_view : View Object Request Reply → View Object Request Reply
+  abbrev pub child_view : View Object Call Reply → View Object Call Reply
   child_view view =
       record view {
         account = child_account view.given view.account;
@@ -75,30 +75,30 @@ module _ {Object Request Reply : Type 0} where
       }
 
   -- its own number is one of its numbers
-  abbrev pub HasOwn : View Object Request Reply → Type 0
+  abbrev pub HasOwn : View Object Call Reply → Type 0
   HasOwn view = IsTrue (has_number view.account.shares view.account.number)
 
   -- it has two numbers or more, of which the first is lower than the second
-  pub record HasSecond (view : View Object Request Reply) : Type 0 where
-    pub first : Share (Served Request Reply)
-    pub second : Share (Served Request Reply)
-    pub others : List (Share (Served Request Reply))
+  pub record HasSecond (view : View Object Call Reply) : Type 0 where
+    pub first : Share (Served Call Reply)
+    pub second : Share (Served Call Reply)
+    pub others : List (Share (Served Call Reply))
     pub shares_are : view.account.shares ≡ first ∷ second ∷ others
     pub lower : first.number < second.number
 
   -- the seat handed the second of its numbers over
-  abbrev pub handing_view : View Object Request Reply → View Object Request Reply
+  abbrev pub handing_view : View Object Call Reply → View Object Call Reply
   handing_view view =
       record view { account = keeping_account (other_shares view.account.shares) view.account }
 
   -- the seat to which it was handed
-  abbrev pub handed_view : View Object Request Reply → View Object Request Reply
+  abbrev pub handed_view : View Object Call Reply → View Object Call Reply
   handed_view view =
       record view { account = handed_account (second_share view.account.shares) view.account }
 
   -- two seats become one, and what the other had seen is still to be compared
-  abbrev pub joined_view : View Object Request Reply → View Object Request Reply →
-      View Object Request Reply
+  abbrev pub joined_view : View Object Call Reply → View Object Call Reply →
+      View Object Call Reply
   joined_view first second =
       record first {
         account = joined_account first.account second.account;
@@ -107,10 +107,10 @@ module _ {Object Request Reply : Type 0} where
       }
 
   -- nothing is left to be learned of a join
-  abbrev pub settled_view : View Object Request Reply → View Object Request Reply
+  abbrev pub settled_view : View Object Call Reply → View Object Call Reply
   settled_view view = record view { stage = Outside }
 
   -- the first of the views, where there is one
-  abbrev pub head_view : List (View Object Request Reply) → View Object Request Reply
+  abbrev pub head_view : List (View Object Call Reply) → View Object Call Reply
   head_view [] = spent_view
   head_view (view ∷ views) = view

@@ -21,7 +21,7 @@ use std::sync::Wait;
 impl<O: Object> Locked<O> {
     /// Has the object answer the request, in its turn.
     /// The reply is what the object's definition gives there.
-    pub fn apply<R: Wait>(&self, rt: &R, seat: &mut LockSeat<O>, request: O::Request) -> O::Reply
+    pub fn apply<R: Wait>(&self, rt: &R, seat: &mut LockSeat<O>, request: O::Call) -> O::Reply
         requires seat { IsSeatOf self.now seat.old }
         requires named { NamesOwn O.definition seat.old request }
         ensures seat { IsSeatOf self.now seat.new }
@@ -46,7 +46,7 @@ impl<O: Object> Locked<O> {
         rt: &R,
         stepper: &mut Stepper<O>,
         by: u64,
-        request: O::Request,
+        request: O::Call,
     ) -> O::Reply
         requires stepper { IsStepperOf self.now stepper.old }
         requires outside { IsOutside stepper.old }
@@ -69,7 +69,7 @@ impl<O: Object> Locked<O> {
     // Has the object answer the request, in its slot.
     // Step Answer: a run of the object in its place, as plain memory. Seat: as it was.
     // Keeps the rule: it speaks of the object only where it is at home.
-    fn answer(&self, stepper: &mut Stepper<O>, request: O::Request) -> O::Reply
+    fn answer(&self, stepper: &mut Stepper<O>, request: O::Call) -> O::Reply
         requires stepper { IsStepperOf self.now stepper.old }
         requires full { HasOnly stepper.old.me }
         ensures stepper { IsSameStepper stepper.old stepper.new }
@@ -83,11 +83,11 @@ impl<O: Object> Locked<O> {
 
     // Gives the lock back. The request and its reply are there for the proof alone,
     // which picks them for the step.
-    fn give_served<M: Made<O::Request, O::Reply>>(
+    fn give_served<M: Made<O::Call, O::Reply>>(
         &self,
         stepper: &mut Stepper<O>,
         _by: u64,
-        _request: &Snapshot<O::Request>,
+        _request: &Snapshot<O::Call>,
         _reply: &O::Reply,
     )
         requires stepper { IsStepperOf self.now stepper.old }

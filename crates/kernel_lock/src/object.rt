@@ -5,7 +5,7 @@ ghost use Rattle.kernel_lock.specs.Definition.{Definition};
 /// An object that one thread at a time may call.
 pub trait Object: Drop {
     /// What is asked of it.
-    type Request;
+    type Call;
 
     /// What it answers.
     type Reply;
@@ -15,14 +15,14 @@ pub trait Object: Drop {
 
     /// The meaning of an object, the reply and the meaning after each request,
     /// and the seat that a request names.
-    ghost definition: { Definition Self State Self.Request Self.Reply };
+    ghost definition: { Definition Self State Self.Call Self.Reply };
 
     /// The number of the seat that the request names.
-    fn caller(request: &Self::Request) -> Option<u64>
+    fn caller(request: &Self::Call) -> Option<u64>
         ensures { result ≡ definition.named request.now };
 
     /// Answers the request.
-    fn run(&mut self, request: Self::Request) -> Self::Reply
+    fn run(&mut self, request: Self::Call) -> Self::Reply
         ensures reply { result ≡ definition.answer (definition.state self.old) request }
         ensures after { definition.state self.new ≡
             definition.after (definition.state self.old) request };

@@ -19,7 +19,7 @@ pub struct Acquire<O> {
     object: PhantomData<O>,
 }
 
-impl<O: Object> Play<Option<Guarded<O>>, View<O, O::Request, O::Reply>> for Acquire<O> {
+impl<O: Object> Play<Option<Guarded<O>>, View<O, O::Call, O::Reply>> for Acquire<O> {
     ghost then = { λ _ before found after. HasAcquired O.definition before found after };
 }
 
@@ -77,6 +77,6 @@ pub struct Settle<O> {
     object: PhantomData<O>,
 }
 
-impl<O: Object> Play<Option<Guarded<O>>, View<O, O::Request, O::Reply>> for Settle<O> {
+impl<O: Object> Play<Option<Guarded<O>>, View<O, O::Call, O::Reply>> for Settle<O> {
     ghost then = { λ _ before _ after. HasSettled O.definition before after };
 }

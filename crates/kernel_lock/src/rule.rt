@@ -20,14 +20,14 @@ pub struct OneHistory<O> {
 
 pub type Slot<O> = Option<Guarded<O>>;
 
-pub type Knowledge<O> = View<O, <O as Object>::Request, <O as Object>::Reply>;
+pub type Knowledge<O> = View<O, <O as Object>::Call, <O as Object>::Reply>;
 
 pub type LockTable<O> = Table<Slot<O>, Knowledge<O>, Key<O>, OneHistory<O>, Global>;
 
 /// A seat while it makes its steps.
 pub type Stepper<O> = Seat<Slot<O>, Knowledge<O>>;
 
-impl<O: Object> TableRule<Option<Guarded<O>>, View<O, O::Request, O::Reply>, Key<O>>
+impl<O: Object> TableRule<Option<Guarded<O>>, View<O, O::Call, O::Reply>, Key<O>>
     for OneHistory<O> {
     ghost holds = { IsOneHistory O.definition };
 

@@ -105,10 +105,7 @@ impl<O: Object> Locked<O> {
     // Seat: Inside, then Outside; where a request was served, it has seen the history with that.
     // Keeps the rule: the object is what the history and that request leave,
     // and no other seat was inside.
-    pub(crate) fn release<M: Made<O::Request, O::Reply>>(
-        &self,
-        stepper: &mut Stepper<O>,
-    ) -> GivenBack
+    pub(crate) fn release<M: Made<O::Call, O::Reply>>(&self, stepper: &mut Stepper<O>) -> GivenBack
         requires stepper { IsStepperOf self.now stepper.old }
         requires due { IsDue O.definition self.now.table.shared.key M.served stepper.old.me }
         ensures stepper { IsSameStepper stepper.old stepper.new }

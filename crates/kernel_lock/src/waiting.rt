@@ -90,7 +90,7 @@ impl<O: Object> Locked<O> {
     }
 
     /// Gives the lock back, and wakes a thread that waits for it.
-    pub(crate) fn give<M: Made<O::Request, O::Reply>>(&self, stepper: &mut Stepper<O>)
+    pub(crate) fn give<M: Made<O::Call, O::Reply>>(&self, stepper: &mut Stepper<O>)
         requires stepper { IsStepperOf self.now stepper.old }
         requires due { IsDue O.definition self.now.table.shared.key M.served stepper.old.me }
         ensures stepper { IsSameStepper stepper.old stepper.new }

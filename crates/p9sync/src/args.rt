@@ -51,8 +51,8 @@ const USAGE: &str = "usage: p9sync pipe | replay | threads --writers W --writes 
 /// answers to `out`, and says on `err` why it failed; a failed write to `err` changes nothing.
 /// It answers the status: 0 where all went well, 1 for a fault, 2 for a refused command line.
 pub fn run_args<T: Threads + Wait + Sync, S: AsStr, R: Read, O: Write, E: Write>(
-    rt: &T,
     alloc: Global,
+    rt: &T,
     words: &[S],
     reader: &mut R,
     out: &mut O,
@@ -83,7 +83,7 @@ pub fn run_args<T: Threads + Wait + Sync, S: AsStr, R: Read, O: Write, E: Write>
     match task_of(alloc, words) {
         Ok(Task::Pipe) => end(run_pipe(alloc, reader, out), err),
         Ok(Task::Replay) => end(run_replay(alloc, reader, out), err),
-        Ok(Task::Threads(opts)) => tell_threads(rt, alloc, opts, out, err),
+        Ok(Task::Threads(opts)) => tell_threads(alloc, rt, opts, out, err),
         Err(NoTask::OutOfMemory) => end(Err(Fault::Memory), err),
         Err(NoTask::Refused) => refuse(err),
     }
@@ -113,8 +113,8 @@ pub fn end<E: Write>(outcome: Result<(), Fault>, err: &mut E) -> u8
 
 /// Runs writers and a reader, and says what was read.
 fn tell_threads<T: Threads + Wait + Sync, O: Write, E: Write>(
-    rt: &T,
     alloc: Global,
+    rt: &T,
     opts: ThreadsOpts,
     out: &mut O,
     err: &mut E,
@@ -122,7 +122,7 @@ fn tell_threads<T: Threads + Wait + Sync, O: Write, E: Write>(
     ensures ends { EndsThreads opts (O.contents out.old) (O.contents out.new) result }
     ensures silent { result ≡ GOOD → Keeps (E.contents err.old) (E.contents err.new) }
 {
-    end_threads(write_threads(rt, alloc, opts, out), err)
+    end_threads(write_threads(alloc, rt, opts, out), err)
 }
 
 /// Ends a run on threads. What is out of order ends as a fault does, and `err` says nothing of it.
@@ -139,8 +139,8 @@ fn end_threads<E: Write>(outcome: Result<bool, Fault>, err: &mut E) -> u8
 
 /// Runs writers and a reader, writes what was read, and says whether it was in order.
 fn write_threads<T: Threads + Wait + Sync, O: Write>(
-    rt: &T,
     alloc: Global,
+    rt: &T,
     opts: ThreadsOpts,
     out: &mut O,
 ) -> Result<bool, Fault>
@@ -150,7 +150,7 @@ fn write_threads<T: Threads + Wait + Sync, O: Write>(
     ensures failed { OnErr result ((report : Report) × IsReportOf opts report
         × AppendsFront (O.contents out.old) (O.contents out.new) (report_line report)) }
 {
-    let report = run_threads(rt, alloc, opts, &OpenGate)?;
+    let report = run_threads(alloc, rt, opts, &OpenGate)?;
     let mut text = Vec::new(alloc);
     push_report(&mut text, &report)?;
     write_whole(out, &text)?;

@@ -11,8 +11,8 @@ pub mod CallLemmas
 pub mod WrittenLemmas
 pub mod ChainLemmas
 pub mod WaitLemmas
+pub mod OwnLemmas
 pub mod WorkedPipes
-pub mod LoneLemmas
 pub mod WorkedEntries
 pub mod WorkedReads
 pub mod WorkedWrites

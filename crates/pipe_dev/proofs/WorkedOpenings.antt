@@ -14,9 +14,10 @@ use Rattle.pipe_dev.specs.declared.pipe.Opened.{Opened}
 use Rattle.pipe_dev.specs.declared.row.Row.{Row}
 use Rattle.pipe_dev.specs.Ends.{ReadSide, WriteSide}
 use Rattle.pipe_dev.specs.Finishing.{FinishesEnds}
-use Rattle.pipe_dev.specs.Openings.{Opens, OpensStream, HasRows, AreNewEnds, key_for, rendez_for}
+use Rattle.pipe_dev.specs.Openings.{Opens, OpensStream, HasRows, AreNewEnds, HasEachRendez}
+use Rattle.pipe_dev.specs.Openings.{key_for, rendez_for}
 use Rattle.pipe_dev.specs.Parts.{Part}
-use Rattle.pipe_dev.specs.Rendezes.{reader_rendez, writer_rendez}
+use Rattle.pipe_dev.specs.Rendezes.{HasRow, reader_rendez, writer_rendez}
 
 -- it takes eight Rendez
 takes_eight : rendez_for 3 ≡ 8
@@ -88,6 +89,15 @@ module _ (queue : Queue) (row : Row) (read : ReadSide) (write : WriteSide) where
   -- the reader has other Rendez
   ends_of_another_row : read.row ≢ row → AreNewEnds queue row read (write ∷ []) → ⊥
   ends_of_another_row other new = other new.row_is
+
+  -- a kernel that lacks a Rendez of the reader, or of the writer
+  a_kernel_without_the_row : (words : Words) → ¬ HasRow words read.row
+      → ¬ HasEachRendez words read (write ∷ [])
+  a_kernel_without_the_row words none has = none has.reader
+
+  a_kernel_without_the_writers_row : (words : Words) → ¬ HasRow words write.row
+      → ¬ HasEachRendez words read (write ∷ [])
+  a_kernel_without_the_writers_row words none has = none has.writers.0
 
 -- ---- what no finish is
 

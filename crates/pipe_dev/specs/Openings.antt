@@ -86,3 +86,21 @@ pub record AreNewEnds (queue : Queue) (row : Row) (read : ReadSide) (writes : Li
   pub rest : read.rest ≡ None
   pub unwritten : AllByRecursion (IsNewWriteEnd queue row) writes
   pub all : AreAllEnds read writes
+
+-- ---- whose pipe it is
+
+-- this kernel has each Rendez of these ends
+pub record HasEachRendez (words : Words) (read : ReadSide) (writes : List WriteSide) : Type 0 where
+  pub reader : HasRow words read.row
+  pub writers : AllByRecursion (λ write. HasRow words write.row) writes
+
+-- Own. The kernel whose roster made a pipe has each Rendez of its ends. A read or a write is
+-- answered NoRendez only where the process's kernel has not (`no_rendez`), so a process of this
+-- kernel never is.
+abbrev pub OwnKernelHasEachRendez : Type 0
+OwnKernelHasEachRendez =
+    (words : Words) (opened : Opened) (first second : ReadSide) (firsts seconds : List WriteSide)
+    → HasRows words opened
+    → AreNewEnds opened.pipe.there opened.start.there.row first seconds
+    → AreNewEnds opened.pipe.back opened.start.back.row second firsts
+    → HasEachRendez words first seconds × HasEachRendez words second firsts

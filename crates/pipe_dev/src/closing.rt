@@ -12,7 +12,7 @@ use crate::read_end::ReadEnd;
 use crate::write_end::WriteEnd;
 use block_queue::{Gathered, PutSeat, StoredBlock, Ungathered};
 use std::alloc::{AllocError, Global};
-use sync_base::Piece;
+use sync_base::{Fault, Piece};
 
 /// What a direction still held.
 #[derive(Drop)]
@@ -30,6 +30,15 @@ pub struct Held {
 pub struct Unfinished<'p> {
     pub read: ReadEnd<'p>,
     pub writes: Vec<WriteEnd<'p>>,
+}
+
+impl<'p> Unfinished<'p> {
+    /// Why: out of memory, which is the one refusal of a finish.
+    pub fn fault(&self) -> Fault
+        ensures { result ≡ Fault.Memory }
+    {
+        Fault::Memory
+    }
 }
 
 /// Takes all ends of one direction back, the write ends in the order of `parts`, and gives what it

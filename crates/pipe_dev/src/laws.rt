@@ -15,12 +15,18 @@ ghost use Rattle.pipe_dev.specs.Laws.{
   EachWriteIsReadWholeAndOnce,
   NoneIsAcceptedAfterHangup,
 };
+ghost use Rattle.pipe_dev.specs.Openings.{OwnKernelHasEachRendez};
 ghost use Rattle.pipe_dev.specs.WaitLaws.{
   WritesWakeTheReader,
   ReadsWakeEachWriter,
   TriesWakeEachWriter,
   HangupsWakeAll,
 };
+
+/// A process of the kernel whose roster made a pipe is never answered `NoRendez` at its ends.
+pub fn own_processes_are_never_refused()
+    ensures ends { OwnKernelHasEachRendez }
+{}
 
 /// Each call of a read end adds one part for the bytes that it got and nothing else; in stream mode
 /// a read adds the parts that join to them, and of what has no bytes parts that are empty. What was

@@ -30,6 +30,3 @@ pub use end::{End, Ends, Parts};
 pub use pipe::{Opened, Pipe, PipeStart};
 pub use read_end::ReadEnd;
 pub use write_end::WriteEnd;
-
-#[cfg(test)]
-mod tests;

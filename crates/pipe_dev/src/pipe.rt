@@ -137,7 +137,8 @@ impl Pipe {
             return Err(Fault::BadSize);
         }
         let count = 2 * (1 + writers);
-        if roster.left().rendez < count {
+        let (_, rendez) = roster.left();
+        if rendez < count {
             return Err(Fault::NoRendez);
         }
         let there = Direction::new(alloc, limit, writers)?;

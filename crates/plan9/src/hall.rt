@@ -6,7 +6,7 @@ use sleep_wakeup::{Proc, Roster};
 use std::alloc::Global;
 use std::marker::Model;
 use std::sync::Wait;
-use sync_base::{Fault, NoteSet, Pid, RendezId, Tag};
+use sync_base::{Fault, NoProbe, NoteSet, Pid, Probe, RendezId, Tag};
 use tag_space::{Member, Opened, TagSpace};
 
 /// A hall: a tag space, and its first member as long as no process has it.
@@ -63,7 +63,7 @@ impl Hall {
     ghost use Rattle.std.specs.Prelude.{◌≡◌, IfOk, IfErr, OnOk, OnErr};
     ghost use Rattle.sleep_core.specs.Limits.{IsProcCount};
     ghost use Rattle.sleep_wakeup.specs.Kernel.{rendez_less};
-    ghost use Rattle.tag_space.specs.Spaces.{WhyNoSpace};
+    ghost use Rattle.tag_space.specs.Spaces.{WhyNoGroup, WhyNoSpace};
     ghost use Rattle.plan9.specs.Halls.{IsFirstGuest, IsNewHall, WhyNotFirstGuest};
     ghost use Rattle.plan9.specs.Refusals.{ComesBack};
 
@@ -86,6 +86,28 @@ impl Hall {
             spare: Some(member),
             first,
             procs,
+        })
+    }
+
+    /// Another hall, for as many processes: calls of the two never meet. It takes as many Rendez.
+    /// Refuses, in this order, as `NoRendez` and `Memory`. Doesn't wait.
+    pub fn new_group(&self, alloc: Global, roster: &mut Roster<'_>) -> Result<Hall, Fault>
+        // Refused first, and then no Rendez is used up.
+        ensures fault { IfErr result (WhyNoGroup roster.old self.now.space.procs) }
+        ensures refused { OnErr result (roster.new ≡ roster.old) }
+
+        // Otherwise the row is the next one, and no process has the first member.
+        ensures row { OnOk result
+            (roster.new ≡ rendez_less self.now.space.procs roster.old) }
+        ensures opened { IfOk result (IsNewHall roster.old self.now.space.procs) }
+    {
+        let Opened { space, member } = self.space.new_group(alloc, roster)?;
+        let RendezId(first) = member.rendez();
+        Ok(Hall {
+            space,
+            spare: Some(member),
+            first,
+            procs: self.procs,
         })
     }
 
@@ -122,11 +144,11 @@ impl Hall {
 impl<'s, 'k> Guest<'s, 'k> {
     ghost use Rattle.std.specs.Prelude.{◌≡◌, ◌<◌, ◌≤◌, IfOk, IfErr, OnOk, OnErr};
     ghost use Rattle.sync_base.specs.declared.fault.Fault.TheVariants.{NoProc};
-    ghost use Rattle.rendez_words.specs.Steps.{notes};
+    ghost use Rattle.rendez_words.specs.Steps.{notes, drains};
     ghost use Rattle.rendez_words.specs.Words.{procs_of};
-    ghost use Rattle.tag_space.specs.Members.{party_of, seen_of};
+    ghost use Rattle.tag_space.specs.Members.{number_of, party_of, rendez_of_member, seen_of};
     ghost use Rattle.tag_space.specs.Outcome.{Exchange};
-    ghost use Rattle.tag_space.specs.Walk.{Walks};
+    ghost use Rattle.tag_space.specs.Walk.{RendezvousesInWords, Walks};
     ghost use Rattle.plan9.specs.Refusals.{ComesBack};
     ghost use Rattle.plan9.specs.Halls.{
       IsAdmittedGuest,
@@ -157,8 +179,45 @@ impl<'s, 'k> Guest<'s, 'k> {
         ensures walk { Walks (guest_caller self.old) (record { tag = tag; value = value })
             (guest_point self.old) (guest_point self.new) result }
     {
+        self.rendezvous_probed(rt, tag, value, &mut NoProbe)
+    }
+
+    /// A `rendezvous` that tells a probe of its points, as `TagSpace::rendezvous_probed` does: 1
+    /// before it calls, 2 before and 3 after each sleep, 4 at the end.
+    pub fn rendezvous_probed<R: Wait, P: Probe>(
+        &mut self,
+        rt: &R,
+        tag: Tag,
+        value: u64,
+        probe: &mut P,
+    ) -> Result<u64, Fault>
+        ensures same { IsSameGuest self.old self.new }
+
+        // The member made one call, which is in a pair exactly where a value is answered.
+        ensures exchange { Exchange (party_of self.old.space self.old.member)
+            (record { tag = tag; value = value }) (seen_of self.old.member)
+            (seen_of self.new.member) result }
+
+        // What the member asked, and how its process slept and woke its partner.
+        ensures walk { Walks (guest_caller self.old) (record { tag = tag; value = value })
+            (guest_point self.old) (guest_point self.new) result }
+    {
         self.space
-            .rendezvous(rt, &mut self.proc, &mut self.member, tag, value)
+            .rendezvous_probed(rt, &mut self.proc, &mut self.member, tag, value, probe)
+    }
+
+    /// A `rendezvous` that answers `Ok(INTERRUPTED)` in place of `Interrupted`, after
+    /// rendezvous(2). A partner that gives this value can't be told from an interruption.
+    pub fn rendezvous_word<R: Wait>(&mut self, rt: &R, tag: Tag, value: u64) -> Result<u64, Fault>
+        ensures same { IsSameGuest self.old self.new }
+
+        // It is the word for the answer of a rendezvous.
+        ensures word { RendezvousesInWords (guest_caller self.old)
+            (record { tag = tag; value = value }) (guest_point self.old) (guest_point self.new)
+            result }
+    {
+        self.space
+            .rendezvous_word(rt, &mut self.proc, &mut self.member, tag, value)
     }
 
     /// Another process that is a guest as well.
@@ -197,6 +256,14 @@ impl<'s, 'k> Guest<'s, 'k> {
         self.proc.pid()
     }
 
+    /// The Rendez in which its process waits for a partner: the first of its hall, and the number
+    /// of its member on. Takes no memory and doesn't wait.
+    pub fn rendez(&self) -> RendezId
+        ensures { result ≡ rendez_of_member self.now.space (number_of self.now.member) }
+    {
+        self.member.rendez()
+    }
+
     /// Posts notes to a process, which end its sleep or are pending until its next one. After
     /// postnote(2).
     /// Refuses as `NoProc`. Takes no memory and doesn't wait.
@@ -214,6 +281,15 @@ impl<'s, 'k> Guest<'s, 'k> {
         ensures member { self.new.member ≡ self.old.member }
     {
         self.proc.postnote(pid, set)
+    }
+
+    /// Takes the notes that are pending. Takes no memory and doesn't wait.
+    pub fn notes(&mut self) -> NoteSet
+        ensures taken { self.new.running.process ≡ drains self.old.running.process result }
+        ensures same { IsSameGuest self.old self.new }
+        ensures member { self.new.member ≡ self.old.member }
+    {
+        self.proc.notes()
     }
 
     /// Its member is one of its space's, whose Rendez are of its kernel: so each call of it may be

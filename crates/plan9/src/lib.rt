@@ -25,7 +25,7 @@ pub use sync_base::{Fault, Flags, Mode, Note, NoteSet, Pid, Piece, RendezId, Tag
 
 // A kernel, counted from what will be made, and its processes: sleep, wakeup, notes and rfork.
 pub use crate::plan::Plan;
-pub use sleep_wakeup::{Done, Kernel, Left, Opened as OpenedKernel, Proc, Roster, Start, Started};
+pub use sleep_wakeup::{Done, Kernel, Opened as OpenedKernel, Proc, Roster, Start, Started};
 
 // Who waits where, for a program that hangs.
 pub use sleep_wakeup::{Look, ProcStatus, RendezStatus};
@@ -58,11 +58,8 @@ pub use semaphore::{OpenedTimers, TimerSeat, Timers};
 pub use crate::hall::{Guest, Hall};
 pub use tag_space::meeting::INTERRUPTED;
 pub use tag_space::{
-    Child, Forked, Member, NotForked, Opened as OpenedSpace, SpentMember, TagSpace, rfork,
+    Forked, Member, NotForked, Opened as OpenedSpace, SpentMember, TagSpace, rfork,
 };
 
 // What a caller has beside: a pipe for one thread, and probes for tests of calls.
 pub use sync_base::{NoProbe, PlainPipe, Probe};
-
-#[cfg(test)]
-mod tests;

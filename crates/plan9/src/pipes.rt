@@ -232,7 +232,8 @@ pub fn fork_writers<'p, 'k>(
         HaveEnds roster.old parent.old.process.pid ends.entry.items made.items roster.new) }
     ensures parent { parent.new ≡ parent.old }
 {
-    if roster.left().pids < ends.len() as u64 {
+    let (pids, _) = roster.left();
+    if pids < ends.len() as u64 {
         return Err(Unforked {
             ends,
             fault: Fault::NoProc,

@@ -11,7 +11,7 @@ use sleep_wakeup::{Proc, Roster};
 use std::alloc::Global;
 use std::marker::Model;
 use std::sync::Wait;
-use sync_base::{Fault, Flags, NoteSet, Pid, RendezId};
+use sync_base::{Fault, Flags, NoProbe, NoteSet, Pid, Probe, RendezId};
 
 /// A pool of units: a semaphore, and its first seat as long as nobody has it.
 #[derive(Drop)]
@@ -155,7 +155,8 @@ impl Pool {
         ensures holders { IfOk result (λ holders.
             AreHolders self.old.sema proc.entry roster.old count holders.items) }
     {
-        if count == 0 || count > self.procs || roster.left().pids < count - 1 {
+        let (pids, _) = roster.left();
+        if count == 0 || count > self.procs || pids < count - 1 {
             return Err(Refused {
                 proc,
                 fault: Fault::NoProc,
@@ -200,7 +201,7 @@ impl<'s, 'k> Holder<'s, 'k> {
     ghost use Rattle.semaphore.specs.Acquiring.{AcquiresInTime, Semacquires};
     ghost use Rattle.semaphore.specs.Deeds.{Calls};
     ghost use Rattle.semaphore.specs.Releasing.{Releases};
-    ghost use Rattle.semaphore.specs.Seats.{timers_seen};
+    ghost use Rattle.semaphore.specs.Seats.{rendez_at, timers_seen};
     ghost use Rattle.semaphore.specs.Timers.{deadline_of};
     ghost use Rattle.plan9.specs.Watches.{IsSameWatch, stands_watching, timed_holder};
     ghost use Rattle.plan9.specs.Refusals.{ComesBack};
@@ -231,9 +232,19 @@ impl<'s, 'k> Holder<'s, 'k> {
         ensures called { Calls (holder self.old) (stands_holding self.old)
             (stands_holding self.new) (Semacquires true (holder self.old) (got result)) }
     {
+        self.acquire_probed(rt, &mut NoProbe)
+    }
+
+    /// An `acquire` that tells a probe of its points, as `Sema::semacquire_probed` does: 1 before
+    /// the semaphore is asked first, 2 before and 3 after each sleep, 4 at the end.
+    pub fn acquire_probed<R: Wait, P: Probe>(&mut self, rt: &R, probe: &mut P) -> Result<(), Fault>
+        ensures same { IsSameHolder self.old self.new }
+        ensures called { Calls (holder self.old) (stands_holding self.old)
+            (stands_holding self.new) (Semacquires true (holder self.old) (got result)) }
+    {
         match self
             .sema
-            .semacquire(rt, &mut self.proc, &mut self.seat, true)
+            .semacquire_probed(rt, &mut self.proc, &mut self.seat, true, probe)
         {
             Ok(Semacquired::Acquired) => Ok(()),
             Ok(Semacquired::NotNow) => unreachable!(),
@@ -248,9 +259,19 @@ impl<'s, 'k> Holder<'s, 'k> {
         ensures called { Calls (holder self.old) (stands_holding self.old)
             (stands_holding self.new) (Semacquires false (holder self.old) (got_now result)) }
     {
+        self.try_acquire_probed(rt, &mut NoProbe)
+    }
+
+    /// A `try_acquire` that tells a probe of its points: 1 before the semaphore is asked, 4 at the
+    /// end.
+    pub fn try_acquire_probed<R: Wait, P: Probe>(&mut self, rt: &R, probe: &mut P) -> bool
+        ensures same { IsSameHolder self.old self.new }
+        ensures called { Calls (holder self.old) (stands_holding self.old)
+            (stands_holding self.new) (Semacquires false (holder self.old) (got_now result)) }
+    {
         match self
             .sema
-            .semacquire(rt, &mut self.proc, &mut self.seat, false)
+            .semacquire_probed(rt, &mut self.proc, &mut self.seat, false, probe)
         {
             Ok(Semacquired::Acquired) => true,
             Ok(Semacquired::NotNow) => false,
@@ -282,7 +303,28 @@ impl<'s, 'k> Holder<'s, 'k> {
             (stands_watching self.new watch.new)
             (AcquiresInTime caller (timers_seen watch.old.timers watch.new.seat) moment result) }
     {
-        self.sema.tsemacquire(
+        self.acquire_within_probed(rt, watch, now, ms, &mut NoProbe)
+    }
+
+    /// An `acquire_within` that tells a probe of its points, as `Sema::tsemacquire_probed` does: 2
+    /// before and 3 after each sleep for a unit.
+    pub fn acquire_within_probed<R: Wait, P: Probe>(
+        &mut self,
+        rt: &R,
+        watch: &mut Watch<'_>,
+        now: u64,
+        ms: u32,
+        probe: &mut P,
+    ) -> Result<(), Fault>
+        ensures same { IsSameHolder self.old self.new }
+        ensures watch { IsSameWatch watch.old watch.new }
+        ensures called { let moment = deadline_of now ms in
+            let caller = timed_holder self.old watch.old moment in
+            Calls caller (stands_watching self.old watch.old)
+            (stands_watching self.new watch.new)
+            (AcquiresInTime caller (timers_seen watch.old.timers watch.new.seat) moment result) }
+    {
+        self.sema.tsemacquire_probed(
             rt,
             &mut self.proc,
             &mut self.seat,
@@ -290,6 +332,7 @@ impl<'s, 'k> Holder<'s, 'k> {
             &mut watch.seat,
             now,
             ms,
+            probe,
         )
     }
 
@@ -354,7 +397,8 @@ impl<'s, 'k> Holder<'s, 'k> {
         ensures forked { IfOk result (λ child.
             ForksHolder roster.old self.old self.new child roster.new) }
     {
-        if roster.left().pids == 0 {
+        let (pids, _) = roster.left();
+        if pids == 0 {
             return Err(NotHolder::from(Fault::NoProc));
         }
         let seat = self.sema.split(rt, &mut self.seat)?;
@@ -381,6 +425,14 @@ impl<'s, 'k> Holder<'s, 'k> {
         ensures { result.0 ≡ self.now.running.process.pid }
     {
         self.proc.pid()
+    }
+
+    /// The Rendez in which its process waits for a unit: the first of its pool, and the number of
+    /// its seat on. Takes no memory and doesn't wait.
+    pub fn rendez(&self) -> RendezId
+        ensures { result ≡ rendez_at self.now.sema self.now.seat }
+    {
+        self.sema.rendez(&self.seat)
     }
 
     /// Posts notes to a process, which end its sleep or are pending until its next one. After

@@ -12,7 +12,7 @@ use std::alloc::Global;
 use std::snapshot::Snapshot;
 use std::sync::Wait;
 use std::thread::yield_now;
-use sync_base::{Fault, Pid};
+use sync_base::{Fault, Pid, RendezId};
 
 /// The end that lies between two turns.
 #[derive(Drop)]
@@ -189,6 +189,7 @@ impl<'s, 'k> Holder<'s, 'k> {
 
 impl<'s, 'p, 'k> Sharer<'s, 'p, 'k> {
     ghost use Rattle.std.specs.Prelude.{◌≡◌, IfOk, IfErr};
+    ghost use Rattle.semaphore.specs.Seats.{rendez_at};
     ghost use Rattle.plan9.specs.Pools.{IsSameParent, WhyNoFork, forking};
     ghost use Rattle.plan9.specs.Sharings.{ForksSharer, IsSameSharer, ReadsInTurn, buffers, end_of};
 
@@ -238,6 +239,14 @@ impl<'s, 'p, 'k> Sharer<'s, 'p, 'k> {
         self.holder.pid()
     }
 
+    /// The Rendez in which its process waits for a turn; for bytes it waits in that of its end.
+    /// Takes no memory and doesn't wait.
+    pub fn rendez(&self) -> RendezId
+        ensures { result ≡ rendez_at self.now.holder.sema self.now.holder.seat }
+    {
+        self.holder.rendez()
+    }
+
     /// Its process. It has no turns any more, nor has another in its place. Takes no memory and
     /// doesn't wait.
     pub fn into_proc(self) -> Proc<'k>
@@ -247,6 +256,3 @@ impl<'s, 'p, 'k> Sharer<'s, 'p, 'k> {
         holder.into_proc()
     }
 }
-
-#[cfg(test)]
-mod tests;

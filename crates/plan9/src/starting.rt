@@ -50,7 +50,8 @@ pub fn start_child<
         → roster.new ≡ one_pid_less parent.old.process.pid false roster.old }
     ensures parent { IsAsItWas parent.old parent.new }
 {
-    if roster.left().pids == 0 {
+    let (pids, _) = roster.left();
+    if pids == 0 {
         return Err(NotStarted::NoProc(make));
     }
     let Ok(Some(child)) = roster.rfork(parent, Flags::RFPROC) else {

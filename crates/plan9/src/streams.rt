@@ -135,6 +135,3 @@ impl<'r, 'p, 'k, R: Wait> Write for WriteStream<'r, 'p, 'k, R> {
         Ok(())
     }
 }
-
-#[cfg(test)]
-mod tests;

@@ -1,51 +1,21 @@
--- Lines of a schedule with a word too many are not in the grammar.
-use Rattle.std.proofs.Common.{◌≡◌, ℕ, ◌<◌, List, [], ◌∷◌, ◌++◌, length, ◌+◌, option_and_then, ap}
-use Rattle.std.proofs.Common.{sym, subst, ◌∙◌, Option, None, Some, Bor, refl, arith}
-use Rattle.scripts.specs.Lines.{is_space, words_of, words_behind, number_of, BeginsWithLine}
-use Rattle.sync_base.specs.declared.note.NoteSet.{NoteSet}
+-- What the lines of a schedule ask for, word by word.
+use Rattle.std.proofs.Common.{◌≡◌, ℕ, ◌<◌, List, [], ◌∷◌, ◌++◌, length, ◌+◌, codes, option_and_then}
+use Rattle.std.proofs.Common.{ap, sym, subst, ◌∙◌, append_assoc, Option, None, Some, Bor, refl}
+use Rattle.std.proofs.Common.{arith}
+use Rattle.scripts.specs.Lines.{is_space, words_of, number_of, BeginsWithLine, BeginsWithNoNumber}
+use Rattle.scripts.specs.Lines.{LineAsks, NoLineAsks}
 use Rattle.sleep_core.specs.declared.event.Event.{Event}
-use Rattle.sleep_core.specs.declared.event.Event.TheVariants as event
 use Rattle.scripts.specs.declared.event_line.Verb.{Verb}
 use Rattle.scripts.specs.declared.event_line.Verb.TheVariants as verb
-use Rattle.scripts.specs.declared.lines.TheConstants.{SPACE}
-use Rattle.scripts.proofs.OnePassLemmas.{IsWord, line_behind_word}
-use Rattle.scripts.specs.Schedule.{verb_of, verb_word, event_with, BeginsWithEvent, size_of}
-use Rattle.scripts.specs.Schedule.{lone_pid, operands_of, note_of, kinds_of}
+use Rattle.scripts.specs.declared.lines.TheConstants.{LINE_FEED, SPACE}
+use Rattle.scripts.specs.Schedule.{verb_of, verb_word, event_of, event_with, size_of, kinds_of}
+use Rattle.scripts.specs.Schedule.{TakesPid, operands_of, note_of}
 use Rattle.scripts.proofs.LineLemmas.{parts_of-some}
+use Rattle.scripts.proofs.OnePassLemmas.{IsWord, line_behind_word, no_line_of, none_behind_word}
+use Rattle.scripts.proofs.OnePassLemmas.{none_before_line_feed, read_as}
+use Rattle.scripts.proofs.PartLemmas.{TailHas, parted}
 
--- a process and a word more is no process alone
-lone_pid-more : (pid : List ℕ) (words : List (List ℕ)) → 0 < length words
-    → lone_pid (pid ∷ words) ≡ None
-lone_pid-more pid [] some = absurd (omega arith)
-lone_pid-more pid (word ∷ words) some = refl
-
--- a process with a word behind it is no lone process
-pub lone_pid-long : (pid rest : List ℕ) → lone_pid (pid ∷ words_of rest) ≡ None
-lone_pid-long pid rest = lone_pid-more pid (words_of rest) (parts_of-some is_space rest)
-
--- nor are a process and kinds with a word more
-note_of-more : (pid kinds : List ℕ) (words : List (List ℕ)) → 0 < length words
-    → note_of (pid ∷ kinds ∷ words) ≡ None
-note_of-more pid kinds [] some = absurd (omega arith)
-note_of-more pid kinds (word ∷ words) some = refl
-
--- a process and its kinds with a word behind them are no note
-pub note_of-long : (pid kinds rest : List ℕ) → note_of (pid ∷ kinds ∷ words_of rest) ≡ None
-note_of-long pid kinds rest = note_of-more pid kinds (words_of rest) (parts_of-some is_space rest)
-
--- nor a process, a Rendez and a level
-operands_of-more : (pid rendez level : List ℕ) (words : List (List ℕ)) → 0 < length words
-    → operands_of (pid ∷ rendez ∷ level ∷ words) ≡ None
-operands_of-more pid rendez level [] some = absurd (omega arith)
-operands_of-more pid rendez level (word ∷ words) some = refl
-
--- a process, a Rendez and a level with a word behind them are no operands
-pub operands_of-long : (pid rendez level rest : List ℕ)
-    → operands_of (pid ∷ rendez ∷ level ∷ words_of rest) ≡ None
-operands_of-long pid rendez level rest =
-    operands_of-more pid rendez level (words_of rest) (parts_of-some is_space rest)
-
--- nor the sizes of a world
+-- the sizes of a world and a word more are none
 size_of-more : (verb procs rendez : List ℕ) (words : List (List ℕ)) → 0 < length words
     → size_of (verb ∷ procs ∷ rendez ∷ words) ≡ None
 size_of-more verb procs rendez [] some = absurd (omega arith)
@@ -91,24 +61,161 @@ verb_is_word verb.Drain = record { no_space = refl; no_line_feed = refl }
 verb_is_word verb.Check = record { no_space = refl; no_line_feed = refl }
 
 -- a verb before the words that it asks for
-pub event_begins : (text : List ℕ) (v : Verb) (mid : List ℕ) (words : List (List ℕ))
-    (rest : List ℕ) (event : Event) → text ≡ verb_word v ++ SPACE ∷ mid
-    → BeginsWithLine mid words rest → event_with v words ≡ Some event
-    → BeginsWithEvent text event rest
-event_begins text v mid words rest event split line asks =
+pub event_asks : (text : List ℕ) (v : Verb) (mid : List ℕ) (rest : List ℕ) (event : Event)
+    → text ≡ verb_word v ++ SPACE ∷ mid → LineAsks (event_with v) mid event rest
+    → LineAsks event_of text event rest
+event_asks text v mid rest event split line =
     record {
-      words = verb_word v ∷ words;
+      words = verb_word v ∷ line.words;
       begins = subst
-          (λ (t : List ℕ). BeginsWithLine t (verb_word v ∷ words) rest) (sym split)
-          (line_behind_word (verb_word v) mid words rest (verb_is_word v) line);
+          (λ (t : List ℕ). BeginsWithLine t (verb_word v ∷ line.words) rest) (sym split)
+          (line_behind_word (verb_word v) mid line.words rest (verb_is_word v) line.begins);
       asks = ap
-          (λ (o : Option Verb). option_and_then (λ v. event_with v words) o) (verb_is_read v)
-          ∙ asks;
+          (λ (o : Option Verb). option_and_then (λ v. event_with v line.words) o) (verb_is_read v)
+          ∙ line.asks;
     }
 
--- a number and kinds, with nothing behind them, are a note
-pub note_is : (pid kinds line : List ℕ) (more : Option (Bor (List ℕ))) (n : ℕ) (set : NoteSet)
-    → words_of line ≡ kinds ∷ words_behind more → more ≡ None → number_of pid ≡ Some n
-    → Some set ≡ kinds_of kinds
-    → note_of (pid ∷ words_of line) ≡ Some (event.Note (record { 0 = n }) set)
-note_is pid kinds line more n set begin alone is are = rw (begin, alone, is, ← are) refl
+-- where those ask for nothing the line is no event
+pub event_asks_none : (text : List ℕ) (v : Verb) (mid : List ℕ)
+    → text ≡ verb_word v ++ SPACE ∷ mid → NoLineAsks (event_with v) mid → NoLineAsks event_of text
+event_asks_none text v mid split none =
+    none_behind_word event_of text (verb_word v) mid split (verb_is_word v)
+    (no_line_of (event_with v) (λ words. event_of (verb_word v ∷ words)) mid
+    (λ words is. ap (λ (o : Option Verb). option_and_then (λ v. event_with v words) o)
+    (verb_is_read v) ∙ is) none)
+
+-- a word that is read as a verb is the verb's
+verb_is : (word : List ℕ) (v : Verb) → verb_of word ≡ Some v → word ≡ verb_word v
+verb_is word v is =
+    read_as verb_word word (codes "post") verb.Post v _ is refl
+    (λ is. read_as verb_word word (codes "test") verb.Test v _ is refl
+    (λ is. read_as verb_word word (codes "look") verb.Look v _ is refl
+    (λ is. read_as verb_word word (codes "withdraw") verb.Withdraw v _ is refl
+    (λ is. read_as verb_word word (codes "clear") verb.Clear v _ is refl
+    (λ is. read_as verb_word word (codes "raise") verb.Raise v _ is refl
+    (λ is. read_as verb_word word (codes "take") verb.Take v _ is refl
+    (λ is. read_as verb_word word (codes "mark") verb.Mark v _ is refl
+    (λ is. read_as verb_word word (codes "note") verb.Note v _ is refl
+    (λ is. read_as verb_word word (codes "drain") verb.Drain v _ is refl
+    (λ is. read_as verb_word word (codes "check") verb.Check v _ is refl
+    (λ is. absurd (cc))))))))))))
+
+-- no verb stands alone
+verb_is_not_alone : (v : Verb) → event_with v [] ≡ None
+verb_is_not_alone verb.Post = refl
+verb_is_not_alone verb.Test = refl
+verb_is_not_alone verb.Look = refl
+verb_is_not_alone verb.Withdraw = refl
+verb_is_not_alone verb.Clear = refl
+verb_is_not_alone verb.Raise = refl
+verb_is_not_alone verb.Take = refl
+verb_is_not_alone verb.Mark = refl
+verb_is_not_alone verb.Note = refl
+verb_is_not_alone verb.Drain = refl
+verb_is_not_alone verb.Check = refl
+
+-- a text asks for an event only where it begins with a verb and a space
+pub no_verb_asks_none : (text : List ℕ)
+    → ((v : Verb) (rest : List ℕ) → ¬ (text ≡ verb_word v ++ SPACE ∷ rest))
+    → NoLineAsks event_of text
+no_verb_asks_none text never words rest begins fits =
+    let first = parted SPACE begins.line in
+    ap event_of (sym (sym first.parts ∙ begins.words_are))
+    ∙ by_verb first.word first.tail first.others first.behind
+    (begins.split ∙ ap (λ (l : List ℕ). l ++ LINE_FEED ∷ rest) first.split)
+    (verb_of first.word) refl
+  where
+    by_tail : (v : Verb) (tail : List ℕ) (others : List (List ℕ)) → TailHas SPACE tail others
+        → text ≡ (verb_word v ++ tail) ++ LINE_FEED ∷ rest → event_with v others ≡ None
+    by_tail v [] [] behind split = verb_is_not_alone v
+    by_tail v [] (word ∷ others) behind split = absurd behind
+    by_tail v (b ∷ tail) others behind split =
+        absurd (never v (tail ++ LINE_FEED ∷ rest)
+        (split ∙ (append_assoc (verb_word v) (b ∷ tail) (LINE_FEED ∷ rest)
+        ∙ ap (λ b. verb_word v ++ b ∷ (tail ++ LINE_FEED ∷ rest)) behind.0)))
+
+    by_verb : (word tail : List ℕ) (others : List (List ℕ)) → TailHas SPACE tail others
+        → text ≡ (word ++ tail) ++ LINE_FEED ∷ rest → (v : Option Verb) → verb_of word ≡ v
+        → event_of (word ∷ others) ≡ None
+    by_verb word tail others behind split None none = rw none refl
+    by_verb word tail others behind split (Some v) some =
+        ap (λ (o : Option Verb). option_and_then (λ v. event_with v others) o) some
+        ∙ by_tail v tail others behind
+        (split ∙ ap (λ (w : List ℕ). (w ++ tail) ++ LINE_FEED ∷ rest) (verb_is word v some))
+
+-- three numbers are wanted of a post and a raise
+pub no_operands : (word : List ℕ) (words : List (List ℕ)) → number_of word ≡ None
+    → operands_of (word ∷ words) ≡ None
+no_operands word [] none = refl
+no_operands word (rendez ∷ []) none = refl
+no_operands word (rendez ∷ level ∷ []) none = rw none refl
+no_operands word (rendez ∷ level ∷ next ∷ words) none = refl
+
+pub no_rendez : (pid word : List ℕ) (words : List (List ℕ)) → number_of word ≡ None
+    → operands_of (pid ∷ word ∷ words) ≡ None
+no_rendez pid word [] none = refl
+no_rendez pid word (level ∷ []) none = by_pid (number_of pid) refl
+  where
+    by_pid : (n : Option ℕ) → number_of pid ≡ n → operands_of (pid ∷ word ∷ level ∷ []) ≡ None
+    by_pid None is = rw is refl
+    by_pid (Some n) is = rw (is, none) refl
+no_rendez pid word (level ∷ next ∷ words) none = refl
+
+pub no_level : (pid rendez word : List ℕ) → number_of word ≡ None
+    → operands_of (pid ∷ rendez ∷ word ∷ []) ≡ None
+no_level pid rendez word none = by_both (number_of pid) refl (number_of rendez) refl
+  where
+    by_both : (n : Option ℕ) → number_of pid ≡ n → (m : Option ℕ) → number_of rendez ≡ m
+        → operands_of (pid ∷ rendez ∷ word ∷ []) ≡ None
+    by_both None n_is m m_is = rw n_is refl
+    by_both (Some n) n_is None m_is = rw (n_is, m_is) refl
+    by_both (Some n) n_is (Some m) m_is = rw (n_is, m_is, none) refl
+
+-- and a number and kinds of a note
+pub no_note_pid : (word : List ℕ) (words : List (List ℕ)) → number_of word ≡ None
+    → note_of (word ∷ words) ≡ None
+no_note_pid word [] none = refl
+no_note_pid word (kinds ∷ []) none = rw none refl
+no_note_pid word (kinds ∷ next ∷ words) none = refl
+
+pub no_note_kinds : (pid kinds : List ℕ) → kinds_of kinds ≡ None → note_of (pid ∷ kinds ∷ []) ≡ None
+no_note_kinds pid kinds none = by_pid (number_of pid) refl
+  where
+    by_pid : (n : Option ℕ) → number_of pid ≡ n → note_of (pid ∷ kinds ∷ []) ≡ None
+    by_pid None is = rw is refl
+    by_pid (Some n) is = rw (is, none) refl
+
+-- where no process follows a verb that one alone follows, it asks for nothing
+pub no_pid_asked : (v : Verb) (mid : List ℕ) → TakesPid v → BeginsWithNoNumber LINE_FEED mid
+    → NoLineAsks (event_with v) mid
+no_pid_asked v mid takes never =
+    none_before_line_feed (event_with v) mid never (λ word none. wrong v word none takes)
+    (λ word next words. long v word next words takes)
+  where
+    wrong : (v : Verb) (word : List ℕ) → number_of word ≡ None → TakesPid v
+        → event_with v (word ∷ []) ≡ None
+    wrong verb.Post word none takes = absurd takes
+    wrong verb.Raise word none takes = absurd takes
+    wrong verb.Note word none takes = absurd takes
+    wrong verb.Test word none takes = rw none refl
+    wrong verb.Look word none takes = rw none refl
+    wrong verb.Withdraw word none takes = rw none refl
+    wrong verb.Clear word none takes = rw none refl
+    wrong verb.Take word none takes = rw none refl
+    wrong verb.Mark word none takes = rw none refl
+    wrong verb.Drain word none takes = rw none refl
+    wrong verb.Check word none takes = rw none refl
+
+    long : (v : Verb) (word next : List ℕ) (words : List (List ℕ)) → TakesPid v
+        → event_with v (word ∷ next ∷ words) ≡ None
+    long verb.Post word next words takes = absurd takes
+    long verb.Raise word next words takes = absurd takes
+    long verb.Note word next words takes = absurd takes
+    long verb.Test word next words takes = refl
+    long verb.Look word next words takes = refl
+    long verb.Withdraw word next words takes = refl
+    long verb.Clear word next words takes = refl
+    long verb.Take word next words takes = refl
+    long verb.Mark word next words takes = refl
+    long verb.Drain word next words takes = refl
+    long verb.Check word next words takes = refl

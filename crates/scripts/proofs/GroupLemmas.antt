@@ -1,10 +1,9 @@
 -- Notes to a group: they are posted while the list of processes is walked, which is one that rises.
-use Rattle.std.proofs.Common.{◌≡◌, ◌<◌, ℕ, Bool, true, false, List, [], ◌∷◌, ◌++◌, length, codes}
+use Rattle.std.proofs.Common.{◌≡◌, ◌≤◌, ◌<◌, ℕ, Bool, true, false, List, [], ◌∷◌, ◌++◌, length, codes}
 use Rattle.std.proofs.Common.{Option, None, Some, Bor, refl, ap, sym, ◌∙◌, append_assoc, arith}
-use Rattle.std.specs.List.{list_all}
-use Rattle.std.specs.Char.{is_ascii_digit}
 use Rattle.std.specs.Option.{is_some}
 use Rattle.std.proofs.lemmas.List.{append-nil}
+use Rattle.std.proofs.lemmas.Bool.Decides.{nat_tests}
 use Rattle.std.proofs.lemmas.Slice.Eq.{bytes_eq-Decides}
 use Rattle.sync_base.specs.declared.note.NoteSet.{NoteSet}
 use Rattle.sleep_core.specs.declared.event.Event.{Event}
@@ -15,17 +14,17 @@ use Rattle.sleep_core.specs.Runs.{world_after_all}
 use Rattle.scripts.specs.declared.group_line.GroupNote.{GroupNote}
 use Rattle.scripts.specs.declared.group_line.PidList.{PidList}
 use Rattle.scripts.specs.declared.lines.TheConstants.{COMMA, LINE_FEED, SPACE}
-use Rattle.scripts.specs.Lines.{is_comma, is_space, is_word, number_of, onto_first, parts_behind}
-use Rattle.scripts.specs.Lines.{parts_of, words_of}
+use Rattle.scripts.specs.Lines.{is_comma, is_word, number_of, parts_behind, parts_of, words_of}
+use Rattle.scripts.specs.Lines.{FirstIsNoNumber, FirstNumber, NoLineAsks}
 use Rattle.scripts.specs.EventText.{event_text}
 use Rattle.scripts.specs.Script.{growth}
 use Rattle.scripts.specs.ScriptLaws.{lines_text}
-use Rattle.scripts.specs.Schedule.{answer_lines, answered, event_of, group_of, is_above}
+use Rattle.scripts.specs.Schedule.{answer_lines, answered, event_of, events_of, group_of, is_above}
 use Rattle.scripts.specs.Schedule.{joined_lines, kinds_of, notes_to, pids_of, rising_behind}
 use Rattle.scripts.specs.Schedule.{schedule_language}
 use Rattle.scripts.specs.GroupNote.{AskGroup, AskPids, PostsEach, listed}
-use Rattle.scripts.proofs.LineLemmas.{parts_of-front, parts_of-part, parts_of-plain, parts_of-some}
-use Rattle.scripts.proofs.OnePassLemmas.{IsWord, digits_are_word, digits_no_comma}
+use Rattle.scripts.proofs.OnePassLemmas.{IsWord, none_of_words}
+use Rattle.scripts.proofs.PartLemmas.{TailHas, parted}
 
 -- So many of the notes were posted: they and those to the processes in these words are all.
 pub record Posting (notes : NoteSet) (pids : List ℕ) (world now : State) (old new : List ℕ)
@@ -181,18 +180,6 @@ pub group_answered : (s : State) (line : List ℕ) (words : List (List ℕ)) (ev
     → schedule_language.answer_to s line ≡ Some (answered s events)
 group_answered s line words events is ask = rw (is, group_is_no_event words events ask, ask) refl
 
--- a word too many is in no line of a group
-group_of-more : (verb pids kinds : List ℕ) (words : List (List ℕ)) → 0 < length words
-    → group_of (verb ∷ pids ∷ kinds ∷ words) ≡ None
-group_of-more verb pids kinds [] some = absurd (omega arith)
-group_of-more verb pids kinds (word ∷ words) some = refl
-
--- a group with its kinds and a word behind them is no group
-pub group_of-long : (verb pids kinds rest : List ℕ)
-    → group_of (verb ∷ pids ∷ kinds ∷ words_of rest) ≡ None
-group_of-long verb pids kinds rest =
-    group_of-more verb pids kinds (words_of rest) (parts_of-some is_space rest)
-
 -- a word whose first part is a number, with others behind it that rise above it, is a list
 pub list_rises : (first : ℕ) (others : Option (Bor (List ℕ))) (word part : List ℕ)
     → parts_of is_comma word ≡ part ∷ parts_behind is_comma others → number_of part ≡ Some first
@@ -237,34 +224,83 @@ group_asked words pids kinds group are asked is =
 pub group_is_word : IsWord (codes "notepg")
 group_is_word = record { no_space = refl; no_line_feed = refl }
 
--- a list of one, before a space
-pub one_before_space : (line word rest : List ℕ) (first : ℕ) → line ≡ word ++ SPACE ∷ rest
-    → list_all is_ascii_digit word ≡ true → number_of word ≡ Some first
-    → (w : List ℕ) × (words_of line ≡ w ∷ words_of rest)
-    × AskPids w (record { first = first; others = None })
-one_before_space line word rest first split digits is = (
-  word,
-  ap words_of split
-      ∙ parts_of-part is_space word SPACE rest (digits_are_word word digits).no_space refl,
-  list_rises first None word word (parts_of-plain is_comma word (digits_no_comma word digits)) is
-      refl,
-)
+-- numbers do not rise where the first part is none
+pub none_behind : (before : ℕ) (list : List ℕ) → FirstIsNoNumber list
+    → is_some (rising_behind (Some before) (parts_of is_comma list)) ≡ false
+none_behind before list never =
+    let first = parted COMMA list in
+    let none = never first.word first.others first.parts in
+    rw (first.parts, none) refl
 
--- a list of several: the first, and the others in the word behind the comma
-pub several_before_space : (line word behind others rest : List ℕ) (first : ℕ)
-    (list : Option (Bor (List ℕ))) → line ≡ word ++ COMMA ∷ behind
-    → list_all is_ascii_digit word ≡ true → number_of word ≡ Some first
-    → words_of behind ≡ others ∷ words_of rest
-    → parts_behind is_comma list ≡ parts_of is_comma others
-    → is_some (rising_behind (Some first) (parts_behind is_comma list)) ≡ true
-    → (w : List ℕ) × (words_of line ≡ w ∷ words_of rest)
-    × AskPids w (record { first = first; others = list })
-several_before_space line word behind others rest first list split digits is are same rise = (
-  word ++ COMMA ∷ others,
-  ap words_of split
-      ∙ parts_of-front is_space word (COMMA ∷ behind) (COMMA ∷ others) (words_of rest)
-      (digits_are_word word digits).no_space (ap (onto_first COMMA) are),
-  list_rises first list (word ++ COMMA ∷ others) word
-      (parts_of-part is_comma word COMMA others (digits_no_comma word digits) refl
-      ∙ ap (λ (ps : List (List ℕ)). word ∷ ps) (sym same)) is rise,
-)
+-- or is not above the one before it
+pub falls_behind : (before : ℕ) (list : List ℕ) (n : ℕ) (rest : Option (Bor (List ℕ)))
+    → FirstNumber list n rest → n ≤ before
+    → is_some (rising_behind (Some before) (parts_of is_comma list)) ≡ false
+falls_behind before list n rest first low =
+    let not_above : is_above (Some before) n ≡ false = grind (arith, nat_tests) in
+    rw (first.parts, first.spells, not_above) refl
+
+-- words that begin with another are no group
+other_word : (word : List ℕ) (others : List (List ℕ)) → is_word word (codes "notepg") ≡ false
+    → group_of (word ∷ others) ≡ None
+other_word word [] other = refl
+other_word word (pids ∷ []) other = refl
+other_word word (pids ∷ kinds ∷ []) other = rw other refl
+other_word word (pids ∷ kinds ∷ next ∷ others) other = refl
+
+-- a text asks for a group only where it begins with its word and a space
+pub no_word_asks_none : (text : List ℕ)
+    → ((rest : List ℕ) → ¬ (text ≡ codes "notepg" ++ SPACE ∷ rest)) → NoLineAsks group_of text
+no_word_asks_none text never words rest begins fits =
+    let first = parted SPACE begins.line in
+    ap group_of (sym (sym first.parts ∙ begins.words_are))
+    ∙ by_word first.word first.tail first.others first.behind
+    (begins.split ∙ ap (λ (l : List ℕ). l ++ LINE_FEED ∷ rest) first.split)
+    (is_word first.word (codes "notepg")) refl
+  where
+    by_tail : (word tail : List ℕ) (others : List (List ℕ)) → TailHas SPACE tail others
+        → text ≡ (word ++ tail) ++ LINE_FEED ∷ rest → word ≡ codes "notepg"
+        → group_of (word ∷ others) ≡ None
+    by_tail word [] [] behind split is = refl
+    by_tail word [] (next ∷ others) behind split is = absurd behind
+    by_tail word (b ∷ tail) others behind split is =
+        absurd (never (tail ++ LINE_FEED ∷ rest)
+        (split ∙ (append_assoc word (b ∷ tail) (LINE_FEED ∷ rest)
+        ∙ (ap (λ b. word ++ b ∷ (tail ++ LINE_FEED ∷ rest)) behind.0
+        ∙ ap (λ (w : List ℕ). w ++ SPACE ∷ (tail ++ LINE_FEED ∷ rest)) is))))
+
+    by_word : (word tail : List ℕ) (others : List (List ℕ)) → TailHas SPACE tail others
+        → text ≡ (word ++ tail) ++ LINE_FEED ∷ rest → (v : Bool)
+        → is_word word (codes "notepg") ≡ v → group_of (word ∷ others) ≡ None
+    by_word word tail others behind split true is =
+        by_tail word tail others behind split ((bytes_eq-Decides word (codes "notepg")).0 is)
+    by_word word tail others behind split false other = other_word word others other
+
+-- a list that is none, or kinds that are none, ask for no group
+pub no_pids : (pids kinds : List ℕ) → pids_of pids ≡ None
+    → group_of (codes "notepg" ∷ pids ∷ words_of kinds) ≡ None
+no_pids pids kinds none =
+    none_of_words (λ words. group_of (codes "notepg" ∷ pids ∷ words)) kinds (rw none refl)
+    (λ word next words. refl)
+
+pub no_kinds : (pids kinds : List ℕ) → kinds_of kinds ≡ None
+    → group_of (codes "notepg" ∷ pids ∷ words_of kinds) ≡ None
+no_kinds pids kinds none =
+    none_of_words (λ words. group_of (codes "notepg" ∷ pids ∷ words)) kinds
+    (by_pids (pids_of pids) refl) (λ word next words. refl)
+  where
+    by_pids : (p : Option (List ℕ)) → pids_of pids ≡ p
+        → group_of (codes "notepg" ∷ pids ∷ kinds ∷ []) ≡ None
+    by_pids None is = rw is refl
+    by_pids (Some some) is = rw (is, none) refl
+
+-- a text that asks for neither an event nor a group asks for no events
+pub no_events_asked : (text : List ℕ) → NoLineAsks event_of text → NoLineAsks group_of text
+    → NoLineAsks events_of text
+no_events_asked text no_event no_group words rest begins fits =
+    rw (no_event words rest begins fits, no_group words rest begins fits) refl
+
+-- and a line that asks for none is not answered
+pub none_answered : (s : State) (line : List ℕ) → events_of (words_of line) ≡ None
+    → schedule_language.answer_to s line ≡ None
+none_answered s line none = rw none refl

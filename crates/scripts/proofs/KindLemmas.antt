@@ -1,7 +1,7 @@
 -- What spells kinds of notes is one word: no kind has a space in it, and a comma is none.
-use Rattle.std.proofs.Common.{◌≡◌, ◌&&◌, ℕ, Bool, true, false, not, List, [], ◌∷◌, length}
-use Rattle.std.proofs.Common.{if◌then◌else◌, codes, Option, None, Some, option_and_then, refl, ap}
-use Rattle.std.proofs.Common.{◌∙◌, arith}
+use Rattle.std.proofs.Common.{◌≡◌, ◌&&◌, ℕ, Bool, true, false, not, List, [], ◌∷◌, ◌++◌, length}
+use Rattle.std.proofs.Common.{if◌then◌else◌, codes, Option, None, Some, option_and_then, Bor, refl}
+use Rattle.std.proofs.Common.{ap, sym, ◌∙◌, append-nil, length-append, arith}
 use Rattle.std.specs.List.{list_all}
 use Rattle.std.proofs.lemmas.Bool.Decides.{nat_tests}
 use Rattle.std.proofs.lemmas.Slice.Eq.{bytes_eq-Decides}
@@ -10,44 +10,121 @@ use Rattle.sync_base.specs.declared.note.Note.TheVariants.{Interrupt, Hangup, Al
 use Rattle.sync_base.specs.declared.note.Note.TheVariants.{Expired}
 use Rattle.sync_base.specs.declared.note.NoteSet.{NoteSet}
 use Rattle.sync_base.specs.NoteSet.{no_notes}
-use Rattle.scripts.specs.Lines.{is_comma, is_space, is_word, onto_first, parts_of, words_of}
-use Rattle.scripts.specs.Schedule.{kind_added, kinds_of, note_named, with_kinds}
-use Rattle.scripts.proofs.LineLemmas.{parts_of-plain, parts_of-some}
+use Rattle.scripts.specs.declared.lines.TheConstants.{COMMA}
+use Rattle.scripts.specs.EventText.{kind_text}
+use Rattle.scripts.specs.Lines.{is_comma, is_space, is_word, onto_first, parts_behind, parts_of}
+use Rattle.scripts.specs.Lines.{words_of}
+use Rattle.scripts.specs.Schedule.{IsFirst, IsNotFirst, kind_added, kinds_of, note_named}
+use Rattle.scripts.specs.Schedule.{with_kinds}
+use Rattle.scripts.proofs.LineLemmas.{parts_of-part, parts_of-plain, parts_of-some}
+use Rattle.scripts.proofs.NumberLemmas.{same_behind}
+use Rattle.scripts.proofs.OnePassLemmas.{read_as}
+use Rattle.scripts.proofs.PartLemmas.{TailHas, parted}
 
 -- no byte of the word is a space
 abbrev pub has_no_space : List ℕ → Bool
 has_no_space word = list_all (λ b. not (is_space b)) word
+
+-- a word that another byte than a comma follows is not the first part of a list
+pub other_behind : (word list : List ℕ) (byte : ℕ) (behind : List ℕ)
+    → list ≡ word ++ byte ∷ behind → ¬ (byte ≡ COMMA) → IsNotFirst word list
+other_behind word list byte behind split differs =
+    record {
+      not_alone = λ is.
+          let long = ap length (sym is ∙ split) ∙ length-append word (byte ∷ behind) in
+          omega (arith, long);
+      not_before = λ rest is.
+          let same = same_behind word (byte ∷ behind) (COMMA ∷ rest) (sym split ∙ is) in
+          differs (cc);
+    }
 
 -- a word has no space where the word that it is has none
 same_word : (word other : List ℕ) → is_word word other ≡ true → has_no_space other ≡ true
     → has_no_space word ≡ true
 same_word word other is plain = rw ((bytes_eq-Decides word other).0 is) plain
 
+-- a word that is read as a kind is the kind's
+kind_is : (word : List ℕ) (note : Note) → note_named word ≡ Some note → word ≡ kind_text note
+kind_is word note is =
+    read_as kind_text word (codes "interrupt") Interrupt note _ is refl
+    (λ is. read_as kind_text word (codes "hangup") Hangup note _ is refl
+    (λ is. read_as kind_text word (codes "alarm") Alarm note _ is refl
+    (λ is. read_as kind_text word (codes "closed") ClosedPipe note _ is refl
+    (λ is. read_as kind_text word (codes "expired") Expired note _ is refl
+    (λ is. absurd (cc))))))
+
+-- and the kind's is read as it
+kind_is_read : (note : Note) → note_named (kind_text note) ≡ Some note
+kind_is_read Interrupt = refl
+kind_is_read Hangup = refl
+kind_is_read Alarm = refl
+kind_is_read ClosedPipe = refl
+kind_is_read Expired = refl
+
+-- it has no space in it, and no comma
+kind_has_no_space : (note : Note) → has_no_space (kind_text note) ≡ true
+kind_has_no_space Interrupt = refl
+kind_has_no_space Hangup = refl
+kind_has_no_space Alarm = refl
+kind_has_no_space ClosedPipe = refl
+kind_has_no_space Expired = refl
+
+kind_has_no_comma : (note : Note) → list_all (λ b. not (is_comma b)) (kind_text note) ≡ true
+kind_has_no_comma Interrupt = refl
+kind_has_no_comma Hangup = refl
+kind_has_no_comma Alarm = refl
+kind_has_no_comma ClosedPipe = refl
+kind_has_no_comma Expired = refl
+
 -- the word of a kind has no space
 kind_has_none : (word : List ℕ) (note : Note) → note_named word ≡ Some note
     → has_no_space word ≡ true
-kind_has_none word note is =
-    by_word (is_word word (codes "interrupt")) (is_word word (codes "hangup"))
-    (is_word word (codes "alarm")) (is_word word (codes "closed"))
-    (is_word word (codes "expired")) refl refl refl refl refl is
+kind_has_none word note is = rw (kind_is word note is) (kind_has_no_space note)
+
+-- a list that begins with a kind has it first, and then those behind the comma
+kind_comes_first : (list : List ℕ) (note : Note) (rest : Option (Bor (List ℕ)))
+    → IsFirst (kind_text note) list rest
+    → parts_of is_comma list ≡ kind_text note ∷ parts_behind is_comma rest
+kind_comes_first list note None begins =
+    ap (parts_of is_comma) begins ∙ parts_of-plain is_comma (kind_text note) (kind_has_no_comma note)
+kind_comes_first list note (Some rest) begins =
+    ap (parts_of is_comma) begins
+    ∙ parts_of-part is_comma (kind_text note) COMMA rest.now (kind_has_no_comma note) refl
+
+-- so the kinds of the list are that one and the others
+pub kinds_begin : (set : NoteSet) (list : List ℕ) (note : Note) (rest : Option (Bor (List ℕ)))
+    → IsFirst (kind_text note) list rest
+    → with_kinds set (parts_of is_comma list)
+    ≡ option_and_then (λ more. with_kinds more (parts_behind is_comma rest)) (kind_added set note)
+kinds_begin set list note rest begins =
+    ap (with_kinds set) (kind_comes_first list note rest begins)
+    ∙ ap (option_and_then (λ (note : Note).
+    option_and_then (λ more. with_kinds more (parts_behind is_comma rest)) (kind_added set note)))
+    (kind_is_read note)
+
+-- and one that begins with none has none
+pub kinds_are_none : (set : NoteSet) (list : List ℕ)
+    → ((note : Note) → IsNotFirst (kind_text note) list)
+    → with_kinds set (parts_of is_comma list) ≡ None
+kinds_are_none set list never =
+    let first = parted COMMA list in
+    ap (with_kinds set) first.parts
+    ∙ by_kind first.word first.tail first.others first.behind first.split
+    (note_named first.word) refl
   where
-    by_word : (i h a c e : Bool) → is_word word (codes "interrupt") ≡ i
-        → is_word word (codes "hangup") ≡ h → is_word word (codes "alarm") ≡ a
-        → is_word word (codes "closed") ≡ c → is_word word (codes "expired") ≡ e
-        → (if i then Some Interrupt else if h then Some Hangup else if a then Some Alarm
-        else if c then Some ClosedPipe else if e then Some Expired else None) ≡ Some note
-        → has_no_space word ≡ true
-    by_word true h a c e i_is h_is a_is c_is e_is is =
-        same_word word (codes "interrupt") i_is refl
-    by_word false true a c e i_is h_is a_is c_is e_is is =
-        same_word word (codes "hangup") h_is refl
-    by_word false false true c e i_is h_is a_is c_is e_is is =
-        same_word word (codes "alarm") a_is refl
-    by_word false false false true e i_is h_is a_is c_is e_is is =
-        same_word word (codes "closed") c_is refl
-    by_word false false false false true i_is h_is a_is c_is e_is is =
-        same_word word (codes "expired") e_is refl
-    by_word false false false false false i_is h_is a_is c_is e_is is = absurd (cc)
+    by_tail : (note : Note) (tail : List ℕ) (others : List (List ℕ)) → TailHas COMMA tail others
+        → list ≡ kind_text note ++ tail → ⊥
+    by_tail note [] others behind split = (never note).not_alone (split ∙ append-nil (kind_text note))
+    by_tail note (b ∷ tail) others behind split =
+        (never note).not_before tail (split ∙ ap (λ b. kind_text note ++ b ∷ tail) behind.0)
+
+    by_kind : (word tail : List ℕ) (others : List (List ℕ)) → TailHas COMMA tail others
+        → list ≡ word ++ tail → (kind : Option Note) → note_named word ≡ kind
+        → with_kinds set (word ∷ others) ≡ None
+    by_kind word tail others behind split None none = rw none refl
+    by_kind word tail others behind split (Some note) some =
+        absurd (by_tail note tail others behind
+        (split ∙ ap (λ (w : List ℕ). w ++ tail) (kind_is word note some)))
 
 -- nor have those of several
 kinds_have_none : (set : NoteSet) (words : List (List ℕ)) (all : NoteSet)

@@ -7,6 +7,7 @@ mod KindLemmas
 mod LineLemmas
 mod NumberLemmas
 mod OnePassLemmas
+mod PartLemmas
 mod PipeLineLemmas
 mod PlaceLemmas
 mod ReadBackLemmas

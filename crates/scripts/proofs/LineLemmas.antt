@@ -143,13 +143,3 @@ parts_of-plain p [] plain = refl
 parts_of-plain p (x ∷ bs) plain =
     ap (λ v. cond v ([] ∷ parts_of p bs) (onto_first x (parts_of p bs))) (plain_first p x bs plain)
     ∙ ap (onto_first x) (parts_of-plain p bs (plain_rest p x bs plain))
-
--- bytes that part nothing belong to the first part
-pub parts_of-front : (p : ℕ → Bool) (front rest part : List ℕ) (parts : List (List ℕ))
-    → list_all (λ b. not (p b)) front ≡ true → parts_of p rest ≡ part ∷ parts
-    → parts_of p (front ++ rest) ≡ (front ++ part) ∷ parts
-parts_of-front p [] rest part parts plain is = is
-parts_of-front p (x ∷ front) rest part parts plain is =
-    ap (λ v. cond v ([] ∷ parts_of p (front ++ rest)) (onto_first x (parts_of p (front ++ rest))))
-    (plain_first p x front plain)
-    ∙ ap (onto_first x) (parts_of-front p front rest part parts (plain_rest p x front plain) is)

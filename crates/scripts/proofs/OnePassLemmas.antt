@@ -1,20 +1,27 @@
--- Lines that are read in one pass: words that are found one after the other make a line.
-use Rattle.std.proofs.Common.{◌≡◌, ℕ, suc, ◌+◌, ◌&&◌, Bool, true, false, not, List, [], ◌∷◌, ◌++◌}
-use Rattle.std.proofs.Common.{length, take, Some, None, Bor, refl, ap, sym, subst, ◌∙◌}
-use Rattle.std.proofs.Common.{append_assoc, arith, length-append}
+-- Lines that are read in one pass: words that are found one after the other make a line, and where
+-- one of them is not found no line makes them.
+use Rattle.std.proofs.Common.{◌≡◌, ◌≤◌, ℕ, suc, ◌+◌, ◌&&◌, Bool, true, false, not, List, [], ◌∷◌}
+use Rattle.std.proofs.Common.{◌++◌, length, take, Option, Some, None, Bor, refl, ap, sym, subst, ◌∙◌}
+use Rattle.std.proofs.Common.{append_assoc, append-nil, ◌<◌, if◌then◌else◌, arith, length-append}
+use Rattle.std.proofs.Common.{MatchOption, Result, Ok, Err, IfOk}
 use Rattle.std.specs.List.{list_all}
 use Rattle.std.proofs.Math.Seq.{take-length}
 use Rattle.std.specs.Char.{is_ascii_digit}
 use Rattle.std.proofs.lemmas.List.Folds.{list_all-append}
 use Rattle.std.proofs.lemmas.Bool.Decides.{nat_tests}
+use Rattle.std.proofs.lemmas.Slice.Eq.{bytes_eq-Decides}
 use Rattle.scripts.specs.declared.lines.TheConstants.{COMMA, LINE_FEED, SPACE}
-use Rattle.scripts.specs.Lines.{is_comma, is_line_feed, is_space, parts_of, all_but_last, last_of}
-use Rattle.scripts.specs.Lines.{lines_of, cut_line_of, words_of, BeginsWithNumber, BeginsWithLine}
-use Rattle.scripts.specs.Lines.{FirstNumber, LeadingNumber}
+use Rattle.scripts.specs.declared.script.TheConstants.{MAX_LINE}
+use Rattle.scripts.specs.Lines.{is_comma, is_line_feed, is_space, is_word, parts_of, all_but_last}
+use Rattle.scripts.specs.Lines.{last_of, lines_of, cut_line_of, words_of, BeginsWithNumber}
+use Rattle.scripts.specs.Lines.{BeginsWithLine}
+use Rattle.scripts.specs.Lines.{BeginsWithNoNumber, FirstNumber, LineAsks, NoLineAsks, number_of}
 use Rattle.scripts.specs.ScriptLaws.{lines_text}
 use Rattle.scripts.proofs.TextLemmas.{IsPlain, ArePlain, plain_lines, lines_text-lines}
 use Rattle.scripts.proofs.LineLemmas.{parts_of-part, parts_of-plain, parts_of-some}
 use Rattle.scripts.proofs.LineLemmas.{all_but_last-cons, last_of-cons}
+use Rattle.scripts.proofs.NumberLemmas.{number_digits}
+use Rattle.scripts.proofs.PartLemmas.{TailHas, first_passes, parted, second_passes}
 
 -- what has neither a space nor a line feed in it
 pub record IsWord (word : List ℕ) : Type 0 where
@@ -53,28 +60,33 @@ pub digits_no_comma : (word : List ℕ) → list_all is_ascii_digit word ≡ tru
 digits_no_comma word digits =
     passes_too is_ascii_digit (λ b. not (is_comma b)) (λ b is. grind (arith, nat_tests)) word digits
 
+-- so does what spells a number
+pub number_is_word : (word : List ℕ) (n : ℕ) → number_of word ≡ Some n → IsWord word
+number_is_word word n is = digits_are_word word (number_digits word n is)
+
 -- a number that is all of a list
-pub first_number_all : (list : List ℕ) (n count : ℕ) → LeadingNumber list n count
-    → count ≡ length list → FirstNumber list (Some n) None
-first_number_all list n count lead all =
+pub first_number_all : (list : List ℕ) (n count : ℕ) → number_of (take count list) ≡ Some n
+    → count ≡ length list → FirstNumber list n None
+first_number_all list n count spells all =
     let whole : take count list ≡ list = ap (λ m. take m list) all ∙ take-length list in
+    let is : number_of list ≡ Some n = rw whole at spells in
     record {
       word = list;
-      parts = parts_of-plain is_comma list (digits_no_comma list (rw whole at lead.digits));
-      spells = sym (rw whole at lead.spells);
+      parts = parts_of-plain is_comma list (digits_no_comma list (number_digits list n is));
+      spells = is;
     }
 
 -- a number before a comma
 pub first_number_before : (list : List ℕ) (n count : ℕ) (rest : Bor (List ℕ))
-    → LeadingNumber list n count → list ≡ take count list ++ COMMA ∷ rest.now
-    → FirstNumber list (Some n) (Some rest)
-first_number_before list n count rest lead split =
+    → number_of (take count list) ≡ Some n → list ≡ take count list ++ COMMA ∷ rest.now
+    → FirstNumber list n (Some rest)
+first_number_before list n count rest spells split =
     record {
       word = take count list;
       parts = ap (parts_of is_comma) split
           ∙ parts_of-part is_comma (take count list) COMMA rest.now
-          (digits_no_comma (take count list) lead.digits) refl;
-      spells = sym lead.spells;
+          (digits_no_comma (take count list) (number_digits (take count list) n spells)) refl;
+      spells = spells;
     }
 
 -- a word that a line feed follows is a line
@@ -131,7 +143,7 @@ pub ends_line : (text : List ℕ) (n : ℕ) (rest : List ℕ)
     → BeginsWithLine text (begins.word ∷ []) rest
 ends_line text n rest begins =
     subst (λ (t : List ℕ). BeginsWithLine t (begins.word ∷ []) rest) (sym begins.split)
-    (line_of_word begins.word rest (digits_are_word begins.word begins.digits))
+    (line_of_word begins.word rest (number_is_word begins.word n begins.spells))
 
 -- a number before others
 pub behind_number : (text : List ℕ) (n : ℕ) (mid : List ℕ) (words : List (List ℕ))
@@ -139,7 +151,7 @@ pub behind_number : (text : List ℕ) (n : ℕ) (mid : List ℕ) (words : List (
     → BeginsWithLine text (begins.word ∷ words) rest
 behind_number text n mid words rest begins line =
     subst (λ (t : List ℕ). BeginsWithLine t (begins.word ∷ words) rest) (sym begins.split)
-    (line_behind_word begins.word mid words rest (digits_are_word begins.word begins.digits) line)
+    (line_behind_word begins.word mid words rest (number_is_word begins.word n begins.spells) line)
 
 -- no line feed stands in a line
 plain_line : (line : List ℕ) → IsPlain line → list_all (λ b. not (is_line_feed b)) line ≡ true
@@ -163,3 +175,220 @@ line_begins text line rest is cut =
       plain = plain_line line all_plain.0;
       words_are = refl;
     }
+
+-- a text with no line asks for nothing
+pub no_line : {A : Type 0} (asked : List (List ℕ) → Option A) (text : List ℕ) → lines_of text ≡ []
+    → NoLineAsks asked text
+no_line asked text none words rest begins fits =
+    let is = (begins_lines text words rest begins).0 in
+    let both : [] ≡ begins.line ∷ lines_of rest = sym none ∙ is in
+    let long = ap (λ (ls : List (List ℕ)). length ls) both in
+    absurd (omega (arith, long))
+
+-- nor does one whose lines ask for nothing by a weaker reading
+pub no_line_of : {A B : Type 0} (inner : List (List ℕ) → Option B)
+    (outer : List (List ℕ) → Option A) (text : List ℕ)
+    → ((words : List (List ℕ)) → inner words ≡ None → outer words ≡ None)
+    → NoLineAsks inner text → NoLineAsks outer text
+no_line_of inner outer text each none words rest begins fits =
+    each words (none words rest begins fits)
+
+-- a line that begins as the text does goes on as the text does
+record GoesOnBehind (word mid line rest : List ℕ) : Type 0 where
+  -- what the line has behind the word and the space
+  pub after : List ℕ
+  -- they are the line
+  pub line_is : line ≡ word ++ SPACE ∷ after
+  -- and what the text has there begins with it
+  pub mid_is : mid ≡ after ++ LINE_FEED ∷ rest
+
+line_goes_on : (word mid line rest : List ℕ)
+    → list_all (λ b. not (is_line_feed b)) word ≡ true
+    → word ++ SPACE ∷ mid ≡ line ++ LINE_FEED ∷ rest → GoesOnBehind word mid line rest
+line_goes_on [] mid [] rest plain same = let bad : SPACE ≡ LINE_FEED = cc in absurd (omega (arith, bad))
+line_goes_on [] mid (b ∷ line) rest plain same =
+    let first : b ≡ SPACE = cc in
+    let behind : mid ≡ line ++ LINE_FEED ∷ rest = cc in
+    record {
+      after = line;
+      line_is = ap (λ b. b ∷ line) first;
+      mid_is = behind;
+    }
+line_goes_on (w ∷ word) mid [] rest plain same =
+    let first : w ≡ LINE_FEED = cc in
+    let is : not (is_line_feed w) ≡ true =
+    first_passes _ (list_all (λ b. not (is_line_feed b)) word) plain in
+    absurd (grind (arith, nat_tests))
+line_goes_on (w ∷ word) mid (b ∷ line) rest plain same =
+    let first : b ≡ w = cc in
+    let behind : word ++ SPACE ∷ mid ≡ line ++ LINE_FEED ∷ rest = cc in
+    let more = line_goes_on word mid line rest (second_passes (not (is_line_feed w)) _ plain) behind
+    in
+    record {
+      after = more.after;
+      line_is = ap (λ b. b ∷ line) first ∙ ap (λ (t : List ℕ). w ∷ t) more.line_is;
+      mid_is = more.mid_is;
+    }
+
+-- no line feed stands behind a word of a line
+plain_behind : (word after : List ℕ)
+    → list_all (λ b. not (is_line_feed b)) (word ++ SPACE ∷ after) ≡ true
+    → list_all (λ b. not (is_line_feed b)) after ≡ true
+plain_behind [] after plain = plain
+plain_behind (w ∷ word) after plain =
+    plain_behind word after (second_passes (not (is_line_feed w)) _ plain)
+
+-- behind a word a text asks for nothing where no line behind it completes the word
+pub none_behind_word : {A : Type 0} (asked : List (List ℕ) → Option A) (text word mid : List ℕ)
+    → text ≡ word ++ SPACE ∷ mid → IsWord word → NoLineAsks (λ words. asked (word ∷ words)) mid
+    → NoLineAsks asked text
+none_behind_word asked text word mid split is none words rest begins fits =
+    let goes = line_goes_on word mid begins.line rest is.no_line_feed (sym split ∙ begins.split) in
+    let words_are : word ∷ words_of goes.after ≡ words =
+    sym (parts_of-part is_space word SPACE goes.after is.no_space refl)
+    ∙ (ap words_of (sym goes.line_is) ∙ begins.words_are) in
+    let long = ap length goes.line_is ∙ length-append word (SPACE ∷ goes.after) in
+    ap asked (sym words_are) ∙ none (words_of goes.after) rest
+    (record {
+      line = goes.after;
+      split = goes.mid_is;
+      plain = plain_behind word goes.after (rw goes.line_is at begins.plain);
+      words_are = refl;
+    }) (omega (arith, long, fits))
+
+-- the same behind a word that spells a number
+pub none_behind_number : {A : Type 0} (asked : List (List ℕ) → Option A) (text : List ℕ) (n : ℕ)
+    (mid : List ℕ) (begins : BeginsWithNumber SPACE text n mid)
+    → NoLineAsks (λ words. asked (begins.word ∷ words)) mid → NoLineAsks asked text
+none_behind_number asked text n mid begins none =
+    none_behind_word asked text begins.word mid begins.split
+    (number_is_word begins.word n begins.spells) none
+
+-- what is none by each number is none
+by_number : {A : Type 0} (word : List ℕ) (o : Option A) → (number_of word ≡ None → o ≡ None)
+    → ((n : ℕ) → ¬ (number_of word ≡ Some n)) → o ≡ None
+by_number word o each never = by_value (number_of word) refl
+  where
+    by_value : (v : Option ℕ) → number_of word ≡ v → o ≡ None
+    by_value None none = each none
+    by_value (Some n) some = absurd (never n some)
+
+-- where no number stands before a space, a text asks for nothing that wants one and more words
+pub none_before_space : {A : Type 0} (asked : List (List ℕ) → Option A) (text : List ℕ)
+    → BeginsWithNoNumber SPACE text → ((word : List ℕ) → asked (word ∷ []) ≡ None)
+    → ((word : List ℕ) (words : List (List ℕ)) → number_of word ≡ None
+    → asked (word ∷ words) ≡ None)
+    → NoLineAsks asked text
+none_before_space asked text never alone wrong words rest begins fits =
+    let first = parted SPACE begins.line in
+    ap asked (sym (sym first.parts ∙ begins.words_are))
+    ∙ by_tail first.word first.tail first.others first.behind first.split
+  where
+    by_tail : (front tail : List ℕ) (others : List (List ℕ)) → TailHas SPACE tail others
+        → begins.line ≡ front ++ tail → asked (front ∷ others) ≡ None
+    by_tail front [] [] behind split = alone front
+    by_tail front [] (word ∷ others) behind split = absurd behind
+    by_tail front (b ∷ tail) others behind split =
+        by_number front (asked (front ∷ others)) (wrong front others)
+        (λ n spells. never n (tail ++ LINE_FEED ∷ rest) (record {
+          word = front;
+          split = begins.split ∙ (ap (λ (l : List ℕ). l ++ LINE_FEED ∷ rest) split
+              ∙ (append_assoc front (b ∷ tail) (LINE_FEED ∷ rest)
+              ∙ ap (λ b. front ++ b ∷ (tail ++ LINE_FEED ∷ rest)) behind.0));
+          spells = spells;
+        }))
+
+-- where none stands before a line feed, it asks for nothing that wants one and no word more
+pub none_before_line_feed : {A : Type 0} (asked : List (List ℕ) → Option A) (text : List ℕ)
+    → BeginsWithNoNumber LINE_FEED text
+    → ((word : List ℕ) → number_of word ≡ None → asked (word ∷ []) ≡ None)
+    → ((word next : List ℕ) (words : List (List ℕ)) → asked (word ∷ next ∷ words) ≡ None)
+    → NoLineAsks asked text
+none_before_line_feed asked text never wrong long words rest begins fits =
+    let first = parted SPACE begins.line in
+    ap asked (sym (sym first.parts ∙ begins.words_are))
+    ∙ by_tail first.word first.tail first.others first.behind first.split
+  where
+    by_others : (front : List ℕ) (others : List (List ℕ)) → 0 < length others
+        → asked (front ∷ others) ≡ None
+    by_others front [] some = absurd (omega (arith, some))
+    by_others front (next ∷ others) some = long front next others
+
+    by_tail : (front tail : List ℕ) (others : List (List ℕ)) → TailHas SPACE tail others
+        → begins.line ≡ front ++ tail → asked (front ∷ others) ≡ None
+    by_tail front [] [] behind split =
+        by_number front (asked (front ∷ [])) (wrong front)
+        (λ n spells. never n rest (record {
+          word = front;
+          split = begins.split ∙ ap (λ (l : List ℕ). l ++ LINE_FEED ∷ rest)
+              (split ∙ append-nil front);
+          spells = spells;
+        }))
+    by_tail front [] (word ∷ others) behind split = absurd behind
+    by_tail front (b ∷ tail) others behind split =
+        by_others front others (rw behind.1 (parts_of-some is_space tail))
+
+-- a line that asks for something by one reading asks for something by another
+pub asks_by : {A B : Type 0} (inner : List (List ℕ) → Option A) (outer : List (List ℕ) → Option B)
+    (text rest : List ℕ) (a : A) (b : B)
+    → ((words : List (List ℕ)) → inner words ≡ Some a → outer words ≡ Some b)
+    → LineAsks inner text a rest → LineAsks outer text b rest
+asks_by inner outer text rest a b each line =
+    record { words = line.words; begins = line.begins; asks = each line.words line.asks }
+
+-- a text whose first line asks for nothing, where that line is not too long
+pub none_on_line : {A : Type 0} (asked : List (List ℕ) → Option A) (text line rest : List ℕ)
+    → lines_of text ≡ line ∷ lines_of rest → (length line ≤ MAX_LINE → asked (words_of line) ≡ None)
+    → NoLineAsks asked text
+none_on_line asked text line rest is none words after begins fits =
+    let same : begins.line ∷ lines_of after ≡ line ∷ lines_of rest =
+    sym (begins_lines text words after begins).0 ∙ is in
+    let line_is : begins.line ≡ line = cc in
+    ap asked (sym begins.words_are ∙ ap words_of line_is) ∙ none (rw line_is at fits)
+
+-- a line asks for nothing where it does not as one word, and no two words do
+pub none_of_words : {A : Type 0} (asked : List (List ℕ) → Option A) (line : List ℕ)
+    → asked (line ∷ []) ≡ None
+    → ((word next : List ℕ) (words : List (List ℕ)) → asked (word ∷ next ∷ words) ≡ None)
+    → asked (words_of line) ≡ None
+none_of_words {A} asked line alone long =
+    let first = parted SPACE line in
+    ap asked first.parts ∙ by_tail first.word first.tail first.others first.behind first.split
+  where
+    by_others : (front : List ℕ) (others : List (List ℕ)) → 0 < length others
+        → asked (front ∷ others) ≡ None
+    by_others front [] some = absurd (omega (arith, some))
+    by_others front (next ∷ others) some = long front next others
+
+    by_tail : (front tail : List ℕ) (others : List (List ℕ)) → TailHas SPACE tail others
+        → line ≡ front ++ tail → asked (front ∷ others) ≡ None
+    by_tail front [] [] behind split =
+        subst (λ (w : List ℕ). asked (w ∷ []) ≡ None) (split ∙ append-nil front) alone
+    by_tail front [] (word ∷ others) behind split = absurd behind
+    by_tail front (b ∷ tail) others behind split =
+        by_others front others (rw behind.1 (parts_of-some is_space tail))
+
+-- a word is the one that it is read as, where the first test of several reads it
+pub read_as : {A : Type 0} (spelt : A → List ℕ) (word text : List ℕ) (a b : A) (others : Option A)
+    → (if is_word word text then Some a else others) ≡ Some b → text ≡ spelt a
+    → (others ≡ Some b → word ≡ spelt b) → word ≡ spelt b
+read_as {A} spelt word text a b others is spells each = by_test (is_word word text) refl is
+  where
+    by_test : (v : Bool) → is_word word text ≡ v → (if v then Some a else others) ≡ Some b
+        → word ≡ spelt b
+    by_test true same is =
+        let which : a ≡ b = cc in
+        (bytes_eq-Decides word text).0 same ∙ (spells ∙ ap spelt which)
+    by_test false other is = each is
+
+-- what holds of what was found, or of finding nothing, by one reading holds of it by another
+pub found_by : {X : Type 0} (found : Option X) (N M : Type 0) (F G : X → Type 0) → (N → M)
+    → ((x : X) → F x → G x) → MatchOption found N F → MatchOption found M G
+found_by None N M F G none some holds = none holds
+found_by (Some x) N M F G none some holds = some x holds
+
+pub found_by_ok : {X E : Type 0} (result : Result (Option X) E) (N M : Type 0) (F G : X → Type 0)
+    → (N → M) → ((x : X) → F x → G x) → IfOk result (λ found. MatchOption found N F)
+    → IfOk result (λ found. MatchOption found M G)
+found_by_ok (Ok found) N M F G none some holds = found_by found N M F G none some holds
+found_by_ok (Err e) N M F G none some holds = holds

@@ -1,8 +1,7 @@
--- Lines with a word too many are not in the grammar.
-use Rattle.std.proofs.Common.{◌≡◌, ℕ, ◌<◌, List, [], ◌∷◌, ◌++◌, length, Bool, true, false, not}
+-- What the lines of a pipe script ask for, word by word.
+use Rattle.std.proofs.Common.{◌≡◌, ℕ, ◌<◌, ◌≤◌, List, [], ◌∷◌, ◌++◌, length, Bool, true, false, not}
 use Rattle.std.proofs.Common.{cond, codes, is_some, Bor, Option, None, Some, Result, Ok, Err, refl}
-use Rattle.std.proofs.Common.{sym, subst, arith}
-use Rattle.std.specs.Option.{option_map}
+use Rattle.std.proofs.Common.{ap, sym, subst, ◌∙◌, append_assoc, append-nil, arith}
 use Rattle.std.specs.List.{list_all}
 use Rattle.std.specs.Result.{result_ok}
 use Rattle.std.proofs.lemmas.Slice.Eq.{bytes_eq-Decides}
@@ -13,37 +12,21 @@ use Rattle.hex.specs.declared.error.FromHexError.{FromHexError}
 use Rattle.hex.proofs.HexLemmas.{decode_of-ok}
 use Rattle.sync_base.specs.Pipe.{PipeState}
 use Rattle.scripts.specs.declared.lines.TheConstants.{LINE_FEED, SPACE}
-use Rattle.scripts.specs.declared.pipe_line.PipeOp.{PipeOp}
-use Rattle.scripts.specs.Script.{Answers, growth}
+use Rattle.scripts.specs.declared.pipe_line.OpVerb.{OpVerb}
+use Rattle.scripts.specs.declared.pipe_line.OpVerb.TheVariants as verb
+use Rattle.scripts.specs.declared.script.TheConstants.{MAX_LINE}
 use Rattle.scripts.specs.Lines.{is_space, is_word, lines_of, cut_line_of, words_of, words_behind}
-use Rattle.scripts.specs.Lines.{number_of, number_within, BeginsWithLine}
+use Rattle.scripts.specs.Lines.{number_of, number_within, BeginsWithLine, LineAsks, NoLineAsks}
 use Rattle.scripts.specs.PipeScript.{Op, Writes, Hangs_up, answered, pipe_language, bytes_of, op_of}
 use Rattle.scripts.specs.PipeScript.{mode_of, hangup_of, read_of, write_of}
-use Rattle.scripts.specs.PipeLine.{IsOp, BeginsWithOp, asked_by}
+use Rattle.scripts.specs.PipeLine.{op_word, op_end}
 use Rattle.scripts.proofs.LineLemmas.{parts_of-some, parts_of-plain}
 use Rattle.scripts.proofs.OnePassLemmas.{IsWord, passes_too, line_begins, line_of_word}
-use Rattle.scripts.proofs.OnePassLemmas.{line_behind_word}
+use Rattle.scripts.proofs.OnePassLemmas.{line_behind_word, no_line_of, none_behind_word}
+use Rattle.scripts.proofs.OnePassLemmas.{none_of_words, none_on_line}
+use Rattle.scripts.proofs.PartLemmas.{TailHas, parted}
 
--- `hangup` and a word more is not in the grammar
-hangup_of-more : (words : List (List ℕ)) → 0 < length words → hangup_of words ≡ None
-hangup_of-more [] some = absurd (omega arith)
-hangup_of-more (word ∷ words) some = refl
-
--- a hangup takes no word
-pub hangup_of-long : (rest : List ℕ) → hangup_of (words_of rest) ≡ None
-hangup_of-long rest = hangup_of-more (words_of rest) (parts_of-some is_space rest)
-
--- nor is `read N` and a word more
-read_of-more : (most : List ℕ) (words : List (List ℕ)) → 0 < length words
-    → read_of (most ∷ words) ≡ None
-read_of-more most [] some = absurd (omega arith)
-read_of-more most (word ∷ words) some = refl
-
--- a read with a word behind its number is no read
-pub read_of-long : (most rest : List ℕ) → read_of (most ∷ words_of rest) ≡ None
-read_of-long most rest = read_of-more most (words_of rest) (parts_of-some is_space rest)
-
--- nor `limit N stream` and a word more
+-- `limit N stream` and a word more is not in the grammar
 mode_of-more : (word : List ℕ) (words : List (List ℕ)) → 0 < length words
     → mode_of (word ∷ words) ≡ None
 mode_of-more word [] some = absurd (omega arith)
@@ -55,36 +38,6 @@ pub mode_of-long : (word : List ℕ) (rest : Option (Bor (List ℕ))) → is_som
 mode_of-long word None some = cc
 mode_of-long word (Some rest) some =
     mode_of-more word (words_of rest.now) (parts_of-some is_space rest.now)
-
--- nor `write W HEX` and a word more
-write_of-more : (writer bytes : List ℕ) (words : List (List ℕ)) → 0 < length words
-    → write_of (writer ∷ bytes ∷ words) ≡ None
-write_of-more writer bytes [] some = absurd (omega arith)
-write_of-more writer bytes (word ∷ words) some = refl
-
--- a write with a word behind its bytes is no write
-pub write_of-long : (writer bytes : List ℕ) (rest : Option (Bor (List ℕ))) → is_some rest ≡ true
-    → write_of (writer ∷ bytes ∷ words_behind rest) ≡ None
-write_of-long writer bytes None some = cc
-write_of-long writer bytes (Some rest) some =
-    write_of-more writer bytes (words_of rest.now) (parts_of-some is_space rest.now)
-
--- what is not in the grammar asks for nothing
-pub no_op : (op : Option Op) → op ≡ None → IsOp op None
-no_op op none = rw none tt
-
--- what a line asks for was answered
-pub answers_op : (StandsFor : PipeState → Type 0) (s : PipeState) (asked : Option Op)
-    (op : PipeOp) (old new : List ℕ) → IsOp asked (Some op)
-    → StandsFor (answered s (asked_by op)).after
-    → new ≡ old ++ (answered s (asked_by op)).text ++ LINE_FEED ∷ []
-    → Answers StandsFor (option_map (answered s) asked) true (growth old new)
-answers_op StandsFor s None op old new is stands_after written = absurd is
-answers_op StandsFor s (Some asked) op old new is stands_after written = (
-  subst (λ (o : Op). StandsFor (answered s o).after) is stands_after,
-  subst
-      (λ (o : Op). new ≡ old ++ (answered s o).text ++ LINE_FEED ∷ []) is written,
-)
 
 -- the digits of bytes have no space between them
 no_space_in_bytes : (word bytes : List ℕ) → bytes_of word ≡ Some bytes
@@ -123,21 +76,31 @@ writes_of writer bytes word n is small read =
     rw (within, read) refl
 
 -- a verb before the words that it asks for
-pub op_begins : (text verb mid : List ℕ) (words : List (List ℕ)) (rest : List ℕ) (op : Op)
-    → text ≡ verb ++ SPACE ∷ mid → IsWord verb → BeginsWithLine mid words rest
-    → op_of (verb ∷ words) ≡ Some op → BeginsWithOp text op rest
-op_begins text verb mid words rest op split is line asks =
+pub op_asks : (text verb mid : List ℕ) (rest : List ℕ) (inner : List (List ℕ) → Option Op)
+    (op : Op) → text ≡ verb ++ SPACE ∷ mid → IsWord verb
+    → ((words : List (List ℕ)) → op_of (verb ∷ words) ≡ inner words)
+    → LineAsks inner mid op rest → LineAsks op_of text op rest
+op_asks text verb mid rest inner op split is same line =
     record {
-      words = verb ∷ words;
-      begins = subst (λ (t : List ℕ). BeginsWithLine t (verb ∷ words) rest) (sym split)
-          (line_behind_word verb mid words rest is line);
-      asks = asks;
+      words = verb ∷ line.words;
+      begins = subst (λ (t : List ℕ). BeginsWithLine t (verb ∷ line.words) rest) (sym split)
+          (line_behind_word verb mid line.words rest is line.begins);
+      asks = same line.words ∙ line.asks;
     }
 
+-- where those ask for nothing the line does
+pub op_asks_none : (text verb mid : List ℕ) (inner : List (List ℕ) → Option Op)
+    → text ≡ verb ++ SPACE ∷ mid → IsWord verb
+    → ((words : List (List ℕ)) → op_of (verb ∷ words) ≡ inner words)
+    → NoLineAsks inner mid → NoLineAsks op_of text
+op_asks_none text verb mid inner split is same none =
+    none_behind_word op_of text verb mid split is
+    (no_line_of inner (λ words. op_of (verb ∷ words)) mid (λ words h. same words ∙ h) none)
+
 -- `hangup` alone
-pub hangup_begins : (text rest : List ℕ) → text ≡ codes "hangup" ++ LINE_FEED ∷ rest
-    → BeginsWithOp text Hangs_up rest
-hangup_begins text rest split =
+pub hangup_asks : (text rest : List ℕ) → text ≡ codes "hangup" ++ LINE_FEED ∷ rest
+    → LineAsks op_of text Hangs_up rest
+hangup_asks text rest split =
     record {
       words = codes "hangup" ∷ [];
       begins = subst (λ (t : List ℕ). BeginsWithLine t (codes "hangup" ∷ []) rest) (sym split)
@@ -145,8 +108,96 @@ hangup_begins text rest split =
       asks = refl;
     }
 
+-- a text asks for an operation only where it begins with the word of one
+pub no_verb_asks_none : (text : List ℕ)
+    → ((verb : OpVerb) (rest : List ℕ) → ¬ (text ≡ op_word verb ++ op_end verb ∷ rest))
+    → NoLineAsks op_of text
+no_verb_asks_none text never words rest begins fits =
+    let first = parted SPACE begins.line in
+    ap op_of (sym (sym first.parts ∙ begins.words_are))
+    ∙ by_tail first.word first.tail first.others first.behind
+    (begins.split ∙ ap (λ (l : List ℕ). l ++ LINE_FEED ∷ rest) first.split)
+  where
+    hangup_of-more : (others : List (List ℕ)) → 0 < length others → hangup_of others ≡ None
+    hangup_of-more [] some = absurd (omega (arith, some))
+    hangup_of-more (word ∷ others) some = refl
+
+    by_word : (v : Bool) (word : List ℕ) (op : Option Op) (verb : List ℕ)
+        → is_word word verb ≡ v → (word ≡ verb → op ≡ None) → (other : Option Op)
+        → other ≡ None → cond v op other ≡ None
+    by_word true word op verb is each other none = each ((bytes_eq-Decides word verb).0 is)
+    by_word false word op verb is each other none = none
+
+    behind_space : (front tail : List ℕ) (verb : OpVerb) → op_end verb ≡ SPACE
+        → text ≡ (front ++ SPACE ∷ tail) ++ LINE_FEED ∷ rest → front ≡ op_word verb → ⊥
+    behind_space front tail verb end split is =
+        never verb (tail ++ LINE_FEED ∷ rest)
+        (split ∙ (append_assoc front (SPACE ∷ tail) (LINE_FEED ∷ rest)
+        ∙ (ap (λ (w : List ℕ). w ++ SPACE ∷ (tail ++ LINE_FEED ∷ rest)) is
+        ∙ ap (λ b. op_word verb ++ b ∷ (tail ++ LINE_FEED ∷ rest)) (sym end))))
+
+    by_tail : (front tail : List ℕ) (others : List (List ℕ)) → TailHas SPACE tail others
+        → text ≡ (front ++ tail) ++ LINE_FEED ∷ rest → op_of (front ∷ others) ≡ None
+    by_tail front [] [] behind split =
+        by_word (is_word front (codes "hangup")) front (hangup_of []) (codes "hangup") refl
+        (λ is. absurd (never verb.Hangup rest
+        (split ∙ ap (λ (w : List ℕ). w ++ LINE_FEED ∷ rest) (append-nil front ∙ is))))
+        _ (by_word (is_word front (codes "read")) front (read_of []) (codes "read") refl
+        (λ is. refl) _ (by_word (is_word front (codes "write")) front (write_of [])
+        (codes "write") refl (λ is. refl) _ refl))
+    by_tail front [] (word ∷ others) behind split = absurd behind
+    by_tail front (b ∷ tail) others behind split =
+        let space = split ∙ ap (λ b. (front ++ b ∷ tail) ++ LINE_FEED ∷ rest) behind.0 in
+        by_word (is_word front (codes "hangup")) front (hangup_of others) (codes "hangup") refl
+        (λ is. hangup_of-more others (rw behind.1 (parts_of-some is_space tail)))
+        _ (by_word (is_word front (codes "read")) front (read_of others) (codes "read") refl
+        (λ is. absurd (behind_space front tail verb.Read refl space is)) _
+        (by_word (is_word front (codes "write")) front (write_of others) (codes "write") refl
+        (λ is. absurd (behind_space front tail verb.Write refl space is)) _ refl))
+
 -- a line whose words ask for an operation is answered as that operation
 pub op_answered : (s : PipeState) (line : List ℕ) (words : List (List ℕ)) (op : Op)
     → words_of line ≡ words → op_of words ≡ Some op
     → pipe_language.answer_to s line ≡ Some (answered s op)
 op_answered s line words op is asks = rw (is, asks) refl
+
+-- a read whose number is none is no read, nor is one with a word behind it
+pub read_of-wrong : (word : List ℕ) → number_of word ≡ None → read_of (word ∷ []) ≡ None
+read_of-wrong word none = rw none refl
+
+-- nor is a write whose writer is none
+pub write_of-wrong : (word : List ℕ) (words : List (List ℕ)) → number_of word ≡ None
+    → write_of (word ∷ words) ≡ None
+write_of-wrong word [] none = refl
+write_of-wrong word (bytes ∷ []) none = rw none refl
+write_of-wrong word (bytes ∷ next ∷ words) none = refl
+
+-- or has too large a number
+pub write_of-high : (word : List ℕ) (words : List (List ℕ)) (n : ℕ) → number_of word ≡ Some n
+    → 64 ≤ n → write_of (word ∷ words) ≡ None
+write_of-high word [] n is high = refl
+write_of-high word (bytes ∷ []) n is high =
+    let none : number_within 0 63 word ≡ None = grind (arith, nat_tests) in
+    rw none refl
+write_of-high word (bytes ∷ next ∷ words) n is high = refl
+
+-- or whose bytes are none
+write_of-no_bytes : (word bytes : List ℕ) (o : Option ℕ) → number_within 0 63 word ≡ o
+    → bytes_of bytes ≡ None → write_of (word ∷ bytes ∷ []) ≡ None
+write_of-no_bytes word bytes None is none = rw is refl
+write_of-no_bytes word bytes (Some n) is none = rw (is, none) refl
+
+-- a line that is no bytes, or is too long for some, asks for no write
+pub no_bytes_asked : (writer text line rest : List ℕ) → lines_of text ≡ line ∷ lines_of rest
+    → (length line ≤ MAX_LINE → bytes_of line ≡ None)
+    → NoLineAsks (λ words. write_of (writer ∷ words)) text
+no_bytes_asked writer text line rest is none =
+    none_on_line (λ words. write_of (writer ∷ words)) text line rest is
+    (λ fits. none_of_words (λ words. write_of (writer ∷ words)) line
+    (write_of-no_bytes writer line (number_within 0 63 writer) refl (none fits))
+    (λ word next words. refl))
+
+-- and one that asks for none is not answered
+pub op_not_answered : (s : PipeState) (line : List ℕ) → op_of (words_of line) ≡ None
+    → pipe_language.answer_to s line ≡ None
+op_not_answered s line none = rw none refl

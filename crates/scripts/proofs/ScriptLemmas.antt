@@ -1,6 +1,7 @@
 -- What a script says, line by line.
-use Rattle.std.proofs.Common.{◌≡◌, inl, inr, ℕ, ◌+◌, ◌-◌, ◌<◌, ◌≤◌, ◌||◌, nat_lt, min, Bool, true}
-use Rattle.std.proofs.Common.{false, List, [], ◌∷◌, ◌++◌, length, take, drop, Option, Some, None}
+use Rattle.std.proofs.Common.{◌≡◌, inl, inr, ℕ, ◌+◌, ◌-◌, ◌<◌, ◌≤◌, ◌||◌, nat_lt, nat_le, min, Bool}
+use Rattle.std.proofs.Common.{true, false, List, [], ◌∷◌, ◌++◌, length, take, drop, position, Option}
+use Rattle.std.proofs.Common.{Some, None}
 use Rattle.std.proofs.Common.{refl, ap, sym, subst, ◌∙◌, append_assoc, arith}
 use Rattle.std.specs.Option.{option_map_or}
 use Rattle.std.specs.Io.KnownBytes.{Appends}
@@ -9,15 +10,17 @@ use Rattle.std.proofs.lemmas.Grind.{common_steps}
 use Rattle.std.proofs.lemmas.Bool.Decides.{nat_tests}
 use Rattle.scripts.specs.declared.lines.TheConstants.{LINE_FEED}
 use Rattle.scripts.specs.declared.script.TheConstants.{MAX_LINE, MAX_SCRIPT}
-use Rattle.scripts.specs.Lines.{lines_of, cut_line_of, BeginsWithLine}
+use Rattle.scripts.specs.Lines.{is_line_feed, lines_of, cut_line_of, words_of, BeginsWithLine}
+use Rattle.scripts.specs.Lines.{NoLineAsks}
 use Rattle.scripts.specs.Device.{AppendsFront}
-use Rattle.scripts.specs.Script.{Language, Answered, Told, Answers, fault_at, answer_then, if_fits}
+use Rattle.scripts.specs.Script.{Language, Answered, Told, fault_at, answer_then, if_fits}
 use Rattle.scripts.specs.Script.{told, lines_told, told_from, FirstAnswered, IsStuck, following}
 use Rattle.scripts.specs.Script.{growth, stage}
 use Rattle.scripts.proofs.DeviceLemmas.{IsWriting, appends_then, appends_nothing, appends_front}
 use Rattle.scripts.specs.ScriptLaws.{lines_text}
 use Rattle.scripts.proofs.TextLemmas.{lines_text-lines}
-use Rattle.scripts.proofs.OnePassLemmas.{begins_lines, begins_length}
+use Rattle.scripts.proofs.LineLemmas.{cut_line_of-at, lines_of-at, lines_of-missing}
+use Rattle.scripts.proofs.OnePassLemmas.{begins_lines, begins_length, line_begins}
 
 -- a line that is not too long is read
 if_fits_short : {A : Type 0} (read : List ℕ → Option A) (line : List ℕ) → length line ≤ MAX_LINE
@@ -263,41 +266,11 @@ goes_end {T} {S} stands language too_long cut said old now t t' number held rest
         ((at_fault is_true).1 ∙ sym (append-nil held)) (at_fault is_true).0
     by_case false is_false = says_end is_false stuck
 
--- a line that was split off and answered
-pub line_answered : {S : Type 0} (StandsFor : S → Type 0) (language : Language S) (s : S)
-    (text old line rest new : List ℕ) (is_answered : Bool)
-    → lines_of text ≡ line ∷ lines_of rest → cut_line_of text ≡ cut_line_of rest
-    → length rest < length text → length line ≤ MAX_LINE
-    → Answers StandsFor (language.answer_to s line) is_answered (growth old new)
-    → is_answered ≡ true
-    → FirstAnswered (following language s StandsFor) text rest (growth old new)
-line_answered {S} StandsFor language s text old line rest new is_answered lines cut shorter
-    fits answers is_true = by_answer (language.answer_to s line) refl answers
-  where
-    by_answer : (o : Option (Answered S)) → language.answer_to s line ≡ o
-        → Answers StandsFor o is_answered (growth old new)
-        → FirstAnswered (following language s StandsFor) text rest (growth old new)
-    by_answer None is answers =
-        absurd (subst (λ v. Answers StandsFor None v (growth old new)) is_true answers)
-    by_answer (Some answered) is answers =
-        let both = subst (λ v. Answers StandsFor (Some answered) v (growth old new)) is_true
-        answers in
-        record {
-          line = line;
-          answered = answered;
-          lines = lines;
-          cut = cut;
-          shorter = shorter;
-          in_grammar = if_fits_short (language.answer_to s) line fits ∙ is;
-          stands_after = both.0;
-          written = both.1;
-        }
-
--- a line that was found in one pass and answered
+-- a line that was found and answered
 pub found_answered : {S : Type 0} (StandsFor : S → Type 0) (language : Language S) (s : S)
     (text old : List ℕ) (words : List (List ℕ)) (rest new : List ℕ)
     (answered : Answered S) (begins : BeginsWithLine text words rest)
-    → length text - length rest ≤ MAX_LINE
+    → length text - length rest ≤ MAX_LINE + 1
     → language.answer_to s begins.line ≡ Some answered → StandsFor answered.after
     → new ≡ old ++ answered.text ++ LINE_FEED ∷ []
     → FirstAnswered (following language s StandsFor) text rest (growth old new)
@@ -315,3 +288,59 @@ found_answered StandsFor language s text old words rest new answered begins near
       stands_after = stands_after;
       written = written;
     }
+
+-- a line that is too long is not read
+if_fits_long : {A : Type 0} (read : List ℕ → Option A) (line : List ℕ) → MAX_LINE < length line
+    → if_fits read line ≡ None
+if_fits_long read line long = grind (arith, nat_tests)
+
+-- where no line asks for anything, the script is stuck
+pub none_is_stuck : {A S : Type 0} (StandsFor : S → Type 0) (language : Language S) (s : S)
+    (asked : List (List ℕ) → Option A) (text : List ℕ) → NoLineAsks asked text
+    → ((line : List ℕ) → asked (words_of line) ≡ None → language.answer_to s line ≡ None)
+    → StandsFor s → IsStuck (following language s StandsFor) text
+none_is_stuck StandsFor language s asked text none each stands =
+    by_place (position is_line_feed text) refl
+  where
+    by_length : (line : List ℕ) (fits : Bool) → nat_le (length line) MAX_LINE ≡ fits
+        → (length line ≤ MAX_LINE → language.answer_to s line ≡ None)
+        → if_fits (language.answer_to s) line ≡ None
+    by_length line true is answer =
+        let fits : length line ≤ MAX_LINE = grind (arith, nat_tests) in
+        if_fits_short (language.answer_to s) line fits ∙ answer fits
+    by_length line false is answer =
+        let long : MAX_LINE < length line = grind (arith, nat_tests) in
+        if_fits_long (language.answer_to s) line long
+
+    by_place : (place : Option ℕ) → position is_line_feed text ≡ place
+        → IsStuck (following language s StandsFor) text
+    by_place None nowhere = inl (lines_of-missing text nowhere, stands)
+    by_place (Some n) found =
+        let line = take n text in
+        let rest = take (length text - (n + 1)) (drop (n + 1) text) in
+        let lines = lines_of-at text n found in
+        let begins = line_begins text line rest lines (cut_line_of-at text n found) in
+        let both : begins.line ∷ lines_of rest ≡ line ∷ lines_of rest =
+        sym (begins_lines text (words_of line) rest begins).0 ∙ lines in
+        let line_is : begins.line ≡ line = cc in
+        inr (
+          line,
+          lines_of rest,
+          lines,
+          by_length line (nat_le (length line) MAX_LINE) refl
+              (λ fits. each line (none (words_of line) rest begins (rw line_is fits))),
+        )
+
+-- and where the first line is too long
+pub long_is_stuck : {S : Type 0} (StandsFor : S → Type 0) (language : Language S) (s : S)
+    (text : List ℕ) (words : List (List ℕ)) (rest : List ℕ)
+    (begins : BeginsWithLine text words rest) → MAX_LINE + 1 < length text - length rest
+    → IsStuck (following language s StandsFor) text
+long_is_stuck StandsFor language s text words rest begins long =
+    let longer = begins_length text words rest begins in
+    inr (
+      begins.line,
+      lines_of rest,
+      (begins_lines text words rest begins).0,
+      if_fits_long (language.answer_to s) begins.line (omega (arith, longer, long)),
+    )

@@ -1,6 +1,6 @@
 -- What no script does at its lines: each against one row of what its calls promise, or what that
 -- row gives.
-use Rattle.std.proofs.Common.{◌≡◌, ◌<◌, ℕ, List, [], ◌∷◌, length, Some, None, Bor, false, ap}
+use Rattle.std.proofs.Common.{◌≡◌, ◌<◌, ℕ, List, [], ◌∷◌, length, Some, None, Bor, ap}
 use Rattle.std.proofs.Common.{arith, length-append}
 use Rattle.sync_base.specs.Pipe.{PipeState}
 use Rattle.sync_base.specs.PlainPipe.{Kept, Shows}
@@ -8,32 +8,15 @@ use Rattle.sleep_core.specs.State.{State}
 use Rattle.scripts.specs.declared.lines.TheConstants.{LINE_FEED}
 use Rattle.scripts.specs.PipeLine.{IsAnswered}
 use Rattle.scripts.specs.Schedule.{IsWorld}
-use Rattle.scripts.specs.Script.{Answered, Answers, AnswersFirst, AnswersNext, Following, Growth}
-use Rattle.scripts.specs.Script.{IsShorter, Opens, growth}
-
-module _ {S : Type 0} (StandsFor : S → Type 0) where
-  a_line_of_the_grammar_is_not_passed_over : (answered : Answered S)
-      → ¬ Answers StandsFor (Some answered) false (growth [] [])
-  a_line_of_the_grammar_is_not_passed_over answered passed = passed
-
-  a_line_of_no_grammar_is_told_nothing : ¬ Answers StandsFor None false (growth [] (1 ∷ []))
-  a_line_of_no_grammar_is_told_nothing written =
-      let none : 1 ≡ 0 = ap length written in omega (arith, none)
+use Rattle.scripts.specs.Script.{Answered, AnswersFirst, Following, Growth, IsShorter, Opens}
+use Rattle.scripts.specs.Script.{growth}
 
 module _ {S : Type 0} (follows : Following S) (text : List ℕ) where
-  who_finds_no_line_stays : (output : Growth)
-      → AnswersFirst follows text None output → follows.StandsFor follows.from
-  who_finds_no_line_stays output answers = answers.0
-
-  who_finds_no_line_writes_nothing : ¬ AnswersFirst follows text None (growth [] (1 ∷ []))
-  who_finds_no_line_writes_nothing answers =
-      let none : 1 ≡ 0 = ap length answers.1 in omega (arith, none)
-
   the_next_line_is_passed : (rest : Bor (List ℕ)) (output : Growth)
-      → AnswersNext follows text (Some rest) output → length rest.now < length text
+      → AnswersFirst follows text (Some rest) output → length rest.now < length text
   the_next_line_is_passed rest output answers = answers.shorter
 
-  who_is_stuck_writes_nothing : ¬ AnswersNext follows text None (growth [] (1 ∷ []))
+  who_is_stuck_writes_nothing : ¬ AnswersFirst follows text None (growth [] (1 ∷ []))
   who_is_stuck_writes_nothing answers =
       let none : 1 ≡ 0 = ap length answers.1 in omega (arith, none)
 

@@ -1,5 +1,6 @@
 -- The lines, words and numbers of a script, as docs/SCRIPTS.md describes them.
-use Rattle.std.specs.Prelude.{◌≡◌, ◌≤◌, true, length, take, ◌++◌, ◌==◌, ◌&&◌, ℕ, ◌+◌, ◌-◌, ◌*◌}
+use Rattle.std.specs.Prelude.{◌≡◌, ◌≤◌, true, false, length, take, get_or, ◌++◌, ◌==◌, ◌&&◌}
+use Rattle.std.specs.Prelude.{ℕ, ◌+◌, ◌-◌, ◌*◌}
 use Rattle.std.specs.Prelude.{◌^◌, nat_lt, nat_le, Bool, not, if◌then◌else◌, List, [], ◌∷◌, fold}
 use Rattle.std.specs.Prelude.{Option, None, Some, option_and_then}
 use Rattle.std.specs.List.{list_all}
@@ -7,6 +8,7 @@ use Rattle.std.specs.Borrow.{Bor}
 use Rattle.std.specs.Str.{bytes_eq}
 use Rattle.std.specs.Char.{is_ascii_digit}
 use Rattle.scripts.specs.declared.lines.TheConstants.{LINE_FEED, SPACE, COMMA, ZERO}
+use Rattle.scripts.specs.declared.script.TheConstants.{MAX_LINE}
 
 -- whether a byte ends a line
 abbrev pub is_line_feed : ℕ → Bool
@@ -97,25 +99,39 @@ pub record LeadingDigits (text : List ℕ) (number count : ℕ) : Type 0 where
   pub digits : list_all is_ascii_digit (take count text) ≡ true
   pub value : number ≡ decimal_value (take count text)
 
--- the first bytes of the text are so many digits, and a word that spells this number
-pub record LeadingNumber (text : List ℕ) (number count : ℕ) : Type 0 where
+-- they are all digits that the text begins with
+pub record AllLeadingDigits (text : List ℕ) (number count : ℕ) : Type 0 where
+  pub leading : LeadingDigits text number count
+  pub end : is_ascii_digit (get_or text count 0) ≡ false
+
+-- the text begins with digits that spell 2^64 or more
+pub record TooLarge (text : List ℕ) : Type 0 where
+  pub count : ℕ
   pub within : count ≤ length text
   pub digits : list_all is_ascii_digit (take count text) ≡ true
-  pub spells : number_of (take count text) ≡ Some number
+  pub large : 2 ^ 64 ≤ decimal_value (take count text)
 
--- the first part of a list spells this number, or none, and this follows the comma behind it
-pub record FirstNumber (list : List ℕ) (number : Option ℕ) (rest : Option (Bor (List ℕ)))
-    : Type 0 where
+-- the first part of a list spells this number, and this follows the comma behind it
+pub record FirstNumber (list : List ℕ) (number : ℕ) (rest : Option (Bor (List ℕ))) : Type 0 where
   pub word : List ℕ
   pub parts : parts_of is_comma list ≡ word ∷ parts_behind is_comma rest
-  pub spells : number ≡ number_of word
+  pub spells : number_of word ≡ Some number
+
+-- the first part of a list spells no number
+abbrev pub FirstIsNoNumber : List ℕ → Type 0
+FirstIsNoNumber list =
+    (word : List ℕ) (words : List (List ℕ)) → parts_of is_comma list ≡ word ∷ words
+    → number_of word ≡ None
 
 -- the text begins with a word that spells this number, and then this byte, before the rest
 pub record BeginsWithNumber (end : ℕ) (text : List ℕ) (number : ℕ) (rest : List ℕ) : Type 0 where
   pub word : List ℕ
   pub split : text ≡ word ++ end ∷ rest
-  pub digits : list_all is_ascii_digit word ≡ true
   pub spells : number_of word ≡ Some number
+
+-- the text begins with no such word
+abbrev pub BeginsWithNoNumber : ℕ → List ℕ → Type 0
+BeginsWithNoNumber end text = (number : ℕ) (rest : List ℕ) → ¬ BeginsWithNumber end text number rest
 
 -- the text begins with a line of these words, before the rest
 pub record BeginsWithLine (text : List ℕ) (words : List (List ℕ)) (rest : List ℕ) : Type 0 where
@@ -123,3 +139,16 @@ pub record BeginsWithLine (text : List ℕ) (words : List (List ℕ)) (rest : Li
   pub split : text ≡ line ++ LINE_FEED ∷ rest
   pub plain : list_all (λ b. not (is_line_feed b)) line ≡ true
   pub words_are : words_of line ≡ words
+
+-- the text begins with a line whose words ask for this, before the rest
+pub record LineAsks {A : Type 0} (asked_by : List (List ℕ) → Option A) (text : List ℕ) (asked : A)
+    (rest : List ℕ) : Type 0 where
+  pub words : List (List ℕ)
+  pub begins : BeginsWithLine text words rest
+  pub asks : asked_by words ≡ Some asked
+
+-- the text begins with no line whose words ask for anything, but for one that is too long
+abbrev pub NoLineAsks : {A : Type 0} → (List (List ℕ) → Option A) → List ℕ → Type 0
+NoLineAsks asked_by text =
+    (words : List (List ℕ)) (rest : List ℕ) (begins : BeginsWithLine text words rest)
+    → length begins.line ≤ MAX_LINE → asked_by words ≡ None

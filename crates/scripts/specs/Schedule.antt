@@ -2,6 +2,7 @@
 use Rattle.std.specs.Prelude.{◌≡◌, ℕ, nat_lt, Bool, true, if◌then◌else◌, List, [], ◌∷◌, ◌++◌, map}
 use Rattle.std.specs.Prelude.{codes, Option, None, Some, option_and_then}
 use Rattle.std.specs.Option.{option_map, option_map_or}
+use Rattle.std.specs.Borrow.{Bor}
 use Rattle.sync_base.specs.declared.limits.TheConstants.{MAX_PROCS, MAX_RENDEZ}
 use Rattle.sync_base.specs.declared.note.Note.{Note}
 use Rattle.sync_base.specs.declared.note.Note.TheVariants.{Interrupt, Hangup, Alarm, ClosedPipe}
@@ -18,9 +19,8 @@ use Rattle.scripts.specs.declared.event_line.Size.{Size}
 use Rattle.scripts.specs.declared.event_line.Operands.{Operands}
 use Rattle.scripts.specs.declared.event_line.Verb.{Verb}
 use Rattle.scripts.specs.declared.event_line.Verb.TheVariants as verb
-use Rattle.scripts.specs.declared.lines.TheConstants.{LINE_FEED}
+use Rattle.scripts.specs.declared.lines.TheConstants.{LINE_FEED, COMMA}
 use Rattle.scripts.specs.Lines.{parts_of, is_comma, is_word, words_of, number_of, number_within}
-use Rattle.scripts.specs.Lines.{BeginsWithLine}
 use Rattle.scripts.specs.Script.{Answered, Language, Told, told}
 use Rattle.scripts.specs.EventText.{event_text}
 
@@ -63,6 +63,16 @@ note_named word =
     else if is_word word (codes "closed") then Some ClosedPipe
     else if is_word word (codes "expired") then Some Expired
     else None
+
+-- this word is the first part of the list, and this follows the comma behind it
+abbrev pub IsFirst : List ℕ → List ℕ → Option (Bor (List ℕ)) → Type 0
+IsFirst word list None = list ≡ word
+IsFirst word list (Some rest) = list ≡ word ++ COMMA ∷ rest.now
+
+-- it is not
+pub record IsNotFirst (word list : List ℕ) : Type 0 where
+  pub not_alone : ¬ (list ≡ word)
+  pub not_before : (rest : List ℕ) → ¬ (list ≡ word ++ COMMA ∷ rest)
 
 -- the set with this kind too, which is not there yet
 abbrev pub kind_added : NoteSet → Note → Option NoteSet
@@ -123,6 +133,13 @@ event_with verb.Note words = note_of words
 event_with verb.Drain words = option_map event.Drain (lone_pid words)
 event_with verb.Check words = option_map event.Check (lone_pid words)
 
+-- a verb that a process alone follows
+abbrev pub TakesPid : Verb → Type 0
+TakesPid verb.Post = ⊥
+TakesPid verb.Raise = ⊥
+TakesPid verb.Note = ⊥
+TakesPid v = Unit {0}
+
 -- a line of one event
 abbrev pub event_of : List (List ℕ) → Option Event
 event_of [] = None
@@ -181,12 +198,6 @@ verb_word verb.Mark = codes "mark"
 verb_word verb.Note = codes "note"
 verb_word verb.Drain = codes "drain"
 verb_word verb.Check = codes "check"
-
--- the text begins with a line that asks for this event, before the rest
-pub record BeginsWithEvent (text : List ℕ) (event : Event) (rest : List ℕ) : Type 0 where
-  pub words : List (List ℕ)
-  pub begins : BeginsWithLine text words rest
-  pub asks : event_of words ≡ Some event
 
 -- lines with a line feed between each two
 abbrev pub joined_lines : List (List ℕ) → List ℕ

@@ -95,15 +95,6 @@ pub record Growth : Type 0 where
 abbrev pub growth : List ℕ → List ℕ → Growth
 growth before after = record { before = before; after = after }
 
--- the line was answered behind what was written before, and what the program keeps stands for the
--- state after it; or the line is not in the grammar and nothing was written
-abbrev pub Answers : {S : Type 0} → (S → Type 0) → Option (Answered S) → Bool → Growth → Type 0
-Answers StandsFor (Some answered) true output =
-    StandsFor answered.after × (output.after ≡ output.before ++ answered.text ++ LINE_FEED ∷ [])
-Answers StandsFor None false output = output.after ≡ output.before
-Answers StandsFor (Some answered) false output = ⊥
-Answers StandsFor None true output = ⊥
-
 -- a program that follows a language
 pub record Following (S : Type 0) : Type 1 where
   pub language : Language S
@@ -128,13 +119,6 @@ pub record FirstAnswered {S : Type 0} (follows : Following S) (text rest : List 
   pub stands_after : follows.StandsFor answered.after
   pub written : output.after ≡ output.before ++ answered.text ++ LINE_FEED ∷ []
 
--- the first line of the text was answered, or nothing was done
-abbrev pub AnswersFirst : {S : Type 0} → Following S → List ℕ → Option (Bor (List ℕ)) → Growth
-    → Type 0
-AnswersFirst follows text (Some rest) output = FirstAnswered follows text rest.now output
-AnswersFirst follows text None output =
-    follows.StandsFor follows.from × (output.after ≡ output.before)
-
 -- the text has no whole line, or its first one is not in the grammar
 abbrev pub IsStuck : {S : Type 0} → Following S → List ℕ → Type 0
 IsStuck follows text =
@@ -143,10 +127,10 @@ IsStuck follows text =
     × (if_fits (follows.language.answer_to follows.from) line ≡ None))
 
 -- the first line of the text was answered, or there is none that could be
-abbrev pub AnswersNext : {S : Type 0} → Following S → List ℕ → Option (Bor (List ℕ)) → Growth
+abbrev pub AnswersFirst : {S : Type 0} → Following S → List ℕ → Option (Bor (List ℕ)) → Growth
     → Type 0
-AnswersNext follows text (Some rest) output = FirstAnswered follows text rest.now output
-AnswersNext follows text None output = IsStuck follows text × (output.after ≡ output.before)
+AnswersFirst follows text (Some rest) output = FirstAnswered follows text rest.now output
+AnswersFirst follows text None output = IsStuck follows text × (output.after ≡ output.before)
 
 -- what follows a line is shorter than the text
 abbrev pub IsShorter : Option (Bor (List ℕ)) → List ℕ → Type 0

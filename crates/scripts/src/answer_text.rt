@@ -4,7 +4,6 @@ ghost use Rattle.scripts.specs.AnswerText.{write_text, read_text, hex_text};
 ghost use Rattle.sync_base.specs.PlainPipe.{lent_answer};
 ghost use Rattle.scripts.specs.declared.lines.TheConstants.{LINE_FEED};
 
-use crate::digits::encode;
 use crate::lines::LINE_FEED;
 use std::alloc::AllocError;
 use sync_base::{Lent, WriteAnswer};
@@ -49,8 +48,10 @@ fn push_hex(output: &mut Vec<u8>, bytes: &[u8]) -> Result<(), AllocError>
     let Some(end) = start.checked_add(2 * bytes.len()) else {
         return Err(AllocError);
     };
-    // The digits are written where they stay.
+    // The digits are written where they stay. The room is as long as they are.
     output.resize(end, 0)?;
-    encode(bytes, output.slice_mut(start..));
-    Ok(())
+    match hex::encode_to_slice(bytes, output.slice_mut(start..)) {
+        Ok(()) => Ok(()),
+        Err(_) => Err(AllocError),
+    }
 }

@@ -1,10 +1,13 @@
 //! The lines, words and numbers of a script.
 ghost use Rattle.std.specs.Prelude.{◌≡◌, false, true, ◌==◌, ◌∷◌, ◌++◌, ◌+◌, ◌-◌, ◌<◌, ◌≤◌, []};
-ghost use Rattle.std.specs.Prelude.{length, position, take, Some, MatchOption, IfSome, IsTrue};
+ghost use Rattle.std.specs.Prelude.{ℕ, List};
+ghost use Rattle.std.specs.Prelude.{length, position, take, None, Some, MatchOption, IfSome};
+ghost use Rattle.std.specs.Prelude.{if◌then◌else◌};
 ghost use Rattle.std.specs.Char.{is_ascii_digit};
-ghost use Rattle.scripts.specs.Lines.{BeginsWithNumber, LeadingDigits, LeadingNumber, FirstNumber};
+ghost use Rattle.scripts.specs.Lines.{BeginsWithNumber, BeginsWithNoNumber, LeadingDigits};
+ghost use Rattle.scripts.specs.Lines.{AllLeadingDigits, TooLarge, FirstNumber, FirstIsNoNumber};
 ghost use Rattle.scripts.specs.Lines.{lines_of, cut_line_of, parts_of, parts_behind, words_of};
-ghost use Rattle.scripts.specs.Lines.{words_behind, number_of, number_within, value_of};
+ghost use Rattle.scripts.specs.Lines.{words_behind, number_of, number_within};
 
 use memchr::memchr;
 
@@ -25,6 +28,24 @@ fn place_of(byte: u8, text: &[u8]) -> Option<usize>
     ensures { result ≡ position (λ b. b == byte) text.now }
 {
     memchr(byte, text)
+}
+
+/// What follows a word that a text begins with; nothing where it begins with another. Of a word
+/// that it knows the compiler writes the steps out; it does not those of `strip_prefix`.
+#[inline(always)]
+pub fn behind<'t>(word: &[u8], text: &'t [u8]) -> Option<&'t [u8]>
+    ensures { MatchOption result ((rest : List ℕ) → ¬ (text.now ≡ word.now ++ rest))
+        (λ rest. text.now ≡ word.now ++ rest.now) }
+{
+    if text.len() < word.len() {
+        return None;
+    }
+    for i in 0..word.len() {
+        if text[i] != word[i] {
+            return None;
+        }
+    }
+    Some(&text[word.len()..])
 }
 
 /// The first line, without its line feed, and what follows; `None` where there is no line feed.
@@ -64,10 +85,11 @@ pub fn next_part(parting: u8, text: &[u8]) -> (&[u8], Option<&[u8]>)
 pub fn number(word: &[u8]) -> Option<u64>
     ensures { result ≡ number_of word.now }
 {
-    match word {
-        [] | [ZERO, _, ..] => None,
-        _ => value(word),
+    let (n, count) = all_digits(word, 0, 0)?;
+    if count != word.len() || !spells(word, n, count) {
+        return None;
     }
+    Some(n)
 }
 
 /// That number, where it is in a range.
@@ -77,57 +99,44 @@ pub fn bounded_number(word: &[u8], least: u64, most: u64) -> Option<u64>
     number(word).filter(|n| least <= *n && *n <= most)
 }
 
-/// The number below 2^64 that digits spell.
-fn value(digits: &[u8]) -> Option<u64>
-    ensures { result ≡ value_of digits.now }
-{
-    let mut n = 0u64;
-    for digit in digits {
-        if !digit.is_ascii_digit() {
-            return None;
-        }
-        n = n.checked_mul(10)?.checked_add(u64::from(digit - ZERO))?;
-    }
-    Some(n)
-}
-
-/// The number that a text begins with, before this byte, and what follows that byte. One pass over
-/// the digits finds their end too, where `next_word` and then `number` read each digit twice. A
-/// text of fewer than 20 bytes, the last lines of a script, is left to those.
+/// The number that a text begins with, before this byte, and what follows that byte; nothing where
+/// it begins with no such number. One pass over the digits finds their end too.
 #[inline(always)]
 pub fn number_before(end: u8, text: &[u8]) -> Option<(u64, &[u8])>
     requires { is_ascii_digit end ≡ false }
-    ensures { IfSome result (λ found.
-        BeginsWithNumber end text.now found.0 found.1.now) }
+    ensures { MatchOption result (BeginsWithNoNumber end text.now)
+        (λ found. BeginsWithNumber end text.now found.0 found.1.now) }
 {
-    if text.len() < 20 {
-        return None;
-    }
     let mut n = 0u64;
     let mut count = 0;
-    // Nineteen digits fit, whichever they are, and the text does not end in them. No step tests
-    // either, and the compiler writes the nineteen out.
-    'short: while count < 19 {
-        let Some(digit) = digit_value(text[count]) else {
-            return Some((n, ended(end, text, n, count)?));
-        };
-        n = 10 * n + digit;
-        count += 1;
+    // Where 20 bytes stand, nineteen digits fit, whichever they are, and the text does not end in
+    // them. No step tests either, and the compiler writes the nineteen out.
+    if text.len() >= 20 {
+        'short: while count < 19 {
+            let Some(digit) = digit_value(text[count]) else {
+                return Some((n, ended(end, text, n, count)?));
+            };
+            n = 10 * n + digit;
+            count += 1;
+        }
     }
-    let (n, count) = long_number(text, n, count)?;
+    let (n, count) = all_digits(text, n, count)?;
     Some((n, ended(end, text, n, count)?))
 }
 
-/// What follows the byte behind so many digits, which spell this number, where it is this byte.
+/// What follows the byte behind all digits that a text begins with, which are so many and spell this
+/// number, where it is this byte.
 #[inline(always)]
-fn ended(end: u8, text: &[u8], number: u64, passed: usize) -> Option<&[u8]>
-    requires { LeadingDigits text.now number passed }
-    ensures { IfSome result (λ rest. BeginsWithNumber end text.now number rest.now) }
+fn ended(end: u8, text: &[u8], number: u64, count: usize) -> Option<&[u8]>
+    requires other { is_ascii_digit end ≡ false }
+    requires digits { AllLeadingDigits text.now number count }
+    ensures { MatchOption result (BeginsWithNoNumber end text.now)
+        (λ rest. BeginsWithNumber end text.now number rest.now) }
 {
-    if passed == text.len() || !spells(text, number, passed) {
+    if count == text.len() || !spells(text, number, count) {
         return None;
     }
-    let (byte, rest) = byte_behind(passed, text);
+    let (byte, rest) = byte_behind(count, text);
     if byte != end {
         return None;
     }
@@ -137,7 +146,8 @@ fn ended(end: u8, text: &[u8], number: u64, passed: usize) -> Option<&[u8]>
 /// The value of a digit.
 #[inline(always)]
 fn digit_value(byte: u8) -> Option<u64>
-    ensures digit { IfSome result (λ value. is_ascii_digit byte ≡ true) }
+    ensures digit { MatchOption result (is_ascii_digit byte ≡ false)
+        (λ value. is_ascii_digit byte ≡ true) }
     ensures value { IfSome result (λ value. value ≡ byte - ZERO) }
     ensures small { IfSome result (λ value. value ≤ 9) }
 {
@@ -148,75 +158,36 @@ fn digit_value(byte: u8) -> Option<u64>
     Some(value)
 }
 
-/// The number that a text begins with, the byte behind it, and what follows that byte.
+/// The number that the first part of a list spells, and what follows the comma behind that part;
+/// nothing where that part spells no number.
 #[inline(always)]
-pub fn number_at(text: &[u8]) -> Option<(u64, u8, &[u8])>
-    ensures { IfSome result (λ found.
-        BeginsWithNumber found.1 text.now found.0 found.2.now) }
-{
-    let (n, count) = leading_word(text)?;
-    if count == text.len() {
-        return None;
-    }
-    let (byte, rest) = byte_behind(count, text);
-    Some((n, byte, rest))
-}
-
-/// The number that the first part of a list spells, if it spells one, and what follows the comma
-/// behind that part. It is looked for in one pass first.
-#[inline(always)]
-pub fn next_number(list: &[u8]) -> (Option<u64>, Option<&[u8]>)
-    ensures first { FirstNumber list.now result.0 result.1 }
-    ensures shorter { IfSome result.1 (λ rest. length rest.now < length list.now) }
-{
-    match number_part(list) {
-        Some((n, rest)) => (Some(n), rest),
-        None => {
-            let (word, rest) = next_part(COMMA, list);
-            (number(word), rest)
-        }
-    }
-}
-
-/// The number that the first part of a list spells, and what follows the comma behind it, in one
-/// pass; nothing where it finds none on the way.
-#[inline(always)]
-fn number_part(list: &[u8]) -> Option<(u64, Option<&[u8]>)>
-    ensures first { IfSome result (λ found. FirstNumber list.now (Some found.0) found.1) }
+pub fn next_number(list: &[u8]) -> Option<(u64, Option<&[u8]>)>
+    ensures first { MatchOption result (FirstIsNoNumber list.now)
+        (λ found. FirstNumber list.now found.0 found.1) }
     ensures shorter { IfSome result (λ found. IfSome found.1 (λ rest.
         length rest.now < length list.now)) }
 {
-    let (n, count) = leading_word(list)?;
+    let (n, count) = all_digits(list, 0, 0)?;
+    if !spells(list, n, count) {
+        return None;
+    }
     if count == list.len() {
         return Some((n, None));
     }
     let (byte, rest) = byte_behind(count, list);
-    match byte {
-        COMMA => Some((n, Some(rest))),
-        _ => None,
+    if byte != COMMA {
+        return None;
     }
+    Some((n, Some(rest)))
 }
 
 /// The byte behind so many, and what follows it.
 #[inline(always)]
-fn byte_behind(count: usize, text: &[u8]) -> (u8, &[u8])
+pub fn byte_behind(count: usize, text: &[u8]) -> (u8, &[u8])
     requires { count < length text.now }
     ensures { text.now ≡ take count text.now ++ result.0 ∷ result.1.now }
 {
     (text[count], &text[count + 1..])
-}
-
-/// The number that the first digits of a text spell, with no zero in front but for the number 0,
-/// and how many they are.
-#[inline(always)]
-fn leading_word(text: &[u8]) -> Option<(u64, usize)>
-    ensures { IfSome result (λ found. LeadingNumber text.now found.0 found.1) }
-{
-    let (n, count) = leading_number(text)?;
-    if !spells(text, n, count) {
-        return None;
-    }
-    Some((n, count))
 }
 
 /// Whether the digits that spell a number are a word that does: one at least, with no zero in front
@@ -224,7 +195,7 @@ fn leading_word(text: &[u8]) -> Option<(u64, usize)>
 #[inline(always)]
 fn spells(text: &[u8], number: u64, count: usize) -> bool
     requires { LeadingDigits text.now number count }
-    ensures { IsTrue result → LeadingNumber text.now number count }
+    ensures { number_of (take count text.now) ≡ if result then Some number else None }
 {
     match &text[..count] {
         [] | [ZERO, _, ..] => false,
@@ -232,30 +203,12 @@ fn spells(text: &[u8], number: u64, count: usize) -> bool
     }
 }
 
-/// The number that the first digits of a text spell, and how many they are.
-#[inline(always)]
-fn leading_number(text: &[u8]) -> Option<(u64, usize)>
-    ensures { IfSome result (λ found. LeadingDigits text.now found.0 found.1) }
-{
-    let mut n = 0u64;
-    let mut count = 0;
-    // Nineteen digits fit, whichever they are, so that they are not tested one by one.
-    let short = text.len().min(19);
-    'short: while count < short {
-        // Most numbers end here, so that what stands behind them is looked at once.
-        if !text[count].is_ascii_digit() {
-            return Some((n, count));
-        }
-        n = 10 * n + u64::from(text[count] - ZERO);
-        count += 1;
-    }
-    long_number(text, n, count)
-}
-
-/// The same of a text of which so many digits are passed, which spell this number.
-fn long_number(text: &[u8], front: u64, passed: usize) -> Option<(u64, usize)>
+/// The number that all digits at the front of a text spell, and how many they are, where so many are
+/// passed, which spell this number; nothing where it is 2^64 at least.
+fn all_digits(text: &[u8], front: u64, passed: usize) -> Option<(u64, usize)>
     requires { LeadingDigits text.now front passed }
-    ensures { IfSome result (λ found. LeadingDigits text.now found.0 found.1) }
+    ensures { MatchOption result (TooLarge text.now)
+        (λ found. AllLeadingDigits text.now found.0 found.1) }
 {
     let mut n = front;
     let mut count = passed;

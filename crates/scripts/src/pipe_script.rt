@@ -7,7 +7,7 @@ ghost use Rattle.scripts.specs.PipeLine.{opened_by, IsAnswered, asked_by};
 
 use crate::answer_text::{push_read_answer, push_write_answer};
 use crate::pipe_line::{Opening, PipeOp, op_at, opening_at};
-use crate::script::{MAX_LINE, Script};
+use crate::script::{Script, is_too_long};
 use std::alloc::{AllocError, Global};
 use sync_base::{Fault, Mode, PlainPipe};
 
@@ -15,12 +15,10 @@ use sync_base::{Fault, Mode, PlainPipe};
 #[derive(Drop)]
 pub struct PipeScript {
     pipe: PlainPipe,
-    /// Room for the bytes of a write.
+    /// Room for the bytes of the longest write so far.
     room: Vec<u8>,
     /// Room for the bytes of a read, in stream mode.
     joined: Vec<u8>,
-    /// Room for the bytes of the longest line, for the quick way: it is zeroed once.
-    decoded: Vec<u8>,
 }
 
 impl Script for PipeScript {
@@ -39,21 +37,7 @@ impl Script for PipeScript {
         };
         let room = Vec::new(alloc);
         let joined = Vec::new(alloc);
-        let decoded = vec![in alloc; 0u8; MAX_LINE / 2]?;
-        Ok(Some(PipeScript {
-            pipe,
-            room,
-            joined,
-            decoded,
-        }))
-    }
-
-    fn answer(&mut self, line: &[u8], output: &mut Vec<u8>) -> Result<bool, AllocError> {
-        let Some(op) = PipeOp::parse(line, &mut self.room)? else {
-            return Ok(false);
-        };
-        answer_op(&mut self.pipe, &mut self.joined, op, output)?;
-        Ok(true)
+        Ok(Some(PipeScript { pipe, room, joined }))
     }
 
     fn answer_first<'t>(
@@ -61,10 +45,10 @@ impl Script for PipeScript {
         text: &'t [u8],
         output: &mut Vec<u8>,
     ) -> Result<Option<&'t [u8]>, AllocError> {
-        let Some((op, rest)) = op_at(text, self.decoded.as_mut_slice()) else {
+        let Some((op, rest)) = op_at(text, &mut self.room)? else {
             return Ok(None);
         };
-        if text.len() - rest.len() > MAX_LINE {
+        if is_too_long(text, rest) {
             return Ok(None);
         }
         answer_op(&mut self.pipe, &mut self.joined, op, output)?;

@@ -6,14 +6,15 @@ ghost use Rattle.sleep_core.specs.Step.{answer_to, world_after};
 ghost use Rattle.scripts.specs.EventText.{event_text};
 ghost use Rattle.scripts.specs.declared.lines.TheConstants.{LINE_FEED};
 ghost use Rattle.scripts.specs.GroupNote.{PostsEach, listed};
-ghost use Rattle.scripts.specs.Schedule.{IsWorld, schedule_language};
+ghost use Rattle.scripts.specs.Lines.{NoLineAsks};
+ghost use Rattle.scripts.specs.Schedule.{IsWorld, event_of, schedule_language};
 ghost use Rattle.scripts.specs.Script.{AnswersFirst, IsShorter, following, growth};
 
-use crate::event_line::{event_at, parse_event, parse_size};
+use crate::event_line::{event_at, parse_size};
 use crate::event_text::push_event_answer;
-use crate::group_line::{GroupNote, group_at, parse_group};
+use crate::group_line::{GroupNote, group_at};
 use crate::lines::next_number;
-use crate::script::{MAX_LINE, Script};
+use crate::script::{Script, is_too_long};
 use sleep_core::{Event, World};
 use std::alloc::{AllocError, Global};
 use sync_base::{NoteSet, Pid};
@@ -41,18 +42,6 @@ impl Script for Schedule {
         Ok(Some(Schedule { world }))
     }
 
-    fn answer(&mut self, line: &[u8], output: &mut Vec<u8>) -> Result<bool, AllocError> {
-        if let Some(event) = parse_event(line) {
-            answer_event(&mut self.world, event, output)?;
-            return Ok(true);
-        }
-        let Some(group) = parse_group(line) else {
-            return Ok(false);
-        };
-        answer_group(&mut self.world, group, output)?;
-        Ok(true)
-    }
-
     fn answer_first<'t>(
         &mut self,
         text: &'t [u8],
@@ -61,7 +50,7 @@ impl Script for Schedule {
         let Some((event, rest)) = event_at(text) else {
             return answer_first_group(&mut self.world, text, output);
         };
-        if text.len() - rest.len() > MAX_LINE {
+        if is_too_long(text, rest) {
             return Ok(None);
         }
         answer_event(&mut self.world, event, output)?;
@@ -87,43 +76,30 @@ fn answer_event(world: &mut World, event: Event, output: &mut Vec<u8>) -> Result
     push_event_answer(output, world.step(event))
 }
 
-/// The quick way of a line `notepg`.
+/// The same of a text whose first line is no event: it may be a line `notepg`.
 #[inline(always)]
 fn answer_first_group<'t>(
     world: &mut World,
     text: &'t [u8],
     output: &mut Vec<u8>,
 ) -> Result<Option<&'t [u8]>, AllocError>
+    requires { NoLineAsks event_of text.now }
     ensures answered { IfOk result (λ rest. AnswersFirst
         (following schedule_language world.old (IsWorld world.new))
         text.entry.now rest (growth output.old.items output.new.items)) }
     ensures shorter { IfOk result (λ rest. IsShorter rest text.entry.now) }
 {
-    let Some((group, rest)) = group_at(text) else {
+    let Some((group, after)) = group_at(text) else {
         return Ok(None);
     };
-    let taken = text.len() - rest.len();
-    if taken > MAX_LINE {
+    if is_too_long(text, after) {
         return Ok(None);
     }
     post_each(world, group, output)?;
-    Ok(Some(rest))
+    Ok(Some(after))
 }
 
 /// Posts the notes to each process of a group in turn, and writes the answers.
-#[inline(never)]
-fn answer_group(
-    world: &mut World,
-    group: GroupNote<'_>,
-    output: &mut Vec<u8>,
-) -> Result<(), AllocError>
-    ensures { (pids : List ℕ) → listed group.entry.pids ≡ Some pids → OnOk result (PostsEach
-        group.entry.notes pids world.old world.new (growth output.old.items output.new.items)) }
-{
-    post_each(world, group, output)
-}
-
-/// The same, within a function that has more to do.
 #[inline(always)]
 fn post_each(
     world: &mut World,
@@ -137,10 +113,10 @@ fn post_each(
     answer_note(world, Pid(group.pids.first), notes, output)?;
     let mut rest = group.pids.others;
     while let Some(text) = rest {
-        let (number, after) = next_number(text);
-        if let Some(pid) = number {
-            answer_note(world, Pid(pid), notes, output)?;
-        }
+        let Some((pid, after)) = next_number(text) else {
+            return Ok(());
+        };
+        answer_note(world, Pid(pid), notes, output)?;
         rest = after;
     }
     Ok(())

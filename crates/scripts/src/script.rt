@@ -1,10 +1,11 @@
 //! Scripts of any language: their lines are answered in order, up to the first that is not in the
 //! grammar.
-ghost use Rattle.std.specs.Prelude.{◌≡◌, true, false, Some, None, ◌≤◌, ◌||◌, ◌++◌, ℕ, List, length};
+ghost use Rattle.std.specs.Prelude.{◌≡◌, true, false, Some, None, ◌≤◌, ◌+◌, ◌-◌, ◌||◌, ◌++◌, ℕ, List};
+ghost use Rattle.std.specs.Prelude.{length};
 ghost use Rattle.std.specs.Prelude.{nat_lt, IfOk, IfErr, OnOk};
 ghost use Rattle.scripts.specs.Lines.{lines_of, cut_line_of};
 ghost use Rattle.scripts.specs.Device.{Tells, IsOutside};
-ghost use Rattle.scripts.specs.Script.{Language, Opens, Answers, AnswersFirst, AnswersNext};
+ghost use Rattle.scripts.specs.Script.{Language, Opens, AnswersFirst};
 ghost use Rattle.scripts.specs.Script.{IsShorter, following, growth, if_fits, told, lines_told};
 ghost use Rattle.scripts.specs.Script.{stage, told_from};
 
@@ -35,15 +36,8 @@ pub trait Script: Drop + Sized {
     fn open(alloc: Global, line: &[u8]) -> Result<Option<Self>, AllocError>
         ensures { IfOk result (Opens stands_for (language.opened_by line.now)) };
 
-    /// Writes the answer to a line and its line feed, or answers false where that line is not in
-    /// the grammar.
-    fn answer(&mut self, line: &[u8], output: &mut Vec<u8>) -> Result<bool, AllocError>
-        ensures { (s : State) → stands_for self.old s → IfOk result (λ is_answered.
-            Answers (stands_for self.new) (language.answer_to s line.now) is_answered
-            (growth output.old.items output.new.items)) };
-
-    /// The quick way: answers the first line of a text in one pass, and gives what follows that
-    /// line. Where it gives nothing it has done nothing, and the line goes the way of `answer`.
+    /// Answers the first line of a text, and gives what follows that line; nothing where there is no
+    /// whole line, or it is not in the grammar or too long.
     fn answer_first<'t>(
         &mut self,
         text: &'t [u8],
@@ -136,7 +130,7 @@ fn answer_lines<S: Script, W: Write>(
     let mut held = Vec::with_capacity(alloc, ROOM)?;
     let mut rest = lines;
     let mut number = 2u64;
-    while let Some(after) = answer_next(&mut script, rest, &mut held)? {
+    while let Some(after) = script.answer_first(rest, &mut held)? {
         number += 1;
         rest = after;
         if held.len() >= PIECE {
@@ -177,40 +171,11 @@ fn end<S: Script>(
     Ok(None)
 }
 
-/// Answers the first line of a text, and gives what follows that line; nothing where there is no
-/// whole line, or it is not in the grammar.
-fn answer_next<'t, S: Script>(
-    script: &mut S,
-    text: &'t [u8],
-    output: &mut Vec<u8>,
-) -> Result<Option<&'t [u8]>, AllocError>
-    ensures answered { (s : S.State) → S.stands_for script.old s → IfOk result (λ rest.
-        AnswersNext (following S.language s (S.stands_for script.new)) text.now rest
-        (growth output.old.items output.new.items)) }
-    ensures shorter { IfOk result (λ rest. IsShorter rest text.now) }
+/// Whether the line before this rest of a text is too long.
+#[inline(always)]
+pub fn is_too_long(text: &[u8], rest: &[u8]) -> bool
+    requires { length rest.now ≤ length text.now }
+    ensures { result ≡ nat_lt (MAX_LINE + 1) (length text.now - length rest.now) }
 {
-    match script.answer_first(text, output)? {
-        Some(rest) => Ok(Some(rest)),
-        None => answer_line(script, text, output),
-    }
-}
-
-/// The same the plain way: the line is split off, and then read.
-fn answer_line<'t, S: Script>(
-    script: &mut S,
-    text: &'t [u8],
-    output: &mut Vec<u8>,
-) -> Result<Option<&'t [u8]>, AllocError>
-    ensures answered { (s : S.State) → S.stands_for script.old s → IfOk result (λ rest.
-        AnswersNext (following S.language s (S.stands_for script.new)) text.now rest
-        (growth output.old.items output.new.items)) }
-    ensures shorter { IfOk result (λ rest. IsShorter rest text.now) }
-{
-    let Some((line, rest)) = next_line(text) else {
-        return Ok(None);
-    };
-    if line.len() > MAX_LINE || !script.answer(line, output)? {
-        return Ok(None);
-    }
-    Ok(Some(rest))
+    text.len() - rest.len() > MAX_LINE + 1
 }

@@ -17,7 +17,7 @@ use Rattle.semaphore.specs.TimerHistory.{TimerEntry}
 use Rattle.semaphore.specs.Seats.{IsNewSema, AreNewTimers, HasRow, IsSemaSeatOf, IsTimerSeatOf}
 use Rattle.semaphore.specs.Seats.{opening_value}
 use Rattle.semaphore.specs.Timers.{WhyNoTimers}
-use Rattle.semaphore.specs.Units.{WhyNoSema}
+use Rattle.semaphore.specs.Units.{IsSemaRange}
 
 -- ---- a semaphore
 
@@ -87,21 +87,14 @@ module _ (roster : Unused) (value procs : ℕ) where
   opened_for_a_double_sleep : WhyNotOpened roster value procs fault.DoubleSleep → ⊥
   opened_for_a_double_sleep why = why
 
-  -- BadArg of the object alone, for a value that is not too great
-  a_value_of_an_object : value ≤ MAX_VALUE → WhyNoSema value procs fault.BadArg → ⊥
-  a_value_of_an_object small why = omega (arith, small, why)
+  -- an object of too great a value, or for as many processes as there may not be
+  a_value_out_of_range : MAX_VALUE < value → IsSemaRange value procs → ⊥
+  a_value_out_of_range great range =
+      let small = range.fits in
+      omega (arith, great, small)
 
-  -- NoProc of the object alone, for as many processes as there may be
-  processes_of_an_object : IsProcCount procs → WhyNoSema value procs fault.NoProc → ⊥
-  processes_of_an_object count (small, none) = none count
-
-  -- Memory of the object alone, for as many processes as there may not be
-  memory_before_the_processes : (IsProcCount procs → ⊥) → WhyNoSema value procs fault.Memory → ⊥
-  memory_before_the_processes none (small, count) = none count
-
-  -- NoRendez of the object alone, which has none
-  an_object_for_want_of_rendez : WhyNoSema value procs fault.NoRendez → ⊥
-  an_object_for_want_of_rendez why = why
+  processes_out_of_range : (IsProcCount procs → ⊥) → IsSemaRange value procs → ⊥
+  processes_out_of_range none range = none range.count
 
 -- ---- timers
 

@@ -4,8 +4,6 @@
 use Rattle.std.specs.Prelude.{◌≡◌, ℕ, ◌+◌, ◌-◌, ◌<◌, ◌≤◌, ◌==◌, nat_lt, Bool, true, false}
 use Rattle.std.specs.Prelude.{if◌then◌else◌, List, [], ◌∷◌, ◌++◌, length, take, drop, fold}
 use Rattle.std.specs.Prelude.{replicate, slice_set, slice_index, slice_index_or, Option, None, Some}
-use Rattle.sync_base.specs.declared.fault.Fault.{Fault}
-use Rattle.sync_base.specs.declared.fault.Fault.TheVariants as fault
 use Rattle.semaphore.specs.declared.limits.TheConstants.{MAX_VALUE, LAST_GRANT}
 use Rattle.semaphore.specs.declared.sema_object.Stage.{Stage}
 use Rattle.semaphore.specs.declared.sema_object.Stage.TheVariants.{Idle, Waiting, Granted}
@@ -143,9 +141,7 @@ pub record IsSound (s : SemaState) : Type 0 where
   pub may_wait : (seat : ℕ) → stands_in s.waiters seat ≡ true → grants_of s seat < LAST_GRANT
   pub fits : (seat : ℕ) → grants_of s seat ≤ LAST_GRANT
 
--- Own: why there is no semaphore of this value for so many processes. The value is tested first.
-abbrev pub WhyNoSema : ℕ → ℕ → Fault → Type 0
-WhyNoSema value procs fault.BadArg = MAX_VALUE < value
-WhyNoSema value procs fault.NoProc = (value ≤ MAX_VALUE) × (¬ IsProcCount procs)
-WhyNoSema value procs fault.Memory = (value ≤ MAX_VALUE) × IsProcCount procs
-WhyNoSema value procs other = ⊥
+-- a semaphore may have this value and serve so many processes
+pub record IsSemaRange (value procs : ℕ) : Type 0 where
+  pub fits : value ≤ MAX_VALUE
+  pub count : IsProcCount procs

@@ -26,6 +26,7 @@ ghost use Rattle.semaphore.specs.Seats.{
   caller_at,
   goes_on,
   is_ticked,
+  rendez_at,
   stands,
   stepped,
 };
@@ -202,7 +203,7 @@ impl Sema {
         let mut count = first;
         for _ in rt.forever() {
             probe.at(2);
-            let stop = sleep(rt, proc, rendez, count);
+            let stop = self.sleep(rt, proc, seat, rendez, count);
             probe.at(3);
             match stop {
                 None => {}
@@ -214,6 +215,28 @@ impl Sema {
             }
         }
         unreachable!()
+    }
+
+    // Sleeps once while the seat waits: whoever grants its unit finds it in the line, and wakes it.
+    // A seat that has left the line may not sleep, since no release would find its process.
+    fn sleep<R: Wait>(
+        &self,
+        rt: &R,
+        proc: &mut Proc<'_>,
+        seat: &SemaSeat,
+        rendez: RendezId,
+        threshold: u64,
+    ) -> Option<Stop>
+        requires waits { IsSeatAt self.now true seat.now }
+        requires own { rendez ≡ rendez_at self.now seat.now }
+        requires rendez { rendez.0 < rendez_of proc.old.words }
+        requires can { threshold ≤ LAST_GRANT }
+        ensures slept { Slept rendez threshold (sleep_ending result)
+            proc.old.process proc.new.process }
+        ensures words { proc.new.words ≡ proc.old.words }
+        ensures pid { proc.new.process.pid ≡ proc.old.process.pid }
+    {
+        sleep_once(rt, proc, rendez, threshold)
     }
 
     /// Leaves the line, if it stands there still, and says whether it was granted a unit.
@@ -257,11 +280,16 @@ pub(crate) fn sleep_past_grants<R: Wait>(
     ensures words { proc.new.words ≡ proc.old.words }
     ensures pid { proc.new.process.pid ≡ proc.old.process.pid }
 {
-    sleep(rt, proc, rendez, LAST_GRANT)
+    sleep_once(rt, proc, rendez, LAST_GRANT)
 }
 
-// Sleeps once. Answers what ended the sleep, where it didn't answer well.
-fn sleep<R: Wait>(rt: &R, proc: &mut Proc<'_>, rendez: RendezId, threshold: u64) -> Option<Stop>
+// Answers what ended the sleep, where it didn't answer well.
+fn sleep_once<R: Wait>(
+    rt: &R,
+    proc: &mut Proc<'_>,
+    rendez: RendezId,
+    threshold: u64,
+) -> Option<Stop>
     requires rendez { rendez.0 < rendez_of proc.old.words }
     requires can { threshold ≤ LAST_GRANT }
     ensures slept { Slept rendez threshold (sleep_ending result)

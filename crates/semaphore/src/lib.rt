@@ -28,6 +28,3 @@ pub use sema::{OpenedSema, Sema, SemaSeat};
 pub use sema_object::{SemaCall, SemaObject, SemaReply, Stage};
 pub use timer_object::{Timer, TimerCall, TimerObject, TimerReply};
 pub use timers::{OpenedTimers, TimerSeat, Timers};
-
-#[cfg(test)]
-mod tests;

@@ -7,7 +7,7 @@ use kernel_lock::Object;
 impl Object for SemaObject {
     ghost use Rattle.semaphore.specs.Units.{SemaState};
 
-    type Request = SemaCall;
+    type Call = SemaCall;
 
     type Reply = SemaReply;
 
@@ -34,7 +34,7 @@ impl Object for TimerObject {
     ghost use Rattle.std.specs.Prelude.{List};
     ghost use Rattle.semaphore.specs.declared.timer_object.Timer.{Timer};
 
-    type Request = TimerCall;
+    type Call = TimerCall;
 
     type Reply = TimerReply;
 

@@ -73,7 +73,8 @@ impl Sema {
         if !(1..=MAX_PROCS).contains(&procs) {
             return Err(Fault::NoProc);
         }
-        if roster.left().rendez < procs {
+        let (_, rendez) = roster.left();
+        if rendez < procs {
             return Err(Fault::NoRendez);
         }
         let object = SemaObject::new(alloc, value, procs)?;

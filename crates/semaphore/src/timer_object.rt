@@ -1,14 +1,13 @@
 //! Timers, one for each seat, as an object that one thread at a time calls.
-ghost use Rattle.std.specs.Prelude.{◌≡◌, ◌<◌, length, IfOk, IfErr, OnOk, replicate};
+ghost use Rattle.std.specs.Prelude.{◌≡◌, ◌<◌, length, IfOk, IfErr, replicate};
 ghost use Rattle.sleep_core.specs.Limits.{IsProcCount};
-ghost use Rattle.semaphore.specs.Timers.{answer_to, after, deadline_of, WhyNoTimers};
+ghost use Rattle.semaphore.specs.Timers.{answer_to, after, deadline_of};
 ghost use Rattle.semaphore.specs.declared.timer_object.Timer.TheVariants.{Unset};
 
 use crate::due::Due;
 use crate::tournament::Tournament;
 use std::alloc::Global;
 use std::marker::Model;
-use sync_base::limits::MAX_PROCS;
 use sync_base::{Fault, Pid};
 
 /// How the timer of a seat stands.
@@ -80,15 +79,12 @@ impl Model for TimerObject {
 impl TimerObject {
     /// No timer is set. It takes all its room: no other call takes memory.
     ///
-    /// NoProc: the processes are not from 1 to 1,024. Memory: room for the timers was refused.
+    /// Memory: room for the timers was refused.
     pub fn new(alloc: Global, procs: u64) -> Result<TimerObject, Fault>
-        ensures in_range { OnOk result (IsProcCount procs) }
+        requires { IsProcCount procs }
         ensures ok { IfOk result (λ t. t ≡ replicate procs Unset) }
-        ensures err { IfErr result (WhyNoTimers procs) }
+        ensures err { IfErr result (λ fault. fault ≡ Fault.Memory) }
     {
-        if !(1..=MAX_PROCS).contains(&procs) {
-            return Err(Fault::NoProc);
-        }
         Ok(TimerObject {
             timers: vec![in alloc; Timer::Unset; procs as usize]?,
             dues: Tournament::new(alloc, procs as usize)?,

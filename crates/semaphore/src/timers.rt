@@ -4,6 +4,7 @@ use kernel_lock::{LockSeat, Locked, Opened};
 use std::alloc::Global;
 use std::sync::Wait;
 use sync_base::Fault;
+use sync_base::limits::MAX_PROCS;
 
 /// Timers. Each of their processes has a seat, with one timer.
 #[derive(Drop)]
@@ -47,6 +48,9 @@ impl Timers {
         // Otherwise nobody has called them.
         ensures opened { IfOk result (λ opened. AreNewTimers procs opened.timers opened.seat) }
     {
+        if !(1..=MAX_PROCS).contains(&procs) {
+            return Err(Fault::NoProc);
+        }
         let object = TimerObject::new(alloc, procs)?;
         let Opened { lock, seat } = Locked::new(alloc, object, procs)?;
         Ok(OpenedTimers {

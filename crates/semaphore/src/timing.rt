@@ -67,27 +67,19 @@ impl Sema {
             (stands_timed proc.new seat.new timer.new)
             (AcquiresInTime caller (timers_seen timers.now timer.new) moment result) }
     {
-        self.tsemacquire_probed(
-            rt,
-            proc,
-            seat,
-            timers,
-            timer,
-            deadline(now, ms),
-            &mut NoProbe,
-        )
+        self.tsemacquire_probed(rt, proc, seat, timers, timer, now, ms, &mut NoProbe)
     }
 
-    /// As `tsemacquire`, until a tick at this moment. The probe is told of point 2 before and 3
-    /// after each sleep for a unit.
-    pub(crate) fn tsemacquire_probed<R: Wait, P: Probe>(
+    /// As `tsemacquire`. The probe is told of point 2 before and 3 after each sleep for a unit.
+    pub fn tsemacquire_probed<R: Wait, P: Probe>(
         &self,
         rt: &R,
         proc: &mut Proc<'_>,
         seat: &mut SemaSeat,
         timers: &Timers,
         timer: &mut TimerSeat,
-        deadline: u64,
+        now: u64,
+        ms: u32,
         probe: &mut P,
     ) -> Result<(), Fault>
         requires seat { IsSemaSeatOf self.now seat.old }
@@ -100,12 +92,13 @@ impl Sema {
         // When it returns, its timer is cancelled.
         ensures timer { IsTimerSeatOf timers.now timer.new }
         ensures timer_number { number_of timer.new.seat ≡ number_of timer.old.seat }
-        ensures called { let moment = deadline in
+        ensures called { let moment = deadline_of now ms in
             let caller = timed_caller self.now proc.old seat.old timer.old moment in
             Calls caller (stands_timed proc.old seat.old timer.old)
             (stands_timed proc.new seat.new timer.new)
             (AcquiresInTime caller (timers_seen timers.now timer.new) moment result) }
     {
+        let deadline = deadline(now, ms);
         match self.acquire(rt, seat) {
             Begun::Acquired => Ok(()),
             Begun::Worn => Err(Fault::Worn),

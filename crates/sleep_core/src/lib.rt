@@ -13,6 +13,3 @@ pub use answer::Answer;
 pub use event::Event;
 pub use phase::{Phase, ProcFlags};
 pub use world::World;
-
-#[cfg(test)]
-mod tests;

@@ -17,8 +17,5 @@ mod waking;
 pub use kernel::{Kernel, Opened, Start, Started};
 pub use proc::Proc;
 pub use rendez_words::Done;
-pub use roster::{Left, Roster};
+pub use roster::Roster;
 pub use status::{Look, ProcStatus, RendezStatus};
-
-#[cfg(test)]
-mod tests;

@@ -38,13 +38,6 @@ impl<'k> Model for Roster<'k> {
     }) };
 }
 
-/// How many pids and Rendez are left.
-#[derive(Clone, Copy, Debug, PartialEq, Eq)]
-pub struct Left {
-    pub pids: u64,
-    pub rendez: u64,
-}
-
 impl<'k> Roster<'k> {
     ghost use Rattle.std.specs.Prelude.{◌≡◌, ◌+◌, ◌^◌, ◌<◌, ◌≤◌, ◌⊎◌, length};
     ghost use Rattle.std.specs.Prelude.{IfOk, IfErr, OnOk, OnErr};
@@ -198,14 +191,11 @@ impl<'k> Roster<'k> {
         Ok(RendezId(first))
     }
 
-    /// How many pids and Rendez are left. Takes no memory and doesn't wait.
-    pub fn left(&self) -> Left
-        ensures pids { self.now.pids.next + result.pids ≡ procs_of self.now.words }
-        ensures rendez { self.now.rendez + result.rendez ≡ rendez_of self.now.words }
+    /// How many pids are left, and how many Rendez. Takes no memory and doesn't wait.
+    pub fn left(&self) -> (u64, u64)
+        ensures pids { self.now.pids.next + result.0 ≡ procs_of self.now.words }
+        ensures rendez { self.now.rendez + result.1 ≡ rendez_of self.now.words }
     {
-        Left {
-            pids: self.procs - self.next_pid,
-            rendez: self.rendez - self.next_rendez,
-        }
+        (self.procs - self.next_pid, self.rendez - self.next_rendez)
     }
 }

@@ -29,6 +29,3 @@ pub use piece::Piece;
 pub use plain_pipe::PlainPipe;
 pub use probe::{NoProbe, Probe};
 pub use threads_opts::ThreadsOpts;
-
-#[cfg(test)]
-mod tests;

@@ -1,6 +1,6 @@
 -- What a member knows once its request was served: the reply is one that a tag space gives.
-use Rattle.std.proofs.Common.{◌≡◌, ℕ, ◌<◌, ◌≤◌, true, List, [], ◌∷◌}
-use Rattle.std.proofs.Common.{sym, ap, subst, arith}
+use Rattle.std.proofs.Common.{◌≡◌, ◌≢◌, ℕ, ◌<◌, ◌≤◌, eqb, true, List, [], ◌∷◌}
+use Rattle.std.proofs.Common.{length, refl, sym, ap, ◌∙◌, subst, arith}
 use Rattle.std.specs.Prelude.{⊤}
 use Rattle.histories.specs.Account.{KnowsHistory, has_number}
 use Rattle.histories.specs.History.{IsLegal}
@@ -22,10 +22,11 @@ use Rattle.tag_space.specs.declared.place.Place.{Place}
 use Rattle.tag_space.specs.declared.space.TagSpace.{TagSpace}
 use Rattle.tag_space.specs.Group.{group, member_of}
 use Rattle.tag_space.specs.Members.{space_of, account_of, number_of, seen_of, IsOneOf}
+use Rattle.tag_space.specs.Members.{HasCallUnderWay, IsSameMember}
 use Rattle.tag_space.specs.Rendezvous.{Entry, Space, rendezvous, IsAnswered, IsRight, stage_of}
-use Rattle.tag_space.specs.Rendezvous.Stage.{Over}
+use Rattle.tag_space.specs.Rendezvous.Stage.{Over, Waits}
 use Rattle.tag_space.specs.Walk.{Asks}
-use Rattle.tag_space.proofs.OtherLemmas.{NoneBy, none_by, over_still}
+use Rattle.tag_space.proofs.OtherLemmas.{NoneBy, none_by, over_still, way_still, yes}
 use Rattle.tag_space.specs.declared.limits.TheConstants.{LAST_MEETING}
 use Rattle.tag_space.proofs.CountLemmas.{fits_counts}
 use Rattle.tag_space.proofs.PromiseLemmas.{state_is_past}
@@ -97,6 +98,16 @@ module _ (space : Space) (limit : ℕ) (call : GroupCall) (told : GroupReply)
       (over_still space member asks.looked.since old.seen
       (subst (IsLegal (rendezvous space) []) asks.looked.history_is (past_is_legal legal))
       (none_since member has) over)
+
+  -- who had a call under way has it still before its request
+  pub waits_still : (member : ℕ) → has_number old.shares member ≡ true
+      → IsLegal (rendezvous space) [] new.seen → stage_of old.seen member ≢ Over
+      → stage_of asks.past member ≢ Over
+  waits_still member has legal before =
+      subst (λ h. stage_of h member ≢ Over) (sym asks.looked.history_is)
+      (way_still space member asks.looked.since old.seen
+      (subst (IsLegal (rendezvous space) []) asks.looked.history_is (past_is_legal legal))
+      (none_since member has) before)
 
 -- the replies that a call of a member that may call can get, and those of the other requests
 abbrev pub IsCallReply : GroupReply → Type 0
@@ -176,6 +187,33 @@ module _ (space : TagSpace) (before after : Member) (one : IsOneOf space before)
       leave_reply (space_of space) asks.past (number_of before) (is_below space before one) told
       (answered_so (space_of space) space.procs _ told (account_of before) (account_of after) asks
       then.history.history.legal)
+
+  -- a member that was told to wait has a call under way
+  pub call_waits : (tag : Tag) (value count : ℕ) → IsSameMember before after
+      → Asks (Call (number_of before) tag value) (Wait count) (account_of before) (account_of after)
+      → HasCallUnderWay after
+  call_waits tag value count same asks =
+      let stage : stage_of (seen_of after) (number_of before) ≡ Waits (record {
+        number = length asks.past;
+        member = number_of before;
+        tag = tag.0;
+        value = value;
+      }) =
+      ap (λ (a : Account Entry). stage_of a.seen (number_of before)) asks.new_is
+      ∙ rw (yes (number_of before)) refl in
+      subst (λ n. stage_of (seen_of after) n ≢ Over) (sym same.number) (λ over. cc)
+
+  -- and one that was told to wait on
+  pub collect_waits : (count : ℕ) → IsSameMember before after → HasCallUnderWay before
+      → Asks (Collect (number_of before)) (Wait count) (account_of before) (account_of after)
+      → HasCallUnderWay after
+  collect_waits count same under asks =
+      let still = waits_still (space_of space) space.procs (Collect (number_of before)) (Wait count)
+      (account_of before) (account_of after) asks (number_of before) one.seat.own
+      then.history.history.legal under in
+      subst (λ n. stage_of (seen_of after) n ≢ Over) (sym same.number)
+      (subst (λ h. stage_of h (number_of before) ≢ Over)
+      (sym (ap (λ (a : Account Entry). a.seen) asks.new_is)) still)
 
 -- who was found is a member, and a count leaves a level above it
 abbrev pub FitsReply : TagSpace → GroupReply → Type 0

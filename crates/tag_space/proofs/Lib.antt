@@ -9,7 +9,7 @@ mod PromiseLemmas
 mod WaitLemmas
 mod WorkedSpaces
 mod OtherLemmas
-mod AskLemmas
+pub mod AskLemmas
 mod CountLemmas
 mod WalkLemmas
 mod OutcomeLemmas
@@ -17,7 +17,7 @@ mod EndLemmas
 mod ValueLemmas
 mod PartnerLemmas
 mod JoinLemmas
-mod TwoLemmas
+pub mod TwoLemmas
 mod WorkedCalls
 mod WorkedWalks
 mod WorkedForks

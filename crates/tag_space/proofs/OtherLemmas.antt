@@ -17,7 +17,7 @@ use Rattle.tag_space.specs.declared.calls.GroupReply.{GroupReply}
 use Rattle.tag_space.specs.declared.calls.GroupReply.TheVariants.{Met, WasMet, Wait, Gone}
 use Rattle.tag_space.specs.Group.{member_of}
 use Rattle.tag_space.specs.Outcome.{call_made, calls_by, IsOneOfPairs}
-use Rattle.tag_space.specs.Rendezvous.{Entry, Space, Offer, Pair, stage_of, stage_after}
+use Rattle.tag_space.specs.Rendezvous.{Entry, Space, Offer, Pair, Stage, stage_of, stage_after}
 use Rattle.tag_space.specs.Rendezvous.{pairs_of, found_by, pair_with, rendezvous, last_wait}
 use Rattle.tag_space.specs.Rendezvous.Stage.{Over, Waits, Paired}
 use Rattle.tag_space.proofs.WaitLemmas.{waits_last}
@@ -58,6 +58,35 @@ over_after number member (Collect caller) (WasMet given) differs =
 over_after number member (Leave caller) (WasMet given) differs = rw (no caller member differs) refl
 over_after number member (Leave caller) Gone differs = rw (no caller member differs) refl
 over_after number member call told differs = refl
+
+-- a call that waits, or was found, is not over because it is found
+found_still : (finding : Offer) (stage : Stage) → stage ≢ Over → found_by finding stage ≡ Over → ⊥
+found_still finding Over before over = before refl
+found_still finding (Waits offer) before over = cc
+found_still finding (Paired pair) before over = cc
+
+-- who has a call under way has it still
+way_after : (number member : ℕ) (stage : Stage) (call : GroupCall) (told : GroupReply)
+    → member_of call ≢ member → stage ≢ Over → stage_after number member stage call told ≢ Over
+way_after number member stage (Call caller tag value) (Wait count) differs before =
+    rw (no caller member differs) before
+way_after number member stage (Call caller tag value) (Met given other count) differs before =
+    elim (cases_Bool (eqb other member)) [
+      | inl is ↦ rw is (found_still (record {
+        number = number;
+        member = caller;
+        tag = tag.0;
+        value = value;
+      }) stage before)
+      | inr not ↦ rw not before
+    ]
+way_after number member stage (Collect caller) (WasMet given) differs before =
+    rw (no caller member differs) before
+way_after number member stage (Leave caller) (WasMet given) differs before =
+    rw (no caller member differs) before
+way_after number member stage (Leave caller) Gone differs before =
+    rw (no caller member differs) before
+way_after number member stage call told differs before = before
 
 -- a pair is one of more pairs too
 pub one_of_more : (pair : Pair) (more pairs : List Pair) → IsOneOfPairs pair pairs
@@ -175,6 +204,14 @@ module _ (space : Space) (member : ℕ) where
       before
       ∙ over_after (length (since ++ past)) member entry.request entry.reply
       (not_its entry legal.0.own none.0)
+
+  -- a member with a call under way has it still behind entries of others
+  pub way_still : (since past : List Entry) → IsLegal (rendezvous space) [] (since ++ past)
+      → NoneBy member since → stage_of past member ≢ Over → stage_of (since ++ past) member ≢ Over
+  way_still [] past legal none before = before
+  way_still (entry ∷ since) past legal none before =
+      way_after (length (since ++ past)) member (stage_of (since ++ past) member) entry.request
+      entry.reply (not_its entry legal.0.own none.0) (way_still since past legal.1 none.1 before)
 
   -- a call that is under way is so still behind entries of others
   pub under_still : (since past : List Entry) (offer : Offer)

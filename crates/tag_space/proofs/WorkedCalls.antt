@@ -7,13 +7,12 @@ use Rattle.histories.specs.declared.account.Account.{Account}
 use Rattle.kernel_lock.specs.Seats.{KnowsAllGiven, account_of, gave_of}
 use Rattle.sleep_wakeup.specs.Forks.{HasPid, asks_group}
 use Rattle.sleep_wakeup.specs.Groups.{begins, follows, leaves}
-use Rattle.sleep_wakeup.specs.Kernel.{Unused}
+use Rattle.sleep_wakeup.specs.Kernel.{Running, Unused}
 use Rattle.sync_base.specs.NoteSet.{no_notes}
 use Rattle.sync_base.specs.declared.fault.Fault.TheVariants as fault
 use Rattle.sync_base.specs.declared.flags.Flags.{Flags}
 use Rattle.tag_space.specs.declared.calls.GroupReply.TheVariants.{Wait}
 use Rattle.tag_space.specs.declared.space.TagSpace.{TagSpace}
-use Rattle.tag_space.specs.declared.forking.Child.{Child}
 use Rattle.tag_space.specs.declared.member.Member.{Member}
 use Rattle.tag_space.specs.Forks.{left_by}
 use Rattle.tag_space.specs.Forks.{AreKnown, asks_child, asks_space, callers_space, childs_space}
@@ -325,10 +324,10 @@ module _ (unused : Unused) (space : TagSpace) (before after further : Member) wh
       differs (ap (λ (member : Member). number_of member) (untouched both_leave_the_member))
 
   -- with RFPROC the child's member is a further one
-  a_child_has_a_further_member : (child : Child) →
-      GivesMember space (flags 1) before after (Some child)
-      → IsFurtherMember space before after child.member
-  a_child_has_a_further_member child gives = gives rfproc_alone_joins_its_parent
+  a_child_has_a_further_member : (proc : Running) (own : Member) →
+      GivesMember space (flags 1) before after (Some (proc, own))
+      → IsFurtherMember space before after own
+  a_child_has_a_further_member proc own gives = gives rfproc_alone_joins_its_parent
 
   no_child_with_rfproc : GivesMember space (flags 1) before after None → ⊥
   no_child_with_rfproc none = none rfproc_alone_joins_its_parent

@@ -7,8 +7,7 @@ use Rattle.kernel_lock.specs.Seats.{KnowsAllGiven, gave_of, given_of, limit_of}
 use Rattle.sync_base.specs.declared.fault.Fault.TheVariants as fault
 use Rattle.sync_base.specs.declared.flags.Flags.{Flags}
 use Rattle.sleep_wakeup.specs.Forks.{HasPid}
-use Rattle.sleep_wakeup.specs.Kernel.{Unused, HasRendez, next_process}
-use Rattle.tag_space.specs.declared.forking.Child.{Child}
+use Rattle.sleep_wakeup.specs.Kernel.{Running, Unused, HasRendez, next_process}
 use Rattle.tag_space.specs.declared.forking.SpentMember.{SpentMember}
 use Rattle.tag_space.specs.declared.member.Member.{Member}
 use Rattle.tag_space.specs.declared.space.TagSpace.{TagSpace}
@@ -71,7 +70,7 @@ module _ (unused : Unused) (space : TagSpace) (before after : Member) where
   it_comes_back_as_it_was : (flags : Flags) → ComesBack (rfork_of unused space flags) before before
   it_comes_back_as_it_was flags = inl refl
 
-module _ (unused : Unused) (old new : TagSpace) (child : Child) where
+module _ (unused : Unused) (old new : TagSpace) (proc : Running) (own : Member) where
   -- RFREND makes a space and no child, RFPROC a child and no space
   rfrend_makes_a_space : IsNewSpace unused old.procs new
       → HasSpace unused old (flags_of 2) (Some new)
@@ -83,15 +82,15 @@ module _ (unused : Unused) (old new : TagSpace) (child : Child) where
   rfproc_makes_no_space : HasSpace unused old (flags_of 1) None
   rfproc_makes_no_space asked = false≢true asked
 
-  rfproc_makes_a_child : child.proc ≡ next_process unused → IsMemberOf old child.member
-      → HasChild unused old (flags_of 1) (Some child)
+  rfproc_makes_a_child : proc ≡ next_process unused → IsMemberOf old own
+      → HasChild unused old (flags_of 1) (Some (proc, own))
   rfproc_makes_a_child is_next is_member = (refl, is_next, is_member)
 
   -- where no space is made nobody is first there
-  nobody_is_first : (member : Member) → IsFirstThere None member (Some child)
+  nobody_is_first : (member : Member) → IsFirstThere None member (Some (proc, own))
   nobody_is_first member = tt
 
-module _ (space : TagSpace) (before after : Member) (child : Child) (spent : SpentMember) where
+module _ (space : TagSpace) (before after own : Member) (proc : Running) (spent : SpentMember) where
   -- without flags the caller's member is as it was
   no_flag_touches_nothing : IsUntouched (flags_of 0) before before
   no_flag_touches_nothing leaves = refl
@@ -100,8 +99,8 @@ module _ (space : TagSpace) (before after : Member) (child : Child) (spent : Spe
   rfproc_keeps_the_member : IsSameMember before after → KeepsMember (flags_of 1) before after
   rfproc_keeps_the_member same stays = same
 
-  rfproc_gives_a_further_member : IsFurtherMember space before after child.member
-      → GivesMember space (flags_of 1) before after (Some child)
+  rfproc_gives_a_further_member : IsFurtherMember space before after own
+      → GivesMember space (flags_of 1) before after (Some (proc, own))
   rfproc_gives_a_further_member further joins = further
 
   rfproc_spends_nothing : HasSpent (flags_of 1) before None
@@ -233,33 +232,34 @@ module _ (unused : Unused) (old new : TagSpace) (flags : Flags) where
 
 -- ---- who is made
 
-module _ (unused : Unused) (space : TagSpace) (flags : Flags) (child : Child) where
+module _ (unused : Unused) (space : TagSpace) (flags : Flags) (proc : Running) (own : Member) where
   -- a child that was asked for is not made, or one is that nobody asked for
   no_child_is_made : IsTrue (asks_child flags) → HasChild unused space flags None → ⊥
   no_child_is_made asked none = none asked
 
-  a_child_unasked : (IsTrue (asks_child flags) → ⊥) → HasChild unused space flags (Some child) → ⊥
+  a_child_unasked : (IsTrue (asks_child flags) → ⊥)
+      → HasChild unused space flags (Some (proc, own)) → ⊥
   a_child_unasked unasked (asked, is_next, is_member) = unasked asked
 
   -- it is another process than the next one, or a member of another space
-  a_child_of_another_pid : child.proc ≢ next_process unused
-      → HasChild unused space flags (Some child) → ⊥
+  a_child_of_another_pid : proc ≢ next_process unused
+      → HasChild unused space flags (Some (proc, own)) → ⊥
   a_child_of_another_pid other (asked, is_next, is_member) = other is_next
 
-  a_child_of_another_space : (IsMemberOf space child.member → ⊥)
-      → HasChild unused space flags (Some child) → ⊥
+  a_child_of_another_space : (IsMemberOf space own → ⊥)
+      → HasChild unused space flags (Some (proc, own)) → ⊥
   a_child_of_another_space other (asked, is_next, is_member) = other is_member
 
   no_child_is_there : IsChild unused space None → ⊥
   no_child_is_there is = is
 
-  a_child_there_of_another_pid : child.proc ≢ next_process unused
-      → IsChild unused space (Some child) → ⊥
+  a_child_there_of_another_pid : proc ≢ next_process unused
+      → IsChild unused space (Some (proc, own)) → ⊥
   a_child_there_of_another_pid other (is_next, is_member) = other is_next
 
 -- ---- the caller's member
 
-module _ (flags : Flags) (before after : Member) (child : Child) (spent : SpentMember) where
+module _ (flags : Flags) (before after own : Member) (proc : Running) (spent : SpentMember) where
   -- a caller that stays gets another member's number, or one that no child needs is touched
   another_member_is_kept : (MovesCaller flags → ⊥) → number_of after ≢ number_of before
       → KeepsMember flags before after → ⊥
@@ -280,13 +280,13 @@ module _ (flags : Flags) (before after : Member) (child : Child) (spent : SpentM
   no_member_is_given space joins none = none joins
 
   its_parents_member : (space : TagSpace) → JoinsParent flags
-      → number_of child.member ≡ number_of before
-      → GivesMember space flags before after (Some child) → ⊥
+      → number_of own ≡ number_of before
+      → GivesMember space flags before after (Some (proc, own)) → ⊥
   its_parents_member space joins same gives =
       let above = (gives joins).above in omega (arith, same, above)
 
-  a_further_member_is_its_parents : (space : TagSpace) → number_of child.member ≡ number_of before
-      → HasFurther space before after (Some child) → ⊥
+  a_further_member_is_its_parents : (space : TagSpace) → number_of own ≡ number_of before
+      → HasFurther space before after (Some (proc, own)) → ⊥
   a_further_member_is_its_parents space same further =
       let above = further.above in omega (arith, same, above)
 
@@ -311,7 +311,7 @@ module _ (flags : Flags) (before after : Member) (child : Child) (spent : SpentM
 
 -- ---- who is first
 
-module _ (new : TagSpace) (member : Member) (child : Child) where
+module _ (new : TagSpace) (member : Member) (proc : Running) (own : Member) where
   -- the first of a new space gave a member, or is no member of it
   the_first_gave_one : length (gave_of member.seat) ≡ 1 → IsFirstMember new member → ⊥
   the_first_gave_one one first =
@@ -325,6 +325,6 @@ module _ (new : TagSpace) (member : Member) (child : Child) where
   the_caller_is_not_first : (IsFirstMember new member → ⊥) → IsFirstThere (Some new) member None → ⊥
   the_caller_is_not_first other first = other first
 
-  the_child_is_not_first : (IsFirstMember new child.member → ⊥)
-      → IsFirstThere (Some new) member (Some child) → ⊥
+  the_child_is_not_first : (IsFirstMember new own → ⊥)
+      → IsFirstThere (Some new) member (Some (proc, own)) → ⊥
   the_child_is_not_first other first = other first

@@ -9,7 +9,9 @@ use Rattle.tag_space.specs.declared.asking.Left.TheVariants as left
 use Rattle.tag_space.specs.declared.calls.GroupReply.{GroupReply}
 use Rattle.tag_space.specs.declared.calls.GroupReply.TheVariants as reply
 use Rattle.tag_space.specs.declared.limits.TheConstants.{LAST_MEETING}
+use Rattle.tag_space.specs.declared.member.Member.{Member}
 use Rattle.tag_space.specs.declared.space.TagSpace.{TagSpace}
+use Rattle.tag_space.specs.Members.{HasCallUnderWay}
 
 -- the reply of the space
 abbrev pub called_reply : Called → GroupReply
@@ -34,3 +36,13 @@ FitsCall space called.Worn = ⊤
 abbrev pub FitsTold : Told → Type 0
 FitsTold (told.Met value) = ⊤
 FitsTold (told.Wait count) = count ≤ LAST_MEETING
+
+-- a member that is told to wait, first or again, has a call under way
+abbrev pub WaitsWhere : Called → Member → Type 0
+WaitsWhere (called.Met value partner count) member = ⊤
+WaitsWhere (called.Wait count) member = HasCallUnderWay member
+WaitsWhere called.Worn member = ⊤
+
+abbrev pub WaitsOnWhere : Told → Member → Type 0
+WaitsOnWhere (told.Met value) member = ⊤
+WaitsOnWhere (told.Wait count) member = HasCallUnderWay member

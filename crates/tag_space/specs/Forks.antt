@@ -5,18 +5,21 @@ use Rattle.std.specs.Prelude.{◌≡◌, ◌⊎◌, ⊤, ◌<◌, ◌-◌, ◌==
 use Rattle.std.specs.Prelude.{Option, Some, None}
 use Rattle.kernel_lock.specs.Seats.{KnowsAllGiven}
 use Rattle.sleep_wakeup.specs.Forks.{HasPid, asks_group}
-use Rattle.sleep_wakeup.specs.Kernel.{Unused, HasRendez, next_process, one_pid_less, rendez_less}
-use Rattle.sleep_wakeup.specs.Kernel.{regrouped}
+use Rattle.sleep_wakeup.specs.Kernel.{Running, Unused, HasRendez, next_process, one_pid_less}
+use Rattle.sleep_wakeup.specs.Kernel.{rendez_less, regrouped}
 use Rattle.sync_base.specs.declared.fault.Fault.{Fault}
 use Rattle.sync_base.specs.declared.fault.Fault.TheVariants as fault
 use Rattle.sync_base.specs.declared.flags.Flags.{Flags}
 use Rattle.sync_base.specs.Flags.{bits_of}
-use Rattle.tag_space.specs.declared.forking.Child.{Child}
 use Rattle.tag_space.specs.declared.forking.SpentMember.{SpentMember}
 use Rattle.tag_space.specs.declared.member.Member.{Member}
 use Rattle.tag_space.specs.declared.space.TagSpace.{TagSpace}
 use Rattle.tag_space.specs.Members.{IsMemberOf, IsSameMember}
 use Rattle.tag_space.specs.Spaces.{IsNewSpace, IsFirstMember, IsFurtherMember}
+
+-- a child and its member
+abbrev pub Child : Type 0
+Child = Running × Member
 
 -- the flags but RFNOTEG
 abbrev pub others_of : Flags → ℕ
@@ -105,9 +108,8 @@ HasSpace unused old flags (Some new) =
 -- a child is made exactly where RFPROC is set: the next process, a member of its space
 abbrev pub HasChild : Unused → TagSpace → Flags → Option Child → Type 0
 HasChild unused space flags None = ¬ IsTrue (asks_child flags)
-HasChild unused space flags (Some child) =
-    IsTrue (asks_child flags) × (child.proc ≡ next_process unused)
-    × IsMemberOf space child.member
+HasChild unused space flags (Some (proc, member)) =
+    IsTrue (asks_child flags) × (proc ≡ next_process unused) × IsMemberOf space member
 
 -- What is left: a row less where a space was made, and a pid less where a child was made. With
 -- RFNOTEG the child is in a note group of its own, and where there is no child the caller is.
@@ -137,8 +139,8 @@ IsUntouched flags before after = LeavesMember flags → after ≡ before
 -- a child that joins its parent has a further member, which its parent's gave and nothing else
 abbrev pub GivesMember : TagSpace → Flags → Member → Member → Option Child → Type 0
 GivesMember space flags before after None = ¬ JoinsParent flags
-GivesMember space flags before after (Some child) =
-    JoinsParent flags → IsFurtherMember space before after child.member
+GivesMember space flags before after (Some (proc, further)) =
+    JoinsParent flags → IsFurtherMember space before after further
 
 -- a caller that moves has spent the member that it had, which is as it was
 abbrev pub HasSpent : Flags → Member → Option SpentMember → Type 0
@@ -149,15 +151,15 @@ HasSpent flags before (Some spent) = MovesCaller flags × (spent.member ≡ befo
 abbrev pub IsFirstThere : Option TagSpace → Member → Option Child → Type 0
 IsFirstThere None member child = ⊤
 IsFirstThere (Some new) member None = IsFirstMember new member
-IsFirstThere (Some new) member (Some child) = IsFirstMember new child.member
+IsFirstThere (Some new) member (Some (proc, first)) = IsFirstMember new first
 
 -- ---- of the parts of rfork
 
 -- a child is there, the next process, a member of this space
 abbrev pub IsChild : Unused → TagSpace → Option Child → Type 0
 IsChild unused space None = ⊥
-IsChild unused space (Some child) =
-    (child.proc ≡ next_process unused) × IsMemberOf space child.member
+IsChild unused space (Some (proc, member)) =
+    (proc ≡ next_process unused) × IsMemberOf space member
 
 -- a space is there, of the same size as this one, and its row is the next one
 abbrev pub IsGroup : Unused → TagSpace → Option TagSpace → Type 0
@@ -167,7 +169,7 @@ IsGroup unused old (Some new) = IsNewSpace unused old.procs new
 -- the child has a further member of its parent's space
 abbrev pub HasFurther : TagSpace → Member → Member → Option Child → Type 0
 HasFurther space before after None = ⊥
-HasFurther space before after (Some child) = IsFurtherMember space before after child.member
+HasFurther space before after (Some (proc, further)) = IsFurtherMember space before after further
 
 -- a member was spent, and is as it was
 abbrev pub IsSpent : Member → Option SpentMember → Type 0

@@ -1,5 +1,5 @@
 -- What clauses see of a tag space and of its members.
-use Rattle.std.specs.Prelude.{◌≡◌, ◌+◌, ◌≤◌, ℕ, List, []}
+use Rattle.std.specs.Prelude.{◌≡◌, ◌≢◌, ◌+◌, ◌≤◌, ℕ, List, []}
 use Rattle.histories.specs.Account.{KnowsHistory}
 use Rattle.histories.specs.declared.account.Account.{Account}
 use Rattle.kernel_lock.specs.Seats as seats
@@ -50,6 +50,10 @@ pub record IsOneOf (space : TagSpace) (member : Member) : Type 0 where
 pub record IsMemberOf (space : TagSpace) (member : Member) : Type 0 where
   pub one : IsOneOf space member
   pub rests : stage_of (seen_of member) (number_of member) ≡ Over
+
+-- its last call is under way: it waits, or was met and has not been told
+abbrev pub HasCallUnderWay : Member → Type 0
+HasCallUnderWay member = stage_of (seen_of member) (number_of member) ≢ Over
 
 -- it is the same member, whatever it knows
 pub record IsSameMember (before after : Member) : Type 0 where

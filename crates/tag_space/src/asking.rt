@@ -2,11 +2,11 @@
 ghost use Rattle.std.specs.Prelude.{◌≡◌};
 ghost use Rattle.tag_space.specs.declared.calls.GroupCall.TheVariants.{Call, Collect, Leave};
 ghost use Rattle.tag_space.specs.Group.{member_of};
-ghost use Rattle.tag_space.specs.Members.{IsMemberOf, IsOneOf, IsSameMember};
+ghost use Rattle.tag_space.specs.Members.{HasCallUnderWay, IsMemberOf, IsOneOf, IsSameMember};
 ghost use Rattle.tag_space.specs.Members.{account_of, number_of};
 ghost use Rattle.tag_space.specs.Walk.{Asks};
 ghost use Rattle.tag_space.specs.Asking.{called_reply, told_reply, left_reply};
-ghost use Rattle.tag_space.specs.Asking.{FitsCall, FitsTold};
+ghost use Rattle.tag_space.specs.Asking.{FitsCall, FitsTold, WaitsOnWhere, WaitsWhere};
 
 use crate::calls::{GroupCall, GroupReply};
 use crate::member::Member;
@@ -65,6 +65,7 @@ impl TagSpace {
         ensures asked { Asks (Call (number_of member.old) tag value) (called_reply result)
             (account_of member.old) (account_of member.new) }
         ensures fits { FitsCall self.now result }
+        ensures under_way { WaitsWhere result member.new }
     {
         let request = GroupCall::Call {
             member: member.seat.number(),
@@ -91,12 +92,14 @@ impl TagSpace {
 
     // Asks whether the call was met.
     pub(crate) fn collect<R: Wait>(&self, rt: &R, member: &mut Member) -> Told
-        requires { IsOneOf self.now member.old }
+        requires member { IsOneOf self.now member.old }
+        requires under_way { HasCallUnderWay member.old }
         ensures member { IsOneOf self.now member.new }
         ensures same { IsSameMember member.old member.new }
         ensures asked { Asks (Collect (number_of member.old)) (told_reply result)
             (account_of member.old) (account_of member.new) }
         ensures fits { FitsTold result }
+        ensures under_way { WaitsOnWhere result member.new }
     {
         let request = GroupCall::Collect {
             member: member.seat.number(),
@@ -112,7 +115,8 @@ impl TagSpace {
 
     // Asks the same, and waits no longer.
     pub(crate) fn leave<R: Wait>(&self, rt: &R, member: &mut Member) -> Left
-        requires { IsOneOf self.now member.old }
+        requires member { IsOneOf self.now member.old }
+        requires under_way { HasCallUnderWay member.old }
         ensures member { IsOneOf self.now member.new }
         ensures same { IsSameMember member.old member.new }
         ensures asked { Asks (Leave (number_of member.old)) (left_reply result)

@@ -36,13 +36,6 @@ use std::alloc::Global;
 use std::sync::Wait;
 use sync_base::{Fault, Flags};
 
-/// A child, and with what it calls in its tag space.
-#[derive(Drop)]
-pub struct Child<'k> {
-    pub proc: Proc<'k>,
-    pub member: Member,
-}
-
 /// The member that a caller had in the space that it left. Nothing is called with it any more.
 #[derive(Drop)]
 pub struct SpentMember {
@@ -56,8 +49,8 @@ pub struct Forked<'k> {
     pub member: Member,
     /// The new space, with RFREND.
     pub space: Option<TagSpace>,
-    /// The child, with RFPROC. With RFREND too it is the first of the new space.
-    pub child: Option<Child<'k>>,
+    /// The child and its member, with RFPROC. With RFREND too it is the first of the new space.
+    pub child: Option<(Proc<'k>, Member)>,
     /// With RFREND alone, the member that the caller had in its old space.
     pub spent: Option<SpentMember>,
 }
@@ -183,7 +176,8 @@ fn fork_inside<'k, R: Wait>(
     ensures parent { parent.new ≡ parent.old }
 {
     let mut member = member;
-    if roster.left().pids == 0 {
+    let (pids, _) = roster.left();
+    if pids == 0 {
         return Err(NotForked {
             member,
             fault: Fault::NoProc,
@@ -193,10 +187,7 @@ fn fork_inside<'k, R: Wait>(
         Ok(childs) => Ok(Forked {
             member,
             space: None,
-            child: Some(Child {
-                proc: next_child(roster, parent, apart),
-                member: childs,
-            }),
+            child: Some((next_child(roster, parent, apart), childs)),
             spent: None,
         }),
         Err(fault) => Err(NotForked { member, fault }),
@@ -266,7 +257,8 @@ fn fork_outside<'k>(
         (rendez_less space.now.procs roster.old)) }
     ensures parent { parent.new ≡ parent.old }
 {
-    if roster.left().pids == 0 {
+    let (pids, _) = roster.left();
+    if pids == 0 {
         return Err(NotForked {
             member,
             fault: Fault::NoProc,
@@ -281,10 +273,7 @@ fn fork_outside<'k>(
         ) => Ok(Forked {
             member,
             space: Some(space),
-            child: Some(Child {
-                proc: next_child(roster, parent, apart),
-                member: childs,
-            }),
+            child: Some((next_child(roster, parent, apart), childs)),
             spent: None,
         }),
         Err(fault) => Err(NotForked { member, fault }),

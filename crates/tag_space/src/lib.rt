@@ -19,10 +19,7 @@ pub mod space;
 mod table;
 
 pub use calls::{GroupCall, GroupReply};
-pub use forking::{Child, Forked, NotForked, SpentMember, rfork};
+pub use forking::{Forked, NotForked, SpentMember, rfork};
 pub use group_object::GroupObject;
 pub use member::Member;
 pub use space::{Opened, TagSpace};
-
-#[cfg(test)]
-mod tests;

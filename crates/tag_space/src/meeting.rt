@@ -1,10 +1,12 @@
 //! The call of rendezvous(2).
-ghost use Rattle.std.specs.Prelude.{◌≡◌, ◌+◌, ◌<◌, ◌≤◌};
+ghost use Rattle.std.specs.Prelude.{◌≡◌, ◌+◌, ◌<◌, ◌≤◌, IfErr, OnOk};
 ghost use Rattle.rendez_words.specs.Words.{rendez_of};
-ghost use Rattle.sleep_wakeup.specs.Calls.{WhyNotSlept, Wakes};
+ghost use Rattle.sync_base.specs.NoteSet.{no_notes};
+ghost use Rattle.sleep_wakeup.specs.Calls.{Sleeps, WhyNotSlept, Wakes};
 ghost use Rattle.sleep_wakeup.specs.Deeds.{WakesOne, PutsBack};
 ghost use Rattle.tag_space.specs.declared.limits.TheConstants.{LAST_MEETING};
 ghost use Rattle.tag_space.specs.Members.{IsMemberOf, IsOneOf, IsSameMember, HasRow};
+ghost use Rattle.tag_space.specs.Members.{HasCallUnderWay};
 ghost use Rattle.tag_space.specs.Members.{account_of, number_of, party_of, seen_of};
 ghost use Rattle.tag_space.specs.Members.{rendez_of_member};
 ghost use Rattle.tag_space.specs.Outcome.{Exchange};
@@ -174,6 +176,7 @@ impl TagSpace {
         probe: &mut P,
     ) -> Result<u64, Fault>
         requires member { IsOneOf self.now member.old }
+        requires under_way { HasCallUnderWay member.old }
         requires row { HasRow self.now proc.old.words }
         requires count { count ≤ LAST_MEETING }
         ensures member { IsOneOf self.now member.new }
@@ -185,7 +188,7 @@ impl TagSpace {
         let mut count = count;
         for _ in rt.forever() {
             probe.at(2);
-            let slept = proc.sleep(rt, member.rendez, count);
+            let slept = self.sleep(rt, proc, member, count);
             probe.at(3);
             match slept {
                 Err(why) => return self.give_up(rt, proc, member, why),
@@ -198,6 +201,26 @@ impl TagSpace {
         unreachable!()
     }
 
+    // Sleeps once while the member's call is under way: whoever meets it finds it, and wakes it. A
+    // member that has left may not sleep, since no partner would find its process.
+    fn sleep<R: Wait>(
+        &self,
+        rt: &R,
+        proc: &mut Proc,
+        member: &Member,
+        count: u64,
+    ) -> Result<(), Fault>
+        requires member { IsOneOf self.now member.now }
+        requires under_way { HasCallUnderWay member.now }
+        ensures fault { IfErr result (WhyNotSlept
+            proc.old.words proc.old.process member.now.rendez count proc.new.process) }
+        ensures slept { OnOk result (Sleeps
+            proc.old.process member.now.rendez count no_notes proc.new.process) }
+        ensures words { proc.new.words ≡ proc.old.words }
+    {
+        proc.sleep(rt, member.rendez, count)
+    }
+
     // Leaves where a sleep ended badly. Where the partner had come, what the sleep took is put
     // back.
     fn give_up<R: Wait>(
@@ -208,6 +231,7 @@ impl TagSpace {
         why: Fault,
     ) -> Result<u64, Fault>
         requires member { IsOneOf self.now member.old }
+        requires under_way { HasCallUnderWay member.old }
         ensures member { IsOneOf self.now member.new }
         ensures same { IsSameMember member.old member.new }
         ensures words { proc.new.words ≡ proc.old.words }

@@ -82,7 +82,8 @@ impl TagSpace {
         ensures space { IfOk result (λ opened. IsNewSpace roster.old procs opened.space) }
         ensures member { IfOk result (λ opened. IsFirstMember opened.space opened.member) }
     {
-        if roster.left().rendez < procs {
+        let (_, rendez) = roster.left();
+        if rendez < procs {
             return Err(Fault::NoRendez);
         }
         let object = GroupObject::new(alloc, procs)?;

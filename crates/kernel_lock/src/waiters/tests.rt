@@ -1,16 +1,14 @@
 //! A thread that surely sleeps for a lock is woken by a release, and a release wakes nobody else.
-//! Each test ends by itself, also where a wake is lost.
+//! Each test ends by itself, also where a wake is lost, but for two that sleep by hand.
 ghost use Rattle.kernel_lock.specs.Seats.{IsSeatOf};
 
 use super::{Taken, Turn, Waiters};
-use crate::tests::counter::Counter;
-use crate::tests::open;
+use crate::tests::{Counter, open};
 use crate::{LockSeat, Locked, Opened};
 use std::hint::spin_loop;
 use std::sync::Wait;
 use std::sync::atomic::AtomicU64;
 use std::sync::atomic::Ordering::SeqCst;
-use std::test::Fail;
 use std::thread::{Threads, join, yield_now};
 
 /// How often a thread looks for a sign of the other.
@@ -96,8 +94,8 @@ fn call_and_sleep<R: Threads + Wait + Sync>(
 }
 
 #[test]
-fn a_sleeper_that_parked_is_woken_by_a_release(rt: HostRuntime) -> Result<(), Fail> {
-    let Opened { lock, seat } = open(&rt, rt.alloc(), 0, 1)?;
+fn a_sleeper_that_parked_is_woken_by_a_release(rt: HostRuntime) {
+    let Opened { lock, seat } = open(&rt, rt.alloc());
     let signs = Signs {
         announced: AtomicU64::new(0),
         woken: AtomicU64::new(0),
@@ -105,22 +103,62 @@ fn a_sleeper_that_parked_is_woken_by_a_release(rt: HostRuntime) -> Result<(), Fa
     };
     let (woken, slept) = call_and_sleep(&rt, &lock, seat, &signs);
     assert_eq!(rt; woken, slept);
-    Ok(())
 }
 
-// A wake changes the mark for good: a lock that has the mark of a new one has made none.
-#[test]
-fn a_call_that_nobody_waits_for_wakes_nobody(rt: HostRuntime) -> Result<(), Fail> {
-    let Opened { lock, mut seat } = open(&rt, rt.alloc(), 0, 1)?;
-    lock.apply(&rt, &mut seat, 1);
-    lock.apply(&rt, &mut seat, 1);
-    assert_eq!(rt; lock.waiters.mark.load(SeqCst), 0);
+// Two calls, and the mark behind them.
+fn mark_behind_calls<R: Wait>(rt: &R, lock: &Locked<Counter>, seat: &mut LockSeat<Counter>) -> u64
+    requires { IsSeatOf lock.now seat.old }
+    ensures { IsSeatOf lock.now seat.new }
+{
+    lock.apply(rt, seat, 1);
+    lock.apply(rt, seat, 1);
+    lock.waiters.mark.load(SeqCst)
+}
 
-    // Where somebody waits the mark tells of the one wake.
+// A wake changes the mark for good: a lock that has the mark of a new one has made none. Where
+// somebody waits the mark tells of the one wake.
+#[test]
+fn a_call_that_nobody_waits_for_wakes_nobody(rt: HostRuntime) {
+    let Opened { lock, mut seat } = open(&rt, rt.alloc());
+    assert_eq!(rt; mark_behind_calls(&rt, &lock, &mut seat), 0);
     lock.waiters.announce();
-    lock.apply(&rt, &mut seat, 1);
-    lock.apply(&rt, &mut seat, 1);
-    assert_eq!(rt; lock.waiters.mark.load(SeqCst), 2);
+    assert_eq!(rt; mark_behind_calls(&rt, &lock, &mut seat), 2);
     assert_eq!(rt; lock.close(&rt, seat).sum, 4);
-    Ok(())
+}
+
+// The lock is given back after a thread's last look and before its mark, so no wake comes:
+// a thread that did not look again would sleep for good.
+#[test]
+fn a_release_before_the_mark_is_seen(rt: HostRuntime) {
+    let Opened { lock, mut seat } = open(&rt, rt.alloc());
+    lock.apply(&rt, &mut seat, 1);
+    let mut stepper = seat.stand();
+    let turn = lock.sleep(&rt, &mut stepper, Turn::new());
+    assert!(rt; lock.waiters.pass_on(turn).is_none());
+    seat.sit(stepper);
+    assert_eq!(rt; lock.close(&rt, seat).sum, 1);
+}
+
+// Whether who announced itself twice before a release has slept, and the next mark is another.
+fn sleeps_twice<R: Wait>(rt: &R, lock: &Locked<Counter>, seat: &mut LockSeat<Counter>) -> bool
+    requires { IsSeatOf lock.now seat.old }
+    ensures { IsSeatOf lock.now seat.new }
+{
+    let first = lock.waiters.announce();
+    let second = lock.waiters.announce();
+    lock.apply(rt, seat, 1);
+    // This release was no answer to the next mark.
+    let is_another = lock.waiters.announce() != first;
+    let turn = lock.waiters.sleep(rt, Taken::behind(first, 1), Turn::new());
+    let turn = lock.waiters.sleep(rt, Taken::behind(second, 1), turn);
+    lock.waiters.pass_on(turn).is_some() && is_another
+}
+
+// The lock is given back between the mark and the sleep: a release that left the mark as it was
+// would let both threads sleep for good.
+#[test]
+fn a_release_after_the_mark_ends_the_sleep(rt: HostRuntime) {
+    let Opened { lock, mut seat } = open(&rt, rt.alloc());
+    assert!(rt; sleeps_twice(&rt, &lock, &mut seat));
+    assert_eq!(rt; lock.close(&rt, seat).sum, 1);
 }

@@ -5,14 +5,13 @@ ghost use Rattle.std.specs.Prelude.{◌<◌};
 ghost use Rattle.rendez_words.specs.Words.{IsProcessOf, procs_of};
 
 use crate::parking::Unwoken;
-use crate::tests::{FIRST, open, sleep, wakeup};
-use crate::{LookAnswer, Opened, Seat, TakeAnswer, TestAnswer, WithdrawAnswer, Words};
+use crate::tests::{FIRST, next, open, sleep, wakeup};
+use crate::{Leaving, LookAnswer, Opened, Seat, TakeAnswer, TestAnswer, WithdrawAnswer, Words};
 use std::alloc::Global;
 use std::process::Abort;
 use std::sync::Wait;
 use std::sync::atomic::AtomicU64;
 use std::sync::atomic::Ordering::SeqCst;
-use std::test::Fail;
 use std::thread::{Threads, join, yield_now};
 use sync_base::line::LINE;
 use sync_base::{Note, NoteSet, Pid};
@@ -89,10 +88,7 @@ fn rouse(words: &Words, awake: &AtomicU64) {
 fn sleeps<R: Wait>(rt: &R, words: &Words, seat: Seat, awake: &AtomicU64) -> NoteSet
     requires { IsProcessOf words.now seat }
 {
-    let notes = match sleep(rt, words, seat, FIRST, 0) {
-        Ok(cleared) => cleared.notes,
-        Err(_) => NoteSet::empty(),
-    };
+    let notes = sleep(rt, words, seat);
     awake.store(1, SeqCst);
     notes
 }
@@ -103,7 +99,7 @@ fn wakes(words: &Words, seat: Seat, awake: &AtomicU64) -> bool
     requires sleeper { 0 < procs_of words.now }
 {
     let parked = await_park(words);
-    let woken = wakeup(words, seat, FIRST, 1).is_ok();
+    let woken = wakeup(words, seat);
     await_wake(words, awake) && parked && woken
 }
 
@@ -194,16 +190,23 @@ fn awaits_mark<R: Wait>(rt: &R, words: &Words, seat: Seat, done: &Done) -> (bool
             LookAnswer::Woken(woken) => return (false, words.clear_woken(woken).notes),
         },
     };
-    let (marked, notes) = match words.withdraw(leaving) {
+    let (marked, notes) = leaves(rt, words, leaving, done);
+    done.awake.store(1, SeqCst);
+    (taken && marked, notes)
+}
+
+// The rest of that sleep.
+fn leaves<R: Wait>(rt: &R, words: &Words, leaving: Leaving, done: &Done) -> (bool, NoteSet)
+    requires { IsProcessOf words.now leaving }
+{
+    match words.withdraw(leaving) {
         WithdrawAnswer::Out(out) => (false, words.clear_out(out).notes),
         WithdrawAnswer::Awaiting(awaiting) => {
             let woken = words.look_mark(rt, awaiting);
             let marked = done.marked.load(SeqCst) == 1 && done.held.load(SeqCst) == HELD;
             (marked, words.clear_woken(woken).notes)
         }
-    };
-    done.awake.store(1, SeqCst);
-    (taken && marked, notes)
+    }
 }
 
 // Lets turns pass, in which who was sent a note looks and parks again, and then counts others.
@@ -268,67 +271,52 @@ fn await_and_mark<R: Threads + Wait + Sync>(
 }
 
 // A wakeup has taken the sleeper, and marks it after some turns, with this note before that.
-fn check_wait<R: Threads + Wait + Sync + Abort>(
-    rt: &R,
-    alloc: Global,
-    note: NoteSet,
-) -> Result<(), Fail> {
+fn check_wait<R: Threads + Wait + Sync + Abort>(rt: &R, alloc: Global, note: NoteSet) {
     let Opened {
         words,
         seat,
         mut pids,
-    } = open(rt, alloc, 3, 1);
-    let Ok(waker) = words.split(&mut pids) else {
-        panic!(rt; "a second process")
-    };
-    let Ok(poster) = words.split(&mut pids) else {
-        panic!(rt; "a third process")
-    };
+    } = open(rt, alloc, 3);
+    let waker = next(rt, &words, &mut pids);
+    let poster = next(rt, &words, &mut pids);
     let (woken, (marked, notes)) = await_and_mark(rt, &words, seat, waker, poster, note);
     assert!(rt; woken, "the sleeper parks, and the mark wakes it");
-    assert!(rt; marked, "nothing but the mark ends this wait");
-    assert_eq!(rt; notes, note);
-    Ok(())
+    assert!(rt;
+        marked && notes == note,
+        "nothing but the mark ends this wait"
+    );
 }
 
 #[test]
-fn a_mark_wakes_who_parks(rt: HostRuntime) -> Result<(), Fail> {
+fn a_mark_wakes_who_parks(rt: HostRuntime) {
     let Opened {
         words,
         seat,
         mut pids,
-    } = open(&rt, rt.alloc(), 2, 1);
-    let Ok(waker) = words.split(&mut pids) else {
-        panic!(rt; "a second process")
-    };
-    let (woken, notes) = sleep_and_wake(&rt, &words, seat, waker);
-    assert!(rt; woken, "the sleeper parks, and the mark wakes it");
-    assert!(rt; notes.is_empty());
-    Ok(())
+    } = open(&rt, rt.alloc(), 2);
+    let waker = next(&rt, &words, &mut pids);
+    let woken = sleep_and_wake(&rt, &words, seat, waker);
+    assert!(rt; woken == (true, NoteSet::empty()));
 }
 
 #[test]
-fn a_note_wakes_who_parks(rt: HostRuntime) -> Result<(), Fail> {
+fn a_note_wakes_who_parks(rt: HostRuntime) {
     let Opened {
         words,
         seat,
         mut pids,
-    } = open(&rt, rt.alloc(), 2, 1);
-    let Ok(poster) = words.split(&mut pids) else {
-        panic!(rt; "a second process")
-    };
-    let (woken, notes) = sleep_and_note(&rt, &words, seat, poster);
-    assert!(rt; woken, "the sleeper parks, and the note wakes it");
-    assert_eq!(rt; notes, NoteSet::of(Note::Hangup));
-    Ok(())
+    } = open(&rt, rt.alloc(), 2);
+    let poster = next(&rt, &words, &mut pids);
+    let woken = sleep_and_note(&rt, &words, seat, poster);
+    assert!(rt; woken == (true, NoteSet::of(Note::Hangup)));
 }
 
 #[test]
-fn a_note_leaves_who_awaits_a_mark_to_its_mark(rt: HostRuntime) -> Result<(), Fail> {
-    check_wait(&rt, rt.alloc(), NoteSet::of(Note::Hangup))
+fn a_note_leaves_who_awaits_a_mark_to_its_mark(rt: HostRuntime) {
+    check_wait(&rt, rt.alloc(), NoteSet::of(Note::Hangup));
 }
 
 #[test]
-fn who_awaits_a_mark_is_held_until_it_comes(rt: HostRuntime) -> Result<(), Fail> {
-    check_wait(&rt, rt.alloc(), NoteSet::empty())
+fn who_awaits_a_mark_is_held_until_it_comes(rt: HostRuntime) {
+    check_wait(&rt, rt.alloc(), NoteSet::empty());
 }

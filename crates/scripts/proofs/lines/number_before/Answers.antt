@@ -1,6 +1,6 @@
 -- Fewer than 20 digits spell a number below 2^64, so one digit more does not overflow.
 use Rattle.std.proofs.Common.{◌<◌, ◌*◌, ◌+◌, ◌^◌, arith}
-use Rattle.scripts.proofs.NumberLemmas.{one_more_fits}
+use Rattle.scripts.proofs.NumberLemmas.{large_begins_none, one_more_fits}
 use Rattle.scripts.proofs.lines.number_before.Goals as goal
 
 pub overflow_mul-n : goal.overflow_mul-n
@@ -16,3 +16,7 @@ overflow_add-n c =
     let fits : 10 * c.short.n + 9 < 2 ^ 64 =
     one_more_fits c.short.n c.short.count c.short.invariant.below few in
     omega (arith, fits, c.in-Some.ensures.small)
+
+pub returns-in_err-n : goal.returns-in_err-n
+returns-in_err-n c =
+    rw c.from_residual-in_err-n.ensures (large_begins_none _ _ c.requires c.in_err-n.ensures)

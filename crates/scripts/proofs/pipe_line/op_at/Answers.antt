@@ -1,23 +1,31 @@
--- The verb that was found and the words behind it are a line, and ask for this operation.
-use Rattle.std.proofs.Common.{◌∷◌, [], codes, ap, refl}
-use Rattle.std.specs.Option.{option_map}
-use Rattle.scripts.specs.PipeScript.{Reads}
-use Rattle.scripts.proofs.OnePassLemmas.{ends_line}
-use Rattle.scripts.proofs.PipeLineLemmas.{op_begins, hangup_begins}
+-- The verb that was found and the words behind it are a line, and ask for this operation; where none
+-- was found, or no such words stand behind it, no line asks for one.
+use Rattle.std.proofs.Common.{codes, refl}
+use Rattle.scripts.specs.PipeScript.{read_of, write_of}
+use Rattle.scripts.proofs.OnePassLemmas.{IsWord, found_by, found_by_ok}
+use Rattle.scripts.proofs.PipeLineLemmas.{hangup_asks, no_verb_asks_none, op_asks, op_asks_none}
 use Rattle.scripts.proofs.pipe_line.op_at.Goals as goal
 
-pub returns-in_ok-op-in-Write : goal.returns-in_ok-op-in-Write
-returns-in_ok-op-in-Write c =
-    let (words, line, asks) = c.in_ok-op-in-Write.ensures in
-    op_begins _ (codes "write") _ words _ _ (rw c.in-Write.is at c.in_ok-verb.ensures)
-    (record { no_space = refl; no_line_feed = refl }) line asks
+pub returns-in_default : goal.returns-in_default
+returns-in_default c = no_verb_asks_none _ c.in_default.ensures
 
-pub returns-in_ok-most-in-Read : goal.returns-in_ok-most-in-Read
-returns-in_ok-most-in-Read c =
-    let most = c.in_ok-most-in-Read.ensures in
-    op_begins _ (codes "read") _ (most.word ∷ []) _ _ (rw c.in-Read.is at c.in_ok-verb.ensures)
-    (record { no_space = refl; no_line_feed = refl }) (ends_line _ _ _ most)
-    (ap (option_map Reads) most.spells)
+pub returns-in-Write : goal.returns-in-Write
+returns-in-Write c =
+    let split = rw c.in-Write.is at c.in-Some.ensures in
+    let is : IsWord (codes "write") = record { no_space = refl; no_line_feed = refl } in
+    found_by_ok c.write_at.result _ _ _ _
+    (op_asks_none _ (codes "write") _ write_of split is (λ words. refl))
+    (λ f line. op_asks _ (codes "write") _ _ write_of _ split is (λ words. refl) line)
+    c.write_at.ensures
+
+pub returns-in-Read : goal.returns-in-Read
+returns-in-Read c =
+    let split = rw c.in-Read.is at c.in-Some.ensures in
+    let is : IsWord (codes "read") = record { no_space = refl; no_line_feed = refl } in
+    found_by c.read_at.result _ _ _ _
+    (op_asks_none _ (codes "read") _ read_of split is (λ words. refl))
+    (λ f line. op_asks _ (codes "read") _ _ read_of _ split is (λ words. refl) line)
+    c.read_at.ensures
 
 pub returns-in-Hangup : goal.returns-in-Hangup
-returns-in-Hangup c = hangup_begins _ _ (rw c.in-Hangup.is at c.in_ok-verb.ensures)
+returns-in-Hangup c = hangup_asks _ _ (rw c.in-Hangup.is at c.in-Some.ensures)

@@ -1,18 +1,57 @@
--- A writer and bytes that end the line are the words of the write.
-use Rattle.std.proofs.Common.{[], ◌∷◌, arith}
-use Rattle.scripts.proofs.OnePassLemmas.{behind_number}
-use Rattle.scripts.proofs.PipeLineLemmas.{bytes_line, writes_of}
+-- A writer and bytes that end the line are the words of the write; where one of them is not there, no
+-- line asks for a write.
+use Rattle.std.proofs.Common.{[], ◌∷◌, refl, arith}
+use Rattle.scripts.specs.PipeScript.{write_of}
+use Rattle.scripts.proofs.OnePassLemmas.{behind_number, no_line, none_before_space}
+use Rattle.scripts.proofs.OnePassLemmas.{none_behind_number}
+use Rattle.scripts.proofs.PipeLineLemmas.{bytes_line, no_bytes_asked, write_of-high, write_of-wrong}
+use Rattle.scripts.proofs.PipeLineLemmas.{writes_of}
 use Rattle.scripts.proofs.pipe_line.write_at.Goals as goal
+use Rattle.scripts.proofs.pipe_line.write_at.Goals.{then-writer-ge-MAX_WRITERS-via-then-writer-ge-MAX_WRITERS}
+use Rattle.scripts.proofs.pipe_line.write_at.Goals.{then-writer-ge-MAX_WRITERS-via-else-writer-ge-MAX_WRITERS+then-word-gt-MAX_LINE}
+
+pub returns-in_default : goal.returns-in_default
+returns-in_default c = none_before_space write_of _ c.in_default.ensures (λ word. refl) write_of-wrong
+
+pub returns-in_default-next_line : goal.returns-in_default-next_line
+returns-in_default-next_line c =
+    let writer = c.in-Some.ensures in
+    none_behind_number write_of _ _ _ writer
+    (no_line (λ words. write_of (writer.word ∷ words)) _ c.in_default-next_line.ensures.lines)
+
+pub returns-then-writer-ge-MAX_WRITERS : goal.returns-then-writer-ge-MAX_WRITERS
+returns-then-writer-ge-MAX_WRITERS c =
+    let writer = c.in-Some.ensures in
+    none_behind_number write_of _ _ _ writer
+    (elim c.then-writer-ge-MAX_WRITERS.branch [
+      | then-writer-ge-MAX_WRITERS-via-then-writer-ge-MAX_WRITERS w ↦ λ words rest begins fits.
+          write_of-high writer.word words c.in-Some.writer writer.spells
+          (omega (arith, w.if-writer-ge-MAX_WRITERS.true))
+      | then-writer-ge-MAX_WRITERS-via-else-writer-ge-MAX_WRITERS+then-word-gt-MAX_LINE w ↦
+          no_bytes_asked writer.word _ _ c.in-Some-next_line.rest.now
+          c.in-Some-next_line.ensures.lines
+          (λ fits. absurd (omega (arith, fits, w.if-word-gt-MAX_LINE.true)))
+    ])
+
+pub returns-in_default-2 : goal.returns-in_default-2
+returns-in_default-2 c =
+    let writer = c.in-Some.ensures in
+    none_behind_number write_of _ _ _ writer
+    (no_bytes_asked writer.word _ _ c.in-Some-next_line.rest.now
+    c.in-Some-next_line.ensures.lines
+    (λ fits. rw c.in_default-2.is at c.in_ok-bytes.ensures))
 
 pub returns : goal.returns
 returns c =
-    let writer = c.in_ok-writer.ensures in
-    let word = c.in_ok-word.word.now in
-    let bytes = c.in_ok-bytes.bytes.now in (
-      writer.word ∷ word ∷ [],
-      behind_number _ _ _ _ _ writer
-          (bytes_line _ word _ bytes c.in_ok-word.ensures.lines c.in_ok-word.ensures.cut
-          c.in_ok-bytes.ensures),
-      writes_of writer.word bytes word c.in_ok-writer.writer writer.spells (omega arith)
-          c.in_ok-bytes.ensures,
-    )
+    let writer = c.in-Some.ensures in
+    let word = c.in-Some-next_line.word.now in
+    let bytes = c.in-Some-2.bytes.now in
+    let read = rw c.in-Some-2.is at c.in_ok-bytes.ensures in
+    record {
+      words = writer.word ∷ word ∷ [];
+      begins = behind_number _ _ _ _ _ writer
+          (bytes_line _ word _ bytes c.in-Some-next_line.ensures.lines
+          c.in-Some-next_line.ensures.cut read);
+      asks = writes_of writer.word bytes word c.in-Some.writer writer.spells (omega arith)
+          read;
+    }

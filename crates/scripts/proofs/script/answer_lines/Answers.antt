@@ -58,7 +58,7 @@ pub returns-in_err-write_whole-2-clause-told : goal.returns-in_err-write_whole-2
 returns-in_err-write_whole-2-clause-told g c s stands =
     let goes = c.loop-held.invariant.goes_on s stands in
     let stuck = rw c.in_default.is at (c.in_ok-after.ensures.answered goes.state goes.stands_now) in
-    let ended = goes_end _ _ _ _ _ _ _ _ c.answer_next.new.script _ _ _ c.end.new.output.items
+    let ended = goes_end _ _ _ _ _ _ _ _ c.answer_first.new.self _ _ _ c.end.new.output.items
     c.is_cut.result c.in_ok-faulty_line.faulty_line goes stuck.0 c.is_cut.ensures
     (λ t. let e = c.in_ok-faulty_line.ensures.fault t in (e.0, e.1 ∙ stuck.1))
     (λ f now standing. let e = c.in_ok-faulty_line.ensures.closing_line f now standing in (
@@ -78,7 +78,7 @@ pub returns-clause-told : goal.returns-clause-told
 returns-clause-told g c s stands =
     let goes = c.loop-held.invariant.goes_on s stands in
     let stuck = rw c.in_default.is at (c.in_ok-after.ensures.answered goes.state goes.stands_now) in
-    let ended = goes_end _ _ _ _ _ _ _ _ c.answer_next.new.script _ _ _ c.end.new.output.items
+    let ended = goes_end _ _ _ _ _ _ _ _ c.answer_first.new.self _ _ _ c.end.new.output.items
     c.is_cut.result c.in_ok-faulty_line.faulty_line goes stuck.0 c.is_cut.ensures
     (λ t. let e = c.in_ok-faulty_line.ensures.fault t in (e.0, e.1 ∙ stuck.1))
     (λ f now standing. let e = c.in_ok-faulty_line.ensures.closing_line f now standing in (

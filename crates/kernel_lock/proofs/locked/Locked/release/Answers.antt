@@ -16,8 +16,8 @@ store-requires g c =
     )
 
 -- a seat that has given the lock back is outside, whether a request was served or not
-released_is_outside : {Object Request Reply : Type 0} (history : List (Served Request Reply))
-    (served : Option (Served Request Reply)) (view : View Object Request Reply) →
+released_is_outside : {Object Call Reply : Type 0} (history : List (Served Call Reply))
+    (served : Option (Served Call Reply)) (view : View Object Call Reply) →
     (outside_view history served view).stage ≡ Outside
 released_is_outside history None view = refl
 released_is_outside history (Some served) view = refl

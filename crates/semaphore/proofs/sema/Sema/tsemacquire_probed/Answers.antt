@@ -15,6 +15,7 @@ use Rattle.semaphore.specs.Definitions.{timer_definition}
 use Rattle.semaphore.specs.Seats.{asked, goes_on, stands_timed, stepped, timed, timed_caller}
 use Rattle.semaphore.specs.Seats.{timers_seen}
 use Rattle.semaphore.specs.TimerHistory.{timer_meaning}
+use Rattle.semaphore.specs.Timers.{deadline_of}
 use Rattle.semaphore.proofs.TimedOutcomeLemmas.{in_time_at_once}
 use Rattle.semaphore.proofs.TimedWaitLemmas.{cancels, sets_timer, tick_took, timed_as}
 use Rattle.semaphore.proofs.TimedWaitLemmas.{waits_timed}
@@ -23,14 +24,15 @@ use Rattle.semaphore.proofs.sema.Sema.tsemacquire_probed.Goals as goal
 
 pub returns-in-Acquired-clause-called : goal.returns-in-Acquired-clause-called
 returns-in-Acquired-clause-called g c =
+    let moment = deadline_of c.args.now c.args.ms in
     in_time_at_once
-    (timed_caller c.args.self.now c.args.proc.now c.args.seat.now c.args.timer.now c.args.deadline)
+    (timed_caller c.args.self.now c.args.proc.now c.args.seat.now c.args.timer.now moment)
     (stands_timed c.args.proc.now c.args.seat.now c.args.timer.now) _
-    (timers_seen c.args.timers.now c.args.timer.now) c.args.deadline c.in-Acquired.ensures.served
+    (timers_seen c.args.timers.now c.args.timer.now) moment c.in-Acquired.ensures.served
 
 pub returns-in-Waits-clause-called : goal.returns-in-Waits-clause-called
 returns-in-Waits-clause-called g c =
-    let moment = c.args.deadline in
+    let moment = deadline_of c.args.now c.args.ms in
     let timers = c.args.timers.now in
     let caller = timed_caller c.args.self.now c.args.proc.now c.args.seat.now c.args.timer.now
     moment in
@@ -49,7 +51,15 @@ returns-in-Waits-clause-called g c =
     subst
     (λ p. Serves (record { by = caller.timer; request = Add caller.timer p moment; reply = Added })
     (view_of c.args.timer.now.seat) (view_of c.add.new.seat.seat))
-    (ap (λ n. record { 0 = n }) c.pid.ensures) c.add.ensures.served in
+    (ap (λ n. record { 0 = n }) c.pid.ensures)
+    (subst
+    (λ d. Serves (record {
+      by = caller.timer;
+      request = Add caller.timer c.pid.result d;
+      reply = Added;
+    })
+    (view_of c.args.timer.now.seat) (view_of c.add.new.seat.seat))
+    c.deadline-deadline.ensures c.add.ensures.served) in
     let cancelled : Serves (record {
       by = caller.timer;
       request = Cancel caller.timer;

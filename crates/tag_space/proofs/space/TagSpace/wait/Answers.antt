@@ -17,16 +17,16 @@ returns-in-Err-clause-ends g c =
     let space = c.args.self.now in
     let caller = caller_of space c.args.member.now c.args.proc.now in
     let kept = c.loop.invariant in
-    let woken = at_point c.loop.member c.sleep-slept.new.self in
+    let woken = at_point c.loop.member c.sleep-slept.new.proc in
     let own = own_is space c.args.member.now c.loop.member kept.member kept.same in
     let below = is_below space c.args.member.now c.requires.member in
     let in_row : space.first.0 + number_of c.args.member.now < rendez_of c.args.proc.now.words =
     omega (arith, below, c.requires.row) in
     let slept = subst (λ words. WhyNotSlept words c.loop.proc.process
     (rendez_of_member space (number_of c.args.member.now)) c.loop.count
-    c.sleep-slept.new.self.process c.in-Err.why) kept.words
+    c.sleep-slept.new.proc.process c.in-Err.why) kept.words
     (subst (λ rendez. WhyNotSlept c.loop.proc.words c.loop.proc.process rendez c.loop.count
-    c.sleep-slept.new.self.process c.in-Err.why) own c.in-Err.ensures.fault) in
+    c.sleep-slept.new.proc.process c.in-Err.why) own c.in-Err.ensures.fault) in
     let given_up = subst (λ n. GivesUp n c.in-Err.why woken
     (at_point c.give_up.new.member c.give_up.new.proc) c.give_up.result) kept.same.number
     c.give_up.ensures.given_up in
@@ -47,10 +47,10 @@ returns-in-Met-clause-ends g c =
       asleep = at_point c.loop.member c.loop.proc;
       last = c.loop.count;
       waited = kept.waited;
-      woken = at_point c.loop.member c.sleep-slept.new.self;
+      woken = at_point c.loop.member c.sleep-slept.new.proc;
       slept = record {
         slept = subst (λ rendez. SleepsWell c.loop.proc.process rendez c.loop.count
-            c.sleep-slept.new.self.process) own c.in-Ok.ensures.slept;
+            c.sleep-slept.new.proc.process) own c.in-Ok.ensures.slept;
         unasked = refl;
       };
       told = record {
@@ -77,13 +77,14 @@ loop-preserved g c =
       };
       words = c.sleep-slept.ensures.words ∙ kept.words;
       low = c.in-Wait.ensures.fits;
+      under_way = c.in-Wait.ensures.under_way;
       waited = waits_on caller (at_point c.args.member.now c.args.proc.now) c.args.count
-          (at_point c.loop.member c.loop.proc) (at_point c.loop.member c.sleep-slept.new.self)
-          (at_point c.collect.new.member c.sleep-slept.new.self) c.loop.count c.in-Wait.again
+          (at_point c.loop.member c.loop.proc) (at_point c.loop.member c.sleep-slept.new.proc)
+          (at_point c.collect.new.member c.sleep-slept.new.proc) c.loop.count c.in-Wait.again
           kept.waited
           (record {
             slept = subst (λ rendez. SleepsWell c.loop.proc.process rendez c.loop.count
-                c.sleep-slept.new.self.process) own c.in-Ok.ensures.slept;
+                c.sleep-slept.new.proc.process) own c.in-Ok.ensures.slept;
             unasked = refl;
           })
           (record {

@@ -1,6 +1,0 @@
--- After each call the seat is still one of the lock's.
-use Rattle.kernel_lock.specs.Seats.{IsSeatOf}
-use Rattle.kernel_lock.proofs.tests.contend.Given as goal
-
-abbrev pub invariant-loop : goal.invariant-loop
-invariant-loop g l = IsSeatOf l.lock l.seat

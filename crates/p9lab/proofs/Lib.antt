@@ -1,0 +1,2 @@
+mod LoneLemmas
+mod Sending

@@ -1,0 +1,66 @@
+-- Both ends of a direction with one writer are all of its ends, and stay so.
+use Rattle.std.proofs.Common.{◌≡◌, ℕ, List, [], ◌∷◌, ◌++◌, length, sym, ◌∙◌, ap, subst, arith}
+use Rattle.std.specs.List.{AllByRecursion}
+use Rattle.histories.specs.Account.{numbers_from}
+use Rattle.histories.proofs.ListLemmas.{all_past}
+use Rattle.pipe_dev.specs.declared.row.Row.{Row}
+use Rattle.pipe_dev.specs.Ends.{ReadSide, WriteSide, AreAllEnds, IsSameReadEnd, IsSameWriteEnd}
+
+-- where no write end stands before this one, it and the read end are all ends
+pub only_one : (read : ReadSide) (writes front : List WriteSide) (write : WriteSide)
+    → AreAllEnds read writes → writes ≡ front ++ write ∷ [] → length front ≡ 0
+    → AreAllEnds read (write ∷ [])
+only_one read writes [] write all is none = subst (AreAllEnds read) is all
+only_one read writes (first ∷ front) write all is none = absurd (omega (arith, none))
+
+-- a call of the read end that stays where it is leaves the two all ends
+pub still_read : (old new : ReadSide) (write : WriteSide)
+    → AreAllEnds old (write ∷ []) → IsSameReadEnd old new → AreAllEnds new (write ∷ [])
+still_read old new write all same =
+    record {
+      one = (
+        record {
+          queue = all.one.0.queue ∙ sym same.queue;
+          row = all.one.0.row ∙ sym same.row;
+        },
+        tt,
+      );
+      order = all.order ∙ ap (λ (row : Row). numbers_from 0 row.writers) (sym same.row);
+    }
+
+-- and so does a call of the write end
+pub still_written : (read : ReadSide) (old new : WriteSide)
+    → AreAllEnds read (old ∷ []) → IsSameWriteEnd old new → AreAllEnds read (new ∷ [])
+still_written read old new all same =
+    record {
+      one = (
+        record { queue = same.queue ∙ all.one.0.queue; row = same.row ∙ all.one.0.row },
+        tt,
+      );
+      order = ap (λ (writer : ℕ). writer ∷ []) same.writer ∙ all.order;
+    }
+
+-- and so do calls of both
+pub still_both : (read read' : ReadSide) (write write' : WriteSide)
+    → AreAllEnds read (write ∷ []) → IsSameReadEnd read read' → IsSameWriteEnd write write'
+    → AreAllEnds read' (write' ∷ [])
+still_both read read' write write' all read_same write_same =
+    still_read read read' write' (still_written read write write' all write_same) read_same
+
+-- what is the same as one end in each place is so in the last
+pub last_is_same : (first : WriteSide) (all front : List WriteSide) (last : WriteSide)
+    → AllByRecursion (IsSameWriteEnd first) all → all ≡ front ++ last ∷ []
+    → IsSameWriteEnd first last
+last_is_same first all front last same is =
+    (all_past (IsSameWriteEnd first) front (last ∷ [])
+    (subst (AllByRecursion (IsSameWriteEnd first)) is same)).0
+
+-- two calls leave a write end where it is
+pub same_twice : (old between new : WriteSide)
+    → IsSameWriteEnd old between → IsSameWriteEnd between new → IsSameWriteEnd old new
+same_twice old between new first second =
+    record {
+      queue = second.queue ∙ first.queue;
+      row = second.row ∙ first.row;
+      writer = second.writer ∙ first.writer;
+    }

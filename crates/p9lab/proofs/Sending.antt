@@ -1,0 +1,141 @@
+-- What may go to a thread of its own: a process of a scene, with its end, its seat or its place.
+use denote.Ref.{NamedLft}
+use denote.RattleType.{RattleType}
+use denote.Param.Send.{IsSend, IsSync, part_keyless, sendable}
+use Rattle.std.proofs.Crossing.{crosses}
+use Rattle.atomic_table.specs.contracts.badge.Badge as Badge
+use Rattle.atomic_table.proofs.badge.Badge.TheSendSync as badge
+use Rattle.atomic_table.proofs.shared.Shared.TheSendSync as shared
+use Rattle.atomic_table.proofs.send_lease.SendLease.TheSendSync as lease
+use Rattle.counted_slot.proofs.Counted.TheSendSync as counted
+use Rattle.block_queue.proofs.spare.Slot.TheSendSync as slot
+use Rattle.block_queue.specs.contracts.spare.Spare as Spare
+use Rattle.sleep_wakeup.proofs.proc.Proc.TheSendSync as proc
+use Rattle.pipe_dev.specs.contracts.begun.Begun as Begun
+use Rattle.pipe_dev.specs.contracts.read_end.ReadEnd as ReadEnd
+use Rattle.pipe_dev.specs.contracts.write_end.WriteEnd as WriteEnd
+use Rattle.pipe_dev.proofs.read_end.ReadEnd.TheSendSync as read_end
+use Rattle.pipe_dev.proofs.write_end.WriteEnd.TheSendSync as write_end
+use Rattle.plan9.proofs.pipes.Reader.TheSendSync as reader
+use Rattle.plan9.proofs.pipes.Writer.TheSendSync as writer
+use Rattle.plan9.proofs.pool.Holder.TheSendSync as holder
+use Rattle.plan9.proofs.hall.Guest.TheSendSync as guest
+use Rattle.plan9.proofs.clock.Watch.TheSendSync as watch
+use Rattle.plan9.specs.contracts.sharing.Sharer as Sharer
+use Rattle.p9lab.specs.contracts.actor.Actor as Actor
+use Rattle.p9lab.specs.contracts.actor.Back as Back
+use Rattle.p9lab.specs.contracts.actor.Beside as Beside
+use Rattle.p9lab.specs.contracts.actor.Role as Role
+use Rattle.p9lab.proofs.roles.queue.Keeper.TheSendSync as keeper
+use Rattle.p9lab.proofs.roles.queue.Putter.TheSendSync as putter
+use Rattle.p9lab.proofs.roles.queue.Taker.TheSendSync as taker
+use Rattle.p9lab.specs.contracts.roles.lone.Both as Both
+use Rattle.p9lab.specs.contracts.roles.lone.Lone as Lone
+
+-- ---- ends that are lent
+
+-- a badge that is lent shows what it owns, which any thread may have
+badge_sync : (V : RattleType) → IsSync (Badge.the_row V)
+badge_sync V =
+    record { shared = λ d b o κ q. part_keyless (Badge.the_row V) (badge.the_send V) q d b o }
+
+spare_sync : IsSync Spare.the_row
+spare_sync = search (sendable, crosses) depth 30
+
+begun_sync : IsSync Begun.the_row
+begun_sync = search (sendable, crosses) depth 30
+
+ruleset end_parts = (
+  sendable,
+  crosses,
+  badge_sync,
+  spare_sync,
+  begun_sync,
+  shared.the_sync,
+  lease.the_sync,
+  slot.the_send,
+)
+
+read_sync : (p : NamedLft) → IsSync (ReadEnd.the_row p)
+read_sync p = search end_parts depth 40
+
+write_sync : (p : NamedLft) → IsSync (WriteEnd.the_row p)
+write_sync p = search end_parts depth 40
+
+-- ---- who may call at either end
+
+ruleset both_parts = (
+  sendable,
+  crosses,
+  counted.the_sync,
+  read_end.the_send,
+  write_end.the_send,
+  read_sync,
+  write_sync,
+)
+
+both_sync : IsSync Both.the_row
+both_sync = search both_parts depth 30
+
+ruleset lone_parts = (sendable, crosses, both_sync, proc.the_send)
+
+lone_field : IsSend Lone.the_field.row
+lone_field = search lone_parts depth 30
+
+-- ---- who shares a read end
+
+ruleset sharer_parts = (
+  sendable,
+  crosses,
+  counted.the_sync,
+  read_end.the_send,
+  read_sync,
+  holder.the_send,
+)
+
+sharer_field : (s p k : NamedLft) → IsSend (Sharer.the_field s p k).row
+sharer_field s p k = search sharer_parts depth 20
+
+-- ---- a process in whatever role
+
+ruleset beside_parts = (
+  sendable,
+  crosses,
+  sharer_field,
+  lone_field,
+  putter.the_field_send,
+  taker.the_field_send,
+  keeper.the_field_send,
+)
+
+beside_field : IsSend Beside.the_field.row
+beside_field = search beside_parts depth 40
+
+ruleset role_parts = (
+  sendable,
+  crosses,
+  proc.the_send,
+  reader.the_field_send,
+  writer.the_field_send,
+  holder.the_send,
+  guest.the_send,
+  beside_field,
+)
+
+role_field : IsSend Role.the_field.row
+role_field = search role_parts depth 40
+
+ruleset actor_parts = (sendable, crosses, role_field, watch.the_send)
+
+-- it may go to another thread
+pub actor_field : IsSend Actor.the_field.row
+actor_field = search actor_parts depth 40
+
+pub actor_send : IsSend Actor.the_row
+actor_send = search actor_parts depth 40
+
+ruleset back_parts = (sendable, crosses, actor_field)
+
+-- and come back with its answer
+pub back_send : IsSend Back.the_row
+back_send = search back_parts depth 40

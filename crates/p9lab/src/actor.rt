@@ -1,0 +1,152 @@
+//! A process in its role, and the calls that a line may make of it.
+use crate::answer::Answer;
+use crate::desk::{Desk, Stops, Visit, Visitor};
+use crate::roles::guest::{call_guest, call_guest_probed};
+use crate::roles::holder::{call_holder, call_holder_probed};
+use crate::roles::lone::{Lone, call_lone};
+use crate::roles::plain::{call_plain, call_proc_probed};
+use crate::roles::queue::{Keeper, Putter, Taker, call_keeper, call_putter, call_taker};
+use crate::roles::reader::call_reader;
+use crate::roles::sharer::call_sharer;
+use crate::roles::writer::call_writer;
+use crate::verbs::Call;
+use plan9::{Guest, Holder, NoProbe, Proc, Reader, Sharer, Watch, Writer};
+use std::alloc::Global;
+use std::sync::Wait;
+
+/// Who a process is.
+#[derive(Drop)]
+pub enum Role {
+    Plain(Proc<'static>),
+    Reader(Reader<'static, 'static>),
+    Writer(Writer<'static, 'static>),
+    Holder(Holder<'static, 'static>),
+    Guest(Guest<'static, 'static>),
+    Beside(Beside),
+}
+
+/// Who has an end in turn with others, or a seat below processes.
+#[derive(Drop)]
+pub enum Beside {
+    Sharer(Sharer<'static, 'static, 'static>),
+    Lone(Lone),
+    Putter(Putter),
+    Taker(Taker),
+    Keeper(Option<Keeper>),
+}
+
+/// A process, the bytes that it writes or has read, and the points that its last probed call has
+/// visited; the number of its object, and its seat at a clock.
+#[derive(Drop)]
+pub struct Actor {
+    pub role: Role,
+    pub bytes: Vec<u8>,
+    pub visits: Vec<Visit>,
+    pub object: u64,
+    pub watch: Option<Watch<'static>>,
+}
+
+/// A process behind a call that it made on a thread.
+#[derive(Drop)]
+pub struct Back {
+    pub actor: Actor,
+    pub answer: Answer,
+}
+
+/// A call on a thread. That it has ended is told last.
+pub fn run<R: Wait>(
+    rt: &R,
+    alloc: Global,
+    mut actor: Actor,
+    call: Call,
+    stops: Stops,
+    desk: &'static Desk,
+) -> Back {
+    let answer = if stops.probed {
+        make_probed(rt, alloc, &mut actor, call, stops, desk)
+    } else {
+        make_call(rt, alloc, &mut actor, call)
+    };
+    desk.end();
+    Back { actor, answer }
+}
+
+fn make_call<R: Wait>(rt: &R, alloc: Global, actor: &mut Actor, call: Call) -> Answer {
+    let Actor {
+        role,
+        bytes,
+        watch,
+        ..
+    } = actor;
+    match role {
+        Role::Plain(proc) => call_plain(rt, proc, watch, call),
+        Role::Reader(reader) => call_reader(rt, reader, bytes, watch, call),
+        Role::Writer(writer) => call_writer(rt, alloc, writer, bytes, watch, call),
+        Role::Holder(holder) => call_holder(rt, holder, watch, call),
+        Role::Guest(guest) => call_guest(rt, guest, call),
+        Role::Beside(beside) => call_beside(rt, alloc, beside, bytes, call),
+    }
+}
+
+fn call_beside<R: Wait>(
+    rt: &R,
+    alloc: Global,
+    beside: &mut Beside,
+    bytes: &mut Vec<u8>,
+    call: Call,
+) -> Answer {
+    match beside {
+        Beside::Sharer(sharer) => call_sharer(rt, sharer, bytes, call),
+        Beside::Lone(lone) => call_lone(rt, alloc, lone, bytes, call),
+        Beside::Putter(putter) => call_putter(rt, alloc, putter, bytes, call, &mut NoProbe),
+        Beside::Taker(taker) => call_taker(taker, bytes, call, &mut NoProbe),
+        Beside::Keeper(kept) => call_keeper(rt, alloc, kept, bytes, call),
+    }
+}
+
+// The same, at whose points the thread stands.
+fn make_probed<R: Wait>(
+    rt: &R,
+    alloc: Global,
+    actor: &mut Actor,
+    call: Call,
+    stops: Stops,
+    desk: &Desk,
+) -> Answer {
+    let Actor {
+        role,
+        bytes,
+        visits,
+        watch,
+        ..
+    } = actor;
+    visits.clear();
+    let mut probe = Visitor {
+        desk,
+        stops,
+        visits,
+    };
+    match role {
+        Role::Plain(proc) => call_proc_probed(rt, proc, call, &mut probe),
+        Role::Reader(reader) => call_proc_probed(rt, &mut reader.proc, call, &mut probe),
+        Role::Writer(writer) => call_proc_probed(rt, &mut writer.proc, call, &mut probe),
+        Role::Holder(holder) => call_holder_probed(rt, holder, watch, call, &mut probe),
+        Role::Guest(guest) => call_guest_probed(rt, guest, call, &mut probe),
+        Role::Beside(beside) => probe_beside(rt, alloc, beside, bytes, call, &mut probe),
+    }
+}
+
+fn probe_beside<R: Wait>(
+    rt: &R,
+    alloc: Global,
+    beside: &mut Beside,
+    bytes: &mut Vec<u8>,
+    call: Call,
+    probe: &mut Visitor<'_>,
+) -> Answer {
+    match beside {
+        Beside::Putter(putter) => call_putter(rt, alloc, putter, bytes, call, probe),
+        Beside::Taker(taker) => call_taker(taker, bytes, call, probe),
+        _ => Answer::of("not probed"),
+    }
+}

@@ -1,0 +1,194 @@
+//! What a line is answered.
+use plan9::{Done, Fault, Long, NoteSet, ProcStatus, ReadAnswer, RendezStatus, Short, TryAnswer};
+
+/// What stands behind the word of an answer.
+#[derive(Clone, Copy)]
+pub enum More {
+    Nothing,
+    Number(u64),
+    /// So many bytes of what the process has read.
+    Bytes(usize),
+    Notes(NoteSet),
+    /// The points that the last probed call has visited.
+    Points,
+    /// Those of them at which the process stood posted in a Rendez.
+    Posted,
+    /// How a process stands, as a look shows it.
+    Standing(ProcStatus),
+    /// How a Rendez stands.
+    Level(RendezStatus),
+}
+
+/// A word, and what stands behind it. A line with no word has no answer.
+#[derive(Clone, Copy)]
+pub struct Answer {
+    pub word: &'static str,
+    pub more: More,
+    /// How far a long write came before its fault.
+    pub behind: Option<u64>,
+}
+
+impl Answer {
+    fn with(word: &'static str, more: More) -> Answer {
+        Answer {
+            word,
+            more,
+            behind: None,
+        }
+    }
+
+    pub fn none() -> Answer {
+        Answer::with("", More::Nothing)
+    }
+
+    pub fn of(word: &'static str) -> Answer {
+        Answer::with(word, More::Nothing)
+    }
+
+    pub fn counted(word: &'static str, number: u64) -> Answer {
+        Answer::with(word, More::Number(number))
+    }
+
+    pub fn noted(word: &'static str, notes: NoteSet) -> Answer {
+        Answer::with(word, More::Notes(notes))
+    }
+
+    pub fn got(count: usize) -> Answer {
+        Answer::with("got", More::Bytes(count))
+    }
+
+    /// After ps(1): `Wakeme` is posted, and its Rendez stands behind it; any other is `Ready`.
+    pub fn standing(status: ProcStatus) -> Answer {
+        let word = if status.posted.is_some() {
+            "Wakeme"
+        } else {
+            "Ready"
+        };
+        Answer::with(word, More::Standing(status))
+    }
+
+    pub fn level(status: RendezStatus) -> Answer {
+        Answer::with("level", More::Level(status))
+    }
+
+    pub fn points() -> Answer {
+        Answer::with("points", More::Points)
+    }
+
+    pub fn posted() -> Answer {
+        Answer::with("posted", More::Posted)
+    }
+}
+
+/// The text of a fault, as `docs/BEHAVIOUR.md` lists it.
+pub fn fault_text(fault: Fault) -> &'static str {
+    match fault {
+        Fault::Memory => "out of memory",
+        Fault::Interrupted(_) => "interrupted",
+        Fault::Hungup => "i/o on hungup channel",
+        Fault::TooBig => "write too big",
+        Fault::DoubleSleep => "double sleep",
+        Fault::BadArg => "bad argument",
+        Fault::BadLevel => "bad level",
+        Fault::BadCount => "bad count",
+        Fault::BadSize => "bad size",
+        Fault::Worn => "number worn out",
+        Fault::NoProc => "no such process",
+        Fault::NoRendez => "no such rendez",
+        Fault::BadFlags => "bad flags",
+        Fault::Script(_) => "script fault",
+        Fault::TimedOut => "timed out",
+        Fault::Device => "device fault",
+    }
+}
+
+pub fn refused(fault: Fault) -> Answer {
+    match fault {
+        Fault::Interrupted(notes) => Answer::noted("interrupted", notes),
+        _ => Answer::of(fault_text(fault)),
+    }
+}
+
+/// What a call came to that answers nothing else.
+pub fn done(word: &'static str, answer: Result<(), Fault>) -> Answer {
+    match answer {
+        Ok(()) => Answer::of(word),
+        Err(fault) => refused(fault),
+    }
+}
+
+pub fn have_woken(answer: Result<Done, Fault>) -> Answer {
+    match answer {
+        Ok(_) => Answer::of("ok"),
+        Err(fault) => refused(fault),
+    }
+}
+
+pub fn numbered(word: &'static str, answer: Result<u64, Fault>) -> Answer {
+    match answer {
+        Ok(number) => Answer::counted(word, number),
+        Err(fault) => refused(fault),
+    }
+}
+
+pub fn taken(word: &'static str, came: bool) -> Answer {
+    if came {
+        Answer::of(word)
+    } else {
+        Answer::of("not now")
+    }
+}
+
+pub fn have_read(answer: Result<ReadAnswer, Fault>) -> Answer {
+    match answer {
+        Ok(ReadAnswer::Got(count)) => Answer::got(count),
+        Ok(ReadAnswer::End) => Answer::of("end"),
+        Err(fault) => refused(fault),
+    }
+}
+
+/// A piece, or the end.
+pub fn have_piece(answer: Result<Option<usize>, Fault>) -> Answer {
+    match answer {
+        Ok(Some(count)) => Answer::got(count),
+        Ok(None) => Answer::of("end"),
+        Err(fault) => refused(fault),
+    }
+}
+
+/// A buffer that is full, or how far it came.
+pub fn have_filled(answer: Result<(), Short>, count: usize) -> Answer {
+    match answer {
+        Ok(()) => Answer::got(count),
+        Err(Short { count, fault: None }) => Answer::with("short", More::Bytes(count)),
+        Err(
+            Short {
+                count,
+                fault: Some(fault),
+            },
+        ) => Answer {
+            behind: Some(count as u64),
+            ..refused(fault)
+        },
+    }
+}
+
+pub fn have_tried(answer: Result<TryAnswer, Fault>) -> Answer {
+    match answer {
+        Ok(TryAnswer::Got(count)) => Answer::got(count),
+        Ok(TryAnswer::NotYet) => Answer::of("not yet"),
+        Ok(TryAnswer::End) => Answer::of("end"),
+        Err(fault) => refused(fault),
+    }
+}
+
+/// How far a long write came, and why it went no further.
+pub fn have_written(long: Long) -> Answer {
+    match long.fault {
+        None => Answer::counted("taken", long.taken),
+        Some(fault) => Answer {
+            behind: Some(long.taken),
+            ..refused(fault)
+        },
+    }
+}

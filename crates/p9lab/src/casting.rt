@@ -1,0 +1,529 @@
+//! How a process is made and gets its role.
+use crate::actor::{Actor, Beside, Role};
+use crate::answer::{Answer, numbered, refused};
+use crate::desk::Desk;
+use crate::lines::{WORDS, Words, number_of};
+use crate::objects::{Direction, Stock};
+use crate::roles::lone::lone_at;
+use crate::roles::queue::{keeper_at, putter_at, taker_at};
+use crate::roles::sharer::first_sharer;
+use crate::scene::{Begun, Place, Scene, Stay, begin, keep, push};
+use plan9::{
+    Fault, Flags, Guest, Holder, Kernel, NoteSet, Pid, Proc, Reader, Roster, Sharer, Writer,
+};
+use std::alloc::Global;
+use std::sync::Wait;
+
+/// A role, as a line names it.
+#[derive(Clone, Copy, PartialEq, Eq)]
+pub enum Part {
+    Plain,
+    Reader,
+    Writer,
+    Holder,
+    Guest,
+    Sharer,
+    Lone,
+    Putter,
+    Taker,
+    Keeper,
+}
+
+/// A role with its object, and whether it is at the direction back.
+#[derive(Clone, Copy)]
+pub struct Casting {
+    pub part: Part,
+    pub object: u64,
+    pub back: bool,
+}
+
+/// The role that begins with this word: `reader`, `reader 2`, `reader back` or `reader 2 back`.
+pub fn casting_of(words: &Words<'_>, from: usize) -> Option<Casting> {
+    if words.apart || from >= WORDS {
+        return None;
+    }
+    let part = part_of(words.list[from])?;
+    let back = is_last(words, "back");
+    let count = words.count.saturating_sub(if back { 1 } else { 0 });
+    let object = object_of(words, from.saturating_add(1), count)?;
+    Some(Casting { part, object, back })
+}
+
+fn is_last(words: &Words<'_>, wanted: &str) -> bool {
+    words.count > 0 && words.count <= WORDS && words.list[words.count - 1] == wanted
+}
+
+/// The number of an object at this place, where so many words stand; none is 1.
+pub fn object_of(words: &Words<'_>, at: usize, count: usize) -> Option<u64> {
+    if count == at {
+        return Some(1);
+    }
+    if at >= WORDS || count != at + 1 {
+        return None;
+    }
+    match number_of(words.list[at]) {
+        Some(0) => None,
+        number => number,
+    }
+}
+
+fn part_of(word: &str) -> Option<Part> {
+    match word {
+        "plain" => Some(Part::Plain),
+        "reader" => Some(Part::Reader),
+        "writer" => Some(Part::Writer),
+        "holder" => Some(Part::Holder),
+        "guest" => Some(Part::Guest),
+        "sharer" => Some(Part::Sharer),
+        "lone" => Some(Part::Lone),
+        "putter" => Some(Part::Putter),
+        "taker" => Some(Part::Taker),
+        "keeper" => Some(Part::Keeper),
+        _ => None,
+    }
+}
+
+/// A child of the process with this number, in its role.
+pub fn fork<R: Wait>(
+    rt: &R,
+    alloc: Global,
+    scene: &mut Scene,
+    number: u64,
+    flags: Flags,
+    casting: Casting,
+) -> Answer {
+    if casting.part == Part::Sharer && has_sharer(scene, casting.object) {
+        return fork_sharer(rt, alloc, scene, casting.object);
+    }
+    match child_of(scene, number, flags) {
+        Ok(Some(proc)) => place(rt, alloc, scene, proc, casting),
+        Ok(None) => Answer::of("nobody"),
+        Err(fault) => refused(fault),
+    }
+}
+
+fn child_of(scene: &mut Scene, number: u64, flags: Flags) -> Result<Option<Proc<'static>>, Fault> {
+    let Scene {
+        roster,
+        zero,
+        places,
+        ..
+    } = scene;
+    match proc_in(zero, places, number) {
+        Some(parent) => roster.rfork(parent, flags),
+        None => Err(Fault::NoProc),
+    }
+}
+
+/// Posts notes to the group of a pid.
+pub fn note_group(scene: &mut Scene, number: u64, pid: u64, notes: NoteSet) -> Answer {
+    let Scene {
+        roster,
+        zero,
+        places,
+        ..
+    } = scene;
+    match proc_in(zero, places, number) {
+        Some(poster) => numbered("noted", roster.postnote_group(poster, Pid(pid), notes)),
+        None => Answer::of("not its call"),
+    }
+}
+
+/// Whether the process with this number is here, and its calls of the roster can be made.
+pub fn can_fork(scene: &mut Scene, number: u64) -> bool {
+    proc_in(&mut scene.zero, &mut scene.places, number).is_some()
+}
+
+fn proc_in<'a>(
+    zero: &'a mut Proc<'static>,
+    places: &'a mut Vec<Place>,
+    number: u64,
+) -> Option<&'a mut Proc<'static>> {
+    if number == 0 {
+        return Some(zero);
+    }
+    for place in places.iter_mut() {
+        if place.number == number {
+            return proc_here(&mut place.stay);
+        }
+    }
+    None
+}
+
+fn proc_here(stay: &mut Stay) -> Option<&mut Proc<'static>> {
+    match stay {
+        Stay::Here(actor) => match &mut actor.role {
+            Role::Plain(proc) => Some(proc),
+            Role::Reader(reader) => Some(&mut reader.proc),
+            Role::Writer(writer) => Some(&mut writer.proc),
+            _ => None,
+        },
+        _ => None,
+    }
+}
+
+/// A child of a holder, which holds as well. Where it is refused no pid is used up.
+pub fn fork_beside<R: Wait>(rt: &R, alloc: Global, scene: &mut Scene, number: u64) -> Answer {
+    let Some(at) = scene.place_of(number) else {
+        return Answer::of("not here");
+    };
+    let Scene { places, roster, .. } = scene;
+    let Some(actor) = actor_at(places, at) else {
+        return Answer::of("not here");
+    };
+    let object = actor.object;
+    let Role::Holder(holder) = &mut actor.role else {
+        return Answer::of("not its call");
+    };
+    match holder.fork(rt, roster) {
+        Ok(child) => {
+            let pid = child.pid().0;
+            let kernel = scene.kernel;
+            let stay = Stay::Here(actor_of(alloc, Role::Holder(child), object));
+            seat(alloc, scene, pid, kernel, pid, None, stay)
+        }
+        Err(why) => refused(why.fault),
+    }
+}
+
+// The process at this place, if it is here.
+fn actor_at(places: &mut Vec<Place>, at: usize) -> Option<&mut Actor> {
+    match places.get_mut(at) {
+        Some(
+            Place {
+                stay: Stay::Here(actor),
+                ..
+            },
+        ) => Some(actor),
+        _ => None,
+    }
+}
+
+fn place<R: Wait>(
+    rt: &R,
+    alloc: Global,
+    scene: &mut Scene,
+    proc: Proc<'static>,
+    casting: Casting,
+) -> Answer {
+    let pid = proc.pid().0;
+    let kernel = scene.kernel;
+    match cast(rt, scene, proc, casting) {
+        Ok(role) => {
+            let stay = Stay::Here(actor_of(alloc, role, casting.object));
+            seat(alloc, scene, pid, kernel, pid, None, stay)
+        }
+        // The pid of a child that got no role is used up.
+        Err(fault) => {
+            seat(alloc, scene, pid, kernel, pid, None, Stay::Gone);
+            refused(fault)
+        }
+    }
+}
+
+// ---- strangers
+
+/// The number of the first stranger, which no pid has.
+const STRANGERS: u64 = 1024;
+
+/// A process of a kernel of its own, in its role at an object of this one.
+pub fn seat_stranger<R: Wait>(
+    rt: &R,
+    alloc: Global,
+    scene: &mut Scene,
+    procs: u64,
+    rendez: u64,
+    casting: Casting,
+) -> Answer {
+    match open_stranger(alloc, procs, rendez) {
+        Ok(opened) => place_stranger(rt, alloc, scene, opened, casting),
+        Err(fault) => refused(fault),
+    }
+}
+
+#[derive(Drop)]
+struct Stranger {
+    kernel: &'static Kernel,
+    proc: Proc<'static>,
+    sender: Option<Proc<'static>>,
+}
+
+fn open_stranger(alloc: Global, procs: u64, rendez: u64) -> Result<Stranger, Fault> {
+    let Begun {
+        kernel,
+        mut roster,
+        zero,
+    } = begin(alloc, procs, rendez)?;
+    let mut proc = zero;
+    let sender = match roster.rfork(&mut proc, Flags::RFPROC) {
+        Ok(sender) => sender,
+        Err(_) => None,
+    };
+    Ok(Stranger {
+        kernel,
+        proc,
+        sender,
+    })
+}
+
+fn place_stranger<R: Wait>(
+    rt: &R,
+    alloc: Global,
+    scene: &mut Scene,
+    opened: Stranger,
+    casting: Casting,
+) -> Answer {
+    let Stranger {
+        kernel,
+        proc,
+        sender,
+    } = opened;
+    let number = STRANGERS.saturating_add(scene.strangers);
+    match cast(rt, scene, proc, casting) {
+        Ok(role) => {
+            scene.strangers = scene.strangers.saturating_add(1);
+            let stay = Stay::Here(actor_of(alloc, role, casting.object));
+            seat(alloc, scene, number, kernel, 0, sender, stay)
+        }
+        Err(fault) => refused(fault),
+    }
+}
+
+fn actor_of(alloc: Global, role: Role, object: u64) -> Actor {
+    Actor {
+        role,
+        bytes: Vec::new(alloc),
+        visits: Vec::new(alloc),
+        object,
+        watch: None,
+    }
+}
+
+// Puts a process behind those that are there.
+fn seat(
+    alloc: Global,
+    scene: &mut Scene,
+    number: u64,
+    kernel: &'static Kernel,
+    pid: u64,
+    sender: Option<Proc<'static>>,
+    stay: Stay,
+) -> Answer {
+    let Ok(desk) = keep(alloc, Desk::new(scene.turns, kernel, pid)) else {
+        return refused(Fault::Memory);
+    };
+    let place = Place {
+        number,
+        kernel,
+        pid,
+        sender,
+        desk,
+        stay,
+    };
+    if push(&mut scene.places, place) {
+        Answer::counted("process", number)
+    } else {
+        refused(Fault::Memory)
+    }
+}
+
+fn cast<R: Wait>(
+    rt: &R,
+    scene: &mut Scene,
+    proc: Proc<'static>,
+    casting: Casting,
+) -> Result<Role, Fault> {
+    let Scene { places, stock, .. } = scene;
+    match casting.part {
+        Part::Plain => Ok(Role::Plain(proc)),
+        Part::Reader => read_with(direction_in(stock, casting), proc),
+        Part::Writer => write_with(direction_in(stock, casting), proc),
+        Part::Holder => hold(rt, places, stock, proc, casting.object),
+        Part::Guest => admit(rt, places, stock, proc, casting.object),
+        Part::Sharer => share_first(stock, proc, casting.object),
+        Part::Lone => Ok(Role::Beside(Beside::Lone(lone_at(
+            &stock.lones,
+            at(casting.object),
+            proc,
+        )?))),
+        _ => seat_at_queue(stock, casting),
+    }
+}
+
+// The place of the object with this number, counted from 1.
+fn at(object: u64) -> usize {
+    (object.max(1) - 1) as usize
+}
+
+fn direction_in(stock: &mut Stock, casting: Casting) -> Option<&mut Direction> {
+    let place = at(casting.object).saturating_mul(2);
+    let back = if casting.back { 1 } else { 0 };
+    stock.directions.get_mut(place.saturating_add(back))
+}
+
+fn read_with(direction: Option<&mut Direction>, proc: Proc<'static>) -> Result<Role, Fault> {
+    match direction {
+        Some(direction) => match direction.read.take() {
+            Some(end) => Ok(Role::Reader(Reader::new(end, proc))),
+            None => Err(Fault::NoProc),
+        },
+        None => Err(Fault::NoProc),
+    }
+}
+
+fn write_with(direction: Option<&mut Direction>, proc: Proc<'static>) -> Result<Role, Fault> {
+    match direction {
+        Some(direction) => match direction.writes.pop() {
+            Some(end) => Ok(Role::Writer(Writer::new(end, proc))),
+            None => Err(Fault::NoProc),
+        },
+        None => Err(Fault::NoProc),
+    }
+}
+
+fn share_first(stock: &mut Stock, proc: Proc<'static>, object: u64) -> Result<Role, Fault> {
+    match stock.sharings.get_mut(at(object)) {
+        Some(sharing) => Ok(Role::Beside(Beside::Sharer(first_sharer(sharing, proc)?))),
+        None => Err(Fault::NoProc),
+    }
+}
+
+fn has_sharer(scene: &mut Scene, object: u64) -> bool {
+    sharer_in(&mut scene.places, object).is_some()
+}
+
+// One more that shares the end, a child of one that does.
+fn fork_sharer<R: Wait>(rt: &R, alloc: Global, scene: &mut Scene, object: u64) -> Answer {
+    let kernel = scene.kernel;
+    match sharer_beside(rt, &mut scene.places, &mut scene.roster, object) {
+        Ok(sharer) => {
+            let pid = sharer.pid().0;
+            let stay = Stay::Here(actor_of(alloc, Role::Beside(Beside::Sharer(sharer)), object));
+            seat(alloc, scene, pid, kernel, pid, None, stay)
+        }
+        Err(fault) => refused(fault),
+    }
+}
+
+fn sharer_beside<R: Wait>(
+    rt: &R,
+    places: &mut Vec<Place>,
+    roster: &mut Roster<'static>,
+    object: u64,
+) -> Result<Sharer<'static, 'static, 'static>, Fault> {
+    match sharer_in(places, object) {
+        Some(sharer) => Ok(sharer.fork(rt, roster)?),
+        None => Err(Fault::NoProc),
+    }
+}
+
+fn sharer_in(
+    places: &mut Vec<Place>,
+    wanted: u64,
+) -> Option<&mut Sharer<'static, 'static, 'static>> {
+    for place in places.iter_mut() {
+        if let Stay::Here(actor) = &mut place.stay {
+            if actor.object == wanted {
+                if let Role::Beside(beside) = &mut actor.role {
+                    if let Beside::Sharer(sharer) = beside {
+                        return Some(sharer);
+                    }
+                }
+            }
+        }
+    }
+    None
+}
+
+// A seat of a queue, at which no process calls.
+fn seat_at_queue(stock: &mut Stock, casting: Casting) -> Result<Role, Fault> {
+    let place = at(casting.object);
+    match casting.part {
+        Part::Putter => Ok(Role::Beside(Beside::Putter(putter_at(&mut stock.queues, place)?))),
+        Part::Taker => Ok(Role::Beside(Beside::Taker(taker_at(&mut stock.queues, place)?))),
+        Part::Keeper => Ok(Role::Beside(Beside::Keeper(Some(keeper_at(
+            &mut stock.queues,
+            place,
+        )?)))),
+        _ => Err(Fault::NoProc),
+    }
+}
+
+// The first process at a pool, or one more beside one that is there.
+fn hold<R: Wait>(
+    rt: &R,
+    places: &mut Vec<Place>,
+    stock: &mut Stock,
+    proc: Proc<'static>,
+    object: u64,
+) -> Result<Role, Fault> {
+    if let Some(Some(_)) = stock.pools.get(at(object)) {
+        return hold_first(stock, proc, object);
+    }
+    match holder_in(places, object) {
+        Some(holder) => Ok(Role::Holder(holder.join(rt, proc)?)),
+        None => Err(Fault::NoProc),
+    }
+}
+
+fn hold_first(stock: &mut Stock, proc: Proc<'static>, object: u64) -> Result<Role, Fault> {
+    match stock.pools.get_mut(at(object)) {
+        Some(place) => match place.take() {
+            Some(pool) => Ok(Role::Holder(pool.first(proc)?)),
+            None => Err(Fault::NoProc),
+        },
+        None => Err(Fault::NoProc),
+    }
+}
+
+fn admit<R: Wait>(
+    rt: &R,
+    places: &mut Vec<Place>,
+    stock: &mut Stock,
+    proc: Proc<'static>,
+    object: u64,
+) -> Result<Role, Fault> {
+    if let Some(Some(_)) = stock.halls.get(at(object)) {
+        return admit_first(stock, proc, object);
+    }
+    match guest_in(places, object) {
+        Some(guest) => Ok(Role::Guest(guest.join(rt, proc)?)),
+        None => Err(Fault::NoProc),
+    }
+}
+
+fn admit_first(stock: &mut Stock, proc: Proc<'static>, object: u64) -> Result<Role, Fault> {
+    match stock.halls.get_mut(at(object)) {
+        Some(place) => match place.take() {
+            Some(hall) => Ok(Role::Guest(hall.first(proc)?)),
+            None => Err(Fault::NoProc),
+        },
+        None => Err(Fault::NoProc),
+    }
+}
+
+fn holder_in(places: &mut Vec<Place>, wanted: u64) -> Option<&mut Holder<'static, 'static>> {
+    for place in places.iter_mut() {
+        if let Stay::Here(actor) = &mut place.stay {
+            if actor.object == wanted {
+                if let Role::Holder(holder) = &mut actor.role {
+                    return Some(holder);
+                }
+            }
+        }
+    }
+    None
+}
+
+fn guest_in(places: &mut Vec<Place>, wanted: u64) -> Option<&mut Guest<'static, 'static>> {
+    for place in places.iter_mut() {
+        if let Stay::Here(actor) = &mut place.stay {
+            if actor.object == wanted {
+                if let Role::Guest(guest) = &mut actor.role {
+                    return Some(guest);
+                }
+            }
+        }
+    }
+    None
+}

@@ -1,0 +1,136 @@
+//! Where the call of a process stands, as its thread and the player of the scene see it.
+use plan9::{Kernel, Probe, ProcStatus};
+use std::sync::atomic::Ordering::SeqCst;
+use std::sync::atomic::{AtomicBool, AtomicU64};
+use std::thread::yield_now;
+
+/// The points of a call are below this.
+pub const POINTS: usize = 16;
+
+/// The pids of processes whose visits are told are below this.
+const SEEN: usize = 64;
+
+/// What a thread and the player tell each other of a process.
+#[derive(Drop)]
+pub struct Desk {
+    /// For how many turns a call stands at a point. At each turn others may run.
+    turns: u64,
+    kernel: &'static Kernel,
+    pid: u64,
+    runs: AtomicBool,
+    /// The point at which the call stands, or 0.
+    point: AtomicU64,
+}
+
+impl Desk {
+    pub fn new(turns: u64, kernel: &'static Kernel, pid: u64) -> Desk {
+        Desk {
+            turns,
+            kernel,
+            pid,
+            runs: AtomicBool::new(false),
+            point: AtomicU64::new(0),
+        }
+    }
+
+    pub fn begin(&self) {
+        self.runs.store(true, SeqCst);
+    }
+
+    pub fn end(&self) {
+        self.runs.store(false, SeqCst);
+    }
+
+    pub fn runs(&self) -> bool {
+        self.runs.load(SeqCst)
+    }
+
+    /// The point at which the call stands, or 0.
+    pub fn stands_at(&self) -> u64 {
+        self.point.load(SeqCst)
+    }
+
+    pub fn let_go(&self) {
+        self.point.store(0, SeqCst);
+    }
+
+    // Whether the process stands posted in a Rendez.
+    fn is_posted(&self) -> bool {
+        let mut procs = [ProcStatus::default(); SEEN];
+        let look = self.kernel.look(&mut procs, &mut []);
+        match look.procs.get(self.pid as usize) {
+            Some(status) => status.posted.is_some(),
+            None => false,
+        }
+    }
+
+    // Stands there until it is let go, or too many turns have passed.
+    fn stand_at(&self, point: u64) {
+        self.point.store(point, SeqCst);
+        for _ in 0..self.turns {
+            if self.point.load(SeqCst) == 0 {
+                return;
+            }
+            yield_now();
+        }
+        self.point.store(0, SeqCst);
+    }
+}
+
+/// The points at which a call stands until it is let go, once at each.
+#[derive(Clone, Copy)]
+pub struct Stops {
+    at: [bool; POINTS],
+    /// Whether the call is probed.
+    pub probed: bool,
+}
+
+impl Stops {
+    pub fn none() -> Stops {
+        Stops {
+            at: [false; POINTS],
+            probed: false,
+        }
+    }
+
+    pub fn add(&mut self, point: u64) {
+        self.probed = true;
+        if point < POINTS as u64 {
+            self.at[point as usize] = true;
+        }
+    }
+
+    fn takes(&mut self, point: u64) -> bool {
+        if point >= POINTS as u64 {
+            return false;
+        }
+        let stops = self.at[point as usize];
+        self.at[point as usize] = false;
+        stops
+    }
+}
+
+/// A point that a call has visited, and whether its process stood posted in a Rendez then.
+#[derive(Clone, Copy)]
+pub struct Visit {
+    pub point: u64,
+    pub posted: bool,
+}
+
+/// The probe of a call on a thread: it writes each visit down, and stands where it is to.
+#[derive(Drop)]
+pub struct Visitor<'a> {
+    pub desk: &'a Desk,
+    pub stops: Stops,
+    pub visits: &'a mut Vec<Visit>,
+}
+
+impl<'a> Probe for Visitor<'a> {
+    fn at(&mut self, point: u64) {
+        let posted = self.desk.is_posted();
+        let _ = self.visits.push(Visit { point, posted });
+        if self.stops.takes(point) {
+            self.desk.stand_at(point);
+        }
+    }
+}

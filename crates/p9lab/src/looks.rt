@@ -1,0 +1,64 @@
+//! What a look at a kernel shows: look(2).
+use crate::answer::{Answer, refused};
+use crate::scene::Scene;
+use plan9::{Fault, Kernel, ProcStatus, RendezStatus};
+use std::alloc::Global;
+
+/// Whether the process with this pid is posted, and nobody has marked it.
+pub fn is_posted(kernel: &Kernel, statuses: &mut Vec<ProcStatus>, pid: u64) -> bool {
+    match status_of(kernel, statuses, pid) {
+        Some(status) => status.posted.is_some() && !status.marked,
+        None => false,
+    }
+}
+
+fn status_of(kernel: &Kernel, statuses: &mut Vec<ProcStatus>, pid: u64) -> Option<ProcStatus> {
+    let look = kernel.look(statuses.as_mut_slice(), &mut []);
+    match look.procs.get(pid as usize) {
+        Some(status) => Some(*status),
+        None => None,
+    }
+}
+
+/// How the process with this number stands.
+pub fn standing_of(scene: &mut Scene, number: u64) -> Answer {
+    let at = scene.place_of(number);
+    let Scene {
+        kernel,
+        places,
+        statuses,
+        ..
+    } = scene;
+    let seen = match at {
+        Some(at) => match places.get(at) {
+            Some(place) => status_of(place.kernel, statuses, place.pid),
+            None => None,
+        },
+        None => status_of(kernel, statuses, number),
+    };
+    match seen {
+        Some(status) => Answer::standing(status),
+        None => refused(Fault::NoProc),
+    }
+}
+
+/// How a Rendez of the scene's kernel stands. One that is none has no answer.
+pub fn level_of(alloc: Global, scene: &Scene, rendez: u64) -> Option<Answer> {
+    if rendez >= scene.kernel.rendez_count() {
+        return None;
+    }
+    let mut seen = Vec::new(alloc);
+    for _ in 0..rendez {
+        if seen.push(RendezStatus::default()).is_err() {
+            return Some(refused(Fault::Memory));
+        }
+    }
+    if seen.push(RendezStatus::default()).is_err() {
+        return Some(refused(Fault::Memory));
+    }
+    let look = scene.kernel.look(&mut [], seen.as_mut_slice());
+    match look.rendez.get(rendez as usize) {
+        Some(status) => Some(Answer::level(*status)),
+        None => None,
+    }
+}

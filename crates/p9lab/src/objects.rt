@@ -1,0 +1,146 @@
+//! The objects of a scene, each kind numbered from 1 in the order of its lines.
+ghost use Rattle.plan9.specs.Openings.{IsStartOf};
+
+use crate::answer::{Answer, refused};
+use crate::roles::lone::Spot;
+use crate::roles::queue::Seats;
+use crate::roles::sharer::Sharing;
+use crate::scene::{Scene, keep, push};
+use plan9::{
+    Clock, Ends, Fault, Hall, OpenedPipe, Parts, Pipe, Pool, ReadEnd, Roster, Watch, WriteEnd,
+};
+use std::alloc::Global;
+
+/// The ends of one direction that nobody has yet.
+#[derive(Drop)]
+pub struct Direction {
+    pub read: Option<ReadEnd<'static>>,
+    pub writes: Vec<WriteEnd<'static>>,
+}
+
+/// What nobody has yet. A pool and a hall are here until their first process comes.
+#[derive(Drop)]
+pub struct Stock {
+    /// Two of each pipe: from the second end to the first, and the other way back.
+    pub directions: Vec<Direction>,
+    pub pools: Vec<Option<&'static mut Pool>>,
+    pub halls: Vec<Option<&'static mut Hall>>,
+    pub clocks: Vec<Watch<'static>>,
+    pub sharings: Vec<Sharing>,
+    pub lones: Vec<Spot>,
+    pub queues: Vec<Seats>,
+}
+
+impl Stock {
+    pub fn new(alloc: Global) -> Stock {
+        Stock {
+            directions: Vec::new(alloc),
+            pools: Vec::new(alloc),
+            halls: Vec::new(alloc),
+            clocks: Vec::new(alloc),
+            sharings: Vec::new(alloc),
+            lones: Vec::new(alloc),
+            queues: Vec::new(alloc),
+        }
+    }
+}
+
+// An object that was made has no answer.
+pub fn made(came: Result<(), Fault>) -> Answer {
+    match came {
+        Ok(()) => Answer::none(),
+        Err(fault) => refused(fault),
+    }
+}
+
+fn told(has_room: bool) -> Result<(), Fault> {
+    if has_room { Ok(()) } else { Err(Fault::Memory) }
+}
+
+pub fn make_pipe(alloc: Global, scene: &mut Scene, limit: u64, writers: u64) -> Answer {
+    match Pipe::new(alloc, &mut scene.roster, limit, writers) {
+        Ok(opened) => made(lay_pipe(alloc, &mut scene.stock.directions, opened)),
+        Err(fault) => refused(fault),
+    }
+}
+
+pub fn make_stream(alloc: Global, scene: &mut Scene, limit: u64, writers: u64) -> Answer {
+    match Pipe::new_stream(alloc, &mut scene.roster, limit, writers) {
+        Ok(opened) => made(lay_pipe(alloc, &mut scene.stock.directions, opened)),
+        Err(fault) => refused(fault),
+    }
+}
+
+fn lay_pipe(
+    alloc: Global,
+    directions: &mut Vec<Direction>,
+    opened: OpenedPipe<'static>,
+) -> Result<(), Fault>
+    requires { IsStartOf opened.pipe opened.start }
+{
+    let Ends { first, second } = ends_of(alloc, opened)?;
+    let Parts { read, writes: back } = first.parts();
+    let Parts { read: away, writes } = second.parts();
+    let has_room = push(directions, direction_of(read, writes));
+    told(push(directions, direction_of(away, back)) && has_room)
+}
+
+fn ends_of(alloc: Global, opened: OpenedPipe<'static>) -> Result<Ends<'static>, Fault>
+    requires { IsStartOf opened.pipe opened.start }
+{
+    let OpenedPipe { pipe, start } = opened;
+    let pipe = keep(alloc, pipe)?;
+    let pipe = &*pipe;
+    Ok(pipe.ends(start))
+}
+
+// Writer 0 is the next one that is taken.
+fn direction_of(read: ReadEnd<'static>, mut writes: Vec<WriteEnd<'static>>) -> Direction {
+    writes.reverse();
+    Direction {
+        read: Some(read),
+        writes,
+    }
+}
+
+pub fn make_sema(alloc: Global, scene: &mut Scene, units: u32, seats: u64) -> Answer {
+    let opened = Pool::new(alloc, &mut scene.roster, units, seats);
+    made(lay(alloc, &mut scene.stock.pools, opened))
+}
+
+pub fn make_space(alloc: Global, scene: &mut Scene, members: u64) -> Answer {
+    let opened = Hall::new(alloc, &mut scene.roster, members);
+    made(lay(alloc, &mut scene.stock.halls, opened))
+}
+
+/// Another space of the size of this one, to which nobody has come yet.
+pub fn make_group(alloc: Global, scene: &mut Scene, object: u64) -> Answer {
+    let Scene { stock, roster, .. } = scene;
+    let opened = match stock.halls.get((object.max(1) - 1) as usize) {
+        Some(Some(hall)) => hall.new_group(alloc, roster),
+        _ => return Answer::of("no space"),
+    };
+    made(lay(alloc, &mut stock.halls, opened))
+}
+
+fn lay<'a, T: Drop + 'a>(
+    alloc: Global,
+    kept: &mut Vec<Option<&'a mut T>>,
+    opened: Result<T, Fault>,
+) -> Result<(), Fault> {
+    let object = keep(alloc, opened?)?;
+    told(push(kept, Some(object)))
+}
+
+pub fn make_clock(alloc: Global, scene: &mut Scene, seats: u64) -> Answer {
+    made(lay_clock(alloc, &mut scene.stock.clocks, Clock::new(alloc, seats)))
+}
+
+fn lay_clock(
+    alloc: Global,
+    clocks: &mut Vec<Watch<'static>>,
+    opened: Result<Clock, Fault>,
+) -> Result<(), Fault> {
+    let clock = keep(alloc, opened?)?;
+    told(push(clocks, clock.first()?))
+}

@@ -1,0 +1,187 @@
+//! A text of scenes, played line by line. An empty line stands between two scenes.
+use crate::acts::{Acts, Said, step_with_acts};
+use crate::answer::{Answer, fault_text, refused};
+use crate::calling::call_off;
+use crate::lines::{Line, Words, line_of, number_of, words_of};
+use crate::page::Page;
+use crate::scene::{Scene, Stay, open, set};
+use crate::steps::leave;
+use plan9::Fault;
+use std::alloc::Global;
+use std::io::Write;
+use std::sync::Wait;
+use std::thread::Threads;
+
+/// Plays each scene, up to a line that is none.
+pub fn play_text<R: Threads + Wait + Copy + Send + 'static>(
+    rt: &R,
+    alloc: Global,
+    turns: u64,
+    text: &str,
+    page: &mut Page,
+    out: &mut impl Write,
+) {
+    let mut scene = None;
+    let mut acts = Acts::none();
+    for (at, line) in text.lines().enumerate() {
+        if !play_line(
+            rt, alloc, turns, &mut scene, &mut acts, text, at, line, page,
+        ) {
+            page.fault_at(at as u64 + 1);
+            break;
+        }
+        if line.is_empty() {
+            page.write(out);
+        }
+    }
+    end_scene(rt, &mut scene, page);
+    page.write(out);
+}
+
+// Whether it is a line.
+fn play_line<R: Threads + Wait + Copy + Send + 'static>(
+    rt: &R,
+    alloc: Global,
+    turns: u64,
+    scene: &mut Option<Scene>,
+    acts: &mut Acts,
+    text: &str,
+    at: usize,
+    line: &str,
+    page: &mut Page,
+) -> bool {
+    if line.is_empty() {
+        *acts = Acts::none();
+        end_scene(rt, scene, page);
+        page.put("\n");
+        return true;
+    }
+    let Line { played, wanted } = line_of(line);
+    page.put(played);
+    if line.starts_with('#') {
+        page.end_line();
+        return true;
+    }
+    let from = page.place();
+    if !answer_line(rt, alloc, turns, scene, acts, text, at, played, page) {
+        page.end_line();
+        return false;
+    }
+    if let Some(wanted) = wanted {
+        page.compare(from, wanted, at as u64 + 1);
+    }
+    true
+}
+
+fn answer_line<R: Threads + Wait + Copy + Send + 'static>(
+    rt: &R,
+    alloc: Global,
+    turns: u64,
+    scene: &mut Option<Scene>,
+    acts: &mut Acts,
+    text: &str,
+    at: usize,
+    played: &str,
+    page: &mut Page,
+) -> bool {
+    let Some(words) = words_of(played) else {
+        return false;
+    };
+    match scene {
+        None => begin_scene(alloc, turns, scene, &words, page),
+        Some(scene) => match step_again(rt, alloc, scene, acts, text, at, &words) {
+            Some(said) => {
+                put_said(page, scene, said);
+                true
+            }
+            None => false,
+        },
+    }
+}
+
+// A line that finds no memory is played once more: a call that is refused memory leaves all as it
+// was. What a call came to that was started before is answered as it came.
+fn step_again<R: Threads + Wait + Copy + Send + 'static>(
+    rt: &R,
+    alloc: Global,
+    scene: &mut Scene,
+    acts: &mut Acts,
+    text: &str,
+    at: usize,
+    words: &Words<'_>,
+) -> Option<Said> {
+    let said = step_with_acts(rt, alloc, scene, acts, text, at, words)?;
+    if lacks_memory(said.answer) && words.list[1] != "ends" && words.list[0] != "acted" {
+        return step_with_acts(rt, alloc, scene, acts, text, at, words);
+    }
+    Some(said)
+}
+
+fn lacks_memory(answer: Answer) -> bool {
+    answer.word == fault_text(Fault::Memory)
+}
+
+// The first line of a scene: `kernel PROCS RENDEZ`.
+fn begin_scene(
+    alloc: Global,
+    turns: u64,
+    scene: &mut Option<Scene>,
+    words: &Words<'_>,
+    page: &mut Page,
+) -> bool {
+    if words.list[0] != "kernel" || words.count != 3 || words.apart {
+        return false;
+    }
+    let (Some(procs), Some(rendez)) = (number_of(words.list[1]), number_of(words.list[2])) else {
+        return false;
+    };
+    match open_again(alloc, turns, procs, rendez) {
+        Ok(opened) => {
+            set(scene, Some(opened));
+            page.end_line();
+        }
+        Err(fault) => page.put_answer(refused(fault), &[], &[]),
+    }
+    page.count_scene();
+    true
+}
+
+fn open_again(alloc: Global, turns: u64, procs: u64, rendez: u64) -> Result<Scene, Fault> {
+    match open(alloc, turns, procs, rendez) {
+        Err(Fault::Memory) => open(alloc, turns, procs, rendez),
+        opened => opened,
+    }
+}
+
+// Puts an answer, and what the process of the line has read or visited.
+fn put_said(page: &mut Page, scene: &Scene, said: Said) {
+    if said.answer.word.is_empty() {
+        return page.end_line();
+    }
+    let Some(at) = scene.place_of(said.number) else {
+        return page.put_answer(said.answer, &[], &[]);
+    };
+    match scene.places.get(at) {
+        Some(place) => match &place.stay {
+            Stay::Here(actor) => page.put_answer(
+                said.answer,
+                actor.bytes.as_slice(),
+                actor.visits.as_slice(),
+            ),
+            _ => page.put_answer(said.answer, &[], &[]),
+        },
+        None => page.put_answer(said.answer, &[], &[]),
+    }
+}
+
+// What runs still is called off; what even then doesn't end is told.
+fn end_scene<R: Threads + Wait>(rt: &R, scene: &mut Option<Scene>, page: &mut Page) {
+    if let Some(opened) = scene {
+        let left = call_off(rt, opened);
+        if left.stuck > 0 {
+            page.put("left");
+            page.put_answer(leave(rt, opened), &[], &[]);
+        }
+    }
+    set(scene, None);
+}

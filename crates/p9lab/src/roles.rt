@@ -1,0 +1,11 @@
+//! What each role makes of a call. A new role is a file here, a variant of `actor`'s `Role` with an
+//! arm of its `make_call`, and an arm of `casting`'s `cast`.
+
+pub mod guest;
+pub mod holder;
+pub mod lone;
+pub mod plain;
+pub mod queue;
+pub mod reader;
+pub mod sharer;
+pub mod writer;

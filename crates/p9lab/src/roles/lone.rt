@@ -1,0 +1,358 @@
+//! A process at a direction with one writer whose two ends lie between calls: whoever calls takes
+//! one up, and lays it down again. So both can be given back at last, whatever threads had them.
+ghost use Rattle.std.specs.Prelude.{◌≡◌, ◌≤◌, [], ◌∷◌, IfOk, IfErr, IfSome};
+ghost use Rattle.std.specs.List.{AllByRecursion};
+ghost use Rattle.std.specs.Vec.{vec_capacity};
+ghost use Rattle.pipe_dev.specs.Ends.{AreAllEnds, IsSameReadEnd, IsSameWriteEnd};
+ghost use Rattle.pipe_dev.specs.Openings.{IsStartOf};
+
+use crate::answer::{Answer, More, have_read, have_tried, have_written, numbered, refused};
+use crate::roles::plain::call_plain;
+use crate::roles::reader::make_room;
+use crate::scene::{keep, push};
+use crate::told::{tell, tell_bytes, tell_number};
+use crate::verbs::{Call, Verb};
+use counted_slot::{Counted, FREE, Fits, TAKEN};
+use plan9::{
+    Ends, Fault, Held, Long, Mode, OpenedPipe, Parts, Pipe, PipeStart, Proc, ReadEnd, Roster,
+    Unfinished, WriteEnd, finish,
+};
+use std::alloc::Global;
+use std::snapshot::Snapshot;
+use std::sync::Wait;
+use std::thread::yield_now;
+
+/// The read end between two calls.
+#[derive(Drop)]
+struct LyingRead {
+    end: ReadEnd<'static>,
+}
+
+impl Fits for LyingRead {
+    ghost use Rattle.pipe_dev.specs.Ends.{IsSameReadEnd};
+
+    type Tag = Snapshot<ReadEnd<'static>>;
+
+    ghost fits = { λ first lying. IsSameReadEnd first.value lying.end };
+}
+
+/// The write end between two calls.
+#[derive(Drop)]
+struct LyingWrite {
+    end: WriteEnd<'static>,
+}
+
+impl Fits for LyingWrite {
+    ghost use Rattle.pipe_dev.specs.Ends.{IsSameWriteEnd};
+
+    type Tag = Snapshot<WriteEnd<'static>>;
+
+    ghost fits = { λ first lying. IsSameWriteEnd first.value lying.end };
+}
+
+/// Where both ends lie.
+#[derive(Drop)]
+pub struct Both {
+    read: Counted<Option<LyingRead>>,
+    write: Counted<Option<LyingWrite>>,
+    ghost all: { AreAllEnds read.value (write.value ∷ []) },
+}
+
+/// What the scene keeps of a direction, for each process that is to call there.
+#[derive(Drop)]
+pub struct Spot {
+    both: &'static Both,
+}
+
+/// A process that may call at either end.
+#[derive(Drop)]
+pub struct Lone {
+    pub proc: Proc<'static>,
+    both: &'static Both,
+}
+
+// ---- how it is made
+
+/// A pipe with one writer, of whose first direction both ends lie between calls.
+pub fn make_lone(
+    alloc: Global,
+    roster: &mut Roster<'static>,
+    lones: &mut Vec<Spot>,
+    limit: u64,
+    mode: Mode,
+) -> Result<(), Fault> {
+    let both = kept_both(alloc, opened_in(alloc, roster, limit, mode)?)?;
+    if push(lones, Spot { both }) {
+        Ok(())
+    } else {
+        Err(Fault::Memory)
+    }
+}
+
+/// Each process at the direction may call at both of its ends.
+pub fn lone_at(lones: &Vec<Spot>, at: usize, proc: Proc<'static>) -> Result<Lone, Fault> {
+    match lones.get(at) {
+        Some(spot) => Ok(Lone {
+            proc,
+            both: spot.both,
+        }),
+        None => Err(Fault::NoProc),
+    }
+}
+
+fn opened_in(
+    alloc: Global,
+    roster: &mut Roster<'static>,
+    limit: u64,
+    mode: Mode,
+) -> Result<OpenedPipe<'static>, Fault>
+    ensures { IfOk result (λ opened. IsStartOf opened.pipe opened.start) }
+{
+    match mode {
+        Mode::Message => Pipe::new(alloc, roster, limit, 1),
+        Mode::Stream => Pipe::new_stream(alloc, roster, limit, 1),
+    }
+}
+
+fn kept_both(alloc: Global, opened: OpenedPipe<'static>) -> Result<&'static Both, Fault>
+    requires { IsStartOf opened.pipe opened.start }
+{
+    let OpenedPipe { pipe, start } = opened;
+    let pipe = &*keep(alloc, pipe)?;
+    match both_of(pipe, start) {
+        Some(both) => Ok(&*keep(alloc, both)?),
+        None => Err(Fault::BadSize),
+    }
+}
+
+// The direction from the second end of a pipe to the first, where it has one writer.
+#[tactic(auto, using(crate::proofs::LoneLemmas::only_one))]
+fn both_of(pipe: &'static Pipe, start: PipeStart<'static>) -> Option<Both>
+    requires { IsStartOf pipe.now start }
+{
+    let Ends { first, second } = pipe.ends(start);
+    let Parts { read, writes: _ } = first.parts();
+    let Parts {
+        read: _,
+        mut writes,
+    } = second.parts();
+    let write = writes.pop()?;
+    if writes.len() > 0 {
+        return None;
+    }
+    Some(laid(read, write))
+}
+
+fn laid(read: ReadEnd<'static>, write: WriteEnd<'static>) -> Both
+    requires { AreAllEnds read (write ∷ []) }
+{
+    let first_read = Snapshot::of(&read);
+    let first_write = Snapshot::of(&write);
+    Both {
+        read: Counted::new(Some(LyingRead { end: read }), &first_read),
+        write: Counted::new(Some(LyingWrite { end: write }), &first_write),
+    }
+}
+
+// ---- its calls
+
+// Puts this in its place, and takes what lay there.
+fn swap<X: Fits + Drop, R: Wait>(rt: &R, place: &Counted<Option<X>>, lying: Option<X>) -> Option<X>
+    requires { IfSome lying (X.fits place.now) }
+    ensures { IfSome result (X.fits place.now) }
+{
+    'trying: for _ in rt.forever() {
+        let (found, claim) = place.turn(FREE, TAKEN);
+        if found == FREE {
+            return claim.put(lying, FREE);
+        }
+        claim.done();
+        yield_now();
+    }
+    unreachable!()
+}
+
+pub fn call_lone<R: Wait>(
+    rt: &R,
+    alloc: Global,
+    lone: &mut Lone,
+    bytes: &mut Vec<u8>,
+    call: Call,
+) -> Answer {
+    match call.verb {
+        Verb::Read | Verb::TryRead if !make_room(bytes, call.first) => refused(Fault::Memory),
+        Verb::Read | Verb::TryRead | Verb::ReadBlock | Verb::HangupRead => {
+            at_read_end(rt, lone, bytes, call)
+        }
+        Verb::Write | Verb::WriteLong | Verb::HangupWrite => {
+            at_write_end(rt, alloc, lone, bytes.as_slice(), call)
+        }
+        Verb::Finish => finish_both(rt, alloc, lone.both, bytes),
+        _ => call_plain(rt, &mut lone.proc, &mut None, call),
+    }
+}
+
+fn at_read_end<R: Wait>(rt: &R, lone: &mut Lone, bytes: &mut Vec<u8>, call: Call) -> Answer {
+    let Some(LyingRead { mut end }) = swap(rt, &lone.both.read, None) else {
+        return Answer::of("not here");
+    };
+    let answer = call_read_end(rt, &mut lone.proc, &mut end, bytes, call);
+    swap(rt, &lone.both.read, Some(LyingRead { end }));
+    answer
+}
+
+fn call_read_end<R: Wait>(
+    rt: &R,
+    proc: &mut Proc<'_>,
+    end: &mut ReadEnd<'_>,
+    bytes: &mut Vec<u8>,
+    call: Call,
+) -> Answer
+    ensures { IsSameReadEnd end.old end.new }
+{
+    match call.verb {
+        Verb::Read => have_read(end.read(rt, proc, bytes.as_mut_slice())),
+        Verb::TryRead => have_tried(end.try_read(proc, bytes.as_mut_slice())),
+        Verb::ReadBlock => have_read(end.read_block(rt, proc, bytes)),
+        _ => {
+            end.hangup(proc);
+            Answer::of("ok")
+        }
+    }
+}
+
+fn at_write_end<R: Wait>(
+    rt: &R,
+    alloc: Global,
+    lone: &mut Lone,
+    bytes: &[u8],
+    call: Call,
+) -> Answer {
+    let Some(LyingWrite { mut end }) = swap(rt, &lone.both.write, None) else {
+        return Answer::of("not here");
+    };
+    let answer = call_write_end(rt, alloc, &mut lone.proc, &mut end, bytes, call);
+    swap(rt, &lone.both.write, Some(LyingWrite { end }));
+    answer
+}
+
+fn call_write_end<R: Wait>(
+    rt: &R,
+    alloc: Global,
+    proc: &mut Proc<'_>,
+    end: &mut WriteEnd<'_>,
+    bytes: &[u8],
+    call: Call,
+) -> Answer
+    ensures { IsSameWriteEnd end.old end.new }
+{
+    match call.verb {
+        Verb::Write => numbered("taken", end.write(alloc, rt, proc, bytes)),
+        Verb::WriteLong => have_written(write_on(rt, alloc, proc, end, bytes)),
+        _ => {
+            end.hangup(proc);
+            Answer::of("ok")
+        }
+    }
+}
+
+// A long write. Where it finds no memory it goes on once more, behind what was taken.
+#[tactic(auto, using(crate::proofs::LoneLemmas::same_twice))]
+fn write_on<R: Wait>(
+    rt: &R,
+    alloc: Global,
+    proc: &mut Proc<'_>,
+    end: &mut WriteEnd<'_>,
+    bytes: &[u8],
+) -> Long
+    ensures { IsSameWriteEnd end.old end.new }
+{
+    let long = end.write_long(alloc, rt, proc, bytes);
+    if long.fault != Some(Fault::Memory) {
+        return long;
+    }
+    match bytes.get(long.taken as usize..) {
+        Some(rest) => {
+            let again = end.write_long(alloc, rt, proc, rest);
+            Long {
+                taken: long.taken.saturating_add(again.taken),
+                fault: again.fault,
+            }
+        }
+        None => long,
+    }
+}
+
+// Gives both ends back, and tells what the direction still held. Where there is no memory they lie
+// there again.
+#[tactic(auto, using(crate::proofs::LoneLemmas::still_both))]
+fn finish_both<R: Wait>(rt: &R, alloc: Global, both: &Both, told: &mut Vec<u8>) -> Answer {
+    let Ok(writes) = Vec::with_capacity(alloc, 1) else {
+        return refused(Fault::Memory);
+    };
+    let Some(LyingRead { end: read }) = swap(rt, &both.read, None) else {
+        return Answer::of("not here");
+    };
+    let Some(LyingWrite { end: write }) = swap(rt, &both.write, None) else {
+        swap(rt, &both.read, Some(LyingRead { end: read }));
+        return Answer::of("not here");
+    };
+    match give_back(alloc, read, write, writes) {
+        Ok(held) => tell_held(&held, told),
+        Err(unfinished) => {
+            lay_again(rt, both, unfinished);
+            refused(Fault::Memory)
+        }
+    }
+}
+
+fn give_back(
+    alloc: Global,
+    read: ReadEnd<'static>,
+    write: WriteEnd<'static>,
+    mut writes: Vec<WriteEnd<'static>>,
+) -> Result<Held, Unfinished<'static>>
+    requires all { AreAllEnds read (write ∷ []) }
+    requires none { writes.items ≡ [] }
+    requires room { 1 ≤ vec_capacity writes }
+    ensures read { IfErr result (λ unfinished. unfinished.read ≡ read.entry) }
+    ensures writes { IfErr result (λ unfinished.
+        unfinished.writes.items ≡ write.entry ∷ []) }
+{
+    writes.push_reserved(write);
+    finish(alloc, read, writes)
+}
+
+#[tactic(auto, using(crate::proofs::LoneLemmas::last_is_same))]
+fn lay_again<R: Wait>(rt: &R, both: &Both, unfinished: Unfinished<'static>)
+    requires read { IsSameReadEnd both.now.read.value unfinished.read }
+    requires writes { AllByRecursion (IsSameWriteEnd both.now.write.value)
+        unfinished.writes.items }
+{
+    let Unfinished { read, mut writes } = unfinished;
+    swap(rt, &both.read, Some(LyingRead { end: read }));
+    if let Some(write) = writes.pop() {
+        swap(rt, &both.write, Some(LyingWrite { end: write }));
+    }
+}
+
+// What is left of a write that was begun, and then each write with its writer.
+fn tell_held(held: &Held, told: &mut Vec<u8>) -> Answer {
+    told.clear();
+    let mut has_room = tell(told, "rest ") && tell_bytes(told, held.rest.as_slice());
+    for stored in held.writes.iter() {
+        has_room = has_room
+            && tell(told, ", ")
+            && tell_number(told, stored.writer)
+            && tell(told, " ")
+            && tell_bytes(told, stored.block.as_slice());
+    }
+    if !has_room {
+        return refused(Fault::Memory);
+    }
+    Answer {
+        word: if held.hung { "hungup" } else { "open" },
+        more: More::Bytes(told.len()),
+        behind: None,
+    }
+}

@@ -1,0 +1,55 @@
+//! A process alone: sleep(2) and postnote(2).
+use crate::answer::{Answer, done, have_woken};
+use crate::desk::Visitor;
+use crate::verbs::{Call, Verb};
+use plan9::{Pid, Proc, RendezId, Watch};
+use std::sync::Wait;
+
+pub fn call_plain<R: Wait>(
+    rt: &R,
+    proc: &mut Proc<'_>,
+    watch: &mut Option<Watch<'_>>,
+    call: Call,
+) -> Answer {
+    match call.verb {
+        Verb::Tick => tick(rt, proc, watch, call.first),
+        Verb::Sleep => done("woken", proc.sleep(rt, RendezId(call.first), call.second)),
+        _ => call_at_once(proc, call),
+    }
+}
+
+fn tick<R: Wait>(rt: &R, proc: &mut Proc<'_>, watch: &mut Option<Watch<'_>>, now: u64) -> Answer {
+    match watch {
+        Some(watch) => Answer::counted("expired", watch.tick(rt, proc, now)),
+        None => Answer::of("no clock"),
+    }
+}
+
+/// The calls that never wait.
+pub fn call_at_once(proc: &mut Proc<'_>, call: Call) -> Answer {
+    match call.verb {
+        Verb::Wakeup => have_woken(proc.wakeup(RendezId(call.first), call.second)),
+        Verb::Note => done("ok", proc.postnote(Pid(call.first), call.notes)),
+        Verb::Notes => Answer::noted("notes", proc.notes()),
+        Verb::PutBack => {
+            proc.put_back(call.notes);
+            Answer::of("ok")
+        }
+        _ => Answer::of("not its call"),
+    }
+}
+
+pub fn call_proc_probed<R: Wait>(
+    rt: &R,
+    proc: &mut Proc<'_>,
+    call: Call,
+    probe: &mut Visitor<'_>,
+) -> Answer {
+    if call.verb != Verb::Sleep {
+        return Answer::of("not probed");
+    }
+    done(
+        "woken",
+        proc.sleep_probed(rt, RendezId(call.first), call.second, probe),
+    )
+}

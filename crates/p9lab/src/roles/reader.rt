@@ -1,0 +1,41 @@
+//! A process that reads a direction of a pipe or a stream.
+use crate::answer::{Answer, have_filled, have_piece, have_read, have_tried, refused};
+use crate::roles::plain::call_plain;
+use crate::verbs::{Call, Verb};
+use plan9::{Fault, Reader, Watch};
+use std::sync::Wait;
+
+/// The most bytes of a read.
+const MOST: u64 = 16_000_000;
+
+pub fn call_reader<R: Wait>(
+    rt: &R,
+    reader: &mut Reader<'_, '_>,
+    bytes: &mut Vec<u8>,
+    watch: &mut Option<Watch<'_>>,
+    call: Call,
+) -> Answer {
+    match call.verb {
+        Verb::Read | Verb::TryRead | Verb::NextPiece | Verb::ReadExact
+            if !make_room(bytes, call.first) => { refused(Fault::Memory) }
+        Verb::Read => have_read(reader.read(rt, bytes.as_mut_slice())),
+        Verb::TryRead => have_tried(reader.try_read(bytes.as_mut_slice())),
+        Verb::ReadBlock => have_read(reader.read_block(rt, bytes)),
+        Verb::NextPiece => have_piece(reader.next_piece(rt, bytes.as_mut_slice())),
+        Verb::ReadExact => {
+            let count = bytes.len();
+            have_filled(reader.read_exact(rt, bytes.as_mut_slice()), count)
+        }
+        Verb::Hangup => {
+            reader.hangup();
+            Answer::of("ok")
+        }
+        _ => call_plain(rt, &mut reader.proc, watch, call),
+    }
+}
+
+/// So many bytes of room.
+pub fn make_room(bytes: &mut Vec<u8>, count: u64) -> bool {
+    bytes.clear();
+    bytes.resize(count.min(MOST) as usize, 0).is_ok()
+}

@@ -1,0 +1,52 @@
+//! A process that writes at a direction of a pipe or a stream.
+use crate::answer::{Answer, have_written, numbered};
+use crate::lines::number_of;
+use crate::roles::plain::call_plain;
+use crate::verbs::{Call, Verb};
+use plan9::{Watch, Writer};
+use std::alloc::Global;
+use std::sync::Wait;
+
+pub fn call_writer<R: Wait>(
+    rt: &R,
+    alloc: Global,
+    writer: &mut Writer<'_, '_>,
+    bytes: &mut Vec<u8>,
+    watch: &mut Option<Watch<'_>>,
+    call: Call,
+) -> Answer {
+    match call.verb {
+        Verb::Write => numbered("taken", writer.write(alloc, rt, bytes.as_slice())),
+        Verb::WriteLong => have_written(writer.write_long(alloc, rt, bytes.as_slice())),
+        Verb::Hangup => {
+            writer.hangup();
+            Answer::of("ok")
+        }
+        _ => call_plain(rt, &mut writer.proc, watch, call),
+    }
+}
+
+/// The most bytes that `N*x` stands for.
+const MOST: u64 = 16_000_000;
+
+/// So many of one byte, as `65536*x`; no bytes as `-`; and else those of the word.
+pub fn fill(bytes: &mut Vec<u8>, word: &str) -> bool {
+    bytes.clear();
+    if word == "-" {
+        return true;
+    }
+    if let Some((count, text)) = word.split_once('*') {
+        if let Some(count) = number_of(count) {
+            return fill_many(bytes, count, text);
+        }
+    }
+    bytes.extend_from_slice(word.as_bytes()).is_ok()
+}
+
+fn fill_many(bytes: &mut Vec<u8>, count: u64, text: &str) -> bool {
+    let byte = match text.as_bytes() {
+        [byte] => *byte,
+        _ => b'?',
+    };
+    bytes.resize(count.min(MOST) as usize, byte).is_ok()
+}

@@ -1,0 +1,128 @@
+//! A scene: its kernel, the process 0, the others by their numbers from 1 on, and its objects.
+//! All that a call may borrow is kept for as long as the program runs. So a call that never comes
+//! back keeps what it has, and stops neither the scene nor the program.
+ghost use Rattle.std.specs.Prelude.{◌≡◌, IfOk};
+
+use crate::actor::{Actor, Back};
+use crate::desk::Desk;
+use crate::objects::Stock;
+use plan9::{Fault, Kernel, OpenedKernel, Proc, ProcStatus, Roster, Started};
+use std::alloc::Global;
+use std::mem;
+use std::thread::JoinHandle;
+
+/// Where a process is.
+#[derive(Drop)]
+pub enum Stay {
+    Here(Actor),
+    /// Its call runs on a thread.
+    Out(JoinHandle<Back>),
+    Gone,
+}
+
+/// A process of the scene. Its number is its pid, but for a stranger: those have a kernel of their
+/// own each, and the numbers that no pid has. A stranger's kernel has one more process, which sends
+/// it notes.
+#[derive(Drop)]
+pub struct Place {
+    pub number: u64,
+    pub kernel: &'static Kernel,
+    pub pid: u64,
+    pub sender: Option<Proc<'static>>,
+    pub desk: &'static Desk,
+    pub stay: Stay,
+}
+
+#[derive(Drop)]
+pub struct Scene {
+    /// For how many turns anything is awaited. At each turn others may run.
+    pub turns: u64,
+    pub kernel: &'static Kernel,
+    pub statuses: Vec<ProcStatus>,
+    pub roster: Roster<'static>,
+    pub zero: Proc<'static>,
+    pub places: Vec<Place>,
+    pub strangers: u64,
+    pub stock: Stock,
+}
+
+/// Keeps a value for as long as the program runs.
+pub fn keep<'a, T: Drop + 'a>(alloc: Global, value: T) -> Result<&'a mut T, Fault>
+    ensures kept { IfOk result (λ kept. kept.now ≡ value) }
+{
+    match Box::new(alloc, value) {
+        Ok(kept) => Ok(Box::leak(kept)),
+        Err(_) => Err(Fault::Memory),
+    }
+}
+
+/// Puts a value in the place of another. At a type parameter it is proved once, for whatever type.
+pub fn set<T: Drop>(place: &mut T, value: T) {
+    let _gone = mem::replace(place, value);
+}
+
+/// Whether there was memory for one more.
+pub fn push<T: Drop>(places: &mut Vec<T>, value: T) -> bool {
+    places.push(value).is_ok()
+}
+
+/// A kernel, its roster and its process 0.
+#[derive(Drop)]
+pub struct Begun {
+    pub kernel: &'static Kernel,
+    pub roster: Roster<'static>,
+    pub zero: Proc<'static>,
+}
+
+pub fn begin(alloc: Global, procs: u64, rendez: u64) -> Result<Begun, Fault> {
+    let OpenedKernel { kernel, start } = Kernel::new(alloc, procs, rendez)?;
+    let kernel = keep(alloc, kernel)?;
+    let kernel = &*kernel;
+    let Started { roster, proc } = kernel.start(start);
+    Ok(Begun {
+        kernel,
+        roster,
+        zero: proc,
+    })
+}
+
+/// A scene with a kernel of this size, and nobody but process 0.
+pub fn open(alloc: Global, turns: u64, procs: u64, rendez: u64) -> Result<Scene, Fault> {
+    let Begun {
+        kernel,
+        roster,
+        zero,
+    } = begin(alloc, procs, rendez)?;
+    let statuses = room_for(alloc, kernel.proc_count())?;
+    Ok(Scene {
+        turns,
+        kernel,
+        statuses,
+        roster,
+        zero,
+        places: Vec::new(alloc),
+        strangers: 0,
+        stock: Stock::new(alloc),
+    })
+}
+
+// Room for what a look at all processes shows.
+fn room_for(alloc: Global, procs: u64) -> Result<Vec<ProcStatus>, Fault> {
+    let mut statuses = Vec::new(alloc);
+    for _ in 0..procs {
+        statuses.push(ProcStatus::default())?;
+    }
+    Ok(statuses)
+}
+
+impl Scene {
+    /// The place of the process with this number, if it has one. Process 0 has none.
+    pub fn place_of(&self, number: u64) -> Option<usize> {
+        for (at, place) in self.places.iter().enumerate() {
+            if place.number == number {
+                return Some(at);
+            }
+        }
+        None
+    }
+}

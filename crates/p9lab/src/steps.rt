@@ -1,0 +1,458 @@
+//! What a line does, where no act is to be played within it.
+use crate::actor::Actor;
+use crate::answer::{Answer, numbered, refused};
+use crate::calling::{Until, call_off, comes, ending, start, waiting};
+use crate::casting::{
+    Casting, Part, can_fork, casting_of, fork, fork_beside, note_group, object_of, seat_stranger,
+};
+use crate::desk::Stops;
+use crate::lines::{WORDS, Words, number_of};
+use crate::looks::{level_of, standing_of};
+use crate::objects::{
+    Stock, made, make_clock, make_group, make_pipe, make_sema, make_space, make_stream,
+};
+use crate::roles::lone::make_lone;
+use crate::roles::plain::call_at_once;
+use crate::roles::queue::{QueueKind, make_queue};
+use crate::roles::sharer::make_shared;
+use crate::roles::writer::fill;
+use crate::scene::{Scene, Stay, set};
+use crate::verbs::{Call, Verb, call_of, flags_of, kinds_of};
+use plan9::{Fault, Flags, Mode, RendezId};
+use std::alloc::Global;
+use std::sync::Wait;
+use std::thread::Threads;
+
+/// What a process is told.
+#[derive(Clone, Copy)]
+pub enum Deed {
+    Waits,
+    Ends,
+    Points,
+    Posted,
+    Look,
+    Fork,
+    Rfork,
+    NoteGroup,
+    Clock,
+    Call(Call),
+}
+
+/// What stands behind the number of a process.
+pub fn deed_of(words: &Words<'_>) -> Option<Deed> {
+    match words.list[1] {
+        "waits" => bare(words, Deed::Waits),
+        "ends" => bare(words, Deed::Ends),
+        "points" => bare(words, Deed::Points),
+        "posted" => bare(words, Deed::Posted),
+        "look" => bare(words, Deed::Look),
+        "fork" => Some(Deed::Fork),
+        "rfork" => Some(Deed::Rfork),
+        "notepg" => Some(Deed::NoteGroup),
+        "clock" => Some(Deed::Clock),
+        _ => Some(Deed::Call(call_of(words)?)),
+    }
+}
+
+fn bare(words: &Words<'_>, deed: Deed) -> Option<Deed> {
+    if words.count == 2 && !words.apart {
+        Some(deed)
+    } else {
+        None
+    }
+}
+
+/// Plays a line. A line that is none has no answer.
+pub fn step<R: Threads + Wait + Copy + Send + 'static>(
+    rt: &R,
+    alloc: Global,
+    scene: &mut Scene,
+    words: &Words<'_>,
+) -> Option<Answer> {
+    match words.list[0] {
+        "pipe" | "stream" | "sema" | "space" | "new_group" | "clock" => {
+            make(alloc, scene, words)
+        }
+        "stranger" => admit_stranger(rt, alloc, scene, words),
+        "rendez" => look_at_rendez(alloc, scene, words),
+        "lone" | "lone_stream" => make_pair(alloc, scene, words),
+        "queue" | "lone_queue" => make_seats(alloc, scene, words),
+        "share" => share(alloc, scene, words),
+        "left" => left(rt, scene, words),
+        "0" => step_zero(rt, alloc, scene, words),
+        _ => step_one(rt, alloc, scene, words),
+    }
+}
+
+// A pipe whose ends lie between calls: `lone LIMIT` or `lone_stream LIMIT`.
+fn make_pair(alloc: Global, scene: &mut Scene, words: &Words<'_>) -> Option<Answer> {
+    if words.apart || words.count != 2 {
+        return None;
+    }
+    let limit = number_of(words.list[1])?;
+    let mode = if words.list[0] == "lone" {
+        Mode::Message
+    } else {
+        Mode::Stream
+    };
+    let Scene { roster, stock, .. } = scene;
+    Some(made(make_lone(alloc, roster, &mut stock.lones, limit, mode)))
+}
+
+// The read end of a pipe, for so many: `share PROCS PIPE`, where PIPE may be left out.
+fn share(alloc: Global, scene: &mut Scene, words: &Words<'_>) -> Option<Answer> {
+    if words.apart {
+        return None;
+    }
+    let object = object_of(words, 2, words.count)?;
+    let procs = number_of(words.list[1])?;
+    let Scene { roster, stock, .. } = scene;
+    let Stock {
+        directions,
+        sharings,
+        ..
+    } = stock;
+    let place = (object.max(1) - 1).saturating_mul(2);
+    match directions.get_mut(place as usize) {
+        Some(direction) => {
+            let end = &mut direction.read;
+            Some(made(make_shared(alloc, roster, sharings, end, procs)))
+        }
+        None => Some(refused(Fault::NoProc)),
+    }
+}
+
+// A queue of blocks: `queue LIMIT WRITERS FIRST` or `lone_queue LIMIT FIRST`, where FIRST may be
+// left out.
+fn make_seats(alloc: Global, scene: &mut Scene, words: &Words<'_>) -> Option<Answer> {
+    let kind = kind_of(words)?;
+    Some(made(make_queue(alloc, &mut scene.stock.queues, kind)))
+}
+
+fn kind_of(words: &Words<'_>) -> Option<QueueKind> {
+    let lone = words.list[0] == "lone_queue";
+    let known = if lone { 2 } else { 3 };
+    if words.apart || words.count < known || words.count > known + 1 {
+        return None;
+    }
+    Some(QueueKind {
+        limit: number_of(words.list[1])?,
+        writers: if lone { 1 } else { number_of(words.list[2])? },
+        first: if words.count == known {
+            0
+        } else {
+            number_of(words.list[known.min(WORDS - 1)])?
+        },
+        lone,
+    })
+}
+
+// A line that makes an object.
+fn make(alloc: Global, scene: &mut Scene, words: &Words<'_>) -> Option<Answer> {
+    if words.apart {
+        return None;
+    }
+    let first = number_of(words.list[1])?;
+    if words.count == 2 {
+        return make_of_one(alloc, scene, words.list[0], first);
+    }
+    if words.count != 3 {
+        return None;
+    }
+    make_of_two(
+        alloc,
+        scene,
+        words.list[0],
+        first,
+        number_of(words.list[2])?,
+    )
+}
+
+fn make_of_one(alloc: Global, scene: &mut Scene, kind: &str, first: u64) -> Option<Answer> {
+    match kind {
+        "space" => Some(make_space(alloc, scene, first)),
+        "new_group" => Some(make_group(alloc, scene, first)),
+        "clock" => Some(make_clock(alloc, scene, first)),
+        _ => None,
+    }
+}
+
+fn make_of_two(
+    alloc: Global,
+    scene: &mut Scene,
+    kind: &str,
+    first: u64,
+    second: u64,
+) -> Option<Answer> {
+    match kind {
+        "pipe" => Some(make_pipe(alloc, scene, first, second)),
+        "stream" => Some(make_stream(alloc, scene, first, second)),
+        "sema" => match u32::try_from(first) {
+            Ok(units) => Some(make_sema(alloc, scene, units, second)),
+            Err(_) => None,
+        },
+        _ => None,
+    }
+}
+
+// `stranger PROCS RENDEZ ROLE ..`: the process 0 of a kernel of this size.
+fn admit_stranger<R: Wait>(
+    rt: &R,
+    alloc: Global,
+    scene: &mut Scene,
+    words: &Words<'_>,
+) -> Option<Answer> {
+    let procs = number_of(words.list[1])?;
+    let rendez = number_of(words.list[2])?;
+    let casting = casting_of(words, 3)?;
+    Some(seat_stranger(rt, alloc, scene, procs, rendez, casting))
+}
+
+fn look_at_rendez(alloc: Global, scene: &Scene, words: &Words<'_>) -> Option<Answer> {
+    if words.count != 2 || words.apart {
+        return None;
+    }
+    level_of(alloc, scene, number_of(words.list[1])?)
+}
+
+fn left<R: Threads + Wait>(rt: &R, scene: &mut Scene, words: &Words<'_>) -> Option<Answer> {
+    if words.count != 1 || words.apart {
+        return None;
+    }
+    Some(leave(rt, scene))
+}
+
+/// Ends what runs still.
+pub fn leave<R: Threads + Wait>(rt: &R, scene: &mut Scene) -> Answer {
+    let left = call_off(rt, scene);
+    if left.stuck > 0 {
+        Answer::counted("stuck", left.stuck)
+    } else {
+        Answer::counted("called off", left.ended)
+    }
+}
+
+// ---- the roster's calls, which any process may make
+
+// `N fork ROLE ..`
+fn fork_as<R: Wait>(
+    rt: &R,
+    alloc: Global,
+    scene: &mut Scene,
+    number: u64,
+    words: &Words<'_>,
+) -> Option<Answer> {
+    if words.count == 2 && !words.apart {
+        return Some(fork_beside(rt, alloc, scene, number));
+    }
+    let casting = casting_of(words, 2)?;
+    Some(fork_here(rt, alloc, scene, number, Flags::RFPROC, casting))
+}
+
+// `N rfork FLAGS`, and `N rfork FLAGS ROLE ..`
+fn rfork_as<R: Wait>(
+    rt: &R,
+    alloc: Global,
+    scene: &mut Scene,
+    number: u64,
+    words: &Words<'_>,
+) -> Option<Answer> {
+    let flags = flags_of(words.list[2])?;
+    let casting = if words.count == 3 && !words.apart {
+        Casting {
+            part: Part::Plain,
+            object: 1,
+            back: false,
+        }
+    } else {
+        casting_of(words, 3)?
+    };
+    Some(fork_here(rt, alloc, scene, number, flags, casting))
+}
+
+fn fork_here<R: Wait>(
+    rt: &R,
+    alloc: Global,
+    scene: &mut Scene,
+    number: u64,
+    flags: Flags,
+    casting: Casting,
+) -> Answer {
+    if can_fork(scene, number) {
+        fork(rt, alloc, scene, number, flags, casting)
+    } else {
+        Answer::of("not its call")
+    }
+}
+
+// `N notepg PID KINDS`
+fn note_group_as(scene: &mut Scene, number: u64, words: &Words<'_>) -> Option<Answer> {
+    if words.count != 4 || words.apart {
+        return None;
+    }
+    let pid = number_of(words.list[2])?;
+    let notes = kinds_of(words.list[3])?;
+    Some(note_group(scene, number, pid, notes))
+}
+
+// ---- process 0
+
+fn step_zero<R: Wait>(
+    rt: &R,
+    alloc: Global,
+    scene: &mut Scene,
+    words: &Words<'_>,
+) -> Option<Answer> {
+    if words.apart {
+        return None;
+    }
+    match words.list[1] {
+        "fork" => fork_as(rt, alloc, scene, 0, words),
+        "rfork" => rfork_as(rt, alloc, scene, 0, words),
+        "notepg" => note_group_as(scene, 0, words),
+        "look" => counted_words(words, standing_of(scene, 0)),
+        "tick" => tick(rt, scene, words),
+        "pids_left" => counted_words(words, Answer::counted("pids", scene.roster.left().0)),
+        "rendez_left" => { counted_words(words, Answer::counted("rendez", scene.roster.left().1)) }
+        "rendez" => counted_words(words, first_of(scene.roster.rendez())),
+        "row" => take_row(scene, words),
+        _ => call_zero(scene, call_of(words)?),
+    }
+}
+
+fn first_of(made: Result<RendezId, Fault>) -> Answer {
+    numbered("rendez", made.map(|first| first.0))
+}
+
+// `0 row N`: so many Rendez that follow one another.
+fn take_row(scene: &mut Scene, words: &Words<'_>) -> Option<Answer> {
+    if words.count != 3 || words.apart {
+        return None;
+    }
+    let count = number_of(words.list[2])?;
+    Some(first_of(scene.roster.row(count)))
+}
+
+fn counted_words(words: &Words<'_>, answer: Answer) -> Option<Answer> {
+    if words.count != 2 {
+        return None;
+    }
+    Some(answer)
+}
+
+// Process 0 makes no call that may wait.
+fn call_zero(scene: &mut Scene, call: Call) -> Option<Answer> {
+    match call.verb {
+        Verb::Wakeup | Verb::Note | Verb::Notes | Verb::PutBack => {
+            Some(call_at_once(&mut scene.zero, call))
+        }
+        _ => None,
+    }
+}
+
+fn tick<R: Wait>(rt: &R, scene: &mut Scene, words: &Words<'_>) -> Option<Answer> {
+    let now = number_of(words.list[2])?;
+    let object = object_of(words, 3, words.count)?;
+    let Scene { stock, zero, .. } = scene;
+    match stock.clocks.get_mut((object.max(1) - 1) as usize) {
+        Some(watch) => Some(Answer::counted("expired", watch.tick(rt, zero, now))),
+        None => Some(Answer::of("no clock")),
+    }
+}
+
+// ---- the others
+
+fn step_one<R: Threads + Wait + Copy + Send + 'static>(
+    rt: &R,
+    alloc: Global,
+    scene: &mut Scene,
+    words: &Words<'_>,
+) -> Option<Answer> {
+    let number = number_of(words.list[0])?;
+    let deed = deed_of(words)?;
+    let at = scene.place_of(number)?;
+    match deed {
+        Deed::Waits => Some(waiting(comes(scene, at, Until::Waits))),
+        Deed::Ends => {
+            let came = comes(scene, at, Until::Ends);
+            Some(ending(rt, scene, at, came))
+        }
+        Deed::Points => Some(Answer::points()),
+        Deed::Posted => Some(Answer::posted()),
+        Deed::Look => Some(standing_of(scene, number)),
+        Deed::Fork => fork_as(rt, alloc, scene, number, words),
+        Deed::Rfork => rfork_as(rt, alloc, scene, number, words),
+        Deed::NoteGroup => note_group_as(scene, number, words),
+        Deed::Clock => take_seat(rt, scene, at, words),
+        Deed::Call(call) => Some(call_and_await(rt, alloc, scene, at, call, words)),
+    }
+}
+
+fn call_and_await<R: Threads + Wait + Copy + Send + 'static>(
+    rt: &R,
+    alloc: Global,
+    scene: &mut Scene,
+    at: usize,
+    call: Call,
+    words: &Words<'_>,
+) -> Answer {
+    let started = begin(rt, alloc, scene, at, call, Stops::none(), words);
+    if words.apart || started.word != "started" {
+        return started;
+    }
+    let came = comes(scene, at, Until::Ends);
+    ending(rt, scene, at, came)
+}
+
+/// Starts a call of the process at this place, with the bytes that it writes.
+pub fn begin<R: Threads + Wait + Copy + Send + 'static>(
+    rt: &R,
+    alloc: Global,
+    scene: &mut Scene,
+    at: usize,
+    call: Call,
+    stops: Stops,
+    words: &Words<'_>,
+) -> Answer {
+    let Some(place) = scene.places.get_mut(at) else {
+        return Answer::of("not here");
+    };
+    if let Stay::Here(actor) = &mut place.stay {
+        if !prepare(actor, call, words) {
+            return refused(Fault::Memory);
+        }
+    }
+    start(rt, alloc, place, call, stops)
+}
+
+fn prepare(actor: &mut Actor, call: Call, words: &Words<'_>) -> bool {
+    match call.verb {
+        Verb::Write | Verb::WriteLong | Verb::Put => fill(&mut actor.bytes, words.list[2]),
+        _ => true,
+    }
+}
+
+// `N clock`, `N clock K`: the process takes a seat at a clock.
+fn take_seat<R: Wait>(rt: &R, scene: &mut Scene, at: usize, words: &Words<'_>) -> Option<Answer> {
+    if words.apart {
+        return None;
+    }
+    let object = object_of(words, 2, words.count)?;
+    let Scene { places, stock, .. } = scene;
+    let Some(clock) = stock.clocks.get_mut((object.max(1) - 1) as usize) else {
+        return Some(Answer::of("no clock"));
+    };
+    let Some(place) = places.get_mut(at) else {
+        return None;
+    };
+    let Stay::Here(actor) = &mut place.stay else {
+        return Some(Answer::of("not here"));
+    };
+    match clock.split(rt) {
+        Ok(watch) => {
+            set(&mut actor.watch, Some(watch));
+            Some(Answer::of("ok"))
+        }
+        Err(fault) => Some(refused(fault)),
+    }
+}

@@ -1,0 +1,217 @@
+//! What a process may be told, and with which operands. A new call is a variant, a row of
+//! `entry_of` and an arm of the roles that make it.
+use crate::lines::{Words, number_of};
+use plan9::{Flags, Note, NoteSet};
+
+/// A word behind a process.
+#[derive(Clone, Copy, PartialEq, Eq)]
+pub enum Verb {
+    // sleep(2), postnote(2)
+    Sleep,
+    Wakeup,
+    Note,
+    Notes,
+    PutBack,
+    // pipe(2)
+    Write,
+    WriteLong,
+    Read,
+    TryRead,
+    ReadBlock,
+    NextPiece,
+    ReadExact,
+    Hangup,
+    HangupRead,
+    HangupWrite,
+    Finish,
+    // a queue of blocks
+    Put,
+    Take,
+    TakeBack,
+    Room,
+    Gather,
+    // semacquire(2)
+    Acquire,
+    TryAcquire,
+    AcquireWithin,
+    Release,
+    Tick,
+    // rendezvous(2)
+    Rendezvous,
+    RendezvousWord,
+    // the Rendez in which it waits for a unit, or for a partner
+    Rendez,
+}
+
+/// What stands behind a verb.
+#[derive(Clone, Copy, PartialEq, Eq)]
+pub enum Shape {
+    Bare,
+    Number,
+    /// A number of 32 bits.
+    Count,
+    TwoNumbers,
+    NumberCount,
+    Kinds,
+    NumberKinds,
+    Text,
+}
+
+#[derive(Clone, Copy)]
+pub struct Entry {
+    pub verb: Verb,
+    pub shape: Shape,
+}
+
+fn row(verb: Verb, shape: Shape) -> Option<Entry> {
+    Some(Entry { verb, shape })
+}
+
+fn entry_of(word: &str) -> Option<Entry> {
+    match word {
+        "sleep" => row(Verb::Sleep, Shape::TwoNumbers),
+        "wakeup" => row(Verb::Wakeup, Shape::TwoNumbers),
+        "note" => row(Verb::Note, Shape::NumberKinds),
+        "notes" => row(Verb::Notes, Shape::Bare),
+        "put_back" => row(Verb::PutBack, Shape::Kinds),
+        _ => entry_of_object(word),
+    }
+}
+
+fn entry_of_object(word: &str) -> Option<Entry> {
+    match word {
+        "write" => row(Verb::Write, Shape::Text),
+        "write_long" => row(Verb::WriteLong, Shape::Text),
+        "read" => row(Verb::Read, Shape::Number),
+        "try_read" => row(Verb::TryRead, Shape::Number),
+        "read_block" => row(Verb::ReadBlock, Shape::Bare),
+        "next_piece" => row(Verb::NextPiece, Shape::Number),
+        "read_exact" => row(Verb::ReadExact, Shape::Number),
+        "hangup" => row(Verb::Hangup, Shape::Bare),
+        "hangup_read" => row(Verb::HangupRead, Shape::Bare),
+        "hangup_write" => row(Verb::HangupWrite, Shape::Bare),
+        "finish" => row(Verb::Finish, Shape::Bare),
+        "put" => row(Verb::Put, Shape::Text),
+        "take" => row(Verb::Take, Shape::Bare),
+        "take_back" => row(Verb::TakeBack, Shape::Bare),
+        "room" => row(Verb::Room, Shape::Bare),
+        "gather" => row(Verb::Gather, Shape::Bare),
+        "acquire" => row(Verb::Acquire, Shape::Bare),
+        "try_acquire" => row(Verb::TryAcquire, Shape::Bare),
+        "acquire_within" => row(Verb::AcquireWithin, Shape::NumberCount),
+        "release" => row(Verb::Release, Shape::Count),
+        "tick" => row(Verb::Tick, Shape::Number),
+        "rendezvous" => row(Verb::Rendezvous, Shape::TwoNumbers),
+        "rendezvous_word" => row(Verb::RendezvousWord, Shape::TwoNumbers),
+        "rendez" => row(Verb::Rendez, Shape::Bare),
+        _ => None,
+    }
+}
+
+/// A call.
+#[derive(Clone, Copy)]
+pub struct Call {
+    pub verb: Verb,
+    pub first: u64,
+    pub second: u64,
+    pub notes: NoteSet,
+}
+
+/// The call that a line has behind its process. No other operands may stand there.
+pub fn call_of(words: &Words<'_>) -> Option<Call> {
+    let Entry { verb, shape } = entry_of(words.list[1])?;
+    if words.count < 2 || words.count - 2 != operands_of(shape) {
+        return None;
+    }
+    let mut call = Call {
+        verb,
+        first: 0,
+        second: 0,
+        notes: NoteSet::empty(),
+    };
+    match shape {
+        Shape::Bare | Shape::Text => {}
+        Shape::Number => call.first = number_of(words.list[2])?,
+        Shape::Count => call.first = count_of(words.list[2])?,
+        Shape::NumberCount => {
+            call.first = number_of(words.list[2])?;
+            call.second = count_of(words.list[3])?;
+        }
+        Shape::TwoNumbers => {
+            call.first = number_of(words.list[2])?;
+            call.second = number_of(words.list[3])?;
+        }
+        Shape::Kinds => call.notes = kinds_of(words.list[2])?,
+        Shape::NumberKinds => {
+            call.first = number_of(words.list[2])?;
+            call.notes = kinds_of(words.list[3])?;
+        }
+    }
+    Some(call)
+}
+
+fn count_of(word: &str) -> Option<u64> {
+    let count = number_of(word)?;
+    if count > u64::from(u32::MAX) {
+        return None;
+    }
+    Some(count)
+}
+
+fn operands_of(shape: Shape) -> usize {
+    match shape {
+        Shape::Bare => 0,
+        Shape::Number | Shape::Count | Shape::Kinds | Shape::Text => 1,
+        Shape::TwoNumbers | Shape::NumberCount | Shape::NumberKinds => 2,
+    }
+}
+
+/// Kinds of notes with a comma between each two, or `-` for none.
+pub fn kinds_of(word: &str) -> Option<NoteSet> {
+    let mut notes = NoteSet::empty();
+    if word == "-" {
+        return Some(notes);
+    }
+    for kind in word.split(',') {
+        notes = notes.join(NoteSet::of(kind_of(kind)?));
+    }
+    Some(notes)
+}
+
+/// Flags of rfork with a comma between each two, `-` for none, or their bits as a number.
+pub fn flags_of(word: &str) -> Option<Flags> {
+    let mut flags = Flags::NONE;
+    if word == "-" {
+        return Some(flags);
+    }
+    if let Some(bits) = number_of(word) {
+        return match u32::try_from(bits) {
+            Ok(bits) => Some(Flags::from_bits(bits)),
+            Err(_) => None,
+        };
+    }
+    for flag in word.split(',') {
+        flags = flags.join(flag_of(flag)?);
+    }
+    Some(flags)
+}
+
+fn flag_of(word: &str) -> Option<Flags> {
+    match word {
+        "proc" => Some(Flags::RFPROC),
+        "rend" => Some(Flags::RFREND),
+        "noteg" => Some(Flags::RFNOTEG),
+        _ => None,
+    }
+}
+
+fn kind_of(word: &str) -> Option<Note> {
+    match word {
+        "interrupt" => Some(Note::Interrupt),
+        "hangup" => Some(Note::Hangup),
+        "alarm" => Some(Note::Alarm),
+        "closed" => Some(Note::ClosedPipe),
+        "expired" => Some(Note::Expired),
+        _ => None,
+    }
+}

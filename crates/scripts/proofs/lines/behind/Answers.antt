@@ -1,0 +1,22 @@
+-- A text that is shorter than the word, or has another byte in its place, does not begin with it.
+use Rattle.std.proofs.Common.{◌≡◌, ◌++◌, ◌∷◌, [], ◌∙◌, length, take, get_or, suc, ap, sym, arith}
+use Rattle.std.proofs.Common.{length-append, take-suc}
+use Rattle.std.proofs.lemmas.List.{get_or_append_left}
+use Rattle.scripts.proofs.PartLemmas.{word_and_rest}
+use Rattle.scripts.proofs.lines.behind.Goals as goal
+
+pub returns-then-text-word : goal.returns-then-text-word
+returns-then-text-word c rest is =
+    let long = ap length is ∙ length-append c.args.word.now rest in
+    omega (arith, long, c.if-text-word.true)
+
+pub returns-then-text-i : goal.returns-then-text-i
+returns-then-text-i c rest is =
+    c.if-text-i.true
+    (ap (λ t. get_or t c.loop-i.i 0) is
+    ∙ get_or_append_left c.args.word.now rest 0 c.loop-i.i (omega arith))
+
+pub returns : goal.returns
+returns c =
+    word_and_rest c.args.word.now c.args.text.now c.loop-i.i (omega arith) c.loop-i.invariant
+    (omega arith)

@@ -1,0 +1,277 @@
+//! Eight processes that acquire and release units, with notes, time-outs and ticks between; and the
+//! example of semacquire(2).
+ghost use Rattle.sleep_wakeup.specs.Starts.{IsStartOf};
+ghost use Rattle.semaphore.specs.Seats.{HasRow, IsSemaSeatOf, IsTimerSeatOf};
+
+use crate::kernels::{forked, kernel_of};
+use plan9::{
+    Clock, Fault, Holder, Kernel, Note, NoteSet, OpenedKernel, OpenedSema, OpenedTimers, Pid, Pool,
+    Proc, Sema, Semacquired, Start, Started, Timers, Watch,
+};
+use std::alloc::Global;
+use std::process::Abort;
+use std::sync::Wait;
+use std::sync::atomic::AtomicU64;
+use std::sync::atomic::Ordering::SeqCst;
+use std::thread::{self, Threads, join, yield_now};
+
+const HOLDERS: u64 = 8;
+
+/// How many units each of them acquires.
+const UNITS: u64 = 1_000;
+
+/// The units at first: fewer than processes.
+const OPENING: u32 = 3;
+
+/// What the processes tell each other, outside the pool.
+#[derive(Drop)]
+struct Board {
+    /// The moment of the last tick.
+    now: AtomicU64,
+    /// How many have acquired all their units.
+    ended: AtomicU64,
+}
+
+/// A process of the crowd.
+#[derive(Drop)]
+struct Job<'s, 't, 'k> {
+    holder: Holder<'s, 'k>,
+    watch: Watch<'t>,
+    number: u64,
+}
+
+/// How many units it acquired and released, and how many calls were answered as none may be.
+#[derive(Clone, Copy, PartialEq, Eq)]
+struct Work {
+    acquired: u64,
+    released: u64,
+    wrong: u64,
+}
+
+// One acquire of one of the three kinds. Says whether it got a unit.
+fn acquire<R: Wait>(rt: &R, job: &mut Job, board: &Board, round: u64) -> Result<bool, Fault> {
+    let waited = match round % 3 {
+        0 => job.holder.acquire(rt),
+        1 => return Ok(job.holder.try_acquire(rt)),
+        _ => {
+            let now = board.now.load(SeqCst);
+            job.holder.acquire_within(rt, &mut job.watch, now, 3)
+        }
+    };
+    match waited {
+        Ok(()) => Ok(true),
+        Err(Fault::Interrupted(_)) | Err(Fault::TimedOut) => Ok(false),
+        Err(fault) => Err(fault),
+    }
+}
+
+// An acquire, the release of its unit, and a note to one of the crowd now and then, in a scattered
+// choice, the same in each run.
+fn turn<R: Wait>(rt: &R, job: &mut Job, board: &Board, round: u64, work: &mut Work) {
+    match acquire(rt, job, board, round) {
+        Ok(true) => {
+            work.acquired = work.acquired.saturating_add(1);
+            match job.holder.release(rt, 1) {
+                Ok(_) => work.released = work.released.saturating_add(1),
+                Err(_) => work.wrong = work.wrong.saturating_add(1),
+            }
+        }
+        Ok(false) => {}
+        Err(_) => work.wrong = work.wrong.saturating_add(1),
+    }
+    let noted = round.wrapping_mul(2_654_435_761) % 64;
+    let interrupt = NoteSet::of(Note::Interrupt);
+    if noted < HOLDERS && job.holder.postnote(Pid(noted + 2), interrupt).is_err() {
+        work.wrong = work.wrong.saturating_add(1);
+    }
+}
+
+fn works<R: Wait>(rt: &R, mut job: Job, board: &Board) -> Work {
+    let mut work = Work {
+        acquired: 0,
+        released: 0,
+        wrong: 0,
+    };
+    let mut round = job.number;
+    for _ in rt.forever() {
+        if work.acquired >= UNITS {
+            break;
+        }
+        round = round.saturating_add(1);
+        turn(rt, &mut job, board, round, &mut work);
+    }
+    board.ended.fetch_add(1, SeqCst);
+    work
+}
+
+// Ticks until all have ended. Says whether no tick ended more waits than there may be.
+fn ticks<R: Wait>(rt: &R, mut watch: Watch, mut proc: Proc, board: &Board) -> bool {
+    let mut good = true;
+    for _ in rt.forever() {
+        if board.ended.load(SeqCst) >= HOLDERS {
+            break;
+        }
+        let now = board.now.fetch_add(1, SeqCst).wrapping_add(1);
+        good = watch.tick(rt, &mut proc, now) <= HOLDERS && good;
+        yield_now();
+    }
+    good
+}
+
+// The crowd's processes, each with its seat at the clock and its number.
+fn jobs_of<'s, 't, 'k, R: Wait + Abort>(
+    rt: &R,
+    alloc: Global,
+    holders: Vec<Holder<'s, 'k>>,
+    watch: &mut Watch<'t>,
+) -> Vec<Job<'s, 't, 'k>> {
+    let mut jobs = Vec::new(alloc);
+    let mut number = 0u64;
+    for holder in holders {
+        let Ok(watch) = watch.split(rt) else {
+            panic!(rt; "no seat at the clock")
+        };
+        let job = Job {
+            holder,
+            watch,
+            number,
+        };
+        if jobs.push(job).is_err() {
+            panic!(rt; "no memory for a job");
+        }
+        number = number.saturating_add(1);
+    }
+    jobs
+}
+
+// How many units are there.
+fn units_left<R: Wait>(rt: &R, last: &mut Holder) -> u64 {
+    let mut count = 0u64;
+    for _ in 0..2 * HOLDERS {
+        if last.try_acquire(rt) {
+            count = count.saturating_add(1);
+        }
+    }
+    count
+}
+
+// Each acquired what it wanted, and the units that are left are those that nobody has.
+fn count_units(rt: &impl Abort, done: &[Work], left: u64) {
+    let mut wanted = OPENING as u64;
+    for work in done.iter() {
+        assert!(rt; (work.wrong, work.acquired) == (0, UNITS));
+        wanted = wanted
+            .saturating_add(work.released)
+            .saturating_sub(work.acquired);
+    }
+    assert_eq!(rt; left, wanted);
+}
+
+// Runs the crowd, beside one that ticks.
+fn run_crowd<'s, 't, 'k, R: Threads + Wait + Abort + Sync>(
+    rt: &R,
+    jobs: Vec<Job<'s, 't, 'k>>,
+    watch: Watch<'t>,
+    ticker: Proc<'k>,
+) -> Vec<Work> {
+    let board = Board {
+        now: AtomicU64::new(0),
+        ended: AtomicU64::new(0),
+    };
+    let (done, good) = join(
+        rt,
+        || thread::map_vec(rt, jobs, &|job: Job| -> Work { works(rt, job, &board) }),
+        || ticks(rt, watch, ticker, &board),
+    );
+    assert!(rt; good);
+    match done {
+        Ok(done) => done,
+        Err(_) => panic!(rt; "no memory for the answers"),
+    }
+}
+
+// The holders of a pool, of whom the last one counts what is left.
+fn hold<'k, R: Threads + Wait + Abort + Sync>(
+    rt: &R,
+    alloc: Global,
+    pool: &mut Pool,
+    clock: &mut Clock,
+    started: Started<'k>,
+) {
+    let mut started = started;
+    let ticker = forked(rt, &mut started);
+    let Started { mut roster, proc } = started;
+    let Ok(mut holders) = pool.holders(alloc, rt, &mut roster, proc, HOLDERS + 1) else {
+        panic!(rt; "no holders")
+    };
+    let (Some(mut last), Ok(mut watch)) = (holders.pop(), clock.first()) else {
+        panic!(rt; "nobody holds")
+    };
+    let jobs = jobs_of(rt, alloc, holders, &mut watch);
+    let done = run_crowd(rt, jobs, watch, ticker);
+    count_units(rt, done.as_slice(), units_left(rt, &mut last));
+}
+
+#[test]
+fn no_unit_is_lost_and_none_is_given_twice(rt: HostRuntime) {
+    let OpenedKernel { kernel, start } = kernel_of(&rt, rt.alloc(), HOLDERS + 2, HOLDERS + 1);
+    let mut started = kernel.start(start);
+    let pool = Pool::new(rt.alloc(), &mut started.roster, OPENING, HOLDERS + 1);
+    match (pool, Clock::new(rt.alloc(), HOLDERS + 1)) {
+        (Ok(mut pool), Ok(mut clock)) => hold(&rt, rt.alloc(), &mut pool, &mut clock, started),
+        _ => panic!(rt; "no pool"),
+    }
+}
+
+/// A process, a semaphore of one unit, and timers.
+#[derive(Drop)]
+struct Alone<'k> {
+    proc: Proc<'k>,
+    opened: OpenedSema,
+    timed: OpenedTimers,
+}
+
+fn open_one<'k>(rt: &impl Abort, alloc: Global, kernel: &'k Kernel, start: Start) -> Alone<'k>
+    requires { IsStartOf kernel.now start }
+    ensures seat { IsSemaSeatOf result.opened.sema result.opened.seat }
+    ensures row { HasRow result.opened.sema result.proc.words }
+    ensures timer { IsTimerSeatOf result.timed.timers result.timed.seat }
+{
+    let Started { mut roster, proc } = kernel.start(start);
+    match (Sema::new(alloc, &mut roster, 1, 1), Timers::new(alloc, 1)) {
+        (Ok(opened), Ok(timed)) => Alone {
+            proc,
+            opened,
+            timed,
+        },
+        _ => panic!(rt; "no semaphore"),
+    }
+}
+
+// The example of semacquire(2), line for line.
+#[test]
+fn semacquire_page(rt: HostRuntime) {
+    let OpenedKernel { kernel, start } = kernel_of(&rt, rt.alloc(), 1, 1);
+    let Alone {
+        mut proc,
+        opened: OpenedSema { sema, mut seat },
+        timed: OpenedTimers {
+            timers,
+            seat: mut timer,
+        },
+    } = open_one(&rt, rt.alloc(), &kernel, start);
+    assert_eq!(rt;
+        sema.semacquire(&rt, &mut proc, &mut seat, true),
+        Ok(Semacquired::Acquired)
+    );
+    assert_eq!(rt;
+        sema.semacquire(&rt, &mut proc, &mut seat, false),
+        Ok(Semacquired::NotNow)
+    );
+    assert_eq!(rt; sema.semrelease(&rt, &mut proc, &mut seat, 2), Ok(2));
+    assert_eq!(rt;
+        sema.tsemacquire(&rt, &mut proc, &mut seat, &timers, &mut timer, 100, 50),
+        Ok(())
+    );
+    assert_eq!(rt; timers.tick(&rt, &mut proc, &mut timer, 150), 0);
+}

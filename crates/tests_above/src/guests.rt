@@ -1,0 +1,245 @@
+//! Eight processes that meet at random tags, while a ninth posts notes at random. Each exchange is
+//! told by both sides, each once, with the other's value.
+use crate::kernels::{forked, kernel_of};
+use plan9::{Fault, Guest, Hall, Note, NoteSet, OpenedKernel, Pid, Proc, Started, Tag};
+use std::alloc::Global;
+use std::process::Abort;
+use std::sync::Wait;
+use std::sync::atomic::AtomicU64;
+use std::sync::atomic::Ordering::SeqCst;
+use std::thread::{self, Threads, join, yield_now};
+
+const CALLERS: u64 = 8;
+
+/// How many tags the callers choose from.
+const TAGS: u64 = 4;
+
+/// How many meetings there are, at least.
+const MEETINGS: u64 = 2_000;
+
+/// What the callers and the poster tell each other, outside the hall.
+#[derive(Drop)]
+struct Board {
+    /// How many calls were answered with a value.
+    told: AtomicU64,
+    /// How many callers have ended.
+    ended: AtomicU64,
+}
+
+/// Numbers in no order that a reader could tell, the same in each run.
+#[derive(Drop)]
+struct Dice {
+    state: u64,
+}
+
+impl Dice {
+    fn roll(&mut self, below: u64) -> u64 {
+        self.state = self
+            .state
+            .wrapping_mul(6_364_136_223_846_793_005)
+            .wrapping_add(1_442_695_040_888_963_407);
+        (self.state >> 33) % below.max(1)
+    }
+}
+
+/// The value of a caller and the value that it got for it.
+#[derive(Clone, Copy, Debug, PartialEq, Eq, PartialOrd, Ord)]
+struct Exchange {
+    given: u64,
+    got: u64,
+}
+
+/// What came of a caller: its exchanges, and how many calls were ended by notes, and refused.
+#[derive(Drop)]
+struct Work {
+    exchanges: Vec<Exchange>,
+    interrupted: u64,
+    refused: u64,
+}
+
+/// A caller of the crowd.
+#[derive(Drop)]
+struct Job<'s, 'k> {
+    guest: Guest<'s, 'k>,
+    number: u64,
+}
+
+// A value that says whose it is, which of its calls, and under which tag.
+fn value_of(number: u64, call: u64, tag: u64) -> u64 {
+    number
+        .wrapping_shl(48)
+        .wrapping_add(call.wrapping_shl(8))
+        .wrapping_add(tag)
+}
+
+// Calls once with this tag.
+fn calls<R: Wait + Abort>(rt: &R, job: &mut Job, board: &Board, work: &mut Work, given: u64) {
+    match job.guest.rendezvous(rt, Tag(given % 256), given) {
+        Ok(got) => {
+            board.told.fetch_add(1, SeqCst);
+            if work.exchanges.push(Exchange { given, got }).is_err() {
+                panic!(rt; "no memory for an exchange");
+            }
+        }
+        Err(Fault::Interrupted(_)) => work.interrupted = work.interrupted.saturating_add(1),
+        Err(_) => work.refused = work.refused.saturating_add(1),
+    }
+}
+
+// Calls at random tags until there were meetings enough.
+fn works<R: Wait + Abort>(rt: &R, alloc: Global, mut job: Job, board: &Board) -> Work {
+    let mut work = Work {
+        exchanges: Vec::new(alloc),
+        interrupted: 0,
+        refused: 0,
+    };
+    let number = job.number;
+    let mut dice = Dice { state: number };
+    for call in 0..u64::MAX {
+        if board.told.load(SeqCst) >= 2 * MEETINGS {
+            break;
+        }
+        let given = value_of(number, call, dice.roll(TAGS));
+        calls(rt, &mut job, board, &mut work, given);
+    }
+    board.ended.fetch_add(1, SeqCst);
+    work
+}
+
+// Posts notes at random until all callers have ended. Says whether none was refused.
+fn posts<R: Wait>(rt: &R, mut proc: Proc, board: &Board) -> bool {
+    let mut good = true;
+    let mut dice = Dice { state: CALLERS };
+    for _ in rt.forever() {
+        if board.ended.load(SeqCst) >= CALLERS {
+            break;
+        }
+        let to = Pid(dice.roll(CALLERS).wrapping_add(1));
+        good = proc.postnote(to, NoteSet::of(Note::Alarm)).is_ok() && good;
+        yield_now();
+    }
+    good
+}
+
+// Another guest of the hall.
+fn joined<'s, 'k, R: Wait + Abort>(
+    rt: &R,
+    first: &mut Guest<'s, 'k>,
+    proc: Proc<'k>,
+) -> Guest<'s, 'k> {
+    match first.join(rt, proc) {
+        Ok(guest) => guest,
+        Err(_) => panic!(rt; "no place in the hall"),
+    }
+}
+
+// The crowd's callers, each with its number.
+fn jobs_of<'s, 'k, R: Wait + Abort>(
+    rt: &R,
+    alloc: Global,
+    started: &mut Started<'k>,
+    hall: &'s mut Hall,
+) -> Vec<Job<'s, 'k>> {
+    let Ok(mut first) = hall.first(forked(rt, started)) else {
+        panic!(rt; "no place in the hall")
+    };
+    let mut jobs = Vec::new(alloc);
+    for number in 1..CALLERS {
+        let guest = joined(rt, &mut first, forked(rt, started));
+        if jobs.push(Job { guest, number }).is_err() {
+            panic!(rt; "no memory for a job");
+        }
+    }
+    let job = Job {
+        guest: first,
+        number: 0,
+    };
+    if jobs.push(job).is_err() {
+        panic!(rt; "no memory for a job");
+    }
+    jobs
+}
+
+// No value was given twice, and each exchange has its other half, under the same tag.
+fn are_halves(rt: &impl Abort, all: &[Exchange]) {
+    let mut last = None;
+    for exchange in all.iter() {
+        let half = Exchange {
+            given: exchange.got,
+            got: exchange.given,
+        };
+        assert!(rt; last != Some(exchange.given), "{exchange:?} stands once");
+        assert!(rt;
+            all.binary_search(&half).is_ok(),
+            "{exchange:?} has its other half"
+        );
+        assert_eq!(rt; exchange.given % 256, exchange.got % 256);
+        last = Some(exchange.given);
+    }
+}
+
+// Nothing was refused, some notes came in time, and each exchange has its other half.
+fn meet_in_pairs(rt: &impl Abort, alloc: Global, done: &[Work]) {
+    let mut all = Vec::new(alloc);
+    let mut interrupted = 0u64;
+    for work in done.iter() {
+        assert_eq!(rt; work.refused, 0);
+        interrupted = interrupted.saturating_add(work.interrupted);
+        if all.extend_from_slice(work.exchanges.as_slice()).is_err() {
+            panic!(rt; "no memory for the exchanges");
+        }
+    }
+    assert!(rt; all.len() as u64 >= 2 * MEETINGS);
+    assert!(rt; interrupted > 0, "some notes came in time");
+    all.sort_unstable();
+    are_halves(rt, all.as_slice());
+}
+
+// Runs the crowd, beside one that posts notes.
+fn run_crowd<'s, 'k, R: Threads + Wait + Abort + Sync>(
+    rt: &R,
+    alloc: Global,
+    jobs: Vec<Job<'s, 'k>>,
+    poster: Proc<'k>,
+) -> Vec<Work> {
+    let board = Board {
+        told: AtomicU64::new(0),
+        ended: AtomicU64::new(0),
+    };
+    let (done, good) = join(
+        rt,
+        || thread::map_vec(
+            rt,
+            jobs,
+            &|job: Job| -> Work { works(rt, alloc, job, &board) },
+        ),
+        || posts(rt, poster, &board),
+    );
+    assert!(rt; good);
+    match done {
+        Ok(done) => done,
+        Err(_) => panic!(rt; "no memory for the answers"),
+    }
+}
+
+fn meet<'k, R: Threads + Wait + Abort + Sync>(
+    rt: &R,
+    alloc: Global,
+    hall: &mut Hall,
+    started: Started<'k>,
+) {
+    let mut started = started;
+    let jobs = jobs_of(rt, alloc, &mut started, hall);
+    let done = run_crowd(rt, alloc, jobs, started.proc);
+    meet_in_pairs(rt, alloc, done.as_slice());
+}
+
+#[test]
+fn a_crowd_meets_in_pairs(rt: HostRuntime) {
+    let OpenedKernel { kernel, start } = kernel_of(&rt, rt.alloc(), CALLERS + 1, CALLERS);
+    let mut started = kernel.start(start);
+    match Hall::new(rt.alloc(), &mut started.roster, CALLERS) {
+        Ok(mut hall) => meet(&rt, rt.alloc(), &mut hall, started),
+        Err(_) => panic!(rt; "no hall"),
+    }
+}

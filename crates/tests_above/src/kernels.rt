@@ -1,0 +1,31 @@
+//! Kernels and processes. A kernel that is refused memory is asked for once more; where there is
+//! none then, the test ends.
+ghost use Rattle.sleep_wakeup.specs.Starts.{IsStartOf};
+
+use plan9::{Fault, Flags, Kernel, OpenedKernel, Proc, Started};
+use std::alloc::Global;
+use std::process::Abort;
+
+/// A kernel of so many processes and Rendez.
+pub fn kernel_of(rt: &impl Abort, alloc: Global, procs: u64, rendez: u64) -> OpenedKernel
+    ensures start { IsStartOf result.kernel result.start }
+{
+    match Kernel::new(alloc, procs, rendez) {
+        Ok(opened) => opened,
+        Err(fault) => {
+            assert_eq!(rt; fault, Fault::Memory);
+            match Kernel::new(alloc, procs, rendez) {
+                Ok(opened) => opened,
+                Err(_) => panic!(rt; "no memory where none is refused"),
+            }
+        }
+    }
+}
+
+/// The next process of a kernel.
+pub fn forked<'k>(rt: &impl Abort, started: &mut Started<'k>) -> Proc<'k> {
+    match started.roster.rfork(&mut started.proc, Flags::RFPROC) {
+        Ok(Some(child)) => child,
+        _ => panic!(rt; "no pid is left"),
+    }
+}

@@ -1,0 +1,89 @@
+//! The examples of the manual pages, line for line. `tests/pages` compares them with the pages.
+use crate::kernels::{forked, kernel_of};
+use plan9::{
+    Fault, Flags, Kernel, Note, NoteSet, OpenedKernel as Opened, Pid, Proc, RendezId, Roster,
+    Started,
+};
+use std::process::Abort;
+use std::thread::join;
+
+const READY: RendezId = RendezId(0);
+
+#[test]
+fn sleep_page(rt: HostRuntime) {
+    let Opened { kernel, start } = kernel_of(&rt, rt.alloc(), 2, 1);
+    let mut started = kernel.start(start);
+    let mut driver = forked(&rt, &mut started);
+    let mut device = started.proc;
+    let (woken, slept) = join(
+        &rt,
+        || device.wakeup(READY, 1).is_ok(),
+        || driver.sleep(&rt, READY, 0).is_ok(),
+    );
+    assert!(rt; woken && slept);
+}
+
+#[test]
+fn postnote_page(rt: HostRuntime) {
+    let Opened { kernel, start } = kernel_of(&rt, rt.alloc(), 2, 1);
+    let mut started = kernel.start(start);
+    let mut driver = forked(&rt, &mut started);
+    let mut shell = started.proc;
+    let interrupt = NoteSet::of(Note::Interrupt);
+    assert_eq!(rt; shell.postnote(driver.pid(), interrupt), Ok(()));
+    let Err(Fault::Interrupted(notes)) = driver.sleep(&rt, READY, 0) else {
+        panic!(rt; "the note ends the sleep")
+    };
+    assert!(rt; notes.has(Note::Interrupt));
+    assert!(rt; driver.notes().is_empty());
+}
+
+// RFPROC and RFNOTEG.
+fn apart() -> Flags {
+    Flags::RFPROC.join(Flags::RFNOTEG)
+}
+
+fn made<'k>(rt: &impl Abort, roster: &mut Roster<'k>, by: &mut Proc<'k>, flags: Flags) -> Proc<'k> {
+    match roster.rfork(by, flags) {
+        Ok(Some(child)) => child,
+        _ => panic!(rt; "no pid is left"),
+    }
+}
+
+#[test]
+fn postnote_page_of_groups(rt: HostRuntime) {
+    let Opened { kernel, start } = kernel_of(&rt, rt.alloc(), 4, 1);
+    let Started {
+        mut roster,
+        mut proc,
+    } = kernel.start(start);
+    let mut first = made(&rt, &mut roster, &mut proc, Flags::RFPROC);
+    let mut second = made(&rt, &mut roster, &mut proc, apart());
+    let mut third = made(&rt, &mut roster, &mut second, Flags::RFPROC);
+    let alarm = NoteSet::of(Note::Alarm);
+    assert_eq!(rt; roster.postnote_group(&mut proc, Pid(1), alarm), Ok(2));
+    assert_eq!(rt; (proc.notes(), first.notes()), (alarm, alarm));
+    assert!(rt; second.notes().is_empty() && third.notes().is_empty());
+    assert!(rt; matches!(roster.rfork(&mut first, Flags::RFNOTEG), Ok(None)));
+    assert_eq!(rt; roster.postnote_group(&mut proc, Pid(0), alarm), Ok(1));
+}
+
+fn rfork_example<R: AllocGlobal + Abort>(rt: &R) -> Result<(), Fault> {
+    let Opened { kernel, start } = Kernel::new(rt.alloc(), 2, 1)?;
+    let Started {
+        mut roster,
+        proc: mut parent,
+    } = kernel.start(start);
+    assert_eq!(rt; roster.rendez(), Ok(RendezId(0)));
+    let Ok(Some(child)) = roster.rfork(&mut parent, Flags::RFPROC) else {
+        panic!(rt; "a pid is left")
+    };
+    assert_eq!(rt; (parent.pid(), child.pid()), (Pid(0), Pid(1)));
+    assert_eq!(rt; roster.left(), (0, 0));
+    Ok(())
+}
+
+#[test]
+fn rfork_page(rt: HostRuntime) {
+    assert_eq!(rt; rfork_example(&rt), Ok(()));
+}

@@ -1,0 +1,304 @@
+//! The example of the manual page of pipes, line for line, what a write without memory leaves, what
+//! std's calls make of a reader and a writer, and two that read from one end on threads of their
+//! own.
+use crate::kernels::{forked, kernel_of};
+use crate::pipes::pipe_of;
+use plan9::{
+    Ends, Fault, Note, NoteSet, OpenedKernel, OpenedPipe, Parts, Probe, Proc, ReadAnswer, ReadEnd,
+    ReadStream, Reader, RendezId, Roster, Shared, Sharer, Started, TryAnswer, Unshared,
+    WriteStream, Writer,
+};
+use std::alloc::Global;
+use std::io::{ErrorKind, Read, Write};
+use std::process::Abort;
+use std::sync::Wait;
+use std::thread::{Threads, join};
+
+// A note ends a read, and is kept in `fault`. No room is no read, which would wait.
+fn end_a_read_by_a_note<R: Wait + Abort>(
+    rt: &R,
+    from: &mut ReadStream<'_, '_, '_, R>,
+    to: &mut WriteStream<'_, '_, '_, R>,
+) {
+    let alarm = NoteSet::of(Note::Alarm);
+    let reader = from.reader.proc.pid();
+    assert_eq!(rt; to.writer.proc.postnote(reader, alarm), Ok(()));
+    let Err(error) = from.read(&mut [0; 4]) else {
+        panic!(rt; "a note ends the wait")
+    };
+    assert_eq!(rt; error.kind(), ErrorKind::Other);
+    assert_eq!(rt; from.fault, Some(Fault::Interrupted(alarm)));
+    assert!(rt; matches!(from.read(&mut []), Ok(0)));
+}
+
+// Seven bytes in two writes, and an empty one between them, which is no end.
+fn write_all_of_it<R: Wait + Abort>(rt: &R, alloc: Global, to: &mut WriteStream<'_, '_, '_, R>) {
+    assert!(rt; to.write_all(b"defg").is_ok());
+    assert_eq!(rt; to.writer.write(alloc, rt, &[]), Ok(2));
+    assert!(rt; matches!(to.write(b"abc"), Ok(3)));
+    to.writer.hangup();
+}
+
+// All that was written is read to the end.
+fn read_to_the_end<R: Wait + Abort>(rt: &R, alloc: Global, from: &mut ReadStream<'_, '_, '_, R>) {
+    let mut all = Vec::new(alloc);
+    assert!(rt; matches!(from.read_to_end(&mut all), Ok(7)));
+    assert_eq!(rt; all.as_slice(), b"defgabc".as_slice());
+    assert!(rt; matches!(from.read(&mut [0; 4]), Ok(0)));
+}
+
+// After a hangup nothing is taken any more, as by a pipe whose reader is gone.
+fn write_behind_the_hangup<R: Wait + Abort>(rt: &R, to: &mut WriteStream<'_, '_, '_, R>) {
+    let Err(error) = to.write_all(b"abc") else {
+        panic!(rt; "nothing is taken any more")
+    };
+    assert_eq!(rt; error.kind(), ErrorKind::BrokenPipe);
+    assert_eq!(rt; to.fault, Some(Fault::Hungup));
+}
+
+/// A reader and the one writer of a direction.
+#[derive(Drop)]
+struct Pair<'p, 'k> {
+    reader: ReadEnd<'p>,
+    writer: Writer<'p, 'k>,
+}
+
+// The direction from the second end to the first.
+fn pair_of<'p, 'k>(rt: &impl Abort, started: &mut Started<'k>, ends: Ends<'p>) -> Pair<'p, 'k> {
+    let Ends { first, second } = ends;
+    let Parts {
+        read: reader,
+        writes: _,
+    } = first.parts();
+    let Parts {
+        read: _,
+        mut writes,
+    } = second.parts();
+    let proc = forked(rt, started);
+    match writes.pop() {
+        Some(end) => Pair {
+            reader,
+            writer: Writer::new(end, proc),
+        },
+        None => panic!(rt; "an end has a writer"),
+    }
+}
+
+// `tests/pages` compares it with the page.
+#[test]
+fn pipe_page(rt: HostRuntime) {
+    let alloc = rt.alloc();
+    let OpenedKernel { kernel, start } = kernel_of(&rt, alloc, 2, 4);
+    let mut started = kernel.start(start);
+    let OpenedPipe { pipe, start } = pipe_of(&rt, alloc, &mut started.roster, 2, 1);
+    let Pair {
+        reader: mut read,
+        writer,
+    } = pair_of(&rt, &mut started, pipe.ends(start));
+    let Started {
+        roster: _,
+        proc: mut reader,
+    } = started;
+    let Writer {
+        end: mut write,
+        proc: mut writer,
+    } = writer;
+    let mut buffer = [0; 8];
+    assert_eq!(rt; write.write(alloc, &rt, &mut writer, b"abc"), Ok(1));
+    write.hangup(&mut writer);
+    assert_eq!(rt;
+        read.read(&rt, &mut reader, &mut buffer),
+        Ok(ReadAnswer::Got(3))
+    );
+    assert_eq!(rt;
+        read.read(&rt, &mut reader, &mut buffer),
+        Ok(ReadAnswer::End)
+    );
+}
+
+// Whether a sleep tested the level of its Rendez and fell asleep.
+#[derive(Drop)]
+struct Looks {
+    asleep: bool,
+}
+
+impl Probe for Looks {
+    fn at(&mut self, point: u64) {
+        self.asleep = self.asleep || point == 3;
+    }
+}
+
+// How many of the pipe's four Rendez a wakeup came to. A note ends each sleep that asks.
+fn woken<R: Wait>(rt: &R, asker: &mut Proc<'_>) -> u64 {
+    let mut woken = 0_u64;
+    for rendez in 0..4 {
+        let mut looks = Looks { asleep: false };
+        asker.put_back(NoteSet::of(Note::Alarm));
+        let _ = asker.sleep_probed(rt, RendezId(rendez), 0, &mut looks);
+        if !looks.asleep {
+            woken = woken.saturating_add(1);
+        }
+    }
+    woken
+}
+
+// Writes, and where memory was refused once more.
+fn write_twice<R: Wait + Abort>(
+    rt: &R,
+    alloc: Global,
+    reader: &mut Reader<'_, '_>,
+    writer: &mut Writer<'_, '_>,
+) -> Result<u64, Fault> {
+    match writer.write(alloc, rt, b"abc") {
+        Err(fault) => {
+            assert_eq!(rt; (fault, woken(rt, &mut reader.proc)), (Fault::Memory, 0));
+            assert_eq!(rt; reader.try_read(&mut [0; 8]), Ok(TryAnswer::NotYet));
+            writer.write(alloc, rt, b"abc")
+        }
+        taken => taken,
+    }
+}
+
+// One write is taken, the reader alone is woken, and nothing else stands.
+fn read_the_one<R: Wait + Abort>(rt: &R, reader: &mut Reader<'_, '_>) {
+    assert_eq!(rt; woken(rt, &mut reader.proc), 1);
+    assert_eq!(rt; reader.try_read(&mut [0; 8]), Ok(TryAnswer::Got(3)));
+    assert_eq!(rt; reader.try_read(&mut [0; 8]), Ok(TryAnswer::NotYet));
+}
+
+#[test]
+fn a_write_without_memory_takes_nothing(rt: HostRuntime) {
+    let OpenedKernel { kernel, start } = kernel_of(&rt, rt.alloc(), 2, 4);
+    let mut started = kernel.start(start);
+    let OpenedPipe { pipe, start } = pipe_of(&rt, rt.alloc(), &mut started.roster, 1, 1);
+    let Pair { reader, mut writer } = pair_of(&rt, &mut started, pipe.ends(start));
+    let Started { roster: _, proc } = started;
+    let mut reader = Reader::new(reader, proc);
+    let number = write_twice(&rt, rt.alloc(), &mut reader, &mut writer);
+    assert_eq!(rt; number, Ok(1));
+    read_the_one(&rt, &mut reader);
+}
+
+#[test]
+fn std_reads_and_writes_a_pipe(rt: HostRuntime) {
+    let alloc = rt.alloc();
+    let OpenedKernel { kernel, start } = kernel_of(&rt, alloc, 2, 4);
+    let mut started = kernel.start(start);
+    let OpenedPipe { pipe, start } = pipe_of(&rt, alloc, &mut started.roster, 4, 1);
+    let Pair { reader, writer } = pair_of(&rt, &mut started, pipe.ends(start));
+    let Started { roster: _, proc } = started;
+    let mut from = ReadStream::new(&rt, Reader::new(reader, proc));
+    let mut to = WriteStream::new(alloc, &rt, writer);
+    end_a_read_by_a_note(&rt, &mut from, &mut to);
+    write_all_of_it(&rt, alloc, &mut to);
+    read_to_the_end(&rt, alloc, &mut from);
+    write_behind_the_hangup(&rt, &mut to);
+}
+
+// Reads to the end, and counts what comes: each read is one whole write of two bytes.
+fn count_reads<R: Wait + Abort>(rt: &R, mut sharer: Sharer<'_, '_, '_>) -> u64 {
+    let mut buffer = [0; 4];
+    let mut count = 0u64;
+    for _ in rt.forever() {
+        match sharer.read(rt, &mut buffer) {
+            Ok(ReadAnswer::End) => break,
+            answer => assert_eq!(rt; answer, Ok(ReadAnswer::Got(2))),
+        }
+        count = count.saturating_add(1);
+    }
+    count
+}
+
+// Writes a hundred pairs of bytes, and hangs up.
+fn write_pairs<R: Wait + Abort>(rt: &R, alloc: Global, mut writer: Writer<'_, '_>) {
+    for _ in 0..100 {
+        assert!(rt; writer.write(alloc, rt, b"ab").is_ok());
+    }
+    writer.hangup();
+}
+
+// Each reads on a thread of its own, until both have come to the end.
+fn read_at_once<'s, 'p, 'k, R: Threads + Wait + Abort + Sync>(
+    rt: &R,
+    one: Sharer<'s, 'p, 'k>,
+    other: Sharer<'s, 'p, 'k>,
+) -> u64 {
+    let (first, second) = join(rt, || count_reads(rt, one), || count_reads(rt, other));
+    first.saturating_add(second)
+}
+
+fn sharer_beside<'s, 'p, 'k, R: Wait + Abort>(
+    rt: &R,
+    roster: &mut Roster<'k>,
+    sharer: &mut Sharer<'s, 'p, 'k>,
+) -> Sharer<'s, 'p, 'k> {
+    match sharer.fork(rt, roster) {
+        Ok(other) => other,
+        Err(_) => panic!(rt; "two may share"),
+    }
+}
+
+// Both read while a third writes: how many reads there were.
+fn read_while_one_writes<'p, 'k, R: Threads + Wait + Abort + Sync>(
+    rt: &R,
+    alloc: Global,
+    shared: &mut Shared<'p>,
+    started: Started<'k>,
+    writer: Writer<'p, 'k>,
+) -> u64 {
+    let Started { mut roster, proc } = started;
+    let Ok(mut one) = shared.first(proc) else {
+        panic!(rt; "nobody was the first")
+    };
+    let other = sharer_beside(rt, &mut roster, &mut one);
+    let (count, ()) = join(
+        rt,
+        || read_at_once(rt, one, other),
+        || write_pairs(rt, alloc, writer),
+    );
+    count
+}
+
+// Where memory was refused no Rendez is used up, and the end that comes back is shared.
+fn shared_of<'p>(
+    rt: &impl Abort,
+    alloc: Global,
+    roster: &mut Roster<'_>,
+    end: ReadEnd<'p>,
+) -> Shared<'p> {
+    let before = roster.left();
+    match Shared::new(alloc, roster, end, 2) {
+        Ok(shared) => shared,
+        Err(refused) => {
+            let Unshared { end, fault } = refused;
+            assert_eq!(rt; (fault, roster.left()), (Fault::Memory, before));
+            match Shared::new(alloc, roster, end, 2) {
+                Ok(shared) => shared,
+                Err(_) => panic!(rt; "no turns"),
+            }
+        }
+    }
+}
+
+#[test]
+fn an_end_that_is_refused_memory_is_shared_once_more(rt: HostRuntime) {
+    let OpenedKernel { kernel, start } = kernel_of(&rt, rt.alloc(), 3, 8);
+    let mut started = kernel.start(start);
+    let OpenedPipe { pipe, start } = pipe_of(&rt, rt.alloc(), &mut started.roster, 4, 1);
+    let Pair { reader, writer: _ } = pair_of(&rt, &mut started, pipe.ends(start));
+    let shared = shared_of(&rt, rt.alloc(), &mut started.roster, reader);
+    assert!(rt; shared.into_end().is_some());
+}
+
+// No write is torn and none is lost, and then the read end is one's own again.
+#[test]
+fn two_read_in_turn_and_tear_no_write(rt: HostRuntime) {
+    let alloc = rt.alloc();
+    let OpenedKernel { kernel, start } = kernel_of(&rt, alloc, 3, 8);
+    let mut started = kernel.start(start);
+    let OpenedPipe { pipe, start } = pipe_of(&rt, alloc, &mut started.roster, 4, 1);
+    let Pair { reader, writer } = pair_of(&rt, &mut started, pipe.ends(start));
+    let mut shared = shared_of(&rt, alloc, &mut started.roster, reader);
+    let count = read_while_one_writes(&rt, alloc, &mut shared, started, writer);
+    assert!(rt; count == 100 && shared.into_end().is_some());
+}

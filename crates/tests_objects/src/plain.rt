@@ -1,0 +1,158 @@
+//! Printed texts, and what a plain pipe that was refused memory holds.
+use std::alloc::Global;
+use std::process::Abort;
+use sync_base::{Fault, Flags, Mode, Note, NoteSet, PlainPipe, ReadAnswer, WriteAnswer};
+
+const NOTES: [(Note, &str); 5] = [
+    (Note::Interrupt, "interrupt"),
+    (Note::Hangup, "hangup"),
+    (Note::Alarm, "alarm"),
+    (Note::ClosedPipe, "sys: write on closed pipe"),
+    (Note::Expired, "expired"),
+];
+
+fn text_is(rt: &impl Abort, alloc: Global, fault: Fault, text: &str) -> bool {
+    match fault.to_string(alloc) {
+        Ok(found) => found.as_str() == text,
+        Err(_) => panic!(rt; "no memory for a text"),
+    }
+}
+
+#[test]
+fn faults_have_their_texts_and_numbers(rt: HostRuntime) {
+    let faults = [
+        (Fault::Memory, "out of memory"),
+        (Fault::Interrupted(NoteSet::empty()), "interrupted"),
+        (Fault::Hungup, "i/o on hungup channel"),
+        (Fault::TooBig, "write too big"),
+        (Fault::DoubleSleep, "double sleep"),
+        (Fault::BadArg, "bad argument"),
+        (Fault::BadLevel, "bad level"),
+        (Fault::BadCount, "bad count"),
+        (Fault::BadSize, "bad size"),
+        (Fault::Worn, "number worn out"),
+        (Fault::NoProc, "no such process"),
+        (Fault::NoRendez, "no such rendez"),
+        (Fault::BadFlags, "bad flags"),
+        (Fault::Script(7), "script fault at line 7"),
+        (Fault::TimedOut, "timed out"),
+        (Fault::Device, "device fault"),
+    ];
+    for (at, (fault, text)) in faults.iter().enumerate() {
+        assert!(rt; text_is(&rt, rt.alloc(), *fault, text), "{text}");
+        assert_eq!(rt; fault.number(), at as u64 + 1, "{text}");
+    }
+}
+
+#[test]
+fn notes_and_flags_answer_as_sets(rt: HostRuntime) {
+    let mut all = NoteSet::empty();
+    for (note, text) in NOTES {
+        assert_eq!(rt; note.text(), text);
+        assert!(rt; !all.has(note), "{text}");
+        all = all.join(NoteSet::of(note));
+        assert!(rt; all.has(note), "{text}");
+    }
+    let fewer = all.without(NoteSet::of(Note::Alarm));
+    assert!(rt; fewer.has(Note::Hangup) && !fewer.has(Note::Alarm));
+    let both = Flags::RFPROC.join(Flags::RFREND).join(Flags::NONE);
+    assert_eq!(rt; (both.bits(), both.join(Flags::RFNOTEG).bits()), (3, 7));
+}
+
+fn made(alloc: Global, mode: Mode, limit: u64) -> Result<PlainPipe, Fault> {
+    match mode {
+        Mode::Message => PlainPipe::new(alloc, limit),
+        Mode::Stream => PlainPipe::new_stream(alloc, limit),
+    }
+}
+
+/// A pipe, asked for once more where memory is refused.
+fn pipe_of(rt: &impl Abort, alloc: Global, mode: Mode, limit: u64) -> PlainPipe {
+    match made(alloc, mode, limit) {
+        Ok(pipe) => pipe,
+        Err(fault) => {
+            assert_eq!(rt; fault, Fault::Memory);
+            match made(alloc, mode, limit) {
+                Ok(pipe) => pipe,
+                Err(_) => panic!(rt; "no memory where none is refused"),
+            }
+        }
+    }
+}
+
+/// What is asked of a pipe, and what it answers.
+#[derive(Clone, Copy)]
+enum Step<'b> {
+    Takes(&'b [u8]),
+    IsFull,
+    Gives(&'b [u8]),
+    IsEmpty,
+}
+
+fn write(pipe: &mut PlainPipe, bytes: &[u8]) -> Result<WriteAnswer, Fault> {
+    match pipe.write(0, bytes) {
+        Err(Fault::Memory) => pipe.write(0, bytes),
+        answer => answer,
+    }
+}
+
+// Whether this is what a read gives, once more where memory is refused; `None` is nothing.
+fn gives(pipe: &mut PlainPipe, bytes: Option<&[u8]>) -> bool {
+    is_piece(pipe.read(200), bytes).unwrap_or_else(|| is_piece(pipe.read(200), bytes) == Some(true))
+}
+
+// No answer where memory is refused.
+fn is_piece(answer: Result<ReadAnswer, Fault>, bytes: Option<&[u8]>) -> Option<bool> {
+    match (answer, bytes) {
+        (Err(Fault::Memory), _) => None,
+        (Ok(ReadAnswer::Got(piece)), Some(bytes)) => Some(piece.as_slice() == bytes),
+        (Ok(ReadAnswer::Empty), None) => Some(true),
+        _ => Some(false),
+    }
+}
+
+fn step_is(pipe: &mut PlainPipe, step: Step<'_>) -> bool {
+    match step {
+        Step::Takes(bytes) => write(pipe, bytes) == Ok(WriteAnswer::Taken),
+        Step::IsFull => write(pipe, b"d") == Ok(WriteAnswer::Full),
+        Step::Gives(bytes) => gives(pipe, Some(bytes)),
+        Step::IsEmpty => gives(pipe, None),
+    }
+}
+
+fn take_steps(rt: &impl Abort, pipe: &mut PlainPipe, steps: &[Step<'_>]) {
+    for (at, step) in steps.iter().enumerate() {
+        assert!(rt; step_is(pipe, *step), "step {at}");
+    }
+}
+
+#[test]
+fn a_pipe_that_is_refused_memory_is_as_before(rt: HostRuntime) {
+    let mut pipe = pipe_of(&rt, rt.alloc(), Mode::Message, 2);
+    // The block of the write that was read is too small for the next.
+    let steps = [
+        Step::Takes(b"a"),
+        Step::Gives(b"a"),
+        Step::Takes(&[7; 100]),
+        Step::Takes(b"bc"),
+        Step::IsFull,
+        Step::Gives(&[7; 100]),
+        Step::Gives(b"bc"),
+        Step::IsEmpty,
+    ];
+    take_steps(&rt, &mut pipe, &steps);
+}
+
+#[test]
+fn a_stream_that_is_refused_memory_is_as_before(rt: HostRuntime) {
+    let mut pipe = pipe_of(&rt, rt.alloc(), Mode::Stream, 3);
+    let steps = [
+        Step::Takes(b""),
+        Step::Takes(b"ab"),
+        Step::Takes(b"cd"),
+        Step::IsFull,
+        Step::Gives(b"abcd"),
+        Step::IsEmpty,
+    ];
+    take_steps(&rt, &mut pipe, &steps);
+}

@@ -1,0 +1,262 @@
+//! A counter whose calls stay inside until other threads sleep before its lock, and are woken.
+ghost use Rattle.std.specs.Prelude.{ℕ, ◌+◌, ◌%◌, ◌^◌, None};
+ghost use denote.Param.Send.{IsSync};
+ghost use Rattle.kernel_lock.specs.Seats.{IsSeatOf};
+
+use kernel_lock::{LockSeat, Locked, Object, Opened};
+use std::alloc::Global;
+use std::hint::spin_loop;
+use std::process::Abort;
+use std::sync::atomic::AtomicU64;
+use std::sync::atomic::Ordering::SeqCst;
+use std::sync::{Arc, Wait};
+use std::thread::{Threads, join, yield_now};
+
+/// How often a call looks who is outside, so that it ends in any case.
+const LOOKS: u64 = 1_000_000;
+
+/// How long a call stays after that: many times as long as a thread looks before it sleeps.
+const STAY: u64 = 100_000;
+
+/// How often threads are put to sleep and woken.
+const ROUNDS: u64 = 20;
+
+/// How often a thread calls that does not stay.
+const CALLS: u64 = 2_000;
+
+/// How the threads in the room and before it tell of themselves.
+#[derive(Drop)]
+struct Door {
+    inside: AtomicU64,
+    outside: AtomicU64,
+}
+
+impl Door {
+    // Waits until a thread stays inside, and says that one more is about to call.
+    fn line_up<R: Wait>(&self, rt: &R) {
+        for _ in rt.forever() {
+            if self.inside.load(SeqCst) > 0 {
+                break;
+            }
+            yield_now();
+        }
+        self.outside.fetch_add(1, SeqCst);
+    }
+
+    // Stays until so many threads are about to call, and then until they sleep.
+    fn stay(&self, others: u64) {
+        self.inside.store(1, SeqCst);
+        for _ in 0..LOOKS {
+            if self.outside.load(SeqCst) >= others {
+                break;
+            }
+            yield_now();
+        }
+        for _ in 0..STAY {
+            spin_loop();
+        }
+    }
+}
+
+/// A call names how many threads are to sleep before the room, and answers how many calls were
+/// made.
+#[derive(Drop)]
+struct Room {
+    calls: u64,
+    door: Arc<Door>,
+}
+
+impl Object for Room {
+    type Call = u64;
+
+    type Reply = u64;
+
+    ghost State = { ℕ };
+
+    ghost definition = { record {
+      state = λ room. room.calls;
+      answer = λ calls others. (calls + 1) % 2 ^ 64;
+      after = λ calls others. (calls + 1) % 2 ^ 64;
+      named = λ others. None;
+    } };
+
+    fn caller(_others: &u64) -> Option<u64> {
+        None
+    }
+
+    fn run(&mut self, others: u64) -> u64 {
+        if others > 0 {
+            self.door.stay(others);
+        }
+        self.calls = self.calls.wrapping_add(1);
+        self.calls
+    }
+}
+
+/// What a thread does: it stays in the room until so many others sleep before it; or it is one of
+/// those, or else none. Then it makes so many calls that do not stay.
+#[derive(Clone, Copy)]
+struct Part {
+    others: u64,
+    is_outside: bool,
+    calls: u64,
+}
+
+// One thread's part.
+fn play<R: Wait>(
+    rt: &R,
+    lock: &Locked<Room>,
+    door: &Door,
+    mut seat: LockSeat<Room>,
+    part: Part,
+) -> LockSeat<Room>
+    requires { IsSeatOf lock.now seat }
+    ensures { IsSeatOf lock.now result }
+{
+    if part.is_outside {
+        door.line_up(rt);
+    }
+    if part.others > 0 {
+        lock.apply(rt, &mut seat, part.others);
+    }
+    for _ in 0..part.calls {
+        lock.apply(rt, &mut seat, 0);
+    }
+    seat
+}
+
+fn split<R: Wait + Abort>(rt: &R, lock: &Locked<Room>, seat: &mut LockSeat<Room>) -> LockSeat<Room>
+    requires { IsSeatOf lock.now seat.old }
+    ensures seat { IsSeatOf lock.now seat.new }
+    ensures child { IsSeatOf lock.now result }
+{
+    match lock.split(rt, seat) {
+        Ok(child) => child,
+        Err(_) => panic!(rt; "no seat is left"),
+    }
+}
+
+fn pair<R: Threads + Wait + Sync>(
+    rt: &R,
+    lock: &Locked<Room>,
+    door: &Door,
+    seats: (LockSeat<Room>, LockSeat<Room>),
+    parts: (Part, Part),
+) -> LockSeat<Room>
+    requires first { IsSeatOf lock.now seats.0 }
+    requires second { IsSeatOf lock.now seats.1 }
+    ensures { IsSeatOf lock.now result }
+{
+    let (mine, other) = seats;
+    let (first, second) = parts;
+    let (mine, other) = join(
+        rt,
+        || play(rt, lock, door, mine, first),
+        || play(rt, lock, door, other, second),
+    );
+    lock.join(mine, other)
+}
+
+// No seat is split while a thread stays inside.
+fn four<R: Threads + Wait + Abort + Sync>(
+    rt: &R,
+    lock: &Locked<Room>,
+    door: &Door,
+    mut first: LockSeat<Room>,
+    parts: [Part; 4],
+) -> LockSeat<Room>
+    requires { IsSeatOf lock.now first }
+    ensures { IsSeatOf lock.now result }
+{
+    let second = split(rt, lock, &mut first);
+    let third = split(rt, lock, &mut first);
+    let fourth = split(rt, lock, &mut first);
+    let [inside, outside, more, most] = parts;
+    let (mine, others) = join(
+        rt,
+        || -> LockSeat<Room>
+            requires sync { IsSync R.row }
+            requires first { IsSeatOf lock.now first }
+            requires second { IsSeatOf lock.now second }
+            ensures { IsSeatOf lock.entry.now result }
+        { pair(rt, lock, door, (first, second), (inside, outside)) },
+        || -> LockSeat<Room>
+            requires sync { IsSync R.row }
+            requires third { IsSeatOf lock.now third }
+            requires fourth { IsSeatOf lock.now fourth }
+            ensures { IsSeatOf lock.entry.now result }
+        { pair(rt, lock, door, (third, fourth), (more, most)) },
+    );
+    lock.join(mine, others)
+}
+
+fn door_of(rt: &impl Abort, alloc: Global) -> Arc<Door> {
+    let inside = AtomicU64::new(0);
+    let outside = AtomicU64::new(0);
+    match Arc::new(alloc, Door { inside, outside }) {
+        Ok(door) => door,
+        Err(_) => panic!(rt; "no memory for a door"),
+    }
+}
+
+fn room_of(rt: &impl Abort, alloc: Global, door: &Arc<Door>) -> Opened<Room>
+    ensures { IsSeatOf result.lock result.seat }
+{
+    let door = match Arc::try_clone(door) {
+        Ok(door) => door,
+        Err(_) => panic!(rt; "too many doors"),
+    };
+    match Locked::new(alloc, Room { calls: 0, door }, 4) {
+        Ok(opened) => opened,
+        Err(_) => panic!(rt; "no memory for a lock"),
+    }
+}
+
+// A room for one round of four threads: how many calls were made. If all, each thread was woken
+// that slept.
+fn round<R: Threads + Wait + Abort + Sync>(rt: &R, alloc: Global, parts: [Part; 4]) -> u64 {
+    let door = door_of(rt, alloc);
+    let Opened { lock, seat } = room_of(rt, alloc, &door);
+    let seat = four(rt, &lock, &door, seat, parts);
+    lock.close(rt, seat).calls
+}
+
+const fn outside(calls: u64) -> Part {
+    Part {
+        others: 0,
+        is_outside: true,
+        calls,
+    }
+}
+
+// Three threads sleep, and nobody comes after them: each that wakes has to wake the next.
+#[test]
+fn three_sleepers_are_woken_one_by_another(rt: HostRuntime) {
+    let inside = Part {
+        others: 3,
+        is_outside: false,
+        calls: 0,
+    };
+    for _ in 0..ROUNDS {
+        let parts = [inside, outside(1), outside(1), outside(1)];
+        assert_eq!(rt; round(&rt, rt.alloc(), parts), 4);
+    }
+}
+
+// One thread sleeps, and three make calls meanwhile.
+#[test]
+fn a_sleeper_is_woken_while_three_contend(rt: HostRuntime) {
+    let inside = Part {
+        others: 1,
+        is_outside: false,
+        calls: CALLS,
+    };
+    let contends = Part {
+        others: 0,
+        ..inside
+    };
+    for _ in 0..ROUNDS {
+        let parts = [inside, outside(1), contends, contends];
+        assert_eq!(rt; round(&rt, rt.alloc(), parts), 3 * CALLS + 2);
+    }
+}

@@ -1,0 +1,186 @@
+//! Calls of a tag space with their answers, which come from rendezvous(2) and the rules of the
+//! library. Where memory is refused the space is asked for once more.
+ghost use Rattle.std.specs.Prelude.{◌≤◌};
+ghost use Rattle.tag_space.specs.declared.limits.TheConstants.{LAST_MEETING};
+
+use std::alloc::Global;
+use std::process::Abort;
+use sync_base::{Fault, Tag};
+use tag_space::GroupReply::{Busy, Gone, Worn};
+use tag_space::{GroupCall, GroupObject, GroupReply};
+
+fn space_of(rt: &impl Abort, alloc: Global, members: u64, count: u64) -> GroupObject
+    requires { count ≤ LAST_MEETING }
+{
+    let made = match GroupObject::new_from(alloc, members, count) {
+        Err(Fault::Memory) => GroupObject::new_from(alloc, members, count),
+        made => made,
+    };
+    match made {
+        Ok(space) => space,
+        Err(_) => panic!(rt; "no space"),
+    }
+}
+
+fn answers(rt: &impl Abort, space: &mut GroupObject, rows: &[(GroupCall, GroupReply)]) {
+    for (at, (call, reply)) in rows.iter().enumerate() {
+        assert_eq!(rt; space.run(*call), *reply, "call {at}");
+    }
+}
+
+fn call(member: u64, tag: u64, value: u64) -> GroupCall {
+    GroupCall::Call {
+        member,
+        tag: Tag(tag),
+        value,
+    }
+}
+
+fn collect(member: u64) -> GroupCall {
+    GroupCall::Collect { member }
+}
+
+fn leave(member: u64) -> GroupCall {
+    GroupCall::Leave { member }
+}
+
+fn met(value: u64, member: u64, count: u64) -> GroupReply {
+    GroupReply::Met {
+        value,
+        member,
+        count,
+    }
+}
+
+fn was_met(value: u64) -> GroupReply {
+    GroupReply::WasMet { value }
+}
+
+fn wait(count: u64) -> GroupReply {
+    GroupReply::Wait { count }
+}
+
+#[test]
+fn two_meet_and_one_leaves(rt: HostRuntime) {
+    let rows = [
+        (call(0, 7, 5), wait(0)),
+        (call(1, 7, 9), met(5, 0, 1)),
+        (collect(0), was_met(9)),
+        (call(0, 7, 5), wait(1)),
+        (leave(0), Gone),
+        (call(1, 7, 9), wait(0)),
+        (call(1, 8, 1), Busy),
+    ];
+    let made = match GroupObject::new(rt.alloc(), 2) {
+        Err(Fault::Memory) => GroupObject::new(rt.alloc(), 2),
+        made => made,
+    };
+    match made {
+        Ok(mut space) => answers(&rt, &mut space, &rows),
+        Err(_) => panic!(rt; "no space"),
+    }
+}
+
+#[test]
+fn the_last_count_waits_no_more(rt: HostRuntime) {
+    let rows = [
+        (call(0, 7, 5), wait(18_446_744_073_709_551_613)),
+        (call(1, 7, 9), met(5, 0, 18_446_744_073_709_551_614)),
+        (collect(0), was_met(9)),
+        (call(0, 7, 1), Worn),
+        (call(1, 8, 2), wait(18_446_744_073_709_551_613)),
+        (call(0, 8, 3), met(2, 1, 18_446_744_073_709_551_614)),
+    ];
+    let mut space = space_of(&rt, rt.alloc(), 2, 18_446_744_073_709_551_613);
+    answers(&rt, &mut space, &rows);
+}
+
+#[test]
+fn what_is_refused_and_what_leave_tells(rt: HostRuntime) {
+    let rows = [
+        (call(2, 7, 5), Busy),
+        (collect(2), Busy),
+        (leave(u64::MAX), Busy),
+        (collect(0), wait(0)),
+        (leave(0), Gone),
+        // Whoever waits may not call, and may ask again and again.
+        (call(0, 7, u64::MAX), wait(0)),
+        (call(0, 7, 1), Busy),
+        (collect(0), wait(0)),
+        // Another tag is another meeting.
+        (call(1, 8, 4), wait(0)),
+        (leave(1), Gone),
+        (call(1, 7, 6), met(u64::MAX, 0, 1)),
+        // Whoever was met and was not told may not call, and nobody finds it again.
+        (call(0, 9, 1), Busy),
+        (call(1, 7, 2), wait(0)),
+        (leave(0), was_met(6)),
+        (leave(0), Gone),
+        (call(0, 7, 3), met(2, 1, 1)),
+        (collect(1), was_met(3)),
+        (collect(1), wait(1)),
+        (collect(0), wait(1)),
+    ];
+    let mut space = space_of(&rt, rt.alloc(), 2, 0);
+    answers(&rt, &mut space, &rows);
+}
+
+#[test]
+fn a_space_of_none_answers_busy(rt: HostRuntime) {
+    let mut space = space_of(&rt, rt.alloc(), 0, 0);
+    answers(&rt, &mut space, &[(call(0, 7, 5), Busy)]);
+}
+
+// Behind this call these wait.
+fn wait_behind(rt: &impl Abort, space: &mut GroupObject, call: GroupCall, waiting: &[(Tag, u64)]) {
+    space.run(call);
+    assert_eq!(rt; space.waiting(), waiting);
+}
+
+#[test]
+fn who_waits_is_lent_by_rising_tags(rt: HostRuntime) {
+    let mut space = space_of(&rt, rt.alloc(), 3, 0);
+    wait_behind(&rt, &mut space, collect(0), &[]);
+    wait_behind(&rt, &mut space, call(0, 9, 1), &[(Tag(9), 0)]);
+    wait_behind(&rt, &mut space, call(1, 7, 2), &[(Tag(7), 1), (Tag(9), 0)]);
+    wait_behind(&rt, &mut space, call(2, 9, 3), &[(Tag(7), 1)]);
+    wait_behind(&rt, &mut space, leave(1), &[]);
+}
+
+const MOST: u64 = 1_024;
+
+// Every second one of them left; it calls with the tag of the next one, which waits.
+fn finds_the_next(rt: &impl Abort, space: &mut GroupObject, half: u64) {
+    let caller = half.wrapping_mul(2);
+    let waiter = caller.wrapping_add(1);
+    let value = half.wrapping_add(10_000);
+    let rows = [
+        (
+            call(caller, 5_000u64.wrapping_sub(waiter), value),
+            met(waiter, waiter, 1),
+        ),
+        (collect(waiter), was_met(value)),
+    ];
+    answers(rt, space, &rows);
+}
+
+#[test]
+fn who_left_finds_each_of_those_that_wait(rt: HostRuntime) {
+    let mut space = space_of(&rt, rt.alloc(), MOST, 0);
+    // Tags fall: the last member has the least.
+    for member in 0..MOST {
+        answers(
+            &rt,
+            &mut space,
+            &[(call(member, 5_000 - member, member), wait(0))],
+        );
+    }
+    for half in 0..MOST / 2 {
+        answers(&rt, &mut space, &[(leave(2 * half), Gone)]);
+    }
+    assert_eq!(rt; space.waiting().len() as u64, MOST / 2);
+    for half in 0..MOST / 2 {
+        finds_the_next(&rt, &mut space, half);
+    }
+    assert_eq!(rt; space.waiting().len(), 0);
+}
