@@ -139,9 +139,9 @@ fn kind_of(words: &Words<'_>) -> Option<QueueKind> {
         limit: number_of(words.list[1])?,
         writers: if lone { 1 } else { number_of(words.list[2])? },
         first: if words.count == known {
-            0
+            None
         } else {
-            number_of(words.list[known.min(WORDS - 1)])?
+            Some(number_of(words.list[known.min(WORDS - 1)])?)
         },
         lone,
     })

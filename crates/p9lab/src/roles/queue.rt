@@ -73,13 +73,13 @@ impl Seats {
     }
 }
 
-/// How a queue is made: its limit, its writers, how many writes were counted before, and whether
-/// one has all its seats.
+/// How a queue is made: its limit, its writers, how many writes were counted before where that is
+/// said, and whether one has all its seats.
 #[derive(Clone, Copy)]
 pub struct QueueKind {
     pub limit: u64,
     pub writers: u64,
-    pub first: u64,
+    pub first: Option<u64>,
     pub lone: bool,
 }
 
@@ -99,9 +99,9 @@ fn opened(alloc: Global, kind: QueueKind) -> Result<Opened, Fault>
         AllByRecursion (IsPutSeatOf opened.queue) opened.puts.items) }
     ensures all { IfOk result (λ opened. AreAllSeats opened.take opened.puts.items) }
 {
-    match Queue::new_from(alloc, kind.limit, kind.writers, kind.first) {
-        Ok(opened) => Ok(opened),
-        Err(fault) => Err(fault),
+    match kind.first {
+        None => Queue::new(alloc, kind.limit, kind.writers),
+        Some(first) => Queue::new_from(alloc, kind.limit, kind.writers, first),
     }
 }
 
