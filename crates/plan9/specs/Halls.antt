@@ -9,7 +9,7 @@ use Rattle.tag_space.specs.declared.member.Member.{Member}
 use Rattle.tag_space.specs.declared.space.TagSpace.{TagSpace}
 use Rattle.tag_space.specs.Members.{HasRow, IsMemberOf, IsSameMember}
 use Rattle.tag_space.specs.Spaces.{IsFirstMember, IsFurtherMember, IsNewSpace}
-use Rattle.tag_space.specs.Walk.{Caller, Point, at_point, caller_of}
+use Rattle.waiting.specs.Waiting.{Point, point}
 
 -- a hall: its tag space, and the first member as long as no process has it
 pub record Hosting : Type 0 where
@@ -55,12 +55,9 @@ pub record IsFirstGuest (hall : Hosting) (running : Running) (guest : Visiting) 
   pub running_is : guest.running ≡ running
   pub member_is : Some guest.member ≡ hall.spare
 
--- who calls, and where it stands
-abbrev pub guest_caller : Visiting → Caller
-guest_caller guest = caller_of guest.space guest.member guest.running
-
-abbrev pub guest_point : Visiting → Point
-guest_point guest = at_point guest.member guest.running
+-- where a guest's call stands
+abbrev pub guest_point : Visiting → Point Member
+guest_point guest = point guest.member guest.running
 
 -- the same process of the same kernel, which is the same member of the same space
 pub record IsSameGuest (old new : Visiting) : Type 0 where

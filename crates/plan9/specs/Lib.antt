@@ -52,10 +52,12 @@ pub use Rattle.semaphore.specs.SemaLaws
 pub use Rattle.semaphore.specs.Ticking
 pub use Rattle.semaphore.specs.TimerLaws
 pub use Rattle.semaphore.specs.Timers
+-- how a call waits
+pub use Rattle.waiting.specs.Waiting
 -- tag spaces
+pub use Rattle.tag_space.specs.Asking as SpaceAsking
 pub use Rattle.tag_space.specs.Forks as SpaceForks
 pub use Rattle.tag_space.specs.Laws as SpaceLaws
 pub use Rattle.tag_space.specs.Members
 pub use Rattle.tag_space.specs.Outcome
 pub use Rattle.tag_space.specs.Spaces
-pub use Rattle.tag_space.specs.Walk

@@ -148,14 +148,13 @@ impl<'s, 'k> Guest<'s, 'k> {
     ghost use Rattle.rendez_words.specs.Words.{procs_of};
     ghost use Rattle.tag_space.specs.Members.{number_of, party_of, rendez_of_member, seen_of};
     ghost use Rattle.tag_space.specs.Outcome.{Exchange};
-    ghost use Rattle.tag_space.specs.Walk.{RendezvousesInWords, Walks};
+    ghost use Rattle.tag_space.specs.Asking.{Meets, RendezvousesInWords};
     ghost use Rattle.plan9.specs.Refusals.{ComesBack};
     ghost use Rattle.plan9.specs.Halls.{
       IsAdmittedGuest,
       IsFurtherGuest,
       IsSameGuest,
       WhyNoGuest,
-      guest_caller,
       guest_point,
     };
 
@@ -176,8 +175,8 @@ impl<'s, 'k> Guest<'s, 'k> {
             (seen_of self.new.member) result }
 
         // What the member asked, and how its process slept and woke its partner.
-        ensures walk { Walks (guest_caller self.old) (record { tag = tag; value = value })
-            (guest_point self.old) (guest_point self.new) result }
+        ensures waited { Meets self.old.space (record { tag = tag; value = value })
+            (guest_point self.old) result (guest_point self.new) }
     {
         self.rendezvous_probed(rt, tag, value, &mut NoProbe)
     }
@@ -199,8 +198,8 @@ impl<'s, 'k> Guest<'s, 'k> {
             (seen_of self.new.member) result }
 
         // What the member asked, and how its process slept and woke its partner.
-        ensures walk { Walks (guest_caller self.old) (record { tag = tag; value = value })
-            (guest_point self.old) (guest_point self.new) result }
+        ensures waited { Meets self.old.space (record { tag = tag; value = value })
+            (guest_point self.old) result (guest_point self.new) }
     {
         self.space
             .rendezvous_probed(rt, &mut self.proc, &mut self.member, tag, value, probe)
@@ -212,9 +211,8 @@ impl<'s, 'k> Guest<'s, 'k> {
         ensures same { IsSameGuest self.old self.new }
 
         // It is the word for the answer of a rendezvous.
-        ensures word { RendezvousesInWords (guest_caller self.old)
-            (record { tag = tag; value = value }) (guest_point self.old) (guest_point self.new)
-            result }
+        ensures word { RendezvousesInWords self.old.space (record { tag = tag; value = value })
+            (guest_point self.old) result (guest_point self.new) }
     {
         self.space
             .rendezvous_word(rt, &mut self.proc, &mut self.member, tag, value)

@@ -1,5 +1,5 @@
 -- What a member knows once its request was served: the reply is one that a tag space gives.
-use Rattle.std.proofs.Common.{◌≡◌, ◌≢◌, ℕ, ◌<◌, ◌≤◌, eqb, true, List, [], ◌∷◌}
+use Rattle.std.proofs.Common.{◌≡◌, ◌≢◌, ℕ, ◌<◌, ◌≤◌, true, List, [], ◌∷◌}
 use Rattle.std.proofs.Common.{length, refl, sym, ap, ◌∙◌, subst, arith}
 use Rattle.std.specs.Prelude.{⊤}
 use Rattle.histories.specs.Account.{KnowsHistory, has_number}
@@ -25,7 +25,7 @@ use Rattle.tag_space.specs.Members.{space_of, account_of, number_of, seen_of, Is
 use Rattle.tag_space.specs.Members.{HasCallUnderWay, IsSameMember}
 use Rattle.tag_space.specs.Rendezvous.{Entry, Space, rendezvous, IsAnswered, IsRight, stage_of}
 use Rattle.tag_space.specs.Rendezvous.Stage.{Over, Waits}
-use Rattle.tag_space.specs.Walk.{Asks}
+use Rattle.tag_space.specs.Asking.{Asks}
 use Rattle.tag_space.proofs.OtherLemmas.{NoneBy, none_by, over_still, way_still, yes}
 use Rattle.tag_space.specs.declared.limits.TheConstants.{LAST_MEETING}
 use Rattle.tag_space.proofs.CountLemmas.{fits_counts}

@@ -1,134 +1,200 @@
--- The whole of a call: from its steps to what came of it.
-use Rattle.std.proofs.Common.{◌≡◌, ℕ, List, [], ◌∷◌, Result, Ok, Err, inl, inr}
-use Rattle.std.proofs.Common.{sym, subst}
-use Rattle.histories.specs.History.{IsLegal}
+-- The whole of a call: from what its wait asked to what came of it.
+use Rattle.std.proofs.Common.{◌≡◌, ℕ, List, length, Result, Ok, Err, inl, inr}
+use Rattle.std.proofs.Common.{refl, ◌∙◌, subst}
+use Rattle.rendez_words.specs.Process.{Process}
 use Rattle.sync_base.specs.declared.fault.Fault.{Fault}
 use Rattle.sync_base.specs.declared.fault.Fault.TheVariants as fault
+use Rattle.sync_base.specs.declared.ids.RendezId.{RendezId}
+use Rattle.tag_space.specs.declared.calls.GroupCall.{GroupCall}
 use Rattle.tag_space.specs.declared.calls.GroupCall.TheVariants.{Collect, Leave}
+use Rattle.tag_space.specs.declared.calls.GroupReply.{GroupReply}
 use Rattle.tag_space.specs.declared.calls.GroupReply.TheVariants.{WasMet, Wait, Gone}
-use Rattle.sync_base.specs.declared.ids.Tag.{Tag}
 use Rattle.tag_space.specs.declared.member.Member.{Member}
 use Rattle.tag_space.specs.declared.space.TagSpace.{TagSpace}
-use Rattle.tag_space.specs.Members.{space_of, number_of, party_of, seen_of}
-use Rattle.tag_space.specs.Members.{IsOneOf, IsMemberOf, IsSameMember}
+use Rattle.tag_space.specs.Members.{space_of, account_of, number_of, party_of, seen_of}
+use Rattle.tag_space.specs.Members.{IsMemberOf, IsSameMember}
 use Rattle.tag_space.specs.Outcome.{Exchange, calls_by}
+use Rattle.tag_space.specs.Rendezvous.{Entry, Offer, Offered}
+use Rattle.tag_space.specs.Asking.{Asks, Requests, Begins, Collects, meeting}
 use Rattle.tag_space.proofs.OtherLemmas.{newest_is_own}
-use Rattle.tag_space.specs.Rendezvous.{Entry, Space, Offer, rendezvous, stage_of}
-use Rattle.tag_space.specs.Rendezvous.Stage.{Over}
-use Rattle.tag_space.specs.Walk.{Point, Caller, Turn, AreTurns, last_point, HasWaited}
-use Rattle.tag_space.specs.Walk.{IsTold, IsToldLate, Leaves, EndsFor, EndsWait}
-use Rattle.tag_space.proofs.AskLemmas.{legal_before}
-use Rattle.tag_space.proofs.OutcomeLemmas.{IsUnderWay, HasEnded, waits_on}
+use Rattle.tag_space.proofs.OutcomeLemmas.{IsUnderWay, HasEnded, begins, finds, worn, waits_on}
 use Rattle.tag_space.proofs.OutcomeLemmas.{is_told, is_told_late, gone}
+use Rattle.waiting.specs.Waiting.{Point, Waited, reply_of}
+use Rattle.waiting.proofs.FoldLemmas.{wait_ends}
 
-module _ (space : Space) (limit : ℕ) (caller : Caller) where
-  -- the history that a member has seen at a point is legal
-  abbrev IsLegalAt : Point → Type 0
-  IsLegalAt point = IsLegal (rendezvous space) [] point.account.seen
+-- while it waits its call is under way
+record IsOn (first : Member) (offer : Offer) (now : Member) : Type 0 where
+  way : IsUnderWay (number_of first) offer (seen_of first) (account_of now)
+  same : IsSameMember first now
 
-  abbrev IsOn : Offer → List Entry → Point → Type 0
-  IsOn offer before point = IsUnderWay caller.member offer before point.account
+-- at the end its call has come to something
+pub record IsOver (space : TagSpace) (first : Member) (offer : Offer) (answer : Result ℕ Fault)
+    (now : Member) : Type 0 where
+  -- the call has ended, with this answer
+  pub ended : HasEnded (space_of space) (number_of first) offer (seen_of first) (seen_of now) answer
+  -- it is the same member
+  pub same : IsSameMember first now
 
-  module _ (offer : Offer) (before : List Entry) (first : Point) (count : ℕ)
-      (way : IsOn offer before first) where
-    -- through all turns of a wait its call is under way
-    turns_on : (turns : List Turn) → AreTurns caller first count turns
-        → IsLegalAt (last_point first turns) → IsOn offer before (last_point first turns)
-    turns_on [] are legal = way
-    turns_on (turn ∷ turns) are legal =
-        let at_wake = legal_before space limit (Collect caller.member) (Wait turn.count)
-        turn.woken.account turn.told.account are.1.entered legal in
-        let at_last = subst (λ account. IsLegal (rendezvous space) [] account.seen) are.0.unasked
-        at_wake in
-        let on = turns_on turns are.2 at_last in
-        let on_wake = subst (IsUnderWay caller.member offer before) (sym are.0.unasked) on in
-        waits_on space limit caller.member turn.woken.account turn.told.account on_wake.own legal
-        offer before turn.count are.1.entered on_wake
+-- and that call is the one that was offered
+pub record Came (space : TagSpace) (offered : Offered) (first : Member) (answer : Result ℕ Fault)
+    (now : Member) : Type 0 where
+  -- the call that it made
+  pub offer : Offer
+  -- what that came to
+  pub over : IsOver space first offer answer now
+  -- it has the tag
+  pub tag_is : offer.tag ≡ offered.tag.0
+  -- and the value that were offered
+  pub value_is : offer.value ≡ offered.value
 
-    waited_on : (asleep : Point) (last : ℕ) → HasWaited caller first count asleep last
-        → IsLegalAt asleep → IsOn offer before asleep
-    waited_on asleep last waited legal =
-        subst (IsOn offer before) (sym waited.now_is)
-        (turns_on waited.turns waited.are_turns (subst IsLegalAt waited.now_is legal))
+module _ (space : TagSpace) (first : Member) (offer : Offer) (old new : Member)
+    (on : IsOn first offer old) where
+  -- the member's number is what it was
+  entered_by : (call : ℕ → GroupCall) (told : GroupReply)
+      → Requests space (call (number_of old)) told old new
+      → Asks (call (number_of first)) told (account_of old) (account_of new)
+  entered_by call told is =
+      subst (λ n. Asks (call n) told (account_of old) (account_of new)) on.same.number is.entered
 
-    told_ended : (given : ℕ) (after : Point) → IsTold caller first count given after
-        → IsLegalAt after → HasEnded space caller.member offer before after.account.seen (Ok given)
-    told_ended given after is legal =
-        let at_wake = legal_before space limit (Collect caller.member) (WasMet given)
-        is.woken.account after.account is.told.entered legal in
-        let asleep = subst (λ account. IsLegal (rendezvous space) [] account.seen) is.slept.unasked
-        at_wake in
-        let on = subst (IsUnderWay caller.member offer before) (sym is.slept.unasked)
-        (waited_on is.asleep is.last is.waited asleep) in
-        is_told space limit caller.member is.woken.account after.account on.own legal offer before
-        given on is.told.entered
-
-    late_ended : (given : ℕ) (after : Point) → IsToldLate caller first count given after
-        → IsLegalAt after → HasEnded space caller.member offer before after.account.seen (Ok given)
-    late_ended given after is legal =
-        let at_left = subst (λ account. IsLegal (rendezvous space) [] account.seen) is.late.unasked
-        legal in
-        let at_wake = legal_before space limit (Leave caller.member) (WasMet given)
-        is.woken.account is.late.left.account is.late.told.entered at_left in
-        let asleep = subst (λ account. IsLegal (rendezvous space) [] account.seen) is.slept.unasked
-        at_wake in
-        let on = subst (IsUnderWay caller.member offer before) (sym is.slept.unasked)
-        (waited_on is.asleep is.last is.waited asleep) in
-        subst (λ account. HasEnded space caller.member offer before account.seen (Ok given))
-        (sym is.late.unasked)
-        (is_told_late space limit caller.member is.woken.account is.late.left.account on.own at_left
-        offer before given on is.late.told.entered)
-
-    left_ended : (why told : Fault) (after : Point) → Leaves caller first count why after
-        → IsLegalAt after → HasEnded space caller.member offer before after.account.seen (Err told)
-    left_ended why told after is legal =
-        let at_wake = legal_before space limit (Leave caller.member) Gone is.woken.account
-        after.account is.left.entered legal in
-        let asleep = subst (λ account. IsLegal (rendezvous space) [] account.seen) is.slept.unasked
-        at_wake in
-        let on = subst (IsUnderWay caller.member offer before) (sym is.slept.unasked)
-        (waited_on is.asleep is.last is.waited asleep) in
-        gone space limit caller.member is.woken.account after.account on.own legal offer before told
-        on is.left.entered
-
-    badly_ended : (after : Point) (why : Fault) → EndsFor caller first count after why
-        → IsLegalAt after → HasEnded space caller.member offer before after.account.seen (Err why)
-    badly_ended after (fault.Interrupted set) ends legal =
-        left_ended (fault.Interrupted set) (fault.Interrupted set) after ends legal
-    badly_ended after fault.DoubleSleep ends legal =
-        left_ended fault.DoubleSleep fault.DoubleSleep after ends legal
-    badly_ended after other ends legal = absurd ends
-
-    -- however a wait ended, its member rests, and its call is in a pair or in none for good
-    pub wait_ended : (after : Point) (answer : Result ℕ Fault) →
-        EndsWait caller first count after answer
-        → IsLegalAt after → HasEnded space caller.member offer before after.account.seen answer
-    wait_ended after (Ok given) (inl told) legal = told_ended given after told legal
-    wait_ended after (Ok given) (inr late) legal = late_ended given after late legal
-    wait_ended after (Err why) ends legal = badly_ended after why ends legal
-
-module _ (space : TagSpace) (before after : Member) (offer : Offer) (answer : Result ℕ Fault)
-    (ended : HasEnded (space_of space) (number_of before) offer (seen_of before) (seen_of after)
-    answer) where
-  -- the member stands between two calls again
-  pub rests_again : IsOneOf space after → IsSameMember before after → IsMemberOf space after
-  rests_again one same =
+  same_on : IsSameMember old new → IsSameMember first new
+  same_on same =
       record {
-        one = one;
-        rests = subst (λ n. stage_of (seen_of after) n ≡ Over) (sym same.number) ended.rests;
+        number = same.number ∙ on.same.number;
+        rendez = same.rendez ∙ on.same.rendez;
       }
 
-  -- a call that has ended is an exchange: one call of the caller's, with its tag and value
-  pub exchanged : (tag : Tag) (value : ℕ) → offer.tag ≡ tag.0 → offer.value ≡ value
-      → Exchange (party_of space before) (record { tag = tag; value = value }) (seen_of before)
-      (seen_of after) answer
-  exchanged tag value tag_is value_is =
+  on_more : (count : ℕ) → Requests space (Collect (number_of old)) (Wait count) old new
+      → IsOn first offer new
+  on_more count is =
       record {
-        offer = offer;
-        one = ended.one;
-        member_is = newest_is_own (number_of before) (seen_of after) offer
-            (calls_by (number_of before) (seen_of before)) ended.one;
-        tag_is = tag_is;
-        value_is = value_is;
-        outcome = ended.outcome;
+        way = waits_on (space_of space) space.procs (number_of first) (account_of old)
+            (account_of new) on.way.own is.one.history.history.legal offer (seen_of first)
+            count (entered_by Collect (Wait count) is) on.way;
+        same = same_on is.same;
       }
+
+  told_so : (given : ℕ) → Requests space (Collect (number_of old)) (WasMet given) old new
+      → IsOver space first offer (Ok given) new
+  told_so given is =
+      record {
+        ended = is_told (space_of space) space.procs (number_of first) (account_of old)
+            (account_of new) on.way.own is.one.history.history.legal offer (seen_of first)
+            given on.way (entered_by Collect (WasMet given) is);
+        same = same_on is.same;
+      }
+
+  late_so : (given : ℕ) → Requests space (Leave (number_of old)) (WasMet given) old new
+      → IsOver space first offer (Ok given) new
+  late_so given is =
+      record {
+        ended = is_told_late (space_of space) space.procs (number_of first) (account_of old)
+            (account_of new) on.way.own is.one.history.history.legal offer (seen_of first)
+            given on.way (entered_by Leave (WasMet given) is);
+        same = same_on is.same;
+      }
+
+  gone_so : (why : Fault) → Requests space (Leave (number_of old)) Gone old new
+      → IsOver space first offer (Err why) new
+  gone_so why is =
+      record {
+        ended = gone (space_of space) space.procs (number_of first) (account_of old)
+            (account_of new) on.way.own is.one.history.history.legal offer (seen_of first)
+            why on.way (entered_by Leave Gone is);
+        same = same_on is.same;
+      }
+
+told : (space : TagSpace) (first : Member) (offer : Offer) (old new : Point Member)
+    (answer : Result ℕ Fault) → IsOn first offer old.seat
+    → Collects space old (reply_of answer) new → IsOver space first offer answer new.seat
+told space first offer old new (Ok given) on collects =
+    told_so space first offer old.seat new.seat on given collects.requested
+told space first offer old new (Err why) on collects = absurd collects
+
+module _ (space : TagSpace) (offered : Offered) (first : Member) (rest : IsMemberOf space first)
+  where
+    -- the call, behind this past
+    abbrev offer_at : List Entry → Offer
+    offer_at past =
+        record {
+          number = length past;
+          member = number_of first;
+          tag = offered.tag.0;
+          value = offered.value;
+        }
+
+    -- a call that was answered at once
+    called : (process : Process) (now : Point Member) (answer : Result ℕ Fault)
+        → Begins space offered (record { seat = first; process = process }) (reply_of answer) now
+        → Came space offered first answer now.seat
+    called process now (Ok given) found =
+        let is = found.requested in
+        record {
+          offer = offer_at is.entered.past;
+          over = record {
+            ended = finds (space_of space) space.procs (number_of first) (account_of first)
+                (account_of now.seat) rest.one.seat.own is.one.history.history.legal offered.tag
+                offered.value given found.other found.count is.entered rest.rests;
+            same = is.same;
+          };
+          tag_is = refl;
+          value_is = refl;
+        }
+    called process now (Err fault.Worn) refused =
+        let is = refused.requested in
+        record {
+          offer = offer_at is.entered.past;
+          over = record {
+            ended = worn (space_of space) space.procs (number_of first) (account_of first)
+                (account_of now.seat) rest.one.seat.own is.one.history.history.legal offered.tag
+                offered.value is.entered rest.rests;
+            same = is.same;
+          };
+          tag_is = refl;
+          value_is = refl;
+        }
+    called process now (Err other) refused = absurd refused
+
+    -- any call
+    pub came : (rendez : RendezId) (process : Process) (answer : Result ℕ Fault)
+        (after : Point Member)
+        → Waited (meeting space offered) rendez (record { seat = first; process = process }) answer
+        after → Came space offered first answer after.seat
+    came rendez process answer after (inl at_once) = called process after answer at_once
+    came rendez process answer after (inr waits) =
+        let is = waits.begun.requested in
+        let offer = offer_at is.entered.past in
+        record {
+          offer = offer;
+          over = wait_ends (meeting space offered) rendez (IsOn first offer)
+              (IsOver space first offer)
+              (λ old new count on asked. on_more space first offer old.seat new.seat on count
+              asked.requested)
+              (told space first offer)
+              (λ old new given on left. late_so space first offer old new on given left)
+              (λ old new why on left. gone_so space first offer old new on why left)
+              waits.first answer after
+              (record {
+                way = begins (space_of space) space.procs (number_of first) (account_of first)
+                    (account_of waits.first.at.seat) rest.one.seat.own
+                    is.one.history.history.legal offered.tag offered.value waits.first.number
+                    is.entered;
+                same = is.same;
+              })
+              waits.waited;
+          tag_is = refl;
+          value_is = refl;
+        }
+
+    -- a call is an exchange: one call of the member's, with its tag and value
+    pub exchanged : (answer : Result ℕ Fault) (now : Member) → Came space offered first answer now
+        → Exchange (party_of space first) offered (seen_of first) (seen_of now) answer
+    exchanged answer now is =
+        record {
+          offer = is.offer;
+          one = is.over.ended.one;
+          member_is = newest_is_own (number_of first) (seen_of now) is.offer
+              (calls_by (number_of first) (seen_of first)) is.over.ended.one;
+          tag_is = is.tag_is;
+          value_is = is.value_is;
+          outcome = is.over.ended.outcome;
+        }

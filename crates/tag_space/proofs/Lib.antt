@@ -11,7 +11,8 @@ mod WorkedSpaces
 mod OtherLemmas
 pub mod AskLemmas
 mod CountLemmas
-mod WalkLemmas
+mod RequestLemmas
+mod AboveLemmas
 mod OutcomeLemmas
 mod EndLemmas
 mod ValueLemmas
@@ -19,7 +20,7 @@ mod PartnerLemmas
 mod JoinLemmas
 pub mod TwoLemmas
 mod WorkedCalls
-mod WorkedWalks
+mod WorkedAsking
 mod WorkedForks
 mod WorkedReasons
 mod WorkedMembers

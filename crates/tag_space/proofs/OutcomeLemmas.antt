@@ -20,7 +20,7 @@ use Rattle.tag_space.specs.Outcome.{calls_by, IsOneOfPairs, IsInPair, IsOutForGo
 use Rattle.tag_space.specs.Rendezvous.{Entry, Space, Offer, Pair, stage_of, pairs_of, pair_with}
 use Rattle.tag_space.specs.Rendezvous.{rendezvous, found_by, IsAnswered, IsMet, IsUnmet}
 use Rattle.tag_space.specs.Rendezvous.Stage.{Over, Waits, Paired}
-use Rattle.tag_space.specs.Walk.{Asks}
+use Rattle.tag_space.specs.Asking.{Asks}
 use Rattle.tag_space.proofs.AskLemmas.{answered_so, past_is_legal, none_since}
 use Rattle.tag_space.proofs.AskLemmas.{rests_still}
 use Rattle.tag_space.proofs.OtherLemmas.{IsUnder, under_same, under_still, calls_still, yes}

@@ -23,8 +23,6 @@ use Rattle.tag_space.specs.Outcome.{calls_by, IsOneOfPairs, IsInPair, word_of}
 use Rattle.tag_space.specs.Outcome.{IsOneOfCalls, HasPartner, Exchange}
 use Rattle.tag_space.specs.Spaces.{IsFurtherMember, IsKeptIn, JoinsMembers}
 use Rattle.tag_space.specs.Rendezvous.{Entry, Party, Offered, Offer, Pair, pairs_of}
-use Rattle.tag_space.specs.Walk.{Point, Caller, Turn, last_count}
-use Rattle.tag_space.specs.Walk.{EndsWait}
 use Rattle.tag_space.proofs.WorkedSpaces.{told, gives, offer, two, one_waits, one_is_found}
 use Rattle.tag_space.proofs.WorkedSpaces.{one_is_told, the_pair}
 
@@ -151,25 +149,6 @@ an_interruption_is_all_ones = refl
 
 another_fault_stays : word_of (Err fault.Worn) ≡ Err fault.Worn
 another_fault_stays = refl
-
--- ---- the steps
-
--- the last of two turns tells where the member stands, and what it was told
-the_last_turn_counts : (first woken told : Point) (turns : List Turn)
-    → last_count 4 (record { woken = woken; told = told; count = 6 } ∷ turns) ≡ 6
-the_last_turn_counts first woken told turns = refl
-
-before_the_first_turn : (first : Point) → last_count 4 [] ≡ 4
-before_the_first_turn first = refl
-
--- a wait is not refused for a want of the kernel, and no count wears out in it
-a_wait_has_its_rendez : (caller : Caller) (first after : Point)
-    → EndsWait caller first 4 after (Err fault.NoRendez) → ⊥
-a_wait_has_its_rendez caller first after ends = ends
-
-a_wait_does_not_wear_out : (caller : Caller) (first after : Point)
-    → EndsWait caller first 4 after (Err fault.Worn) → ⊥
-a_wait_does_not_wear_out caller first after ends = ends
 
 -- ---- rfork by its flags
 

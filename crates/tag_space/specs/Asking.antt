@@ -1,48 +1,124 @@
--- What the three answers of a space stand for.
-use Rattle.std.specs.Prelude.{◌<◌, ◌≤◌, ⊤}
-use Rattle.tag_space.specs.declared.asking.Called.{Called}
-use Rattle.tag_space.specs.declared.asking.Called.TheVariants as called
-use Rattle.tag_space.specs.declared.asking.Told.{Told}
-use Rattle.tag_space.specs.declared.asking.Told.TheVariants as told
-use Rattle.tag_space.specs.declared.asking.Left.{Left}
-use Rattle.tag_space.specs.declared.asking.Left.TheVariants as left
+-- What one call of rendezvous asks of its space, after rendezvous(2): the first of two waits for
+-- the second. How it sleeps in between is the wait of all devices.
+use Rattle.std.specs.Prelude.{◌≡◌, ◌<◌, ℕ, Option, Some, None, Result}
+use Rattle.histories.specs.Changes.{AddsEntry}
+use Rattle.histories.specs.declared.account.Account.{Account}
+use Rattle.kernel_lock.specs.Definition.{server}
+use Rattle.sleep_wakeup.specs.Deeds.{WakesOne}
+use Rattle.sync_base.specs.declared.fault.Fault.{Fault}
+use Rattle.sync_base.specs.declared.fault.Fault.TheVariants as fault
+use Rattle.sync_base.specs.declared.limits.TheConstants.{TOP_LEVEL}
+use Rattle.tag_space.specs.declared.calls.GroupCall.{GroupCall}
+use Rattle.tag_space.specs.declared.calls.GroupCall.TheVariants.{Call, Collect, Leave}
 use Rattle.tag_space.specs.declared.calls.GroupReply.{GroupReply}
-use Rattle.tag_space.specs.declared.calls.GroupReply.TheVariants as reply
-use Rattle.tag_space.specs.declared.limits.TheConstants.{LAST_MEETING}
+use Rattle.tag_space.specs.declared.calls.GroupReply.TheVariants as group
 use Rattle.tag_space.specs.declared.member.Member.{Member}
 use Rattle.tag_space.specs.declared.space.TagSpace.{TagSpace}
-use Rattle.tag_space.specs.Members.{HasCallUnderWay}
+use Rattle.tag_space.specs.Group.{member_of}
+use Rattle.tag_space.specs.Members.{IsMemberOf, IsOneOf, IsSameMember, IsWaitingMember}
+use Rattle.tag_space.specs.Members.{rendez_of_member, account_of, number_of, party_of, seen_of}
+use Rattle.tag_space.specs.Outcome.{Exchange, word_of}
+use Rattle.tag_space.specs.Rendezvous.{Entry, Offered}
+use Rattle.waiting.specs.declared.call.Reply.{Reply}
+use Rattle.waiting.specs.declared.call.Reply.TheVariants as reply
+use Rattle.waiting.specs.Waiting.{Promise, Point, Waited}
 
--- the reply of the space
-abbrev pub called_reply : Called → GroupReply
-called_reply (called.Met value partner count) = reply.Met value partner count
-called_reply (called.Wait count) = reply.Wait count
-called_reply called.Worn = reply.Worn
+-- ---- one request
 
-abbrev pub told_reply : Told → GroupReply
-told_reply (told.Met value) = reply.WasMet value
-told_reply (told.Wait count) = reply.Wait count
+-- a request with its reply stands in the history, behind a past that ends what the member had seen
+abbrev pub Asks : GroupCall → GroupReply → Account Entry → Account Entry → Type 0
+Asks call told before after =
+    AddsEntry server (record { by = member_of call; request = call; reply = told }) before after
 
-abbrev pub left_reply : Left → GroupReply
-left_reply (left.Met value) = reply.WasMet value
-left_reply left.Gone = reply.Gone
+-- the member asked, and is the same member of its space
+pub record Requests (space : TagSpace) (call : GroupCall) (told : GroupReply)
+    (before after : Member) : Type 0 where
+  pub entered : Asks call told (account_of before) (account_of after)
+  pub one : IsOneOf space after
+  pub same : IsSameMember before after
 
--- a partner is one of the space's members; a count leaves a level above it
-abbrev pub FitsCall : TagSpace → Called → Type 0
-FitsCall space (called.Met value partner count) = partner < space.procs
-FitsCall space (called.Wait count) = count ≤ LAST_MEETING
-FitsCall space called.Worn = ⊤
+-- a member that called found one of the space's members, and rests; or it waits, with a count that
+-- leaves a level above it; or it was worn out, and rests
+abbrev pub IsCalled : TagSpace → Member → GroupReply → Type 0
+IsCalled space member (group.Met given other count) =
+    (other < space.procs) × IsMemberOf space member
+IsCalled space member (group.Wait count) = (count < TOP_LEVEL) × IsWaitingMember space member
+IsCalled space member group.Worn = IsMemberOf space member
+IsCalled space member told = ⊥
 
-abbrev pub FitsTold : Told → Type 0
-FitsTold (told.Met value) = ⊤
-FitsTold (told.Wait count) = count ≤ LAST_MEETING
+-- one that asked was met, and rests; or it waits on
+abbrev pub IsCollected : TagSpace → Member → GroupReply → Type 0
+IsCollected space member (group.WasMet given) = IsMemberOf space member
+IsCollected space member (group.Wait count) = (count < TOP_LEVEL) × IsWaitingMember space member
+IsCollected space member told = ⊥
 
--- a member that is told to wait, first or again, has a call under way
-abbrev pub WaitsWhere : Called → Member → Type 0
-WaitsWhere (called.Met value partner count) member = ⊤
-WaitsWhere (called.Wait count) member = HasCallUnderWay member
-WaitsWhere called.Worn member = ⊤
+-- and one that left rests
+abbrev pub IsLeft : TagSpace → Member → GroupReply → Type 0
+IsLeft space member (group.WasMet given) = IsMemberOf space member
+IsLeft space member group.Gone = IsMemberOf space member
+IsLeft space member told = ⊥
 
-abbrev pub WaitsOnWhere : Told → Member → Type 0
-WaitsOnWhere (told.Met value) member = ⊤
-WaitsOnWhere (told.Wait count) member = HasCallUnderWay member
+-- ---- the requests of one call
+
+-- the member asked, and its process did nothing
+pub record OnlyRequests (space : TagSpace) (call : GroupCall) (told : GroupReply)
+    (before after : Point Member) : Type 0 where
+  pub requested : Requests space call told before.seat after.seat
+  pub idle : after.process ≡ before.process
+
+-- the call found one that waits, and woke its Rendez, once, with the count of its meetings
+pub record Finds (space : TagSpace) (call : GroupCall) (given : ℕ)
+    (before after : Point Member) : Type 0 where
+  pub other : ℕ
+  pub count : ℕ
+  pub requested : Requests space call (group.Met given other count) before.seat after.seat
+  pub woken : WakesOne before.process (rendez_of_member space other) count after.process
+
+-- the first request is the call: it found a partner, or waits with the count of its meetings, or
+-- that was the last count
+abbrev pub Begins : TagSpace → Offered → Point Member → Reply ℕ → Point Member → Type 0
+Begins space offered before (reply.Done given) after =
+    Finds space (Call (number_of before.seat) offered.tag offered.value) given before after
+Begins space offered before (reply.Wait count) after =
+    OnlyRequests space (Call (number_of before.seat) offered.tag offered.value) (group.Wait count)
+    before after
+Begins space offered before (reply.Refused fault.Worn) after =
+    OnlyRequests space (Call (number_of before.seat) offered.tag offered.value) group.Worn
+    before after
+Begins space offered before (reply.Refused why) after = ⊥
+
+-- behind a sleep it asks whether it was met
+abbrev pub Collects : TagSpace → Point Member → Reply ℕ → Point Member → Type 0
+Collects space before (reply.Done given) after =
+    OnlyRequests space (Collect (number_of before.seat)) (group.WasMet given) before after
+Collects space before (reply.Wait count) after =
+    OnlyRequests space (Collect (number_of before.seat)) (group.Wait count) before after
+Collects space before (reply.Refused why) after = ⊥
+
+-- and where a sleep failed it asks the same, and waits no longer
+abbrev pub Leaves : TagSpace → Member → Option ℕ → Member → Type 0
+Leaves space before (Some given) after =
+    Requests space (Leave (number_of before)) (group.WasMet given) before after
+Leaves space before None after = Requests space (Leave (number_of before)) group.Gone before after
+
+-- one call of rendezvous, as its wait asks the space
+abbrev pub meeting : TagSpace → Offered → Promise Member ℕ
+meeting space offered =
+    record { begun = Begins space offered; asked = Collects space; left = Leaves space }
+
+-- ---- the call
+
+-- One call makes one Call. Where that finds a partner it wakes the partner's Rendez and sleeps
+-- never; else it waits on its member's own Rendez as a call of each device does, and wakes nobody.
+abbrev pub Meets : TagSpace → Offered → Point Member → Result ℕ Fault → Point Member → Type 0
+Meets space offered before answer after =
+    Waited (meeting space offered) before.seat.rendez before answer after
+
+-- the same call, and the word for its answer
+pub record RendezvousesInWords (space : TagSpace) (offered : Offered) (before : Point Member)
+    (told : Result ℕ Fault) (after : Point Member) : Type 0 where
+  pub answer : Result ℕ Fault
+  pub told_is : told ≡ word_of answer
+  pub exchange : Exchange (party_of space before.seat) offered (seen_of before.seat)
+      (seen_of after.seat) answer
+  pub waited : Meets space offered before answer after

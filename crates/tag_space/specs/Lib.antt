@@ -7,7 +7,7 @@ pub mod Runs
 pub mod Promises
 pub mod Members
 pub mod Spaces
-pub mod Asking
-pub mod Walk
 pub mod Outcome
+pub mod Asking
+pub mod WakeLaws
 pub mod Forks

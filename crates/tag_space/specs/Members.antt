@@ -55,6 +55,11 @@ pub record IsMemberOf (space : TagSpace) (member : Member) : Type 0 where
 abbrev pub HasCallUnderWay : Member → Type 0
 HasCallUnderWay member = stage_of (seen_of member) (number_of member) ≢ Over
 
+-- a member of the space whose call waits: whoever meets it finds it
+pub record IsWaitingMember (space : TagSpace) (member : Member) : Type 0 where
+  pub one : IsOneOf space member
+  pub under_way : HasCallUnderWay member
+
 -- it is the same member, whatever it knows
 pub record IsSameMember (before after : Member) : Type 0 where
   pub number : number_of after ≡ number_of before

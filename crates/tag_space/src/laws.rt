@@ -6,6 +6,7 @@ ghost use Rattle.tag_space.specs.Laws.{WhoLeftMeetsNobody, WhoIsWornMeetsNobody}
 ghost use Rattle.tag_space.specs.Laws.{FoundIsInPair, ToldIsInPair, InterruptedIs};
 ghost use Rattle.tag_space.specs.Laws.{PartnersAreCalls, PairsStay, EachGetsOneValue};
 ghost use Rattle.tag_space.specs.Laws.{CallsAreByMembers, PairedIsNotAlone};
+ghost use Rattle.tag_space.specs.WakeLaws.{FindingReleasesThePartner, WaitersAreFoundAbove};
 
 /// Each history of a space as an object is a history of rendezvous: calls meet by their tags, each
 /// gets the other's value, and whoever left meets nobody.
@@ -59,4 +60,11 @@ pub fn last_meeting()
 /// The word for an interruption.
 pub fn interrupted_word()
     ensures { InterruptedIs }
+{}
+
+/// No call that waits stays posted once the call that found it has returned: whoever sleeps below
+/// the count of the meeting is released, and each number that its member was told is below it.
+pub fn who_is_found_is_released()
+    ensures released { FindingReleasesThePartner }
+    ensures above { WaitersAreFoundAbove }
 {}

@@ -1,0 +1,147 @@
+//! The wait of a call.
+ghost use Rattle.std.specs.Prelude.{◌≡◌, ◌<◌, IfErr, OnOk};
+ghost use Rattle.sync_base.specs.declared.limits.TheConstants.{TOP_LEVEL};
+ghost use Rattle.rendez_words.specs.Words.{rendez_of};
+ghost use Rattle.sleep_wakeup.specs.Deeds.{SleepsWell, FailsAsleep, PutsBack};
+ghost use Rattle.waiting.specs.Waiting.{Waited, WaitsOn, SleepsOn, point, told};
+
+use crate::call::{Reply, WaitingCall};
+use sleep_wakeup::Proc;
+use std::sync::Wait;
+use sync_base::{Fault, Probe, RendezId};
+
+/// Makes a call. It asks; while it is told to wait, it sleeps on this Rendez with the number that
+/// it was told last, and asks again. A sleep that notes ended, or that found another process on the
+/// Rendez, is the call's last: it leaves, and is refused with that fault. Where it had come to
+/// something by then it answers that, and the notes are pending again.
+/// The probe is told 2 before each sleep and 3 behind it. Takes no memory of its own.
+pub fn wait_for<R: Wait, C: WaitingCall, P: Probe>(
+    rt: &R,
+    proc: &mut Proc<'_>,
+    rendez: RendezId,
+    call: &C,
+    seat: &mut C::Seat,
+    probe: &mut P,
+) -> Result<C::Out, Fault>
+    requires ready { C.ready call.now seat.old }
+    requires row { C.knows call.now proc.old.words }
+    requires rendez { rendez.0 < rendez_of proc.old.words }
+    ensures rests { C.rests call.now seat.new }
+    ensures words { proc.new.words ≡ proc.old.words }
+    ensures waited { Waited (C.promise call.now) rendez (point seat.old proc.old) result
+        (point seat.new proc.new) }
+{
+    match call.begin(rt, proc, seat) {
+        Reply::Done(out) => Ok(out),
+        Reply::Refused(why) => Err(why),
+        Reply::Wait(number) => wait_on(rt, proc, rendez, call, seat, number, probe),
+    }
+}
+
+/// The rest of a call that was told to wait with this number.
+pub fn wait_on<R: Wait, C: WaitingCall, P: Probe>(
+    rt: &R,
+    proc: &mut Proc<'_>,
+    rendez: RendezId,
+    call: &C,
+    seat: &mut C::Seat,
+    number: u64,
+    probe: &mut P,
+) -> Result<C::Out, Fault>
+    requires waits { C.waits call.now seat.old }
+    requires row { C.knows call.now proc.old.words }
+    requires rendez { rendez.0 < rendez_of proc.old.words }
+    requires low { number < TOP_LEVEL }
+    ensures rests { C.rests call.now seat.new }
+    ensures words { proc.new.words ≡ proc.old.words }
+    ensures waited { WaitsOn (C.promise call.now) rendez (told seat.old proc.old number) result
+        (point seat.new proc.new) }
+{
+    match sleep_for(rt, proc, rendez, call, seat, number, probe) {
+        WaitEnd::Answered(answer) => answer,
+        WaitEnd::Stopped(why, Some(out)) => {
+            put_back(proc, why);
+            Ok(out)
+        }
+        WaitEnd::Stopped(why, None) => Err(why),
+    }
+}
+
+/// How the sleeps of a call ended.
+#[derive(Drop)]
+pub enum WaitEnd<T> {
+    /// A request was answered.
+    Answered(Result<T, Fault>),
+    /// A sleep failed for this, and the call left: what it had come to by then, if it had.
+    Stopped(Fault, Option<T>),
+}
+
+/// The sleeps of a call that was told to wait with this number, and its requests behind them. The
+/// notes that a failed sleep took are the caller's.
+pub fn sleep_for<R: Wait, C: WaitingCall, P: Probe>(
+    rt: &R,
+    proc: &mut Proc<'_>,
+    rendez: RendezId,
+    call: &C,
+    seat: &mut C::Seat,
+    number: u64,
+    probe: &mut P,
+) -> WaitEnd<C::Out>
+    requires waits { C.waits call.now seat.old }
+    requires row { C.knows call.now proc.old.words }
+    requires rendez { rendez.0 < rendez_of proc.old.words }
+    requires low { number < TOP_LEVEL }
+    ensures rests { C.rests call.now seat.new }
+    ensures words { proc.new.words ≡ proc.old.words }
+    ensures slept { SleepsOn (C.promise call.now) rendez (told seat.old proc.old number) result
+        (point seat.new proc.new) }
+{
+    let mut number = number;
+    for _ in rt.forever() {
+        probe.at(2);
+        let slept = sleep_waiting(rt, proc, rendez, call, seat, number);
+        probe.at(3);
+        match slept {
+            Err(why) => {
+                let left = call.leave(rt, seat);
+                return WaitEnd::Stopped(why, left);
+            }
+            Ok(()) => match call.ask(rt, proc, seat) {
+                Reply::Done(out) => return WaitEnd::Answered(Ok(out)),
+                Reply::Refused(why) => return WaitEnd::Answered(Err(why)),
+                Reply::Wait(again) => number = again,
+            },
+        }
+    }
+    unreachable!()
+}
+
+// Sleeps once while the call waits: whoever ends its wait finds its seat, and wakes its process. A
+// call that was answered or has left may not sleep, since nobody would look for it.
+fn sleep_waiting<R: Wait, C: WaitingCall>(
+    rt: &R,
+    proc: &mut Proc<'_>,
+    rendez: RendezId,
+    call: &C,
+    seat: &C::Seat,
+    number: u64,
+) -> Result<(), Fault>
+    requires waits { C.waits call.now seat.now }
+    requires rendez { rendez.0 < rendez_of proc.old.words }
+    requires low { number < TOP_LEVEL }
+    ensures failed { IfErr result (FailsAsleep proc.old.process rendez number proc.new.process) }
+    ensures slept { OnOk result (SleepsWell proc.old.process rendez number proc.new.process) }
+    ensures words { proc.new.words ≡ proc.old.words }
+{
+    proc.sleep(rt, rendez, number)
+}
+
+// Puts the notes back that ended a sleep.
+fn put_back(proc: &mut Proc<'_>, why: Fault)
+    ensures back { PutsBack why proc.old.process proc.new.process }
+    ensures words { proc.new.words ≡ proc.old.words }
+{
+    if let Fault::Interrupted(notes) = why {
+        proc.put_back(notes);
+    }
+}
