@@ -2,20 +2,15 @@
 //! proved once more for its tests.
 //! Read `plain`, a pipe for one thread; `worlds`, the machine of sleep and wakeup; `words`, the
 //! same on shared words; `locks` and `rooms`, objects under a lock; `spaces`, where calls meet by
-//! tags; `units` and `timers`, of semaphores, `plain_sema` and `plain_timers`, models of both, and
-//! `random`, which compares them.
+//! tags; `units` and `timers`, of semaphores; and `devices`, scripts on streams that fail.
 #![tactic(auto)]
 
+#[cfg(test)]
+mod devices;
 #[cfg(test)]
 mod locks;
 #[cfg(test)]
 mod plain;
-#[cfg(test)]
-mod plain_sema;
-#[cfg(test)]
-mod plain_timers;
-#[cfg(test)]
-mod random;
 #[cfg(test)]
 mod rooms;
 #[cfg(test)]

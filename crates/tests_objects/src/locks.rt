@@ -1,7 +1,5 @@
-//! A counter under a lock, called by eight threads, and threads that sleep before a lock and are
-//! woken.
-ghost use Rattle.std.specs.Prelude.{ℕ, ◌+◌, ◌%◌, ◌^◌, ◌<◌, None};
-ghost use denote.Param.Send.{IsSync};
+//! A counter under a lock, called by eight threads.
+ghost use Rattle.std.specs.Prelude.{ℕ, ◌+◌, ◌%◌, ◌^◌, ◌<◌, None, All};
 ghost use Rattle.kernel_lock.specs.Seats.{IsSeatOf};
 
 use kernel_lock::{LockSeat, Locked, Object, Opened, OpenedWhole};
@@ -10,7 +8,7 @@ use std::process::Abort;
 use std::sync::Wait;
 use std::sync::atomic::AtomicU64;
 use std::sync::atomic::Ordering::SeqCst;
-use std::thread::{Threads, join};
+use std::thread::{self, Threads};
 use sync_base::Fault;
 
 /// The smallest object: a call adds its number, and answers the sum, which wraps at 2^64.
@@ -43,37 +41,33 @@ impl Object for Counter {
     }
 }
 
-// A lock over a counter. Where memory is refused the counter comes back as it was, and is asked
-// for once more.
-fn lock_of(rt: &impl Abort, alloc: Global, sum: u64, seats: u64) -> Opened<Counter>
+/// A lock over an object. Where memory is refused the object comes back, and is put under it again.
+pub fn lock_of<O: Object>(rt: &impl Abort, alloc: Global, object: O, seats: u64) -> Opened<O>
     requires { 0 < seats }
     ensures { IsSeatOf result.lock result.seat }
 {
-    match Locked::new(alloc, Counter { sum }, seats) {
+    match Locked::new(alloc, object, seats) {
         Ok(opened) => opened,
-        Err(AllocFailed { value: counter }) => {
-            assert_eq!(rt; counter.sum, sum);
-            match Locked::new(alloc, counter, seats) {
-                Ok(opened) => opened,
-                Err(_) => panic!(rt; "no memory where none is refused"),
-            }
-        }
+        Err(AllocFailed { value: object }) => match Locked::new(alloc, object, seats) {
+            Ok(opened) => opened,
+            Err(_) => panic!(rt; "no memory where none is refused"),
+        },
     }
 }
 
-fn whole_of(rt: &impl Abort, alloc: Global, sum: u64, seats: u64) -> OpenedWhole<Counter>
+/// The same, with all its seats.
+#[tactic(auto, using(crate::proofs::SeatLemmas::each_all))]
+pub fn whole_of<O: Object>(rt: &impl Abort, alloc: Global, object: O, seats: u64) -> OpenedWhole<O>
     requires { 0 < seats }
-    ensures { IsSeatOf result.lock result.seat }
+    ensures seat { IsSeatOf result.lock result.seat }
+    ensures others { All (IsSeatOf result.lock) result.others.items }
 {
-    match Locked::new_whole(alloc, Counter { sum }, seats) {
+    match Locked::new_whole(alloc, object, seats) {
         Ok(opened) => opened,
-        Err(AllocFailed { value: counter }) => {
-            assert_eq!(rt; counter.sum, sum);
-            match Locked::new_whole(alloc, counter, seats) {
-                Ok(opened) => opened,
-                Err(_) => panic!(rt; "no memory where none is refused"),
-            }
-        }
+        Err(AllocFailed { value: object }) => match Locked::new_whole(alloc, object, seats) {
+            Ok(opened) => opened,
+            Err(_) => panic!(rt; "no memory where none is refused"),
+        },
     }
 }
 
@@ -85,25 +79,12 @@ fn is_full<R: Wait>(rt: &R, lock: &Locked<Counter>, seat: &mut LockSeat<Counter>
     matches!(lock.split(rt, seat), Err(Fault::NoProc))
 }
 
-fn split<R: Wait + Abort>(
-    rt: &R,
-    lock: &Locked<Counter>,
-    seat: &mut LockSeat<Counter>,
-) -> LockSeat<Counter>
-    requires { IsSeatOf lock.now seat.old }
-    ensures seat { IsSeatOf lock.now seat.new }
-    ensures child { IsSeatOf lock.now result }
-{
-    match lock.split(rt, seat) {
-        Ok(child) => child,
-        Err(_) => panic!(rt; "no seat is left"),
-    }
-}
-
 #[test]
 fn a_lock_gives_as_many_seats_as_it_may(rt: HostRuntime) {
-    let Opened { lock, mut seat } = lock_of(&rt, rt.alloc(), 5, 2);
-    let mut other = split(&rt, &lock, &mut seat);
+    let Opened { lock, mut seat } = lock_of(&rt, rt.alloc(), Counter { sum: 5 }, 2);
+    let Ok(mut other) = lock.split(&rt, &mut seat) else {
+        panic!(rt; "a second seat")
+    };
     assert_eq!(rt; (seat.number(), other.number()), (0, 1));
     assert!(rt; is_full(&rt, &lock, &mut seat) && is_full(&rt, &lock, &mut other));
     assert_eq!(rt; lock.apply(&rt, &mut other, 2), 7);
@@ -119,7 +100,7 @@ fn a_lock_gives_all_its_seats_at_once(rt: HostRuntime) {
         lock,
         mut seat,
         others,
-    } = whole_of(&rt, rt.alloc(), 5, 3);
+    } = whole_of(&rt, rt.alloc(), Counter { sum: 5 }, 3);
     assert_eq!(rt; (seat.number(), others.len()), (0, 2));
     for (at, other) in others.iter().enumerate() {
         assert_eq!(rt; other.number(), at as u64 + 1);
@@ -133,22 +114,14 @@ fn a_lock_gives_all_its_seats_at_once(rt: HostRuntime) {
 
 const CALLS: u64 = 2_000;
 
-/// What threads did: their seats joined, and whether the sums of each rose.
-#[derive(Drop)]
-struct Added {
-    seat: LockSeat<Counter>,
-    rose: bool,
-}
-
-// One thread adds 1 again and again, and counts each sum that it is answered.
-fn one<R: Wait>(
+// Adds 1 again and again, and counts each sum that it is answered. Says whether they rose.
+fn adds<R: Wait>(
     rt: &R,
     lock: &Locked<Counter>,
     counts: &Vec<AtomicU64>,
     mut seat: LockSeat<Counter>,
-) -> Added
+) -> bool
     requires { IsSeatOf lock.now seat }
-    ensures { IsSeatOf lock.now result.seat }
 {
     let mut last = 0;
     let mut rose = true;
@@ -160,89 +133,29 @@ fn one<R: Wait>(
             count.fetch_add(1, SeqCst);
         }
     }
-    Added { seat, rose }
+    rose
 }
 
-fn joined(lock: &Locked<Counter>, both: (Added, Added)) -> Added
-    requires first { IsSeatOf lock.now both.0.seat }
-    requires second { IsSeatOf lock.now both.1.seat }
-    ensures { IsSeatOf lock.now result.seat }
+// Each seat on a thread of its own.
+fn add_at_once<R: Threads + Wait + Abort + Sync>(
+    rt: &R,
+    lock: &Locked<Counter>,
+    counts: &Vec<AtomicU64>,
+    seats: Vec<LockSeat<Counter>>,
+) -> bool
+    requires { All (IsSeatOf lock.now) seats.items }
 {
-    let (first, second) = both;
-    Added {
-        seat: lock.join(first.seat, second.seat),
-        rose: first.rose && second.rose,
+    let done = thread::map_vec(
+        rt,
+        seats,
+        &|seat: LockSeat<Counter>| -> bool
+            requires { IsSeatOf lock.now seat }
+        { adds(rt, lock, counts, seat) },
+    );
+    match done {
+        Ok(rose) => rose.iter().all(|rose| *rose),
+        Err(_) => panic!(rt; "no memory for the answers"),
     }
-}
-
-fn two<R: Threads + Wait + Abort + Sync>(
-    rt: &R,
-    lock: &Locked<Counter>,
-    counts: &Vec<AtomicU64>,
-    mut seat: LockSeat<Counter>,
-) -> Added
-    requires { IsSeatOf lock.now seat }
-    ensures { IsSeatOf lock.now result.seat }
-{
-    let other = split(rt, lock, &mut seat);
-    let both = join(
-        rt,
-        || one(rt, lock, counts, seat),
-        || one(rt, lock, counts, other),
-    );
-    joined(lock, both)
-}
-
-fn four<R: Threads + Wait + Abort + Sync>(
-    rt: &R,
-    lock: &Locked<Counter>,
-    counts: &Vec<AtomicU64>,
-    mut seat: LockSeat<Counter>,
-) -> Added
-    requires { IsSeatOf lock.now seat }
-    ensures { IsSeatOf lock.now result.seat }
-{
-    let other = split(rt, lock, &mut seat);
-    let both = join(
-        rt,
-        || -> Added
-            requires sync { IsSync R.row }
-            requires seat { IsSeatOf lock.now seat }
-            ensures { IsSeatOf lock.entry.now result.seat }
-        { two(rt, lock, counts, seat) },
-        || -> Added
-            requires sync { IsSync R.row }
-            requires seat { IsSeatOf lock.now other }
-            ensures { IsSeatOf lock.entry.now result.seat }
-        { two(rt, lock, counts, other) },
-    );
-    joined(lock, both)
-}
-
-fn eight<R: Threads + Wait + Abort + Sync>(
-    rt: &R,
-    lock: &Locked<Counter>,
-    counts: &Vec<AtomicU64>,
-    mut seat: LockSeat<Counter>,
-) -> Added
-    requires { IsSeatOf lock.now seat }
-    ensures { IsSeatOf lock.now result.seat }
-{
-    let other = split(rt, lock, &mut seat);
-    let both = join(
-        rt,
-        || -> Added
-            requires sync { IsSync R.row }
-            requires seat { IsSeatOf lock.now seat }
-            ensures { IsSeatOf lock.entry.now result.seat }
-        { four(rt, lock, counts, seat) },
-        || -> Added
-            requires sync { IsSync R.row }
-            requires seat { IsSeatOf lock.now other }
-            ensures { IsSeatOf lock.entry.now result.seat }
-        { four(rt, lock, counts, other) },
-    );
-    joined(lock, both)
 }
 
 // So many counts of 0.
@@ -260,8 +173,8 @@ fn zeros(rt: &impl Abort, alloc: Global, count: u64) -> Vec<AtomicU64> {
 #[test]
 fn calls_of_eight_threads_stand_in_one_history(rt: HostRuntime) {
     let counts = zeros(&rt, rt.alloc(), 8 * CALLS);
-    let Opened { lock, seat } = lock_of(&rt, rt.alloc(), 0, 8);
-    let Added { seat, rose } = eight(&rt, &lock, &counts, seat);
+    let OpenedWhole { lock, seat, others } = whole_of(&rt, rt.alloc(), Counter { sum: 0 }, 9);
+    assert!(rt; add_at_once(&rt, &lock, &counts, others));
     assert_eq!(rt; lock.close(&rt, seat).sum, 8 * CALLS);
-    assert!(rt; rose && counts.iter().all(|count| count.load(SeqCst) == 1));
+    assert!(rt; counts.iter().all(|count| count.load(SeqCst) == 1));
 }

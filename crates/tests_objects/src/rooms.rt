@@ -1,16 +1,17 @@
-//! A counter whose calls stay inside until other threads sleep before its lock, and are woken.
-ghost use Rattle.std.specs.Prelude.{ℕ, ◌+◌, ◌%◌, ◌^◌, None};
-ghost use denote.Param.Send.{IsSync};
+//! Threads that sleep before the lock of a room, whose calls stay inside until they do, and are
+//! woken.
+ghost use Rattle.std.specs.Prelude.{ℕ, ◌+◌, ◌%◌, ◌^◌, None, All};
 ghost use Rattle.kernel_lock.specs.Seats.{IsSeatOf};
 
-use kernel_lock::{LockSeat, Locked, Object, Opened};
+use crate::locks::whole_of;
+use kernel_lock::{LockSeat, Locked, Object, OpenedWhole};
 use std::alloc::Global;
 use std::hint::spin_loop;
 use std::process::Abort;
 use std::sync::atomic::AtomicU64;
 use std::sync::atomic::Ordering::SeqCst;
 use std::sync::{Arc, Wait};
-use std::thread::{Threads, join, yield_now};
+use std::thread::{self, Threads, yield_now};
 
 /// How often a call looks who is outside, so that it ends in any case.
 const LOOKS: u64 = 1_000_000;
@@ -20,9 +21,6 @@ const STAY: u64 = 100_000;
 
 /// How often threads are put to sleep and woken.
 const ROUNDS: u64 = 20;
-
-/// How often a thread calls that does not stay.
-const CALLS: u64 = 2_000;
 
 /// How the threads in the room and before it tell of themselves.
 #[derive(Drop)]
@@ -93,6 +91,9 @@ impl Object for Room {
     }
 }
 
+/// How often a thread calls that does not stay.
+const CALLS: u64 = 2_000;
+
 /// What a thread does: it stays in the room until so many others sleep before it; or it is one of
 /// those, or else none. Then it makes so many calls that do not stay.
 #[derive(Clone, Copy)]
@@ -102,17 +103,19 @@ struct Part {
     calls: u64,
 }
 
-// One thread's part.
+// One thread's part, by the number of its seat. Says that it is over.
 fn play<R: Wait>(
     rt: &R,
     lock: &Locked<Room>,
     door: &Door,
     mut seat: LockSeat<Room>,
-    part: Part,
-) -> LockSeat<Room>
+    parts: &[Part],
+) -> bool
     requires { IsSeatOf lock.now seat }
-    ensures { IsSeatOf lock.now result }
 {
+    let Some(part) = parts.get((seat.number() as usize).wrapping_sub(1)) else {
+        return false;
+    };
     if part.is_outside {
         door.line_up(rt);
     }
@@ -122,72 +125,30 @@ fn play<R: Wait>(
     for _ in 0..part.calls {
         lock.apply(rt, &mut seat, 0);
     }
-    seat
+    true
 }
 
-fn split<R: Wait + Abort>(rt: &R, lock: &Locked<Room>, seat: &mut LockSeat<Room>) -> LockSeat<Room>
-    requires { IsSeatOf lock.now seat.old }
-    ensures seat { IsSeatOf lock.now seat.new }
-    ensures child { IsSeatOf lock.now result }
+// Each seat on a thread of its own.
+fn play_at_once<R: Threads + Wait + Abort + Sync>(
+    rt: &R,
+    lock: &Locked<Room>,
+    door: &Door,
+    seats: Vec<LockSeat<Room>>,
+    parts: &[Part],
+)
+    requires { All (IsSeatOf lock.now) seats.items }
 {
-    match lock.split(rt, seat) {
-        Ok(child) => child,
-        Err(_) => panic!(rt; "no seat is left"),
+    let done = thread::map_vec(
+        rt,
+        seats,
+        &|seat: LockSeat<Room>| -> bool
+            requires { IsSeatOf lock.now seat }
+        { play(rt, lock, door, seat, parts) },
+    );
+    match done {
+        Ok(over) => assert!(rt; over.iter().all(|is_over| *is_over)),
+        Err(_) => panic!(rt; "no memory for the answers"),
     }
-}
-
-fn pair<R: Threads + Wait + Sync>(
-    rt: &R,
-    lock: &Locked<Room>,
-    door: &Door,
-    seats: (LockSeat<Room>, LockSeat<Room>),
-    parts: (Part, Part),
-) -> LockSeat<Room>
-    requires first { IsSeatOf lock.now seats.0 }
-    requires second { IsSeatOf lock.now seats.1 }
-    ensures { IsSeatOf lock.now result }
-{
-    let (mine, other) = seats;
-    let (first, second) = parts;
-    let (mine, other) = join(
-        rt,
-        || play(rt, lock, door, mine, first),
-        || play(rt, lock, door, other, second),
-    );
-    lock.join(mine, other)
-}
-
-// No seat is split while a thread stays inside.
-fn four<R: Threads + Wait + Abort + Sync>(
-    rt: &R,
-    lock: &Locked<Room>,
-    door: &Door,
-    mut first: LockSeat<Room>,
-    parts: [Part; 4],
-) -> LockSeat<Room>
-    requires { IsSeatOf lock.now first }
-    ensures { IsSeatOf lock.now result }
-{
-    let second = split(rt, lock, &mut first);
-    let third = split(rt, lock, &mut first);
-    let fourth = split(rt, lock, &mut first);
-    let [inside, outside, more, most] = parts;
-    let (mine, others) = join(
-        rt,
-        || -> LockSeat<Room>
-            requires sync { IsSync R.row }
-            requires first { IsSeatOf lock.now first }
-            requires second { IsSeatOf lock.now second }
-            ensures { IsSeatOf lock.entry.now result }
-        { pair(rt, lock, door, (first, second), (inside, outside)) },
-        || -> LockSeat<Room>
-            requires sync { IsSync R.row }
-            requires third { IsSeatOf lock.now third }
-            requires fourth { IsSeatOf lock.now fourth }
-            ensures { IsSeatOf lock.entry.now result }
-        { pair(rt, lock, door, (third, fourth), (more, most)) },
-    );
-    lock.join(mine, others)
 }
 
 fn door_of(rt: &impl Abort, alloc: Global) -> Arc<Door> {
@@ -199,35 +160,28 @@ fn door_of(rt: &impl Abort, alloc: Global) -> Arc<Door> {
     }
 }
 
-fn room_of(rt: &impl Abort, alloc: Global, door: &Arc<Door>) -> Opened<Room>
-    ensures { IsSeatOf result.lock result.seat }
-{
-    let door = match Arc::try_clone(door) {
-        Ok(door) => door,
+fn room_of(rt: &impl Abort, door: &Arc<Door>) -> Room {
+    match Arc::try_clone(door) {
+        Ok(door) => Room { calls: 0, door },
         Err(_) => panic!(rt; "too many doors"),
-    };
-    match Locked::new(alloc, Room { calls: 0, door }, 4) {
-        Ok(opened) => opened,
-        Err(_) => panic!(rt; "no memory for a lock"),
     }
 }
 
 // A room for one round of four threads: how many calls were made. If all, each thread was woken
 // that slept.
-fn round<R: Threads + Wait + Abort + Sync>(rt: &R, alloc: Global, parts: [Part; 4]) -> u64 {
+fn round<R: Threads + Wait + Abort + Sync>(rt: &R, alloc: Global, parts: &[Part]) -> u64 {
     let door = door_of(rt, alloc);
-    let Opened { lock, seat } = room_of(rt, alloc, &door);
-    let seat = four(rt, &lock, &door, seat, parts);
+    let room = room_of(rt, &door);
+    let OpenedWhole { lock, seat, others } = whole_of(rt, alloc, room, 5);
+    play_at_once(rt, &lock, &door, others, parts);
     lock.close(rt, seat).calls
 }
 
-const fn outside(calls: u64) -> Part {
-    Part {
-        others: 0,
-        is_outside: true,
-        calls,
-    }
-}
+const OUTSIDE: Part = Part {
+    others: 0,
+    is_outside: true,
+    calls: 1,
+};
 
 // Three threads sleep, and nobody comes after them: each that wakes has to wake the next.
 #[test]
@@ -238,8 +192,8 @@ fn three_sleepers_are_woken_one_by_another(rt: HostRuntime) {
         calls: 0,
     };
     for _ in 0..ROUNDS {
-        let parts = [inside, outside(1), outside(1), outside(1)];
-        assert_eq!(rt; round(&rt, rt.alloc(), parts), 4);
+        let parts = [inside, OUTSIDE, OUTSIDE, OUTSIDE];
+        assert_eq!(rt; round(&rt, rt.alloc(), &parts), 4);
     }
 }
 
@@ -256,7 +210,7 @@ fn a_sleeper_is_woken_while_three_contend(rt: HostRuntime) {
         ..inside
     };
     for _ in 0..ROUNDS {
-        let parts = [inside, outside(1), contends, contends];
-        assert_eq!(rt; round(&rt, rt.alloc(), parts), 3 * CALLS + 2);
+        let parts = [inside, OUTSIDE, contends, contends];
+        assert_eq!(rt; round(&rt, rt.alloc(), &parts), 3 * CALLS + 2);
     }
 }

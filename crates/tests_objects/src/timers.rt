@@ -9,8 +9,8 @@ use std::alloc::Global;
 use std::process::Abort;
 use sync_base::{Fault, Pid};
 
-/// Timers of which none is set.
-pub fn timers_of(rt: &impl Abort, alloc: Global, procs: u64) -> TimerObject
+// Timers of which none is set.
+fn timers_of(rt: &impl Abort, alloc: Global, procs: u64) -> TimerObject
     requires { IsProcCount procs }
 {
     let made = match TimerObject::new(alloc, procs) {

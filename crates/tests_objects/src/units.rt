@@ -15,8 +15,8 @@ use std::alloc::Global;
 use std::process::Abort;
 use sync_base::Fault;
 
-/// A semaphore of this value, whose seats' grants are counted from here.
-pub fn sema_of(rt: &impl Abort, alloc: Global, value: u32, procs: u64, count: u64) -> SemaObject
+// A semaphore of this value, whose seats' grants are counted from here.
+fn sema_of(rt: &impl Abort, alloc: Global, value: u32, procs: u64, count: u64) -> SemaObject
     requires value { value ≤ MAX_VALUE }
     requires procs { IsProcCount procs }
     requires count { count ≤ LAST_GRANT }

@@ -1,5 +1,5 @@
-//! Sleeps and wakeups by steps on shared words, on one thread and on two, and what the receipt of
-//! a wakeup proves of a sleeper.
+//! Sleeps and wakeups by steps on shared words, and what the receipt of a wakeup proves of a
+//! sleeper.
 ghost use Rattle.std.specs.Prelude.{◌≡◌};
 ghost use Rattle.sleep_core.specs.Limits.{IsWorldSize};
 ghost use Rattle.rendez_words.specs.Words.{IsProcessOf, ArePidsOf, HasReceipt};
@@ -11,7 +11,6 @@ use rendez_words::{
 use std::alloc::Global;
 use std::process::Abort;
 use std::sync::Wait;
-use std::thread::{Threads, join};
 use sync_base::limits::TOP_LEVEL;
 use sync_base::{Fault, NoteSet, Pid, RendezId};
 
@@ -327,71 +326,4 @@ fn a_third_process_may_have_taken_the_sleeper(rt: HostRuntime) {
     let (asleep, _) = check(&rt, &words, asleep, low, true);
     words.mark(holding);
     let _ = woken(&rt, &words, asleep);
-}
-
-// ---- on two threads
-
-const ROUNDS: u64 = 1_000;
-
-// A whole sleep above this level.
-fn sleeps<R: Wait + Abort>(
-    rt: &R,
-    words: &Words,
-    seat: Seat,
-    rendez: RendezId,
-    threshold: u64,
-) -> Seat
-    requires { IsProcessOf words.now seat }
-    ensures { IsProcessOf words.now result }
-{
-    match words.post(seat, rendez, threshold) {
-        Ok(posted) => end_posted(rt, words, posted).seat,
-        Err(_) => panic!(rt; "somebody is posted"),
-    }
-}
-
-// Wakes the other and is woken, again and again. Says how often.
-fn rounds<R: Wait + Abort>(
-    rt: &R,
-    words: &Words,
-    mut seat: Seat,
-    mine: RendezId,
-    other: RendezId,
-) -> u64
-    requires { IsProcessOf words.now seat }
-{
-    let mut count = 0;
-    for round in 0..ROUNDS {
-        let raised = woke(rt, words, seat, other, round + 1).seat;
-        seat = sleeps(rt, words, raised, mine, round);
-        count = round + 1;
-    }
-    count
-}
-
-fn both<R: Threads + Wait + Abort + Sync>(
-    rt: &R,
-    words: &Words,
-    first: Seat,
-    second: Seat,
-) -> (u64, u64)
-    requires first { IsProcessOf words.now first }
-    requires second { IsProcessOf words.now second }
-{
-    join(
-        rt,
-        || rounds(rt, words, first, FIRST, SECOND),
-        || rounds(rt, words, second, SECOND, FIRST),
-    )
-}
-
-#[test]
-fn two_processes_wake_each_other(rt: HostRuntime) {
-    let Opened {
-        words,
-        seat,
-        mut pids,
-    } = words_of(&rt, rt.alloc(), 2, 2);
-    let other = next(&rt, &words, &mut pids);
-    assert!(rt; both(&rt, &words, seat, other) == (ROUNDS, ROUNDS));
 }
