@@ -26,6 +26,7 @@ use Rattle.p9lab.specs.contracts.actor.Actor as Actor
 use Rattle.p9lab.specs.contracts.actor.Back as Back
 use Rattle.p9lab.specs.contracts.actor.Beside as Beside
 use Rattle.p9lab.specs.contracts.actor.Role as Role
+use Rattle.p9lab.proofs.roles.peer.Peer.TheSendSync as peer
 use Rattle.p9lab.proofs.roles.queue.Keeper.TheSendSync as keeper
 use Rattle.p9lab.proofs.roles.queue.Putter.TheSendSync as putter
 use Rattle.p9lab.proofs.roles.queue.Taker.TheSendSync as taker
@@ -106,6 +107,7 @@ ruleset beside_parts = (
   putter.the_field_send,
   taker.the_field_send,
   keeper.the_field_send,
+  peer.the_send,
 )
 
 beside_field : IsSend Beside.the_field.row

@@ -4,6 +4,7 @@ use crate::desk::{Desk, Stops, Visit, Visitor};
 use crate::roles::guest::{call_guest, call_guest_probed};
 use crate::roles::holder::{call_holder, call_holder_probed};
 use crate::roles::lone::{Lone, call_lone};
+use crate::roles::peer::{Peer, call_peer};
 use crate::roles::plain::{call_plain, call_proc_probed};
 use crate::roles::queue::{Keeper, Putter, Taker, call_keeper, call_putter, call_taker};
 use crate::roles::reader::call_reader;
@@ -25,11 +26,12 @@ pub enum Role {
     Beside(Beside),
 }
 
-/// Who has an end in turn with others, or a seat below processes.
+/// Who has an end in turn with others, a member in its own hands, or a seat below processes.
 #[derive(Drop)]
 pub enum Beside {
     Sharer(Sharer<'static, 'static, 'static>),
     Lone(Lone),
+    Peer(Option<Peer>),
     Putter(Putter),
     Taker(Taker),
     Keeper(Option<Keeper>),
@@ -98,6 +100,7 @@ fn call_beside<R: Wait>(
     match beside {
         Beside::Sharer(sharer) => call_sharer(rt, sharer, bytes, call),
         Beside::Lone(lone) => call_lone(rt, alloc, lone, bytes, call),
+        Beside::Peer(kept) => call_peer(rt, kept, call, &mut NoProbe),
         Beside::Putter(putter) => call_putter(rt, alloc, putter, bytes, call, &mut NoProbe),
         Beside::Taker(taker) => call_taker(taker, bytes, call, &mut NoProbe),
         Beside::Keeper(kept) => call_keeper(rt, alloc, kept, bytes, call),
@@ -147,6 +150,7 @@ fn probe_beside<R: Wait>(
     match beside {
         Beside::Putter(putter) => call_putter(rt, alloc, putter, bytes, call, probe),
         Beside::Taker(taker) => call_taker(taker, bytes, call, probe),
+        Beside::Peer(kept) => call_peer(rt, kept, call, probe),
         _ => Answer::of("not probed"),
     }
 }

@@ -5,13 +5,16 @@ use crate::desk::Desk;
 use crate::lines::{WORDS, Words, number_of};
 use crate::objects::{Direction, Stock};
 use crate::roles::lone::lone_at;
+use crate::roles::peer::{Peer, first_of, fork_peer};
 use crate::roles::queue::{keeper_at, putter_at, taker_at};
 use crate::roles::sharer::first_sharer;
-use crate::scene::{Begun, Place, Scene, Stay, begin, keep, push};
+use crate::scene::{Begun, Place, Scene, Stay, begin, keep, push, set};
 use plan9::{
-    Fault, Flags, Guest, Holder, Kernel, NoteSet, Pid, Proc, Reader, Roster, Sharer, Writer,
+    Fault, Flags, Guest, Holder, Kernel, NoteSet, OpenedSpace, Pid, Proc, Reader, Roster, Sharer,
+    TagSpace, Unforked, WriteEnd, Writer, fork_writers,
 };
 use std::alloc::Global;
+use std::mem;
 use std::sync::Wait;
 
 /// A role, as a line names it.
@@ -20,10 +23,13 @@ pub enum Part {
     Plain,
     Reader,
     Writer,
+    /// Each writer of a direction.
+    Writers,
     Holder,
     Guest,
     Sharer,
     Lone,
+    Peer,
     Putter,
     Taker,
     Keeper,
@@ -72,10 +78,12 @@ fn part_of(word: &str) -> Option<Part> {
         "plain" => Some(Part::Plain),
         "reader" => Some(Part::Reader),
         "writer" => Some(Part::Writer),
+        "writers" => Some(Part::Writers),
         "holder" => Some(Part::Holder),
         "guest" => Some(Part::Guest),
         "sharer" => Some(Part::Sharer),
         "lone" => Some(Part::Lone),
+        "peer" => Some(Part::Peer),
         "putter" => Some(Part::Putter),
         "taker" => Some(Part::Taker),
         "keeper" => Some(Part::Keeper),
@@ -95,11 +103,83 @@ pub fn fork<R: Wait>(
     if casting.part == Part::Sharer && has_sharer(scene, casting.object) {
         return fork_sharer(rt, alloc, scene, casting.object);
     }
+    if casting.part == Part::Writers {
+        return fork_each_writer(alloc, scene, number, casting);
+    }
+    if casting.part == Part::Peer {
+        return fork_first_peer(alloc, scene, number, flags, casting.object);
+    }
     match child_of(scene, number, flags) {
         Ok(Some(proc)) => place(rt, alloc, scene, proc, casting),
         Ok(None) => Answer::of("nobody"),
         Err(fault) => refused(fault),
     }
+}
+
+// A child for each write end of a direction that nobody has, the first one's writer first. Where it
+// is refused no pid is used up.
+fn fork_each_writer(alloc: Global, scene: &mut Scene, number: u64, casting: Casting) -> Answer {
+    let Scene {
+        roster,
+        zero,
+        places,
+        stock,
+        ..
+    } = scene;
+    let (Some(parent), Some(direction)) = (
+        proc_in(zero, places, number),
+        direction_in(stock, casting),
+    ) else {
+        return refused(Fault::NoProc);
+    };
+    match writers_of(alloc, roster, parent, &mut direction.writes) {
+        Ok(writers) => seat_each(alloc, scene, writers, casting.object),
+        Err(fault) => refused(fault),
+    }
+}
+
+// Where that is refused the ends are there again.
+fn writers_of(
+    alloc: Global,
+    roster: &mut Roster<'static>,
+    parent: &mut Proc<'static>,
+    ends: &mut Vec<WriteEnd<'static>>,
+) -> Result<Vec<Writer<'static, 'static>>, Fault> {
+    let mut taken = mem::replace(ends, Vec::new(alloc));
+    taken.reverse();
+    match fork_writers(alloc, roster, parent, taken) {
+        Ok(writers) => Ok(writers),
+        Err(
+            Unforked {
+                ends: mut back,
+                fault,
+            },
+        ) => {
+            back.reverse();
+            set(ends, back);
+            Err(fault)
+        }
+    }
+}
+
+fn seat_each(
+    alloc: Global,
+    scene: &mut Scene,
+    writers: Vec<Writer<'static, 'static>>,
+    object: u64,
+) -> Answer {
+    let mut last = Answer::of("nobody");
+    for writer in writers {
+        let pid = writer.proc.pid();
+        last = seat_role(alloc, scene, pid, Role::Writer(writer), object);
+    }
+    last
+}
+
+fn seat_role(alloc: Global, scene: &mut Scene, pid: Pid, role: Role, object: u64) -> Answer {
+    let kernel = scene.kernel;
+    let stay = Stay::Here(actor_of(alloc, role, object));
+    seat(alloc, scene, pid.0, kernel, pid.0, None, stay)
 }
 
 fn child_of(scene: &mut Scene, number: u64, flags: Flags) -> Result<Option<Proc<'static>>, Fault> {
@@ -177,10 +257,8 @@ pub fn fork_beside<R: Wait>(rt: &R, alloc: Global, scene: &mut Scene, number: u6
     };
     match holder.fork(rt, roster) {
         Ok(child) => {
-            let pid = child.pid().0;
-            let kernel = scene.kernel;
-            let stay = Stay::Here(actor_of(alloc, Role::Holder(child), object));
-            seat(alloc, scene, pid, kernel, pid, None, stay)
+            let pid = child.pid();
+            seat_role(alloc, scene, pid, Role::Holder(child), object)
         }
         Err(why) => refused(why.fault),
     }
@@ -253,7 +331,7 @@ fn open_stranger(alloc: Global, procs: u64, rendez: u64) -> Result<Stranger, Fau
         kernel,
         mut roster,
         zero,
-    } = begin(alloc, procs, rendez)?;
+    } = begin(alloc, Kernel::new(alloc, procs, rendez))?;
     let mut proc = zero;
     let sender = match roster.rfork(&mut proc, Flags::RFPROC) {
         Ok(sender) => sender,
@@ -394,12 +472,11 @@ fn has_sharer(scene: &mut Scene, object: u64) -> bool {
 
 // One more that shares the end, a child of one that does.
 fn fork_sharer<R: Wait>(rt: &R, alloc: Global, scene: &mut Scene, object: u64) -> Answer {
-    let kernel = scene.kernel;
     match sharer_beside(rt, &mut scene.places, &mut scene.roster, object) {
         Ok(sharer) => {
-            let pid = sharer.pid().0;
-            let stay = Stay::Here(actor_of(alloc, Role::Beside(Beside::Sharer(sharer)), object));
-            seat(alloc, scene, pid, kernel, pid, None, stay)
+            let pid = sharer.pid();
+            let role = Role::Beside(Beside::Sharer(sharer));
+            seat_role(alloc, scene, pid, role, object)
         }
         Err(fault) => refused(fault),
     }
@@ -433,6 +510,65 @@ fn sharer_in(
         }
     }
     None
+}
+
+// ---- who is a member of a tag space in its own hands
+
+// The first peer, of a new space of so many members. Where that is refused no pid is used up.
+fn fork_first_peer(
+    alloc: Global,
+    scene: &mut Scene,
+    number: u64,
+    flags: Flags,
+    members: u64,
+) -> Answer {
+    match first_peer(alloc, scene, number, flags, members) {
+        Ok(peer) => seat_peer(alloc, scene, peer),
+        Err(fault) => refused(fault),
+    }
+}
+
+fn first_peer(
+    alloc: Global,
+    scene: &mut Scene,
+    number: u64,
+    flags: Flags,
+    members: u64,
+) -> Result<Peer, Fault> {
+    let OpenedSpace { space, member } = TagSpace::new(alloc, &mut scene.roster, members)?;
+    match child_of(scene, number, flags)? {
+        Some(proc) => first_of(alloc, space, members, member, proc),
+        None => Err(Fault::BadFlags),
+    }
+}
+
+fn seat_peer(alloc: Global, scene: &mut Scene, peer: Peer) -> Answer {
+    let pid = peer.pid();
+    let role = Role::Beside(Beside::Peer(Some(peer)));
+    seat_role(alloc, scene, pid, role, 0)
+}
+
+/// The rfork of a peer, whose child is one as well; none where the process at this place is no
+/// peer that is here.
+pub fn rfork_peer<R: Wait>(
+    rt: &R,
+    alloc: Global,
+    scene: &mut Scene,
+    at: usize,
+    flags: Flags,
+) -> Option<Answer> {
+    let Scene { places, roster, .. } = scene;
+    let Role::Beside(beside) = &mut actor_at(places, at)?.role else {
+        return None;
+    };
+    let Beside::Peer(kept) = beside else {
+        return None;
+    };
+    match fork_peer(rt, alloc, roster, kept, flags) {
+        Ok(Some(child)) => Some(seat_peer(alloc, scene, child)),
+        Ok(None) => Some(Answer::of("nobody")),
+        Err(fault) => Some(refused(fault)),
+    }
 }
 
 // A seat of a queue, at which no process calls.

@@ -1,12 +1,15 @@
 //! A text of scenes, played line by line. An empty line stands between two scenes.
+ghost use Rattle.std.specs.Prelude.{IfOk, IfSome};
+ghost use Rattle.sleep_wakeup.specs.Starts.{IsStartOf};
+
 use crate::acts::{Acts, Said, step_with_acts};
 use crate::answer::{Answer, fault_text, refused};
 use crate::calling::call_off;
-use crate::lines::{Line, Words, line_of, number_of, words_of};
+use crate::lines::{Line, WORDS, Words, line_of, number_of, words_of};
 use crate::page::Page;
-use crate::scene::{Scene, Stay, open, set};
+use crate::scene::{Scene, Stay, begin, open, set};
 use crate::steps::leave;
-use plan9::Fault;
+use plan9::{Fault, Kernel, OpenedKernel, Plan};
 use std::alloc::Global;
 use std::io::Write;
 use std::sync::Wait;
@@ -68,7 +71,7 @@ fn play_line<R: Threads + Wait + Copy + Send + 'static>(
         return false;
     }
     if let Some(wanted) = wanted {
-        page.compare(from, wanted, at as u64 + 1);
+        page.compare(from, wanted, (at as u64).saturating_add(1));
     }
     true
 }
@@ -121,7 +124,8 @@ fn lacks_memory(answer: Answer) -> bool {
     answer.word == fault_text(Fault::Memory)
 }
 
-// The first line of a scene: `kernel PROCS RENDEZ`.
+// The first line of a scene: `kernel PROCS RENDEZ`, or `plan` and what it counts. Where it finds no
+// memory it is played once more.
 fn begin_scene(
     alloc: Global,
     turns: u64,
@@ -129,27 +133,68 @@ fn begin_scene(
     words: &Words<'_>,
     page: &mut Page,
 ) -> bool {
-    if words.list[0] != "kernel" || words.count != 3 || words.apart {
-        return false;
-    }
-    let (Some(procs), Some(rendez)) = (number_of(words.list[1]), number_of(words.list[2])) else {
-        return false;
+    let opened = match open_scene(alloc, turns, words) {
+        Some(Err(Fault::Memory)) => open_scene(alloc, turns, words),
+        opened => opened,
     };
-    match open_again(alloc, turns, procs, rendez) {
-        Ok(opened) => {
+    match opened {
+        Some(Ok(opened)) => {
             set(scene, Some(opened));
             page.end_line();
         }
-        Err(fault) => page.put_answer(refused(fault), &[], &[]),
+        Some(Err(fault)) => page.put_answer(refused(fault), &[], &[]),
+        None => return false,
     }
     page.count_scene();
     true
 }
 
-fn open_again(alloc: Global, turns: u64, procs: u64, rendez: u64) -> Result<Scene, Fault> {
-    match open(alloc, turns, procs, rendez) {
-        Err(Fault::Memory) => open(alloc, turns, procs, rendez),
-        opened => opened,
+fn open_scene(alloc: Global, turns: u64, words: &Words<'_>) -> Option<Result<Scene, Fault>> {
+    Some(open(alloc, turns, begin(alloc, kernel_in(alloc, words)?)))
+}
+
+fn kernel_in(alloc: Global, words: &Words<'_>) -> Option<Result<OpenedKernel, Fault>>
+    ensures { IfSome result (λ made. IfOk made (λ opened. IsStartOf opened.kernel opened.start)) }
+{
+    if words.apart {
+        return None;
+    }
+    if words.list[0] == "plan" {
+        return Some(plan_in(words)?.build(alloc));
+    }
+    if words.list[0] != "kernel" || words.count != 3 {
+        return None;
+    }
+    let procs = number_of(words.list[1])?;
+    let rendez = number_of(words.list[2])?;
+    Some(Kernel::new(alloc, procs, rendez))
+}
+
+// What a plan counts: each kind of object with its number behind it.
+fn plan_in(words: &Words<'_>) -> Option<Plan> {
+    if words.count % 2 == 0 {
+        return None;
+    }
+    let mut plan = Plan::new();
+    for pair in 0..WORDS / 2 {
+        if 2 * pair + 1 >= words.count || 2 * pair + 2 >= WORDS {
+            break;
+        }
+        let count = number_of(words.list[2 * pair + 2])?;
+        plan = planned(plan, words.list[2 * pair + 1], count)?;
+    }
+    Some(plan)
+}
+
+fn planned(plan: Plan, kind: &str, count: u64) -> Option<Plan> {
+    match kind {
+        "processes" => Some(plan.processes(count)),
+        "rendez" => Some(plan.rendez(count)),
+        "pipe" => Some(plan.pipe(count)),
+        "space" => Some(plan.space(count)),
+        "sema" => Some(plan.semaphore(count)),
+        "clock" => Some(plan.timers(count)),
+        _ => None,
     }
 }
 

@@ -4,6 +4,7 @@
 pub mod guest;
 pub mod holder;
 pub mod lone;
+pub mod peer;
 pub mod plain;
 pub mod queue;
 pub mod reader;

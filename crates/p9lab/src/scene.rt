@@ -2,6 +2,7 @@
 //! All that a call may borrow is kept for as long as the program runs. So a call that never comes
 //! back keeps what it has, and stops neither the scene nor the program.
 ghost use Rattle.std.specs.Prelude.{◌≡◌, IfOk};
+ghost use Rattle.sleep_wakeup.specs.Starts.{IsStartOf};
 
 use crate::actor::{Actor, Back};
 use crate::desk::Desk;
@@ -74,8 +75,10 @@ pub struct Begun {
     pub zero: Proc<'static>,
 }
 
-pub fn begin(alloc: Global, procs: u64, rendez: u64) -> Result<Begun, Fault> {
-    let OpenedKernel { kernel, start } = Kernel::new(alloc, procs, rendez)?;
+pub fn begin(alloc: Global, made: Result<OpenedKernel, Fault>) -> Result<Begun, Fault>
+    requires { IfOk made (λ opened. IsStartOf opened.kernel opened.start) }
+{
+    let OpenedKernel { kernel, start } = made?;
     let kernel = keep(alloc, kernel)?;
     let kernel = &*kernel;
     let Started { roster, proc } = kernel.start(start);
@@ -86,13 +89,13 @@ pub fn begin(alloc: Global, procs: u64, rendez: u64) -> Result<Begun, Fault> {
     })
 }
 
-/// A scene with a kernel of this size, and nobody but process 0.
-pub fn open(alloc: Global, turns: u64, procs: u64, rendez: u64) -> Result<Scene, Fault> {
+/// A scene with this kernel, and nobody but process 0.
+pub fn open(alloc: Global, turns: u64, begun: Result<Begun, Fault>) -> Result<Scene, Fault> {
     let Begun {
         kernel,
         roster,
         zero,
-    } = begin(alloc, procs, rendez)?;
+    } = begun?;
     let statuses = room_for(alloc, kernel.proc_count())?;
     Ok(Scene {
         turns,

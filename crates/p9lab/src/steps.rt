@@ -3,7 +3,8 @@ use crate::actor::Actor;
 use crate::answer::{Answer, numbered, refused};
 use crate::calling::{Until, call_off, comes, ending, start, waiting};
 use crate::casting::{
-    Casting, Part, can_fork, casting_of, fork, fork_beside, note_group, object_of, seat_stranger,
+    Casting, Part, can_fork, casting_of, fork, fork_beside, note_group, object_of, rfork_peer,
+    seat_stranger,
 };
 use crate::desk::Stops;
 use crate::lines::{WORDS, Words, number_of};
@@ -259,6 +260,11 @@ fn rfork_as<R: Wait>(
 ) -> Option<Answer> {
     let flags = flags_of(words.list[2])?;
     let casting = if words.count == 3 && !words.apart {
+        if let Some(at) = scene.place_of(number) {
+            if let Some(answer) = rfork_peer(rt, alloc, scene, at, flags) {
+                return Some(answer);
+            }
+        }
         Casting {
             part: Part::Plain,
             object: 1,

@@ -1,12 +1,12 @@
-//! Eight processes that acquire and release units, with notes, time-outs and ticks between; and the
-//! example of semacquire(2).
+//! Eight processes that acquire and release units, with notes, time-outs and ticks between; a pool
+//! whose list of holders is refused memory; and the example of semacquire(2).
 ghost use Rattle.sleep_wakeup.specs.Starts.{IsStartOf};
 ghost use Rattle.semaphore.specs.Seats.{HasRow, IsSemaSeatOf, IsTimerSeatOf};
 
-use crate::kernels::{forked, kernel_of};
+use crate::kernels::{forked, kernel_of, push};
 use plan9::{
     Clock, Fault, Holder, Kernel, Note, NoteSet, OpenedKernel, OpenedSema, OpenedTimers, Pid, Pool,
-    Proc, Sema, Semacquired, Start, Started, Timers, Watch,
+    Proc, Refused, Roster, Sema, Semacquired, Start, Started, Timers, Watch,
 };
 use std::alloc::Global;
 use std::process::Abort;
@@ -136,9 +136,7 @@ fn jobs_of<'s, 't, 'k, R: Wait + Abort>(
             watch,
             number,
         };
-        if jobs.push(job).is_err() {
-            panic!(rt; "no memory for a job");
-        }
+        push(rt, &mut jobs, job);
         number = number.saturating_add(1);
     }
     jobs
@@ -216,11 +214,71 @@ fn hold<'k, R: Threads + Wait + Abort + Sync>(
 fn no_unit_is_lost_and_none_is_given_twice(rt: HostRuntime) {
     let OpenedKernel { kernel, start } = kernel_of(&rt, rt.alloc(), HOLDERS + 2, HOLDERS + 1);
     let mut started = kernel.start(start);
-    let pool = Pool::new(rt.alloc(), &mut started.roster, OPENING, HOLDERS + 1);
-    match (pool, Clock::new(rt.alloc(), HOLDERS + 1)) {
-        (Ok(mut pool), Ok(mut clock)) => hold(&rt, rt.alloc(), &mut pool, &mut clock, started),
-        _ => panic!(rt; "no pool"),
+    let mut pool = pool_of(&rt, rt.alloc(), &mut started.roster, OPENING, HOLDERS + 1);
+    match Clock::new(rt.alloc(), HOLDERS + 1) {
+        Ok(mut clock) => hold(&rt, rt.alloc(), &mut pool, &mut clock, started),
+        Err(_) => panic!(rt; "no clock"),
     }
+}
+
+// A pool of so many units for so many. Where memory is refused it is asked for once more.
+fn pool_of(
+    rt: &impl Abort,
+    alloc: Global,
+    roster: &mut Roster<'_>,
+    units: u32,
+    procs: u64,
+) -> Pool {
+    let made = match Pool::new(alloc, roster, units, procs) {
+        Err(Fault::Memory) => Pool::new(alloc, roster, units, procs),
+        made => made,
+    };
+    match made {
+        Ok(pool) => pool,
+        Err(_) => panic!(rt; "no pool"),
+    }
+}
+
+// Each takes the unit, which nobody else has then, and hands it back.
+fn hold_in_turn<R: Wait + Abort>(rt: &R, holders: Vec<Holder<'_, '_>>) {
+    assert_eq!(rt; holders.len(), 2);
+    for mut holder in holders {
+        assert_eq!(rt; holder.acquire(rt), Ok(()));
+        assert!(rt; !holder.try_acquire(rt));
+        assert_eq!(rt; holder.release(rt, 1), Ok(1));
+    }
+}
+
+// Lets two hold in turn. Where there is no memory for their list, the process comes back.
+fn hold_two<'k, R: Wait + Abort>(
+    rt: &R,
+    alloc: Global,
+    pool: &mut Pool,
+    roster: &mut Roster<'k>,
+    proc: Proc<'k>,
+) -> Option<Proc<'k>> {
+    match pool.holders(alloc, rt, roster, proc, 2) {
+        Ok(holders) => {
+            hold_in_turn(rt, holders);
+            None
+        }
+        Err(Refused { proc, fault }) => {
+            assert_eq!(rt; fault, Fault::Memory);
+            Some(proc)
+        }
+    }
+}
+
+// No pid, no Rendez and no seat is used up where memory is refused.
+#[test]
+fn a_pool_that_is_refused_memory_has_all_its_seats(rt: HostRuntime) {
+    let OpenedKernel { kernel, start } = kernel_of(&rt, rt.alloc(), 2, 3);
+    let Started { mut roster, proc } = kernel.start(start);
+    let mut pool = pool_of(&rt, rt.alloc(), &mut roster, 1, 2);
+    if let Some(proc) = hold_two(&rt, rt.alloc(), &mut pool, &mut roster, proc) {
+        assert!(rt; hold_two(&rt, rt.alloc(), &mut pool, &mut roster, proc).is_none());
+    }
+    assert_eq!(rt; roster.left(), (0, 1));
 }
 
 /// A process, a semaphore of one unit, and timers.

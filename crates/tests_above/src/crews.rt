@@ -1,11 +1,10 @@
 //! Writers and a reader on threads: what each gate makes of a run. Every run ends by itself.
-use crew::{Gate, OpenGate, Report, ThreadsOpts, run_threads};
+use crew::{Gate, Report, ThreadsOpts, run_threads};
 use std::alloc::Global;
 use std::sync::Wait;
 use std::sync::atomic::AtomicU64;
 use std::sync::atomic::Ordering::SeqCst;
 use std::thread::{Threads, yield_now};
-use sync_base::Fault;
 
 /// For how many turns a writer is held at a gate. At each it lets others run.
 const TURNS: u64 = 10_000_000;
@@ -82,27 +81,6 @@ fn reads<G: Gate + Sync, R: Threads + Wait + Sync>(
 }
 
 #[test]
-fn all_that_is_written_is_read_in_order(rt: HostRuntime) {
-    for (writers, writes, size) in [
-        (1, 1, 16),
-        (1, 500, 16),
-        (1, 1_001, 16),
-        (2, 250, 17),
-        (4, 250, 16),
-        (4, 50, 8_192),
-        (16, 25, 271),
-        (63, 8, 16),
-        (64, 8, 16),
-    ] {
-        let all = writers * writes;
-        assert!(rt;
-            reads(&rt, rt.alloc(), opts(writers, writes, size), &OpenGate, all),
-            "{writers} writers of {writes} writes of {size} bytes"
-        );
-    }
-}
-
-#[test]
 fn writers_run_at_once(rt: HostRuntime) {
     for wanted in [2, 4] {
         let gate = Meeting {
@@ -130,20 +108,4 @@ fn a_writer_that_may_not_pass_writes_no_more(rt: HostRuntime) {
         calls: AtomicU64::new(0),
     };
     assert!(rt; reads(&rt, rt.alloc(), opts(3, 5, 16), &wall, 0));
-}
-
-#[test]
-fn what_is_outside_the_limits_is_refused(rt: HostRuntime) {
-    for (writers, writes, size) in [
-        (0, 1, 16),
-        (65, 1, 16),
-        (1, 0, 16),
-        (1, 100_001, 16),
-        (1, 1, 15),
-        (1, 1, 8_193),
-        (u64::MAX, u64::MAX, u64::MAX),
-    ] {
-        let report = run_threads(rt.alloc(), &rt, opts(writers, writes, size), &OpenGate);
-        assert_eq!(rt; report, Err(Fault::BadArg), "{writers} {writes} {size}");
-    }
 }

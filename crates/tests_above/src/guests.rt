@@ -1,6 +1,6 @@
 //! Eight processes that meet at random tags, while a ninth posts notes at random. Each exchange is
 //! told by both sides, each once, with the other's value.
-use crate::kernels::{forked, kernel_of};
+use crate::kernels::{forked, kernel_of, push};
 use plan9::{Fault, Guest, Hall, Note, NoteSet, OpenedKernel, Pid, Proc, Started, Tag};
 use std::alloc::Global;
 use std::process::Abort;
@@ -146,17 +146,16 @@ fn jobs_of<'s, 'k, R: Wait + Abort>(
     let mut jobs = Vec::new(alloc);
     for number in 1..CALLERS {
         let guest = joined(rt, &mut first, forked(rt, started));
-        if jobs.push(Job { guest, number }).is_err() {
-            panic!(rt; "no memory for a job");
-        }
+        push(rt, &mut jobs, Job { guest, number });
     }
-    let job = Job {
-        guest: first,
-        number: 0,
-    };
-    if jobs.push(job).is_err() {
-        panic!(rt; "no memory for a job");
-    }
+    push(
+        rt,
+        &mut jobs,
+        Job {
+            guest: first,
+            number: 0,
+        },
+    );
     jobs
 }
 

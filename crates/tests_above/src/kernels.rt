@@ -1,5 +1,5 @@
-//! Kernels and processes. A kernel that is refused memory is asked for once more; where there is
-//! none then, the test ends.
+//! Kernels, processes and crowds of them. A kernel that is refused memory is asked for once more;
+//! where there is none then, the test ends.
 ghost use Rattle.sleep_wakeup.specs.Starts.{IsStartOf};
 
 use plan9::{Fault, Flags, Kernel, OpenedKernel, Proc, Started};
@@ -27,5 +27,12 @@ pub fn forked<'k>(rt: &impl Abort, started: &mut Started<'k>) -> Proc<'k> {
     match started.roster.rfork(&mut started.proc, Flags::RFPROC) {
         Ok(Some(child)) => child,
         _ => panic!(rt; "no pid is left"),
+    }
+}
+
+/// One more of a crowd.
+pub fn push<T: Drop>(rt: &impl Abort, jobs: &mut Vec<T>, job: T) {
+    if jobs.push(job).is_err() {
+        panic!(rt; "no memory for a job");
     }
 }

@@ -1,20 +1,15 @@
 //! Tests of the library by its public calls, above all of its crates, so that none of them is
 //! proved once more for its tests.
 //! Read `kernels`, which opens them for all others; `sleepers`, who sleep and are woken, and
-//! `looks` at them; `queues`, `pipes`, `echoes` and `streams`, at queues and pipes; `partners`, two
-//! who meet, `guests`, who meet in a crowd, and `forks` of such; `acquirers` of units, and
-//! `tickers`; `crews`, writers and a reader; `refusals` of memory; and `pages`, the examples of the
-//! manual.
+//! `looks` at them; `queues`, `pipes` and `streams`, at queues and pipes; `partners`, two
+//! who meet, and `guests`, who meet in a crowd; `acquirers` of units, and `tickers`; `crews`,
+//! writers and a reader; and `pages`, the examples of the manual.
 #![tactic(auto)]
 
 #[cfg(test)]
 mod acquirers;
 #[cfg(test)]
 mod crews;
-#[cfg(test)]
-mod echoes;
-#[cfg(test)]
-mod forks;
 #[cfg(test)]
 mod guests;
 #[cfg(test)]
@@ -29,8 +24,6 @@ mod partners;
 mod pipes;
 #[cfg(test)]
 mod queues;
-#[cfg(test)]
-mod refusals;
 #[cfg(test)]
 mod sleepers;
 #[cfg(test)]

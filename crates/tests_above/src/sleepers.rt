@@ -1,6 +1,6 @@
 //! Eight sleepers on a Rendez each, three wakers, and notes between; and two processes that wake
 //! each other.
-use crate::kernels::{forked, kernel_of};
+use crate::kernels::{forked, kernel_of, push};
 use plan9::{Fault, Note, NoteSet, OpenedKernel, Pid, Proc, RendezId, Started};
 use std::alloc::Global;
 use std::process::Abort;
@@ -92,9 +92,7 @@ fn jobs_of<'k, R: Abort>(rt: &R, alloc: Global, started: &mut Started<'k>) -> Ve
     let mut jobs = Vec::new(alloc);
     for number in 0..SLEEPERS + WAKERS {
         let proc = forked(rt, started);
-        if jobs.push(Job { proc, number }).is_err() {
-            panic!(rt; "no memory for a job");
-        }
+        push(rt, &mut jobs, Job { proc, number });
     }
     jobs
 }

@@ -1,12 +1,10 @@
-//! The example of the manual page of pipes, line for line, what a write without memory leaves, what
-//! std's calls make of a reader and a writer, and two that read from one end on threads of their
-//! own.
+//! The example of the manual page of pipes, line for line, what std's calls make of a reader and a
+//! writer, and two that read from one end on threads of their own.
 use crate::kernels::{forked, kernel_of};
 use crate::pipes::pipe_of;
 use plan9::{
-    Ends, Fault, Note, NoteSet, OpenedKernel, OpenedPipe, Parts, Probe, Proc, ReadAnswer, ReadEnd,
-    ReadStream, Reader, RendezId, Roster, Shared, Sharer, Started, TryAnswer, Unshared,
-    WriteStream, Writer,
+    Ends, Fault, Note, NoteSet, OpenedKernel, OpenedPipe, Parts, ReadAnswer, ReadEnd, ReadStream,
+    Reader, Roster, Shared, Sharer, Started, WriteStream, Writer,
 };
 use std::alloc::Global;
 use std::io::{ErrorKind, Read, Write};
@@ -116,69 +114,6 @@ fn pipe_page(rt: HostRuntime) {
     );
 }
 
-// Whether a sleep tested the level of its Rendez and fell asleep.
-#[derive(Drop)]
-struct Looks {
-    asleep: bool,
-}
-
-impl Probe for Looks {
-    fn at(&mut self, point: u64) {
-        self.asleep = self.asleep || point == 3;
-    }
-}
-
-// How many of the pipe's four Rendez a wakeup came to. A note ends each sleep that asks.
-fn woken<R: Wait>(rt: &R, asker: &mut Proc<'_>) -> u64 {
-    let mut woken = 0_u64;
-    for rendez in 0..4 {
-        let mut looks = Looks { asleep: false };
-        asker.put_back(NoteSet::of(Note::Alarm));
-        let _ = asker.sleep_probed(rt, RendezId(rendez), 0, &mut looks);
-        if !looks.asleep {
-            woken = woken.saturating_add(1);
-        }
-    }
-    woken
-}
-
-// Writes, and where memory was refused once more.
-fn write_twice<R: Wait + Abort>(
-    rt: &R,
-    alloc: Global,
-    reader: &mut Reader<'_, '_>,
-    writer: &mut Writer<'_, '_>,
-) -> Result<u64, Fault> {
-    match writer.write(alloc, rt, b"abc") {
-        Err(fault) => {
-            assert_eq!(rt; (fault, woken(rt, &mut reader.proc)), (Fault::Memory, 0));
-            assert_eq!(rt; reader.try_read(&mut [0; 8]), Ok(TryAnswer::NotYet));
-            writer.write(alloc, rt, b"abc")
-        }
-        taken => taken,
-    }
-}
-
-// One write is taken, the reader alone is woken, and nothing else stands.
-fn read_the_one<R: Wait + Abort>(rt: &R, reader: &mut Reader<'_, '_>) {
-    assert_eq!(rt; woken(rt, &mut reader.proc), 1);
-    assert_eq!(rt; reader.try_read(&mut [0; 8]), Ok(TryAnswer::Got(3)));
-    assert_eq!(rt; reader.try_read(&mut [0; 8]), Ok(TryAnswer::NotYet));
-}
-
-#[test]
-fn a_write_without_memory_takes_nothing(rt: HostRuntime) {
-    let OpenedKernel { kernel, start } = kernel_of(&rt, rt.alloc(), 2, 4);
-    let mut started = kernel.start(start);
-    let OpenedPipe { pipe, start } = pipe_of(&rt, rt.alloc(), &mut started.roster, 1, 1);
-    let Pair { reader, mut writer } = pair_of(&rt, &mut started, pipe.ends(start));
-    let Started { roster: _, proc } = started;
-    let mut reader = Reader::new(reader, proc);
-    let number = write_twice(&rt, rt.alloc(), &mut reader, &mut writer);
-    assert_eq!(rt; number, Ok(1));
-    read_the_one(&rt, &mut reader);
-}
-
 #[test]
 fn std_reads_and_writes_a_pipe(rt: HostRuntime) {
     let alloc = rt.alloc();
@@ -259,35 +194,16 @@ fn read_while_one_writes<'p, 'k, R: Threads + Wait + Abort + Sync>(
     count
 }
 
-// Where memory was refused no Rendez is used up, and the end that comes back is shared.
 fn shared_of<'p>(
     rt: &impl Abort,
     alloc: Global,
     roster: &mut Roster<'_>,
     end: ReadEnd<'p>,
 ) -> Shared<'p> {
-    let before = roster.left();
     match Shared::new(alloc, roster, end, 2) {
         Ok(shared) => shared,
-        Err(refused) => {
-            let Unshared { end, fault } = refused;
-            assert_eq!(rt; (fault, roster.left()), (Fault::Memory, before));
-            match Shared::new(alloc, roster, end, 2) {
-                Ok(shared) => shared,
-                Err(_) => panic!(rt; "no turns"),
-            }
-        }
+        Err(_) => panic!(rt; "no turns"),
     }
-}
-
-#[test]
-fn an_end_that_is_refused_memory_is_shared_once_more(rt: HostRuntime) {
-    let OpenedKernel { kernel, start } = kernel_of(&rt, rt.alloc(), 3, 8);
-    let mut started = kernel.start(start);
-    let OpenedPipe { pipe, start } = pipe_of(&rt, rt.alloc(), &mut started.roster, 4, 1);
-    let Pair { reader, writer: _ } = pair_of(&rt, &mut started, pipe.ends(start));
-    let shared = shared_of(&rt, rt.alloc(), &mut started.roster, reader);
-    assert!(rt; shared.into_end().is_some());
 }
 
 // No write is torn and none is lost, and then the read end is one's own again.

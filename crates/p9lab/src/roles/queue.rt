@@ -100,8 +100,32 @@ fn opened(alloc: Global, kind: QueueKind) -> Result<Opened, Fault>
     ensures all { IfOk result (λ opened. AreAllSeats opened.take opened.puts.items) }
 {
     match kind.first {
-        None => Queue::new(alloc, kind.limit, kind.writers),
-        Some(first) => Queue::new_from(alloc, kind.limit, kind.writers, first),
+        None => opened_new(alloc, kind.limit, kind.writers),
+        Some(first) => opened_from(alloc, kind.limit, kind.writers, first),
+    }
+}
+
+fn opened_new(alloc: Global, limit: u64, writers: u64) -> Result<Opened, Fault>
+    ensures take { IfOk result (λ opened. IsTakeSeatOf opened.queue opened.take) }
+    ensures puts { IfOk result (λ opened.
+        AllByRecursion (IsPutSeatOf opened.queue) opened.puts.items) }
+    ensures all { IfOk result (λ opened. AreAllSeats opened.take opened.puts.items) }
+{
+    match Queue::new(alloc, limit, writers) {
+        Ok(opened) => Ok(opened),
+        Err(fault) => Err(fault),
+    }
+}
+
+fn opened_from(alloc: Global, limit: u64, writers: u64, first: u64) -> Result<Opened, Fault>
+    ensures take { IfOk result (λ opened. IsTakeSeatOf opened.queue opened.take) }
+    ensures puts { IfOk result (λ opened.
+        AllByRecursion (IsPutSeatOf opened.queue) opened.puts.items) }
+    ensures all { IfOk result (λ opened. AreAllSeats opened.take opened.puts.items) }
+{
+    match Queue::new_from(alloc, limit, writers, first) {
+        Ok(opened) => Ok(opened),
+        Err(fault) => Err(fault),
     }
 }
 
