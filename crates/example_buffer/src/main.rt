@@ -2,50 +2,138 @@
 //! by with no item. One semaphore counts the free places, and one the items.
 #![tactic(auto)]
 
-use plan9::{Beat, Fault, Flags, Kernel, Note, NoteSet, OpenedKernel, Pool, Started, Ticker};
+use plan9::{
+    Beat, Clock, Fault, Holder, Kernel, Note, NoteSet, OpenedKernel, Pool, Proc, Roster, Started,
+    Ticker, Watch, fork,
+};
 use std::alloc::Global;
 use std::sync::Wait;
 use std::sync::atomic::{AtomicU64, Ordering};
 use std::thread::{Threads, scope, scope_env};
-use std::time::Clock;
+use std::time::Clock as Now;
 
-fn run<R: Threads + Wait + Clock + Sync>(rt: &R, alloc: Global) -> Result<u64, Fault> {
-    let OpenedKernel { kernel, start } = Kernel::new(alloc, 4, 4)?;
-    let Started { roster, proc } = kernel.start(start);
-    let (mut roster, mut proc) = (roster, proc);
-    let child = roster.rfork(&mut proc, Flags::RFPROC)?;
-    let mut places = Pool::new(alloc, &mut roster, 4, 2)?;
-    let mut items = Pool::new(alloc, &mut roster, 0, 2)?;
-    let mut clock = plan9::Clock::new(alloc, 2)?;
-    let mut emptied = places.first(proc)?;
-    let mut full = items.first(child.ok_or(Fault::NoProc)?)?;
-    let (mut free, mut filled) = (emptied.fork(rt, &mut roster)?, full.fork(rt, &mut roster)?);
-    let mut timer = clock.first()?;
-    let (watch, producer) = (timer.split(rt)?, free.pid());
-    let buffer = &[0; 4].map(AtomicU64::new);
-    scope(scope_env(), rt, move |scope| {
-        let producing = scope.spawn(move || {
-            for item in 1..=10u64 {
-                free.acquire(rt)?;
-                buffer[(item % 4) as usize].store(item, Ordering::SeqCst);
-                filled.release(rt, 1)?;
-            }
-            let proc = free.into_proc();
-            Ok(Ticker { watch, proc }.run(rt, &mut Beat::new(rt)))
-        });
-        let producing = producing.ok().ok_or(Fault::Device)?;
-        let mut sum = 0u64;
-        for item in 1..=u64::MAX {
-            match full.acquire_within(rt, &mut timer, 0, 10) {
-                Err(Fault::TimedOut) => break,
-                acquired => acquired?,
-            }
-            sum = sum.saturating_add(buffer[(item % 4) as usize].load(Ordering::SeqCst));
-            emptied.release(rt, 1)?;
+type Places = [AtomicU64; 4];
+
+/// A side of the buffer takes a unit of one semaphore, and gives one of the other. So it is two
+/// processes.
+#[derive(Drop)]
+struct Side<'s, 'k> {
+    takes: Holder<'s, 'k>,
+    gives: Holder<'s, 'k>,
+    watch: Watch<'s>,
+}
+
+/// Puts ten items in.
+fn fill<R: Wait>(rt: &R, side: &mut Side<'_, '_>, places: &Places) -> Result<(), Fault> {
+    for item in 1..=10u64 {
+        side.takes.acquire(rt)?;
+        places[(item % 4) as usize].store(item, Ordering::SeqCst);
+        side.gives.release(rt, 1)?;
+    }
+    Ok(())
+}
+
+/// Takes items out, until none comes within ten ticks, and gives their sum.
+fn empty<R: Wait>(rt: &R, side: &mut Side<'_, '_>, places: &Places) -> Result<u64, Fault> {
+    let mut sum = 0u64;
+    for item in 1..=u64::MAX {
+        match side.takes.acquire_within(rt, &mut side.watch, 0, 10) {
+            Err(Fault::TimedOut) => break,
+            acquired => acquired?,
         }
-        emptied.postnote(producer, NoteSet::of(Note::Interrupt))?;
-        producing.join(rt).map(|_| sum)
+        sum = sum.saturating_add(places[(item % 4) as usize].load(Ordering::SeqCst));
+        side.gives.release(rt, 1)?;
+    }
+    Ok(sum)
+}
+
+/// The producer fills the places, and then tells the time until it is sent a note.
+fn produce<R: Wait + Now>(rt: &R, mut side: Side<'_, '_>, places: &Places) -> Result<(), Fault> {
+    let filled = fill(rt, &mut side, places);
+    let (watch, proc) = (side.watch, side.takes.into_proc());
+    let _notes = Ticker { watch, proc }.run(rt, &mut Beat::new(rt));
+    filled
+}
+
+/// The producer has a thread of its own, and the consumer this one.
+fn run_both<R: Threads + Wait + Now + Sync>(
+    rt: &R,
+    producer: Side<'_, '_>,
+    mut consumer: Side<'_, '_>,
+) -> Result<u64, Fault> {
+    let places = &[0; 4].map(AtomicU64::new);
+    let ticker = producer.takes.pid();
+    scope(scope_env(), rt, move |scope| {
+        let Ok(producing) = scope.spawn(move || produce(rt, producer, places)) else {
+            return Err(Fault::Device);
+        };
+        let sum = empty(rt, &mut consumer, places);
+        let noted = consumer
+            .gives
+            .postnote(ticker, NoteSet::of(Note::Interrupt));
+        producing.join(rt).and(noted).and(sum)
     })
+}
+
+/// What both sides call: the places that are free, the items, and the time.
+#[derive(Drop)]
+struct Shared {
+    free: Pool,
+    items: Pool,
+    clock: Clock,
+}
+
+fn share(alloc: Global, roster: &mut Roster<'_>) -> Result<Shared, Fault> {
+    Ok(Shared {
+        free: Pool::new(alloc, roster, 4, 2)?,
+        items: Pool::new(alloc, roster, 0, 2)?,
+        clock: Clock::new(alloc, 2)?,
+    })
+}
+
+/// A process at this pool, and a child of it there.
+fn two<'s, 'k, R: Wait>(
+    rt: &R,
+    pool: &'s mut Pool,
+    roster: &mut Roster<'k>,
+    proc: Proc<'k>,
+) -> Result<(Holder<'s, 'k>, Holder<'s, 'k>), Fault> {
+    let mut first = pool.first(proc)?;
+    let second = first.fork(rt, roster)?;
+    Ok((first, second))
+}
+
+/// Seats four processes, two at each pool, and runs both sides.
+fn seat<R: Threads + Wait + Now + Sync>(
+    rt: &R,
+    shared: &mut Shared,
+    started: Started<'_>,
+) -> Result<u64, Fault> {
+    let Started { roster, proc } = started;
+    let (mut roster, mut proc) = (roster, proc);
+    let child = fork(&mut roster, &mut proc)?;
+    let mut timer = shared.clock.first()?;
+    let watch = timer.split(rt)?;
+    let (takes, refills) = two(rt, &mut shared.free, &mut roster, proc)?;
+    let (gives, drains) = two(rt, &mut shared.items, &mut roster, child)?;
+    let producer = Side {
+        takes,
+        gives,
+        watch,
+    };
+    let consumer = Side {
+        takes: drains,
+        gives: refills,
+        watch: timer,
+    };
+    run_both(rt, producer, consumer)
+}
+
+fn run<R: Threads + Wait + Now + Sync>(rt: &R, alloc: Global) -> Result<u64, Fault> {
+    let OpenedKernel { kernel, start } = Kernel::new(alloc, 4, 4)?;
+    let mut started = kernel.start(start);
+    let mut shared = share(alloc, &mut started.roster)?;
+    seat(rt, &mut shared, started)
 }
 
 fn main(rt: HostRuntime) -> std::io::Result<()> {

@@ -6,9 +6,7 @@
 //! driver, which ends its sleep and with it the transfer.
 #![tactic(auto)]
 
-use plan9::{
-    Fault, Flags, Kernel, Note, NoteSet, OpenedKernel, Pid, Proc, RendezId, Roster, Started,
-};
+use plan9::{Fault, Kernel, Note, NoteSet, OpenedKernel, Pid, Proc, RendezId, Started, fork};
 use std::alloc::Global;
 use std::io;
 use std::sync::Wait;
@@ -94,35 +92,36 @@ fn copy_blocks<R: Wait>(rt: &R, mut driver: Proc<'_>, transfer: &Transfer) -> Re
 /// the driver, or the next one if the driver is awake.
 fn cancel<R: Wait>(
     rt: &R,
-    mut user: Proc<'_>,
+    user: &mut Proc<'_>,
     driver: Pid,
     transfer: &Transfer,
 ) -> Result<(), Fault> {
-    let copied = transfer.copied.wait_for(rt, &mut user, MADE);
+    let copied = transfer.copied.wait_for(rt, user, MADE);
     user.postnote(driver, NoteSet::of(Note::Interrupt))?;
     copied
 }
 
-/// A further process.
-fn fork<'k>(roster: &mut Roster<'k>, parent: &mut Proc<'k>) -> Result<Proc<'k>, Fault> {
-    roster.rfork(parent, Flags::RFPROC)?.ok_or(Fault::NoProc)
+/// Three processes of a kernel.
+#[derive(Drop)]
+struct Procs<'k> {
+    user: Proc<'k>,
+    device: Proc<'k>,
+    driver: Proc<'k>,
 }
 
-/// Three processes of a kernel. The driver, which waits for the device, has a thread of its own;
-/// where none can be started nothing is begun. The device and the user take turns on this one.
-fn run<R: Threads + Wait + Sync>(rt: &R, alloc: Global) -> Result<u64, Fault> {
-    let OpenedKernel { kernel, start } = Kernel::new(alloc, 3, 2)?;
-    let Started {
-        mut roster,
-        proc: mut user,
-    } = kernel.start(start);
-    let mut device = fork(&mut roster, &mut user)?;
-    let driver = fork(&mut roster, &mut user)?;
+/// The driver, which waits for the device, has a thread of its own; where none can be started
+/// nothing is begun. The device and the user take turns on this one.
+fn run_all<R: Threads + Wait + Sync>(
+    rt: &R,
+    procs: Procs<'_>,
+    transfer: &Transfer,
+) -> Result<u64, Fault> {
+    let Procs {
+        mut user,
+        mut device,
+        driver,
+    } = procs;
     let pid = driver.pid();
-    let transfer = &Transfer {
-        ready: Counter::new(roster.rendez()?),
-        copied: Counter::new(roster.rendez()?),
-    };
     thread::scope(
         thread::scope_env(),
         rt,
@@ -130,11 +129,29 @@ fn run<R: Threads + Wait + Sync>(rt: &R, alloc: Global) -> Result<u64, Fault> {
             let Ok(copying) = scope.spawn(move || copy_blocks(rt, driver, transfer)) else {
                 return Err(Fault::Device);
             };
-            make_blocks(&mut device, transfer)?;
-            cancel(rt, user, pid, transfer)?;
-            copying.join(rt)
+            let made = make_blocks(&mut device, transfer);
+            let cancelled = cancel(rt, &mut user, pid, transfer);
+            made.and(cancelled).and(copying.join(rt))
         },
     )
+}
+
+fn run<R: Threads + Wait + Sync>(rt: &R, alloc: Global) -> Result<u64, Fault> {
+    let OpenedKernel { kernel, start } = Kernel::new(alloc, 3, 2)?;
+    let Started { roster, proc } = kernel.start(start);
+    let (mut roster, mut user) = (roster, proc);
+    let transfer = &Transfer {
+        ready: Counter::new(roster.rendez()?),
+        copied: Counter::new(roster.rendez()?),
+    };
+    let device = fork(&mut roster, &mut user)?;
+    let driver = fork(&mut roster, &mut user)?;
+    let procs = Procs {
+        user,
+        device,
+        driver,
+    };
+    run_all(rt, procs, transfer)
 }
 
 fn main(rt: HostRuntime) -> io::Result<()> {

@@ -2,7 +2,7 @@
 //! It names one crate, `plan9`: a worker has its process, its seat and the semaphore together.
 #![tactic(auto)]
 
-use plan9::{Fault, Holder, Kernel, OpenedKernel, Pool, Roster, Started};
+use plan9::{Fault, Holder, Kernel, OpenedKernel, Pool, Started};
 use std::alloc::Global;
 use std::io;
 use std::sync::Wait;
@@ -26,17 +26,33 @@ fn work<R: Wait>(rt: &R, mut worker: Holder<'_, '_>) -> Result<u64, Fault> {
     Ok(made)
 }
 
-/// All workers at once, each on a thread of its own. Says how many pieces they made in all.
-fn run<R: Threads + Wait + Sync>(rt: &R, alloc: Global) -> Result<u64, Fault> {
-    let OpenedKernel { kernel, start } = Kernel::new(alloc, WORKERS, WORKERS)?;
-    let Started { mut roster, proc } = kernel.start(start);
-    let mut pool = Pool::new(alloc, &mut roster, MACHINES, WORKERS)?;
-    let workers = pool.holders(alloc, rt, &mut roster, proc, WORKERS)?;
+/// How many pieces were made in all.
+fn sum(made: &[Result<u64, Fault>]) -> Result<u64, Fault> {
     let mut all = 0u64;
-    for made in map_vec(rt, workers, &|worker: Holder| work(rt, worker))? {
-        all = all.saturating_add(made?);
+    for made in made {
+        all = all.saturating_add((*made)?);
     }
     Ok(all)
+}
+
+/// All workers at once, each on a thread of its own.
+fn work_all<R: Threads + Wait + Sync>(
+    rt: &R,
+    alloc: Global,
+    pool: &mut Pool,
+    started: Started<'_>,
+) -> Result<u64, Fault> {
+    let Started { mut roster, proc } = started;
+    let workers = pool.holders(alloc, rt, &mut roster, proc, WORKERS)?;
+    let made = map_vec(rt, workers, &|worker: Holder| work(rt, worker))?;
+    sum(&made)
+}
+
+fn run<R: Threads + Wait + Sync>(rt: &R, alloc: Global) -> Result<u64, Fault> {
+    let OpenedKernel { kernel, start } = Kernel::new(alloc, WORKERS, WORKERS)?;
+    let mut started = kernel.start(start);
+    let mut pool = Pool::new(alloc, &mut started.roster, MACHINES, WORKERS)?;
+    work_all(rt, alloc, &mut pool, started)
 }
 
 fn main(rt: HostRuntime) -> io::Result<()> {

@@ -6,7 +6,7 @@
 #![tactic(auto)]
 
 use plan9::{
-    Fault, Flags, Kernel, Note, NoteSet, OpenedKernel, Pid, Proc, RendezId, Roster, Started,
+    Fault, Flags, Kernel, Note, NoteSet, OpenedKernel, Pid, Proc, RendezId, Roster, Started, fork,
 };
 use std::alloc::Global;
 use std::io;
@@ -53,6 +53,14 @@ struct Shell<'k> {
 }
 
 impl<'k> Shell<'k> {
+    /// All jobs.
+    fn begin_all(&mut self, all: &mut Vec<Worker<'k>>) -> Result<(), Fault> {
+        for job in 1..=JOBS {
+            self.begin(job, all)?;
+        }
+        Ok(())
+    }
+
     /// A job: a process in a group of its own, and its children.
     fn begin(&mut self, job: u64, all: &mut Vec<Worker<'k>>) -> Result<(), Fault> {
         let apart = Flags::RFPROC.join(Flags::RFNOTEG);
@@ -62,8 +70,8 @@ impl<'k> Shell<'k> {
             self.stopped = first.pid();
         }
         for _ in 1..PROCS {
-            let child = self.roster.rfork(&mut first, Flags::RFPROC)?;
-            self.join(job, child.ok_or(Fault::NoProc)?, all)?;
+            let child = fork(&mut self.roster, &mut first)?;
+            self.join(job, child, all)?;
         }
         self.join(job, first, all)
     }
@@ -112,9 +120,7 @@ fn run_all<'k, R: Threads + Wait + Sync>(
         doors,
     };
     let mut workers = Vec::new(alloc);
-    for job in 1..=JOBS {
-        shell.begin(job, &mut workers)?;
-    }
+    shell.begin_all(&mut workers)?;
     let (noted, ended) = join(
         rt,
         || shell.direct(),

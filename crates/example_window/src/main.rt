@@ -71,14 +71,19 @@ fn take(window: &mut Window, event: &[u8]) -> Result<(), Fault> {
     Ok(())
 }
 
-/// The multiplexer. Each read is one event, since a read never joins two writes. Where an event
-/// can't be shown it reads on, so that no device waits for ever.
+/// What the window shows at its end.
 fn show<R: Wait>(rt: &R, alloc: Global, mut reader: Reader<'_, '_>) -> Result<Window, Fault> {
     let mut window = Window {
         typed: String::new(alloc),
         mouse: (0, 0),
         size: (0, 0),
     };
+    show_in(rt, &mut reader, &mut window).map(|()| window)
+}
+
+/// The multiplexer. Each read is one event, since a read never joins two writes. Where an event
+/// can't be shown it reads on, so that no device waits for ever.
+fn show_in<R: Wait>(rt: &R, reader: &mut Reader<'_, '_>, window: &mut Window) -> Result<(), Fault> {
     let mut shown = Ok(());
     let mut buffer = [0; 8];
     for _ in rt.forever() {
@@ -86,15 +91,39 @@ fn show<R: Wait>(rt: &R, alloc: Global, mut reader: Reader<'_, '_>) -> Result<Wi
             break;
         };
         if let Some(event) = buffer.get(..count) {
-            shown = shown.and(take(&mut window, event));
+            shown = shown.and(take(window, event));
         }
     }
-    shown?;
-    Ok(window)
+    shown
 }
 
-/// Makes a process for each device and for the button. The reader, for which they wait, is first.
+/// Each device with its writer.
+fn devices_of<'w>(alloc: Global, writers: Vec<Writer<'w, 'w>>) -> Result<Vec<Device<'w>>, Fault> {
+    let mut devices = Vec::new(alloc);
+    for (writer, events) in writers.into_iter().zip([KEYBOARD, MOUSE, FRAME]) {
+        devices.push(Device { writer, events })?;
+    }
+    Ok(devices)
+}
+
+/// The reader, for which the others wait, is first.
 fn run_all<'w, R: Threads + Wait + Sync>(
+    rt: &R,
+    alloc: Global,
+    reader: Reader<'w, 'w>,
+    devices: Vec<Device<'w>>,
+    button: Writer<'w, 'w>,
+) -> Result<Window, Fault> {
+    scope(scope_env(), rt, move |scope| {
+        let Ok(showing) = scope.spawn(move || show(rt, alloc, reader)) else {
+            return Err(Fault::Device);
+        };
+        send_all(rt, alloc, devices, button).and(showing.join(rt))
+    })
+}
+
+/// Makes a process for each device and for the button.
+fn open<'w, R: Threads + Wait + Sync>(
     rt: &R,
     alloc: Global,
     started: Started<'w>,
@@ -105,16 +134,8 @@ fn run_all<'w, R: Threads + Wait + Sync>(
     let outs = ends.second.parts().writes;
     let mut writers = fork_writers(alloc, &mut roster, &mut reader.proc, outs)?;
     let button = writers.pop().ok_or(Fault::BadSize)?;
-    let mut devices = Vec::new(alloc);
-    for (writer, events) in writers.into_iter().zip([KEYBOARD, MOUSE, FRAME]) {
-        devices.push(Device { writer, events })?;
-    }
-    scope(scope_env(), rt, move |scope| {
-        let Ok(showing) = scope.spawn(move || show(rt, alloc, reader)) else {
-            return Err(Fault::Device);
-        };
-        send_all(rt, alloc, devices, button).and(showing.join(rt))
-    })
+    let devices = devices_of(alloc, writers)?;
+    run_all(rt, alloc, reader, devices, button)
 }
 
 /// A pipe with room for two events that nobody has read.
@@ -122,7 +143,7 @@ fn run<R: Threads + Wait + Sync>(rt: &R, alloc: Global) -> Result<Window, Fault>
     let OpenedKernel { kernel, start } = Kernel::new(alloc, 5, 10)?;
     let mut started = kernel.start(start);
     let OpenedPipe { pipe, start } = Pipe::new(alloc, &mut started.roster, 2, 4)?;
-    run_all(rt, alloc, started, pipe.ends(start))
+    open(rt, alloc, started, pipe.ends(start))
 }
 
 fn main(rt: HostRuntime) -> io::Result<()> {

@@ -1,5 +1,5 @@
--- What may go to another thread: a run that has a child, and a process that shares a read end.
--- For a spawn, as `search sharer_crosses depth 30`, and for a call of `start_child`.
+-- That a process that shares a read end may go to another thread: for a spawn or a join, as
+-- `search sharer_crosses depth 30`.
 use denote.Ref.{NamedLft}
 use denote.RattleType.{RattleType}
 use denote.Param.Send.{IsSend, IsSync, part_keyless, sendable}
@@ -11,15 +11,11 @@ use Rattle.atomic_table.proofs.send_lease.SendLease.TheSendSync as lease
 use Rattle.counted_slot.proofs.Counted.TheSendSync as counted
 use Rattle.block_queue.proofs.spare.Slot.TheSendSync as slot
 use Rattle.block_queue.specs.contracts.spare.Spare as Spare
-use Rattle.sleep_wakeup.proofs.proc.Proc.TheSendSync.{the_send}
 use Rattle.pipe_dev.specs.contracts.begun.Begun as Begun
 use Rattle.pipe_dev.specs.contracts.read_end.ReadEnd as ReadEnd
 use Rattle.pipe_dev.proofs.read_end.ReadEnd.TheSendSync as read_end
 use Rattle.plan9.proofs.pool.Holder.TheSendSync as holder
 use Rattle.plan9.specs.contracts.sharing.Sharer as Sharer
-
--- a process, and what the standard library and a closure are made of
-pub ruleset child_crosses = (sendable, crosses, the_send)
 
 -- ---- a read end that is lent
 

@@ -1,58 +1,79 @@
--- What a read of a shared end is, in the words of the end that lay there.
-use Rattle.std.proofs.Common.{◌≡◌, ◌≢◌, ◌↔◌, [], Result, Ok, Err, inr, ◌∙◌, IsErrOf}
+-- What a call of a shared end is, in the words of the end that lay there.
+use Rattle.std.proofs.Common.{◌≡◌, ℕ, true, List, Option, Some, None, Result, Ok, Err}
+use Rattle.std.proofs.Common.{IfOk, OnErr, inr, ◌∙◌}
 use Rattle.sync_base.specs.declared.fault.Fault.{Fault}
-use Rattle.sync_base.specs.declared.fault.Fault.TheVariants.{BadCount, NoRendez}
 use Rattle.sleep_wakeup.specs.Kernel.{Running}
 use Rattle.block_queue.specs.Seats.{key_of}
 use Rattle.pipe_dev.specs.declared.answers.ReadAnswer.{ReadAnswer}
+use Rattle.pipe_dev.specs.declared.answers.TryAnswer.{TryAnswer}
+use Rattle.pipe_dev.specs.declared.answers.TryAnswer.TheVariants as try
 use Rattle.pipe_dev.specs.Ends.{ReadSide, IsSameReadEnd}
-use Rattle.pipe_dev.specs.ReadCalls.{Reads, calling, reader_of}
-use Rattle.pipe_dev.specs.Rendezes.{HasRow}
-use Rattle.plan9.specs.Pools.{Holding, IsSameHolder}
+use Rattle.pipe_dev.specs.ReadCalls.{IsUntouchedRead, Tries, calling, reader_of}
+use Rattle.plan9.specs.declared.pipes.Reader.{Reader}
 use Rattle.plan9.specs.declared.sharing.Sharer.{Sharer}
-use Rattle.plan9.specs.Sharings.{Buffers, HasTurn, ReadsInTurn, ReadsShared}
+use Rattle.plan9.specs.Pools.{Holding, IsSameHolder}
+use Rattle.plan9.specs.Readings.{LiesIn, read_answer}
+use Rattle.plan9.specs.Sharings.{AsksForTurn, AsksNow, Buffers, CallsShared, HasTurn, InTurn}
+use Rattle.plan9.specs.Sharings.{ReadsOnce, TriesBy, TriesInTurn, TriesOnce, reader}
+use Rattle.plan9.proofs.ReadingLemmas.{piece_lies}
 
--- what a read of an end tells
-pub record ReadOf (lay : ReadSide) (running : Running) (buffer : Buffers)
-    (answer : Result ReadAnswer Fault) (lies : ReadSide) (after : Running) : Type 0 where
-  -- a buffer of no bytes is refused first
-  pub bad_count : IsErrOf answer BadCount ↔ (buffer.before ≡ [])
-  -- and then a process of a kernel that has not all Rendez of the direction
-  pub no_rendez : buffer.before ≢ []
-      → (IsErrOf answer NoRendez ↔ ¬ HasRow running.words lay.row)
-  -- else it read so
-  pub reads : Reads (key_of lay.queue) lay.row (calling (reader_of lay running) buffer.before)
-      answer (calling (reader_of lies after) buffer.after)
-  -- and the end is of the direction of which it was
-  pub same : IsSameReadEnd lay lies
-
--- a read of the end that lay there is one of the shared end, as it has the same direction
-pub reads_shared : (end lay lies : ReadSide) (old new : Holding) (running : Running)
-    (buffer : Buffers) (answer : Result ReadAnswer Fault)
+-- a call of the end that lay there is one of the shared end, as it has the same direction
+pub calls_shared : (end lay lies : ReadSide) (old new : Holding) (running : Running)
+    (Call : Reader → Reader → Type 0)
     → IsSameReadEnd end lay
     → running ≡ old.running
     → IsSameHolder old new
     → new.seat ≡ old.seat
-    → ReadOf lay running buffer answer lies new.running
-    → ReadsShared end old buffer answer new
-reads_shared end lay lies old new running buffer answer same runs holder seat read =
+    → IsSameReadEnd lay lies
+    → Call (reader lay running) (reader lies new.running)
+    → CallsShared end old Call new
+calls_shared end lay lies old new running Call same runs holder seat kept call =
     record {
       lay = lay;
       lies = lies;
       lay_is = same;
       lies_is = record {
-        queue = read.same.queue ∙ same.queue;
-        row = read.same.row ∙ same.row;
+        queue = kept.queue ∙ same.queue;
+        row = kept.row ∙ same.row;
       };
-      bad_count = read.bad_count;
-      no_rendez = rw (← same.row, ← runs) read.no_rendez;
-      reads = rw (← same.queue, ← same.row, ← runs) read.reads;
+      called = rw (← runs) call;
       same = holder;
       seat_is = seat;
     }
 
 -- whatever it was answered, it had its turn
-pub has_turn : (old : Sharer) (buffer : Buffers) (answer : Result ReadAnswer Fault) (new : Sharer)
-    → HasTurn old buffer answer new → ReadsInTurn old buffer answer new
-has_turn old buffer (Ok answer) new turn = turn
-has_turn old buffer (Err why) new turn = inr turn
+pub has_turn : (Call : Buffers → Result ReadAnswer Fault → Reader → Reader → Type 0)
+    (old : Sharer) (buffer : Buffers) (answer : Result ReadAnswer Fault) (new : Sharer)
+    → HasTurn (AsksForTurn (Ok tt)) old (Call buffer answer) new → InTurn Call old buffer answer new
+has_turn Call old buffer (Ok answer) new turn = turn
+has_turn Call old buffer (Err why) new turn = inr turn
+
+-- and so where it waited for none
+pub has_turn_now : (old : Sharer) (buffer : Buffers) (answer : Result TryAnswer Fault)
+    (new : Sharer) → HasTurn (AsksNow true) old (TriesOnce buffer answer) new
+    → TriesInTurn old buffer answer new
+has_turn_now old buffer (Ok try.NotYet) new turn = inr turn
+has_turn_now old buffer (Ok (try.Got count)) new turn = turn
+has_turn_now old buffer (Ok try.End) new turn = turn
+has_turn_now old buffer (Err why) new turn = turn
+
+-- what a read that doesn't wait tells, by its answer
+pub tries_by : (old : Reader) (buffer : List ℕ) (answer : Result TryAnswer Fault) (new : Reader)
+    (buffer' : List ℕ)
+    → IfOk answer (λ it. Tries (key_of old.end.queue) old.end.row
+    (calling (reader_of old.end old.proc) buffer) it
+    (calling (reader_of new.end new.proc) buffer'))
+    → OnErr answer
+    (IsUntouchedRead (reader_of old.end old.proc) buffer (reader_of new.end new.proc) buffer')
+    → TriesBy old buffer answer new buffer'
+tries_by old buffer (Ok answer) new buffer' tries refused = tries
+tries_by old buffer (Err why) new buffer' tries refused = refused
+
+-- a piece that was read in turn lies in the buffer
+pub piece_lies_in_turn : (old : Sharer) (buffer : Buffers) (answer : Result (Option ℕ) Fault)
+    (new : Sharer) → InTurn ReadsOnce old buffer (read_answer answer) new
+    → LiesIn buffer.after answer
+piece_lies_in_turn old buffer (Ok (Some count)) new turn =
+    piece_lies _ _ _ buffer.before (Ok (Some count)) _ buffer.after turn.calls.called.reads
+piece_lies_in_turn old buffer (Ok None) new turn = tt
+piece_lies_in_turn old buffer (Err why) new turn = tt

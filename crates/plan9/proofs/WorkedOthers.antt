@@ -32,7 +32,7 @@ use Rattle.plan9.specs.Plans.{CountsProcs}
 use Rattle.plan9.specs.Pools.{Holding, IsSeated, IsFurtherVacancy, got, holder}
 use Rattle.plan9.specs.Readings.{ReadsPiece}
 use Rattle.plan9.specs.Refusals.{ComesBack, ComeBack}
-use Rattle.plan9.specs.Sharings.{Buffers, GivesTurnBack, HasTurn, HasNoTurn}
+use Rattle.plan9.specs.Sharings.{AsksForTurn, Buffers, GivesTurnBack, HasNoTurn, HasTurn, ReadsOnce}
 use Rattle.plan9.specs.Streams.{Lent, TakesNothing, WritesNothing, IsSameWriter}
 use Rattle.plan9.specs.Tickers.{Looks, TicksOnce, EndsTicking, TicksOn}
 use Rattle.plan9.specs.Vacancies.{IsRowOf, Vacancy}
@@ -103,10 +103,12 @@ who_gives_a_turn_back_releases_one old new gives = gives.called.promise
 
 module _ (old new : Sharer) (buffer : Buffers) where
   who_reads_in_turn_keeps_its_seat : (answer : Result ReadAnswer Fault)
-      → (turn : HasTurn old buffer answer new) → turn.ended.seat ≡ turn.begun.seat
-  who_reads_in_turn_keeps_its_seat answer turn = turn.reads.seat_is
+      → (turn : HasTurn (AsksForTurn (Ok tt)) old (ReadsOnce buffer answer) new)
+      → turn.ended.seat ≡ turn.begun.seat
+  who_reads_in_turn_keeps_its_seat answer turn = turn.calls.seat_is
 
-  who_gets_no_turn_asked_for_it : (why : Fault) → (none : HasNoTurn old buffer why new)
+  who_gets_no_turn_asked_for_it : (why : Fault)
+      → (none : HasNoTurn (AsksForTurn (Err why)) old buffer new)
       → Acquires (holder old.holder) (got (Err why)) none.asks.deeds
   who_gets_no_turn_asked_for_it why none = none.asks.promise
 

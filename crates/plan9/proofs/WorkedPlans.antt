@@ -1,12 +1,13 @@
--- What no plan counts, what is not spare, what does not come back, and what no ticker does: each
--- against one row.
-use Rattle.std.proofs.Common.{◌≢◌, ◌+◌, ℕ, Some, refl, arith}
+-- What no plan counts, what is not spare, what is no fork, and what no ticker does: each against
+-- one row.
+use Rattle.std.proofs.Common.{◌≡◌, ◌≢◌, ◌+◌, ℕ, false, Some, Ok, Err, refl, arith}
+use Rattle.sync_base.specs.declared.fault.Fault.TheVariants as fault
 use Rattle.sync_base.specs.declared.limits.TheConstants.{MAX_PROCS, MAX_RENDEZ}
 use Rattle.sync_base.specs.declared.note.NoteSet.{NoteSet}
 use Rattle.sync_base.specs.NoteSet.{no_notes}
 use Rattle.rendez_words.specs.Steps.{drains}
 use Rattle.sleep_wakeup.specs.Forks.{HasPid}
-use Rattle.sleep_wakeup.specs.Kernel.{Running, Unused, next_process}
+use Rattle.sleep_wakeup.specs.Kernel.{Running, Unused, next_process, one_pid_less}
 use Rattle.tag_space.specs.declared.member.Member.{Member}
 use Rattle.tag_space.specs.declared.space.TagSpace.{TagSpace}
 use Rattle.tag_space.specs.Members.{IsMemberOf}
@@ -16,12 +17,11 @@ use Rattle.semaphore.specs.declared.timers.Timers.{Timers}
 use Rattle.semaphore.specs.declared.timers.TimerSeat.{TimerSeat}
 use Rattle.semaphore.specs.Seats.{IsSemaSeatOf, IsTimerSeatOf}
 use Rattle.pipe_dev.specs.Rounds.{Rounds}
-use Rattle.plan9.specs.declared.starting.NotStarted.TheVariants.{NoProc, NoThread}
 use Rattle.plan9.specs.declared.ticker.Ticker.{Ticker}
+use Rattle.plan9.specs.Forkings.{ForksOne}
 use Rattle.plan9.specs.Halls.{IsRowOfSpace, IsSpareMember}
 use Rattle.plan9.specs.Plans.{Planned, IsPlan, CountsProcs, CountsProcsAlone, CountsRendez, Seats}
 use Rattle.plan9.specs.Pools.{IsSpareOf}
-use Rattle.plan9.specs.Startings.{IsNotStarted, IsAsItWas}
 use Rattle.plan9.specs.Tickers.{Looks, TicksOnce, EndsTicking, TicksOn}
 use Rattle.plan9.specs.Vacancies.{IsRowOf}
 use Rattle.plan9.specs.Watches.{IsSpareTimer}
@@ -90,19 +90,29 @@ module _ (space : TagSpace) (member : Member) where
   a_space_of_another_row : space.first.0 ≢ 3 → ¬ IsRowOfSpace space 3 2
   a_space_of_another_row other row = other row.first_is
 
--- ---- a child that was not started
+-- ---- a fork
 
-module _ {Make Run : Type 0} (Gives : Running → Run → Type 0) (make back : Make) (run : Run)
-    (before : Unused) where
-  a_pid_that_is_left_is_no_reason : HasPid before → ¬ IsNotStarted Gives make before (NoProc back)
-  a_pid_that_is_left_is_no_reason has why = why.1 has
+module _ (parent : ℕ) (before after : Unused) (child : Running) where
+  fork_without_a_pid : ¬ HasPid before → ¬ ForksOne parent before (Ok child) after
+  fork_without_a_pid none forked = none forked.0
 
-  the_run_of_another_process : ¬ Gives (next_process before) run
-      → ¬ IsNotStarted Gives make before (NoThread run)
-  the_run_of_another_process other why = other why.1
+  fork_of_another_process : child ≢ next_process before
+      → ¬ ForksOne parent before (Ok child) after
+  fork_of_another_process other forked = other forked.1
 
-who_made_a_step_is_not_as_it_was : (old new : Running) → new ≢ old → ¬ IsAsItWas old new
-who_made_a_step_is_not_as_it_was old new other same = other same
+  fork_in_another_group : after ≢ one_pid_less parent false before
+      → ¬ ForksOne parent before (Ok child) after
+  fork_in_another_group other forked = other forked.2
+
+  no_fork_for_want_of_memory : ¬ ForksOne parent before (Err fault.Memory) after
+  no_fork_for_want_of_memory refused =
+      let no : fault.Memory ≡ fault.NoProc = refused.0 in cc
+
+  no_fork_where_a_pid_is_left : HasPid before → ¬ ForksOne parent before (Err fault.NoProc) after
+  no_fork_where_a_pid_is_left left refused = refused.1 left
+
+  refused_fork_uses_a_pid_up : after ≢ before → ¬ ForksOne parent before (Err fault.NoProc) after
+  refused_fork_uses_a_pid_up other refused = other refused.2
 
 -- ---- a ticker
 

@@ -16,7 +16,7 @@ use Rattle.plan9.specs.Streams.{front_of}
 
 -- who asks for a turn acquires the unit, or says why not
 who_asks_for_a_turn_acquires : (old new : Holding) (answer : Result ⊤ Fault)
-    → (asks : AsksForTurn old answer new) → Acquires (holder old) (got answer) asks.deeds
+    → (asks : AsksForTurn answer old new) → Acquires (holder old) (got answer) asks.deeds
 who_asks_for_a_turn_acquires old new answer asks = asks.promise
 
 -- a read that is refused leaves its buffer as it was

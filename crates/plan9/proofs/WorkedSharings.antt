@@ -1,21 +1,32 @@
 -- What is no shared end, nobody who shares one and no turn: each against one row of what the calls
 -- of a shared end say.
-use Rattle.std.proofs.Common.{◌≡◌, ◌≢◌, ℕ, List, [], Result, Ok, Err, IfErr, inl, inr, subst}
+use Rattle.std.proofs.Common.{◌≡◌, ◌≢◌, ◌<◌, ◌≤◌, ℕ, true, List, [], Result, Ok, Err, IfErr}
+use Rattle.std.proofs.Common.{inl, inr, ⊎_elim, subst}
 use Rattle.sync_base.specs.declared.fault.Fault.{Fault}
 use Rattle.sync_base.specs.declared.fault.Fault.TheVariants as fault
+use Rattle.sync_base.specs.declared.note.NoteSet.{NoteSet}
+use Rattle.sync_base.specs.declared.ids.Pid.{Pid}
+use Rattle.rendez_words.specs.Steps.{notes, drains}
+use Rattle.rendez_words.specs.Words.{procs_of}
 use Rattle.sleep_wakeup.specs.Kernel.{Running, Unused, HasRendez, rendez_less}
 use Rattle.semaphore.specs.Opening.{WhyNotOpened}
 use Rattle.sleep_core.specs.Limits.{IsProcCount}
 use Rattle.pipe_dev.specs.declared.answers.ReadAnswer.{ReadAnswer}
 use Rattle.pipe_dev.specs.declared.answers.ReadAnswer.TheVariants as read
+use Rattle.pipe_dev.specs.declared.answers.TryAnswer.{TryAnswer}
+use Rattle.pipe_dev.specs.declared.answers.TryAnswer.TheVariants as try
 use Rattle.pipe_dev.specs.Ends.{ReadSide}
+use Rattle.pipe_dev.specs.Rendezes.{HasRow}
+use Rattle.plan9.specs.declared.pipes.Reader.{Reader}
 use Rattle.plan9.specs.declared.sharing.Shared.{Shared}
 use Rattle.plan9.specs.declared.sharing.Sharer.{Sharer}
 use Rattle.plan9.specs.declared.sharing.Unshared.{Unshared}
 use Rattle.plan9.specs.Pools.{Holding, IsNewPool, IsFirstHolder, ForksHolder, IsSameHolder}
 use Rattle.plan9.specs.Sharings.{Buffers, IsNewShared, IsNotShared, IsFirstSharer, IsSameSharer}
-use Rattle.plan9.specs.Sharings.{ForksSharer, GivesTurnBack, AsksForTurn, ReadsShared}
-use Rattle.plan9.specs.Sharings.{ReadsInTurn, buffers, first_end, end_of}
+use Rattle.plan9.specs.Sharings.{ForksSharer, GivesTurnBack, AsksForTurn, AsksNow, CallsShared}
+use Rattle.plan9.specs.Sharings.{HasNoTurn, HasTurn, InTurn, PostsAsSharer, ReadsBlockOnce}
+use Rattle.plan9.specs.Sharings.{ReadsOnce, TakesNotes, TriesInTurn, TriesOnce, buffers}
+use Rattle.plan9.specs.Sharings.{first_end, end_of, reader}
 
 -- ---- how an end is shared
 
@@ -81,41 +92,131 @@ module _ (before after : Unused) (old new child : Sharer) where
   child_at_another_end : end_of child ≢ end_of old → ForksSharer before old new child after → ⊥
   child_at_another_end other forked = other forked.end_is
 
+-- ---- notes
+
+module _ (pid : Pid) (set : NoteSet) (old new : Sharer) where
+  -- notes to nobody, or that are not pending, or a refusal that does something
+  notes_to_nobody : (pid.0 < procs_of old.holder.running.words → ⊥)
+      → PostsAsSharer pid set old (Ok tt) new → ⊥
+  notes_to_nobody nobody posts = nobody posts.0
+
+  notes_that_nobody_has :
+      new.holder.running.process ≢ notes old.holder.running.process pid set
+      → PostsAsSharer pid set old (Ok tt) new → ⊥
+  notes_that_nobody_has other posts = other posts.1
+
+  notes_as_another : (IsSameSharer old new → ⊥) → PostsAsSharer pid set old (Ok tt) new → ⊥
+  notes_as_another other posts = other posts.2
+
+  notes_with_units : new.holder.seat ≢ old.holder.seat → PostsAsSharer pid set old (Ok tt) new → ⊥
+  notes_with_units other posts = other posts.3
+
+  refused_for_want_of_memory : PostsAsSharer pid set old (Err fault.Memory) new → ⊥
+  refused_for_want_of_memory posts = let no : fault.Memory ≡ fault.NoProc = posts.0 in cc
+
+  refused_and_there_is_one : (procs_of old.holder.running.words ≤ pid.0 → ⊥)
+      → PostsAsSharer pid set old (Err fault.NoProc) new → ⊥
+  refused_and_there_is_one one posts = one posts.1
+
+  refused_and_did_something : new ≢ old → PostsAsSharer pid set old (Err fault.NoProc) new → ⊥
+  refused_and_did_something other posts = other posts.2
+
+  -- notes stay pending, or a look at them is made by another, or takes units
+  notes_that_stay : new.holder.running.process ≢ drains old.holder.running.process set
+      → TakesNotes old set new → ⊥
+  notes_that_stay other takes = other takes.took
+
+  look_as_another : (IsSameSharer old new → ⊥) → TakesNotes old set new → ⊥
+  look_as_another other takes = other takes.same
+
+  look_takes_units : new.holder.seat ≢ old.holder.seat → TakesNotes old set new → ⊥
+  look_takes_units other takes = other takes.seat_is
+
 -- ---- a turn
 
-module _ (old new : Sharer) (before after : List ℕ) where
-  -- bytes came and no turn was got, nor given back
-  bytes_without_a_turn : ((begun : Holding) → AsksForTurn old.holder (Ok tt) begun → ⊥)
-      → ReadsInTurn old (buffers before after) (Ok (read.Got 3)) new → ⊥
+module _ (Asks : Holding → Holding → Type 0) (old new : Sharer) (before after : List ℕ) where
+  -- a call without a turn, or whose turn is not given back
+  call_without_a_turn : (Call : Reader → Reader → Type 0)
+      → ((begun : Holding) → Asks old.holder begun → ⊥) → HasTurn Asks old Call new → ⊥
+  call_without_a_turn Call none turn = none turn.begun turn.asks
+
+  turn_is_kept : (Call : Reader → Reader → Type 0)
+      → ((ended : Holding) → GivesTurnBack ended new.holder → ⊥) → HasTurn Asks old Call new → ⊥
+  turn_is_kept Call kept turn = kept turn.ended turn.gives_back
+
+  -- no turn was got, and yet the buffer was filled, or it was not asked for
+  filled_without_a_turn : after ≢ before → HasNoTurn Asks old (buffers before after) new → ⊥
+  filled_without_a_turn other none = other none.buffer_same
+
+  nothing_was_asked : (Asks old.holder new.holder → ⊥)
+      → HasNoTurn Asks old (buffers before after) new → ⊥
+  nothing_was_asked not none = not none.asks
+
+module _ (old new : Sharer) (buffer : Buffers) where
+  -- bytes came and no turn was got
+  bytes_without_a_turn : ((begun : Holding) → AsksForTurn (Ok tt) old.holder begun → ⊥)
+      → InTurn ReadsOnce old buffer (Ok (read.Got 3)) new → ⊥
   bytes_without_a_turn none turn = none turn.begun turn.asks
 
-  turn_is_kept : ((ended : Holding) → GivesTurnBack ended new.holder → ⊥)
-      → ReadsInTurn old (buffers before after) (Ok (read.Got 3)) new → ⊥
-  turn_is_kept kept turn = kept turn.ended turn.gives_back
+  bytes_without_a_turn_now : ((begun : Holding) → AsksNow true old.holder begun → ⊥)
+      → TriesInTurn old buffer (Ok (try.Got 3)) new → ⊥
+  bytes_without_a_turn_now none turn = none turn.begun turn.asks
 
-  -- no turn was got, and yet the buffer was filled
-  filled_without_a_turn : after ≢ before → ((begun : Holding)
-      → AsksForTurn old.holder (Ok tt) begun → ⊥)
-      → ReadsInTurn old (buffers before after) (Err fault.Worn) new → ⊥
-  filled_without_a_turn other none (inl not) = other not.buffer_same
-  filled_without_a_turn other none (inr turn) = none turn.begun turn.asks
+  -- no turn was got, and its fault is another
+  refused_for_another_fault : ((why : Fault) → AsksForTurn (Err why) old.holder new.holder → ⊥)
+      → ((begun : Holding) → AsksForTurn (Ok tt) old.holder begun → ⊥)
+      → InTurn ReadsOnce old buffer (Err fault.Worn) new → ⊥
+  refused_for_another_fault not none (inl refused) = not fault.Worn refused.asks
+  refused_for_another_fault not none (inr turn) = none turn.begun turn.asks
 
-module _ (end : ReadSide) (old new : Holding) (buffer : Buffers) where
+module _ (end : ReadSide) (old new : Holding) (Call : Reader → Reader → Type 0) where
   -- an end of another pipe lay there, or lies there then
-  end_of_another_pipe_lay_there : (answer : Result ReadAnswer Fault)
-      → ((lay : ReadSide) → lay.queue ≢ end.queue) → ReadsShared end old buffer answer new → ⊥
-  end_of_another_pipe_lay_there answer other reads = other reads.lay reads.lay_is.queue
+  end_of_another_pipe_lay_there : ((lay : ReadSide) → lay.queue ≢ end.queue)
+      → CallsShared end old Call new → ⊥
+  end_of_another_pipe_lay_there other calls = other calls.lay calls.lay_is.queue
 
-  end_of_another_pipe_lies_there : (answer : Result ReadAnswer Fault)
-      → ((lies : ReadSide) → lies.row ≢ end.row) → ReadsShared end old buffer answer new → ⊥
-  end_of_another_pipe_lies_there answer other reads = other reads.lies reads.lies_is.row
+  end_of_another_pipe_lies_there : ((lies : ReadSide) → lies.row ≢ end.row)
+      → CallsShared end old Call new → ⊥
+  end_of_another_pipe_lies_there other calls = other calls.lies calls.lies_is.row
 
+  -- a call of that end was not made
+  no_call_was_made : ((lay lies : ReadSide)
+      → Call (reader lay old.running) (reader lies new.running) → ⊥)
+      → CallsShared end old Call new → ⊥
+  no_call_was_made none calls = none calls.lay calls.lies calls.called
+
+  -- it moves to another seat, or takes units with it
+  call_moves_to_another_seat : (IsSameHolder old new → ⊥) → CallsShared end old Call new → ⊥
+  call_moves_to_another_seat other calls = other calls.same
+
+  call_takes_units : new.seat ≢ old.seat → CallsShared end old Call new → ⊥
+  call_takes_units other calls = other calls.seat_is
+
+-- ---- what was read
+
+module _ (old new : Reader) (buffer : Buffers) where
   -- a read of a buffer with no bytes is not refused
-  no_bytes_are_read : buffer.before ≡ [] → ReadsShared end old buffer (Ok (read.Got 3)) new → ⊥
+  no_bytes_are_read : buffer.before ≡ [] → ReadsOnce buffer (Ok (read.Got 3)) old new → ⊥
   no_bytes_are_read none reads =
       subst (λ (answer : Result ReadAnswer Fault). IfErr answer (λ why. ⊥))
       (reads.bad_count.1 none) tt
 
-  -- a read takes units with it
-  read_takes_units : new.seat ≢ old.seat → ReadsShared end old buffer (Ok (read.Got 3)) new → ⊥
-  read_takes_units other reads = other reads.seat_is
+  no_bytes_are_tried : buffer.before ≡ [] → TriesOnce buffer (Ok (try.Got 3)) old new → ⊥
+  no_bytes_are_tried none tries =
+      subst (λ (answer : Result TryAnswer Fault). IfErr answer (λ why. ⊥))
+      (tries.bad_count.1 none) tt
+
+  -- a block is read, and the process knows not all Rendez
+  block_without_rendez : (HasRow old.proc.words old.end.row → ⊥)
+      → ReadsBlockOnce buffer (Ok read.End) old new → ⊥
+  block_without_rendez none reads =
+      subst (λ (answer : Result ReadAnswer Fault). IfErr answer (λ why. ⊥))
+      (reads.no_rendez.1 none) tt
+
+  -- a read that doesn't wait is refused for want of a number, or did something and was refused
+  try_is_worn : TriesOnce buffer (Err fault.Worn) old new → ⊥
+  try_is_worn tries = ⊎_elim (λ bad. cc) (λ none. cc) tries.fault
+
+  refused_try_read : buffer.after ≢ buffer.before
+      → TriesOnce buffer (Err fault.BadCount) old new → ⊥
+  refused_try_read other tries = other tries.tries.buffer_same

@@ -2,8 +2,8 @@
 -- have has the name of what it speaks of before it.
 pub mod Words
 pub mod Plans
+pub mod Forkings
 pub mod Refusals
-pub mod Startings
 pub mod Vacancies
 pub mod Pools
 pub mod Pipes

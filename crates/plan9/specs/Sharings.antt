@@ -1,9 +1,14 @@
 -- What clauses see of a read end that several processes share, each of which reads in its turn.
 -- Own: the turn is the unit of a semaphore, where Plan 9's pipes have a lock (qlock in lock(2)), so
 -- that a note ends the wait for it.
-use Rattle.std.specs.Prelude.{◌≡◌, ◌≢◌, ◌↔◌, ◌⊎◌, ⊤, ℕ, true, List, [], Result, Ok, Err, IsErrOf}
+use Rattle.std.specs.Prelude.{◌≡◌, ◌≢◌, ◌↔◌, ◌⊎◌, ◌<◌, ◌≤◌, ⊤, ℕ, Bool, true, false, List, []}
+use Rattle.std.specs.Prelude.{Result, Ok, Err, IsErrOf, IfErr}
 use Rattle.sync_base.specs.declared.fault.Fault.{Fault}
-use Rattle.sync_base.specs.declared.fault.Fault.TheVariants.{BadCount, NoRendez}
+use Rattle.sync_base.specs.declared.fault.Fault.TheVariants.{BadCount, NoProc, NoRendez}
+use Rattle.sync_base.specs.declared.note.NoteSet.{NoteSet}
+use Rattle.sync_base.specs.declared.ids.Pid.{Pid}
+use Rattle.rendez_words.specs.Steps.{notes, drains}
+use Rattle.rendez_words.specs.Words.{procs_of}
 use Rattle.sleep_wakeup.specs.Kernel.{Running, Unused, HasRendez, rendez_less}
 use Rattle.semaphore.specs.Acquiring.{Semacquires}
 use Rattle.semaphore.specs.Deeds.{Calls}
@@ -12,14 +17,19 @@ use Rattle.sleep_core.specs.Limits.{IsProcCount}
 use Rattle.semaphore.specs.Releasing.{Releases}
 use Rattle.block_queue.specs.Seats.{key_of}
 use Rattle.pipe_dev.specs.declared.answers.ReadAnswer.{ReadAnswer}
+use Rattle.pipe_dev.specs.declared.answers.TryAnswer.{TryAnswer}
+use Rattle.pipe_dev.specs.declared.answers.TryAnswer.TheVariants as try
+use Rattle.pipe_dev.specs.BlockReads.{ReadsBlock}
 use Rattle.pipe_dev.specs.Ends.{ReadSide, IsSameReadEnd}
-use Rattle.pipe_dev.specs.ReadCalls.{Reads, calling, reader_of}
+use Rattle.pipe_dev.specs.ReadCalls.{IsUntouchedRead, Tries, calling, reader_of}
 use Rattle.pipe_dev.specs.Rendezes.{HasRow}
+use Rattle.plan9.specs.declared.pipes.Reader.{Reader}
 use Rattle.plan9.specs.declared.sharing.Shared.{Shared}
 use Rattle.plan9.specs.declared.sharing.Sharer.{Sharer}
 use Rattle.plan9.specs.declared.sharing.Unshared.{Unshared}
 use Rattle.plan9.specs.Pools.{Holding, IsNewPool, IsFirstHolder, IsSameHolder}
-use Rattle.plan9.specs.Pools.{ForksHolder, got, holder, stands_holding}
+use Rattle.plan9.specs.Pools.{ForksHolder, got, got_now, holder, stands_holding}
+use Rattle.plan9.specs.Readings.{ReadsBy}
 
 -- the end that is shared, as it was before
 abbrev pub first_end : Shared → ReadSide
@@ -62,13 +72,34 @@ pub record ForksSharer (before : Unused) (old new child : Sharer) (after : Unuse
   pub forked : ForksHolder before old.holder new.holder child.holder after
   pub end_is : end_of child ≡ end_of old
 
+-- it posted these notes to this process, or there is no such process and it did nothing
+abbrev pub PostsAsSharer : Pid → NoteSet → Sharer → Result ⊤ Fault → Sharer → Type 0
+PostsAsSharer pid set old (Ok unit) new =
+    (pid.0 < procs_of old.holder.running.words)
+    × (new.holder.running.process ≡ notes old.holder.running.process pid set)
+    × IsSameSharer old new × (new.holder.seat ≡ old.holder.seat)
+PostsAsSharer pid set old (Err why) new =
+    (why ≡ NoProc) × (procs_of old.holder.running.words ≤ pid.0) × (new ≡ old)
+
+-- it took these notes, and did nothing else
+pub record TakesNotes (old : Sharer) (came : NoteSet) (new : Sharer) : Type 0 where
+  pub took : new.holder.running.process ≡ drains old.holder.running.process came
+  pub same : IsSameSharer old new
+  pub seat_is : new.holder.seat ≡ old.holder.seat
+
 -- ---- a turn
 
 -- it asked for a turn, and waited for it where another process had it
-abbrev pub AsksForTurn : Holding → Result ⊤ Fault → Holding → Type 0
-AsksForTurn old answer new =
+abbrev pub AsksForTurn : Result ⊤ Fault → Holding → Holding → Type 0
+AsksForTurn answer old new =
     Calls (holder old) (stands_holding old) (stands_holding new)
     (Semacquires true (holder old) (got answer))
+
+-- it asked for a turn, and waited for none
+abbrev pub AsksNow : Bool → Holding → Holding → Type 0
+AsksNow has old new =
+    Calls (holder old) (stands_holding old) (stands_holding new)
+    (Semacquires false (holder old) (got_now has))
 
 -- it gave the turn back, once, and woke who got it
 pub record GivesTurnBack (old new : Holding) : Type 0 where
@@ -84,40 +115,82 @@ pub record Buffers : Type 0 where
 abbrev pub buffers : List ℕ → List ℕ → Buffers
 buffers before after = record { before = before; after = after }
 
--- One read of an end of this direction: the one that lay there, which lies there again. A buffer of
--- no bytes is refused first, and then a process of a kernel that has not all Rendez of the
--- direction.
-pub record ReadsShared (end : ReadSide) (old : Holding) (buffer : Buffers)
-    (answer : Result ReadAnswer Fault) (new : Holding) : Type 0 where
+-- a reader that has this end
+abbrev pub reader : ReadSide → Running → Reader
+reader end proc = record { end = end; proc = proc }
+
+-- one call of an end of this direction: of the one that lay there, which lies there again
+pub record CallsShared (end : ReadSide) (old : Holding) (Call : Reader → Reader → Type 0)
+    (new : Holding) : Type 0 where
   pub lay : ReadSide
   pub lies : ReadSide
   pub lay_is : IsSameReadEnd end lay
   pub lies_is : IsSameReadEnd end lies
-  pub bad_count : IsErrOf answer BadCount ↔ (buffer.before ≡ [])
-  pub no_rendez : buffer.before ≢ []
-      → (IsErrOf answer NoRendez ↔ ¬ HasRow old.running.words end.row)
-  pub reads : Reads (key_of end.queue) end.row (calling (reader_of lay old.running) buffer.before)
-      answer (calling (reader_of lies new.running) buffer.after)
+  pub called : Call (reader lay old.running) (reader lies new.running)
   pub same : IsSameHolder old new
   pub seat_is : new.seat ≡ old.seat
 
--- it got its turn, read, and gave the turn back
-pub record HasTurn (old : Sharer) (buffer : Buffers) (answer : Result ReadAnswer Fault)
-    (new : Sharer) : Type 0 where
+-- A read, which was answered so. A buffer of no bytes is refused first, and then a process of a
+-- kernel that has not all Rendez of the direction.
+pub record ReadsOnce (buffer : Buffers) (answer : Result ReadAnswer Fault) (old new : Reader) :
+    Type 0 where
+  pub bad_count : IsErrOf answer BadCount ↔ (buffer.before ≡ [])
+  pub no_rendez : buffer.before ≢ []
+      → (IsErrOf answer NoRendez ↔ ¬ HasRow old.proc.words old.end.row)
+  pub reads : ReadsBy old buffer.before answer new buffer.after
+
+-- the read of a block
+pub record ReadsBlockOnce (block : Buffers) (answer : Result ReadAnswer Fault)
+    (old new : Reader) : Type 0 where
+  pub no_rendez : IsErrOf answer NoRendez ↔ ¬ HasRow old.proc.words old.end.row
+  pub reads : ReadsBlock (key_of old.end.queue) old.end.row
+      (calling (reader_of old.end old.proc) block.before) answer
+      (calling (reader_of new.end new.proc) block.after)
+
+-- what a read that doesn't wait did: a refused one nothing
+abbrev pub TriesBy : Reader → List ℕ → Result TryAnswer Fault → Reader → List ℕ → Type 0
+TriesBy old buffer (Ok answer) new buffer' =
+    Tries (key_of old.end.queue) old.end.row (calling (reader_of old.end old.proc) buffer) answer
+    (calling (reader_of new.end new.proc) buffer')
+TriesBy old buffer (Err why) new buffer' =
+    IsUntouchedRead (reader_of old.end old.proc) buffer (reader_of new.end new.proc) buffer'
+
+-- A read that doesn't wait. It is refused as a read is, and for nothing else.
+pub record TriesOnce (buffer : Buffers) (answer : Result TryAnswer Fault) (old new : Reader) :
+    Type 0 where
+  pub bad_count : IsErrOf answer BadCount ↔ (buffer.before ≡ [])
+  pub no_rendez : buffer.before ≢ []
+      → (IsErrOf answer NoRendez ↔ ¬ HasRow old.proc.words old.end.row)
+  pub fault : IfErr answer (λ why. (why ≡ BadCount) ⊎ (why ≡ NoRendez))
+  pub tries : TriesBy old buffer.before answer new buffer.after
+
+-- it asked and got its turn, made this call, and gave the turn back
+pub record HasTurn (Asks : Holding → Holding → Type 0) (old : Sharer)
+    (Call : Reader → Reader → Type 0) (new : Sharer) : Type 0 where
   pub begun : Holding
   pub ended : Holding
-  pub asks : AsksForTurn old.holder (Ok tt) begun
-  pub reads : ReadsShared (end_of old) begun buffer answer ended
+  pub asks : Asks old.holder begun
+  pub calls : CallsShared (end_of old) begun Call ended
   pub gives_back : GivesTurnBack ended new.holder
 
--- it got no turn, for this reason, and did nothing else
-pub record HasNoTurn (old : Sharer) (buffer : Buffers) (why : Fault) (new : Sharer) :
-    Type 0 where
-  pub asks : AsksForTurn old.holder (Err why) new.holder
+-- it asked and got no turn, and did nothing else
+pub record HasNoTurn (Asks : Holding → Holding → Type 0) (old : Sharer) (buffer : Buffers)
+    (new : Sharer) : Type 0 where
+  pub asks : Asks old.holder new.holder
   pub buffer_same : buffer.after ≡ buffer.before
 
--- what a read in turn did, by its answer: a refused one got no turn, or read and was refused
-abbrev pub ReadsInTurn : Sharer → Buffers → Result ReadAnswer Fault → Sharer → Type 0
-ReadsInTurn old buffer (Ok answer) new = HasTurn old buffer (Ok answer) new
-ReadsInTurn old buffer (Err why) new =
-    HasNoTurn old buffer why new ⊎ HasTurn old buffer (Err why) new
+-- what a call in turn did, by its answer: a refused one got no turn, or called and was refused
+abbrev pub InTurn : (Buffers → Result ReadAnswer Fault → Reader → Reader → Type 0)
+    → Sharer → Buffers → Result ReadAnswer Fault → Sharer → Type 0
+InTurn Call old buffer (Ok answer) new =
+    HasTurn (AsksForTurn (Ok tt)) old (Call buffer (Ok answer)) new
+InTurn Call old buffer (Err why) new =
+    HasNoTurn (AsksForTurn (Err why)) old buffer new
+    ⊎ HasTurn (AsksForTurn (Ok tt)) old (Call buffer (Err why)) new
+
+-- what a call did that waits for no turn: not yet is also the answer where another has the turn
+abbrev pub TriesInTurn : Sharer → Buffers → Result TryAnswer Fault → Sharer → Type 0
+TriesInTurn old buffer (Ok try.NotYet) new =
+    HasNoTurn (AsksNow false) old buffer new
+    ⊎ HasTurn (AsksNow true) old (TriesOnce buffer (Ok try.NotYet)) new
+TriesInTurn old buffer answer new = HasTurn (AsksNow true) old (TriesOnce buffer answer) new

@@ -1,13 +1,14 @@
 //! All that a program names: the library's types and calls in one order, and processes that have
 //! what belongs together.
 //! Read the lists below from the top: what every call speaks of; a kernel and its processes, with
-//! `plan`; what comes back where a process is refused, with `refusals`, and children on threads,
-//! with `starting`; pipes, with `pipes`, `reading`, `sharing` and `streams`; semaphores, with
+//! `plan` and `forking`; what comes back where a process is refused, with `refusals`, and faults in
+//! words, with `texts`; pipes, with `pipes`, `reading`, `sharing` and `streams`; semaphores, with
 //! `pool` and `vacant`; timers, with `clock` and `ticker`; tag spaces, with `hall`; and what else a
 //! caller may prove.
 #![tactic(auto)]
 
 pub mod clock;
+pub mod forking;
 pub mod hall;
 pub mod pipes;
 pub mod plan;
@@ -15,8 +16,8 @@ pub mod pool;
 pub mod reading;
 pub mod refusals;
 pub mod sharing;
-pub mod starting;
 pub mod streams;
+pub mod texts;
 pub mod ticker;
 pub mod vacant;
 
@@ -24,15 +25,16 @@ pub mod vacant;
 pub use sync_base::{Fault, Flags, Mode, Note, NoteSet, Pid, Piece, RendezId, Tag, limits};
 
 // A kernel, counted from what will be made, and its processes: sleep, wakeup, notes and rfork.
+pub use crate::forking::fork;
 pub use crate::plan::Plan;
 pub use sleep_wakeup::{Done, Kernel, Opened as OpenedKernel, Proc, Roster, Start, Started};
 
 // Who waits where, for a program that hangs.
 pub use sleep_wakeup::{Look, ProcStatus, RendezStatus};
 
-// What comes back where a process, or ends, are refused; and children on threads.
+// What comes back where a process, or ends, are refused; and faults and notes in words.
 pub use crate::refusals::{Refused, Unforked};
-pub use crate::starting::{NotStarted, start_child};
+pub use crate::texts::{FaultText, NoteTexts};
 
 // Pipes, and processes that have an end of one.
 pub use crate::pipes::{Reader, Writer, fork_writers};
@@ -51,7 +53,7 @@ pub use semaphore::{OpenedSema, Sema, SemaSeat, Semacquired};
 
 // Timers, for waits that end, and seats that have them.
 pub use crate::clock::{Clock, Watch};
-pub use crate::ticker::{Beat, Ticker, Time};
+pub use crate::ticker::{Beat, RealTime, Ticker, Time};
 pub use semaphore::{OpenedTimers, TimerSeat, Timers};
 
 // Tag spaces: rendezvous, rfork of them, and processes that are members of one.

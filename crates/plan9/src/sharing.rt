@@ -6,13 +6,13 @@ use crate::pool::{Holder, Pool};
 use crate::refusals::Refused;
 use crate::vacant::NotHolder;
 use counted_slot::{Counted, FREE, Fits, TAKEN};
-use pipe_dev::{ReadAnswer, ReadEnd};
+use pipe_dev::{ReadAnswer, ReadEnd, TryAnswer};
 use sleep_wakeup::{Proc, Roster};
 use std::alloc::Global;
 use std::snapshot::Snapshot;
 use std::sync::Wait;
 use std::thread::yield_now;
-use sync_base::{Fault, Pid, RendezId};
+use sync_base::{Fault, NoteSet, Pid, RendezId};
 
 /// The end that lies between two turns.
 #[derive(Drop)]
@@ -167,21 +167,57 @@ fn lay_down<'p, R: Wait>(rt: &R, place: &Place<'p>, taken: TakenUp<'p>)
     swap(rt, place, Some(Lying { end }));
 }
 
+// Each of these makes one call of the end that it has taken up, and lays it down.
 impl<'s, 'k> Holder<'s, 'k> {
-    ghost use Rattle.plan9.specs.Sharings.{ReadsShared, buffers};
+    ghost use Rattle.plan9.specs.Sharings.{
+      CallsShared,
+      ReadsBlockOnce,
+      ReadsOnce,
+      TriesOnce,
+      buffers,
+    };
 
-    // Reads from the end that it has taken up, and lays it down.
     fn read_shared<R: Wait>(
         &mut self,
         rt: &R,
         place: &Place<'_>,
         buffer: &mut [u8],
     ) -> Result<ReadAnswer, Fault>
-        ensures { ReadsShared place.now.value self.old (buffers buffer.old buffer.new) result
-            self.new }
+        ensures { CallsShared place.now.value self.old
+            (ReadsOnce (buffers buffer.old buffer.new) result) self.new }
     {
         let mut taken = take_up(rt, place);
         let answer = taken.end.read(rt, &mut self.proc, buffer);
+        lay_down(rt, place, taken);
+        answer
+    }
+
+    fn read_block_shared<R: Wait>(
+        &mut self,
+        rt: &R,
+        place: &Place<'_>,
+        block: &mut Vec<u8>,
+    ) -> Result<ReadAnswer, Fault>
+        ensures { CallsShared place.now.value self.old
+            (ReadsBlockOnce (buffers block.old.items block.new.items) result) self.new }
+    {
+        let mut taken = take_up(rt, place);
+        let answer = taken.end.read_block(rt, &mut self.proc, block);
+        lay_down(rt, place, taken);
+        answer
+    }
+
+    fn try_shared<R: Wait>(
+        &mut self,
+        rt: &R,
+        place: &Place<'_>,
+        buffer: &mut [u8],
+    ) -> Result<TryAnswer, Fault>
+        ensures { CallsShared place.now.value self.old
+            (TriesOnce (buffers buffer.old buffer.new) result) self.new }
+    {
+        let mut taken = take_up(rt, place);
+        let answer = taken.end.try_read(&mut self.proc, buffer);
         lay_down(rt, place, taken);
         answer
     }
@@ -191,7 +227,19 @@ impl<'s, 'p, 'k> Sharer<'s, 'p, 'k> {
     ghost use Rattle.std.specs.Prelude.{◌≡◌, IfOk, IfErr};
     ghost use Rattle.semaphore.specs.Seats.{rendez_at};
     ghost use Rattle.plan9.specs.Pools.{IsSameParent, WhyNoFork, forking};
-    ghost use Rattle.plan9.specs.Sharings.{ForksSharer, IsSameSharer, ReadsInTurn, buffers, end_of};
+    ghost use Rattle.plan9.specs.Readings.{LiesIn, read_answer};
+    ghost use Rattle.plan9.specs.Sharings.{
+      ForksSharer,
+      InTurn,
+      IsSameSharer,
+      PostsAsSharer,
+      ReadsBlockOnce,
+      ReadsOnce,
+      TakesNotes,
+      TriesInTurn,
+      buffers,
+      end_of,
+    };
 
     /// Reads in its turn, which comes in the order of asking: as `Reader::read` from the end that
     /// it finds, which then lies there for the next. It waits for its turn, and where nothing is
@@ -202,10 +250,54 @@ impl<'s, 'p, 'k> Sharer<'s, 'p, 'k> {
     /// So notes end either wait, as `Interrupted`. After qlock in lock(2), and read(2).
     pub fn read<R: Wait>(&mut self, rt: &R, buffer: &mut [u8]) -> Result<ReadAnswer, Fault>
         ensures same { IsSameSharer self.old self.new }
-        ensures turn { ReadsInTurn self.old (buffers buffer.old buffer.new) result self.new }
+        ensures turn { InTurn ReadsOnce self.old (buffers buffer.old buffer.new) result self.new }
     {
         self.holder.acquire(rt)?;
         let answer = self.holder.read_shared(rt, self.place, buffer);
+        let _sum = self.holder.release(rt, 1);
+        answer
+    }
+
+    /// A `read` that says how many bytes the piece is, and `None` at the end, as
+    /// `Reader::next_piece`. It waits. Takes no memory. Refuses as `read` does.
+    #[tactic(auto, using(crate::proofs::SharingLemmas::piece_lies_in_turn))]
+    pub fn next_piece<R: Wait>(&mut self, rt: &R, buffer: &mut [u8]) -> Result<Option<usize>, Fault>
+        ensures same { IsSameSharer self.old self.new }
+        ensures turn { InTurn ReadsOnce self.old (buffers buffer.old buffer.new)
+            (read_answer result) self.new }
+        ensures fits { LiesIn buffer.new result }
+    {
+        match self.read(rt, buffer) {
+            Ok(ReadAnswer::Got(count)) => Ok(Some(count)),
+            Ok(ReadAnswer::End) => Ok(None),
+            Err(fault) => Err(fault),
+        }
+    }
+
+    /// Reads a block in its turn, as `Reader::read_block`. It waits as `read` does, and is refused
+    /// so, but for `BadCount`. Takes no memory.
+    pub fn read_block<R: Wait>(&mut self, rt: &R, block: &mut Vec<u8>) -> Result<ReadAnswer, Fault>
+        ensures same { IsSameSharer self.old self.new }
+        ensures turn { InTurn ReadsBlockOnce self.old (buffers block.old.items block.new.items)
+            result self.new }
+    {
+        self.holder.acquire(rt)?;
+        let answer = self.holder.read_block_shared(rt, self.place, block);
+        let _sum = self.holder.release(rt, 1);
+        answer
+    }
+
+    /// A `read` that does not wait: `NotYet` where another has the turn or nothing is there yet. It
+    /// waits for the semaphore's lock. Takes no memory.
+    /// Refuses as `Reader::try_read` does, where nobody else has the turn.
+    pub fn try_read<R: Wait>(&mut self, rt: &R, buffer: &mut [u8]) -> Result<TryAnswer, Fault>
+        ensures same { IsSameSharer self.old self.new }
+        ensures turn { TriesInTurn self.old (buffers buffer.old buffer.new) result self.new }
+    {
+        if !self.holder.try_acquire(rt) {
+            return Ok(TryAnswer::NotYet);
+        }
+        let answer = self.holder.try_shared(rt, self.place, buffer);
         let _sum = self.holder.release(rt, 1);
         answer
     }
@@ -230,6 +322,21 @@ impl<'s, 'p, 'k> Sharer<'s, 'p, 'k> {
             holder,
             place: self.place,
         })
+    }
+
+    /// Posts notes to a process, as `Holder::postnote`. Refuses as `NoProc`. Takes no memory and
+    /// doesn't wait.
+    pub fn postnote(&mut self, pid: Pid, set: NoteSet) -> Result<(), Fault>
+        ensures { PostsAsSharer pid set self.old result self.new }
+    {
+        self.holder.postnote(pid, set)
+    }
+
+    /// Takes the notes that are pending. Takes no memory and doesn't wait.
+    pub fn notes(&mut self) -> NoteSet
+        ensures { TakesNotes self.old result self.new }
+    {
+        self.holder.notes()
     }
 
     /// The pid of its process. Takes no memory and doesn't wait.

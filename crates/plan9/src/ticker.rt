@@ -1,7 +1,9 @@
-//! A process that tells a clock the time.
+//! A process that tells a clock the time, and real time.
 use crate::clock::Watch;
 use sleep_wakeup::Proc;
 use std::sync::Wait;
+use std::sync::atomic::AtomicU64;
+use std::sync::atomic::Ordering::SeqCst;
 use std::thread::sleep;
 use std::time::{Clock, Duration, Instant};
 use sync_base::NoteSet;
@@ -12,12 +14,52 @@ pub trait Time {
     fn next(&mut self) -> u64;
 }
 
-/// Real time: a moment each millisecond, from 0 on where it was made.
+/// Real time that a ticker and those who wait share: the milliseconds since it was made. Its `beat`
+/// is what the ticker runs by, and `now` the moment at which a wait begins.
+#[derive(Drop)]
+pub struct RealTime {
+    began: Option<Instant>,
+    told: AtomicU64,
+}
+
+impl RealTime {
+    /// Begins at the moment 0, by the system's clock. Takes no memory and doesn't wait.
+    pub fn new<R: Clock>(rt: &R) -> RealTime {
+        RealTime {
+            began: Instant::now(rt).ok(),
+            told: AtomicU64::new(0),
+        }
+    }
+
+    /// How many milliseconds have passed: at least the moment that a beat of it told last, and just
+    /// that where the clock can't be read. So a wait that begins now is not ended by a moment that
+    /// was told before. Takes no memory and doesn't wait.
+    pub fn now<R: Clock>(&self, rt: &R) -> u64 {
+        let told = self.told.load(SeqCst);
+        passed(rt, self.began).unwrap_or(told).max(told)
+    }
+
+    /// A beat that begins where this began, and shows here each moment before it tells it. Takes no
+    /// memory and doesn't wait.
+    pub fn beat<'r, R: Clock>(&'r self, rt: &'r R) -> Beat<'r, R> {
+        Beat {
+            rt,
+            began: self.began,
+            now: 0,
+            shown: Some(&self.told),
+        }
+    }
+}
+
+/// The moments of real time, in milliseconds from 0 on where it was made. Each is later than the
+/// one before, and none is ahead of the system's clock while that can be read. It does not tell
+/// each millisecond: on a busy machine the first two moments may be 32 and 36.
 #[derive(Drop)]
 pub struct Beat<'r, R> {
     rt: &'r R,
     began: Option<Instant>,
     now: u64,
+    shown: Option<&'r AtomicU64>,
 }
 
 impl<'r, R: Clock> Beat<'r, R> {
@@ -27,29 +69,33 @@ impl<'r, R: Clock> Beat<'r, R> {
             rt,
             began: Instant::now(rt).ok(),
             now: 0,
+            shown: None,
         }
     }
+}
 
-    // The milliseconds since it began, where the clock can be read.
-    fn passed(&self) -> Option<u64> {
-        let passed = self.began?.elapsed(self.rt).ok()?;
-        u64::try_from(passed.as_millis()).ok()
-    }
+// The milliseconds since then, where the clock can be read.
+fn passed<R: Clock>(rt: &R, began: Option<Instant>) -> Option<u64> {
+    let passed = began?.elapsed(rt).ok()?;
+    u64::try_from(passed.as_millis()).ok()
 }
 
 impl<'r, R: Clock> Time for Beat<'r, R> {
     ghost use Rattle.std.specs.Prelude.{◌≡◌, ◌+◌, ◌<◌, ◌^◌};
 
     /// Sleeps for a millisecond, and says how many have passed since it began: more than it said
-    /// before, up to the last number. Where the clock can't be read it counts each as one. A note
-    /// does not end the sleep. Takes no memory.
+    /// before, up to the last number. Where the clock can't be read it counts each sleep as one. A
+    /// note does not end the sleep. Takes no memory.
     fn next(&mut self) -> u64
         ensures on { self.old.now + 1 < 2 ^ 64 → self.old.now < self.new.now }
         ensures moment { result ≡ self.new.now }
     {
         sleep(self.rt, Duration::from_millis(1));
         let counted = self.now.saturating_add(1);
-        self.now = self.passed().unwrap_or(counted).max(counted);
+        self.now = passed(self.rt, self.began).unwrap_or(counted).max(counted);
+        if let Some(told) = self.shown {
+            told.fetch_max(self.now, SeqCst);
+        }
         self.now
     }
 }

@@ -1,8 +1,8 @@
-//! A ticker that a note ends, real time, and children on threads.
+//! A ticker that a note ends, real time, children on threads, and faults in words.
 use crate::kernels::{forked, kernel_of};
 use plan9::{
-    Beat, Clock, Fault, NotStarted, Note, NoteSet, OpenedKernel, Pid, Proc, Roster, Started,
-    Ticker, Time, start_child,
+    Beat, Clock, Fault, FaultText, Note, NoteSet, OpenedKernel, Pid, Proc, RealTime, Started,
+    Ticker, Time, fork,
 };
 use std::alloc::Global;
 use std::process::Abort;
@@ -27,18 +27,6 @@ impl<'k> Time for Third<'k> {
     }
 }
 
-// A clock of one seat. Where memory is refused it is asked for once more.
-fn clock_of(rt: &impl Abort, alloc: Global) -> Clock {
-    let made = match Clock::new(alloc, 1) {
-        Err(Fault::Memory) => Clock::new(alloc, 1),
-        made => made,
-    };
-    match made {
-        Ok(clock) => clock,
-        Err(_) => panic!(rt; "no clock"),
-    }
-}
-
 // It ends with the note, at its third moment.
 fn tick_to_a_note<R: Wait + Abort>(rt: &R, clock: &mut Clock, proc: Proc<'_>, child: Proc<'_>) {
     let mut time = Third {
@@ -60,8 +48,10 @@ fn a_note_ends_a_ticker(rt: HostRuntime) {
     let OpenedKernel { kernel, start } = kernel_of(&rt, rt.alloc(), 2, 1);
     let mut started = kernel.start(start);
     let child = forked(&rt, &mut started);
-    let mut clock = clock_of(&rt, rt.alloc());
-    tick_to_a_note(&rt, &mut clock, started.proc, child);
+    match Clock::new(rt.alloc(), 1) {
+        Ok(mut clock) => tick_to_a_note(&rt, &mut clock, started.proc, child),
+        Err(_) => panic!(rt; "no clock"),
+    }
 }
 
 #[test]
@@ -71,34 +61,54 @@ fn a_beat_comes_behind_a_millisecond(rt: HostRuntime) {
     assert!(rt; beat.next() >= 2);
 }
 
-// Forks a child that answers its pid from a thread, and then one for which no pid is left. Says
-// the first one's pid, and whether the second was refused.
-fn start_two<'k, R: Threads + Wait + Sync>(
-    rt: &R,
-    roster: Roster<'k>,
-    proc: Proc<'k>,
-) -> (Option<u64>, bool) {
-    let mut roster = roster;
-    let mut proc = proc;
+#[test]
+fn a_shared_moment_is_not_behind_its_beat(rt: HostRuntime) {
+    let time = RealTime::new(&rt);
+    let mut beat = time.beat(&rt);
+    let told = beat.next();
+    assert!(rt; told >= 1);
+    assert!(rt; time.now(&rt) >= told);
+}
+
+// A child answers its pid from a thread.
+fn pid_on_a_thread<R: Threads + Wait + Sync>(rt: &R, child: Proc<'_>) -> Option<u64> {
     scope(scope_env(), rt, move |scope| {
-        let first = start_child(scope, &mut roster, &mut proc, |child: Proc| {
-            move || child.pid().0
-        });
-        let second = start_child(scope, &mut roster, &mut proc, |child: Proc| {
-            move || child.pid().0
-        });
-        let pid = match first {
-            Ok(running) => Some(running.join(rt)),
-            Err(NotStarted::NoThread(run)) => Some(run()),
-            Err(NotStarted::NoProc(_)) => None,
+        let Ok(running) = scope.spawn(move || child.pid().0) else {
+            return None;
         };
-        (pid, matches!(second, Err(NotStarted::NoProc(_))))
+        Some(running.join(rt))
     })
 }
 
 #[test]
 fn a_child_runs_on_a_thread(rt: HostRuntime) {
     let OpenedKernel { kernel, start } = kernel_of(&rt, rt.alloc(), 2, 1);
-    let Started { roster, proc } = kernel.start(start);
-    assert_eq!(rt; start_two(&rt, roster, proc), (Some(1), true));
+    let Started {
+        mut roster,
+        mut proc,
+    } = kernel.start(start);
+    match fork(&mut roster, &mut proc) {
+        Ok(child) => assert_eq!(rt; pid_on_a_thread(&rt, child), Some(1)),
+        Err(_) => panic!(rt; "no pid is left"),
+    }
+    assert!(rt; fork(&mut roster, &mut proc).is_err());
+}
+
+// Where no memory is refused, the fault has this text.
+fn says(rt: &impl Abort, alloc: Global, fault: Fault, wanted: &str) {
+    if let Ok(text) = format!(in alloc; "{}", FaultText(fault)) {
+        assert_eq!(rt; text.as_str(), wanted);
+    }
+}
+
+#[test]
+fn a_fault_has_its_notes_in_words(rt: HostRuntime) {
+    let notes = NoteSet::of(Note::Alarm).join(NoteSet::of(Note::Hangup));
+    says(
+        &rt,
+        rt.alloc(),
+        Fault::Interrupted(notes),
+        "interrupted: hangup, alarm",
+    );
+    says(&rt, rt.alloc(), Fault::TimedOut, "timed out");
 }

@@ -1,17 +1,17 @@
 -- it got its turn, read, and gave the turn back
-use Rattle.plan9.specs.Sharings.{buffers}
+use Rattle.plan9.specs.Sharings.{ReadsOnce, buffers}
 use Rattle.plan9.proofs.SharingLemmas.{has_turn}
 use Rattle.plan9.proofs.sharing.Sharer.read.Goals as goal
 
 pub returns-clause-turn : goal.returns-clause-turn
 returns-clause-turn g c =
-    has_turn c.args.self.now (buffers c.args.buffer.now c.read_shared-answer.new.buffer)
+    has_turn ReadsOnce c.args.self.now (buffers c.args.buffer.now c.read_shared-answer.new.buffer)
     c.read_shared-answer.result _
     record {
       begun = c.acquire.new.self;
       ended = c.read_shared-answer.new.self;
       asks = c.in_ok-acquire.ensures.called;
-      reads = c.read_shared-answer.ensures;
+      calls = c.read_shared-answer.ensures;
       gives_back = record {
         answer = c.release-sum.result;
         called = c.release-sum.ensures.called;
