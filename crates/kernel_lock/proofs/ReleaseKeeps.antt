@@ -32,7 +32,7 @@ module _ {Object : Type 0} where
       cc
 
 -- the ledger with the request that was served, if one was
-abbrev ledger_after : {Call Reply : Type 0} → Option (Served Call Reply) →
+abbrev pub ledger_after : {Call Reply : Type 0} → Option (Served Call Reply) →
     Ledger (Served Call Reply) → Ledger (Served Call Reply)
 ledger_after None ledger = ledger
 ledger_after (Some served) ledger = ledger_with served ledger
@@ -42,18 +42,20 @@ module _ {Object State Call Reply : Type 0}
   module _ (key : Key Object) (s : table.State (Slot Object) (View Object Call Reply))
       (rule : IsOneHistory definition key s) (id : ℕ) (me : Me Object Call Reply)
       (at : get_elem? s.views id ≡ some me.0) where
-    -- what holds of the history after the release, with a request and without
-    record Follows (served : Option (Served Call Reply)) : Type 0 where
-      history : (ledger_after served rule.ledger).history ≡
+    -- what holds of the history behind the step, with a request and without, and of the seats
+    -- where this one knows what a release tells it
+    pub record Follows (served : Option (Served Call Reply)) : Type 0 where
+      pub history : (ledger_after served rule.ledger).history ≡
           history_with served rule.ledger.history
-      next : (ledger_after served rule.ledger).next ≡ rule.ledger.next
-      grown : IsPast rule.ledger.history (ledger_after served rule.ledger).history
-      legal : IsLegal (meaning_of definition) (opening_state definition key)
+      pub next : (ledger_after served rule.ledger).next ≡ rule.ledger.next
+      pub grown : IsPast rule.ledger.history (ledger_after served rule.ledger).history
+      pub legal : IsLegal (meaning_of definition) (opening_state definition key)
           (ledger_after served rule.ledger).history
-      seats : AreSeats server account_of (ledger_after served rule.ledger)
-          (set s.views id (outside_view rule.ledger.history served me.0))
+      pub seats : (view : View Object Call Reply) →
+          account_of view ≡ account_of (outside_view rule.ledger.history served me.0) →
+          AreSeats server account_of (ledger_after served rule.ledger) (set s.views id view)
 
-    follows : (served : Option (Served Call Reply)) →
+    pub follows : (served : Option (Served Call Reply)) →
         IfSome served (IsOwnRight definition key rule.ledger.history me.0) → Follows served
     follows None right =
         record {
@@ -61,8 +63,8 @@ module _ {Object State Call Reply : Type 0}
           next = refl;
           grown = past_refl rule.ledger.history;
           legal = rule.legal;
-          seats = seats_stay server account_of rule.ledger s.views id me.0
-              (outside_view rule.ledger.history None me.0) rule.seats at refl;
+          seats = λ view same.
+              seats_stay server account_of rule.ledger s.views id me.0 view rule.seats at same;
         }
     follows (Some served) right =
         record {
@@ -71,12 +73,12 @@ module _ {Object State Call Reply : Type 0}
           grown = past_cons rule.ledger.history rule.ledger.history served
               (past_refl rule.ledger.history);
           legal = (right.right, rule.legal);
-          seats = seats_enter server account_of rule.ledger s.views id me.0
-              (outside_view rule.ledger.history (Some served) me.0) served rule.seats at right.own
-              refl;
+          seats = λ view same.
+              seats_enter server account_of rule.ledger s.views id me.0 view served rule.seats at
+              right.own same;
         }
 
-    outside_given : (history : List (Served Call Reply))
+    pub outside_given : (history : List (Served Call Reply))
         (served : Option (Served Call Reply)) →
         (outside_view history served me.0).given ≡ me.0.given
     outside_given history None = refl
@@ -160,7 +162,7 @@ module _ {Object State Call Reply : Type 0}
                 (sym after.history);
             next_is = due.next_is ∙ inside.given_is ∙ sym after.next;
           })
-          after.seats
+          (after.seats (outside_view rule.ledger.history served me.0) refl)
           (outside_fits key s rule id me at
           record { ledger = ledger_after served rule.ledger; holder = rule.holder; word = 0 }
           rule.ledger.history served

@@ -1,7 +1,7 @@
 -- What the steps of a served request tell together.
 use Rattle.std.proofs.Common.{◌≡◌, ℕ, ◌<◌, true, List, [], ◌∷◌, refl, sym, ap, subst, ◌∙◌, arith}
-use Rattle.std.proofs.Common.{Option, Some}
-use Rattle.std.specs.Prelude.{IfSome}
+use Rattle.std.proofs.Common.{Option, Some, None}
+use Rattle.std.specs.Prelude.{IfSome, unwrap_or}
 use Rattle.atomic_table.specs.Table.{rest}
 use Rattle.histories.specs.declared.account.Account.{Account}
 use Rattle.histories.specs.declared.account.Share.{Share}
@@ -10,15 +10,18 @@ use Rattle.histories.specs.Account.{AreDifferent, KnowsHistory, has_number, shar
 use Rattle.histories.proofs.AccountLemmas.{number_has, numbers_in-share_after, all_gain}
 use Rattle.histories.proofs.AccountLemmas.{has_number-share_after}
 use Rattle.histories.proofs.ListLemmas.{all_map}
+use Rattle.kernel_lock.specs.declared.lock_seat.LockSeat.{LockSeat}
+use Rattle.kernel_lock.specs.declared.locked.Locked.{Locked}
 use Rattle.kernel_lock.specs.declared.view.Guarded.{Guarded}
 use Rattle.kernel_lock.specs.declared.view.Key.{Key}
 use Rattle.kernel_lock.specs.declared.view.Served.{Served}
 use Rattle.kernel_lock.specs.declared.view.Stage.TheVariants.{Outside}
 use Rattle.kernel_lock.specs.declared.view.View.{View}
-use Rattle.kernel_lock.specs.Calls.{Serves}
+use Rattle.kernel_lock.specs.Calls.{Serves, ServesBoth, ServesThen}
 use Rattle.kernel_lock.specs.Definition.{Definition, IsRight, server, meaning_of, opening_state}
 use Rattle.kernel_lock.specs.Steps.{Slot, Me, FindsObject, TakesLock, HasOnly, HasAnswered, IsDue}
-use Rattle.kernel_lock.specs.Steps.{HasReleased}
+use Rattle.kernel_lock.specs.Steps.{HasReleased, HasEntered, HasTaken, HasServed}
+use Rattle.kernel_lock.specs.Seats.{IsSeatOf, Applies, AppliesThen, served_by, view_of}
 use Rattle.kernel_lock.specs.View.{inside_view, outside_view}
 use Rattle.kernel_lock.proofs.ReleaseKeeps.{same_guarded}
 
@@ -37,22 +40,6 @@ module _ {Object Call Reply : Type 0} where
       ap (λ (account : Account (Served Call Reply)). has_number account.shares number)
       serves.account.new_is
       ∙ has_number-share_after server served old.account.shares number ∙ has
-
--- what a seat is after a request was served, once it is outside again
-pub record HasServed {Object State Call Reply : Type 0}
-    (definition : Definition Object State Call Reply) (key : Key Object)
-    (served : Served Call Reply) (before after : Me Object Call Reply) : Type 0 where
-  -- the seat is still one of this lock's
-  pub key_is : after.0.key ≡ Some key
-  -- it is outside again
-  pub stage_is : after.0.stage ≡ Outside
-  -- it has no slot
-  pub no_slot : after.1 ≡ []
-  -- its request stands behind a past that ends what it had seen
-  pub serves : Serves served before.0 after.0
-  -- and what it has seen now is a legal history, with its own requests once each
-  pub knows : KnowsHistory (meaning_of definition) (opening_state definition key) key.limit
-      after.0.account
 
 module _ {Object State Call Reply : Type 0}
     (definition : Definition Object State Call Reply) where
@@ -165,7 +152,7 @@ module _ {Object State Call Reply : Type 0}
 
     -- the lock taken, the request answered and the lock given back make one served request
     pub has_served : (final : Me Object Call Reply) → HasReleased (Some served) after final →
-        HasServed definition key served before final
+        HasServed definition key taken.history served before final
     has_served final released =
         let is = last_is final released in
         record {
@@ -173,8 +160,147 @@ module _ {Object State Call Reply : Type 0}
           stage_is = ap (λ (view : View Object Call Reply). view.stage) is.0;
           no_slot = is.1;
           serves = subst (Serves served before.0) (sym is.0) serves;
+          behind = ap (λ (view : View Object Call Reply). view.account.seen) is.0;
           knows = subst
               (λ (view : View Object Call Reply). KnowsHistory (meaning_of definition) opening
               key.limit view.account)
               (sym is.0) knows_more;
         }
+
+  -- ---- two requests in one hold of the lock
+
+  -- a request that follows is made under the number that it names, or else under the seat's own
+  pub follower_is_own : (shares : List (Share (Served Call Reply))) (own : ℕ)
+      (named : Option ℕ) → IfSome named (λ n. has_number shares n ≡ true) →
+      has_number shares own ≡ true → has_number shares (unwrap_or named own) ≡ true
+  follower_is_own shares own None names has = has
+  follower_is_own shares own (Some number) names has = names
+
+  module _ (key : Key Object) (first : Served Call Reply) (before middle : Me Object Call Reply)
+      (entered : HasEntered definition (Some first) before middle)
+      (old : Me Object Call Reply) (history : List (Served Call Reply))
+      (done : HasServed definition key history first old entered.between) where
+    -- behind the first request the seat is inside, as if it had taken the lock once more
+    abbrev pub takes_again : (by : ℕ) → has_number old.0.account.shares by ≡ true →
+        HasTaken definition key by entered.between middle
+    takes_again by has =
+        record {
+          key_is = done.key_is;
+          no_slot = done.no_slot;
+          own = keeps_numbers first old.0 entered.between.0 done.serves by has;
+          taken = entered.taken;
+        }
+
+    -- so both are served, the second right behind the first
+    pub serves_both : (second : Served Call Reply) (final : Me Object Call Reply) →
+        HasServed definition key entered.taken.history second entered.between final →
+        ServesBoth definition key first second old.0 final.0
+    serves_both second final then =
+        record {
+          between = entered.between.0;
+          knows = done.knows;
+          first_served = done.serves;
+          second_served = then.serves;
+          at_once = then.behind ∙ ap (λ (seen : List _). second ∷ seen) entered.at_once;
+        }
+
+  -- which is what was served where the second follows the first
+  pub serves_then : (key : Key Object) (own : ℕ) (first : Served Call Reply)
+      (follower : Option Call) (by : ℕ) (next : Call) (reply : Reply)
+      (old new : View Object Call Reply) → follower ≡ Some next →
+      by ≡ unwrap_or (definition.named next) own →
+      ServesBoth definition key first (record { by = by; request = next; reply = reply }) old new →
+      ServesThen definition key own first follower (Some reply) old new
+  serves_then key own first follower by next reply old new is by_is both =
+      subst
+      (λ (o : Option Call). ServesThen definition key own first o (Some reply) old new) (sym is)
+      (subst
+      (λ (number : ℕ). ServesBoth definition key first
+      (record { by = number; request = next; reply = reply }) old new)
+      by_is both)
+
+  -- what one request tells of a seat's view it tells of the seat
+  cast_serves : (old new : LockSeat Object Call Reply) (before after : View Object Call Reply)
+      (by : ℕ) (request : Call) (reply : Reply) → before ≡ view_of old → view_of new ≡ after →
+      by ≡ unwrap_or (definition.named request) old.number →
+      Serves (record { by = by; request = request; reply = reply }) before after →
+      Applies definition old request reply new
+  cast_serves old new before after by request reply was is by_is serves =
+      subst (Serves (served_by definition old request reply) (view_of old)) (sym is)
+      (subst (λ (view : View Object Call Reply). Serves (served_by definition old request reply)
+      view after) was
+      (subst (λ (number : ℕ). Serves (record { by = number; request = request; reply = reply })
+      before after) by_is serves))
+
+  -- one request or two give and take no number
+  pub then_number : (key : Key Object) (own : ℕ) (first : Served Call Reply)
+      (next : Option Call) (reply : Option Reply) (old new : View Object Call Reply) →
+      ServesThen definition key own first next reply old new →
+      new.account.number ≡ old.account.number
+  then_number key own first None None old new serves =
+      ap (λ (account : Account (Served Call Reply)). account.number) serves.account.new_is
+  then_number key own first (Some next) (Some reply) old new serves =
+      ap (λ (account : Account (Served Call Reply)). account.number)
+      serves.second_served.account.new_is
+      ∙ ap (λ (account : Account (Served Call Reply)). account.number)
+      serves.first_served.account.new_is
+  then_number key own first None (Some reply) old new serves = absurd serves
+  then_number key own first (Some next) None old new serves = absurd serves
+
+  pub then_keeps : (key : Key Object) (own : ℕ) (first : Served Call Reply)
+      (next : Option Call) (reply : Option Reply) (old new : View Object Call Reply) →
+      ServesThen definition key own first next reply old new →
+      (number : ℕ) → has_number old.account.shares number ≡ true →
+      has_number new.account.shares number ≡ true
+  then_keeps key own first None None old new serves number has =
+      keeps_numbers first old new serves number has
+  then_keeps key own first (Some next) (Some reply) old new serves number has =
+      keeps_numbers
+      (record { by = unwrap_or (definition.named next) own; request = next; reply = reply })
+      serves.between new serves.second_served number
+      (keeps_numbers first old serves.between serves.first_served number has)
+  then_keeps key own first None (Some reply) old new serves number has = absurd serves
+  then_keeps key own first (Some next) None old new serves number has = absurd serves
+
+  -- what the two tell of a seat's view they tell of the seat
+  pub applies_then : (lock : Locked Object Call Reply) (old new : LockSeat Object Call Reply)
+      (before after : View Object Call Reply) (by : ℕ) (request : Call) (reply : Reply)
+      (next : Option Call) (answer : Option Reply) → IsSeatOf lock old →
+      before ≡ view_of old → view_of new ≡ after →
+      by ≡ unwrap_or (definition.named request) old.number →
+      ServesThen definition lock.table.shared.key old.number
+      (record { by = by; request = request; reply = reply }) next answer before after →
+      AppliesThen definition lock old request reply next answer new
+  applies_then lock old new before after by request reply None None seat was is by_is serves =
+      cast_serves old new before after by request reply was is by_is serves
+  applies_then lock old new before after by request reply (Some next) (Some answer) seat was is
+      by_is serves =
+      let between : View Object Call Reply =
+      record serves.between { key = Some lock.table.shared.key; stage = Outside } in
+      let middle : LockSeat Object Call Reply =
+      record { badge = record old.badge { views = between ∷ [] }; number = old.number } in
+      let first = cast_serves old middle before between by request reply was refl by_is
+      (record { account = serves.first_served.account; given = serves.first_served.given }) in
+      record {
+        between = middle;
+        seat = record {
+          table = seat.table;
+          views = refl;
+          key = refl;
+          stage = refl;
+          number = seat.number
+              ∙ sym (ap (λ (account : Account (Served Call Reply)). account.number)
+              first.account.new_is);
+          own = keeps_numbers _ (view_of old) between first old.number seat.own;
+        };
+        number = refl;
+        history = serves.knows;
+        first = first;
+        second = subst (Serves (served_by definition middle next answer) between) (sym is)
+            (record { account = serves.second_served.account; given = serves.second_served.given });
+        at_once = ap (λ (view : View Object Call Reply). view.account.seen) is ∙ serves.at_once;
+      }
+  applies_then lock old new before after by request reply None (Some answer) seat was is by_is
+      serves = absurd serves
+  applies_then lock old new before after by request reply (Some next) None seat was is by_is
+      serves = absurd serves

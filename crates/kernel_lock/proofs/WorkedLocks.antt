@@ -6,7 +6,9 @@ use Rattle.histories.specs.History.{IsLegal, state_after, entries_by}
 use Rattle.histories.specs.declared.account.Account.{Account}
 use Rattle.histories.specs.Account.{HasAllNumbers, unused_share, first_account}
 use Rattle.histories.specs.Changes.{IsNext, LooksAt, child_account}
+use Rattle.kernel_lock.specs.Calls.{ServesBoth, ServesThen}
 use Rattle.kernel_lock.specs.Calls.{IsNew, Serves, GivesSeat, RefusesSeat, JoinsSeats, EndsHistory}
+use Rattle.kernel_lock.specs.declared.view.Key.{Key}
 use Rattle.kernel_lock.specs.declared.view.Served.{Served}
 use Rattle.kernel_lock.specs.declared.view.Stage.TheVariants.{Outside}
 use Rattle.kernel_lock.specs.declared.view.View.{View}
@@ -196,6 +198,68 @@ no_request serves =
 
 a_split_is_forgotten : Serves (served 0 3 8) (seat [] [] 2) (seat adds_three [] 1) → ⊥
 a_split_is_forgotten serves = let given = serves.given in omega (arith, given)
+
+-- ---- two requests in one hold of the lock
+
+abbrev five : Key ℕ
+five = record { opening = record { marker = _; value = 5 }; limit = 1; more = 0 }
+
+abbrev adds_two_behind : List (Served ℕ ℕ) → List (Served ℕ ℕ)
+adds_two_behind past = served 0 2 10 ∷ past
+
+-- another request between the two, no second request, and a first one that is answered wrong
+another_stands_between :
+    ServesBoth counter five (served 0 3 8) (served 0 2 10) (seat [] [] 1)
+    (seat (adds_two_behind (served 1 0 8 ∷ adds_three)) [] 1) → ⊥
+another_stands_between both =
+    let next : served 1 0 8 ∷ adds_three ≡ both.between.account.seen =
+    ap (drop 1) both.at_once in
+    let first = ap (λ (account : Account (Served ℕ ℕ)). account.seen)
+    both.first_served.account.new_is in
+    let wrong : 1 ≡ 0 = ap oldest (next ∙ first) in
+    omega (arith, wrong)
+  where
+    drop : ℕ → List (Served ℕ ℕ) → List (Served ℕ ℕ)
+    drop count [] = []
+    drop count (entry ∷ past) = past
+
+    oldest : List (Served ℕ ℕ) → ℕ
+    oldest [] = 0
+    oldest (entry ∷ past) = entry.by
+
+the_second_is_left_out :
+    ServesBoth counter five (served 0 3 8) (served 0 2 10) (seat [] [] 1)
+    (seat (adds_two_behind []) [] 1) → ⊥
+the_second_is_left_out both =
+    let first = ap (λ (account : Account (Served ℕ ℕ)). length account.seen)
+    both.first_served.account.new_is in
+    let all = ap (λ (seen : List (Served ℕ ℕ)). length seen) both.at_once in
+    omega (arith, first, all)
+
+the_first_is_answered_wrong :
+    ServesBoth counter five (served 0 3 9) (served 0 2 11) (seat [] [] 1)
+    (seat (served 0 2 11 ∷ adds_three_wrongly) [] 1) → ⊥
+the_first_is_answered_wrong both =
+    let first = both.first_served.account in
+    let none = no_more [] first.past first.looked in
+    let legal : IsLegal (meaning_of counter) 5 adds_three_wrongly =
+    subst (λ (past : List (Served ℕ ℕ)). IsLegal (meaning_of counter) 5 (served 0 3 9 ∷ past)) none
+    (subst (λ (seen : List (Served ℕ ℕ)). IsLegal (meaning_of counter) 5 seen)
+    (ap (λ (account : Account (Served ℕ ℕ)). account.seen) first.new_is)
+    both.knows.history.legal) in
+    let wrong : 9 ≡ 8 = legal.0.reply in
+    omega (arith, wrong)
+
+-- an answer where nothing follows, and none where something does
+nothing_follows_and_is_answered :
+    ServesThen counter five 0 (served 0 3 8) None (Some 10) (seat [] [] 1) (seat adds_three [] 1)
+    → ⊥
+nothing_follows_and_is_answered serves = serves
+
+what_follows_is_not_answered :
+    ServesThen counter five 0 (served 0 3 8) (Some 2) None (seat [] [] 1) (seat adds_three [] 1)
+    → ⊥
+what_follows_is_not_answered serves = serves
 
 -- a split past the limit, behind the seat's back, of a number that is known to be given
 past_the_limit : GivesSeat 1 (seat [] [] 1) (seat [] (1 ∷ []) 2) (child 2) → ⊥

@@ -1,11 +1,13 @@
 -- What each call of a lock does to what its seat knows, and to the object.
 use Rattle.std.specs.Prelude.{◌≡◌, ℕ, ◌+◌, ◌<◌, ◌≤◌, List, [], ◌∷◌, max}
+use Rattle.std.specs.Prelude.{Option, Some, None, unwrap_or}
 use Rattle.histories.specs.History.{IsHistory, state_after}
-use Rattle.histories.specs.Account.{unused_share}
+use Rattle.histories.specs.Account.{KnowsHistory, unused_share}
 use Rattle.histories.specs.Changes.{LooksAt, AddsEntry, IsNext, GivesNumber, JoinsAccounts}
+use Rattle.kernel_lock.specs.declared.view.Key.{Key}
 use Rattle.kernel_lock.specs.declared.view.Served.{Served}
 use Rattle.kernel_lock.specs.declared.view.View.{View}
-use Rattle.kernel_lock.specs.Definition.{Definition, server, meaning_of}
+use Rattle.kernel_lock.specs.Definition.{Definition, server, meaning_of, opening_state}
 
 module _ {Object Call Reply : Type 0} where
   -- a seat of a new lock: it has this number, nothing was served, it gave these numbers,
@@ -40,6 +42,31 @@ module _ {Object Call Reply : Type 0} where
   pub record JoinsSeats (first second joined : View Object Call Reply) : Type 0 where
     pub account : JoinsAccounts first.account second.account joined.account
     pub given : joined.given ≡ max first.given second.given
+
+module _ {Object State Call Reply : Type 0}
+    (definition : Definition Object State Call Reply) (key : Key Object) where
+  -- two requests were served, the second right behind the first
+  pub record ServesBoth (first second : Served Call Reply)
+      (old new : View Object Call Reply) : Type 0 where
+    -- what the seat knows between the two
+    pub between : View Object Call Reply
+    pub knows : KnowsHistory (meaning_of definition) (opening_state definition key) key.limit
+        between.account
+    pub first_served : Serves first old between
+    pub second_served : Serves second between new
+    -- no other request stands between them
+    pub at_once : new.account.seen ≡ second ∷ between.account.seen
+
+  -- a request was served, and the one that followed its answer, if one did, by the seat that it
+  -- names or else by the seat's own number
+  abbrev pub ServesThen : ℕ → Served Call Reply → Option Call → Option Reply →
+      View Object Call Reply → View Object Call Reply → Type 0
+  ServesThen own first None None old new = Serves first old new
+  ServesThen own first (Some next) (Some reply) old new =
+      ServesBoth first
+      (record { by = unwrap_or (definition.named next) own; request = next; reply = reply })
+      old new
+  ServesThen own first next reply old new = ⊥
 
 -- the end: the object is what one legal history leaves, at which the seat looked for the last time
 pub record EndsHistory {Object State Call Reply : Type 0}

@@ -1,5 +1,6 @@
 -- What clauses see of a lock and of its seats.
-use Rattle.std.specs.Prelude.{◌≡◌, ℕ, ◌+◌, ⊤, List, [], ◌∷◌, Some, IsTrue, IfSome, unwrap_or}
+use Rattle.std.specs.Prelude.{◌≡◌, ℕ, ◌+◌, ⊤, List, [], ◌∷◌, IsTrue}
+use Rattle.std.specs.Prelude.{Option, Some, None, IfSome, unwrap_or}
 use Rattle.histories.specs.declared.account.Account.{Account}
 use Rattle.histories.specs.declared.account.Share.{Share}
 use Rattle.histories.specs.Account.{HasAllNumbers, KnowsHistory, has_number, numbers_from}
@@ -121,6 +122,28 @@ module _ {Object State Call Reply : Type 0}
   abbrev pub SeesHistory : Locked Object Call Reply → LockSeat Object Call Reply → Type 0
   SeesHistory lock seat =
       KnowsHistory (meaning_of definition) (opening_of lock) (limit_of lock) (account_of seat)
+
+  -- two requests were served, the second right behind the first: as by two calls, between which
+  -- the seat is one of the lock's and no other request is made
+  pub record AppliesBoth (lock : Locked Object Call Reply) (old : LockSeat Object Call Reply)
+      (request next : Call) (reply answer : Reply) (new : LockSeat Object Call Reply)
+      : Type 0 where
+    pub between : LockSeat Object Call Reply
+    pub seat : IsSeatOf lock between
+    pub number : number_of between ≡ number_of old
+    pub history : SeesHistory lock between
+    pub first : Applies old request reply between
+    pub second : Applies between next answer new
+    pub at_once : seen_of new ≡ served_by between next answer ∷ seen_of between
+
+  -- a request was served with this reply and, where one follows it, that one too
+  abbrev pub AppliesThen :
+      Locked Object Call Reply → LockSeat Object Call Reply → Call → Reply → Option Call →
+      Option Reply → LockSeat Object Call Reply → Type 0
+  AppliesThen lock old request reply None None new = Applies old request reply new
+  AppliesThen lock old request reply (Some next) (Some answer) new =
+      AppliesBoth lock old request next reply answer new
+  AppliesThen lock old request reply next answer new = ⊥
 
   -- the object is what one legal history leaves, of which all that the seat has seen is a past
   abbrev pub Closes :

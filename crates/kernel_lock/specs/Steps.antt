@@ -8,8 +8,9 @@ use Rattle.histories.specs.Changes.{LooksAt, IsNext}
 use Rattle.kernel_lock.specs.declared.view.Guarded.{Guarded}
 use Rattle.kernel_lock.specs.declared.view.Key.{Key}
 use Rattle.kernel_lock.specs.declared.view.Served.{Served}
-use Rattle.kernel_lock.specs.declared.view.Stage.TheVariants.{Inside, Joining}
+use Rattle.kernel_lock.specs.declared.view.Stage.TheVariants.{Outside, Inside, Joining}
 use Rattle.kernel_lock.specs.declared.view.View.{View}
+use Rattle.kernel_lock.specs.Calls.{Serves}
 use Rattle.kernel_lock.specs.Definition.{Definition, IsRight, server, meaning_of, opening_state}
 use Rattle.kernel_lock.specs.View.{history_with, inside_view, outside_view, parent_view, child_view}
 use Rattle.kernel_lock.specs.View.{handing_view, handed_view, joined_view, settled_view}
@@ -103,6 +104,15 @@ module _ {Object State Call Reply : Type 0}
         (state_after (meaning_of definition) (opening_state definition key) history) served
     pub own : IsTrue (has_number view.account.shares served.by)
 
+  -- Enter: as if the seat had given the lock back, and at once had taken it again
+  pub record HasEntered (served : Option (Served Call Reply))
+      (before after : Me Object Call Reply) : Type 0 where
+    pub between : Me Object Call Reply
+    pub released : HasReleased served before between
+    pub taken : TakesLock between after
+    -- nobody has entered the history between the two
+    pub at_once : IfSome served (λ _. taken.history ≡ between.0.account.seen)
+
   -- what a release asks: the object in the slot is what the history and the request leave
   pub record IsDue (key : Key Object) (served : Option (Served Call Reply))
       (me : Me Object Call Reply) : Type 0 where
@@ -129,6 +139,29 @@ module _ {Object State Call Reply : Type 0}
     pub object_is : definition.state left.object ≡
         definition.after (definition.state found.object) request
     pub reply_is : reply ≡ definition.answer (definition.state found.object) request
+
+  -- a seat that was outside, and of which this number is one, has taken the lock
+  pub record HasTaken (key : Key Object) (by : ℕ) (before after : Me Object Call Reply)
+      : Type 0 where
+    pub key_is : before.0.key ≡ Some key
+    pub no_slot : before.1 ≡ []
+    pub own : IsTrue (has_number before.0.account.shares by)
+    pub taken : TakesLock before after
+
+  -- and is outside again, behind the request that it made inside, where it found this history
+  pub record HasServed (key : Key Object) (history : List (Served Call Reply))
+      (served : Served Call Reply) (before after : Me Object Call Reply) : Type 0 where
+    -- it is still one of this lock's
+    pub key_is : after.0.key ≡ Some key
+    pub stage_is : after.0.stage ≡ Outside
+    pub no_slot : after.1 ≡ []
+    -- its request stands behind a past that ends what it had seen
+    pub serves : Serves served before.0 after.0
+    -- which is that history
+    pub behind : after.0.account.seen ≡ served ∷ history
+    -- and what it has seen now is a legal history, with its own requests once each
+    pub knows : KnowsHistory (meaning_of definition) (opening_state definition key) key.limit
+        after.0.account
 
   -- Settle: the seat is outside, and of the two histories that it saw one is a past of the other
   pub record HasSettled (before after : Me Object Call Reply) : Type 0 where

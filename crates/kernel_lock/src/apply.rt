@@ -1,16 +1,17 @@
 //! A request to the object.
 ghost use Rattle.std.specs.Prelude.{◌≡◌, IsTrue, IfSome};
 ghost use Rattle.histories.specs.Account.{KnowsHistory, has_number};
-ghost use Rattle.kernel_lock.specs.Calls.{Serves};
+ghost use Rattle.kernel_lock.specs.Calls.{Serves, ServesThen};
 ghost use Rattle.kernel_lock.specs.Definition.{meaning_of};
-ghost use Rattle.kernel_lock.specs.Seats.{IsSeatOf, NamesOwn, Applies, SeesHistory};
+ghost use Rattle.kernel_lock.specs.Seats.{IsSeatOf, NamesOwn, Applies, AppliesThen, SeesHistory};
 ghost use Rattle.kernel_lock.specs.Seats.{limit_of, opening_of};
 ghost use Rattle.kernel_lock.specs.Steppers.{IsStepperOf, IsOutside, IsSameStepper};
-ghost use Rattle.kernel_lock.specs.Steps.{HasOnly, HasAnswered, IsDue, HasReleased};
+ghost use Rattle.kernel_lock.specs.Steps.{HasOnly, HasAnswered, IsDue, HasReleased, HasEntered};
+ghost use Rattle.kernel_lock.specs.Steps.{Me, HasTaken, HasServed};
 
 use crate::lock_seat::LockSeat;
 use crate::locked::Locked;
-use crate::object::Object;
+use crate::object::{Answers, Follows, Object};
 use crate::plays::Made;
 use crate::rule::Stepper;
 use crate::steps::SLOT;
@@ -40,6 +41,34 @@ impl<O: Object> Locked<O> {
         reply
     }
 
+    /// Has the object answer the request in its turn and, while it holds the lock, the request
+    /// that follows that answer, if one does. It takes the lock once.
+    pub fn apply_then<R: Wait, F: Follows<O::Call, O::Reply>>(
+        &self,
+        rt: &R,
+        seat: &mut LockSeat<O>,
+        request: O::Call,
+    ) -> Answers<O::Reply>
+        requires seat { IsSeatOf self.now seat.old }
+        requires named { NamesOwn O.definition seat.old request }
+        requires next { (reply : _) → IfSome (F.follower reply) (NamesOwn O.definition seat.old) }
+        ensures seat { IsSeatOf self.now seat.new }
+
+        // Both are served as by two calls of apply, and no other request stands between them.
+        ensures served { AppliesThen O.definition self.now seat.old request result.first
+            (F.follower result.first) result.second seat.new }
+
+        // What the seat has seen is a legal history.
+        ensures history { SeesHistory O.definition self.now seat.new }
+    {
+        let own = seat.number;
+        let by = O::caller(&request).unwrap_or(own);
+        let mut stepper = seat.stand();
+        let answers = self.serve_then::<R, F>(rt, &mut stepper, own, by, request);
+        seat.sit(stepper);
+        answers
+    }
+
     // Takes the lock, has the request answered and gives the lock back.
     fn serve<R: Wait>(
         &self,
@@ -60,6 +89,69 @@ impl<O: Object> Locked<O> {
             (limit_of self.now) stepper.new.me.0.account }
     {
         self.take(rt, stepper);
+        self.answer_last(stepper, by, request)
+    }
+
+    // Takes the lock, has the request answered and the one that follows, and gives the lock back.
+    fn serve_then<R: Wait, F: Follows<O::Call, O::Reply>>(
+        &self,
+        rt: &R,
+        stepper: &mut Stepper<O>,
+        own: u64,
+        by: u64,
+        request: O::Call,
+    ) -> Answers<O::Reply>
+        requires stepper { IsStepperOf self.now stepper.old }
+        requires outside { IsOutside stepper.old }
+        requires by { IsTrue (has_number stepper.old.me.0.account.shares by) }
+        requires named { IfSome (O.definition.named request) (λ number. number ≡ by) }
+        requires own { IsTrue (has_number stepper.old.me.0.account.shares own) }
+        requires next { (reply : _) → IfSome (F.follower reply) (λ next.
+            IfSome (O.definition.named next) (λ number.
+            IsTrue (has_number stepper.old.me.0.account.shares number))) }
+        ensures stepper { IsStepperOf self.now stepper.new }
+        ensures outside { IsOutside stepper.new }
+        ensures served { ServesThen O.definition self.now.table.shared.key own
+            record { by = by; request = request; reply = result.first }
+            (F.follower result.first) result.second stepper.old.me.0 stepper.new.me.0 }
+        ensures history { KnowsHistory (meaning_of O.definition) (opening_of O.definition self.now)
+            (limit_of self.now) stepper.new.me.0.account }
+    {
+        self.take(rt, stepper);
+        let asked = Snapshot::of(&request);
+        let first = self.answer(stepper, request);
+        match F::next(&first) {
+            None => {
+                self.give_served::<Brand>(stepper, by, &asked, &first);
+                Answers {
+                    first,
+                    second: None,
+                }
+            }
+            Some(next) => {
+                self.enter_served::<Brand>(stepper, by, &asked, &first);
+                let by_next = O::caller(&next).unwrap_or(own);
+                let second = self.answer_last(stepper, by_next, next);
+                Answers {
+                    first,
+                    second: Some(second),
+                }
+            }
+        }
+    }
+
+    // Has the request answered by who has taken the lock, and gives the lock back.
+    fn answer_last(&self, stepper: &mut Stepper<O>, by: u64, request: O::Call) -> O::Reply
+        requires stepper { IsStepperOf self.now stepper.old }
+        requires taken { (before : Me O O.Call O.Reply) ×
+            HasTaken O.definition self.now.table.shared.key by before stepper.old.me }
+        requires named { IfSome (O.definition.named request) (λ number. number ≡ by) }
+        ensures table { stepper.new.table_id ≡ stepper.old.table_id }
+        ensures served { (before : Me O O.Call O.Reply) →
+            (taken : HasTaken O.definition self.now.table.shared.key by before stepper.old.me) →
+            HasServed O.definition self.now.table.shared.key taken.taken.history
+            record { by = by; request = request; reply = result } before stepper.new.me }
+    {
         let asked = Snapshot::of(&request);
         let reply = self.answer(stepper, request);
         self.give_served::<Brand>(stepper, by, &asked, &reply);
@@ -96,5 +188,22 @@ impl<O: Object> Locked<O> {
         ensures released { HasReleased M.served stepper.old.me stepper.new.me }
     {
         self.give::<M>(stepper);
+    }
+
+    // Writes the request into the history, and keeps the lock. Its reply is there for the proof
+    // alone, too.
+    fn enter_served<M: Made<O::Call, O::Reply>>(
+        &self,
+        stepper: &mut Stepper<O>,
+        _by: u64,
+        _request: &Snapshot<O::Call>,
+        _reply: &O::Reply,
+    )
+        requires stepper { IsStepperOf self.now stepper.old }
+        requires due { IsDue O.definition self.now.table.shared.key M.served stepper.old.me }
+        ensures stepper { IsSameStepper stepper.old stepper.new }
+        ensures entered { HasEntered O.definition M.served stepper.old.me stepper.new.me }
+    {
+        self.enter::<M>(stepper);
     }
 }

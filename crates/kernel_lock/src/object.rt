@@ -27,3 +27,22 @@ pub trait Object: Drop {
         ensures after { definition.state self.new ≡
             definition.after (definition.state self.old) request };
 }
+
+/// What a seat asks behind a request while it still holds the lock, by what that was answered.
+pub trait Follows<Q, R> {
+    ghost use Rattle.std.specs.Prelude.{Option};
+
+    /// The request that follows this answer, if one does.
+    ghost follower: { R → Option Q };
+
+    /// The same.
+    fn next(reply: &R) -> Option<Q>
+        ensures { result ≡ follower reply.now };
+}
+
+/// What two requests were answered, of which the second followed the first or did not.
+#[derive(Drop)]
+pub struct Answers<R> {
+    pub first: R,
+    pub second: Option<R>,
+}

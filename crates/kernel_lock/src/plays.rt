@@ -1,6 +1,7 @@
 //! What each kind of step tells its seat. These types are for the proofs alone.
 ghost use Rattle.std.specs.Prelude.{Option, None};
-ghost use Rattle.kernel_lock.specs.Steps.{HasAcquired, HasWatched, HasReleased, HasSettled};
+ghost use Rattle.kernel_lock.specs.Steps.{HasAcquired, HasWatched, HasReleased, HasEntered};
+ghost use Rattle.kernel_lock.specs.Steps.{HasSettled};
 ghost use Rattle.kernel_lock.specs.View.{
   parent_view,
   child_view,
@@ -47,6 +48,16 @@ pub struct Release<M> {
 
 impl<O, Q, R, M: Made<Q, R>> Play<Option<Guarded<O>>, View<O, Q, R>> for Release<M> {
     ghost then = { λ _ before _ after. HasReleased M.served before after };
+}
+
+pub struct Enter<O, M> {
+    object: PhantomData<O>,
+    made: PhantomData<M>,
+}
+
+impl<O: Object, M: Made<O::Call, O::Reply>> Play<Option<Guarded<O>>, View<O, O::Call, O::Reply>>
+    for Enter<O, M> {
+    ghost then = { λ _ before _ after. HasEntered O.definition M.served before after };
 }
 
 pub struct Divide;

@@ -6,12 +6,12 @@ ghost use Rattle.kernel_lock.specs.declared.view.Stage.TheVariants.{Inside};
 ghost use Rattle.kernel_lock.specs.Seats.{limit_of};
 ghost use Rattle.kernel_lock.specs.Steppers.{IsStepperOf, IsOutside, IsSameStepper};
 ghost use Rattle.kernel_lock.specs.Steps.{TakesLock, HasDivided, HasHanded, IsDue, HasReleased};
-ghost use Rattle.kernel_lock.specs.Steps.{HasMerged, HasOnly};
+ghost use Rattle.kernel_lock.specs.Steps.{HasMerged, HasOnly, HasEntered};
 ghost use Rattle.kernel_lock.specs.View.{HasOwn, HasSecond};
 
 use crate::locked::Locked;
 use crate::object::Object;
-use crate::plays::{Acquire, Divide, Hand, Made, Merge, Release, Settle, Watch};
+use crate::plays::{Acquire, Divide, Enter, Hand, Made, Merge, Release, Settle, Watch};
 use crate::rule::Stepper;
 use crate::view::Guarded;
 use crate::waiters::GivenBack;
@@ -113,6 +113,20 @@ impl<O: Object> Locked<O> {
     {
         self.table.shared.store::<Release<M>>(stepper, WORD, FREE);
         GivenBack::by(stepper)
+    }
+
+    /// Writes the request that was served into the history, and keeps the lock.
+    // Step Enter: load of the word. The slot is the seat's, before and after.
+    // Seat: Inside, and behind it Inside with the history and that request, which it has seen.
+    // Keeps the rule: the request was answered right, the history is legal with it,
+    // and no other seat is inside.
+    pub(crate) fn enter<M: Made<O::Call, O::Reply>>(&self, stepper: &mut Stepper<O>)
+        requires stepper { IsStepperOf self.now stepper.old }
+        requires due { IsDue O.definition self.now.table.shared.key M.served stepper.old.me }
+        ensures stepper { IsSameStepper stepper.old stepper.new }
+        ensures entered { HasEntered O.definition M.served stepper.old.me stepper.new.me }
+    {
+        self.table.shared.load::<Enter<O, M>>(stepper, WORD);
     }
 
     /// Gives a seat with the next number.

@@ -1,6 +1,6 @@
 -- the request that the release tells of
 use Rattle.std.proofs.Common.{Some}
-use Rattle.kernel_lock.proofs.locked.Locked.serve.Given as goal
+use Rattle.kernel_lock.proofs.locked.Locked.answer_last.Given as goal
 
 abbrev pub ghosts-give_served : goal.ghosts-give_served
 ghosts-give_served g a =
