@@ -1,176 +1,112 @@
--- A wakeup that has returned stands in the steps of whoever made it, and releases its sleeper.
+-- The wakeups of a pipe, by the law of all devices: a wakeup that has returned releases its sleeper.
 use Rattle.std.proofs.Common.{◌≡◌, ◌≢◌, ◌⊎◌, inl, inr, eqb, true, false, ℕ, zero, suc, ◌+◌, ◌<◌}
-use Rattle.std.proofs.Common.{List, [], ◌∷◌, ◌++◌, Option, None, Some, sym, subst, arith}
-use Rattle.std.specs.List.{cons_option}
+use Rattle.std.proofs.Common.{List, [], ◌∷◌, Option, refl, sym, subst, arith}
 use Rattle.std.proofs.lemmas.Bool.Decides.{eqb_tells}
-use Rattle.sync_base.specs.declared.ids.RendezId.{RendezId}
+use Rattle.std.specs.List.{AllByRecursion}
 use Rattle.sync_base.specs.declared.limits.TheConstants.{TOP_LEVEL}
-use Rattle.sleep_core.specs.declared.answer.Answer.TheVariants as answer
-use Rattle.sleep_core.specs.declared.event.Event.TheVariants.{Raise, Take, Mark}
-use Rattle.sleep_core.specs.History.{Deed, HasReturned, deed_of, history_of}
-use Rattle.sleep_core.specs.History.Deed.{Missed, Marked}
+use Rattle.rendez_words.specs.Process.{Process}
 use Rattle.sleep_core.specs.Laws.{ReleasesBelow}
-use Rattle.sleep_core.specs.Runs.{Entry, world_of}
-use Rattle.rendez_words.specs.declared.view.Sizes.{Sizes}
-use Rattle.rendez_words.specs.Process.{Process, pid_in, sleeper_of}
-use Rattle.rendez_words.specs.Rule.{ShowsCore}
-use Rattle.rendez_words.specs.Steps.{raises, takes}
-use Rattle.rendez_words.proofs.LawLemmas.{receipts_release}
-use Rattle.sleep_wakeup.specs.Calls.{Ends}
-use Rattle.sleep_wakeup.specs.Deeds.{WakesOne}
+use Rattle.sleep_core.specs.Runs.{world_of}
 use Rattle.pipe_dev.specs.declared.row.Row.{Row}
 use Rattle.pipe_dev.specs.Rendezes.{WakesWriters, WakesWith, reader_rendez, writer_rendez}
-use Rattle.pipe_dev.specs.WaitLaws.{HasGoneOn, WritesWakeTheReader, ReadsWakeEachWriter}
+use Rattle.pipe_dev.specs.WaitLaws.{WritesWakeTheReader, ReadsWakeEachWriter}
 use Rattle.pipe_dev.specs.WaitLaws.{HangupsWakeAll, TriesWakeEachWriter}
+use Rattle.waiting.specs.Wakeups.{Wakeup, WakesEach}
+use Rattle.waiting.proofs.WakeupLemmas.{returned_release}
 
--- what has returned stays so
-returned_cons : (deed : Option Deed) (past : List Deed) (rendez level : ℕ)
-    → HasReturned past rendez level → HasReturned (cons_option deed past) rendez level
-returned_cons None past rendez level returned = returned
-returned_cons (Some (Missed by)) past rendez level returned = inr returned
-returned_cons (Some (Marked by sleeper)) past rendez level returned = inr returned
-returned_cons (Some deed) past rendez level returned = returned
+abbrev of_reader : Row → ℕ → Wakeup
+of_reader row level = record { rendez = reader_rendez row; level = level }
 
--- in the steps of a process
-abbrev Has : RendezId → ℕ → List Entry → Type 0
-Has rendez level trace = HasReturned (history_of trace) rendez.0 level
+abbrev of_writer : Row → ℕ → ℕ → Wakeup
+of_writer row level writer = record { rendez = writer_rendez row writer; level = level }
 
-has_more : (entry : Entry) (trace : List Entry) (rendez : RendezId) (level : ℕ)
-    → Has rendez level trace → Has rendez level (entry ∷ trace)
-has_more entry trace rendez level returned =
-    returned_cons (deed_of entry.answer entry.event) (history_of trace) rendez.0 level returned
+-- the wakeups of the first so many writers with this level, behind others
+abbrev of_writers : Row → ℕ → ℕ → List Wakeup → List Wakeup
+of_writers row zero level past = past
+of_writers row (suc count) level past =
+    of_writer row level count ∷ of_writers row count level past
 
-has_since : (since trace : List Entry) (rendez : RendezId) (level : ℕ)
-    → Has rendez level trace → Has rendez level (since ++ trace)
-has_since [] trace rendez level returned = returned
-has_since (entry ∷ since) trace rendez level returned =
-    has_more entry (since ++ trace) rendez level (has_since since trace rendez level returned)
+module _ (row : Row) (level : ℕ) (past : List Wakeup) where
+  -- just these were made
+  wakes_each : (count : ℕ) (first between after : Process) → WakesEach past first between
+      → WakesWriters row count level between after
+      → WakesEach (of_writers row count level past) first after
+  wakes_each zero first between after woken same =
+      subst (WakesEach past first) (sym same) woken
+  wakes_each (suc count) first between after woken wakes =
+      record {
+        between = wakes.between;
+        others = wakes_each count first between wakes.between woken wakes.others;
+        last = wakes.last;
+      }
 
--- a wakeup has returned
-has_woken : (before : Process) (rendez : RendezId) (level : ℕ) (after : Process)
-    → WakesOne before rendez level after → Has rendez level after.trace
-has_woken before rendez level after wakes =
-    subst (λ (r : RendezId). Has r level after.trace) wakes.woken.rendez_is
-    (subst (λ (n : ℕ). Has wakes.receipt.rendez n after.trace) wakes.woken.level_is
-    wakes.woken.receipt)
-
--- and what had returned before has returned still
-has_still : (before : Process) (woken : RendezId) (level' : ℕ) (after : Process) (rendez : RendezId)
-    (level : ℕ) → WakesOne before woken level' after → Has rendez level before.trace
-    → Has rendez level after.trace
-has_still before woken level' after rendez level wakes returned = by wakes.woken.ends
-  where
-    raised : Process
-    raised = raises before woken level'
-
-    raised_has : Has rendez level raised.trace
-    raised_has =
-        has_more (record {
-          maker = before.pid;
-          event = Raise (pid_in before) woken level';
-          answer =
-              answer.Owing;
-        })
-        before.trace rendez level returned
-
-    by : Ends raised after → Has rendez level after.trace
-    by (inl nobody) =
-        subst (λ (p : Process). Has rendez level p.trace) (sym nobody)
-        (has_more
-        (record { maker = raised.pid; event = Take (pid_in raised); answer = answer.Nobody })
-        raised.trace rendez level raised_has)
-    by (inr sleeper) =
-        subst (λ (p : Process). Has rendez level p.trace) (sym sleeper.1)
-        (has_more
-        (record {
-          maker = raised.pid;
-          event = Mark (pid_in raised);
-          answer =
-              answer.Marked (sleeper_of (takes raised sleeper.0));
-        })
-        (takes raised sleeper.0).trace rendez level
-        (has_more
-        (record {
-          maker = raised.pid;
-          event = Take (pid_in raised);
-          answer =
-              answer.Holding sleeper.0;
-        })
-        raised.trace rendez level raised_has))
-
--- each of the writers was woken
-each_woken : (row : Row) (count level : ℕ) (before after : Process)
-    → WakesWriters row count level before after → (writer : ℕ) → writer < count
-    → Has (writer_rendez row writer) level after.trace
-each_woken row zero level before after wakes writer low = absurd (omega (arith, low))
-each_woken row (suc count) level before after wakes writer low =
-    by (eqb_tells writer count)
-    (λ lower. each_woken row count level before wakes.between wakes.others writer lower)
-  where
-    by : ((eqb writer count ≡ true) × (writer ≡ count))
-        ⊎ ((eqb writer count ≡ false) × (writer ≢ count))
-        → (writer < count → Has (writer_rendez row writer) level wakes.between.trace)
-        → Has (writer_rendez row writer) level after.trace
-    by (inl same) others =
-        subst (λ (n : ℕ). Has (writer_rendez row n) level after.trace) (sym same.1)
-        (has_woken wakes.between (writer_rendez row count) level after wakes.last)
-    by (inr differ) others =
-        has_still wakes.between (writer_rendez row count) level after (writer_rendez row writer)
-        level wakes.last
-        (others (below writer count low differ.1))
+  module _ (Holds : Wakeup → Type 0) where
+    -- what holds of each holds of the wakeup of each writer
+    of_each : (count writer : ℕ) → writer < count
+        → AllByRecursion Holds (of_writers row count level past)
+        → Holds (of_writer row level writer)
+    of_each zero writer low all = absurd (omega (arith, low))
+    of_each (suc count) writer low all = by (eqb_tells writer count)
       where
-        below : (a b : ℕ) → a < suc b → a ≢ b → a < b
-        below a b low differ = omega (arith, low, differ)
+        by : ((eqb writer count ≡ true) × (writer ≡ count))
+            ⊎ ((eqb writer count ≡ false) × (writer ≢ count))
+            → Holds (of_writer row level writer)
+        by (inl same) = subst (λ n. Holds (of_writer row level n)) (sym same.1) all.0
+        by (inr differ) = of_each count writer (below writer count low differ.1) all.1
+          where
+            below : (a b : ℕ) → a < suc b → a ≢ b → a < b
+            below a b low differ = omega (arith, low, differ)
 
--- the wakeups of others since leave it returned
-still_has : (row : Row) (count level : ℕ) (before after : Process) (rendez : RendezId) (level' : ℕ)
-    → WakesWriters row count level before after → Has rendez level' before.trace
-    → Has rendez level' after.trace
-still_has row zero level before after rendez level' wakes returned =
-    subst (λ (p : Process). Has rendez level' p.trace) (sym wakes) returned
-still_has row (suc count) level before after rendez level' wakes returned =
-    has_still wakes.between (writer_rendez row count) level after rendez level' wakes.last
-    (still_has row count level before wakes.between rendez level' wakes.others returned)
-
--- whoever sleeps there is released
-releases : (sizes : Sizes) (s : _) (shows : ShowsCore sizes s) (after : Process) (rendez : RendezId)
-    (level : ℕ) → HasGoneOn s.views after → Has rendez level after.trace
-    → ReleasesBelow (world_of sizes.procs sizes.rendez shows.run) rendez level
-releases sizes s shows after rendez level gone returned =
-    receipts_release sizes s shows gone.seat gone.part rendez level gone.there
-    (subst (λ (trace : List Entry). Has rendez level trace) (sym gone.since.new_is)
-    (has_since gone.since.since after.trace rendez level returned))
+    -- and of the others
+    of_past : (count : ℕ) → AllByRecursion Holds (of_writers row count level past)
+        → AllByRecursion Holds past
+    of_past zero all = all
+    of_past (suc count) all = of_past count all.1
 
 -- once a write has returned, whoever fell asleep on the reader's Rendez below its number is not
 -- posted there
 pub writes_wake_the_reader : WritesWakeTheReader
 writes_wake_the_reader sizes s shows call number old new accepts gone =
-    releases sizes s shows new.process (reader_rendez call.row) number gone
-    (has_woken old.process (reader_rendez call.row) number new.process accepts.woken)
+    (returned_release sizes s shows (of_reader call.row number ∷ []) old.process new.process
+    (record { between = old.process; others = refl; last = accepts.woken }) gone).0
 
 -- once a read that took a write out has returned, whoever fell asleep on a writer's Rendez below
 -- the number of that write is not posted there
 pub reads_wake_each_writer : ReadsWakeEachWriter
 reads_wake_each_writer sizes s shows key row old new left takes gone writer low =
-    releases sizes s shows new.process (writer_rendez row writer) (left.place + 1) gone
-    (each_woken row row.writers (left.place + 1) old.process new.process takes.woken writer low)
+    of_each row (left.place + 1) []
+    (λ wakeup. ReleasesBelow (world_of sizes.procs sizes.rendez shows.run) wakeup.rendez
+    wakeup.level) row.writers writer low
+    (returned_release sizes s shows (of_writers row row.writers (left.place + 1) []) old.process
+    new.process
+    (wakes_each row (left.place + 1) [] row.writers old.process old.process new.process refl
+    takes.woken) gone)
 
 -- so of a try that took writes out
 pub tries_wake_each_writer : TriesWakeEachWriter
 tries_wake_each_writer sizes s shows key row old came new tries gone number is writer low =
-    releases sizes s shows new.reader.process (writer_rendez row writer) number gone
-    (each_woken row row.writers number old.reader.process new.reader.process
+    of_each row number []
+    (λ wakeup. ReleasesBelow (world_of sizes.procs sizes.rendez shows.run) wakeup.rendez
+    wakeup.level) row.writers writer low
+    (returned_release sizes s shows (of_writers row row.writers number []) old.reader.process
+    new.reader.process
+    (wakes_each row number [] row.writers old.reader.process old.reader.process
+    new.reader.process refl
     (subst (λ (n : Option ℕ). WakesWith row n old.reader.process new.reader.process) is
-    tries.woken) writer low)
+    tries.woken)) gone)
 
 -- once a hangup has returned, whoever fell asleep on a Rendez of the direction is not posted there
 pub hangups_wake_all : HangupsWakeAll
 hangups_wake_all sizes s shows row before after wakes gone =
+    let Releases : Wakeup → Type 0 =
+    λ wakeup. ReleasesBelow (world_of sizes.procs sizes.rendez shows.run) wakeup.rendez
+    wakeup.level in
+    let past = of_reader row TOP_LEVEL ∷ [] in
+    let all = returned_release sizes s shows (of_writers row row.writers TOP_LEVEL past) before
+    after
+    (wakes_each row TOP_LEVEL past row.writers before wakes.between after
+    (record { between = before; others = refl; last = wakes.reader }) wakes.writers) gone in
     record {
-      reader = releases sizes s shows after (reader_rendez row) TOP_LEVEL gone
-          (still_has row row.writers TOP_LEVEL wakes.between after (reader_rendez row) TOP_LEVEL
-          wakes.writers
-          (has_woken before (reader_rendez row) TOP_LEVEL wakes.between wakes.reader));
-      writers = λ writer low. releases sizes s shows after (writer_rendez row writer) TOP_LEVEL gone
-          (each_woken row row.writers TOP_LEVEL wakes.between after wakes.writers writer low);
+      reader = (of_past row TOP_LEVEL past Releases row.writers all).0;
+      writers = λ writer low. of_each row TOP_LEVEL past Releases row.writers writer low all;
     }

@@ -1,17 +1,11 @@
 -- No wakeup of a pipe is lost: who waits for a write or for room is taken out of the Rendez by the
 -- wakeup of the call that made its condition true, once that call has returned.
-use Rattle.std.specs.Prelude.{◌≡◌, ◌+◌, ◌<◌, ℕ, List, Some}
-use mathlib.Core.Option.{some}
-use lib.ListN.{get_elem?}
-use Rattle.histories.specs.History.{IsPast}
+use Rattle.std.specs.Prelude.{◌≡◌, ◌+◌, ◌<◌, ℕ, Some}
 use Rattle.sync_base.specs.declared.limits.TheConstants.{TOP_LEVEL}
 use Rattle.sleep_core.specs.Laws.{ReleasesBelow}
 use Rattle.sleep_core.specs.Runs.{world_of}
 use Rattle.sleep_core.specs.State.{State}
 use Rattle.rendez_words.specs.declared.view.Sizes.{Sizes}
-use Rattle.rendez_words.specs.declared.view.View.{View}
-use Rattle.rendez_words.specs.declared.view.View.TheVariants as view
-use Rattle.rendez_words.specs.declared.view.Part as seated
 use Rattle.rendez_words.specs.Process.{Process}
 use Rattle.rendez_words.specs.Rule.{ShowsCore}
 use Rattle.block_queue.specs.declared.view.Key.{Key}
@@ -22,13 +16,7 @@ use Rattle.pipe_dev.specs.Filling.{last_number}
 use Rattle.pipe_dev.specs.ReadCalls.{Reader, TakesOut, Calling, TriesOn}
 use Rattle.pipe_dev.specs.Rendezes.{WakesAll, reader_rendez, writer_rendez}
 use Rattle.pipe_dev.specs.WriteCalls.{WriteCall, Writer, Accepts}
-
--- between any two steps of running threads, the process of these steps has a seat and has gone on
-pub record HasGoneOn (views : List View) (process : Process) : Type 0 where
-  pub seat : ℕ
-  pub part : seated.Part
-  pub there : get_elem? views seat ≡ some (view.Process part)
-  pub since : IsPast process.trace part.trace
+use Rattle.waiting.specs.Wakeups.{HasGoneOn}
 
 -- Whoever fell asleep on the reader's Rendez below the number of a write that was accepted is no
 -- longer posted there, once that write has returned.

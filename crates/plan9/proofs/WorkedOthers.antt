@@ -13,10 +13,11 @@ use Rattle.tag_space.specs.declared.space.TagSpace.{TagSpace}
 use Rattle.tag_space.specs.Members as members
 use Rattle.semaphore.specs.declared.sema.Sema.{Sema}
 use Rattle.semaphore.specs.declared.sema.SemaSeat.{SemaSeat}
-use Rattle.semaphore.specs.Acquiring.{Acquires}
+use Rattle.semaphore.specs.Acquiring.{Waits}
 use Rattle.semaphore.specs.Releasing.{Releases}
 use Rattle.semaphore.specs.Seats as seats
 use Rattle.semaphore.specs.Ticking.{Ticks}
+use Rattle.waiting.specs.Waiting.{point}
 use Rattle.sync_base.specs.declared.note.NoteSet.{NoteSet}
 use Rattle.pipe_dev.specs.declared.answers.ReadAnswer.{ReadAnswer}
 use Rattle.pipe_dev.specs.Ends.{WriteSide, IsSameWriteEnd}
@@ -29,7 +30,7 @@ use Rattle.plan9.specs.declared.sharing.Sharer.{Sharer}
 use Rattle.plan9.specs.declared.ticker.Ticker.{Ticker}
 use Rattle.plan9.specs.Halls.{IsRowOfSpace, IsAdmitted}
 use Rattle.plan9.specs.Plans.{CountsProcs}
-use Rattle.plan9.specs.Pools.{Holding, IsSeated, IsFurtherVacancy, got, holder}
+use Rattle.plan9.specs.Pools.{Holding, IsSeated, IsFurtherVacancy, got, holder_point}
 use Rattle.plan9.specs.Readings.{ReadsPiece}
 use Rattle.plan9.specs.Refusals.{ComesBack, ComeBack}
 use Rattle.plan9.specs.Sharings.{AsksForTurn, Buffers, GivesTurnBack, HasNoTurn, HasTurn, ReadsOnce}
@@ -98,8 +99,8 @@ module _ (Why : Fault → Type 0) (ends : List WriteSide) (refused : Unforked) w
 -- ---- turns
 
 who_gives_a_turn_back_releases_one : (old new : Holding) → (gives : GivesTurnBack old new)
-    → Releases old.sema.first 1 gives.answer gives.called.deeds
-who_gives_a_turn_back_releases_one old new gives = gives.called.promise
+    → Releases old.sema 1 (holder_point old) gives.answer (holder_point new)
+who_gives_a_turn_back_releases_one old new gives = gives.called
 
 module _ (old new : Sharer) (buffer : Buffers) where
   who_reads_in_turn_keeps_its_seat : (answer : Result ReadAnswer Fault)
@@ -108,9 +109,10 @@ module _ (old new : Sharer) (buffer : Buffers) where
   who_reads_in_turn_keeps_its_seat answer turn = turn.calls.seat_is
 
   who_gets_no_turn_asked_for_it : (why : Fault)
-      → (none : HasNoTurn (AsksForTurn (Err why)) old buffer new)
-      → Acquires (holder old.holder) (got (Err why)) none.asks.deeds
-  who_gets_no_turn_asked_for_it why none = none.asks.promise
+      → HasNoTurn (AsksForTurn (Err why)) old buffer new
+      → Waits old.holder.sema (holder_point old.holder) (got (Err why))
+      (holder_point new.holder)
+  who_gets_no_turn_asked_for_it why none = none.asks.takes
 
 -- ---- streams
 
@@ -141,9 +143,9 @@ module _ (old new : Ticker) where
   a_tick_is_at_its_kernel ticks = ticks.words_are
 
   a_tick_is_one_of_its_timers : (ticks : TicksOnce old new)
-      → Ticks old.watch.timers.procs (procs_of ticks.looked.words) ticks.now ticks.expired
-      ticks.called.deeds
-  a_tick_is_one_of_its_timers ticks = ticks.called.promise
+      → Ticks old.watch.timers (procs_of ticks.looked.words) ticks.now ticks.expired
+      (point old.watch.seat ticks.looked) (point new.watch.seat new.proc)
+  a_tick_is_one_of_its_timers ticks = ticks.called
 
   ticks_that_no_notes_end : (came : NoteSet) → ((before : Ticker) → ¬ EndsTicking before came new)
       → ¬ TicksOn old came new

@@ -44,7 +44,6 @@ pub use Rattle.kernel_lock.specs.Calls as LockCalls
 pub use Rattle.kernel_lock.specs.Seats as LockSeats
 -- semaphores and timers
 pub use Rattle.semaphore.specs.Acquiring
-pub use Rattle.semaphore.specs.Deeds
 pub use Rattle.semaphore.specs.Opening as SemaOpening
 pub use Rattle.semaphore.specs.Releasing
 pub use Rattle.semaphore.specs.Seats as SemaSeats
@@ -52,6 +51,7 @@ pub use Rattle.semaphore.specs.SemaLaws
 pub use Rattle.semaphore.specs.Ticking
 pub use Rattle.semaphore.specs.TimerLaws
 pub use Rattle.semaphore.specs.Timers
+pub use Rattle.semaphore.specs.Timing
 -- how a call waits
 pub use Rattle.waiting.specs.Waiting
 -- tag spaces

@@ -12,8 +12,8 @@ use Rattle.semaphore.specs.declared.acquiring.Semacquired.{Semacquired}
 use Rattle.semaphore.specs.declared.acquiring.Semacquired.TheVariants as sema
 use Rattle.semaphore.specs.declared.sema.Sema.{Sema}
 use Rattle.semaphore.specs.declared.sema.SemaSeat.{SemaSeat}
-use Rattle.semaphore.specs.Deeds.{Caller, Standing}
-use Rattle.semaphore.specs.Seats.{HasRow, IsNewSema, IsSemaSeatOf, caller_at, stands}
+use Rattle.semaphore.specs.Seats.{HasRow, IsNewSema, IsSemaSeatOf}
+use Rattle.waiting.specs.Waiting.{Point, point}
 use Rattle.plan9.specs.declared.vacant.Unseated.{Unseated}
 use Rattle.plan9.specs.Vacancies.{Vacancy}
 
@@ -45,13 +45,9 @@ IsNewPool roster value procs pool =
 
 -- ---- who holds
 
--- who calls
-abbrev pub holder : Holding → Caller
-holder holding = caller_at holding.sema holding.running holding.seat
-
--- where it stands
-abbrev pub stands_holding : Holding → Standing
-stands_holding holding = stands holding.running holding.seat
+-- where a holder's call stands
+abbrev pub holder_point : Holding → Point SemaSeat
+holder_point holding = point holding.seat holding.running
 
 -- the same process of the same kernel, with the same seat at the same semaphore
 pub record IsSameHolder (old new : Holding) : Type 0 where

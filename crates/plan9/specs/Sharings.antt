@@ -11,7 +11,6 @@ use Rattle.rendez_words.specs.Steps.{notes, drains}
 use Rattle.rendez_words.specs.Words.{procs_of}
 use Rattle.sleep_wakeup.specs.Kernel.{Running, Unused, HasRendez, rendez_less}
 use Rattle.semaphore.specs.Acquiring.{Semacquires}
-use Rattle.semaphore.specs.Deeds.{Calls}
 use Rattle.semaphore.specs.Opening.{WhyNotOpened}
 use Rattle.sleep_core.specs.Limits.{IsProcCount}
 use Rattle.semaphore.specs.Releasing.{Releases}
@@ -28,7 +27,7 @@ use Rattle.plan9.specs.declared.sharing.Shared.{Shared}
 use Rattle.plan9.specs.declared.sharing.Sharer.{Sharer}
 use Rattle.plan9.specs.declared.sharing.Unshared.{Unshared}
 use Rattle.plan9.specs.Pools.{Holding, IsNewPool, IsFirstHolder, IsSameHolder}
-use Rattle.plan9.specs.Pools.{ForksHolder, got, got_now, holder, stands_holding}
+use Rattle.plan9.specs.Pools.{ForksHolder, got, got_now, holder_point}
 use Rattle.plan9.specs.Readings.{ReadsBy}
 
 -- the end that is shared, as it was before
@@ -92,20 +91,17 @@ pub record TakesNotes (old : Sharer) (came : NoteSet) (new : Sharer) : Type 0 wh
 -- it asked for a turn, and waited for it where another process had it
 abbrev pub AsksForTurn : Result ⊤ Fault → Holding → Holding → Type 0
 AsksForTurn answer old new =
-    Calls (holder old) (stands_holding old) (stands_holding new)
-    (Semacquires true (holder old) (got answer))
+    Semacquires true old.sema (holder_point old) (got answer) (holder_point new)
 
 -- it asked for a turn, and waited for none
 abbrev pub AsksNow : Bool → Holding → Holding → Type 0
 AsksNow has old new =
-    Calls (holder old) (stands_holding old) (stands_holding new)
-    (Semacquires false (holder old) (got_now has))
+    Semacquires false old.sema (holder_point old) (got_now has) (holder_point new)
 
 -- it gave the turn back, once, and woke who got it
 pub record GivesTurnBack (old new : Holding) : Type 0 where
   pub answer : Result ℕ Fault
-  pub called : Calls (holder old) (stands_holding old) (stands_holding new)
-      (Releases old.sema.first 1 answer)
+  pub called : Releases old.sema 1 (holder_point old) answer (holder_point new)
 
 -- a buffer, before and behind a call
 pub record Buffers : Type 0 where

@@ -5,9 +5,8 @@ use Rattle.sync_base.specs.NoteSet.{no_notes}
 use Rattle.rendez_words.specs.Steps.{drains}
 use Rattle.rendez_words.specs.Words.{procs_of}
 use Rattle.sleep_wakeup.specs.Kernel.{Running}
-use Rattle.semaphore.specs.Deeds.{Calls}
-use Rattle.semaphore.specs.Seats.{stands_ticking, ticker}
 use Rattle.semaphore.specs.Ticking.{Ticks}
+use Rattle.waiting.specs.Waiting.{point}
 use Rattle.pipe_dev.specs.Rounds.{Rounds}
 use Rattle.plan9.specs.declared.ticker.Ticker.{Ticker}
 use Rattle.plan9.specs.Watches.{IsSameWatch}
@@ -25,9 +24,8 @@ pub record TicksOnce (old new : Ticker) : Type 0 where
   pub expired : ℕ
   pub same : IsSameWatch old.watch new.watch
   pub words_are : new.proc.words ≡ looked.words
-  pub called : Calls (ticker looked old.watch.seat) (stands_ticking looked old.watch.seat)
-      (stands_ticking new.proc new.watch.seat)
-      (Ticks old.watch.timers.procs (procs_of looked.words) now expired)
+  pub called : Ticks old.watch.timers (procs_of looked.words) now expired
+      (point old.watch.seat looked) (point new.watch.seat new.proc)
 
 -- these notes were pending, and it did nothing but take them
 pub record EndsTicking (old : Ticker) (came : NoteSet) (new : Ticker) : Type 0 where

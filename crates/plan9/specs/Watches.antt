@@ -5,8 +5,8 @@ use Rattle.sync_base.specs.declared.fault.Fault.TheVariants as fault
 use Rattle.kernel_lock.specs.Seats.{number_of, Splits, KnowsAllGiven}
 use Rattle.semaphore.specs.declared.timers.Timers.{Timers}
 use Rattle.semaphore.specs.declared.timers.TimerSeat.{TimerSeat}
-use Rattle.semaphore.specs.Deeds.{Caller, Standing}
-use Rattle.semaphore.specs.Seats.{AreNewTimers, IsTimerSeatOf, stands_timed, timed_caller}
+use Rattle.semaphore.specs.Seats.{AreNewTimers, IsTimerSeatOf}
+use Rattle.semaphore.specs.Timing.{TimedPoint, timed_point}
 use Rattle.plan9.specs.Pools.{Holding}
 
 -- a clock: its timers, and the first seat as long as nobody has it
@@ -54,10 +54,6 @@ abbrev pub WhyNoWatch : Watching → Watching → Fault → Type 0
 WhyNoWatch old new fault.NoProc = KnowsAllGiven old.timers.lock old.seat.seat new.seat.seat
 WhyNoWatch old new other = ⊥
 
--- who holds and watches, until a moment, and where it stands
-abbrev pub timed_holder : Holding → Watching → ℕ → Caller
-timed_holder holding watch moment =
-    timed_caller holding.sema holding.running holding.seat watch.seat moment
-
-abbrev pub stands_watching : Holding → Watching → Standing
-stands_watching holding watch = stands_timed holding.running holding.seat watch.seat
+-- where the call of a holder with a watch stands
+abbrev pub watched_point : Holding → Watching → TimedPoint
+watched_point holding watch = timed_point holding.seat watch.seat holding.running

@@ -84,9 +84,8 @@ impl Clock {
 impl<'t> Watch<'t> {
     ghost use Rattle.std.specs.Prelude.{◌≡◌, IfOk, IfErr};
     ghost use Rattle.rendez_words.specs.Words.{procs_of};
-    ghost use Rattle.semaphore.specs.Deeds.{Calls};
-    ghost use Rattle.semaphore.specs.Seats.{stands_ticking, ticker};
     ghost use Rattle.semaphore.specs.Ticking.{Ticks};
+    ghost use Rattle.waiting.specs.Waiting.{point};
     ghost use Rattle.plan9.specs.Watches.{IsFurtherWatch, IsSameWatch, WhyNoWatch};
 
     /// A further seat, for another process. Refuses as `NoProc` where the clock has had all its
@@ -110,9 +109,8 @@ impl<'t> Watch<'t> {
     pub fn tick<R: Wait>(&mut self, rt: &R, proc: &mut Proc<'_>, now: u64) -> u64
         ensures same { IsSameWatch self.old self.new }
         ensures words { proc.new.words ≡ proc.old.words }
-        ensures called { Calls (ticker proc.old self.old.seat)
-            (stands_ticking proc.old self.old.seat) (stands_ticking proc.new self.new.seat)
-            (Ticks self.old.timers.procs (procs_of proc.old.words) now result) }
+        ensures called { Ticks self.old.timers (procs_of proc.old.words) now result
+            (point self.old.seat proc.old) (point self.new.seat proc.new) }
     {
         self.timers.tick(rt, proc, &mut self.seat, now)
     }

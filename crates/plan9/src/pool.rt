@@ -198,12 +198,12 @@ impl<'s, 'k> Holder<'s, 'k> {
     ghost use Rattle.sync_base.specs.declared.fault.Fault.TheVariants.{NoProc};
     ghost use Rattle.rendez_words.specs.Steps.{notes, drains};
     ghost use Rattle.rendez_words.specs.Words.{procs_of};
-    ghost use Rattle.semaphore.specs.Acquiring.{AcquiresInTime, Semacquires};
-    ghost use Rattle.semaphore.specs.Deeds.{Calls};
+    ghost use Rattle.semaphore.specs.Acquiring.{Semacquires};
     ghost use Rattle.semaphore.specs.Releasing.{Releases};
-    ghost use Rattle.semaphore.specs.Seats.{rendez_at, timers_seen};
+    ghost use Rattle.semaphore.specs.Seats.{rendez_at};
     ghost use Rattle.semaphore.specs.Timers.{deadline_of};
-    ghost use Rattle.plan9.specs.Watches.{IsSameWatch, stands_watching, timed_holder};
+    ghost use Rattle.semaphore.specs.Timing.{AcquiresInTime};
+    ghost use Rattle.plan9.specs.Watches.{IsSameWatch, watched_point};
     ghost use Rattle.plan9.specs.Refusals.{ComesBack};
     ghost use Rattle.plan9.specs.Pools.{
       ForksHolder,
@@ -216,8 +216,7 @@ impl<'s, 'k> Holder<'s, 'k> {
       got,
       got_now,
       forking,
-      holder,
-      stands_holding,
+      holder_point,
     };
 
     /// Takes a unit, and waits where there is none. After semacquire(2).
@@ -229,8 +228,8 @@ impl<'s, 'k> Holder<'s, 'k> {
     /// again. Takes no memory.
     pub fn acquire<R: Wait>(&mut self, rt: &R) -> Result<(), Fault>
         ensures same { IsSameHolder self.old self.new }
-        ensures called { Calls (holder self.old) (stands_holding self.old)
-            (stands_holding self.new) (Semacquires true (holder self.old) (got result)) }
+        ensures called { Semacquires true self.old.sema
+            (holder_point self.old) (got result) (holder_point self.new) }
     {
         self.acquire_probed(rt, &mut NoProbe)
     }
@@ -239,8 +238,8 @@ impl<'s, 'k> Holder<'s, 'k> {
     /// the semaphore is asked first, 2 before and 3 after each sleep, 4 at the end.
     pub fn acquire_probed<R: Wait, P: Probe>(&mut self, rt: &R, probe: &mut P) -> Result<(), Fault>
         ensures same { IsSameHolder self.old self.new }
-        ensures called { Calls (holder self.old) (stands_holding self.old)
-            (stands_holding self.new) (Semacquires true (holder self.old) (got result)) }
+        ensures called { Semacquires true self.old.sema
+            (holder_point self.old) (got result) (holder_point self.new) }
     {
         match self
             .sema
@@ -256,8 +255,8 @@ impl<'s, 'k> Holder<'s, 'k> {
     /// lock. Takes no memory.
     pub fn try_acquire<R: Wait>(&mut self, rt: &R) -> bool
         ensures same { IsSameHolder self.old self.new }
-        ensures called { Calls (holder self.old) (stands_holding self.old)
-            (stands_holding self.new) (Semacquires false (holder self.old) (got_now result)) }
+        ensures called { Semacquires false self.old.sema
+            (holder_point self.old) (got_now result) (holder_point self.new) }
     {
         self.try_acquire_probed(rt, &mut NoProbe)
     }
@@ -266,8 +265,8 @@ impl<'s, 'k> Holder<'s, 'k> {
     /// end.
     pub fn try_acquire_probed<R: Wait, P: Probe>(&mut self, rt: &R, probe: &mut P) -> bool
         ensures same { IsSameHolder self.old self.new }
-        ensures called { Calls (holder self.old) (stands_holding self.old)
-            (stands_holding self.new) (Semacquires false (holder self.old) (got_now result)) }
+        ensures called { Semacquires false self.old.sema
+            (holder_point self.old) (got_now result) (holder_point self.new) }
     {
         match self
             .sema
@@ -297,11 +296,8 @@ impl<'s, 'k> Holder<'s, 'k> {
     ) -> Result<(), Fault>
         ensures same { IsSameHolder self.old self.new }
         ensures watch { IsSameWatch watch.old watch.new }
-        ensures called { let moment = deadline_of now ms in
-            let caller = timed_holder self.old watch.old moment in
-            Calls caller (stands_watching self.old watch.old)
-            (stands_watching self.new watch.new)
-            (AcquiresInTime caller (timers_seen watch.old.timers watch.new.seat) moment result) }
+        ensures called { AcquiresInTime self.old.sema watch.old.timers (deadline_of now ms)
+            (watched_point self.old watch.old) result (watched_point self.new watch.new) }
     {
         self.acquire_within_probed(rt, watch, now, ms, &mut NoProbe)
     }
@@ -318,11 +314,8 @@ impl<'s, 'k> Holder<'s, 'k> {
     ) -> Result<(), Fault>
         ensures same { IsSameHolder self.old self.new }
         ensures watch { IsSameWatch watch.old watch.new }
-        ensures called { let moment = deadline_of now ms in
-            let caller = timed_holder self.old watch.old moment in
-            Calls caller (stands_watching self.old watch.old)
-            (stands_watching self.new watch.new)
-            (AcquiresInTime caller (timers_seen watch.old.timers watch.new.seat) moment result) }
+        ensures called { AcquiresInTime self.old.sema watch.old.timers (deadline_of now ms)
+            (watched_point self.old watch.old) result (watched_point self.new watch.new) }
     {
         self.sema.tsemacquire_probed(
             rt,
@@ -344,8 +337,8 @@ impl<'s, 'k> Holder<'s, 'k> {
     /// It waits for the semaphore's lock. Takes no memory.
     pub fn release<R: Wait>(&mut self, rt: &R, count: u32) -> Result<u32, Fault>
         ensures same { IsSameHolder self.old self.new }
-        ensures called { Calls (holder self.old) (stands_holding self.old)
-            (stands_holding self.new) (Releases self.old.sema.first count result) }
+        ensures called { Releases self.old.sema count
+            (holder_point self.old) result (holder_point self.new) }
     {
         self.sema
             .semrelease(rt, &mut self.proc, &mut self.seat, count)

@@ -7,6 +7,7 @@ use Rattle.std.specs.List.{AllByRecursion}
 use Rattle.histories.specs.declared.account.Share.{Share}
 use Rattle.histories.specs.Account.{KnowsHistory, HasItsEntries, has_number}
 use Rattle.histories.specs.History.{state_after, IsLegal, entries_by}
+use Rattle.kernel_lock.specs.declared.view.View.{View}
 use Rattle.kernel_lock.specs.Calls.{Serves}
 use Rattle.kernel_lock.specs.Definition.{server}
 use Rattle.semaphore.specs.declared.limits.TheConstants.{MAX_VALUE}
@@ -17,7 +18,6 @@ use Rattle.semaphore.specs.declared.timer_object.Timer.TheVariants.{Unset}
 use Rattle.semaphore.specs.declared.timer_object.TimerCall.{TimerCall}
 use Rattle.semaphore.specs.declared.timer_object.TimerReply.{TimerReply}
 use Rattle.semaphore.specs.Asking.{IsTold, IsTimed}
-use Rattle.semaphore.specs.Deeds.{SemaView, TimerView}
 use Rattle.semaphore.specs.Seats.{is_waiting}
 use Rattle.semaphore.specs.SemaHistory.{SemaEntry, sema_meaning}
 use Rattle.semaphore.specs.TimerHistory.{TimerEntry, timer_meaning, has_timer}
@@ -43,7 +43,7 @@ names_it (Some n) shares number mine own are =
 
 -- what the seat at a semaphore knew, and what it knows behind a call
 pub record HasCalled (at_first : SemaState) (procs number : ℕ) (waits : Bool) (call : SemaCall)
-    (answer : SemaReply) (old new : SemaView) : Type 0 where
+    (answer : SemaReply) (old new : View SemaState SemaCall SemaReply) : Type 0 where
   -- the units that the semaphore began with
   pub value : ℕ
   -- they are no more than a semaphore may have
@@ -65,7 +65,7 @@ pub record HasCalled (at_first : SemaState) (procs number : ℕ) (waits : Bool) 
 
 -- a seat that called is told what some sound state answers, in which it is idle unless it waits
 pub is_told : (at_first : SemaState) (procs number : ℕ) (waits : Bool) (call : SemaCall)
-    (answer : SemaReply) (old new : SemaView)
+    (answer : SemaReply) (old new : View SemaState SemaCall SemaReply)
     → HasCalled at_first procs number waits call answer old new
     → IsTold procs number waits call answer
 is_told at_first procs number waits call answer old new h =
@@ -93,7 +93,7 @@ is_told at_first procs number waits call answer old new h =
 
 -- the same of a seat at timers
 pub record HasTimed (at_first : List Timer) (procs number : ℕ) (set : Bool) (call : TimerCall)
-    (answer : TimerReply) (old new : TimerView) : Type 0 where
+    (answer : TimerReply) (old new : View (List Timer) TimerCall TimerReply) : Type 0 where
   -- at first no timer was set
   pub opening_is : at_first ≡ replicate procs Unset
   -- the calls that the seat had made before
@@ -112,7 +112,7 @@ pub record HasTimed (at_first : List Timer) (procs number : ℕ) (set : Bool) (c
 -- a seat that called is told what some timers answer, among which its own may be set unless it has
 -- one
 pub is_timed : (at_first : List Timer) (procs number : ℕ) (set : Bool) (call : TimerCall)
-    (answer : TimerReply) (old new : TimerView)
+    (answer : TimerReply) (old new : View (List Timer) TimerCall TimerReply)
     → HasTimed at_first procs number set call answer old new
     → IsTimed procs number set call answer
 is_timed at_first procs number set call answer old new h =

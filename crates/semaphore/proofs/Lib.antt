@@ -1,4 +1,3 @@
-mod AcquireLemmas
 mod AskLemmas
 mod Cases
 mod EarlierLemmas
@@ -6,20 +5,21 @@ mod LineLemmas
 mod NamedLemmas
 mod OwnSemaLemmas
 mod OwnTimerLemmas
-mod ReleaseLemmas
+mod RequestLemmas
 mod SemaLawLemmas
 mod SemaLemmas
 mod TellLemmas
-mod TimedOutcomeLemmas
-mod TimedWaitLemmas
+mod TickLemmas
+mod TimedLemmas
 mod TimerLemmas
 mod TournamentLemmas
-mod WaitLemmas
+mod UnitLemmas
+mod WokenLemmas
+mod WorkedAsking
 mod WorkedCalls
-mod WorkedEndings
 mod WorkedOpenings
 mod WorkedSeats
+mod WorkedTimed
 mod WorkedUnits
 pub mod Broken
-pub mod BrokenCalls
 pub mod BrokenTimers

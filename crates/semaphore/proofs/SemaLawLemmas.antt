@@ -39,7 +39,9 @@ below_of a b is = grind (arith, nat_tests)
 pub above_of : (a b : ℕ) → nat_lt a b ≡ false → b ≤ a
 above_of a b is = grind (arith, nat_tests)
 
-seat_of : (s : SemaState) (seat : ℕ) (r x : SemaReply) → r ≢ reply.Busy → r ≡
+-- where a request of a seat is answered anything but Busy, it is one of the semaphore's seats, and
+-- that is the answer
+pub seat_of : (s : SemaState) (seat : ℕ) (r x : SemaReply) → r ≢ reply.Busy → r ≡
     (if is_seat s seat then x else reply.Busy) → (seat < length s.stages) × (r ≡ x)
 seat_of s seat r x apart is =
     let both = test_of r x (is_seat s seat) apart is in

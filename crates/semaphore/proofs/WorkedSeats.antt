@@ -1,36 +1,37 @@
--- What is no lock of a semaphore or of timers, no seat of them, and nobody who calls with one: each
--- against one row.
-use Rattle.std.proofs.Common.{◌≡◌, ◌≢◌, ◌<◌, ◌≤◌, ◌+◌, ◌^◌, ℕ, Bool, false, List, [], Option}
-use Rattle.std.proofs.Common.{length, ap, sym, ◌∙◌, arith}
+-- What is no lock of a semaphore or of timers, and no seat of them: each against one row.
+use Rattle.std.proofs.Common.{◌≡◌, ◌≢◌, ◌<◌, ◌≤◌, ◌+◌, ◌^◌, ℕ, Bool, true, false, List, [], ◌∷◌}
+use Rattle.std.proofs.Common.{Option, Some, length, refl, ap, sym, ◌∙◌, arith}
 use Rattle.std.specs.Prelude.{replicate}
 use Rattle.rendez_words.specs.declared.words.Words.{Words}
-use Rattle.rendez_words.specs.Process.{pid_in}
 use Rattle.rendez_words.specs.Words.{rendez_of}
-use Rattle.sleep_wakeup.specs.Kernel.{Running}
 use Rattle.kernel_lock.specs.declared.locked.Locked.{Locked}
 use Rattle.kernel_lock.specs.Seats.{IsSeatOf, SeesHistory, shares_of, number_of, limit_of}
 use Rattle.kernel_lock.specs.Seats.{opening_of}
+use Rattle.semaphore.specs.declared.acquiring.SetTimer.{SetTimer}
 use Rattle.semaphore.specs.declared.due.Due.{Due}
 use Rattle.semaphore.specs.declared.limits.TheConstants.{MAX_VALUE}
 use Rattle.semaphore.specs.declared.sema.Sema.{Sema}
 use Rattle.semaphore.specs.declared.sema.SemaSeat.{SemaSeat}
 use Rattle.semaphore.specs.declared.sema_object.SemaCall.{SemaCall}
+use Rattle.semaphore.specs.declared.sema_object.SemaCall.TheVariants.{Acquire}
 use Rattle.semaphore.specs.declared.sema_object.SemaReply.{SemaReply}
+use Rattle.semaphore.specs.declared.sema_object.SemaReply.TheVariants.{Acquired}
 use Rattle.semaphore.specs.declared.timer_object.Timer.{Timer}
 use Rattle.semaphore.specs.declared.timer_object.Timer.TheVariants.{Unset}
 use Rattle.semaphore.specs.declared.timer_object.TimerCall.{TimerCall}
 use Rattle.semaphore.specs.declared.timer_object.TimerReply.{TimerReply}
 use Rattle.semaphore.specs.declared.timers.Timers.{Timers}
 use Rattle.semaphore.specs.declared.timers.TimerSeat.{TimerSeat}
-use Rattle.semaphore.specs.Deeds.{Caller}
 use Rattle.semaphore.specs.Definitions.{sema_definition, timer_definition}
 use Rattle.semaphore.specs.Opening.{IsSemaLock, IsTimerLock}
 use Rattle.semaphore.specs.SeatLine.{IsRing}
-use Rattle.semaphore.specs.Seats.{IsSeatAt, IsSeatAtTimers, IsCallerAt, HasRow, is_waiting}
-use Rattle.semaphore.specs.Seats.{rendez_at}
+use Rattle.semaphore.specs.Seats.{IsSeatAt, IsSeatAtTimers, IsTimerSet, HasRow, is_waiting}
+use Rattle.semaphore.specs.Seats.{own_of}
+use Rattle.semaphore.specs.SemaHistory.{SemaEntry, taken}
 use Rattle.semaphore.specs.TimerHistory.{has_timer}
 use Rattle.semaphore.specs.Tournament.{IsTournament}
 use Rattle.semaphore.specs.Units.{SemaState}
+use Rattle.semaphore.proofs.Broken.{entry}
 
 -- ---- locks
 
@@ -97,18 +98,15 @@ module _ (timers : Timers) (set : Bool) (seat : TimerSeat) where
       → false ≡ set
   who_made_no_call_has_no_timer at none = sym (ap has_timer none) ∙ at.set_is
 
-module _ (sema : Sema) (running : Running) (seat : SemaSeat) (caller : Caller) where
-  another_process_calls : caller.pid ≢ pid_in running.process
-      → ¬ IsCallerAt sema running seat caller
-  another_process_calls other at = other at.pid_is
+-- a call whose timer is to be set has set it
+a_timer_that_is_not_set : (timer : SetTimer)
+    → ¬ IsSeatAtTimers timer.timers.now true timer.seat.now → ¬ IsTimerSet (Some timer)
+a_timer_that_is_not_set timer unset set = unset set
 
-  who_calls_sleeps_elsewhere : caller.rendez ≢ rendez_at sema seat
-      → ¬ IsCallerAt sema running seat caller
-  who_calls_sleeps_elsewhere other at = other at.rendez_is
-
-  who_calls_has_another_number : caller.number ≢ number_of seat.seat
-      → ¬ IsCallerAt sema running seat caller
-  who_calls_has_another_number other at = other at.number_is
+-- a seat without a call was given nothing, and one with a call what that brought
+the_units_of_a_seat : (taken (own_of {Entry = SemaEntry} []) ≡ 0)
+    × (taken (own_of (record { number = 3; mine = entry 3 (Acquire 3) Acquired ∷ [] } ∷ [])) ≡ 1)
+the_units_of_a_seat = (refl, refl)
 
 -- ---- sizes
 

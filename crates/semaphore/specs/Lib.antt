@@ -1,6 +1,5 @@
 pub mod Acquiring
 pub mod Asking
-pub mod Deeds
 pub mod Definitions
 pub mod Due
 pub mod Opening
@@ -13,6 +12,7 @@ pub mod Ticking
 pub mod TimerHistory
 pub mod TimerLaws
 pub mod Timers
+pub mod Timing
 pub mod Tournament
-pub mod Turns
 pub mod Units
+pub mod WakeLaws

@@ -1,15 +1,14 @@
 -- What clauses see of a semaphore, of timers, and of their seats.
-use Rattle.std.specs.Prelude.{◌≡◌, ◌≤◌, ◌+◌, ⊤, ℕ, Bool, true, false, List, [], ◌∷◌, Some, None}
+use Rattle.std.specs.Prelude.{◌≡◌, ◌≤◌, ◌+◌, ⊤, ℕ, Bool, true, false, List, [], ◌∷◌}
+use Rattle.std.specs.Prelude.{Option, Some, None}
+use Rattle.histories.specs.declared.account.Share.{Share}
 use Rattle.sync_base.specs.declared.ids.RendezId.{RendezId}
 use Rattle.rendez_words.specs.declared.words.Words.{Words}
-use Rattle.rendez_words.specs.Process.{pid_in}
 use Rattle.rendez_words.specs.Words.{rendez_of}
-use Rattle.sleep_wakeup.specs.Kernel.{Running, Unused}
-use Rattle.kernel_lock.specs.Seats.{IsSeatOf, SeesHistory, shares_of, number_of, view_of, seen_of}
-use Rattle.kernel_lock.specs.Seats.{opening_of, IsFirstSeat}
-use Rattle.kernel_lock.specs.View.{spent_view}
-use Rattle.semaphore.specs.declared.acquiring.Until.{Until}
-use Rattle.semaphore.specs.declared.acquiring.Until.TheVariants as until
+use Rattle.sleep_wakeup.specs.Kernel.{Unused}
+use Rattle.kernel_lock.specs.Seats.{IsSeatOf, SeesHistory, shares_of, number_of, opening_of}
+use Rattle.kernel_lock.specs.Seats.{IsFirstSeat}
+use Rattle.semaphore.specs.declared.acquiring.SetTimer.{SetTimer}
 use Rattle.semaphore.specs.declared.sema.Sema.{Sema}
 use Rattle.semaphore.specs.declared.sema.SemaSeat.{SemaSeat}
 use Rattle.semaphore.specs.declared.timers.Timers.{Timers}
@@ -19,10 +18,8 @@ use Rattle.semaphore.specs.declared.sema_object.SemaCall.TheVariants.{Acquire, C
 use Rattle.semaphore.specs.declared.sema_object.SemaReply.{SemaReply}
 use Rattle.semaphore.specs.declared.sema_object.SemaReply.TheVariants as reply
 use Rattle.semaphore.specs.Definitions.{sema_definition, timer_definition}
-use Rattle.semaphore.specs.Deeds.{Caller, Standing}
-use Rattle.semaphore.specs.Acquiring.{TimersSeen}
 use Rattle.semaphore.specs.Opening.{IsSemaLock, IsTimerLock}
-use Rattle.semaphore.specs.SemaHistory.{SemaEntry}
+use Rattle.semaphore.specs.SemaHistory.{SemaEntry, taken}
 use Rattle.semaphore.specs.TimerHistory.{TimerEntry, has_timer}
 
 -- ---- semaphores
@@ -62,48 +59,22 @@ opening_value sema = (opening_of sema_definition sema.lock).value
 abbrev pub HasRow : Sema → Words → Type 0
 HasRow sema words = sema.first + sema.procs ≤ rendez_of words
 
+-- the Rendez of the seat with this number
+abbrev pub rendez_of_seat : Sema → ℕ → RendezId
+rendez_of_seat sema number = record { 0 = sema.first + number }
+
 -- the Rendez of a seat
 abbrev pub rendez_at : Sema → SemaSeat → RendezId
-rendez_at sema seat = record { 0 = sema.first + number_of seat.seat }
+rendez_at sema seat = rendez_of_seat sema (number_of seat.seat)
 
--- a process that calls with its seat
-abbrev pub caller_at : Sema → Running → SemaSeat → Caller
-caller_at sema running seat =
-    record {
-      pid = pid_in running.process;
-      rendez = rendez_at sema seat;
-      number = number_of seat.seat;
-      timer = 0;
-      deadline = None;
-    }
+-- the calls of a seat that has one number
+abbrev pub own_of : {Entry : Type 0} → List (Share Entry) → List Entry
+own_of [] = []
+own_of (share ∷ shares) = share.mine
 
--- where it stands
-abbrev pub stands : Running → SemaSeat → Standing
-stands running seat =
-    record { process = running.process; seat = view_of seat.seat; timer = spent_view }
-
--- it makes its steps for this caller
-pub record IsCallerAt (sema : Sema) (running : Running) (seat : SemaSeat) (caller : Caller) :
-    Type 0 where
-  pub pid_is : caller.pid ≡ pid_in running.process
-  pub rendez_is : caller.rendez ≡ rendez_at sema seat
-  pub number_is : caller.number ≡ number_of seat.seat
-
--- where it stands then; its seat at the timers, if it has one, is as before
-abbrev pub goes_on : Running → SemaSeat → Standing → Standing
-goes_on running seat standing =
-    record standing { process = running.process; seat = view_of seat.seat }
-
--- its process has made more steps, and all else is as before
-abbrev pub stepped : Running → Standing → Standing
-stepped running standing = record standing { process = running.process }
-
--- it has asked the semaphore, or the timers
-abbrev pub asked : SemaSeat → Standing → Standing
-asked seat standing = record standing { seat = view_of seat.seat }
-
-abbrev pub timed : TimerSeat → Standing → Standing
-timed seat standing = record standing { timer = view_of seat.seat }
+-- the units that its calls brought a seat
+abbrev pub units_given : SemaSeat → ℕ
+units_given seat = taken (own_of (shares_of seat.seat))
 
 -- ---- timers
 
@@ -121,44 +92,10 @@ pub record IsSeatAtTimers (timers : Timers) (set : Bool) (seat : TimerSeat) : Ty
 abbrev pub IsTimerSeatOf : Timers → TimerSeat → Type 0
 IsTimerSeatOf timers seat = IsSeatAtTimers timers false seat
 
--- where a tick is to end a wait, its timer is set
-abbrev pub IsTimerSet : Until → Type 0
-IsTimerSet until.Granted = ⊤
-IsTimerSet (until.Ticked timers timer) = IsSeatAtTimers timers.now true timer.now
-
--- whether a tick is to end it
-abbrev pub is_ticked : Until → Bool
-is_ticked until.Granted = false
-is_ticked (until.Ticked timers timer) = true
-
--- what the seat has seen
-abbrev pub timers_seen : Timers → TimerSeat → TimersSeen
-timers_seen timers seat =
-    record { opening = opening_of timer_definition timers.lock; history = seen_of seat.seat }
-
--- a process that calls with both its seats, and a deadline
-abbrev pub timed_caller : Sema → Running → SemaSeat → TimerSeat → ℕ → Caller
-timed_caller sema running seat timer moment =
-    record (caller_at sema running seat) { timer = number_of timer.seat; deadline = Some moment }
-
-abbrev pub stands_timed : Running → SemaSeat → TimerSeat → Standing
-stands_timed running seat timer =
-    record (stands running seat) { timer = view_of timer.seat }
-
--- a process that ticks
-abbrev pub ticker : Running → TimerSeat → Caller
-ticker running timer =
-    record {
-      pid = pid_in running.process;
-      rendez = record { 0 = 0 };
-      number = 0;
-      timer = number_of timer.seat;
-      deadline = None;
-    }
-
-abbrev pub stands_ticking : Running → TimerSeat → Standing
-stands_ticking running timer =
-    record { process = running.process; seat = spent_view; timer = view_of timer.seat }
+-- a call that has a timer has set it
+abbrev pub IsTimerSet : Option SetTimer → Type 0
+IsTimerSet None = ⊤
+IsTimerSet (Some timer) = IsSeatAtTimers timer.timers.now true timer.seat.now
 
 -- ---- how they are made
 

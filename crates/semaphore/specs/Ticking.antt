@@ -1,66 +1,47 @@
--- What tick promises, over what a call did. Own: tsemacquire in semacquire(2) has a clock of its
--- own.
-use Rattle.std.specs.Prelude.{◌≡◌, ◌≤◌, ⊤, ℕ, nat_lt, List, [], ◌∷◌, length}
-use Rattle.std.specs.List.{filter, AllByRecursion}
+-- What tick promises. Own: tsemacquire in semacquire(2) has a clock of its own.
+use Rattle.std.specs.Prelude.{◌≡◌, ◌⊎◌, ◌≤◌, ℕ, nat_lt, IsTrue, false, List, [], ◌∷◌, length}
+use Rattle.rendez_words.specs.Process.{Process}
+use Rattle.rendez_words.specs.Steps.{notes}
 use Rattle.sync_base.specs.declared.ids.Pid.{Pid}
 use Rattle.sync_base.specs.declared.note.Note.TheVariants.{Expired}
 use Rattle.sync_base.specs.NoteSet.{only}
 use Rattle.semaphore.specs.declared.timer_object.TimerCall.TheVariants.{Expire}
 use Rattle.semaphore.specs.declared.timer_object.TimerReply.TheVariants as told
-use Rattle.semaphore.specs.Deeds.{Deed}
-use Rattle.semaphore.specs.Deeds.Deed.{Times, Posts}
+use Rattle.semaphore.specs.declared.timers.Timers.{Timers}
+use Rattle.semaphore.specs.declared.timers.TimerSeat.{TimerSeat}
+use Rattle.semaphore.specs.Asking.{AsksTimers}
+use Rattle.waiting.specs.Waiting.{Point}
 
--- the processes whose timers expired
-abbrev pub ended_in : List Deed → List Pid
-ended_in [] = []
-ended_in (Times call (told.Ended pid) ∷ past) = pid ∷ ended_in past
-ended_in (deed ∷ past) = ended_in past
+-- the process of an expired timer is posted the note of a tick, where its kernel has that process
+pub record Tells (kernel : ℕ) (pid : Pid) (before after : Process) : Type 0 where
+  pub told : IsTrue (nat_lt pid.0 kernel) → after ≡ notes before pid (only Expired)
+  pub other : nat_lt pid.0 kernel ≡ false → after ≡ before
 
--- the processes to which it posted notes
-abbrev pub posted_to : List Deed → List Pid
-posted_to [] = []
-posted_to (Posts pid set ∷ past) = pid ∷ posted_to past
-posted_to (deed ∷ past) = posted_to past
+module _ (timers : Timers) (kernel now : ℕ) where
+  -- one timer more expired at this moment, and just behind that its process was told
+  pub record ExpiresOneMore (Before : Point TimerSeat → Type 0) (pid : Pid)
+      (after : Point TimerSeat) : Type 0 where
+    pub between : Point TimerSeat
+    pub others : Before between
+    pub ended : AsksTimers timers false (Expire now) (told.Ended pid) between.seat after.seat
+    pub tells : Tells kernel pid between.process after.process
 
--- it expires timers at this moment, and posts the note of a tick alone
-abbrev pub IsOfTick : ℕ → Deed → Type 0
-IsOfTick now (Times (Expire moment) answer) = moment ≡ now
-IsOfTick now (Posts pid set) = set ≡ only Expired
-IsOfTick now deed = ⊥
+  -- those of these processes, the newest first
+  abbrev pub Expires : List Pid → Point TimerSeat → Point TimerSeat → Type 0
+  Expires [] before after = after ≡ before
+  Expires (pid ∷ others) before after = ExpiresOneMore (Expires others before) pid after
 
--- each note is posted just behind the Expire that ended the timer of that process
-abbrev pub PostsInTurn : List Deed → Type 0
-PostsInTurn [] = ⊤
-PostsInTurn (Posts pid set ∷ Times call (told.Ended other) ∷ past) =
-    (pid ≡ other) × PostsInTurn past
-PostsInTurn (Posts pid set ∷ past) = ⊥
-PostsInTurn (deed ∷ past) = PostsInTurn past
+  -- it was told that nothing is due
+  pub record FindsNone (before after : Point TimerSeat) : Type 0 where
+    pub asks : AsksTimers timers false (Expire now) told.NoneDue before.seat after.seat
+    pub idle : after.process ≡ before.process
 
--- no deed was told that nothing is due
-abbrev pub FindsDue : List Deed → Type 0
-FindsDue [] = ⊤
-FindsDue (Times call told.NoneDue ∷ past) = ⊥
-FindsDue (deed ∷ past) = FindsDue past
-
--- it went on until nothing was due, or until so many timers had expired
-abbrev pub GoesOn : ℕ → List Deed → Type 0
-GoesOn procs (Times call told.NoneDue ∷ past) = FindsDue past
-GoesOn procs deeds = (length (ended_in deeds) ≡ procs) × FindsDue deeds
-
--- a tick at this moment, with timers for so many processes, in a kernel of so many
-pub record Ticks (procs kernel now count : ℕ) (deeds : List Deed) : Type 0 where
-  pub own : AllByRecursion (IsOfTick now) deeds
-  pub count_is : count ≡ length (ended_in deeds)
-  -- no more than there are timers
-  pub at_most : count ≤ procs
-  pub until : GoesOn procs deeds
-  pub told : posted_to deeds ≡ filter (λ pid. nat_lt pid.0 kernel) (ended_in deeds)
-  pub in_turn : PostsInTurn deeds
-
--- a tick that goes on: so many timers expired, and their processes were told
-pub record IsTicking (kernel now count : ℕ) (deeds : List Deed) : Type 0 where
-  pub own : AllByRecursion (IsOfTick now) deeds
-  pub count_is : count ≡ length (ended_in deeds)
-  pub told : posted_to deeds ≡ filter (λ pid. nat_lt pid.0 kernel) (ended_in deeds)
-  pub in_turn : PostsInTurn deeds
-  pub due : FindsDue deeds
+  -- A tick at this moment, in a kernel of so many processes: so many timers expired, until nothing
+  -- was due or as many had as there are.
+  pub record Ticks (count : ℕ) (before after : Point TimerSeat) : Type 0 where
+    pub ended : List Pid
+    pub last : Point TimerSeat
+    pub expires : Expires ended before last
+    pub count_is : count ≡ length ended
+    pub at_most : count ≤ timers.procs
+    pub stops : FindsNone last after ⊎ ((count ≡ timers.procs) × (after ≡ last))

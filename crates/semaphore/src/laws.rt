@@ -8,6 +8,7 @@ ghost use Rattle.semaphore.specs.SemaLaws.{
   EachGrantIsNamed,
 };
 ghost use Rattle.semaphore.specs.TimerLaws.{ExpiredWasTaken};
+ghost use Rattle.semaphore.specs.WakeLaws.{ReleasingReleasesTheNamed, WaitersAreNamedAbove};
 
 /// No unit is lost and none is given twice.
 pub fn units_add_up()
@@ -38,4 +39,12 @@ pub fn each_grant_is_named()
 /// A timer that expired was taken by a tick at its deadline or later.
 pub fn an_expired_timer_was_taken()
     ensures { ExpiredWasTaken }
+{}
+
+/// No call that waits stays posted once the semrelease that was named its seat has returned: whoever
+/// sleeps below the number of the seat's grants is released; and a seat that was granted a unit is
+/// still to be named, or was named above each number that it was told before.
+pub fn who_is_granted_is_released()
+    ensures released { ReleasingReleasesTheNamed }
+    ensures above { WaitersAreNamedAbove }
 {}

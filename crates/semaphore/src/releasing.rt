@@ -1,9 +1,9 @@
 //! How a process adds units, and wakes who was granted one.
-ghost use Rattle.std.specs.Prelude.{◌≡◌, List};
+ghost use Rattle.std.specs.Prelude.{◌≡◌};
 ghost use Rattle.kernel_lock.specs.Seats.{number_of};
-ghost use Rattle.semaphore.specs.Deeds.{Calls, Caller, Deed, Did, Standing};
-ghost use Rattle.semaphore.specs.Releasing.{HasWoken, IsWaking, Released, Releases};
-ghost use Rattle.semaphore.specs.Seats.{HasRow, IsSemaSeatOf, caller_at, goes_on, stands};
+ghost use Rattle.semaphore.specs.Releasing.{HasWoken, Releases};
+ghost use Rattle.semaphore.specs.Seats.{HasRow, IsSemaSeatOf};
+ghost use Rattle.waiting.specs.Waiting.{point};
 
 use crate::sema::{Sema, SemaSeat};
 use sleep_wakeup::Proc;
@@ -29,9 +29,8 @@ impl Sema {
         ensures seat { IsSemaSeatOf self.now seat.new }
         ensures number { number_of seat.new.seat ≡ number_of seat.old.seat }
         ensures words { proc.new.words ≡ proc.old.words }
-        ensures called { Calls (caller_at self.now proc.old seat.old)
-            (stands proc.old seat.old) (stands proc.new seat.new)
-            (Releases self.now.first count result) }
+        ensures called { Releases self.now count
+            (point seat.old proc.old) result (point seat.new proc.new) }
     {
         match self.release(rt, seat, count) {
             None => Err(Fault::BadArg),
@@ -49,13 +48,7 @@ impl Sema {
         ensures seat { IsSemaSeatOf self.now seat.new }
         ensures number { number_of seat.new.seat ≡ number_of seat.old.seat }
         ensures words { proc.new.words ≡ proc.old.words }
-        ensures woken { (caller : Caller) (start : Standing)
-            (past : List Deed) (released : Released) →
-            caller.number ≡ number_of seat.old.seat →
-            Did caller past start (goes_on proc.old seat.old start) →
-            IsWaking self.now.first released past →
-            Calls caller start (goes_on proc.new seat.new start)
-            (HasWoken self.now.first released) }
+        ensures woken { HasWoken self.now (point seat.old proc.old) (point seat.new proc.new) }
     {
         for _ in rt.forever() {
             match self.next_wake(rt, seat) {

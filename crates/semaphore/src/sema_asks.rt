@@ -1,35 +1,13 @@
-//! What a seat asks of its semaphore.
-ghost use Rattle.std.specs.Prelude.{◌≡◌, ◌≤◌, ◌<◌, Bool, true, false, IfSome};
-ghost use Rattle.kernel_lock.specs.Calls.{Serves};
-ghost use Rattle.kernel_lock.specs.Seats.{number_of, view_of};
-ghost use Rattle.semaphore.specs.declared.limits.TheConstants.{LAST_GRANT};
-ghost use Rattle.semaphore.specs.Asking.{
-  begins_wait,
-  begun_reply,
-  now_told,
-  collect_reply,
-  leave_reply,
-  release_reply,
-  wake_reply,
-  is_some,
-  CanWait,
-};
-ghost use Rattle.semaphore.specs.Seats.{IsSeatAt, IsSemaSeatOf};
+//! What a seat asks of its semaphore without a wait.
+ghost use Rattle.std.specs.Prelude.{◌<◌, false, IfSome};
+ghost use Rattle.kernel_lock.specs.Seats.{number_of};
+ghost use Rattle.semaphore.specs.Asking.{Asks, now_reply, release_reply, wake_reply};
+ghost use Rattle.semaphore.specs.Seats.{IsSemaSeatOf};
 
+use crate::acquiring::Semacquired;
 use crate::sema::{Sema, SemaSeat};
 use crate::{SemaCall, SemaReply};
 use std::sync::Wait;
-
-/// How an acquire begins.
-#[derive(Clone, Copy)]
-pub(crate) enum Begun {
-    /// It has its unit.
-    Acquired,
-    /// It waits. Its seat was granted so many units before.
-    Waits(u64),
-    /// Its seat can't wait any more.
-    Worn,
-}
 
 /// A seat that was granted a unit, and is to be woken with the number of its grants.
 #[derive(Clone, Copy)]
@@ -39,80 +17,16 @@ pub(crate) struct Grant {
 }
 
 impl Sema {
-    pub(crate) fn acquire<R: Wait>(&self, rt: &R, seat: &mut SemaSeat) -> Begun
-        requires { IsSemaSeatOf self.now seat.old }
-        ensures seat { IsSeatAt self.now (begins_wait result) seat.new }
-        ensures number { number_of seat.new.seat ≡ number_of seat.old.seat }
-        ensures served { Serves (record {
-          by = number_of seat.old.seat;
-          request = SemaCall.Acquire (number_of seat.old.seat);
-          reply = begun_reply result;
-        }) (view_of seat.old.seat) (view_of seat.new.seat) }
-        ensures can { CanWait result }
-    {
-        let number = seat.seat.number();
-        match self.ask(rt, seat, SemaCall::Acquire { seat: number }) {
-            SemaReply::Acquired => Begun::Acquired,
-            SemaReply::Wait(count) => Begun::Waits(count),
-            SemaReply::Worn => Begun::Worn,
-            _ => unreachable!(),
-        }
-    }
-
     /// Takes a unit if there is one, and says whether it did.
-    pub(crate) fn acquire_now<R: Wait>(&self, rt: &R, seat: &mut SemaSeat) -> bool
+    pub(crate) fn acquire_now<R: Wait>(&self, rt: &R, seat: &mut SemaSeat) -> Semacquired
         requires { IsSemaSeatOf self.now seat.old }
-        ensures seat { IsSemaSeatOf self.now seat.new }
-        ensures number { number_of seat.new.seat ≡ number_of seat.old.seat }
-        ensures served { Serves (record {
-          by = number_of seat.old.seat;
-          request = SemaCall.AcquireNow (number_of seat.old.seat);
-          reply = now_told result;
-        }) (view_of seat.old.seat) (view_of seat.new.seat) }
+        ensures asks { Asks self.now false (SemaCall.AcquireNow (number_of seat.old.seat))
+            (now_reply result) seat.old seat.new }
     {
         let number = seat.seat.number();
         match self.ask(rt, seat, SemaCall::AcquireNow { seat: number }) {
-            SemaReply::Acquired => true,
-            SemaReply::NotNow => false,
-            _ => unreachable!(),
-        }
-    }
-
-    /// Asks whether the wait was granted its unit. Where it waits on, says for which grant.
-    pub(crate) fn collect<R: Wait>(&self, rt: &R, seat: &mut SemaSeat) -> Option<u64>
-        requires { IsSeatAt self.now true seat.old }
-        ensures seat { IsSeatAt self.now (is_some result) seat.new }
-        ensures number { number_of seat.new.seat ≡ number_of seat.old.seat }
-        ensures served { Serves (record {
-          by = number_of seat.old.seat;
-          request = SemaCall.Collect (number_of seat.old.seat);
-          reply = collect_reply result;
-        }) (view_of seat.old.seat) (view_of seat.new.seat) }
-        ensures can { IfSome result (λ count. count ≤ LAST_GRANT) }
-    {
-        let number = seat.seat.number();
-        match self.ask(rt, seat, SemaCall::Collect { seat: number }) {
-            SemaReply::Granted => None,
-            SemaReply::Wait(count) => Some(count),
-            _ => unreachable!(),
-        }
-    }
-
-    /// Ends the wait, and says whether it was granted its unit.
-    pub(crate) fn leave<R: Wait>(&self, rt: &R, seat: &mut SemaSeat) -> bool
-        requires { IsSeatAt self.now true seat.old }
-        ensures seat { IsSemaSeatOf self.now seat.new }
-        ensures number { number_of seat.new.seat ≡ number_of seat.old.seat }
-        ensures served { Serves (record {
-          by = number_of seat.old.seat;
-          request = SemaCall.Leave (number_of seat.old.seat);
-          reply = leave_reply result;
-        }) (view_of seat.old.seat) (view_of seat.new.seat) }
-    {
-        let number = seat.seat.number();
-        match self.ask(rt, seat, SemaCall::Leave { seat: number }) {
-            SemaReply::Granted => true,
-            SemaReply::Gone => false,
+            SemaReply::Acquired => Semacquired::Acquired,
+            SemaReply::NotNow => Semacquired::NotNow,
             _ => unreachable!(),
         }
     }
@@ -120,13 +34,8 @@ impl Sema {
     /// Adds so many units, and answers the sum, where it is within the limit.
     pub(crate) fn release<R: Wait>(&self, rt: &R, seat: &mut SemaSeat, count: u32) -> Option<u32>
         requires { IsSemaSeatOf self.now seat.old }
-        ensures seat { IsSemaSeatOf self.now seat.new }
-        ensures number { number_of seat.new.seat ≡ number_of seat.old.seat }
-        ensures served { Serves (record {
-          by = number_of seat.old.seat;
-          request = SemaCall.Release count;
-          reply = release_reply result;
-        }) (view_of seat.old.seat) (view_of seat.new.seat) }
+        ensures asks { Asks self.now false (SemaCall.Release count) (release_reply result)
+            seat.old seat.new }
     {
         match self.ask(rt, seat, SemaCall::Release { count }) {
             SemaReply::Value(sum) => Some(sum),
@@ -138,13 +47,8 @@ impl Sema {
     /// The next seat that is to be woken.
     pub(crate) fn next_wake<R: Wait>(&self, rt: &R, seat: &mut SemaSeat) -> Option<Grant>
         requires { IsSemaSeatOf self.now seat.old }
-        ensures seat { IsSemaSeatOf self.now seat.new }
-        ensures number { number_of seat.new.seat ≡ number_of seat.old.seat }
-        ensures served { Serves (record {
-          by = number_of seat.old.seat;
-          request = SemaCall.NextWake;
-          reply = wake_reply result;
-        }) (view_of seat.old.seat) (view_of seat.new.seat) }
+        ensures asks { Asks self.now false SemaCall.NextWake (wake_reply result)
+            seat.old seat.new }
         ensures there { IfSome result (λ grant. grant.seat < self.now.procs) }
     {
         match self.ask(rt, seat, SemaCall::NextWake) {

@@ -5,9 +5,9 @@ ghost use Rattle.sync_base.specs.NoteSet.{only};
 ghost use Rattle.rendez_words.specs.Steps.{notes};
 ghost use Rattle.rendez_words.specs.Words.{procs_of};
 ghost use Rattle.kernel_lock.specs.Seats.{number_of};
-ghost use Rattle.semaphore.specs.Deeds.{Calls};
-ghost use Rattle.semaphore.specs.Seats.{IsTimerSeatOf, stands_ticking, ticker};
+ghost use Rattle.semaphore.specs.Seats.{IsTimerSeatOf};
 ghost use Rattle.semaphore.specs.Ticking.{Ticks};
+ghost use Rattle.waiting.specs.Waiting.{point};
 
 use crate::timers::{TimerSeat, Timers};
 use sleep_wakeup::Proc;
@@ -24,9 +24,8 @@ impl Timers {
         ensures seat { IsTimerSeatOf self.now timer.new }
         ensures number { number_of timer.new.seat ≡ number_of timer.old.seat }
         ensures words { proc.new.words ≡ proc.old.words }
-        ensures called { Calls (ticker proc.old timer.old)
-            (stands_ticking proc.old timer.old) (stands_ticking proc.new timer.new)
-            (Ticks self.now.procs (procs_of proc.old.words) now result) }
+        ensures called { Ticks self.now (procs_of proc.old.words) now result
+            (point timer.old proc.old) (point timer.new proc.new) }
     {
         for expired in 0..self.procs {
             match self.expire(rt, timer, now) {

@@ -1,35 +1,32 @@
 //! How a process takes a unit by a moment.
-ghost use Rattle.std.specs.Prelude.{◌≡◌, ◌<◌, true, false, ℕ, IsSome};
-ghost use Rattle.sync_base.specs.declared.note.Note.TheVariants.{Expired};
-ghost use Rattle.sync_base.specs.NoteSet.{holds};
-ghost use Rattle.rendez_words.specs.Process.{pid_in};
-ghost use Rattle.rendez_words.specs.Words.{rendez_of};
+ghost use Rattle.std.specs.Prelude.{◌≡◌, ◌<◌};
 ghost use Rattle.kernel_lock.specs.Seats.{number_of};
-ghost use Rattle.semaphore.specs.Acquiring.{AcquiresInTime, TimersSeen, without_expired};
-ghost use Rattle.semaphore.specs.Asking.{HasKept, HasLeft, Left, stopped_notes, turn_left};
-ghost use Rattle.semaphore.specs.Deeds.{Calls, Caller, Standing};
-ghost use Rattle.semaphore.specs.TimerHistory.{WasTaken};
+ghost use Rattle.rendez_words.specs.Words.{rendez_of};
+ghost use Rattle.semaphore.specs.Seats.{HasRow, IsSemaSeatOf, IsTimerSeatOf};
 ghost use Rattle.semaphore.specs.Timers.{deadline_of};
-ghost use Rattle.semaphore.specs.Turns.Turn.{Ready};
-ghost use Rattle.semaphore.specs.Seats.{
-  HasRow,
-  IsSemaSeatOf,
-  IsTimerSeatOf,
-  stands_timed,
-  stepped,
-  timed_caller,
-  timers_seen,
+ghost use Rattle.semaphore.specs.Timing.{
+  AcquiresInTime,
+  AwaitsTick,
+  Keeps,
+  LooksForTick,
+  PutsBackAny,
+  awaiting,
+  notes_in,
+  notes_of,
+  timed_point,
+  without_expired,
 };
 
-use crate::acquiring::{Stop, Until, sleep_past_grants};
+use crate::acquiring::{Acquiring, SetTimer};
+use crate::limits::LAST_GRANT;
 use crate::sema::{Sema, SemaSeat};
-use crate::sema_asks::Begun;
 use crate::timer_object::deadline;
 use crate::timers::{TimerSeat, Timers};
 use sleep_wakeup::Proc;
 use std::sync::Wait;
 use std::thread::yield_now;
 use sync_base::{Fault, NoProbe, Note, NoteSet, Probe, RendezId};
+use waiting::{Reply, WaitEnd, WaitingCall, sleep_for};
 
 impl Sema {
     /// Takes a unit. Where there is none it waits until a tick at the moment `now` + `ms` or later;
@@ -61,11 +58,9 @@ impl Sema {
         // When it returns, its timer is cancelled.
         ensures timer { IsTimerSeatOf timers.now timer.new }
         ensures timer_number { number_of timer.new.seat ≡ number_of timer.old.seat }
-        ensures called { let moment = deadline_of now ms in
-            let caller = timed_caller self.now proc.old seat.old timer.old moment in
-            Calls caller (stands_timed proc.old seat.old timer.old)
-            (stands_timed proc.new seat.new timer.new)
-            (AcquiresInTime caller (timers_seen timers.now timer.new) moment result) }
+        ensures called { AcquiresInTime self.now timers.now (deadline_of now ms)
+            (timed_point seat.old timer.old proc.old) result
+            (timed_point seat.new timer.new proc.new) }
     {
         self.tsemacquire_probed(rt, proc, seat, timers, timer, now, ms, &mut NoProbe)
     }
@@ -92,42 +87,59 @@ impl Sema {
         // When it returns, its timer is cancelled.
         ensures timer { IsTimerSeatOf timers.now timer.new }
         ensures timer_number { number_of timer.new.seat ≡ number_of timer.old.seat }
-        ensures called { let moment = deadline_of now ms in
-            let caller = timed_caller self.now proc.old seat.old timer.old moment in
-            Calls caller (stands_timed proc.old seat.old timer.old)
-            (stands_timed proc.new seat.new timer.new)
-            (AcquiresInTime caller (timers_seen timers.now timer.new) moment result) }
+        ensures called { AcquiresInTime self.now timers.now (deadline_of now ms)
+            (timed_point seat.old timer.old proc.old) result
+            (timed_point seat.new timer.new proc.new) }
     {
-        let deadline = deadline(now, ms);
-        match self.acquire(rt, seat) {
-            Begun::Acquired => Ok(()),
-            Begun::Worn => Err(Fault::Worn),
-            Begun::Waits(count) => {
-                timers.add(rt, timer, proc.pid(), deadline);
-                let until = Until::Ticked { timers, timer };
-                let stop = self.sleep_for_unit(rt, proc, seat, count, until, probe);
-                let granted = self.leave_line(rt, seat, stop);
+        let rendez = self.rendez(seat);
+        let pid = proc.pid();
+        let moment = deadline(now, ms);
+        let begun = Acquiring {
+            sema: self,
+            timer: None,
+        };
+        match begun.begin(rt, proc, seat) {
+            Reply::Done(()) => Ok(()),
+            Reply::Refused(why) => Err(why),
+            Reply::Wait(count) => {
+                timers.add(rt, timer, pid, moment);
+                let call = Acquiring {
+                    sema: self,
+                    timer: Some(SetTimer {
+                        timers,
+                        seat: timer,
+                    }),
+                };
+                let ending = sleep_for(rt, proc, rendez, &call, seat, count, probe);
                 let expired = timers.cancel(rt, timer);
-                let rendez = self.rendez(seat);
-                let notes = await_tick(rt, proc, rendez, expired, notes_of(stop));
-                answer_timed(proc, stop, granted, expired, notes)
+                let came = await_tick(rt, proc, rendez, expired, taken_by(&ending));
+                answer_timed(proc, ending, expired, came)
             }
         }
     }
 }
 
-// The notes that ended the wait.
-fn notes_of(stop: Option<Stop>) -> NoteSet
-    ensures { result ≡ stopped_notes stop }
+// The notes that ended the sleeps.
+fn taken_by(ending: &WaitEnd<()>) -> NoteSet
+    ensures { result ≡ notes_of ending.now }
 {
-    match stop {
-        Some(Stop::Noted(notes)) => notes,
-        Some(Stop::Refused) | None => NoteSet::empty(),
+    match ending {
+        WaitEnd::Answered(_) => NoteSet::empty(),
+        WaitEnd::Stopped(why, _) => taken(*why),
     }
 }
 
-// Where a tick has taken the timer, sleeps until the note of that tick has come. Answers which
-// notes came in all. Where another process sleeps in the Rendez, it takes notes without a sleep.
+fn taken(why: Fault) -> NoteSet
+    ensures { result ≡ notes_in why }
+{
+    match why {
+        Fault::Interrupted(notes) => notes,
+        _ => NoteSet::empty(),
+    }
+}
+
+// Where a tick has taken the timer, looks until the note of that tick has come. Answers which notes
+// came in all.
 fn await_tick<R: Wait>(
     rt: &R,
     proc: &mut Proc<'_>,
@@ -137,40 +149,42 @@ fn await_tick<R: Wait>(
 ) -> NoteSet
     requires { rendez.0 < rendez_of proc.old.words }
     ensures words { proc.new.words ≡ proc.old.words }
-    ensures pid { proc.new.process.pid ≡ proc.old.process.pid }
-    ensures came { expired ≡ true → holds result Expired ≡ true }
-    ensures awaited { (caller : Caller) (start now : Standing) (left : Left) →
-        caller.rendez ≡ rendez → left.expired ≡ expired → left.notes ≡ taken →
-        left.cancelled ≡ true →
-        now.process ≡ proc.old.process → Calls caller start now (HasLeft caller left) →
-        Calls caller start (stepped proc.new now)
-        (HasLeft caller (record left { notes = result })) }
+    ensures awaited { AwaitsTick rendez expired (awaiting proc.old taken)
+        (awaiting proc.new result) }
 {
     let mut notes = taken;
     for _ in rt.forever() {
         if !expired || notes.has(Note::Expired) {
             return notes;
         }
-        match sleep_past_grants(rt, proc, rendez) {
-            None => {}
-            Some(Stop::Noted(set)) => notes = notes.join(set),
-            Some(Stop::Refused) => {
-                notes = notes.join(proc.notes());
-                yield_now();
-            }
-        }
+        let set = look_for_tick(rt, proc, rendez);
+        notes = notes.join(set);
     }
     unreachable!()
+}
+
+// Sleeps at the last count, which no grant passes, so that notes alone end it. Where another
+// process sleeps in the Rendez, takes notes without a sleep.
+fn look_for_tick<R: Wait>(rt: &R, proc: &mut Proc<'_>, rendez: RendezId) -> NoteSet
+    requires { rendez.0 < rendez_of proc.old.words }
+    ensures words { proc.new.words ≡ proc.old.words }
+    ensures looked { LooksForTick rendez proc.old.process result proc.new.process }
+{
+    match proc.sleep(rt, rendez, LAST_GRANT) {
+        Ok(()) => NoteSet::empty(),
+        Err(Fault::Interrupted(set)) => set,
+        Err(_) => {
+            let set = proc.notes();
+            yield_now();
+            set
+        }
+    }
 }
 
 // Puts notes back, if there are any.
 fn keep(proc: &mut Proc<'_>, set: NoteSet)
     ensures words { proc.new.words ≡ proc.old.words }
-    ensures kept { (caller : Caller) (start now : Standing) (left : Left) →
-        caller.pid ≡ pid_in proc.old.process → now.process ≡ proc.old.process →
-        set ≡ without_expired left.notes → turn_left caller left ≡ Ready →
-        Calls caller start now (HasLeft caller left) →
-        Calls caller start (stepped proc.new now) (HasKept caller left) }
+    ensures kept { PutsBackAny set proc.old.process proc.new.process }
 {
     if !set.is_empty() {
         proc.put_back(set);
@@ -184,45 +198,37 @@ fn others(notes: NoteSet) -> NoteSet
     notes.without(NoteSet::of(Note::Expired))
 }
 
-// What the call answers: how its wait ended, whether a tick took its timer, and which notes came.
+// What the call answers: how its sleeps ended, whether a tick took its timer, and which notes came.
 fn answer_timed(
     proc: &mut Proc<'_>,
-    stop: Option<Stop>,
-    granted: bool,
+    ending: WaitEnd<()>,
     expired: bool,
-    notes: NoteSet,
+    came: NoteSet,
 ) -> Result<(), Fault>
-    requires stopped { granted ≡ false → IsSome stop }
-    requires came { expired ≡ true → holds notes Expired ≡ true }
     ensures words { proc.new.words ≡ proc.old.words }
-    ensures answered { (caller : Caller) (start now : Standing) (seen : TimersSeen) (moment : ℕ) →
-        caller.pid ≡ pid_in proc.old.process → now.process ≡ proc.old.process →
-        (expired ≡ true → WasTaken seen.opening caller.timer moment seen.history) →
-        Calls caller start now (HasLeft caller (record {
-          granted = granted;
-          notes = notes;
-          expired = expired;
-          stop = stop;
-          cancelled = true;
-        })) → Calls caller start (stepped proc.new now) (AcquiresInTime caller seen moment result) }
+    ensures kept { Keeps ending expired (without_expired came) result
+        proc.old.process proc.new.process }
 {
-    let others = others(notes);
-    match (granted, stop) {
-        (true, _) => {
+    let others = others(came);
+    match ending {
+        WaitEnd::Answered(answer) => {
             keep(proc, others);
-            Ok(())
+            answer
         }
-        (false, Some(Stop::Refused)) => {
+        WaitEnd::Stopped(_, Some(out)) => {
             keep(proc, others);
-            Err(Fault::DoubleSleep)
+            Ok(out)
         }
-        (false, Some(Stop::Noted(_))) => {
+        WaitEnd::Stopped(Fault::Interrupted(_), None) => {
             if expired && others.is_empty() {
                 Err(Fault::TimedOut)
             } else {
                 Err(Fault::Interrupted(others))
             }
         }
-        (false, None) => unreachable!(),
+        WaitEnd::Stopped(why, None) => {
+            keep(proc, others);
+            Err(why)
+        }
     }
 }

@@ -1,26 +1,28 @@
 -- It was refused, or it released and then woke each that was named.
-use Rattle.std.proofs.Common.{sym}
-use Rattle.semaphore.specs.declared.sema_object.SemaReply.TheVariants.{Value}
-use Rattle.semaphore.specs.Deeds.Deed.{Asks}
-use Rattle.semaphore.specs.declared.sema_object.SemaCall.TheVariants.{Release}
-use Rattle.semaphore.specs.Seats.{caller_at, stands}
-use Rattle.std.proofs.Common.{[], ◌∷◌}
-use Rattle.semaphore.proofs.ReleaseLemmas.{did_release, is_waking, refuses, releases}
+use Rattle.std.proofs.Common.{refl, ◌∙◌}
+use Rattle.waiting.specs.Waiting.{point}
 use Rattle.semaphore.proofs.sema.Sema.semrelease.Goals as goal
 
+pub returns-in-None-clause-seat : goal.returns-in-None-clause-seat
+returns-in-None-clause-seat g c = c.in-None.ensures.asks.seat
+
+pub returns-in-None-clause-number : goal.returns-in-None-clause-number
+returns-in-None-clause-number g c = c.in-None.ensures.asks.number
+
 pub returns-in-None-clause-called : goal.returns-in-None-clause-called
-returns-in-None-clause-called g c =
-    refuses (caller_at c.args.self.now c.args.proc.now c.args.seat.now)
-    (stands c.args.proc.now c.args.seat.now) _ c.args.self.now.first c.args.count
-    c.in-None.ensures.served
+returns-in-None-clause-called g c = record { asks = c.in-None.ensures.asks; idle = refl }
+
+pub wake_granted-requires-clause-seat : goal.wake_granted-requires-clause-seat
+wake_granted-requires-clause-seat g c = c.in-Some.ensures.asks.seat
+
+pub returns-in-Some-clause-number : goal.returns-in-Some-clause-number
+returns-in-Some-clause-number g c =
+    c.wake_granted.ensures.number ∙ c.in-Some.ensures.asks.number
 
 pub returns-in-Some-clause-called : goal.returns-in-Some-clause-called
 returns-in-Some-clause-called g c =
-    let caller = caller_at c.args.self.now c.args.proc.now c.args.seat.now in
-    let start = stands c.args.proc.now c.args.seat.now in
-    releases caller start _ c.args.self.now.first c.args.count c.in-Some.sum
-    (c.wake_granted.ensures.woken caller start
-    (Asks (Release c.args.count) (Value c.in-Some.sum) ∷ [])
-    (record { count = c.args.count; reply = Value c.in-Some.sum }) (sym c.in-Some.ensures.number)
-    (did_release caller start _ c.args.count c.in-Some.sum c.in-Some.ensures.served)
-    (is_waking c.args.self.now.first c.args.count c.in-Some.sum))
+    record {
+      first = point c.release.new.seat c.args.proc.now;
+      released = record { asks = c.in-Some.ensures.asks; idle = refl };
+      wakes = c.wake_granted.ensures.woken;
+    }

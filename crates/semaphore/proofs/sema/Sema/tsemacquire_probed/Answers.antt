@@ -1,134 +1,152 @@
--- It is answered at once; or it sets its timer, waits, leaves the line, cancels its timer, awaits
--- the note of a tick that has taken it, and keeps what came.
-use Rattle.std.proofs.Common.{◌≡◌, ◌+◌, ◌<◌, true, [], ◌∷◌, refl, sym, ap, ◌∙◌, subst}
-use Rattle.std.specs.List.{AllByRecursion}
-use Rattle.histories.specs.Account.{KnowsHistory}
-use Rattle.kernel_lock.specs.Calls.{Serves}
-use Rattle.kernel_lock.specs.Seats.{account_of, limit_of, number_of, opening_of, shares_of, view_of}
-use Rattle.semaphore.specs.declared.sema_object.SemaCall.TheVariants.{Acquire}
-use Rattle.semaphore.specs.declared.sema_object.SemaReply.TheVariants.{Wait}
+-- It is answered at once; or it sets its timer, sleeps, cancels its timer, awaits the note of a tick
+-- that has taken it, and keeps what came.
+use Rattle.std.proofs.Common.{◌≡◌, ◌<◌, Ok, Err, false, true, inl, inr, refl, sym, ap, ◌∙◌, subst}
+use Rattle.std.proofs.Common.{arith}
+use Rattle.kernel_lock.specs.Seats.{number_of}
+use Rattle.rendez_words.specs.Words.{rendez_of}
 use Rattle.semaphore.specs.declared.timer_object.TimerCall.TheVariants.{Add, Cancel}
 use Rattle.semaphore.specs.declared.timer_object.TimerReply.TheVariants.{Added}
-use Rattle.semaphore.specs.Asking.{cancel_reply, stopped_notes}
-use Rattle.semaphore.specs.Deeds.Deed.{Asks, Times}
-use Rattle.semaphore.specs.Definitions.{timer_definition}
-use Rattle.semaphore.specs.Seats.{asked, goes_on, stands_timed, stepped, timed, timed_caller}
-use Rattle.semaphore.specs.Seats.{timers_seen}
-use Rattle.semaphore.specs.TimerHistory.{timer_meaning}
+use Rattle.semaphore.specs.Acquiring.{acquiring}
+use Rattle.semaphore.specs.Asking.{AsksTimers, cancel_reply}
+use Rattle.semaphore.specs.Seats.{IsSeatAtTimers}
 use Rattle.semaphore.specs.Timers.{deadline_of}
-use Rattle.semaphore.proofs.TimedOutcomeLemmas.{in_time_at_once}
-use Rattle.semaphore.proofs.TimedWaitLemmas.{cancels, sets_timer, tick_took, timed_as}
-use Rattle.semaphore.proofs.TimedWaitLemmas.{waits_timed}
-use Rattle.semaphore.proofs.WaitLemmas.{did_ask}
+use Rattle.semaphore.specs.Timing.{AwaitsTick, awaiting, notes_of}
+use Rattle.semaphore.proofs.RequestLemmas.{is_in_row}
+use Rattle.semaphore.proofs.TickLemmas.{took_it}
+use Rattle.semaphore.proofs.UnitLemmas.{at_once, stopped, kept_units}
+use Rattle.waiting.specs.Waiting.{SleepsOn, point, told}
 use Rattle.semaphore.proofs.sema.Sema.tsemacquire_probed.Goals as goal
 
-pub returns-in-Acquired-clause-called : goal.returns-in-Acquired-clause-called
-returns-in-Acquired-clause-called g c =
-    let moment = deadline_of c.args.now c.args.ms in
-    in_time_at_once
-    (timed_caller c.args.self.now c.args.proc.now c.args.seat.now c.args.timer.now moment)
-    (stands_timed c.args.proc.now c.args.seat.now c.args.timer.now) _
-    (timers_seen c.args.timers.now c.args.timer.now) moment c.in-Acquired.ensures.served
+pub rendez-rendez-requires : goal.rendez-rendez-requires
+rendez-rendez-requires g c = (false, c.requires.seat)
 
-pub returns-in-Waits-clause-called : goal.returns-in-Waits-clause-called
-returns-in-Waits-clause-called g c =
-    let moment = deadline_of c.args.now c.args.ms in
+pub begin-requires-clause-ready : goal.begin-requires-clause-ready
+begin-requires-clause-ready g c = (c.requires.seat, tt)
+
+pub returns-in-Done-clause-number : goal.returns-in-Done-clause-number
+returns-in-Done-clause-number g c =
+    (at_once c.args.self.now (point c.args.seat.now c.args.proc.now) c.requires.seat
+    (point c.begin.new.seat c.begin.new.proc) (Ok tt) c.in-Done.ensures.asked).number
+
+pub returns-in-Done-clause-called : goal.returns-in-Done-clause-called
+returns-in-Done-clause-called g c =
+    record {
+      units = (at_once c.args.self.now (point c.args.seat.now c.args.proc.now) c.requires.seat
+          (point c.begin.new.seat c.begin.new.proc) (Ok tt) c.in-Done.ensures.asked).units;
+      takes = inl (record { begun = c.in-Done.ensures.asked; timer = refl });
+    }
+
+pub returns-in-Refused-clause-number : goal.returns-in-Refused-clause-number
+returns-in-Refused-clause-number g c =
+    (at_once c.args.self.now (point c.args.seat.now c.args.proc.now) c.requires.seat
+    (point c.begin.new.seat c.begin.new.proc) (Err c.in-Refused.why)
+    c.in-Refused.ensures.asked).number
+
+pub returns-in-Refused-clause-called : goal.returns-in-Refused-clause-called
+returns-in-Refused-clause-called g c =
+    record {
+      units = (at_once c.args.self.now (point c.args.seat.now c.args.proc.now) c.requires.seat
+          (point c.begin.new.seat c.begin.new.proc) (Err c.in-Refused.why)
+          c.in-Refused.ensures.asked).units;
+      takes = inl (record { begun = c.in-Refused.ensures.asked; timer = refl });
+    }
+
+pub sleep_for-ending-requires-clause-waits : goal.sleep_for-ending-requires-clause-waits
+sleep_for-ending-requires-clause-waits g c =
+    (c.in-Wait.ensures.stands.0, c.add.ensures.asks.seat)
+
+pub sleep_for-ending-requires-clause-rendez : goal.sleep_for-ending-requires-clause-rendez
+sleep_for-ending-requires-clause-rendez g c =
+    subst (λ words. c.rendez-rendez.result.0 < rendez_of words) (sym c.in-Wait.ensures.words)
+    (subst (λ rendez. rendez.0 < rendez_of c.args.proc.now.words) (sym c.rendez-rendez.ensures)
+    (is_in_row c.args.self.now false c.args.seat.now c.args.proc.now.words c.requires.seat
+    c.requires.row))
+
+pub cancel-expired-requires : goal.cancel-expired-requires
+cancel-expired-requires g c = c.add.ensures.asks.seat
+
+pub await_tick-came-requires : goal.await_tick-came-requires
+await_tick-came-requires g c =
+    subst (λ words. c.rendez-rendez.result.0 < rendez_of words)
+    (sym (c.sleep_for-ending.ensures.words ∙ c.in-Wait.ensures.words))
+    (subst (λ rendez. rendez.0 < rendez_of c.args.proc.now.words) (sym c.rendez-rendez.ensures)
+    (is_in_row c.args.self.now false c.args.seat.now c.args.proc.now.words c.requires.seat
+    c.requires.row))
+
+pub returns-in-Wait-clause-timer : goal.returns-in-Wait-clause-timer
+returns-in-Wait-clause-timer g c = c.cancel-expired.ensures.asks.seat
+
+pub returns-in-Wait-clause-timer_number : goal.returns-in-Wait-clause-timer_number
+returns-in-Wait-clause-timer_number g c =
+    c.cancel-expired.ensures.asks.number ∙ c.add.ensures.asks.number
+
+pub returns-in-Wait-clause-number : goal.returns-in-Wait-clause-number
+returns-in-Wait-clause-number g c =
+    (stopped c.args.self.now (point c.args.seat.now c.args.proc.now) c.requires.seat
+    (IsSeatAtTimers c.args.timers.now true c.add.new.seat) c.rendez-rendez.result
+    (told c.begin.new.seat c.begin.new.proc c.in-Wait.count) c.sleep_for-ending.result
+    (point c.sleep_for-ending.new.seat c.sleep_for-ending.new.proc) c.in-Wait.ensures.asked
+    c.sleep_for-ending.ensures.slept).number
+
+pub returns-in-Wait-clause-called : goal.returns-in-Wait-clause-called
+returns-in-Wait-clause-called g c =
+    let sema = c.args.self.now in
     let timers = c.args.timers.now in
-    let caller = timed_caller c.args.self.now c.args.proc.now c.args.seat.now c.args.timer.now
-    moment in
-    let start = stands_timed c.args.proc.now c.args.seat.now c.args.timer.now in
-    let count = c.in-Waits.count in
-    let slept = c.sleep_for_unit-stop in
-    let number = slept.ensures.number ∙ c.in-Waits.ensures.number in
-    let base = timed c.add.new.seat start in
-    let gone = asked c.leave_line-granted.new.seat (goes_on slept.new.proc slept.new.seat base) in
-    let added : Serves (record {
-      by = caller.timer;
-      request = Add caller.timer caller.pid moment;
-      reply = Added;
-    })
-    (view_of c.args.timer.now.seat) (view_of c.add.new.seat.seat) =
+    let moment = deadline_of c.args.now c.args.ms in
+    let set = c.add.new.seat in
+    let ending = c.sleep_for-ending.result in
+    let expired = c.cancel-expired.result in
+    let last = c.sleep_for-ending.new.proc.process in
+    let pid = record { 0 = c.args.proc.now.process.pid } in
+    let first = told c.begin.new.seat c.begin.new.proc c.in-Wait.count in
+    let after = point c.sleep_for-ending.new.seat c.sleep_for-ending.new.proc in
+    let added : AsksTimers timers true (Add (number_of c.args.timer.now.seat) pid moment) Added
+    c.args.timer.now set =
     subst
-    (λ p. Serves (record { by = caller.timer; request = Add caller.timer p moment; reply = Added })
-    (view_of c.args.timer.now.seat) (view_of c.add.new.seat.seat))
-    (ap (λ n. record { 0 = n }) c.pid.ensures)
+    (λ p. AsksTimers timers true (Add (number_of c.args.timer.now.seat) p moment) Added
+    c.args.timer.now set)
+    (ap (λ n. record { 0 = n }) c.pid-pid.ensures)
     (subst
-    (λ d. Serves (record {
-      by = caller.timer;
-      request = Add caller.timer c.pid.result d;
-      reply = Added;
-    })
-    (view_of c.args.timer.now.seat) (view_of c.add.new.seat.seat))
-    c.deadline-deadline.ensures c.add.ensures.served) in
-    let cancelled : Serves (record {
-      by = caller.timer;
-      request = Cancel caller.timer;
-      reply =
-          cancel_reply c.cancel-expired.result;
-    })
-    (view_of c.add.new.seat.seat) (view_of c.cancel-expired.new.seat.seat) =
-    timed_as Cancel (cancel_reply c.cancel-expired.result) caller.timer
-    (number_of c.add.new.seat.seat)
-    (view_of c.add.new.seat.seat) (view_of c.add.new.seat.seat)
-    (view_of c.cancel-expired.new.seat.seat)
-    (sym c.add.ensures.number) refl c.cancel-expired.ensures.served in
-    c.answer_timed.ensures.answered caller start
-    (stepped c.await_tick-notes.new.proc (timed c.cancel-expired.new.seat gone))
-    (timers_seen timers c.cancel-expired.new.seat) moment
-    (ap (λ n. record { 0 = n }) (sym (c.await_tick-notes.ensures.pid ∙ slept.ensures.pid))) refl
-    (λ told. tick_took (opening_of timer_definition timers.lock) timers.procs caller.timer moment
-    caller.pid (view_of c.args.timer.now.seat) (view_of c.add.new.seat.seat)
-    (view_of c.cancel-expired.new.seat.seat)
-    (record {
-      opening_is = c.requires.timer.opened.opening_is;
-      within = subst (λ limit. caller.timer < limit) c.requires.timer.opened.limit
-          (subst (AllByRecursion (λ share. share.number < limit_of timers.lock))
-          c.requires.timer.shares_are c.requires.timer.history.numbers).0;
-      mine = c.add.ensures.seat.mine;
-      shares_are = subst
-          (λ n. shares_of c.add.new.seat.seat ≡
-          record { number = n; mine = c.add.ensures.seat.mine } ∷ [])
-          c.add.ensures.number c.add.ensures.seat.shares_are;
-      added = added;
-      cancelled = subst
-          (λ b. Serves (record {
-            by = caller.timer;
-            request = Cancel caller.timer;
-            reply =
-                cancel_reply b;
-          })
-          (view_of c.add.new.seat.seat) (view_of c.cancel-expired.new.seat.seat)) told cancelled;
-      knows = subst
-          (λ limit. KnowsHistory timer_meaning (opening_of timer_definition timers.lock) limit
-          (account_of c.cancel-expired.new.seat.seat))
-          c.requires.timer.opened.limit c.cancel-expired.ensures.seat.history;
-    }))
-    (c.await_tick-notes.ensures.awaited caller start (timed c.cancel-expired.new.seat gone)
-    (record {
-      granted = c.leave_line-granted.result;
-      notes = stopped_notes slept.result;
-      expired = c.cancel-expired.result;
-      stop = slept.result;
-      cancelled = true;
-    })
-    (ap (λ n. record { 0 = c.args.self.now.first + n })
-    (sym (c.leave_line-granted.ensures.number ∙ number))
-    ∙ sym c.rendez-rendez.ensures) refl (sym c.notes_of.ensures) refl refl
-    (cancels caller start gone (view_of c.cancel-expired.new.seat.seat) moment
-    c.cancel-expired.result c.leave_line-granted.result (stopped_notes slept.result) slept.result
-    refl cancelled
-    (c.leave_line-granted.ensures.left caller start (goes_on slept.new.proc slept.new.seat base)
-    (sym number) refl
-    (slept.ensures.waited caller refl
-    (record {
-      pid_is = refl;
-      rendez_is = ap (λ n. record { 0 = c.args.self.now.first + n })
-          (sym c.in-Waits.ensures.number);
-      number_is = sym c.in-Waits.ensures.number;
-    })
-    start base
-    (Times (Add caller.timer caller.pid moment) Added ∷ Asks (Acquire caller.number) (Wait count) ∷
-    [])
-    (sets_timer caller start (asked c.acquire.new.seat start) (view_of c.add.new.seat.seat) count
-    moment refl added (did_ask caller start _ count c.in-Waits.ensures.served))
-    (waits_timed caller count moment refl)))))
+    (λ d. AsksTimers timers true (Add (number_of c.args.timer.now.seat) c.pid-pid.result d) Added
+    c.args.timer.now set)
+    c.deadline-moment.ensures c.add.ensures.asks) in
+    let units = (stopped sema (point c.args.seat.now c.args.proc.now) c.requires.seat
+    (IsSeatAtTimers timers true set) c.rendez-rendez.result first ending after
+    c.in-Wait.ensures.asked c.sleep_for-ending.ensures.slept).units in
+    let same = kept_units ending expired _ c.answer_timed.result _ _
+    c.answer_timed.ensures.kept in
+    record {
+      units = omega (arith, units, same);
+      takes = inr (record {
+        first = first;
+        set = set;
+        stop = record {
+          ending = ending;
+          process = last;
+          expired = expired;
+          awaited = awaiting c.await_tick-came.new.proc c.await_tick-came.result;
+        };
+        begun = c.in-Wait.ensures.asked;
+        added = added;
+        slept = subst
+            (λ rendez. SleepsOn (acquiring sema (IsSeatAtTimers timers true set)) rendez first
+            ending after) c.rendez-rendez.ensures c.sleep_for-ending.ensures.slept;
+        cancelled = c.cancel-expired.ensures.asks;
+        awaited = subst
+            (λ rendez. AwaitsTick rendez expired
+            (record { process = last; notes = notes_of ending })
+            (awaiting c.await_tick-came.new.proc c.await_tick-came.result))
+            c.rendez-rendez.ensures
+            (subst
+            (λ notes. AwaitsTick c.rendez-rendez.result expired
+            (record { process = last; notes = notes })
+            (awaiting c.await_tick-came.new.proc c.await_tick-came.result))
+            c.taken_by.ensures c.await_tick-came.ensures.awaited);
+        kept = c.answer_timed.ensures.kept;
+        taken = λ is. took_it timers moment pid c.args.timer.now set c.cancel-expired.new.seat
+            c.requires.timer.opened added
+            (subst
+            (λ b. AsksTimers timers false (Cancel (number_of set.seat)) (cancel_reply b) set
+            c.cancel-expired.new.seat) is c.cancel-expired.ensures.asks);
+      });
+    }

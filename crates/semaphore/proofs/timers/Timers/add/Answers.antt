@@ -1,6 +1,10 @@
 -- the seat has no timer, so an Add is answered Added and nothing else
+use Rattle.std.proofs.Common.{false, true}
 use Rattle.kernel_lock.specs.Seats.{number_of}
+use Rattle.semaphore.specs.declared.timer_object.TimerCall.TheVariants.{Add}
+use Rattle.semaphore.specs.declared.timer_object.TimerReply.TheVariants as told
 use Rattle.semaphore.proofs.OwnTimerLemmas.{add_never}
+use Rattle.semaphore.proofs.RequestLemmas.{asks_timers_so}
 use Rattle.semaphore.proofs.timers.Timers.add.Goals as goal
 
 pub unreachable-requires : goal.unreachable-requires
@@ -9,3 +13,10 @@ unreachable-requires g c =
     add_never told.state c.args.self.now.procs (number_of c.args.seat.now.seat)
     c.number-number.result c.args.deadline c.args.pid c.ask.result told.size told.within told.free
     c.number-number.ensures told.answer_is c.in_default.not-Added
+
+pub returns-in-Added : goal.returns-in-Added
+returns-in-Added g c =
+    asks_timers_so c.args.self.now true (λ n. Add n c.args.pid c.args.deadline) told.Added
+    c.number-number.result c.args.seat.now c.ask.new.seat c.number-number.ensures
+    c.in-Added.ensures.served (c.in-Added.ensures.seat false c.requires)
+    c.in-Added.ensures.number

@@ -1,0 +1,63 @@
+-- A request of a seat's own number, and which Rendez the seat has.
+use Rattle.std.proofs.Common.{◌≡◌, ◌+◌, ◌<◌, ℕ, Bool, subst, arith}
+use Rattle.std.specs.List.{AllByRecursion}
+use Rattle.kernel_lock.specs.Calls.{Serves}
+use Rattle.kernel_lock.specs.Seats.{number_of, view_of, limit_of}
+use Rattle.rendez_words.specs.declared.words.Words.{Words}
+use Rattle.rendez_words.specs.Words.{rendez_of}
+use Rattle.semaphore.specs.declared.sema.Sema.{Sema}
+use Rattle.semaphore.specs.declared.sema.SemaSeat.{SemaSeat}
+use Rattle.semaphore.specs.declared.sema_object.SemaCall.{SemaCall}
+use Rattle.semaphore.specs.declared.sema_object.SemaReply.{SemaReply}
+use Rattle.semaphore.specs.declared.timer_object.TimerCall.{TimerCall}
+use Rattle.semaphore.specs.declared.timer_object.TimerReply.{TimerReply}
+use Rattle.semaphore.specs.declared.timers.Timers.{Timers}
+use Rattle.semaphore.specs.declared.timers.TimerSeat.{TimerSeat}
+use Rattle.semaphore.specs.Asking.{Asks, AsksTimers}
+use Rattle.semaphore.specs.Seats.{IsSeatAt, IsSeatAtTimers, HasRow, rendez_at}
+
+-- a request that names the number that its seat was told
+pub asks_so : (sema : Sema) (waits : Bool) (call : ℕ → SemaCall) (told : SemaReply) (named : ℕ)
+    (before after : SemaSeat) → named ≡ number_of before.seat
+    → Serves (record { by = number_of before.seat; request = call named; reply = told })
+    (view_of before.seat) (view_of after.seat)
+    → IsSeatAt sema waits after → number_of after.seat ≡ number_of before.seat
+    → Asks sema waits (call (number_of before.seat)) told before after
+asks_so sema waits call told named before after own served at same =
+    record {
+      served = subst
+          (λ n. Serves (record { by = number_of before.seat; request = call n; reply = told })
+          (view_of before.seat) (view_of after.seat)) own served;
+      seat = at;
+      number = same;
+    }
+
+-- the same at timers
+pub asks_timers_so : (timers : Timers) (set : Bool) (call : ℕ → TimerCall) (told : TimerReply)
+    (named : ℕ) (before after : TimerSeat) → named ≡ number_of before.seat
+    → Serves (record { by = number_of before.seat; request = call named; reply = told })
+    (view_of before.seat) (view_of after.seat)
+    → IsSeatAtTimers timers set after → number_of after.seat ≡ number_of before.seat
+    → AsksTimers timers set (call (number_of before.seat)) told before after
+asks_timers_so timers set call told named before after own served at same =
+    record {
+      served = subst
+          (λ n. Serves (record { by = number_of before.seat; request = call n; reply = told })
+          (view_of before.seat) (view_of after.seat)) own served;
+      seat = at;
+      number = same;
+    }
+
+-- a seat's number is below the number of seats
+pub is_below : (sema : Sema) (waits : Bool) (seat : SemaSeat) → IsSeatAt sema waits seat
+    → number_of seat.seat < sema.procs
+is_below sema waits seat at =
+    subst (λ limit. number_of seat.seat < limit) at.opened.limit
+    (subst (AllByRecursion (λ share. share.number < limit_of sema.lock)) at.shares_are
+    at.history.numbers).0
+
+-- so its Rendez is among those of the kernel
+pub is_in_row : (sema : Sema) (waits : Bool) (seat : SemaSeat) (words : Words)
+    → IsSeatAt sema waits seat → HasRow sema words → (rendez_at sema seat).0 < rendez_of words
+is_in_row sema waits seat words at row =
+    let below = is_below sema waits seat at in omega (arith, below, row)

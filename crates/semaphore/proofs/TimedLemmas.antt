@@ -1,0 +1,81 @@
+-- What a call with a deadline did, from its parts, and what it keeps of the notes that came.
+use Rattle.std.proofs.Common.{◌≡◌, ◌≢◌, ◌<◌, inr, Bool, true, false, ◌&&◌, not, None, Err}
+use Rattle.std.proofs.Common.{refl, ap, ◌∙◌, arith}
+use Rattle.sync_base.specs.declared.fault.Fault.{Fault}
+use Rattle.sync_base.specs.declared.fault.Fault.TheVariants as fault
+use Rattle.sync_base.specs.declared.ids.RendezId.{RendezId}
+use Rattle.sync_base.specs.declared.note.Note.{Note}
+use Rattle.sync_base.specs.declared.note.Note.TheVariants.{Interrupt, Hangup, Alarm, ClosedPipe}
+use Rattle.sync_base.specs.declared.note.Note.TheVariants.{Expired}
+use Rattle.sync_base.specs.declared.note.NoteSet.{NoteSet}
+use Rattle.sync_base.specs.NoteSet.{no_notes, holds, only}
+use Rattle.rendez_words.specs.declared.words.Words.{Words}
+use Rattle.rendez_words.specs.Process.{Process}
+use Rattle.rendez_words.specs.Steps.{posts, drains}
+use Rattle.rendez_words.specs.Words.{rendez_of}
+use Rattle.sleep_core.specs.declared.answer.Answer.TheVariants as answer
+use Rattle.sleep_wakeup.specs.Calls.{WhyNotSlept}
+use Rattle.semaphore.specs.declared.limits.TheConstants.{LAST_GRANT}
+use Rattle.semaphore.specs.Timing.{Keeps, LooksForTick, PutsBackAny, notes_in, without_expired}
+use Rattle.waiting.specs.declared.wait.WaitEnd.TheVariants.{Stopped}
+
+-- ---- notes
+
+-- a fault that is no note has none
+pub no_notes_in : (why : Fault) → ((set : NoteSet) → why ≢ fault.Interrupted set)
+    → no_notes ≡ notes_in why
+no_notes_in (fault.Interrupted set) apart = absurd (apart set refl)
+no_notes_in other apart = refl
+
+and_true : (b : Bool) → (b && true) ≡ b
+and_true true = refl
+and_true false = refl
+
+and_false : (b : Bool) → (b && false) ≡ false
+and_false true = refl
+and_false false = refl
+
+-- a set that holds each note of another but the tick's is that other without the tick's note
+pub others_are : (set notes : NoteSet)
+    → ((note : Note) → holds set note ≡ (holds notes note && not (holds (only Expired) note)))
+    → set ≡ without_expired notes
+others_are set notes kinds =
+    let interrupt = kinds Interrupt ∙ and_true notes.interrupt in
+    let hangup = kinds Hangup ∙ and_true notes.hangup in
+    let alarm = kinds Alarm ∙ and_true notes.alarm in
+    let closed = kinds ClosedPipe ∙ and_true notes.closed_pipe in
+    let expired = kinds Expired ∙ and_false notes.expired in
+    λ k. record {
+      interrupt = interrupt k;
+      hangup = hangup k;
+      alarm = alarm k;
+      closed_pipe = closed k;
+      expired = expired k;
+    }
+
+-- ---- a look for a tick
+
+-- of the refusals of such a sleep only one can come, and then it takes notes without a sleep
+pub refused_so : (words : Words) (before : Process) (rendez : RendezId) (between : Process)
+    (why : Fault) (set : NoteSet) (after : Process) → rendez.0 < rendez_of words
+    → WhyNotSlept words before rendez LAST_GRANT between why
+    → ((set : NoteSet) → why ≢ fault.Interrupted set) → after ≡ drains between set
+    → LooksForTick rendez before set after
+refused_so words before rendez between (fault.Interrupted notes) set after within is apart took =
+    absurd (apart notes refl)
+refused_so words before rendez between fault.NoRendez set after within is apart took =
+    absurd (omega (arith, within, is.0))
+refused_so words before rendez between fault.BadLevel set after within is apart took =
+    absurd (omega (arith, is.1))
+refused_so words before rendez between fault.DoubleSleep set after within is apart took =
+    inr (took ∙ ap (λ p. drains p set) is.1)
+refused_so words before rendez between why set after within is apart took = absurd is
+
+-- ---- the answer
+
+-- a sleep that failed for another reason than notes, behind which it left without a unit
+pub fails_so : (why : Fault) (expired : Bool) (others : NoteSet) (before after : Process)
+    → ((set : NoteSet) → why ≢ fault.Interrupted set) → PutsBackAny others before after
+    → Keeps (Stopped why None) expired others (Err why) before after
+fails_so (fault.Interrupted set) expired others before after apart back = absurd (apart set refl)
+fails_so other expired others before after apart back = (refl, back)
