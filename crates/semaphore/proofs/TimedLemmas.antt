@@ -1,6 +1,6 @@
 -- What a call with a deadline did, from its parts, and what it keeps of the notes that came.
-use Rattle.std.proofs.Common.{◌≡◌, ◌≢◌, ◌<◌, inr, Bool, true, false, ◌&&◌, not, None, Err}
-use Rattle.std.proofs.Common.{refl, ap, ◌∙◌, arith}
+use Rattle.std.proofs.Common.{◌≡◌, ◌≢◌, ◌<◌, inr, Bool, true, false, ◌&&◌, not, Some, None}
+use Rattle.std.proofs.Common.{Result, Ok, Err, refl, sym, ap, ◌∙◌, subst, arith}
 use Rattle.sync_base.specs.declared.fault.Fault.{Fault}
 use Rattle.sync_base.specs.declared.fault.Fault.TheVariants as fault
 use Rattle.sync_base.specs.declared.ids.RendezId.{RendezId}
@@ -17,7 +17,8 @@ use Rattle.sleep_core.specs.declared.answer.Answer.TheVariants as answer
 use Rattle.sleep_wakeup.specs.Calls.{WhyNotSlept}
 use Rattle.semaphore.specs.declared.limits.TheConstants.{LAST_GRANT}
 use Rattle.semaphore.specs.Timing.{Keeps, LooksForTick, PutsBackAny, notes_in, without_expired}
-use Rattle.waiting.specs.declared.wait.WaitEnd.TheVariants.{Stopped}
+use Rattle.waiting.specs.declared.wait.WaitEnd.{WaitEnd}
+use Rattle.waiting.specs.declared.wait.WaitEnd.TheVariants.{Answered, Stopped}
 
 -- ---- notes
 
@@ -73,9 +74,54 @@ refused_so words before rendez between why set after within is apart took = absu
 
 -- ---- the answer
 
--- a sleep that failed for another reason than notes, behind which it left without a unit
-pub fails_so : (why : Fault) (expired : Bool) (others : NoteSet) (before after : Process)
-    → ((set : NoteSet) → why ≢ fault.Interrupted set) → PutsBackAny others before after
-    → Keeps (Stopped why None) expired others (Err why) before after
-fails_so (fault.Interrupted set) expired others before after apart back = absurd (apart set refl)
-fails_so other expired others before after apart back = (refl, back)
+module _ (ending : WaitEnd Unit) (expired : Bool) (came others : NoteSet) (before after : Process)
+    (others_is : others ≡ without_expired came) where
+  abbrev Kept : Result Unit Fault → Type 0
+  Kept answer = Keeps ending expired (without_expired came) answer before after
+
+  back : PutsBackAny others before after → PutsBackAny (without_expired came) before after
+  back kept = subst (λ set. PutsBackAny set before after) others_is kept
+
+  -- its last request was answered
+  pub keeps_answered : (answer : Result Unit Fault) → ending ≡ Answered answer
+      → PutsBackAny others before after → Kept answer
+  keeps_answered answer is kept =
+      subst (λ e. Keeps e expired (without_expired came) answer before after) (sym is)
+      (refl, back kept)
+
+  -- it left with a unit
+  pub keeps_late : (why : Fault) (out : Unit) → ending ≡ Stopped why (Some out)
+      → PutsBackAny others before after → Kept (Ok out)
+  keeps_late why out is kept =
+      subst (λ e. Keeps e expired (without_expired came) (Ok out) before after) (sym is)
+      (refl, back kept)
+
+  -- a tick ended it, and no other note came
+  pub keeps_timed_out : (set : NoteSet) → ending ≡ Stopped (fault.Interrupted set) None
+      → expired ≡ true → others ≡ no_notes → after ≡ before → Kept (Err fault.TimedOut)
+  keeps_timed_out set is took none same =
+      subst
+      (λ e. Keeps e expired (without_expired came) (Err fault.TimedOut) before after) (sym is)
+      ((took, sym others_is ∙ none), same)
+
+  -- notes ended it
+  pub keeps_interrupted : (set : NoteSet) → ending ≡ Stopped (fault.Interrupted set) None
+      → (expired ≡ true → others ≢ no_notes) → after ≡ before
+      → Kept (Err (fault.Interrupted others))
+  keeps_interrupted set is some same =
+      subst
+      (λ e. Keeps e expired (without_expired came) (Err (fault.Interrupted others)) before after)
+      (sym is) ((others_is, some), same)
+
+  -- another process sleeps in its Rendez
+  pub keeps_refused : (why : Fault) → ending ≡ Stopped why None
+      → ((set : NoteSet) → why ≢ fault.Interrupted set) → PutsBackAny others before after
+      → Kept (Err why)
+  keeps_refused why is apart kept =
+      subst (λ e. Keeps e expired (without_expired came) (Err why) before after) (sym is)
+      (by why apart)
+    where
+      by : (why : Fault) → ((set : NoteSet) → why ≢ fault.Interrupted set)
+          → Keeps (Stopped why None) expired (without_expired came) (Err why) before after
+      by (fault.Interrupted set) apart = absurd (apart set refl)
+      by other apart = (refl, back kept)
