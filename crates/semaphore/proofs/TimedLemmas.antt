@@ -77,7 +77,7 @@ refused_so words before rendez between why set after within is apart took = absu
 module _ (ending : WaitEnd Unit) (expired : Bool) (came others : NoteSet) (before after : Process)
     (others_is : others ≡ without_expired came) where
   abbrev Kept : Result Unit Fault → Type 0
-  Kept answer = Keeps ending expired (without_expired came) answer before after
+  Kept answer = Keeps expired (without_expired came) ending answer before after
 
   back : PutsBackAny others before after → PutsBackAny (without_expired came) before after
   back kept = subst (λ set. PutsBackAny set before after) others_is kept
@@ -86,14 +86,14 @@ module _ (ending : WaitEnd Unit) (expired : Bool) (came others : NoteSet) (befor
   pub keeps_answered : (answer : Result Unit Fault) → ending ≡ Answered answer
       → PutsBackAny others before after → Kept answer
   keeps_answered answer is kept =
-      subst (λ e. Keeps e expired (without_expired came) answer before after) (sym is)
+      subst (λ e. Keeps expired (without_expired came) e answer before after) (sym is)
       (refl, back kept)
 
   -- it left with a unit
   pub keeps_late : (why : Fault) (out : Unit) → ending ≡ Stopped why (Some out)
       → PutsBackAny others before after → Kept (Ok out)
   keeps_late why out is kept =
-      subst (λ e. Keeps e expired (without_expired came) (Ok out) before after) (sym is)
+      subst (λ e. Keeps expired (without_expired came) e (Ok out) before after) (sym is)
       (refl, back kept)
 
   -- a tick ended it, and no other note came
@@ -101,7 +101,7 @@ module _ (ending : WaitEnd Unit) (expired : Bool) (came others : NoteSet) (befor
       → expired ≡ true → others ≡ no_notes → after ≡ before → Kept (Err fault.TimedOut)
   keeps_timed_out set is took none same =
       subst
-      (λ e. Keeps e expired (without_expired came) (Err fault.TimedOut) before after) (sym is)
+      (λ e. Keeps expired (without_expired came) e (Err fault.TimedOut) before after) (sym is)
       ((took, sym others_is ∙ none), same)
 
   -- notes ended it
@@ -110,7 +110,7 @@ module _ (ending : WaitEnd Unit) (expired : Bool) (came others : NoteSet) (befor
       → Kept (Err (fault.Interrupted others))
   keeps_interrupted set is some same =
       subst
-      (λ e. Keeps e expired (without_expired came) (Err (fault.Interrupted others)) before after)
+      (λ e. Keeps expired (without_expired came) e (Err (fault.Interrupted others)) before after)
       (sym is) ((others_is, some), same)
 
   -- another process sleeps in its Rendez
@@ -118,10 +118,10 @@ module _ (ending : WaitEnd Unit) (expired : Bool) (came others : NoteSet) (befor
       → ((set : NoteSet) → why ≢ fault.Interrupted set) → PutsBackAny others before after
       → Kept (Err why)
   keeps_refused why is apart kept =
-      subst (λ e. Keeps e expired (without_expired came) (Err why) before after) (sym is)
+      subst (λ e. Keeps expired (without_expired came) e (Err why) before after) (sym is)
       (by why apart)
     where
       by : (why : Fault) → ((set : NoteSet) → why ≢ fault.Interrupted set)
-          → Keeps (Stopped why None) expired (without_expired came) (Err why) before after
+          → Keeps expired (without_expired came) (Stopped why None) (Err why) before after
       by (fault.Interrupted set) apart = absurd (apart set refl)
       by other apart = (refl, back kept)

@@ -1,5 +1,5 @@
 -- How many units a call was given, read off what its requests were answered.
-use Rattle.std.proofs.Common.{◌≡◌, ℕ, ◌+◌, eqb, if◌then◌else◌, Bool, true, false, List, ◌∷◌}
+use Rattle.std.proofs.Common.{◌≡◌, ℕ, ◌+◌, eqb, if◌then◌else◌, Bool, true, false, List, [], ◌∷◌}
 use Rattle.std.proofs.Common.{Some, None, Result, Ok, Err, inl, inr, refl, sym, ap, ◌∙◌, arith}
 use Rattle.std.proofs.lemmas.Bool.Decides.{nat_tests}
 use Rattle.histories.specs.declared.account.Account.{Account}
@@ -72,7 +72,7 @@ pub record IsOver (first : SemaSeat) (answer : Result Unit Fault) (now : SemaSea
   -- an answer Ok is one unit, and any other is none
   pub units : units_given now ≡ units_given first + timed_units_of answer
 
-module _ (sema : Sema) (Timer : Type 0) (rendez : RendezId) (first : SemaSeat) where
+module _ (sema : Sema) (Timer : Type 0) (first : SemaSeat) where
   goes_on : (old new : Point SemaSeat) (count : ℕ) → IsOn sema first old.seat
       → (acquiring sema Timer).asked old (Wait count) new → IsOn sema first new.seat
   goes_on old new count on asked =
@@ -156,7 +156,7 @@ module _ (sema : Sema) (before : Point SemaSeat) (rest : IsSemaSeatOf sema befor
 -- what a call with a deadline answers is a unit where its sleeps came to one
 pub kept_units : (ending : WaitEnd Unit) (expired : Bool) (others : NoteSet)
     (answer : Result Unit Fault) (before after : Process)
-    → Keeps ending expired others answer before after
+    → Keeps expired others ending answer before after
     → timed_units_of (answer_of ending) ≡ timed_units_of answer
 kept_units (Answered told) expired others answer before after kept =
     sym (ap timed_units_of kept.0)

@@ -167,7 +167,8 @@ waiters_above value procs fits past since waits number seat legal told own grant
     let size = (own_stage value procs seat past fits first.1).size in
     let size_now = (own_stage value procs seat history fits legal).size in
     let few : 0 ≤ LAST_GRANT = omega arith in
-    let within = omega (arith, tells.within, size, size_now) in
+    let now = state_after sema_meaning (opening value procs 0) history in
+    let within : seat < length now.stages = omega (arith, tells.within, size, size_now) in
     let before = (history_keeps value procs 0 past fits few first.1).0.counts seat tells.within in
     let after = (history_keeps value procs 0 history fits few legal).0.counts seat within in
     let held = ap held_in granted in

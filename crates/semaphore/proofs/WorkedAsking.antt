@@ -1,13 +1,12 @@
 -- What is no request of a seat, no answer to one, and no call of a semaphore or of timers: each
 -- against one row.
-use Rattle.std.proofs.Common.{◌≡◌, ◌≢◌, ◌≤◌, ◌<◌, ◌+◌, ◌++◌, ℕ, true, false, IsTrue, nat_lt, List, []}
-use Rattle.std.proofs.Common.{◌∷◌, length, Option, Some, None, Result, Ok, Err, inl, inr, refl, ap}
-use Rattle.std.proofs.Common.{◌∙◌, arith}
+use Rattle.std.proofs.Common.{◌≡◌, ◌≢◌, ◌⊎◌, ◌<◌, ◌+◌, ℕ, Bool, true, false, List, [], length, Some}
+use Rattle.std.proofs.Common.{None, Result, Ok, Err, inl, inr, refl, sym, ap, ◌∙◌, subst, arith}
 use Rattle.std.proofs.lemmas.List.{length-append}
 use Rattle.histories.specs.declared.account.Account.{Account}
 use Rattle.kernel_lock.specs.Seats.{number_of, seen_of, opening_of}
 use Rattle.rendez_words.specs.Process.{Process}
-use Rattle.rendez_words.specs.Steps.{drains, notes, raises}
+use Rattle.rendez_words.specs.Steps.{notes, raises}
 use Rattle.sleep_wakeup.specs.Calls.{Ends}
 use Rattle.sync_base.specs.declared.fault.Fault.{Fault}
 use Rattle.sync_base.specs.declared.fault.Fault.TheVariants as fault
@@ -15,15 +14,17 @@ use Rattle.sync_base.specs.declared.ids.Pid.{Pid}
 use Rattle.sync_base.specs.declared.ids.RendezId.{RendezId}
 use Rattle.sync_base.specs.declared.note.Note.TheVariants.{Alarm, Expired}
 use Rattle.sync_base.specs.declared.note.NoteSet.{NoteSet}
-use Rattle.sync_base.specs.NoteSet.{no_notes, only, holds}
+use Rattle.sync_base.specs.NoteSet.{no_notes, joined, only, holds}
 use Rattle.semaphore.specs.declared.acquiring.Semacquired.TheVariants as got
 use Rattle.semaphore.specs.declared.sema.Sema.{Sema}
 use Rattle.semaphore.specs.declared.sema.SemaSeat.{SemaSeat}
 use Rattle.semaphore.specs.declared.sema_asks.Grant.{Grant}
 use Rattle.semaphore.specs.declared.sema_object.SemaCall.{SemaCall}
+use Rattle.semaphore.specs.declared.sema_object.SemaCall.TheVariants.{Release, NextWake}
 use Rattle.semaphore.specs.declared.sema_object.SemaReply.{SemaReply}
 use Rattle.semaphore.specs.declared.sema_object.SemaReply.TheVariants as told
 use Rattle.semaphore.specs.declared.timer_object.TimerCall.{TimerCall}
+use Rattle.semaphore.specs.declared.timer_object.TimerCall.TheVariants.{Expire}
 use Rattle.semaphore.specs.declared.timer_object.TimerReply.{TimerReply}
 use Rattle.semaphore.specs.declared.timer_object.TimerReply.TheVariants as timers
 use Rattle.semaphore.specs.declared.timers.Timers.{Timers}
@@ -40,7 +41,8 @@ use Rattle.semaphore.specs.SemaLaws.{AlwaysHolds}
 use Rattle.semaphore.specs.Ticking.{ExpiresOneMore, FindsNone, Tells, Ticks}
 use Rattle.semaphore.specs.TimerHistory.{TimerEntry, WasTaken}
 use Rattle.semaphore.specs.Timing.{AcquiresInTime, AwaitsTick, Awaiting, BegunAtOnce, Keeps}
-use Rattle.semaphore.specs.Timing.{Looks, IsEndedByNotes, PutsBackAny, TimedPoint, WaitsInTime}
+use Rattle.semaphore.specs.Timing.{Looks, LooksForTick, IsEndedByNotes, PutsBackAny, TimedPoint}
+use Rattle.semaphore.specs.Timing.{WaitsInTime}
 use Rattle.semaphore.specs.Timing.{notes_in, notes_of, without_expired}
 use Rattle.waiting.specs.declared.call.Reply.TheVariants as reply
 use Rattle.waiting.specs.declared.wait.WaitEnd.TheVariants.{Answered, Stopped}
@@ -173,12 +175,12 @@ module _ (sema : Sema) (before after : Point SemaSeat) where
 
   -- it does not ask until nobody is left to be woken
   asks_not_to_the_last : ((last : Point SemaSeat)
-      → ¬ OnlyAsks sema false SemaCall.NextWake told.NoWake last after)
+      → ¬ OnlyAsks sema false NextWake told.NoWake last after)
       → ¬ HasWoken sema before after
   asks_not_to_the_last none woken = none woken.last woken.none
 
   releases_nothing : ((first : Point SemaSeat)
-      → ¬ OnlyAsks sema false (SemaCall.Release 3) (told.Value 5) before first)
+      → ¬ OnlyAsks sema false (Release 3) (told.Value 5) before first)
       → ¬ HasReleased sema 3 5 before after
   releases_nothing none released = none released.first released.released
 
@@ -186,13 +188,13 @@ module _ (sema : Sema) (before after : Point SemaSeat) where
       → ¬ HasReleased sema 3 5 before after
   releases_and_wakes_nobody none released = none released.first released.wakes
 
-steps_of : Process → ℕ
+abbrev steps_of : Process → ℕ
 steps_of process = length process.trace
 
 module _ (sema : Sema) (Before : Point SemaSeat → Type 0) (grant : Grant)
     (after : Point SemaSeat) (more : WakesOneMore sema Before grant after) where
   who_is_woken_was_named :
-      Asks sema false SemaCall.NextWake (told.Wake grant.seat grant.grants) more.between.seat
+      Asks sema false NextWake (told.Wake grant.seat grant.grants) more.between.seat
       after.seat
   who_is_woken_was_named = more.named
 
@@ -201,7 +203,6 @@ module _ (sema : Sema) (Before : Point SemaSeat → Type 0) (grant : Grant)
 
   -- a seat that was named is not left asleep
   named_and_left_asleep : ¬ (after.process ≡ more.between.process)
-  unfolding steps_of
   named_and_left_asleep same = by more.woken.woken.ends
     where
       none : steps_of after.process ≡ steps_of more.between.process
@@ -225,33 +226,28 @@ the_answers_are = (refl, refl, refl, refl, refl, refl, refl, refl, refl, refl)
 
 -- ---- a tick
 
-alarm : NoteSet
-alarm = only Alarm
-
-expired : NoteSet
-expired = only Expired
-
 module _ (watch : Timers) (kernel now : ℕ) (before after : Point TimerSeat) where
   counts_another : (ticks : Ticks watch kernel now 3 before after) → length ticks.ended ≡ 2 → ⊥
   counts_another ticks two = let three = ticks.count_is in omega (arith, two, three)
 
   -- it stops while a timer may be due
-  stops_early : (¬ FindsNone watch kernel now before after) → watch.procs ≡ 3
+  stops_early : ¬ FindsNone watch now before after → watch.procs ≡ 3
       → (ticks : Ticks watch kernel now 2 before after) → ticks.last ≡ before → ⊥
   stops_early none three ticks same = by ticks.stops
     where
-      by : ¬ (FindsNone watch kernel now ticks.last after ⊎ ((2 ≡ watch.procs) × (after ≡ ticks.last)))
-      by (inl found) = cc
+      by : ¬ (FindsNone watch now ticks.last after
+          ⊎ ((2 ≡ watch.procs) × (after ≡ ticks.last)))
+      by (inl found) = none (subst (λ p. FindsNone watch now p after) same found)
       by (inr many) = let two = many.0 in omega (arith, two, three)
 
   finds_none_without_asking :
       length (seen_of after.seat.seat) ≡ length (seen_of before.seat.seat)
-      → ¬ FindsNone watch kernel now before after
+      → ¬ FindsNone watch now before after
   finds_none_without_asking same found =
       let more = timing_adds _ _ _ _ _ _ found.asks in omega (arith, same, more)
 
   finds_none_with_a_step : after.process ≢ before.process
-      → ¬ FindsNone watch kernel now before after
+      → ¬ FindsNone watch now before after
   finds_none_with_a_step other found = other found.idle
 
   timed_as_another : (set : Bool) (call : TimerCall) (answer : TimerReply)
@@ -267,9 +263,8 @@ module _ (watch : Timers) (kernel now : ℕ) (before after : Point TimerSeat) wh
 module _ (before after : Process) where
   -- of six processes the fifth is told, and the sixth is of another kernel
   nobody_is_told : after ≡ before → ¬ Tells 6 (record { 0 = 5 }) before after
-  unfolding steps_of
   nobody_is_told same tells =
-      let told = ap steps_of (tells.told tt) in
+      let told = ap steps_of (tells.told refl) in
       let none = ap steps_of same in
       omega (arith, told, none)
 
@@ -279,7 +274,7 @@ module _ (before after : Process) where
 module _ (watch : Timers) (kernel now : ℕ) (Before : Point TimerSeat → Type 0) (pid : Pid)
     (after : Point TimerSeat) (more : ExpiresOneMore watch kernel now Before pid after) where
   each_expires_at_the_moment :
-      AsksTimers watch false (TimerCall.Expire now) (timers.Ended pid) more.between.seat after.seat
+      AsksTimers watch false (Expire now) (timers.Ended pid) more.between.seat after.seat
   each_expires_at_the_moment = more.ended
 
   others_expired_before : Before more.between
@@ -314,42 +309,42 @@ module _ (rendez : RendezId) (first last : Awaiting) where
   looks_for_no_tick : ¬ Looks rendez false 1 first last
   looks_for_no_tick looks = let clash : false ≡ true = looks.took in cc
 
-  -- notes that came are kept
-  drops_what_came : (looks : Looks rendez true 1 first last) → looks.set ≡ only Alarm
-      → last.notes ≡ no_notes → ⊥
-  drops_what_came looks alarmed none =
-      let here : holds last.notes Alarm ≡ false = ap (λ s. holds s Alarm) none in
-      cc
+  -- notes that come are kept with those that had come
+  what_comes_is_kept : (looks : Looks rendez true 1 first last)
+      → last.notes ≡ joined looks.between.notes looks.set
+  what_comes_is_kept looks = looks.notes_are
+
+  it_looks_in_its_rendez : (looks : Looks rendez true 1 first last)
+      → LooksForTick rendez looks.between.process looks.set last.process
+  it_looks_in_its_rendez looks = looks.looked
 
 -- ---- the answer
 
 module _ (before : Process) where
-  drops_its_notes : ¬ Keeps (Answered (Ok tt)) false (only Alarm) (Ok tt) before before
-  unfolding steps_of
+  drops_its_notes : ¬ Keeps false (only Alarm) (Answered (Ok tt)) (Ok tt) before before
   drops_its_notes kept = by kept.1
     where
       by : ¬ PutsBackAny (only Alarm) before before
       by (inl none) = let clash : true ≡ false = ap (λ s. holds s Alarm) none.0 in cc
       by (inr back) = let steps = ap steps_of back in omega (arith, steps)
 
-  answers_another_end : ¬ Keeps (Answered (Ok tt)) false no_notes (Err fault.Worn) before before
+  answers_another_end : ¬ Keeps false no_notes (Answered (Ok tt)) (Err fault.Worn) before before
   answers_another_end kept = let clash : Err fault.Worn ≡ Ok tt = kept.0 in cc
 
   late_and_refused :
-      ¬ Keeps (Stopped fault.DoubleSleep (Some tt)) false no_notes (Err fault.DoubleSleep)
+      ¬ Keeps false no_notes (Stopped fault.DoubleSleep (Some tt)) (Err fault.DoubleSleep)
       before before
   late_and_refused kept = let clash : Err fault.DoubleSleep ≡ Ok tt = kept.0 in cc
 
   refused_and_timed_out :
-      ¬ Keeps (Stopped fault.DoubleSleep None) true no_notes (Err fault.TimedOut) before before
+      ¬ Keeps true no_notes (Stopped fault.DoubleSleep None) (Err fault.TimedOut) before before
   refused_and_timed_out kept =
       let clash : Err fault.TimedOut ≡ Err fault.DoubleSleep = kept.0 in cc
 
   interrupted_and_puts_back :
-      ¬ Keeps (Stopped (fault.Interrupted (only Alarm)) None) false (only Alarm)
+      ¬ Keeps false (only Alarm) (Stopped (fault.Interrupted (only Alarm)) None)
       (Err (fault.Interrupted (only Alarm))) before
       (notes before (record { 0 = before.pid }) (only Alarm))
-  unfolding steps_of
   interrupted_and_puts_back kept = let steps = ap steps_of kept.1 in omega (arith, steps)
 
 times_out_without_a_tick : ¬ IsEndedByNotes false no_notes (Err fault.TimedOut)
@@ -383,19 +378,19 @@ module _ (sema : Sema) (watch : Timers) (moment : ℕ) (before after : TimedPoin
       let units = acquires.units in omega (arith, one, units)
 
   at_once_and_sets_its_timer : (answer : Result Unit Fault) → after.timer ≢ before.timer
-      → ¬ BegunAtOnce sema watch moment before answer after
+      → ¬ BegunAtOnce sema before answer after
   at_once_and_sets_its_timer answer other begun = other begun.timer
 
-  at_once_for_no_reason : ¬ BegunAtOnce sema watch moment before (Err fault.TimedOut) after
+  at_once_for_no_reason : ¬ BegunAtOnce sema before (Err fault.TimedOut) after
   at_once_for_no_reason begun = begun.begun
 
   neither_at_once_nor_in_time : (answer : Result Unit Fault)
-      → ¬ BegunAtOnce sema watch moment before answer after
+      → ¬ BegunAtOnce sema before answer after
       → ¬ WaitsInTime sema watch moment before answer after
       → ¬ AcquiresInTime sema watch moment before answer after
   neither_at_once_nor_in_time answer begun waits acquires = by acquires.takes
     where
-      by : ¬ (BegunAtOnce sema watch moment before answer after
+      by : ¬ (BegunAtOnce sema before answer after
           ⊎ WaitsInTime sema watch moment before answer after)
       by (inl at_once) = begun at_once
       by (inr waited) = waits waited

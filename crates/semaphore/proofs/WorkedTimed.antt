@@ -1,13 +1,13 @@
 -- Calls with a deadline that did what none may do: each list of deeds against the order and the
 -- counts that the parts of such a call have.
-use Rattle.std.proofs.Common.{◌≡◌, ◌≢◌, ℕ, zero, suc, ◌+◌, true, false, List, [], ◌∷◌, ◌++◌, length}
-use Rattle.std.proofs.Common.{Option, Some, None, Result, Ok, Err, inl, inr, refl, sym, ap, ◌∙◌}
+use Rattle.std.proofs.Common.{◌≡◌, ◌≢◌, ℕ, zero, suc, ◌+◌, Bool, true, false, List, [], ◌∷◌, ◌++◌}
+use Rattle.std.proofs.Common.{length, Some, None, Result, Ok, Err, inl, inr, refl, sym, ap, ◌∙◌}
 use Rattle.std.proofs.Common.{subst, arith}
 use Rattle.std.specs.List.{AllByRecursion}
 use Rattle.histories.specs.declared.account.Account.{Account}
 use Rattle.kernel_lock.specs.Seats.{number_of, shares_of}
-use Rattle.rendez_words.specs.Process.{Process, pid_in}
-use Rattle.rendez_words.specs.Steps.{posts, tests, drains, notes}
+use Rattle.rendez_words.specs.Process.{Process}
+use Rattle.rendez_words.specs.Steps.{posts, tests}
 use Rattle.sleep_core.specs.declared.answer.Answer.TheVariants as answer
 use Rattle.sleep_core.specs.declared.event.Event.{Event}
 use Rattle.sleep_core.specs.declared.event.Event.TheVariants.{Post, Look, Withdraw, Drain}
@@ -31,10 +31,12 @@ use Rattle.semaphore.specs.declared.timers.TimerSeat.{TimerSeat}
 use Rattle.semaphore.specs.Acquiring.{acquiring}
 use Rattle.semaphore.specs.Asking.{Asks, AsksTimers}
 use Rattle.semaphore.specs.Seats.{IsSeatAt, IsSemaSeatOf, IsSeatAtTimers, IsTimerSeatOf, own_of}
+use Rattle.semaphore.specs.Seats.{rendez_at}
 use Rattle.semaphore.specs.SemaHistory.{SemaEntry}
 use Rattle.semaphore.specs.Ticking.{Ticks}
 use Rattle.semaphore.specs.TimerHistory.{TimerEntry}
-use Rattle.semaphore.specs.Timing.{Keeps, Looks, PutsBackAny, TimedPoint, WaitsInTime}
+use Rattle.semaphore.specs.Timing.{Awaiting, Keeps, Looks, PutsBackAny, TimedPoint, WaitsInTime}
+use Rattle.semaphore.specs.Timing.{notes_of}
 use Rattle.semaphore.proofs.UnitLemmas.{own_more}
 use Rattle.waiting.specs.declared.wait.WaitEnd.{WaitEnd}
 use Rattle.waiting.specs.declared.wait.WaitEnd.TheVariants.{Answered, Stopped}
@@ -231,7 +233,7 @@ module _ (sema : Sema) (Timer : Type 0) (rendez : RendezId) where
       }
 
 -- it does not look for a tick that took no timer
-not_looked : (rendez : RendezId) (times : ℕ) (first now : _) → Looks rendez false times first now
+not_looked : (rendez : RendezId) (times : ℕ) (first now : Awaiting) → Looks rendez false times first now
     → now ≡ first
 not_looked rendez zero first now same = same
 not_looked rendez (suc times) first now more = let bad = more.took in absurd (cc)
@@ -247,7 +249,7 @@ puts_back_adds set before after (inr back) =
 
 keeps_adds : (ending : WaitEnd Unit) (expired : Bool) (others : NoteSet)
     (answer : Result Unit Fault) (before after : Process)
-    → Keeps ending expired others answer before after
+    → Keeps expired others ending answer before after
     → (lay_down after ≡ lay_down before) × (drained after ≡ drained before)
 keeps_adds (Answered told) expired others answer before after kept =
     puts_back_adds others before after kept.1
@@ -300,14 +302,18 @@ module _ (sema : Sema) (timers : Timers) (moment : ℕ) (before after : TimedPoi
         let lies = ap lay_down begun.idle in
         let drains = ap drained begun.idle in
         let calls = ap (λ (l : List SemaEntry). length l) asked in
-        let begins = ap firsts asked in
+        let one = ap firsts asked in
         let slept = waits.slept in
         let (at, rounds) = rounds_add sema _ _ slept.times waits.first slept.last begun.asks.seat
         slept.rounds in
         let end = end_adds sema _ _ slept.last waits.stop.ending _ at slept.ends in
-        let looks = subst (λ b. Looks _ b waits.awaited.times _ waits.stop.awaited) in_time
+        let begins : Awaiting =
+        record { process = waits.stop.process; notes = notes_of waits.stop.ending } in
+        let rendez = rendez_at sema before.at.seat in
+        let looks = subst
+        (λ b. Looks rendez b waits.awaited.times begins waits.stop.awaited) in_time
         waits.awaited.looks in
-        let none = not_looked _ waits.awaited.times _ waits.stop.awaited looks in
+        let none = not_looked rendez waits.awaited.times begins waits.stop.awaited looks in
         let none_lies = ap (λ a. lay_down a.process) none in
         let none_drains = ap (λ a. drained a.process) none in
         let kept = keeps_adds waits.stop.ending waits.stop.expired _ told _ after.at.process
@@ -317,7 +323,7 @@ module _ (sema : Sema) (timers : Timers) (moment : ℕ) (before after : TimedPoi
           lies = omega (arith, lies, rounds.lies, end.lies, none_lies, kept.0);
           drains = omega (arith, drains, rounds.drains, end.drains, none_drains, kept.1);
           asks = omega (arith, calls, rounds.asks, end.asks);
-          firsts = omega (arith, begins, rounds.firsts, end.firsts);
+          firsts = omega (arith, one, rounds.firsts, end.firsts);
         }
 
     -- what was put back is taken again, or a note is taken before a sleep that so passes it

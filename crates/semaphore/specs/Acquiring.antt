@@ -56,8 +56,8 @@ abbrev pub acquiring : Sema → Type 0 → Promise SemaSeat Unit
 acquiring sema Timer =
     record {
       begun = Begins sema;
-      asked = λ before told after. Timer × Collects sema before told after;
-      left = λ before told after. Timer × Leaves sema before told after;
+      asked = λ before said after. Timer × Collects sema before said after;
+      left = λ before said after. Timer × Leaves sema before said after;
     }
 
 -- ---- the call

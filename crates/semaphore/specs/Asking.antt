@@ -26,29 +26,28 @@ use Rattle.waiting.specs.Waiting.{Point}
 
 -- ---- requests
 
--- The seat asked this under its own number and was told so, which stands in one legal history; and
--- this says whether it waits now.
-pub record Asks (sema : Sema) (waits : Bool) (call : SemaCall) (told : SemaReply)
-    (before after : SemaSeat) : Type 0 where
-  pub served : Serves (record { by = number_of before.seat; request = call; reply = told })
-      (view_of before.seat) (view_of after.seat)
-  pub seat : IsSeatAt sema waits after
-  pub number : number_of after.seat ≡ number_of before.seat
+module _ (sema : Sema) (waits : Bool) (call : SemaCall) (told : SemaReply) where
+  -- The seat asked this under its own number and was told so, which stands in one legal history;
+  -- and this says whether it waits now.
+  pub record Asks (before after : SemaSeat) : Type 0 where
+    pub served : Serves (record { by = number_of before.seat; request = call; reply = told })
+        (view_of before.seat) (view_of after.seat)
+    pub seat : IsSeatAt sema waits after
+    pub number : number_of after.seat ≡ number_of before.seat
 
--- and its process did nothing
-pub record OnlyAsks (sema : Sema) (waits : Bool) (call : SemaCall) (told : SemaReply)
-    (before after : Point SemaSeat) : Type 0 where
-  pub asks : Asks sema waits call told before.seat after.seat
-  pub idle : after.process ≡ before.process
+  -- and its process did nothing
+  pub record OnlyAsks (before after : Point SemaSeat) : Type 0 where
+    pub asks : Asks before.seat after.seat
+    pub idle : after.process ≡ before.process
 
--- the same of a seat at timers; this says whether its timer is set now, or expired and not
--- cancelled
-pub record AsksTimers (timers : Timers) (set : Bool) (call : TimerCall) (answer : TimerReply)
-    (before after : TimerSeat) : Type 0 where
-  pub served : Serves (record { by = number_of before.seat; request = call; reply = answer })
-      (view_of before.seat) (view_of after.seat)
-  pub seat : IsSeatAtTimers timers set after
-  pub number : number_of after.seat ≡ number_of before.seat
+module _ (timers : Timers) (set : Bool) (call : TimerCall) (answer : TimerReply) where
+  -- the same of a seat at timers; this says whether its timer is set now, or expired and not
+  -- cancelled
+  pub record AsksTimers (before after : TimerSeat) : Type 0 where
+    pub served : Serves (record { by = number_of before.seat; request = call; reply = answer })
+        (view_of before.seat) (view_of after.seat)
+    pub seat : IsSeatAtTimers timers set after
+    pub number : number_of after.seat ≡ number_of before.seat
 
 -- ---- answers
 

@@ -17,6 +17,11 @@ pub record Tells (kernel : ℕ) (pid : Pid) (before after : Process) : Type 0 wh
   pub told : IsTrue (nat_lt pid.0 kernel) → after ≡ notes before pid (only Expired)
   pub other : nat_lt pid.0 kernel ≡ false → after ≡ before
 
+-- it was told that nothing is due
+pub record FindsNone (timers : Timers) (now : ℕ) (before after : Point TimerSeat) : Type 0 where
+  pub asks : AsksTimers timers false (Expire now) told.NoneDue before.seat after.seat
+  pub idle : after.process ≡ before.process
+
 module _ (timers : Timers) (kernel now : ℕ) where
   -- one timer more expired at this moment, and just behind that its process was told
   pub record ExpiresOneMore (Before : Point TimerSeat → Type 0) (pid : Pid)
@@ -31,11 +36,6 @@ module _ (timers : Timers) (kernel now : ℕ) where
   Expires [] before after = after ≡ before
   Expires (pid ∷ others) before after = ExpiresOneMore (Expires others before) pid after
 
-  -- it was told that nothing is due
-  pub record FindsNone (before after : Point TimerSeat) : Type 0 where
-    pub asks : AsksTimers timers false (Expire now) told.NoneDue before.seat after.seat
-    pub idle : after.process ≡ before.process
-
   -- A tick at this moment, in a kernel of so many processes: so many timers expired, until nothing
   -- was due or as many had as there are.
   pub record Ticks (count : ℕ) (before after : Point TimerSeat) : Type 0 where
@@ -44,4 +44,4 @@ module _ (timers : Timers) (kernel now : ℕ) where
     pub expires : Expires ended before last
     pub count_is : count ≡ length ended
     pub at_most : count ≤ timers.procs
-    pub stops : FindsNone last after ⊎ ((count ≡ timers.procs) × (after ≡ last))
+    pub stops : FindsNone timers now last after ⊎ ((count ≡ timers.procs) × (after ≡ last))

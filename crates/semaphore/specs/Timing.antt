@@ -92,25 +92,26 @@ abbrev pub PutsBackAny : NoteSet → Process → Process → Type 0
 PutsBackAny set before after =
     ((set ≡ no_notes) × (after ≡ before)) ⊎ (after ≡ notes before (pid_in before) set)
 
--- notes ended it: it timed out where a tick took its timer and no other note came, and else these
--- others are its answer
-abbrev pub IsEndedByNotes : Bool → NoteSet → Result Unit Fault → Type 0
-IsEndedByNotes expired others (Err fault.TimedOut) = (expired ≡ true) × (others ≡ no_notes)
-IsEndedByNotes expired others (Err (fault.Interrupted set)) =
-    (set ≡ others) × (expired ≡ true → set ≢ no_notes)
-IsEndedByNotes expired others answer = ⊥
+module _ (expired : Bool) (others : NoteSet) where
+  -- notes ended it: it timed out where a tick took its timer and no other note came, and else these
+  -- others are its answer
+  abbrev pub IsEndedByNotes : Result Unit Fault → Type 0
+  IsEndedByNotes (Err fault.TimedOut) = (expired ≡ true) × (others ≡ no_notes)
+  IsEndedByNotes (Err (fault.Interrupted set)) =
+      (set ≡ others) × (expired ≡ true → set ≢ no_notes)
+  IsEndedByNotes answer = ⊥
 
--- what it answers, and what becomes of the other notes that came: they are its answer, or else they
--- are put back
-abbrev pub Keeps : WaitEnd Unit → Bool → NoteSet → Result Unit Fault → Process → Process → Type 0
-Keeps (Answered told) expired others answer before after =
-    (answer ≡ told) × PutsBackAny others before after
-Keeps (Stopped why (Some out)) expired others answer before after =
-    (answer ≡ Ok out) × PutsBackAny others before after
-Keeps (Stopped (fault.Interrupted set) None) expired others answer before after =
-    IsEndedByNotes expired others answer × (after ≡ before)
-Keeps (Stopped why None) expired others answer before after =
-    (answer ≡ Err why) × PutsBackAny others before after
+  -- what it answers, and what becomes of the other notes that came: they are its answer, or else
+  -- they are put back
+  abbrev pub Keeps : WaitEnd Unit → Result Unit Fault → Process → Process → Type 0
+  Keeps (Answered told) answer before after =
+      (answer ≡ told) × PutsBackAny others before after
+  Keeps (Stopped why (Some out)) answer before after =
+      (answer ≡ Ok out) × PutsBackAny others before after
+  Keeps (Stopped (fault.Interrupted set) None) answer before after =
+      IsEndedByNotes answer × (after ≡ before)
+  Keeps (Stopped why None) answer before after =
+      (answer ≡ Err why) × PutsBackAny others before after
 
 -- ---- the call
 
@@ -134,13 +135,13 @@ pub record Stop : Type 0 where
   pub expired : Bool
   pub awaited : Awaiting
 
-module _ (sema : Sema) (timers : Timers) (moment : ℕ) where
-  -- it was answered at once, and set no timer
-  pub record BegunAtOnce (before : TimedPoint) (answer : Result Unit Fault) (after : TimedPoint)
-      : Type 0 where
-    pub begun : Begins sema before.at (reply_of answer) after.at
-    pub timer : after.timer ≡ before.timer
+-- it was answered at once, and set no timer
+pub record BegunAtOnce (sema : Sema) (before : TimedPoint) (answer : Result Unit Fault)
+    (after : TimedPoint) : Type 0 where
+  pub begun : Begins sema before.at (reply_of answer) after.at
+  pub timer : after.timer ≡ before.timer
 
+module _ (sema : Sema) (timers : Timers) (moment : ℕ) where
   -- It was told to wait, and then: it set its timer; it slept while that was set; it cancelled its
   -- timer; it awaited the note of a tick that had taken it; and it kept what came.
   pub record WaitsInTime (before : TimedPoint) (answer : Result Unit Fault) (after : TimedPoint)
@@ -159,7 +160,7 @@ module _ (sema : Sema) (timers : Timers) (moment : ℕ) where
         (cancel_reply stop.expired) set after.timer
     pub awaited : AwaitsTick (rendez_at sema before.at.seat) stop.expired
         (record { process = stop.process; notes = notes_of stop.ending }) stop.awaited
-    pub kept : Keeps stop.ending stop.expired (without_expired stop.awaited.notes) answer
+    pub kept : Keeps stop.expired (without_expired stop.awaited.notes) stop.ending answer
         stop.awaited.process after.at.process
     -- where a tick took its timer, that was at its deadline or later
     pub taken : stop.expired ≡ true
@@ -172,4 +173,4 @@ module _ (sema : Sema) (timers : Timers) (moment : ℕ) where
       (after : TimedPoint) : Type 0 where
     pub units : units_given after.at.seat
         ≡ units_given before.at.seat + timed_units_of answer
-    pub takes : BegunAtOnce before answer after ⊎ WaitsInTime before answer after
+    pub takes : BegunAtOnce sema before answer after ⊎ WaitsInTime before answer after

@@ -1,8 +1,8 @@
 //! How a process takes a unit, and what such a call asks of its semaphore while it waits.
-ghost use Rattle.std.specs.Prelude.{◌≡◌};
+ghost use Rattle.std.specs.Prelude.{◌≡◌, ⊤, true};
 ghost use Rattle.kernel_lock.specs.Seats.{number_of};
-ghost use Rattle.semaphore.specs.Acquiring.{Semacquires};
-ghost use Rattle.semaphore.specs.Seats.{HasRow, IsSemaSeatOf};
+ghost use Rattle.semaphore.specs.Acquiring.{Semacquires, acquiring};
+ghost use Rattle.semaphore.specs.Seats.{HasRow, IsSeatAt, IsSemaSeatOf, IsTimerSet};
 ghost use Rattle.waiting.specs.Waiting.{point};
 
 use crate::sema::{Sema, SemaSeat};
@@ -24,23 +24,19 @@ pub enum Semacquired {
 
 /// A timer that is set.
 #[derive(Drop)]
-pub(crate) struct SetTimer<'s> {
-    pub(crate) timers: &'s Timers,
-    pub(crate) seat: &'s TimerSeat,
+pub(crate) struct SetTimer<'t> {
+    pub(crate) timers: &'t Timers,
+    pub(crate) seat: &'t TimerSeat,
 }
 
 /// A call that takes a unit. Where it has a deadline it sleeps with its timer set.
 #[derive(Drop)]
-pub(crate) struct Acquiring<'s> {
+pub(crate) struct Acquiring<'s, 't> {
     pub(crate) sema: &'s Sema,
-    pub(crate) timer: Option<SetTimer<'s>>,
+    pub(crate) timer: Option<SetTimer<'t>>,
 }
 
-impl<'s> WaitingCall for Acquiring<'s> {
-    ghost use Rattle.std.specs.Prelude.{⊤, true};
-    ghost use Rattle.semaphore.specs.Acquiring.{acquiring};
-    ghost use Rattle.semaphore.specs.Seats.{IsSeatAt, IsSemaSeatOf, IsTimerSet};
-
+impl<'s, 't> WaitingCall for Acquiring<'s, 't> {
     type Seat = SemaSeat;
 
     type Out = ();

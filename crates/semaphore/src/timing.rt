@@ -1,13 +1,15 @@
 //! How a process takes a unit by a moment.
-ghost use Rattle.std.specs.Prelude.{◌≡◌, ◌<◌};
+ghost use Rattle.std.specs.Prelude.{◌≡◌, ◌<◌, ℕ, true};
+ghost use Rattle.sync_base.specs.declared.note.Note.TheVariants.{Expired};
+ghost use Rattle.sync_base.specs.NoteSet.{holds};
 ghost use Rattle.kernel_lock.specs.Seats.{number_of};
 ghost use Rattle.rendez_words.specs.Words.{rendez_of};
 ghost use Rattle.semaphore.specs.Seats.{HasRow, IsSemaSeatOf, IsTimerSeatOf};
 ghost use Rattle.semaphore.specs.Timers.{deadline_of};
 ghost use Rattle.semaphore.specs.Timing.{
   AcquiresInTime,
-  AwaitsTick,
   Keeps,
+  Looks,
   LooksForTick,
   PutsBackAny,
   awaiting,
@@ -149,8 +151,9 @@ fn await_tick<R: Wait>(
 ) -> NoteSet
     requires { rendez.0 < rendez_of proc.old.words }
     ensures words { proc.new.words ≡ proc.old.words }
-    ensures awaited { AwaitsTick rendez expired (awaiting proc.old taken)
-        (awaiting proc.new result) }
+    ensures looks { (times : ℕ) ×
+        Looks rendez expired times (awaiting proc.old taken) (awaiting proc.new result) }
+    ensures came { expired ≡ true → holds result Expired ≡ true }
 {
     let mut notes = taken;
     for _ in rt.forever() {
@@ -206,7 +209,7 @@ fn answer_timed(
     came: NoteSet,
 ) -> Result<(), Fault>
     ensures words { proc.new.words ≡ proc.old.words }
-    ensures kept { Keeps ending expired (without_expired came) result
+    ensures kept { Keeps expired (without_expired came) ending result
         proc.old.process proc.new.process }
 {
     let others = others(came);

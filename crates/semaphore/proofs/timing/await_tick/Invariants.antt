@@ -7,7 +7,6 @@ abbrev pub invariant-loop : goal.invariant-loop
 invariant-loop g l =
     record {
       words : l.proc.words ≡ l.initial.proc.words;
-      times : ℕ;
-      looks : Looks l.rendez l.expired times (awaiting l.initial.proc l.taken)
+      looks : (times : ℕ) × Looks l.rendez l.expired times (awaiting l.fn.proc l.fn.taken)
           (awaiting l.proc l.notes);
     }

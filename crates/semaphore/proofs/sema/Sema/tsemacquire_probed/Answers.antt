@@ -4,13 +4,14 @@ use Rattle.std.proofs.Common.{◌≡◌, ◌<◌, Ok, Err, false, true, inl, inr
 use Rattle.std.proofs.Common.{arith}
 use Rattle.kernel_lock.specs.Seats.{number_of}
 use Rattle.rendez_words.specs.Words.{rendez_of}
+use Rattle.sync_base.specs.declared.ids.Pid.{Pid}
 use Rattle.semaphore.specs.declared.timer_object.TimerCall.TheVariants.{Add, Cancel}
 use Rattle.semaphore.specs.declared.timer_object.TimerReply.TheVariants.{Added}
 use Rattle.semaphore.specs.Acquiring.{acquiring}
 use Rattle.semaphore.specs.Asking.{AsksTimers, cancel_reply}
 use Rattle.semaphore.specs.Seats.{IsSeatAtTimers}
 use Rattle.semaphore.specs.Timers.{deadline_of}
-use Rattle.semaphore.specs.Timing.{AwaitsTick, awaiting, notes_of}
+use Rattle.semaphore.specs.Timing.{Looks, awaiting, notes_of}
 use Rattle.semaphore.proofs.RequestLemmas.{is_in_row}
 use Rattle.semaphore.proofs.TickLemmas.{took_it}
 use Rattle.semaphore.proofs.UnitLemmas.{at_once, stopped, kept_units}
@@ -26,27 +27,27 @@ begin-requires-clause-ready g c = (c.requires.seat, tt)
 pub returns-in-Done-clause-number : goal.returns-in-Done-clause-number
 returns-in-Done-clause-number g c =
     (at_once c.args.self.now (point c.args.seat.now c.args.proc.now) c.requires.seat
-    (point c.begin.new.seat c.begin.new.proc) (Ok tt) c.in-Done.ensures.asked).number
+    (point c.begin.new.seat c.begin.new._proc) (Ok tt) c.in-Done.ensures.asked).number
 
 pub returns-in-Done-clause-called : goal.returns-in-Done-clause-called
 returns-in-Done-clause-called g c =
     record {
       units = (at_once c.args.self.now (point c.args.seat.now c.args.proc.now) c.requires.seat
-          (point c.begin.new.seat c.begin.new.proc) (Ok tt) c.in-Done.ensures.asked).units;
+          (point c.begin.new.seat c.begin.new._proc) (Ok tt) c.in-Done.ensures.asked).units;
       takes = inl (record { begun = c.in-Done.ensures.asked; timer = refl });
     }
 
 pub returns-in-Refused-clause-number : goal.returns-in-Refused-clause-number
 returns-in-Refused-clause-number g c =
     (at_once c.args.self.now (point c.args.seat.now c.args.proc.now) c.requires.seat
-    (point c.begin.new.seat c.begin.new.proc) (Err c.in-Refused.why)
+    (point c.begin.new.seat c.begin.new._proc) (Err c.in-Refused.why)
     c.in-Refused.ensures.asked).number
 
 pub returns-in-Refused-clause-called : goal.returns-in-Refused-clause-called
 returns-in-Refused-clause-called g c =
     record {
       units = (at_once c.args.self.now (point c.args.seat.now c.args.proc.now) c.requires.seat
-          (point c.begin.new.seat c.begin.new.proc) (Err c.in-Refused.why)
+          (point c.begin.new.seat c.begin.new._proc) (Err c.in-Refused.why)
           c.in-Refused.ensures.asked).units;
       takes = inl (record { begun = c.in-Refused.ensures.asked; timer = refl });
     }
@@ -84,7 +85,7 @@ pub returns-in-Wait-clause-number : goal.returns-in-Wait-clause-number
 returns-in-Wait-clause-number g c =
     (stopped c.args.self.now (point c.args.seat.now c.args.proc.now) c.requires.seat
     (IsSeatAtTimers c.args.timers.now true c.add.new.seat) c.rendez-rendez.result
-    (told c.begin.new.seat c.begin.new.proc c.in-Wait.count) c.sleep_for-ending.result
+    (told c.begin.new.seat c.begin.new._proc c.in-Wait.count) c.sleep_for-ending.result
     (point c.sleep_for-ending.new.seat c.sleep_for-ending.new.proc) c.in-Wait.ensures.asked
     c.sleep_for-ending.ensures.slept).number
 
@@ -97,8 +98,8 @@ returns-in-Wait-clause-called g c =
     let ending = c.sleep_for-ending.result in
     let expired = c.cancel-expired.result in
     let last = c.sleep_for-ending.new.proc.process in
-    let pid = record { 0 = c.args.proc.now.process.pid } in
-    let first = told c.begin.new.seat c.begin.new.proc c.in-Wait.count in
+    let pid : Pid = record { 0 = c.args.proc.now.process.pid } in
+    let first = told c.begin.new.seat c.begin.new._proc c.in-Wait.count in
     let after = point c.sleep_for-ending.new.seat c.sleep_for-ending.new.proc in
     let added : AsksTimers timers true (Add (number_of c.args.timer.now.seat) pid moment) Added
     c.args.timer.now set =
@@ -132,16 +133,20 @@ returns-in-Wait-clause-called g c =
             (λ rendez. SleepsOn (acquiring sema (IsSeatAtTimers timers true set)) rendez first
             ending after) c.rendez-rendez.ensures c.sleep_for-ending.ensures.slept;
         cancelled = c.cancel-expired.ensures.asks;
-        awaited = subst
-            (λ rendez. AwaitsTick rendez expired
-            (record { process = last; notes = notes_of ending })
-            (awaiting c.await_tick-came.new.proc c.await_tick-came.result))
-            c.rendez-rendez.ensures
-            (subst
-            (λ notes. AwaitsTick c.rendez-rendez.result expired
-            (record { process = last; notes = notes })
-            (awaiting c.await_tick-came.new.proc c.await_tick-came.result))
-            c.taken_by.ensures c.await_tick-came.ensures.awaited);
+        awaited = record {
+          times = c.await_tick-came.ensures.looks.0;
+          looks = subst
+              (λ rendez. Looks rendez expired c.await_tick-came.ensures.looks.0
+              (record { process = last; notes = notes_of ending })
+              (awaiting c.await_tick-came.new.proc c.await_tick-came.result))
+              c.rendez-rendez.ensures
+              (subst
+              (λ notes. Looks c.rendez-rendez.result expired c.await_tick-came.ensures.looks.0
+              (record { process = last; notes = notes })
+              (awaiting c.await_tick-came.new.proc c.await_tick-came.result))
+              c.taken_by.ensures c.await_tick-came.ensures.looks.1);
+          came = c.await_tick-came.ensures.came;
+        };
         kept = c.answer_timed.ensures.kept;
         taken = λ is. took_it timers moment pid c.args.timer.now set c.cancel-expired.new.seat
             c.requires.timer.opened added

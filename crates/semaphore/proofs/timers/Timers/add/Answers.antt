@@ -14,9 +14,11 @@ unreachable-requires g c =
     c.number-number.result c.args.deadline c.args.pid c.ask.result told.size told.within told.free
     c.number-number.ensures told.answer_is c.in_default.not-Added
 
-pub returns-in-Added : goal.returns-in-Added
-returns-in-Added g c =
-    asks_timers_so c.args.self.now true (λ n. Add n c.args.pid c.args.deadline) told.Added
-    c.number-number.result c.args.seat.now c.ask.new.seat c.number-number.ensures
-    c.in-Added.ensures.served (c.in-Added.ensures.seat false c.requires)
-    c.in-Added.ensures.number
+pub returns : goal.returns
+returns g c =
+    record {
+      asks = asks_timers_so c.args.self.now true (λ n. Add n c.args.pid c.args.deadline) told.Added
+          c.number-number.result c.args.seat.now c.ask.new.seat c.number-number.ensures
+          c.in-Added.ensures.served (c.in-Added.ensures.seat false c.requires)
+          c.in-Added.ensures.number;
+    }

@@ -14,12 +14,16 @@ unreachable-requires g c =
 
 pub returns-in-Removed : goal.returns-in-Removed
 returns-in-Removed g c =
-    asks_timers_so c.args.self.now false Cancel told.Removed c.number-number.result
-    c.args.seat.now c.ask.new.seat c.number-number.ensures c.in-Removed.ensures.served
-    (c.in-Removed.ensures.seat true c.requires) c.in-Removed.ensures.number
+    record {
+      asks = asks_timers_so c.args.self.now false Cancel told.Removed c.number-number.result
+          c.args.seat.now c.ask.new.seat c.number-number.ensures c.in-Removed.ensures.served
+          (c.in-Removed.ensures.seat true c.requires) c.in-Removed.ensures.number;
+    }
 
 pub returns-in-Expired : goal.returns-in-Expired
 returns-in-Expired g c =
-    asks_timers_so c.args.self.now false Cancel told.Expired c.number-number.result
-    c.args.seat.now c.ask.new.seat c.number-number.ensures c.in-Expired.ensures.served
-    (c.in-Expired.ensures.seat true c.requires) c.in-Expired.ensures.number
+    record {
+      asks = asks_timers_so c.args.self.now false Cancel told.Expired c.number-number.result
+          c.args.seat.now c.ask.new.seat c.number-number.ensures c.in-Expired.ensures.served
+          (c.in-Expired.ensures.seat true c.requires) c.in-Expired.ensures.number;
+    }

@@ -12,15 +12,19 @@ unreachable-requires g c =
 pub returns-in-Ended : goal.returns-in-Ended
 returns-in-Ended g c =
     record {
-      served = c.in-Ended.ensures.served;
-      seat = c.in-Ended.ensures.seat false c.requires;
-      number = c.in-Ended.ensures.number;
+      asks = record {
+        served = c.in-Ended.ensures.served;
+        seat = c.in-Ended.ensures.seat false c.requires;
+        number = c.in-Ended.ensures.number;
+      };
     }
 
 pub returns-in-NoneDue : goal.returns-in-NoneDue
 returns-in-NoneDue g c =
     record {
-      served = c.in-NoneDue.ensures.served;
-      seat = c.in-NoneDue.ensures.seat false c.requires;
-      number = c.in-NoneDue.ensures.number;
+      asks = record {
+        served = c.in-NoneDue.ensures.served;
+        seat = c.in-NoneDue.ensures.seat false c.requires;
+        number = c.in-NoneDue.ensures.number;
+      };
     }
