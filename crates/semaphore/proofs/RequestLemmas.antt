@@ -1,5 +1,5 @@
 -- A request of a seat's own number, and which Rendez the seat has.
-use Rattle.std.proofs.Common.{◌≡◌, ◌+◌, ◌<◌, ℕ, Bool, subst, arith}
+use Rattle.std.proofs.Common.{◌≡◌, ◌<◌, ℕ, Bool, subst, arith}
 use Rattle.std.specs.List.{AllByRecursion}
 use Rattle.kernel_lock.specs.Calls.{Serves}
 use Rattle.kernel_lock.specs.Seats.{number_of, view_of, limit_of}

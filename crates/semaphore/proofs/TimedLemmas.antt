@@ -11,9 +11,8 @@ use Rattle.sync_base.specs.declared.note.NoteSet.{NoteSet}
 use Rattle.sync_base.specs.NoteSet.{no_notes, holds, only}
 use Rattle.rendez_words.specs.declared.words.Words.{Words}
 use Rattle.rendez_words.specs.Process.{Process}
-use Rattle.rendez_words.specs.Steps.{posts, drains}
+use Rattle.rendez_words.specs.Steps.{drains}
 use Rattle.rendez_words.specs.Words.{rendez_of}
-use Rattle.sleep_core.specs.declared.answer.Answer.TheVariants as answer
 use Rattle.sleep_wakeup.specs.Calls.{WhyNotSlept}
 use Rattle.semaphore.specs.declared.limits.TheConstants.{LAST_GRANT}
 use Rattle.semaphore.specs.Timing.{Keeps, LooksForTick, PutsBackAny, notes_in, without_expired}

@@ -5,7 +5,7 @@ use Rattle.std.specs.Prelude.{replicate}
 use Rattle.rendez_words.specs.declared.words.Words.{Words}
 use Rattle.rendez_words.specs.Words.{rendez_of}
 use Rattle.kernel_lock.specs.declared.locked.Locked.{Locked}
-use Rattle.kernel_lock.specs.Seats.{IsSeatOf, SeesHistory, shares_of, number_of, limit_of}
+use Rattle.kernel_lock.specs.Seats.{IsSeatOf, SeesHistory, shares_of, limit_of}
 use Rattle.kernel_lock.specs.Seats.{opening_of}
 use Rattle.semaphore.specs.declared.acquiring.SetTimer.{SetTimer}
 use Rattle.semaphore.specs.declared.due.Due.{Due}

@@ -1,6 +1,6 @@
 -- What tsemacquire promises. After semacquire(2); the ticks, that a call waits for the note of a
 -- tick that took its timer, and which notes are put back, are own.
-use Rattle.std.specs.Prelude.{◌≡◌, ◌≢◌, ◌⊎◌, ⊤, ℕ, zero, suc, ◌+◌, Bool, true, false, Some, None}
+use Rattle.std.specs.Prelude.{◌≡◌, ◌≢◌, ◌⊎◌, ℕ, zero, suc, ◌+◌, Bool, true, false, Some, None}
 use Rattle.std.specs.Prelude.{Result, Ok, Err}
 use Rattle.kernel_lock.specs.Seats as lock
 use Rattle.kernel_lock.specs.Seats.{opening_of, seen_of}

@@ -1,5 +1,5 @@
 -- where there are notes they are put back
-use Rattle.std.proofs.Common.{inl, inr, refl}
+use Rattle.std.proofs.Common.{inr}
 use Rattle.semaphore.proofs.timing.keep.Goals as goal
 
 pub returns-then-not-is_empty-clause-kept : goal.returns-then-not-is_empty-clause-kept
