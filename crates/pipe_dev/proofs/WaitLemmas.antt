@@ -1,4 +1,5 @@
--- The wakeups of a pipe, by the law of all devices: a wakeup that has returned releases its sleeper.
+-- The wakeups of a pipe, by the law of all devices: a wakeup that has returned releases its
+-- sleeper.
 use Rattle.std.proofs.Common.{◌≡◌, ◌≢◌, ◌⊎◌, inl, inr, eqb, true, false, ℕ, zero, suc, ◌+◌, ◌<◌}
 use Rattle.std.proofs.Common.{List, [], ◌∷◌, Option, refl, sym, subst, arith}
 use Rattle.std.proofs.lemmas.Bool.Decides.{eqb_tells}

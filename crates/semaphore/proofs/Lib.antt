@@ -3,6 +3,7 @@ mod Cases
 mod EarlierLemmas
 mod LineLemmas
 mod NamedLemmas
+mod NoteLemmas
 mod OwnSemaLemmas
 mod OwnTimerLemmas
 mod RequestLemmas

@@ -102,7 +102,8 @@ pub record Cancels (opening : List Timer) (procs number moment : ℕ) (pid : Pid
 
 -- a timer that had expired when its seat cancelled it was taken by a tick, at its deadline or later
 pub tick_took : (opening : List Timer) (procs number moment : ℕ) (pid : Pid)
-    (before set after : View (List Timer) TimerCall TimerReply) → Cancels opening procs number moment pid before set after
+    (before set after : View (List Timer) TimerCall TimerReply)
+    → Cancels opening procs number moment pid before set after
     → WasTaken opening number moment after.account.seen
 tick_took opening procs number moment pid before set after h =
     subst (WasTaken opening number moment) (sym seen_is)

@@ -178,6 +178,7 @@ pub now_units : (got : Semacquired) (number : ℕ)
 now_units got.Acquired number = refl
 now_units got.NotNow number = refl
 
+-- and the units of such a call add up
 pub now_over : (sema : Sema) (before after : SemaSeat) (got : Semacquired)
     → IsSemaSeatOf sema before
     → Asks sema false (AcquireNow (number_of before.seat)) (now_reply got) before after

@@ -56,6 +56,7 @@ all_named : (sema : Sema) (Holds : Wakeup → Type 0) (grants : List Grant)
 all_named sema Holds [] all = tt
 all_named sema Holds (grant ∷ others) all = (all.0, all_named sema Holds others all.1)
 
+-- by the law of all devices
 pub releasing_releases : ReleasingReleasesTheNamed
 releasing_releases sizes s shows sema count sum before after releases gone =
     let wakes = releases.wakes in
@@ -158,6 +159,7 @@ told_to_wait s (Leave other) seat number answered named =
 told_to_wait s (Release count) seat number answered named = cc
 told_to_wait s NextWake seat number answered named = cc
 
+-- by the counts of grants: one more since it was told to wait
 pub waiters_above : WaitersAreNamedAbove
 waiters_above value procs fits past since waits number seat legal told own granted named =
     let first = legal_behind (opening value procs 0) since (waits ∷ past) legal in

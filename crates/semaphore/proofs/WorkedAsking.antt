@@ -1,7 +1,7 @@
 -- What is no request of a seat, no answer to one, and no call of a semaphore or of timers: each
 -- against one row.
-use Rattle.std.proofs.Common.{◌≡◌, ◌≢◌, ◌⊎◌, ◌<◌, ◌+◌, ℕ, Bool, true, false, List, [], length, Some}
-use Rattle.std.proofs.Common.{None, Result, Ok, Err, inl, inr, refl, sym, ap, ◌∙◌, subst, arith}
+use Rattle.std.proofs.Common.{◌≡◌, ◌≢◌, ◌⊎◌, ◌<◌, ◌+◌, ℕ, Bool, true, false, List, [], ◌∷◌, length}
+use Rattle.std.proofs.Common.{Some, None, Result, Ok, Err, inl, inr, refl, sym, ap, ◌∙◌, subst, arith}
 use Rattle.std.proofs.lemmas.List.{length-append}
 use Rattle.histories.specs.declared.account.Account.{Account}
 use Rattle.kernel_lock.specs.Seats.{number_of, seen_of, opening_of}
@@ -43,6 +43,8 @@ use Rattle.semaphore.specs.TimerHistory.{TimerEntry, WasTaken}
 use Rattle.semaphore.specs.Timing.{AcquiresInTime, AwaitsTick, Awaiting, BegunAtOnce, Keeps}
 use Rattle.semaphore.specs.Timing.{Looks, LooksForTick, IsEndedByNotes, PutsBackAny, TimedPoint}
 use Rattle.semaphore.specs.Timing.{WaitsInTime}
+use Rattle.semaphore.specs.WakeLaws.{HasTaken}
+use Rattle.sleep_core.specs.History.Deed.{Left, Drained}
 use Rattle.semaphore.specs.Timing.{notes_in, notes_of, without_expired}
 use Rattle.waiting.specs.declared.call.Reply.TheVariants as reply
 use Rattle.waiting.specs.declared.wait.WaitEnd.TheVariants.{Answered, Stopped}
@@ -402,6 +404,22 @@ module _ (sema : Sema) (watch : Timers) (moment : ℕ) (before after : TimedPoin
           → ¬ WasTaken (opening_of timer_definition watch.lock) (number_of before.timer.seat)
           moment (seen_of after.timer.seat) → ⊥
       times_out_too_early is none = none (waits.taken is)
+
+-- ---- a note that was taken
+
+nobody_took_it : ¬ HasTaken [] 5
+nobody_took_it taken = taken
+
+another_note_was_taken : ¬ HasTaken (Drained 5 (only Alarm) ∷ []) 5
+another_note_was_taken (inl it) = let clash : false ≡ true = it.1 in cc
+another_note_was_taken (inr none) = none
+
+another_took_its : ¬ HasTaken (Left 4 (Some (only Expired)) ∷ []) 5
+another_took_its (inl it) = let four : 4 ≡ 5 = it.0 in omega (arith, four)
+another_took_its (inr none) = none
+
+a_sleep_that_ends_well_takes_none : ¬ HasTaken (Left 5 None ∷ []) 5
+a_sleep_that_ends_well_takes_none taken = taken
 
 -- ---- a law of no state
 

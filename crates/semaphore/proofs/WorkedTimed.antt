@@ -233,8 +233,8 @@ module _ (sema : Sema) (Timer : Type 0) (rendez : RendezId) where
       }
 
 -- it does not look for a tick that took no timer
-not_looked : (rendez : RendezId) (times : ℕ) (first now : Awaiting) → Looks rendez false times first now
-    → now ≡ first
+not_looked : (rendez : RendezId) (times : ℕ) (first now : Awaiting)
+    → Looks rendez false times first now → now ≡ first
 not_looked rendez zero first now same = same
 not_looked rendez (suc times) first now more = let bad = more.took in absurd (cc)
 

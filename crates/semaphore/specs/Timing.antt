@@ -128,7 +128,8 @@ abbrev pub timed_units_of : Result Unit Fault → ℕ
 timed_units_of (Ok unit) = 1
 timed_units_of (Err why) = 0
 
--- how its sleeps ended, whether a tick had taken its timer then, and where that tick's note had come
+-- how its sleeps ended, whether a tick had taken its timer then, and where that tick's note had
+-- come
 pub record Stop : Type 0 where
   pub ending : WaitEnd Unit
   pub process : Process

@@ -8,7 +8,11 @@ ghost use Rattle.semaphore.specs.SemaLaws.{
   EachGrantIsNamed,
 };
 ghost use Rattle.semaphore.specs.TimerLaws.{ExpiredWasTaken};
-ghost use Rattle.semaphore.specs.WakeLaws.{ReleasingReleasesTheNamed, WaitersAreNamedAbove};
+ghost use Rattle.semaphore.specs.WakeLaws.{
+  ReleasingReleasesTheNamed,
+  TickingTellsEach,
+  WaitersAreNamedAbove,
+};
 
 /// No unit is lost and none is given twice.
 pub fn units_add_up()
@@ -41,10 +45,16 @@ pub fn an_expired_timer_was_taken()
     ensures { ExpiredWasTaken }
 {}
 
-/// No call that waits stays posted once the semrelease that was named its seat has returned: whoever
-/// sleeps below the number of the seat's grants is released; and a seat that was granted a unit is
-/// still to be named, or was named above each number that it was told before.
+/// No call that waits stays posted once the semrelease that was named its seat has returned:
+/// whoever sleeps below the number of the seat's grants is released; and a seat that was granted a
+/// unit is still to be named, or was named above each number that it was told before.
 pub fn who_is_granted_is_released()
     ensures released { ReleasingReleasesTheNamed }
     ensures above { WaitersAreNamedAbove }
+{}
+
+/// No note of a tick is lost: once the tick has returned, it is pending at the process of each timer
+/// that expired, where its kernel has that process, or that process took it since.
+pub fn who_expired_is_told()
+    ensures { TickingTellsEach }
 {}

@@ -1,5 +1,5 @@
--- It is answered at once; or it sets its timer, sleeps, cancels its timer, awaits the note of a tick
--- that has taken it, and keeps what came.
+-- It is answered at once; or it sets its timer, sleeps, cancels its timer, awaits the note of a
+-- tick that has taken it, and keeps what came.
 use Rattle.std.proofs.Common.{◌<◌, Ok, Err, false, true, inl, inr, refl, sym, ap, ◌∙◌, subst}
 use Rattle.std.proofs.Common.{arith}
 use Rattle.kernel_lock.specs.Seats.{number_of}
