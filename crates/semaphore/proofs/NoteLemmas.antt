@@ -103,17 +103,20 @@ noted_too pid named notes past there = by (eqb_tells named pid) there
         → ((named ≡ pid) × (holds notes Expired ≡ true)) ⊎ IsThere pid past
         → IsThere pid (Noted named notes ∷ past)
     by (inl same) (inl it) =
-        inl (ap (λ b. holds (if b then joined (pending past pid) notes else pending past pid) Expired)
+        inl (ap
+        (λ b. holds (if b then joined (pending past pid) notes else pending past pid) Expired)
         same.0
         ∙ (ap (λ b. holds (pending past pid) Expired || b) it.1
         ∙ or_true (holds (pending past pid) Expired)))
     by (inl same) (inr (inl there)) =
-        inl (ap (λ b. holds (if b then joined (pending past pid) notes else pending past pid) Expired)
+        inl (ap
+        (λ b. holds (if b then joined (pending past pid) notes else pending past pid) Expired)
         same.0 ∙ ap (λ b. b || holds notes Expired) there)
     by (inl same) (inr (inr taken)) = inr taken
     by (inr other) (inl it) = absurd (other.1 it.0)
     by (inr other) (inr (inl there)) =
-        inl (ap (λ b. holds (if b then joined (pending past pid) notes else pending past pid) Expired)
+        inl (ap
+        (λ b. holds (if b then joined (pending past pid) notes else pending past pid) Expired)
         other.0 ∙ there)
     by (inr other) (inr (inr taken)) = inr taken
 

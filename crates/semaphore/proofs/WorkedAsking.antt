@@ -1,7 +1,8 @@
 -- What is no request of a seat, no answer to one, and no call of a semaphore or of timers: each
 -- against one row.
 use Rattle.std.proofs.Common.{◌≡◌, ◌≢◌, ◌⊎◌, ◌<◌, ◌+◌, ℕ, Bool, true, false, List, [], ◌∷◌, length}
-use Rattle.std.proofs.Common.{Some, None, Result, Ok, Err, inl, inr, refl, sym, ap, ◌∙◌, subst, arith}
+use Rattle.std.proofs.Common.{Some, None, Result, Ok, Err, inl, inr, refl, sym, ap, ◌∙◌, subst}
+use Rattle.std.proofs.Common.{arith}
 use Rattle.std.proofs.lemmas.List.{length-append}
 use Rattle.histories.specs.declared.account.Account.{Account}
 use Rattle.kernel_lock.specs.Seats.{number_of, seen_of, opening_of}

@@ -53,8 +53,8 @@ pub fn who_is_granted_is_released()
     ensures above { WaitersAreNamedAbove }
 {}
 
-/// No note of a tick is lost: once the tick has returned, it is pending at the process of each timer
-/// that expired, where its kernel has that process, or that process took it since.
+/// No note of a tick is lost: once the tick has returned, it is pending at the process of each
+/// timer that expired, where its kernel has that process, or that process took it since.
 pub fn who_expired_is_told()
     ensures { TickingTellsEach }
 {}
