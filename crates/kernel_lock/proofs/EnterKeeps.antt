@@ -19,8 +19,8 @@ use Rattle.kernel_lock.specs.declared.view.Stage.{Stage}
 use Rattle.kernel_lock.specs.declared.view.View.{View}
 use Rattle.kernel_lock.specs.Definition.{Definition, server, meaning_of, opening_state}
 use Rattle.kernel_lock.specs.Rule.{Standing, IsInside, FitsStage, IsOneHistory}
-use Rattle.kernel_lock.specs.Steps.{Slot, Me, FindsObject, TakesLock, IsOwnRight, IsDue, HasReleased}
-use Rattle.kernel_lock.specs.Steps.{HasEntered}
+use Rattle.kernel_lock.specs.Steps.{Slot, Me, FindsObject, TakesLock, IsOwnRight, IsDue}
+use Rattle.kernel_lock.specs.Steps.{HasReleased, HasEntered}
 use Rattle.kernel_lock.specs.View.{account_of, history_with, inside_view, outside_view}
 use Rattle.kernel_lock.proofs.ReleaseKeeps.{ledger_after, Follows, follows, outside_given}
 use Rattle.kernel_lock.proofs.RuleLemmas.{lock_moves, rule_after}
@@ -162,6 +162,7 @@ module _ {Object State Call Reply : Type 0}
         slots_are = refl;
       }
 
+  -- the step is a release and an acquire with nothing between them
   pub entered : HasEntered definition served me (view, me.1)
   unfolding taken
   entered =

@@ -45,16 +45,22 @@ module _ {Object State Call Reply : Type 0}
     -- what holds of the history behind the step, with a request and without, and of the seats
     -- where this one knows what a release tells it
     pub record Follows (served : Option (Served Call Reply)) : Type 0 where
+      -- the request is the newest
       pub history : (ledger_after served rule.ledger).history ≡
           history_with served rule.ledger.history
+      -- no number is given
       pub next : (ledger_after served rule.ledger).next ≡ rule.ledger.next
+      -- what was there is a past of it
       pub grown : IsPast rule.ledger.history (ledger_after served rule.ledger).history
+      -- it is legal
       pub legal : IsLegal (meaning_of definition) (opening_state definition key)
           (ledger_after served rule.ledger).history
+      -- and all seats fit it
       pub seats : (view : View Object Call Reply) →
           account_of view ≡ account_of (outside_view rule.ledger.history served me.0) →
           AreSeats server account_of (ledger_after served rule.ledger) (set s.views id view)
 
+    -- the request was answered right, so all that holds
     pub follows : (served : Option (Served Call Reply)) →
         IfSome served (IsOwnRight definition key rule.ledger.history me.0) → Follows served
     follows None right =
@@ -78,6 +84,7 @@ module _ {Object State Call Reply : Type 0}
               right.own same;
         }
 
+    -- a release gives no number
     pub outside_given : (history : List (Served Call Reply))
         (served : Option (Served Call Reply)) →
         (outside_view history served me.0).given ≡ me.0.given

@@ -232,7 +232,7 @@ module _ {Object State Call Reply : Type 0}
       (subst (λ (number : ℕ). Serves (record { by = number; request = request; reply = reply })
       before after) by_is serves))
 
-  -- one request or two give and take no number
+  -- one request or two change the seat's own number not
   pub then_number : (key : Key Object) (own : ℕ) (first : Served Call Reply)
       (next : Option Call) (reply : Option Reply) (old new : View Object Call Reply) →
       ServesThen definition key own first next reply old new →
@@ -247,6 +247,7 @@ module _ {Object State Call Reply : Type 0}
   then_number key own first None (Some reply) old new serves = absurd serves
   then_number key own first (Some next) None old new serves = absurd serves
 
+  -- and take none
   pub then_keeps : (key : Key Object) (own : ℕ) (first : Served Call Reply)
       (next : Option Call) (reply : Option Reply) (old new : View Object Call Reply) →
       ServesThen definition key own first next reply old new →

@@ -6,6 +6,7 @@ mod NamedLemmas
 mod NoteLemmas
 mod OwnSemaLemmas
 mod OwnTimerLemmas
+mod ReleaseLemmas
 mod RequestLemmas
 mod SemaLawLemmas
 mod SemaLemmas

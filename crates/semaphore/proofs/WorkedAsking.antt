@@ -32,8 +32,8 @@ use Rattle.semaphore.specs.declared.timers.Timers.{Timers}
 use Rattle.semaphore.specs.declared.timers.TimerSeat.{TimerSeat}
 use Rattle.semaphore.specs.Acquiring.{Begins, Collects, Leaves, Waits, AsksNow, Semacquires}
 use Rattle.semaphore.specs.Acquiring.{acquiring}
-use Rattle.semaphore.specs.Asking.{Asks, OnlyAsks, AsksTimers, now_reply, release_reply, wake_reply}
-use Rattle.semaphore.specs.Asking.{cancel_reply, expire_reply}
+use Rattle.semaphore.specs.Asking.{Asks, OnlyAsks, AsksTimers, AsksBoth, AsksRelease, now_reply}
+use Rattle.semaphore.specs.Asking.{wake_next, wake_reply, cancel_reply, expire_reply}
 use Rattle.semaphore.specs.Definitions.{timer_definition}
 use Rattle.semaphore.specs.Releasing.{HasReleased, HasWoken, Releases, WakesOneMore}
 use Rattle.semaphore.specs.Seats.{IsSeatAt, IsSeatAtTimers, rendez_of_seat, units_given}
@@ -216,10 +216,30 @@ module _ (sema : Sema) (Before : Point SemaSeat → Type 0) (grant : Grant)
       by (inl nobody) = let steps = ap steps_of nobody in omega (arith, none, steps)
       by (inr (sleeper, marked)) = let steps = ap steps_of marked in omega (arith, none, steps)
 
+-- ---- a release in one hold of the lock
+
+-- a release that was taken is followed by a question, and one that was refused is not
+refused_and_followed : (sema : Sema) (before after : SemaSeat)
+    → AsksRelease sema 1 told.BadArg (Some told.NoWake) before after → ⊥
+refused_and_followed sema before after none = none
+
+taken_and_not_followed : (sema : Sema) (before after : SemaSeat)
+    → AsksRelease sema 1 (told.Value 5) None before after → ⊥
+taken_and_not_followed sema before after none = none
+
+-- two requests are two entries more
+both_add : (sema : Sema) (call : SemaCall) (first second : SemaReply) (before after : SemaSeat)
+    → AsksBoth sema call first second before after
+    → length (seen_of before.seat) + 1 < length (seen_of after.seat)
+both_add sema call first second before after both =
+    let one = asking_adds sema false call first before both.between both.asked_first in
+    let two = asking_adds sema false NextWake second both.between after both.asked_second in
+    omega (arith, one, two)
+
 -- ---- typed answers
 
 the_answers_are : (now_reply got.Acquired ≡ told.Acquired) × (now_reply got.NotNow ≡ told.NotNow)
-    × (release_reply (Some 5) ≡ told.Value 5) × (release_reply None ≡ told.BadArg)
+    × (wake_next (told.Value 5) ≡ Some NextWake) × (wake_next told.BadArg ≡ None)
     × (wake_reply (Some (record { seat = 1; grants = 4 })) ≡ told.Wake 1 4)
     × (wake_reply None ≡ told.NoWake)
     × (cancel_reply true ≡ timers.Expired) × (cancel_reply false ≡ timers.Removed)

@@ -10,6 +10,7 @@ use Rattle.semaphore.specs.declared.sema.Sema.{Sema}
 use Rattle.semaphore.specs.declared.sema.SemaSeat.{SemaSeat}
 use Rattle.semaphore.specs.declared.sema_asks.Grant.{Grant}
 use Rattle.semaphore.specs.declared.sema_object.SemaCall.{SemaCall}
+use Rattle.semaphore.specs.declared.sema_object.SemaCall.TheVariants.{Release, NextWake}
 use Rattle.semaphore.specs.declared.sema_object.SemaReply.{SemaReply}
 use Rattle.semaphore.specs.declared.sema_object.SemaReply.TheVariants as reply
 use Rattle.semaphore.specs.declared.timer_object.Timer.{Timer}
@@ -40,6 +41,15 @@ module _ (sema : Sema) (waits : Bool) (call : SemaCall) (told : SemaReply) where
     pub asks : Asks before.seat after.seat
     pub idle : after.process ≡ before.process
 
+module _ (sema : Sema) where
+  -- the seat, which waits for nothing, asked this and was told so, and then asked who is to be
+  -- woken
+  pub record AsksBoth (call : SemaCall) (first second : SemaReply) (before after : SemaSeat) :
+      Type 0 where
+    pub between : SemaSeat
+    pub asked_first : Asks sema false call first before between
+    pub asked_second : Asks sema false NextWake second between after
+
 module _ (timers : Timers) (set : Bool) (call : TimerCall) (answer : TimerReply) where
   -- the same of a seat at timers; this says whether its timer is set now, or expired and not
   -- cancelled
@@ -55,11 +65,6 @@ module _ (timers : Timers) (set : Bool) (call : TimerCall) (answer : TimerReply)
 abbrev pub now_reply : Semacquired → SemaReply
 now_reply got.Acquired = reply.Acquired
 now_reply got.NotNow = reply.NotNow
-
--- the sum, where the release was taken
-abbrev pub release_reply : Option ℕ → SemaReply
-release_reply (Some sum) = reply.Value sum
-release_reply None = reply.BadArg
 
 -- the next seat to be woken, where there is one
 abbrev pub wake_reply : Option Grant → SemaReply
@@ -95,3 +100,31 @@ pub record IsTimed (procs number : ℕ) (set : Bool) (call : TimerCall) (answer 
   pub within : number < procs
   pub free : may_add (timer_of state number) ≡ not set
   pub answer_is : answer ≡ timing.answer_to state call
+
+-- ---- a release in one hold of the lock
+
+-- what follows a release that was taken: who is to be woken
+abbrev pub wake_next : SemaReply → Option SemaCall
+wake_next (reply.Value sum) = Some NextWake
+wake_next answer = None
+
+module _ (sema : Sema) where
+  -- the seat, which waits for nothing, asked this of some state and was told what that answers
+  pub record Finds (call : SemaCall) (told : SemaReply) (before after : SemaSeat) : Type 0 where
+    pub asks : Asks sema false call told before after
+    pub found : IsTold sema.procs (number_of before.seat) false call told
+
+  pub record FindsBoth (call : SemaCall) (first second : SemaReply) (before after : SemaSeat) :
+      Type 0 where
+    pub between : SemaSeat
+    pub found_first : Finds call first before between
+    pub found_second : Finds NextWake second between after
+
+  -- it asked for a release of so many units and, just where that was taken, who is to be woken
+  abbrev pub AsksRelease :
+      ℕ → SemaReply → Option SemaReply → SemaSeat → SemaSeat → Type 0
+  AsksRelease count (reply.Value sum) (Some told) before after =
+      FindsBoth (Release count) (reply.Value sum) told before after
+  AsksRelease count (reply.Value sum) None before after = ⊥
+  AsksRelease count answer (Some told) before after = ⊥
+  AsksRelease count answer None before after = Finds (Release count) answer before after

@@ -1,11 +1,15 @@
 //! How a process adds units, and wakes who was granted one.
-ghost use Rattle.std.specs.Prelude.{◌≡◌};
+ghost use Rattle.std.specs.Prelude.{◌≡◌, ◌<◌, false, IfSome};
 ghost use Rattle.kernel_lock.specs.Seats.{number_of};
+ghost use Rattle.semaphore.specs.declared.sema.SemaSeat.{SemaSeat};
+ghost use Rattle.semaphore.specs.declared.sema_object.SemaCall.TheVariants.{NextWake};
+ghost use Rattle.semaphore.specs.Asking.{Asks, wake_reply};
 ghost use Rattle.semaphore.specs.Releasing.{HasWoken, Releases};
 ghost use Rattle.semaphore.specs.Seats.{HasRow, IsSemaSeatOf};
 ghost use Rattle.waiting.specs.Waiting.{point};
 
 use crate::sema::{Sema, SemaSeat};
+use crate::sema_asks::Grant;
 use sleep_wakeup::Proc;
 use std::sync::Wait;
 use sync_base::{Fault, RendezId};
@@ -34,32 +38,41 @@ impl Sema {
     {
         match self.release(rt, seat, count) {
             None => Err(Fault::BadArg),
-            Some(sum) => {
-                self.wake_granted(rt, proc, seat);
-                Ok(sum)
+            Some(released) => {
+                self.wake_granted(rt, proc, seat, released.next);
+                Ok(released.sum)
             }
         }
     }
 
-    // Wakes each seat that was granted a unit and was not woken since.
-    fn wake_granted<R: Wait>(&self, rt: &R, proc: &mut Proc<'_>, seat: &mut SemaSeat)
+    // Wakes the seat that it was named, and each that was granted a unit and was not woken since.
+    fn wake_granted<R: Wait>(
+        &self,
+        rt: &R,
+        proc: &mut Proc<'_>,
+        seat: &mut SemaSeat,
+        next: Option<Grant>,
+    )
         requires seat { IsSemaSeatOf self.now seat.old }
         requires row { HasRow self.now proc.old.words }
+        requires there { IfSome next (λ grant. grant.seat < self.now.procs) }
         ensures seat { IsSemaSeatOf self.now seat.new }
         ensures number { number_of seat.new.seat ≡ number_of seat.old.seat }
         ensures words { proc.new.words ≡ proc.old.words }
-        ensures woken { HasWoken self.now (point seat.old proc.old) (point seat.new proc.new) }
+        ensures woken { (before : SemaSeat) →
+            Asks self.now false NextWake (wake_reply next) before seat.old →
+            HasWoken self.now (point before proc.old) (point seat.new proc.new) }
     {
+        let mut next = next;
         for _ in rt.forever() {
-            match self.next_wake(rt, seat) {
-                None => return,
-                Some(grant) => {
-                    match proc.wakeup(RendezId(self.first + grant.seat), grant.grants) {
-                        Ok(_) => {}
-                        Err(_) => unreachable!(),
-                    }
-                }
+            let Some(grant) = next else {
+                return;
+            };
+            match proc.wakeup(RendezId(self.first + grant.seat), grant.grants) {
+                Ok(_) => {}
+                Err(_) => unreachable!(),
             }
+            next = self.next_wake(rt, seat);
         }
         unreachable!()
     }

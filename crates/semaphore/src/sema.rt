@@ -3,6 +3,7 @@ ghost use Rattle.std.specs.Prelude.{◌+◌, ◌^◌, ◌<◌};
 
 use crate::limits::MAX_VALUE;
 use crate::{SemaCall, SemaObject, SemaReply};
+use kernel_lock::object::{Answers, Follows};
 use kernel_lock::{LockSeat, Locked, Opened};
 use sleep_wakeup::Roster;
 use std::alloc::Global;
@@ -26,6 +27,22 @@ pub struct SemaSeat {
     pub(crate) seat: LockSeat<SemaObject>,
 }
 
+/// What follows a release that was taken: who is to be woken.
+pub(crate) struct WakeNext;
+
+impl Follows<SemaCall, SemaReply> for WakeNext {
+    ghost use Rattle.semaphore.specs.Asking.{AsksRelease, wake_next};
+
+    ghost follower = { wake_next };
+
+    fn next(reply: &SemaReply) -> Option<SemaCall> {
+        match reply {
+            SemaReply::Value(_) => Some(SemaCall::NextWake),
+            _ => None,
+        }
+    }
+}
+
 /// A new semaphore, and its first seat.
 #[derive(Drop)]
 pub struct OpenedSema {
@@ -40,7 +57,7 @@ impl Sema {
     ghost use Rattle.kernel_lock.specs.Calls.{Serves};
     ghost use Rattle.kernel_lock.specs.Seats.{Splits, KnowsAllGiven, NamesOwn, number_of, view_of};
     ghost use Rattle.semaphore.specs.declared.limits.TheConstants.{MAX_VALUE};
-    ghost use Rattle.semaphore.specs.Asking.{IsTold};
+    ghost use Rattle.semaphore.specs.Asking.{AsksRelease, IsTold};
     ghost use Rattle.semaphore.specs.Definitions.{sema_definition};
     ghost use Rattle.semaphore.specs.Opening.{WhyNotOpened};
     ghost use Rattle.sleep_core.specs.Limits.{IsProcCount};
@@ -112,6 +129,20 @@ impl Sema {
         ensures { result ≡ rendez_at self.now seat.now }
     {
         RendezId(self.first + seat.seat.number())
+    }
+
+    // Asks for a release and, where that was taken, who is to be woken, in one hold of the lock.
+    pub(crate) fn ask_release<R: Wait>(
+        &self,
+        rt: &R,
+        seat: &mut SemaSeat,
+        count: u32,
+    ) -> Answers<SemaReply>
+        requires { IsSemaSeatOf self.now seat.old }
+        ensures asked { AsksRelease self.now count result.first result.second
+            seat.old seat.new }
+    {
+        self.lock.apply_then::<R, WakeNext>(rt, &mut seat.seat, SemaCall::Release { count })
     }
 
     // Asks the semaphore, in its turn.

@@ -1,12 +1,13 @@
 //! What a seat asks of its semaphore without a wait.
-ghost use Rattle.std.specs.Prelude.{◌<◌, false, IfSome};
+ghost use Rattle.std.specs.Prelude.{◌<◌, false, IfSome, IfNone};
 ghost use Rattle.kernel_lock.specs.Seats.{number_of};
-ghost use Rattle.semaphore.specs.Asking.{Asks, now_reply, release_reply, wake_reply};
+ghost use Rattle.semaphore.specs.Asking.{Asks, AsksBoth, now_reply, wake_reply};
 ghost use Rattle.semaphore.specs.Seats.{IsSemaSeatOf};
 
 use crate::acquiring::Semacquired;
 use crate::sema::{Sema, SemaSeat};
 use crate::{SemaCall, SemaReply};
+use kernel_lock::object::Answers;
 use std::sync::Wait;
 
 /// A seat that was granted a unit, and is to be woken with the number of its grants.
@@ -14,6 +15,13 @@ use std::sync::Wait;
 pub(crate) struct Grant {
     pub(crate) seat: u64,
     pub(crate) grants: u64,
+}
+
+/// A release that was taken: the sum, and who is to be woken first, if anybody is.
+#[derive(Clone, Copy)]
+pub(crate) struct Released {
+    pub(crate) sum: u32,
+    pub(crate) next: Option<Grant>,
 }
 
 impl Sema {
@@ -31,14 +39,38 @@ impl Sema {
         }
     }
 
-    /// Adds so many units, and answers the sum, where it is within the limit.
-    pub(crate) fn release<R: Wait>(&self, rt: &R, seat: &mut SemaSeat, count: u32) -> Option<u32>
+    /// Adds so many units where the sum is within the limit, and asks in the same hold of the lock
+    /// who is to be woken.
+    pub(crate) fn release<R: Wait>(
+        &self,
+        rt: &R,
+        seat: &mut SemaSeat,
+        count: u32,
+    ) -> Option<Released>
         requires { IsSemaSeatOf self.now seat.old }
-        ensures asks { Asks self.now false (SemaCall.Release count) (release_reply result)
-            seat.old seat.new }
+        ensures refused { IfNone result
+            (Asks self.now false (SemaCall.Release count) SemaReply.BadArg seat.old seat.new) }
+        ensures released { IfSome result (λ released.
+            AsksBoth self.now (SemaCall.Release count) (SemaReply.Value released.sum)
+            (wake_reply released.next) seat.old seat.new) }
+        ensures there { IfSome result (λ released.
+            IfSome released.next (λ grant. grant.seat < self.now.procs)) }
     {
-        match self.ask(rt, seat, SemaCall::Release { count }) {
-            SemaReply::Value(sum) => Some(sum),
+        let Answers { first, second } = self.ask_release(rt, seat, count);
+        match first {
+            SemaReply::Value(sum) => {
+                let Some(told) = second else {
+                    unreachable!()
+                };
+                match told {
+                    SemaReply::Wake { seat, grants } => Some(Released {
+                        sum,
+                        next: Some(Grant { seat, grants }),
+                    }),
+                    SemaReply::NoWake => Some(Released { sum, next: None }),
+                    _ => unreachable!(),
+                }
+            }
             SemaReply::BadArg => None,
             _ => unreachable!(),
         }

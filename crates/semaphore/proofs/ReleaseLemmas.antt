@@ -1,0 +1,188 @@
+-- A release that asks in the same hold of the lock who is to be woken: what the lock tells of both
+-- requests they tell of the semaphore.
+use Rattle.std.proofs.Common.{◌≡◌, ℕ, false, List, [], ◌∷◌, map, Option, Some, None, unwrap_or}
+use Rattle.std.proofs.Common.{refl, sym, ap, ◌∙◌, subst, eq-eqb}
+use Rattle.histories.specs.Account.{KnowsHistory, share_after}
+use Rattle.kernel_lock.specs.Calls.{Serves}
+use Rattle.kernel_lock.specs.Definition.{server}
+use Rattle.kernel_lock.specs.Seats.{IsSeatOf, SeesHistory, Applies, AppliesThen, number_of, view_of}
+use Rattle.kernel_lock.specs.Seats.{account_of, opening_of}
+use Rattle.semaphore.specs.declared.sema.Sema.{Sema}
+use Rattle.semaphore.specs.declared.sema.SemaSeat.{SemaSeat}
+use Rattle.semaphore.specs.declared.sema_object.SemaCall.{SemaCall}
+use Rattle.semaphore.specs.declared.sema_object.SemaCall.TheVariants.{Release, NextWake}
+use Rattle.semaphore.specs.declared.sema_object.SemaReply.{SemaReply}
+use Rattle.semaphore.specs.declared.sema_object.SemaReply.TheVariants as reply
+use Rattle.semaphore.specs.declared.sema_asks.Grant.{Grant}
+use Rattle.semaphore.specs.Asking.{Asks, OnlyAsks, AsksBoth, Finds, AsksRelease, wake_next}
+use Rattle.semaphore.specs.Asking.{wake_reply}
+use Rattle.semaphore.specs.Definitions.{sema_definition}
+use Rattle.semaphore.specs.Releasing.{WakesNamed}
+use Rattle.semaphore.specs.SemaHistory.{SemaEntry, sema_meaning}
+use Rattle.semaphore.specs.Seats.{IsSemaSeatOf, rendez_of_seat, waits_after}
+use Rattle.semaphore.specs.Units.{seat_named}
+use Rattle.sleep_wakeup.specs.Deeds.{WakesOne}
+use Rattle.sleep_wakeup.specs.Kernel.{Running}
+use Rattle.waiting.specs.Waiting.{Point, point}
+use Rattle.semaphore.proofs.AskLemmas.{is_told}
+
+-- a seat that made a request under its own number has that request behind those that it had made
+has_made : (number : ℕ) (mine : List SemaEntry) (call : SemaCall) (answer : SemaReply)
+    → map (share_after server (record { by = number; request = call; reply = answer }))
+    (record { number = number; mine = mine } ∷ [])
+    ≡ record {
+      number = number;
+      mine = record { by = number; request = call; reply = answer } ∷ mine;
+    } ∷ []
+has_made number mine call answer = rw (eq-eqb number number refl) refl
+
+-- a request that names no seat and that no wait hangs on, as the lock tells of it
+pub finds : (sema : Sema) (call : SemaCall) (answer : SemaReply) (old new : SemaSeat)
+    → seat_named call ≡ None → waits_after call answer false ≡ false → IsSemaSeatOf sema old
+    → IsSeatOf sema.lock new.seat → SeesHistory sema_definition sema.lock new.seat
+    → Applies sema_definition old.seat call answer new.seat → Finds sema call answer old new
+finds sema call answer old new nobody rests at seat history applied =
+    let served : Serves (record { by = number_of old.seat; request = call; reply = answer })
+    (view_of old.seat) (view_of new.seat) =
+    subst
+    (λ named. Serves (record { by = unwrap_or named (number_of old.seat); request = call;
+    reply = answer }) (view_of old.seat) (view_of new.seat))
+    nobody applied in
+    let number : number_of new.seat ≡ number_of old.seat =
+    seat.number ∙ ap (λ account. account.number) served.account.new_is ∙ sym at.seat_is.number in
+    record {
+      asks = record {
+        served = served;
+        seat = record {
+          opened = at.opened;
+          seat_is = seat;
+          history = history;
+          mine = record { by = number_of old.seat; request = call; reply = answer } ∷ at.mine;
+          shares_are = ap (λ account. account.shares) served.account.new_is
+              ∙ ap (map (share_after server
+              (record { by = number_of old.seat; request = call; reply = answer }))) at.shares_are
+              ∙ has_made (number_of old.seat) at.mine call answer
+              ∙ ap (λ own. record {
+                number = own;
+                mine = record { by = number_of old.seat; request = call; reply = answer } ∷ at.mine;
+              } ∷ []) (sym number);
+          waits_is = ap (waits_after call answer) at.waits_is ∙ rests;
+        };
+        number = number;
+      };
+      found = is_told (opening_of sema_definition sema.lock) sema.procs (number_of old.seat) false
+          call answer (view_of old.seat) (view_of new.seat)
+          record {
+            value = at.opened.value;
+            fits = at.opened.fits;
+            opening_is = at.opened.opening_is;
+            mine = at.mine;
+            shares_are = at.shares_are;
+            waits_is = at.waits_is;
+            knew = subst (λ limit. KnowsHistory sema_meaning
+                (opening_of sema_definition sema.lock) limit (account_of old.seat))
+                at.opened.limit at.history;
+            knows = subst (λ limit. KnowsHistory sema_meaning
+                (opening_of sema_definition sema.lock) limit (account_of new.seat))
+                at.opened.limit history;
+            served = served;
+          };
+    }
+
+-- what the lock tells of a release and of what followed it
+pub asks_release : (sema : Sema) (count : ℕ) (first : SemaReply) (second : Option SemaReply)
+    (old new : SemaSeat) → IsSemaSeatOf sema old → IsSeatOf sema.lock new.seat
+    → SeesHistory sema_definition sema.lock new.seat
+    → AppliesThen sema_definition sema.lock old.seat (Release count) first (wake_next first) second
+    new.seat
+    → AsksRelease sema count first second old new
+asks_release sema count (reply.Value sum) (Some told) old new at seat history both =
+    let between : SemaSeat = record { seat = both.between } in
+    let first = finds sema (Release count) (reply.Value sum) old between refl refl at both.seat
+    both.history both.first in
+    record {
+      between = between;
+      found_first = first;
+      found_second = finds sema NextWake told between new refl refl first.asks.seat seat history
+          both.second;
+    }
+asks_release sema count (reply.Value sum) None old new at seat history none = absurd none
+asks_release sema count reply.Acquired None old new at seat history applied =
+    finds sema (Release count) reply.Acquired old new refl refl at seat history applied
+asks_release sema count reply.Acquired (Some told) old new at seat history none = absurd none
+asks_release sema count reply.NotNow None old new at seat history applied =
+    finds sema (Release count) reply.NotNow old new refl refl at seat history applied
+asks_release sema count reply.NotNow (Some told) old new at seat history none = absurd none
+asks_release sema count (reply.Wait grant) None old new at seat history applied =
+    finds sema (Release count) (reply.Wait grant) old new refl refl at seat history applied
+asks_release sema count (reply.Wait grant) (Some told) old new at seat history none = absurd none
+asks_release sema count reply.BadArg None old new at seat history applied =
+    finds sema (Release count) reply.BadArg old new refl refl at seat history applied
+asks_release sema count reply.BadArg (Some told) old new at seat history none = absurd none
+asks_release sema count (reply.Wake its grants) None old new at seat history applied =
+    finds sema (Release count) (reply.Wake its grants) old new refl refl at seat history applied
+asks_release sema count (reply.Wake its grants) (Some told) old new at seat history none =
+    absurd none
+asks_release sema count reply.NoWake None old new at seat history applied =
+    finds sema (Release count) reply.NoWake old new refl refl at seat history applied
+asks_release sema count reply.NoWake (Some told) old new at seat history none = absurd none
+asks_release sema count reply.Granted None old new at seat history applied =
+    finds sema (Release count) reply.Granted old new refl refl at seat history applied
+asks_release sema count reply.Granted (Some told) old new at seat history none = absurd none
+asks_release sema count reply.Gone None old new at seat history applied =
+    finds sema (Release count) reply.Gone old new refl refl at seat history applied
+asks_release sema count reply.Gone (Some told) old new at seat history none = absurd none
+asks_release sema count reply.Busy None old new at seat history applied =
+    finds sema (Release count) reply.Busy old new refl refl at seat history applied
+asks_release sema count reply.Busy (Some told) old new at seat history none = absurd none
+asks_release sema count reply.Worn None old new at seat history applied =
+    finds sema (Release count) reply.Worn old new refl refl at seat history applied
+asks_release sema count reply.Worn (Some told) old new at seat history none = absurd none
+
+-- a release that was taken is two requests
+pub taken_asks : (sema : Sema) (count sum : ℕ) (told : SemaReply) (old new : SemaSeat)
+    → AsksRelease sema count (reply.Value sum) (Some told) old new
+    → AsksBoth sema (Release count) (reply.Value sum) told old new
+taken_asks sema count sum told old new both =
+    record {
+      between = both.between;
+      asked_first = both.found_first.asks;
+      asked_second = both.found_second.asks;
+    }
+
+-- ---- whom it wakes
+
+-- it has woken each seat that it was named but the last, and then was named this one, or none
+pub record HasNamed (sema : Sema) (next : Option Grant) (before after : Point SemaSeat) : Type 0
+    where
+  -- those that it has woken, the newest first
+  pub grants : List Grant
+  -- where it stood behind the last of these
+  pub last : Point SemaSeat
+  -- it did nothing else up to there
+  pub woken : WakesNamed sema grants before last
+  -- and then it asked once more
+  pub named : OnlyAsks sema false NextWake (wake_reply next) last after
+
+-- it wakes the one that it was named, and is named another
+pub names_more : (sema : Sema) (grant : Grant) (next : Option Grant) (before : Point SemaSeat)
+    (seat after : SemaSeat) (proc woken : Running)
+    → HasNamed sema (Some grant) before (point seat proc)
+    → WakesOne proc.process (rendez_of_seat sema grant.seat) grant.grants woken.process
+    → Asks sema false NextWake (wake_reply next) seat after
+    → HasNamed sema next before (point after woken)
+names_more sema grant next before seat after proc woken had wakes asks =
+    record {
+      grants = grant ∷ had.grants;
+      last = point seat woken;
+      woken = record {
+        between = had.last;
+        others = had.woken;
+        named = had.named.asks;
+        woken = subst
+            (λ process. WakesOne process (rendez_of_seat sema grant.seat) grant.grants
+            woken.process)
+            had.named.idle wakes;
+      };
+      named = record { asks = asks; idle = refl };
+    }
