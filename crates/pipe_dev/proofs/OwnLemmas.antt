@@ -1,5 +1,5 @@
 -- The kernel whose roster made a pipe has each Rendez of its ends.
-use Rattle.std.proofs.Common.{◌≡◌, List, [], ◌∷◌, subst, sym}
+use Rattle.std.proofs.Common.{List, [], ◌∷◌, subst, sym}
 use Rattle.std.specs.List.{AllByRecursion}
 use Rattle.rendez_words.specs.declared.words.Words.{Words}
 use Rattle.block_queue.specs.declared.queue.Queue.{Queue}

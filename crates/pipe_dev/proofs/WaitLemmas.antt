@@ -47,13 +47,15 @@ module _ (row : Row) (level : ℕ) (past : List Wakeup) where
         → AllByRecursion Holds (of_writers row count level past)
         → Holds (of_writer row level writer)
     of_each zero writer low all = absurd (omega (arith, low))
-    of_each (suc count) writer low all = by (eqb_tells writer count)
+    of_each (suc count) writer low all =
+        by (eqb_tells writer count) (λ lower. of_each count writer lower all.1)
       where
         by : ((eqb writer count ≡ true) × (writer ≡ count))
             ⊎ ((eqb writer count ≡ false) × (writer ≢ count))
+            → (writer < count → Holds (of_writer row level writer))
             → Holds (of_writer row level writer)
-        by (inl same) = subst (λ n. Holds (of_writer row level n)) (sym same.1) all.0
-        by (inr differ) = of_each count writer (below writer count low differ.1) all.1
+        by (inl same) others = subst (λ n. Holds (of_writer row level n)) (sym same.1) all.0
+        by (inr differ) others = others (below writer count low differ.1)
           where
             below : (a b : ℕ) → a < suc b → a ≢ b → a < b
             below a b low differ = omega (arith, low, differ)
