@@ -77,10 +77,10 @@ fn make_blocks(device: &mut Proc<'_>, transfer: &Transfer) -> Result<(), Fault> 
 
 /// The driver: it waits for each block, copies it and says so, until all are copied or a note
 /// comes. It answers how many were copied.
-fn copy_blocks<R: Wait>(rt: &R, mut driver: Proc<'_>, transfer: &Transfer) -> Result<u64, Fault> {
+fn copy_blocks<R: Wait>(rt: &R, driver: &mut Proc<'_>, transfer: &Transfer) -> Result<u64, Fault> {
     for block in 0..WANTED {
-        match transfer.ready.wait_for(rt, &mut driver, block + 1) {
-            Ok(()) => transfer.copied.rise(&mut driver, block + 1)?,
+        match transfer.ready.wait_for(rt, driver, block + 1) {
+            Ok(()) => transfer.copied.rise(driver, block + 1)?,
             Err(Fault::Interrupted(_)) => return Ok(block),
             Err(fault) => return Err(fault),
         }
@@ -119,14 +119,14 @@ fn run_all<R: Threads + Wait + Sync>(
     let Procs {
         mut user,
         mut device,
-        driver,
+        mut driver,
     } = procs;
     let pid = driver.pid();
     thread::scope(
         thread::scope_env(),
         rt,
         move |scope| -> Result<u64, Fault> {
-            let Ok(copying) = scope.spawn(move || copy_blocks(rt, driver, transfer)) else {
+            let Ok(copying) = scope.spawn(move || copy_blocks(rt, &mut driver, transfer)) else {
                 return Err(Fault::Device);
             };
             let made = make_blocks(&mut device, transfer);
@@ -136,9 +136,9 @@ fn run_all<R: Threads + Wait + Sync>(
     )
 }
 
-fn run<R: Threads + Wait + Sync>(rt: &R, alloc: Global) -> Result<u64, Fault> {
-    let OpenedKernel { kernel, start } = Kernel::new(alloc, 3, 2)?;
-    let Started { roster, proc } = kernel.start(start);
+/// The user is the first process, and the other two are its children.
+fn open<R: Threads + Wait + Sync>(rt: &R, started: Started<'_>) -> Result<u64, Fault> {
+    let Started { roster, proc } = started;
     let (mut roster, mut user) = (roster, proc);
     let transfer = &Transfer {
         ready: Counter::new(roster.rendez()?),
@@ -152,6 +152,11 @@ fn run<R: Threads + Wait + Sync>(rt: &R, alloc: Global) -> Result<u64, Fault> {
         driver,
     };
     run_all(rt, procs, transfer)
+}
+
+fn run<R: Threads + Wait + Sync>(rt: &R, alloc: Global) -> Result<u64, Fault> {
+    let OpenedKernel { kernel, start } = Kernel::new(alloc, 3, 2)?;
+    open(rt, kernel.start(start))
 }
 
 fn main(rt: HostRuntime) -> io::Result<()> {
