@@ -129,17 +129,21 @@ pub keeps_all : (old : Option (List ℕ)) → Keeps old old
 keeps_all None = tt
 keeps_all (Some xs) = refl
 
+-- a run that fails when a front is written
+pub told_partly : (said : Told) (old now : Option (List ℕ)) (r : Result (Unit {0}) Fault)
+    (fault : Fault) → r ≡ Err fault → IsOutside fault → AppendsFront old now said.output
+    → WritesTold said old now r
+told_partly said old now r fault is outside front = rw is (at_fault fault outside)
+  where
+    at_fault : (f : Fault) → IsOutside f → WritesTold said old now (Err f)
+    at_fault f (inl memory) = rw memory front
+    at_fault f (inr device) = rw device front
+
 -- a run that fails before it writes
 pub told_unwritten : (said : Told) (old : Option (List ℕ)) (r : Result (Unit {0}) Fault)
     (fault : Fault) → r ≡ Err fault → IsOutside fault → WritesTold said old old r
-told_unwritten said old r fault is outside = rw is (at_fault fault outside)
-  where
-    front : AppendsFront old old said.output
-    front = (0, appends_nothing old)
-
-    at_fault : (f : Fault) → IsOutside f → WritesTold said old old (Err f)
-    at_fault f (inl memory) = rw memory front
-    at_fault f (inr device) = rw device front
+told_unwritten said old r fault is outside =
+    told_partly said old old r fault is outside (0, appends_nothing old)
 
 -- the front of a script, and whether it goes on, are all that counts
 pub told_by_front : {S : Type 0} (language : Language S) (a b : List ℕ)

@@ -143,7 +143,7 @@ no_verb_asks_none text never words rest begins fits =
         ∙ by_tail v tail others behind
         (split ∙ ap (λ (w : List ℕ). (w ++ tail) ++ LINE_FEED ∷ rest) (verb_is word v some))
 
--- three numbers are wanted of a post and a raise
+-- three numbers are wanted of a post and a raise: none where the first spells none
 pub no_operands : (word : List ℕ) (words : List (List ℕ)) → number_of word ≡ None
     → operands_of (word ∷ words) ≡ None
 no_operands word [] none = refl
@@ -151,6 +151,7 @@ no_operands word (rendez ∷ []) none = refl
 no_operands word (rendez ∷ level ∷ []) none = rw none refl
 no_operands word (rendez ∷ level ∷ next ∷ words) none = refl
 
+-- none where the second does
 pub no_rendez : (pid word : List ℕ) (words : List (List ℕ)) → number_of word ≡ None
     → operands_of (pid ∷ word ∷ words) ≡ None
 no_rendez pid word [] none = refl
@@ -161,6 +162,7 @@ no_rendez pid word (level ∷ []) none = by_pid (number_of pid) refl
     by_pid (Some n) is = rw (is, none) refl
 no_rendez pid word (level ∷ next ∷ words) none = refl
 
+-- and none where the third does
 pub no_level : (pid rendez word : List ℕ) → number_of word ≡ None
     → operands_of (pid ∷ rendez ∷ word ∷ []) ≡ None
 no_level pid rendez word none = by_both (number_of pid) refl (number_of rendez) refl
@@ -171,13 +173,14 @@ no_level pid rendez word none = by_both (number_of pid) refl (number_of rendez) 
     by_both (Some n) n_is None m_is = rw (n_is, m_is) refl
     by_both (Some n) n_is (Some m) m_is = rw (n_is, m_is, none) refl
 
--- and a number and kinds of a note
+-- a number and kinds are wanted of a note: none where the number is none
 pub no_note_pid : (word : List ℕ) (words : List (List ℕ)) → number_of word ≡ None
     → note_of (word ∷ words) ≡ None
 no_note_pid word [] none = refl
 no_note_pid word (kinds ∷ []) none = rw none refl
 no_note_pid word (kinds ∷ next ∷ words) none = refl
 
+-- and none where the kinds are none
 pub no_note_kinds : (pid kinds : List ℕ) → kinds_of kinds ≡ None → note_of (pid ∷ kinds ∷ []) ≡ None
 no_note_kinds pid kinds none = by_pid (number_of pid) refl
   where

@@ -1,5 +1,6 @@
 -- Notes to a group: they are posted while the list of processes is walked, which is one that rises.
-use Rattle.std.proofs.Common.{◌≡◌, ◌≤◌, ◌<◌, ℕ, Bool, true, false, List, [], ◌∷◌, ◌++◌, length, codes}
+use Rattle.std.proofs.Common.{◌≡◌, ◌≤◌, ℕ, Bool, true, false, List, [], ◌∷◌, ◌++◌}
+use Rattle.std.proofs.Common.{codes}
 use Rattle.std.proofs.Common.{Option, None, Some, Bor, refl, ap, sym, ◌∙◌, append_assoc, arith}
 use Rattle.std.specs.Option.{is_some}
 use Rattle.std.proofs.lemmas.List.{append-nil}
@@ -276,13 +277,14 @@ no_word_asks_none text never words rest begins fits =
         by_tail word tail others behind split ((bytes_eq-Decides word (codes "notepg")).0 is)
     by_word word tail others behind split false other = other_word word others other
 
--- a list that is none, or kinds that are none, ask for no group
+-- a list that is none asks for no group
 pub no_pids : (pids kinds : List ℕ) → pids_of pids ≡ None
     → group_of (codes "notepg" ∷ pids ∷ words_of kinds) ≡ None
 no_pids pids kinds none =
     none_of_words (λ words. group_of (codes "notepg" ∷ pids ∷ words)) kinds (rw none refl)
     (λ word next words. refl)
 
+-- and so do kinds that are none
 pub no_kinds : (pids kinds : List ℕ) → kinds_of kinds ≡ None
     → group_of (codes "notepg" ∷ pids ∷ words_of kinds) ≡ None
 no_kinds pids kinds none =

@@ -86,7 +86,8 @@ kind_comes_first : (list : List ℕ) (note : Note) (rest : Option (Bor (List ℕ
     → IsFirst (kind_text note) list rest
     → parts_of is_comma list ≡ kind_text note ∷ parts_behind is_comma rest
 kind_comes_first list note None begins =
-    ap (parts_of is_comma) begins ∙ parts_of-plain is_comma (kind_text note) (kind_has_no_comma note)
+    ap (parts_of is_comma) begins
+    ∙ parts_of-plain is_comma (kind_text note) (kind_has_no_comma note)
 kind_comes_first list note (Some rest) begins =
     ap (parts_of is_comma) begins
     ∙ parts_of-part is_comma (kind_text note) COMMA rest.now (kind_has_no_comma note) refl
@@ -114,7 +115,8 @@ kinds_are_none set list never =
   where
     by_tail : (note : Note) (tail : List ℕ) (others : List (List ℕ)) → TailHas COMMA tail others
         → list ≡ kind_text note ++ tail → ⊥
-    by_tail note [] others behind split = (never note).not_alone (split ∙ append-nil (kind_text note))
+    by_tail note [] others behind split =
+        (never note).not_alone (split ∙ append-nil (kind_text note))
     by_tail note (b ∷ tail) others behind split =
         (never note).not_before tail (split ∙ ap (λ b. kind_text note ++ b ∷ tail) behind.0)
 

@@ -2,7 +2,7 @@
 -- digits that a text begins with are its first word, where that spells a number.
 use Rattle.std.proofs.Common.{◌≡◌, ℕ, zero, suc, ◌+◌, ◌-◌, ◌*◌, ◌^◌, ◌<◌, ◌≤◌, Bool, true, false}
 use Rattle.std.proofs.Common.{◌&&◌, nat_lt, ◌==◌, if◌then◌else◌, List, [], ◌∷◌, ◌++◌, length, take}
-use Rattle.std.proofs.Common.{drop, get_or, fold, Option, Some, None, refl, ap, sym, subst, ◌∙◌}
+use Rattle.std.proofs.Common.{get_or, fold, Option, Some, None, refl, ap, sym, subst, ◌∙◌}
 use Rattle.std.proofs.Common.{arith, append-nil, length-append, length-take, take-suc}
 use Rattle.std.specs.List.{list_all}
 use Rattle.std.specs.Char.{is_ascii_digit}
@@ -11,8 +11,8 @@ use Rattle.std.proofs.lemmas.Bool.Decides.{nat_tests}
 use Rattle.std.proofs.lemmas.List.Folds.{list_all-append}
 use Rattle.scripts.specs.declared.lines.TheConstants.{COMMA, ZERO}
 use Rattle.scripts.specs.Lines.{AllLeadingDigits, BeginsWithNoNumber, BeginsWithNumber}
-use Rattle.scripts.specs.Lines.{FirstIsNoNumber, TooLarge, decimal_value, is_comma, number_of}
-use Rattle.scripts.specs.Lines.{parts_of, value_of}
+use Rattle.scripts.specs.Lines.{FirstIsNoNumber, TooLarge, decimal_value, number_of}
+use Rattle.scripts.specs.Lines.{value_of}
 use Rattle.scripts.proofs.PartLemmas.{Parted, TailHas, first_passes, parted, second_passes}
 
 -- the number that these digits, after a number that was read already, spell
@@ -51,6 +51,7 @@ value_digits digits n is =
     step true w is = refl
     step false w is = absurd (cc)
 
+-- a word that spells a number is of digits
 pub number_digits : (word : List ℕ) (n : ℕ) → number_of word ≡ Some n
     → list_all is_ascii_digit word ≡ true
 number_digits [] n is = refl
@@ -85,7 +86,8 @@ leading_is : (word tail : List ℕ) (count : ℕ) → list_all is_ascii_digit wo
 leading_is [] tail zero digits other lead end = refl
 leading_is [] [] (suc count) digits other lead end = refl
 leading_is [] (b ∷ tail) (suc count) digits other lead end =
-    absurd (digit_is_other b (first_passes _ (list_all is_ascii_digit (take count tail)) lead) other)
+    absurd
+    (digit_is_other b (first_passes _ (list_all is_ascii_digit (take count tail)) lead) other)
 leading_is (d ∷ word) tail zero digits other lead end =
     absurd (digit_is_other d (first_passes _ (list_all is_ascii_digit word) digits) end)
 leading_is (d ∷ word) tail (suc count) digits other lead end =
@@ -100,7 +102,8 @@ leading_begins : (word tail : List ℕ) (count : ℕ) → is_ascii_digit (get_or
 leading_begins word tail zero other lead = (word, refl)
 leading_begins [] [] (suc count) other lead = ([], refl)
 leading_begins [] (b ∷ tail) (suc count) other lead =
-    absurd (digit_is_other b (first_passes _ (list_all is_ascii_digit (take count tail)) lead) other)
+    absurd
+    (digit_is_other b (first_passes _ (list_all is_ascii_digit (take count tail)) lead) other)
 leading_begins (d ∷ word) tail (suc count) other lead =
     let rest = leading_begins word tail count other (second_passes (is_ascii_digit d) _ lead) in
     (rest.0, ap (λ (ds : List ℕ). d ∷ ds) rest.1)
@@ -274,12 +277,12 @@ word_is_whole word number count n all spells =
     all.leading.digits)
     (subst (λ (w : List ℕ). is_ascii_digit (get_or w count 0) ≡ false) (sym whole) all.end)
 
--- a word spells no number where its digits spell too large a one, or are not all of it, or spell
--- none
+-- a word whose digits spell too large a number spells none
 pub large_word : (word : List ℕ) → TooLarge word → number_of word ≡ None
 large_word word large =
     large_is_none word [] refl (subst TooLarge (sym (append-nil word)) large)
 
+-- a word that has more than its digits spells no number
 pub part_of_word : (word : List ℕ) (number count : ℕ) → AllLeadingDigits word number count
     → ¬ (count ≡ length word) → number_of word ≡ None
 part_of_word word number count all part = none_by (number_of word) (λ n spells.
@@ -287,6 +290,7 @@ part_of_word word number count all part = none_by (number_of word) (λ n spells.
     let taken = length-take count word in
     part (omega (arith, whole, taken, all.leading.within)))
 
+-- a word whose digits spell no number spells none
 pub none_spelt : (word : List ℕ) (number count : ℕ) → AllLeadingDigits word number count
     → number_of (take count word) ≡ None → number_of word ≡ None
 none_spelt word number count all none = none_by (number_of word) (λ n spells.
@@ -294,6 +298,7 @@ none_spelt word number count all none = none_by (number_of word) (λ n spells.
     sym spells ∙ (ap number_of (sym (word_is_whole word number count n all spells)) ∙ none) in
     cc)
 
+-- a word that is its digits spells what they spell
 pub whole_spelt : (word : List ℕ) (n count : ℕ) → count ≡ length word
     → number_of (take count word) ≡ Some n → Some n ≡ number_of word
 whole_spelt word n count whole spells =

@@ -1,7 +1,8 @@
 -- Lines that are read in one pass: words that are found one after the other make a line, and where
 -- one of them is not found no line makes them.
 use Rattle.std.proofs.Common.{◌≡◌, ◌≤◌, ℕ, suc, ◌+◌, ◌&&◌, Bool, true, false, not, List, [], ◌∷◌}
-use Rattle.std.proofs.Common.{◌++◌, length, take, Option, Some, None, Bor, refl, ap, sym, subst, ◌∙◌}
+use Rattle.std.proofs.Common.{◌++◌, length, take, Option, Some, None, Bor, refl, ap, sym, subst}
+use Rattle.std.proofs.Common.{◌∙◌}
 use Rattle.std.proofs.Common.{append_assoc, append-nil, ◌<◌, if◌then◌else◌, arith, length-append}
 use Rattle.std.proofs.Common.{MatchOption, Result, Ok, Err, IfOk}
 use Rattle.std.specs.List.{list_all}
@@ -205,7 +206,8 @@ record GoesOnBehind (word mid line rest : List ℕ) : Type 0 where
 line_goes_on : (word mid line rest : List ℕ)
     → list_all (λ b. not (is_line_feed b)) word ≡ true
     → word ++ SPACE ∷ mid ≡ line ++ LINE_FEED ∷ rest → GoesOnBehind word mid line rest
-line_goes_on [] mid [] rest plain same = let bad : SPACE ≡ LINE_FEED = cc in absurd (omega (arith, bad))
+line_goes_on [] mid [] rest plain same =
+    let bad : SPACE ≡ LINE_FEED = cc in absurd (omega (arith, bad))
 line_goes_on [] mid (b ∷ line) rest plain same =
     let first : b ≡ SPACE = cc in
     let behind : mid ≡ line ++ LINE_FEED ∷ rest = cc in
@@ -387,6 +389,7 @@ pub found_by : {X : Type 0} (found : Option X) (N M : Type 0) (F G : X → Type 
 found_by None N M F G none some holds = none holds
 found_by (Some x) N M F G none some holds = some x holds
 
+-- and so it does where memory may have run out in between
 pub found_by_ok : {X E : Type 0} (result : Result (Option X) E) (N M : Type 0) (F G : X → Type 0)
     → (N → M) → ((x : X) → F x → G x) → IfOk result (λ found. MatchOption found N F)
     → IfOk result (λ found. MatchOption found M G)

@@ -1,15 +1,17 @@
 -- The first part of a text, and what follows it: the end of the text, or the byte that parts it.
 use Rattle.std.proofs.Common.{◌≡◌, ℕ, Bool, true, false, cond, ◌==◌, ◌&&◌, List, [], ◌∷◌, ◌++◌}
-use Rattle.std.proofs.Common.{◌≤◌, ◌-◌, length, take, drop, take-append-drop, refl, ap, sym, ◌∙◌, arith}
+use Rattle.std.proofs.Common.{◌≤◌, ◌-◌, length, take, drop, take-append-drop, refl, ap, sym, ◌∙◌}
+use Rattle.std.proofs.Common.{arith}
 use Rattle.std.proofs.lemmas.Bool.Decides.{nat_tests}
 use Rattle.std.proofs.lemmas.Grind.{common_steps}
 use Rattle.scripts.specs.Lines.{onto_first, parts_of}
 
--- of two tests that pass the first does, and the second
+-- of two tests that both pass the first does
 pub first_passes : (v w : Bool) → (v && w) ≡ true → v ≡ true
 first_passes true w both = refl
 first_passes false w both = both
 
+-- and so does the second
 pub second_passes : (v w : Bool) → (v && w) ≡ true → w ≡ true
 second_passes true w both = both
 second_passes false w both = absurd (cc)

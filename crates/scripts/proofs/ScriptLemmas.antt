@@ -1,7 +1,7 @@
 -- What a script says, line by line.
 use Rattle.std.proofs.Common.{◌≡◌, inl, inr, ℕ, ◌+◌, ◌-◌, ◌<◌, ◌≤◌, ◌||◌, nat_lt, nat_le, min, Bool}
-use Rattle.std.proofs.Common.{true, false, List, [], ◌∷◌, ◌++◌, length, take, drop, position, Option}
-use Rattle.std.proofs.Common.{Some, None}
+use Rattle.std.proofs.Common.{true, false, List, [], ◌∷◌, ◌++◌, length, take, drop, position}
+use Rattle.std.proofs.Common.{Option, Some, None, Result}
 use Rattle.std.proofs.Common.{refl, ap, sym, subst, ◌∙◌, append_assoc, arith}
 use Rattle.std.specs.Option.{option_map_or}
 use Rattle.std.specs.Io.KnownBytes.{Appends}
@@ -12,7 +12,8 @@ use Rattle.scripts.specs.declared.lines.TheConstants.{LINE_FEED}
 use Rattle.scripts.specs.declared.script.TheConstants.{MAX_LINE, MAX_SCRIPT}
 use Rattle.scripts.specs.Lines.{is_line_feed, lines_of, cut_line_of, words_of, BeginsWithLine}
 use Rattle.scripts.specs.Lines.{NoLineAsks}
-use Rattle.scripts.specs.Device.{AppendsFront}
+use Rattle.sync_base.specs.declared.fault.Fault.{Fault}
+use Rattle.scripts.specs.Device.{AppendsFront, WritesTold}
 use Rattle.scripts.specs.Script.{Language, Answered, Told, fault_at, answer_then, if_fits}
 use Rattle.scripts.specs.Script.{told, lines_told, told_from, FirstAnswered, IsStuck, following}
 use Rattle.scripts.specs.Script.{growth, stage}
@@ -31,15 +32,18 @@ if_fits_short read line fits = grind (arith, nat_tests)
 pub front-take : (n k : ℕ) (bs : List ℕ) → k ≡ min (length bs) n → take k bs ≡ take n bs
 front-take n k bs is_least = grind (arith, common_steps)
 
--- what a script says is what its front says, and that bytes follow it
-pub told_front : {S : Type 0} (language : Language S) (input text : List ℕ)
-    → text ≡ take MAX_SCRIPT input
-    → lines_told language (nat_lt MAX_SCRIPT (length input) || nat_lt 0 (length (cut_line_of text)))
-    (lines_of text) ≡ told language input
-told_front language input text is_front =
-    ap (λ t. lines_told language
+-- what its front says, and that bytes follow it, is what a script says: a run that wrote the one
+-- wrote the other
+pub front_writes : {S : Type 0} (language : Language S) (input text : List ℕ)
+    (old now : Option (List ℕ)) (result : Result (Unit {0}) Fault) → text ≡ take MAX_SCRIPT input
+    → WritesTold (lines_told language
+    (nat_lt MAX_SCRIPT (length input) || nat_lt 0 (length (cut_line_of text))) (lines_of text))
+    old now result
+    → WritesTold (told language input) old now result
+front_writes language input text old now result is_front =
+    subst (λ t. WritesTold (lines_told language
     (nat_lt MAX_SCRIPT (length input) || nat_lt 0 (length (cut_line_of t))) (lines_of t))
-    is_front
+    old now result) is_front
 
 -- What was written, what is held back, and what the lines to come say, make what is told. The
 -- script has come to a state, and the first line to come has this number.

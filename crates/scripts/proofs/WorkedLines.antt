@@ -62,7 +62,8 @@ the_first_part_spells_the_number list number rest first = first.spells
 a_hangup_is_not_passed_over : ¬ NoLineAsks op_of (codes "hangup" ++ LINE_FEED ∷ [])
 a_hangup_is_not_passed_over none =
     let no : Some Hangs_up ≡ None = none (codes "hangup" ∷ []) []
-    (record { line = codes "hangup"; split = refl; plain = refl; words_are = refl }) (omega arith) in
+    (record { line = codes "hangup"; split = refl; plain = refl; words_are = refl })
+    (omega arith) in
     cc
 
 module _ (text rest : List ℕ) (op : Op) (line : LineAsks op_of text op rest) where

@@ -124,8 +124,8 @@ pub fn number_before(end: u8, text: &[u8]) -> Option<(u64, &[u8])>
     Some((n, ended(end, text, n, count)?))
 }
 
-/// What follows the byte behind all digits that a text begins with, which are so many and spell this
-/// number, where it is this byte.
+/// What follows the byte behind all digits that a text begins with, which are so many and spell
+/// this number, where it is this byte.
 #[inline(always)]
 fn ended(end: u8, text: &[u8], number: u64, count: usize) -> Option<&[u8]>
     requires other { is_ascii_digit end ≡ false }
@@ -203,8 +203,8 @@ fn spells(text: &[u8], number: u64, count: usize) -> bool
     }
 }
 
-/// The number that all digits at the front of a text spell, and how many they are, where so many are
-/// passed, which spell this number; nothing where it is 2^64 at least.
+/// The number that all digits at the front of a text spell, and how many they are, where so many
+/// are passed, which spell this number; nothing where it is 2^64 at least.
 fn all_digits(text: &[u8], front: u64, passed: usize) -> Option<(u64, usize)>
     requires { LeadingDigits text.now front passed }
     ensures { MatchOption result (TooLarge text.now)

@@ -1,6 +1,5 @@
 //! A run: a script is read whole, its lines are answered, and the answers are written.
-ghost use Rattle.std.specs.Prelude.{◌≡◌, IfErr};
-ghost use Rattle.scripts.specs.Device.{IsRunFault, Runs, WritesTold};
+ghost use Rattle.scripts.specs.Device.{Runs};
 ghost use Rattle.scripts.specs.PipeScript.{pipe_told};
 ghost use Rattle.scripts.specs.Schedule.{schedule_told};
 ghost use Rattle.scripts.specs.Script.{told};
@@ -73,21 +72,5 @@ pub fn run_script<S: Script, R: Read, W: Write>(
     }) result }
 {
     let input = read_script(alloc, reader)?;
-    write_answers::<S, W>(alloc, &input, writer)
-}
-
-/// Writes what a script of these bytes says.
-fn write_answers<S: Script, W: Write>(
-    alloc: Global,
-    input: &[u8],
-    writer: &mut W,
-) -> Result<(), Fault>
-    ensures told { WritesTold (told S.language input.now)
-        (W.contents writer.old) (W.contents writer.new) result }
-    ensures faults { IfErr result IsRunFault }
-{
-    match tell::<S, W>(alloc, input, writer)? {
-        None => Ok(()),
-        Some(line) => Err(Fault::Script(line)),
-    }
+    tell::<S, W>(alloc, &input, writer)
 }

@@ -1,12 +1,12 @@
 //! Scripts of any language: their lines are answered in order, up to the first that is not in the
 //! grammar.
-ghost use Rattle.std.specs.Prelude.{◌≡◌, true, false, Some, None, ◌≤◌, ◌+◌, ◌-◌, ◌||◌, ◌++◌, ℕ, List};
-ghost use Rattle.std.specs.Prelude.{length};
+ghost use Rattle.std.specs.Prelude.{◌≡◌, true, false, Some, None, ◌≤◌, ◌+◌, ◌-◌, ◌||◌, ◌++◌};
+ghost use Rattle.std.specs.Prelude.{ℕ, List, length};
 ghost use Rattle.std.specs.Prelude.{nat_lt, IfOk, IfErr, OnOk};
 ghost use Rattle.scripts.specs.Lines.{lines_of, cut_line_of};
-ghost use Rattle.scripts.specs.Device.{Tells, IsOutside};
+ghost use Rattle.scripts.specs.Device.{Tells, WritesTold, IsOutside, IsRunFault};
 ghost use Rattle.scripts.specs.Script.{Language, Opens, AnswersFirst};
-ghost use Rattle.scripts.specs.Script.{IsShorter, following, growth, if_fits, told, lines_told};
+ghost use Rattle.scripts.specs.Script.{IsShorter, following, growth, told, lines_told};
 ghost use Rattle.scripts.specs.Script.{stage, told_from};
 
 use crate::device::write_whole;
@@ -36,8 +36,8 @@ pub trait Script: Drop + Sized {
     fn open(alloc: Global, line: &[u8]) -> Result<Option<Self>, AllocError>
         ensures { IfOk result (Opens stands_for (language.opened_by line.now)) };
 
-    /// Answers the first line of a text, and gives what follows that line; nothing where there is no
-    /// whole line, or it is not in the grammar or too long.
+    /// Answers the first line of a text, and gives what follows that line; nothing where there is
+    /// no whole line, or it is not in the grammar or too long.
     fn answer_first<'t>(
         &mut self,
         text: &'t [u8],
@@ -62,24 +62,24 @@ const PIECE: usize = 65_536;
 /// a stream and the answers to a long line `notepg` may take more, and then the room grows.
 const ROOM: usize = PIECE + 131_077;
 
-/// Writes what a script says, of which at most one byte more than it may have is looked at. It
-/// gives the first line that is not in the grammar.
+/// Writes what a script says, of which at most one byte more than it may have is looked at.
 ///
-/// Memory, Device: a front of it was written.
-pub fn tell<S: Script, W: Write>(
-    alloc: Global,
-    input: &[u8],
-    writer: &mut W,
-) -> Result<Option<u64>, Fault>
-    ensures told { Tells (told S.language input.now)
+/// Memory, Device: a front of it was written. Script: the first line that is not in the grammar,
+/// and then all that the script says was written.
+pub fn tell<S: Script, W: Write>(alloc: Global, input: &[u8], writer: &mut W) -> Result<(), Fault>
+    ensures told { WritesTold (told S.language input.now)
         (W.contents writer.old) (W.contents writer.new) result }
-    ensures outside { IfErr result IsOutside }
+    ensures faults { IfErr result IsRunFault }
 {
     let text = &input[..input.len().min(MAX_SCRIPT)];
-    tell_text::<S, W>(alloc, text, input.len() > MAX_SCRIPT, writer)
+    match tell_text::<S, W>(alloc, text, input.len() > MAX_SCRIPT, writer)? {
+        None => Ok(()),
+        Some(line) => Err(Fault::Script(line)),
+    }
 }
 
-/// Writes what the lines of a text say. Where the script is too long, the text is the front of it.
+/// Writes what the lines of a text say, and gives the number of the line at fault. Where the script
+/// is too long, the text is the front of it.
 fn tell_text<S: Script, W: Write>(
     alloc: Global,
     text: &[u8],
@@ -95,20 +95,13 @@ fn tell_text<S: Script, W: Write>(
     let Some((first, rest)) = next_line(text) else {
         return Ok(Some(1));
     };
-    let Some(script) = open_line::<S>(alloc, first)? else {
+    if first.len() > MAX_LINE {
+        return Ok(Some(1));
+    }
+    let Some(script) = S::open(alloc, first)? else {
         return Ok(Some(1));
     };
     answer_lines(alloc, script, rest, is_too_long, writer)
-}
-
-/// What the first line opens, where it is not too long.
-fn open_line<S: Script>(alloc: Global, line: &[u8]) -> Result<Option<S>, AllocError>
-    ensures { IfOk result (Opens S.stands_for (if_fits S.language.opened_by line.now)) }
-{
-    if line.len() > MAX_LINE {
-        return Ok(None);
-    }
-    S::open(alloc, line)
 }
 
 /// Answers the lines behind the first, writes the answers piece by piece, and gives the number of

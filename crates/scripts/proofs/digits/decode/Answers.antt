@@ -1,10 +1,9 @@
 -- Where no digit is none, each two of them make the byte that goes behind those before.
-use Rattle.std.proofs.Common.{◌<◌, ◌≤◌, ◌≡◌, ◌+◌, ◌*◌, ◌∙◌, Bool, true, false, Some, None, nat_lt}
-use Rattle.std.proofs.Common.{if◌then◌else◌, get_or, length, refl, ap, arith, inl, inr}
+use Rattle.std.proofs.Common.{◌≡◌, ◌+◌, ◌*◌, ◌∙◌, true, false, nat_lt}
+use Rattle.std.proofs.Common.{get_or, length, refl, ap, arith, inl, inr}
 use Rattle.std.proofs.lemmas.Bool.{cases_lt}
 use Rattle.std.proofs.lemmas.Bool.Decides.{nat_tests}
 use Rattle.std.specs.Result.{result_ok}
-use Rattle.hex.specs.Hex.{decode_of, decode_pairs}
 use Rattle.hex.proofs.Pairs.{decode_step, decode_done}
 use Rattle.scripts.proofs.DigitLemmas.{pair_is, no_pair, below_both, above_either, decodes_by_pairs}
 use Rattle.scripts.proofs.digits.decode.Goals as goal

@@ -1,7 +1,7 @@
 -- The verb, the list and the kinds are the words of the line; where one of them is not there, no
 -- line asks for a group.
 use Rattle.std.proofs.Common.{◌≡◌, [], ◌∷◌, List, ℕ, codes, refl, sym, subst}
-use Rattle.scripts.specs.Lines.{words_of, words_behind, BeginsWithLine}
+use Rattle.scripts.specs.Lines.{words_of, BeginsWithLine}
 use Rattle.scripts.specs.Schedule.{group_of}
 use Rattle.scripts.proofs.GroupLemmas.{group_asked, group_is_word, no_kinds, no_pids}
 use Rattle.scripts.proofs.GroupLemmas.{no_word_asks_none}
@@ -43,7 +43,8 @@ returns-in_err-pids c =
     (none_behind_word group_of _ (codes "notepg") _ c.in_ok-behind.ensures group_is_word
     (none_on_line (λ words. group_of (codes "notepg" ∷ words)) _ _ c.in_ok-line.rest.now
     c.in_ok-line.ensures.lines
-    (λ fits. rw (c.next_word.ensures, c.in_ok-kinds.was) (no_pids c.next_word.result.0.now c.in_ok-kinds.field-0.now c.in_err-pids.ensures))))
+    (λ fits. rw (c.next_word.ensures, c.in_ok-kinds.was)
+    (no_pids c.next_word.result.0.now c.in_ok-kinds.field-0.now c.in_err-pids.ensures))))
 
 pub returns : goal.returns
 returns c =

@@ -1,7 +1,7 @@
 -- The first number and those that rise behind it are the list.
 use Rattle.std.proofs.Common.{sym, ◌∙◌}
 use Rattle.scripts.specs.declared.lines.TheConstants.{COMMA}
-use Rattle.scripts.proofs.GroupLemmas.{list_begins_with_none, list_falls, list_rises}
+use Rattle.scripts.proofs.GroupLemmas.{list_begins_with_none, list_rises}
 use Rattle.scripts.proofs.PartLemmas.{parted}
 use Rattle.scripts.proofs.group_line.parse_pids.Goals as goal
 

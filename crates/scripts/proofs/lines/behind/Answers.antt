@@ -1,6 +1,6 @@
 -- A text that is shorter than the word, or has another byte in its place, does not begin with it.
-use Rattle.std.proofs.Common.{◌≡◌, ◌++◌, ◌∷◌, [], ◌∙◌, length, take, get_or, suc, ap, sym, arith}
-use Rattle.std.proofs.Common.{length-append, take-suc}
+use Rattle.std.proofs.Common.{◌∙◌, length, get_or, ap, arith}
+use Rattle.std.proofs.Common.{length-append}
 use Rattle.std.proofs.lemmas.List.{get_or_append_left}
 use Rattle.scripts.proofs.PartLemmas.{word_and_rest}
 use Rattle.scripts.proofs.lines.behind.Goals as goal

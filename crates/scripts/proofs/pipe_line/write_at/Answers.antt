@@ -1,5 +1,5 @@
--- A writer and bytes that end the line are the words of the write; where one of them is not there, no
--- line asks for a write.
+-- A writer and bytes that end the line are the words of the write; where one of them is not there,
+-- no line asks for a write.
 use Rattle.std.proofs.Common.{[], ◌∷◌, refl, arith}
 use Rattle.scripts.specs.PipeScript.{write_of}
 use Rattle.scripts.proofs.OnePassLemmas.{behind_number, no_line, none_before_space}
@@ -7,11 +7,10 @@ use Rattle.scripts.proofs.OnePassLemmas.{none_behind_number}
 use Rattle.scripts.proofs.PipeLineLemmas.{bytes_line, no_bytes_asked, write_of-high, write_of-wrong}
 use Rattle.scripts.proofs.PipeLineLemmas.{writes_of}
 use Rattle.scripts.proofs.pipe_line.write_at.Goals as goal
-use Rattle.scripts.proofs.pipe_line.write_at.Goals.{then-writer-ge-MAX_WRITERS-via-then-writer-ge-MAX_WRITERS}
-use Rattle.scripts.proofs.pipe_line.write_at.Goals.{then-writer-ge-MAX_WRITERS-via-else-writer-ge-MAX_WRITERS+then-word-gt-MAX_LINE}
 
 pub returns-in_default : goal.returns-in_default
-returns-in_default c = none_before_space write_of _ c.in_default.ensures (λ word. refl) write_of-wrong
+returns-in_default c =
+    none_before_space write_of _ c.in_default.ensures (λ word. refl) write_of-wrong
 
 pub returns-in_default-next_line : goal.returns-in_default-next_line
 returns-in_default-next_line c =
@@ -24,10 +23,11 @@ returns-then-writer-ge-MAX_WRITERS c =
     let writer = c.in-Some.ensures in
     none_behind_number write_of _ _ _ writer
     (elim c.then-writer-ge-MAX_WRITERS.branch [
-      | then-writer-ge-MAX_WRITERS-via-then-writer-ge-MAX_WRITERS w ↦ λ words rest begins fits.
+      | goal.then-writer-ge-MAX_WRITERS-via-then-writer-ge-MAX_WRITERS w ↦
+          λ words rest begins fits.
           write_of-high writer.word words c.in-Some.writer writer.spells
           (omega (arith, w.if-writer-ge-MAX_WRITERS.true))
-      | then-writer-ge-MAX_WRITERS-via-else-writer-ge-MAX_WRITERS+then-word-gt-MAX_LINE w ↦
+      | goal.then-writer-ge-MAX_WRITERS-via-else-writer-ge-MAX_WRITERS+then-word-gt-MAX_LINE w ↦
           no_bytes_asked writer.word _ _ c.in-Some-next_line.rest.now
           c.in-Some-next_line.ensures.lines
           (λ fits. absurd (omega (arith, fits, w.if-word-gt-MAX_LINE.true)))

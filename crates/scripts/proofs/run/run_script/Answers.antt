@@ -23,16 +23,16 @@ returns-in_err-input g c =
 pub returns : goal.returns
 returns g c =
     let held = g.W.Write.contents c.args.writer.now in
-    let now = g.W.Write.contents c.write_answers.new.writer in
+    let now = g.W.Write.contents c.tell.new.writer in
     let writes = subst
     (λ (input : List ℕ). WritesTold (told g.S.Script.language input) held now
-    c.write_answers.result)
-    c.deref.ensures.value c.write_answers.ensures.told in
+    c.tell.result)
+    c.deref.ensures.value c.tell.ensures.told in
     record {
       at_most = search rules;
       reads_first = search rules;
       told = told_of_all g.S.Script.language (g.R.Read.remaining c.args.reader.now) _
           c.in_ok-input.input.items
-          held now c.write_answers.result c.in_ok-input.ensures.read writes;
+          held now c.tell.result c.in_ok-input.ensures.read writes;
       faults = search rules;
     }

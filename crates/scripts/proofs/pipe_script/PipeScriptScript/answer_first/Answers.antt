@@ -13,8 +13,8 @@ use Rattle.scripts.proofs.pipe_script.PipeScriptScript.answer_first.Goals as goa
 
 pub returns-in_default-clause-answered : goal.returns-in_default-clause-answered
 returns-in_default-clause-answered c s shows = (
-  none_is_stuck (Shows c.args.self.now.pipe) pipe_language s op_of _ (rw c.in_default.is at c.in_ok-op.ensures)
-      (op_not_answered s) shows,
+  none_is_stuck (Shows c.args.self.now.pipe) pipe_language s op_of _
+      (rw c.in_default.is at c.in_ok-op.ensures) (op_not_answered s) shows,
   refl,
 )
 
