@@ -45,8 +45,11 @@ finds sema call answer old new nobody rests at seat history applied =
     let served : Serves (record { by = number_of old.seat; request = call; reply = answer })
     (view_of old.seat) (view_of new.seat) =
     subst
-    (λ named. Serves (record { by = unwrap_or named (number_of old.seat); request = call;
-    reply = answer }) (view_of old.seat) (view_of new.seat))
+    (λ named. Serves (record {
+      by = unwrap_or named (number_of old.seat);
+      request = call;
+      reply = answer;
+    }) (view_of old.seat) (view_of new.seat))
     nobody applied in
     let number : number_of new.seat ≡ number_of old.seat =
     seat.number ∙ ap (λ account. account.number) served.account.new_is ∙ sym at.seat_is.number in
@@ -154,15 +157,15 @@ taken_asks sema count sum told old new both =
 
 -- it has woken each seat that it was named but the last, and then was named this one, or none
 pub record HasNamed (sema : Sema) (next : Option Grant) (before after : Point SemaSeat) : Type 0
-    where
-  -- those that it has woken, the newest first
-  pub grants : List Grant
-  -- where it stood behind the last of these
-  pub last : Point SemaSeat
-  -- it did nothing else up to there
-  pub woken : WakesNamed sema grants before last
-  -- and then it asked once more
-  pub named : OnlyAsks sema false NextWake (wake_reply next) last after
+  where
+    -- those that it has woken, the newest first
+    pub grants : List Grant
+    -- where it stood behind the last of these
+    pub last : Point SemaSeat
+    -- it did nothing else up to there
+    pub woken : WakesNamed sema grants before last
+    -- and then it asked once more
+    pub named : OnlyAsks sema false NextWake (wake_reply next) last after
 
 -- it wakes the one that it was named, and is named another
 pub names_more : (sema : Sema) (grant : Grant) (next : Option Grant) (before : Point SemaSeat)

@@ -160,8 +160,7 @@ module _ (sema : Sema) (Timer : Type 0) (rendez : RendezId) where
       let lies = ap (λ (t : Told SemaSeat). lay_down t.at.process) same in
       let drains = ap (λ (t : Told SemaSeat). drained t.at.process) same in
       let calls = ap (λ (t : Told SemaSeat). length (own t.at.seat)) same in
-      let begins = ap (λ (t : Told SemaSeat). firsts (own t.at.seat)) same in
-      (
+      let begins = ap (λ (t : Told SemaSeat). firsts (own t.at.seat)) same in (
         subst (λ (t : Told SemaSeat). IsSeatAt sema true t.at.seat) (sym same) at,
         record {
           lies = omega (arith, lies);
@@ -179,8 +178,7 @@ module _ (sema : Sema) (Timer : Type 0) (rendez : RendezId) where
       let drains = ap drained only.idle in
       let asked = asked_more sema true true _ _ more.between.at.seat now.at.seat waits only.asks in
       let calls = ap (λ (l : List SemaEntry). length l) asked in
-      let begins = ap firsts asked in
-      (
+      let begins = ap firsts asked in (
         only.asks.seat,
         record {
           lies = omega (arith, before.lies, slept.lies, lies);

@@ -142,7 +142,8 @@ impl Sema {
         ensures asked { AsksRelease self.now count result.first result.second
             seat.old seat.new }
     {
-        self.lock.apply_then::<R, WakeNext>(rt, &mut seat.seat, SemaCall::Release { count })
+        self.lock
+            .apply_then::<R, WakeNext>(rt, &mut seat.seat, SemaCall::Release { count })
     }
 
     // Asks the semaphore, in its turn.

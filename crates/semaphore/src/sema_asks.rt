@@ -59,9 +59,7 @@ impl Sema {
         let Answers { first, second } = self.ask_release(rt, seat, count);
         match first {
             SemaReply::Value(sum) => {
-                let Some(told) = second else {
-                    unreachable!()
-                };
+                let Some(told) = second else { unreachable!() };
                 match told {
                     SemaReply::Wake { seat, grants } => Some(Released {
                         sum,
