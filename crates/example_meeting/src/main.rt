@@ -2,7 +2,9 @@
 //! answered there. Nobody meets the last one. A note ends its wait, and it leaves with the note.
 #![tactic(auto)]
 
-use plan9::{Fault, Flags, Guest, Hall, Kernel, Note, NoteSet, OpenedKernel, Pid, Started, Tag};
+use plan9::{
+    Fault, Guest, Hall, Kernel, Note, NoteSet, OpenedKernel, Pid, Proc, Roster, Started, Tag, fork,
+};
 use std::alloc::Global;
 use std::sync::Wait;
 use std::thread::{Threads, map_vec, scope, scope_env};
@@ -10,8 +12,11 @@ use std::thread::{Threads, map_vec, scope, scope_env};
 /// The clients are the processes from 2 to this one.
 const LAST: u64 = 5;
 
+/// How many columns each client was granted.
+type Granted = Vec<Result<u64, Fault>>;
+
 /// Asks for 20 columns a client, and says how many were granted: none to one that was sent away.
-fn ask<R: Wait>(rt: &R, mut client: Guest<'_, '_>) -> Result<u64, Fault> {
+fn ask<R: Wait>(rt: &R, client: &mut Guest<'_, '_>) -> Result<u64, Fault> {
     let Pid(number) = client.pid();
     match client.rendezvous(rt, Tag(number), number.saturating_mul(20)) {
         Ok(_) => client.rendezvous(rt, Tag(number), 0),
@@ -20,8 +25,15 @@ fn ask<R: Wait>(rt: &R, mut client: Guest<'_, '_>) -> Result<u64, Fault> {
     }
 }
 
+fn ask_all<R: Threads + Wait + Sync>(
+    rt: &R,
+    clients: Vec<Guest<'_, '_>>,
+) -> Result<Granted, Fault> {
+    Ok(map_vec(rt, clients, &|mut client: Guest| ask(rt, &mut client))?)
+}
+
 /// Grants all clients but the last at most 70 columns, and sends that one away.
-fn serve<R: Wait>(rt: &R, mut windows: Guest<'_, '_>) -> Result<(), Fault> {
+fn serve<R: Wait>(rt: &R, windows: &mut Guest<'_, '_>) -> Result<(), Fault> {
     for client in 2..LAST {
         let wanted = windows.rendezvous(rt, Tag(client), 0)?;
         windows.rendezvous(rt, Tag(client), wanted.min(70))?;
@@ -29,26 +41,56 @@ fn serve<R: Wait>(rt: &R, mut windows: Guest<'_, '_>) -> Result<(), Fault> {
     windows.postnote(Pid(LAST), NoteSet::of(Note::Hangup))
 }
 
-fn run<R: Threads + Wait + Sync>(rt: &R, alloc: Global) -> Result<Vec<Result<u64, Fault>>, Fault> {
-    let OpenedKernel { kernel, start } = Kernel::new(alloc, LAST + 1, LAST)?;
-    let Started { roster, proc } = kernel.start(start);
-    let (mut roster, mut proc) = (roster, proc);
-    let mut hall = Hall::new(alloc, &mut roster, LAST)?;
-    let child = roster.rfork(&mut proc, Flags::RFPROC)?;
-    let mut windows = hall.first(child.ok_or(Fault::NoProc)?)?;
-    let mut clients = Vec::new(alloc);
-    for _ in 2..=LAST {
-        let child = roster.rfork(&mut proc, Flags::RFPROC)?;
-        clients.push(windows.join(rt, child.ok_or(Fault::NoProc)?)?)?;
-    }
+/// The window system has a thread of its own, and so has each client.
+fn run_all<R: Threads + Wait + Sync>(
+    rt: &R,
+    mut windows: Guest<'_, '_>,
+    clients: Vec<Guest<'_, '_>>,
+) -> Result<Granted, Fault> {
     scope(scope_env(), rt, move |scope| {
-        let Ok(serving) = scope.spawn(move || serve(rt, windows)) else {
+        let Ok(serving) = scope.spawn(move || serve(rt, &mut windows)) else {
             return Err(Fault::Device);
         };
-        let asked = map_vec(rt, clients, &|client: Guest| ask(rt, client));
-        serving.join(rt)?;
-        Ok(asked?)
+        let granted = ask_all(rt, clients);
+        serving.join(rt).and(granted)
     })
+}
+
+/// The clients are children of the first process.
+fn join_all<'s, 'k, R: Wait>(
+    rt: &R,
+    alloc: Global,
+    windows: &mut Guest<'s, 'k>,
+    roster: &mut Roster<'k>,
+    proc: &mut Proc<'k>,
+) -> Result<Vec<Guest<'s, 'k>>, Fault> {
+    let mut clients = Vec::new(alloc);
+    for _ in 2..=LAST {
+        let client = fork(roster, proc)?;
+        clients.push(windows.join(rt, client)?)?;
+    }
+    Ok(clients)
+}
+
+/// The process 1 is the window system.
+fn open<R: Threads + Wait + Sync>(
+    rt: &R,
+    alloc: Global,
+    hall: &mut Hall,
+    started: Started<'_>,
+) -> Result<Granted, Fault> {
+    let Started { roster, proc } = started;
+    let (mut roster, mut proc) = (roster, proc);
+    let mut windows = hall.first(fork(&mut roster, &mut proc)?)?;
+    let clients = join_all(rt, alloc, &mut windows, &mut roster, &mut proc)?;
+    run_all(rt, windows, clients)
+}
+
+fn run<R: Threads + Wait + Sync>(rt: &R, alloc: Global) -> Result<Granted, Fault> {
+    let OpenedKernel { kernel, start } = Kernel::new(alloc, LAST + 1, LAST)?;
+    let mut started = kernel.start(start);
+    let mut hall = Hall::new(alloc, &mut started.roster, LAST)?;
+    open(rt, alloc, &mut hall, started)
 }
 
 fn main(rt: HostRuntime) -> std::io::Result<()> {

@@ -4,9 +4,11 @@
 //! come. It answers each on a pipe of its client's own. A hangup of the pipe of requests ends it.
 #![tactic(auto)]
 
+ghost use Rattle.std.specs.Prelude.{◌≡◌, IfOk};
+
 use plan9::{
-    Ends, Fault, Flags, Kernel, OpenedKernel, OpenedPipe, Pipe, Proc, ReadAnswer, ReadEnd, Started,
-    WriteEnd,
+    Ends, Fault, Kernel, OpenedKernel, OpenedPipe, Pipe, Proc, ReadAnswer, ReadEnd, Reader, Roster,
+    Started, WriteEnd, Writer, fork_writers,
 };
 use std::alloc::Global;
 use std::sync::Wait;
@@ -14,20 +16,22 @@ use std::thread::{Threads, map_vec, scope, scope_env};
 
 /// A client asks at one pipe and is answered at another.
 #[derive(Drop)]
-struct Client<'s> {
-    proc: Proc<'s>,
-    requests: WriteEnd<'s>,
-    answers: ReadEnd<'s>,
+struct Client<'k> {
+    asks: Writer<'k, 'k>,
+    answers: ReadEnd<'k>,
 }
 
 /// Asks for the squares of 1 to 5, and gives their sum. A request, with the client's number, is one
 /// write: it is read whole and never joined with another, so the clients need no lock.
-fn ask<R: Wait>(rt: &R, alloc: Global, me: Client<'_>) -> Result<u64, Fault> {
-    let (mut proc, mut requests, mut answers) = (me.proc, me.requests, me.answers);
-    let (number, mut sum, mut square) = (requests.writer() as u8, 0u64, [0]);
+fn ask<R: Wait>(rt: &R, alloc: Global, me: &mut Client<'_>) -> Result<u64, Fault> {
+    let Client { asks, answers } = me;
+    let Ok(number) = u8::try_from(asks.end.writer()) else {
+        return Err(Fault::BadArg);
+    };
+    let (mut sum, mut square) = (0u64, [0]);
     for wanted in 1..=5 {
-        requests.write(alloc, rt, &mut proc, &[number, wanted])?;
-        if answers.read(rt, &mut proc, &mut square)? == ReadAnswer::End {
+        asks.write(alloc, rt, &[number, wanted])?;
+        if answers.read(rt, &mut asks.proc, &mut square)? == ReadAnswer::End {
             return Err(Fault::Hungup);
         }
         sum = sum.wrapping_add(u64::from(square[0]));
@@ -35,112 +39,137 @@ fn ask<R: Wait>(rt: &R, alloc: Global, me: Client<'_>) -> Result<u64, Fault> {
     Ok(sum)
 }
 
-/// All clients, each on a thread, and then a hangup of the pipe of requests by an end for this
+/// All clients, each on a thread, and then a hangup of the pipe of requests by a writer for this
 /// alone.
-fn ask_all<'s, R: Threads + Wait + Sync>(
+fn ask_all<R: Threads + Wait + Sync>(
     rt: &R,
     alloc: Global,
-    clients: Vec<Client<'s>>,
-    mut last: WriteEnd<'s>,
-    mut proc: Proc<'s>,
+    clients: Vec<Client<'_>>,
+    mut last: Writer<'_, '_>,
 ) -> Result<Vec<u64>, Fault> {
-    let asked = map_vec(rt, clients, &|client: Client| ask(rt, alloc, client));
-    last.hangup(&mut proc);
+    let asked = map_vec(rt, clients, &|mut me: Client| ask(rt, alloc, &mut me));
+    last.hangup();
+    sums(alloc, &asked?)
+}
+
+fn sums(alloc: Global, asked: &[Result<u64, Fault>]) -> Result<Vec<u64>, Fault> {
     let mut sums = Vec::new(alloc);
-    for sum in asked? {
-        sums.push(sum?)?;
+    for sum in asked {
+        sums.push((*sum)?)?;
     }
     Ok(sums)
 }
 
+/// The server reads at one pipe, and answers at one of each client's, by its number.
+#[derive(Drop)]
+struct Server<'k> {
+    reader: Reader<'k, 'k>,
+    answers: Vec<WriteEnd<'k>>,
+}
+
 /// The request loop. The pipe of a client that can't be answered is hung up, so it doesn't wait.
-fn serve<'s, R: Wait>(
-    rt: &R,
-    alloc: Global,
-    mut proc: Proc<'s>,
-    mut requests: ReadEnd<'s>,
-    mut answers: Vec<WriteEnd<'s>>,
-) -> Result<(), Fault> {
+fn serve<R: Wait>(rt: &R, alloc: Global, server: &mut Server<'_>) -> Result<(), Fault> {
+    let Server { reader, answers } = server;
     let mut request = [0; 2];
     for _ in rt.forever() {
-        if requests.read(rt, &mut proc, &mut request)? == ReadAnswer::End {
+        if reader.read(rt, &mut request)? == ReadAnswer::End {
             break;
         }
         let [client, wanted] = request;
         let square = [wanted.saturating_mul(wanted)];
         let end = answers.get_mut(usize::from(client)).ok_or(Fault::BadArg)?;
-        if end.write(alloc, rt, &mut proc, &square).is_err() {
-            end.hangup(&mut proc);
+        if end.write(alloc, rt, &mut reader.proc, &square).is_err() {
+            end.hangup(&mut reader.proc);
         }
     }
     Ok(())
 }
 
-/// A further process.
-fn fork<'k>(started: &mut Started<'k>) -> Result<Proc<'k>, Fault> {
-    let Started { roster, proc } = started;
-    roster.rfork(proc, Flags::RFPROC)?.ok_or(Fault::NoProc)
-}
-
-/// Makes the clients and the server, and starts the server first, since the clients wait for it.
-fn run_all<'s, R: Threads + Wait + Sync>(
+/// Starts the server first, since the clients wait for it.
+fn run_all<R: Threads + Wait + Sync>(
     rt: &R,
     alloc: Global,
-    mut started: Started<'s>,
-    there: Ends<'s>,
-    back: Vec<Ends<'s>>,
+    mut server: Server<'_>,
+    clients: Vec<Client<'_>>,
+    last: Writer<'_, '_>,
 ) -> Result<Vec<u64>, Fault> {
-    let mut writes = there.second.parts().writes;
-    let last = writes.pop().ok_or(Fault::BadSize)?;
-    let (mut clients, mut answers) = (Vec::new(alloc), Vec::new(alloc));
-    for (requests, ends) in writes.into_iter().zip(back) {
-        answers.extend(ends.first.parts().writes)?;
-        clients.push(Client {
-            proc: fork(&mut started)?,
-            requests,
-            answers: ends.second.parts().read,
-        })?;
-    }
-    let server = fork(&mut started)?;
-    let (proc, requests) = (started.proc, there.first.parts().read);
     scope(scope_env(), rt, move |scope| {
-        let Ok(serving) = scope.spawn(move || serve(rt, alloc, server, requests, answers)) else {
+        let Ok(serving) = scope.spawn(move || serve(rt, alloc, &mut server)) else {
             return Err(Fault::Device);
         };
-        let sums = ask_all(rt, alloc, clients, last, proc);
+        let sums = ask_all(rt, alloc, clients, last);
         serving.join(rt).and(sums)
     })
 }
 
-/// Opens a pipe back to each client, each in a call of its own, and then runs all within the last.
-fn open_back<'s, R: Threads + Wait + Sync>(
+/// The ends of a new pipe, which is kept for as long as the program runs. A pipe goes both ways;
+/// here one way of each is used.
+fn ends<'k>(
+    alloc: Global,
+    roster: &mut Roster<'_>,
+    limit: u64,
+    writers: u64,
+) -> Result<Ends<'k>, Fault> {
+    let OpenedPipe { pipe, start } = Pipe::new(alloc, roster, limit, writers)?;
+    let pipe = &*keep(alloc, pipe)?;
+    Ok(pipe.ends(start))
+}
+
+fn keep<'k, T: Drop + 'k>(alloc: Global, value: T) -> Result<&'k mut T, Fault>
+    ensures { IfOk result (λ kept. kept.now ≡ value) }
+{
+    match Box::new(alloc, value) {
+        Ok(kept) => Ok(Box::leak(kept)),
+        Err(_) => Err(Fault::Memory),
+    }
+}
+
+/// Opens a pipe back to a client.
+fn seat<'k>(
+    alloc: Global,
+    roster: &mut Roster<'_>,
+    asks: Writer<'k, 'k>,
+    back: &mut Vec<WriteEnd<'k>>,
+) -> Result<Client<'k>, Fault> {
+    let Ends { first, second } = ends(alloc, roster, 1, 1)?;
+    back.extend(first.parts().writes)?;
+    let answers = second.parts().read;
+    Ok(Client { asks, answers })
+}
+
+fn clients<'k>(
+    alloc: Global,
+    roster: &mut Roster<'_>,
+    writers: Vec<Writer<'k, 'k>>,
+    back: &mut Vec<WriteEnd<'k>>,
+) -> Result<Vec<Client<'k>>, Fault> {
+    let mut clients = Vec::new(alloc);
+    for asks in writers {
+        clients.push(seat(alloc, roster, asks, back)?)?;
+    }
+    Ok(clients)
+}
+
+/// The pipe of requests has five writers.
+fn open<'k, R: Threads + Wait + Sync>(
     rt: &R,
     alloc: Global,
-    mut started: Started<'s>,
-    there: Ends<'s>,
-    back: Vec<Ends<'s>>,
-    left: u8,
+    roster: &mut Roster<'k>,
+    proc: Proc<'k>,
 ) -> Result<Vec<u64>, Fault> {
-    if left == 0 {
-        return run_all(rt, alloc, started, there, back);
-    }
-    let OpenedPipe { pipe, start } = Pipe::new(alloc, &mut started.roster, 1, 1)?;
-    let back = with(back, pipe.ends(start))?;
-    open_back(rt, alloc, started, there, back, left - 1)
+    let Ends { first, second } = ends(alloc, roster, 2, 5)?;
+    let mut reader = Reader::new(first.parts().read, proc);
+    let mut writers = fork_writers(alloc, roster, &mut reader.proc, second.parts().writes)?;
+    let last = writers.pop().ok_or(Fault::BadSize)?;
+    let mut answers = Vec::new(alloc);
+    let clients = clients(alloc, roster, writers, &mut answers)?;
+    run_all(rt, alloc, Server { reader, answers }, clients, last)
 }
 
-/// The same ends, and one more pair.
-fn with<'s>(mut back: Vec<Ends<'s>>, ends: Ends<'s>) -> Result<Vec<Ends<'s>>, Fault> {
-    back.push(ends)?;
-    Ok(back)
-}
-
-/// The pipe of requests has five writers. A pipe goes both ways; here one way of each is used.
 fn run<R: Threads + Wait + Sync>(rt: &R, alloc: Global) -> Result<Vec<u64>, Fault> {
     let OpenedKernel { kernel, start } = Kernel::new(alloc, 6, 28)?;
-    let mut started = kernel.start(start);
-    let OpenedPipe { pipe, start } = Pipe::new(alloc, &mut started.roster, 2, 5)?;
-    open_back(rt, alloc, started, pipe.ends(start), Vec::new(alloc), 4)
+    let Started { mut roster, proc } = kernel.start(start);
+    open(rt, alloc, &mut roster, proc)
 }
 
 fn main(rt: HostRuntime) -> std::io::Result<()> {

@@ -6,9 +6,10 @@
 #![tactic(auto)]
 
 use plan9::{
-    Ends, Fault, Kernel, OpenedKernel, OpenedPipe, Pipe, Reader, Started, Writer, fork_writers,
+    Ends, Fault, Kernel, OpenedKernel, OpenedPipe, Pipe, Proc, Reader, Roster, Started, Writer,
+    fork_writers,
 };
-use std::alloc::Global;
+use std::alloc::{AllocError, Global};
 use std::io;
 use std::sync::Wait;
 use std::thread::{Threads, map_vec, scope, scope_env};
@@ -22,34 +23,41 @@ const FRAME: &[&[u8]] = &[&[b'r', 80, 24], &[b'r', 100, 40]];
 
 /// A process that writes into the pipe, and what it writes.
 #[derive(Drop)]
-struct Device<'w> {
-    writer: Writer<'w, 'w>,
+struct Device<'p, 'k> {
+    writer: Writer<'p, 'k>,
     events: &'static [&'static [u8]],
 }
 
 /// A device writes its events in order, and waits where the pipe is full.
-fn send<R: Wait>(rt: &R, alloc: Global, device: Device<'_>) -> Result<(), Fault> {
-    let Device { mut writer, events } = device;
-    for event in events {
-        writer.write(alloc, rt, event)?;
+fn send<R: Wait>(rt: &R, alloc: Global, device: &mut Device<'_, '_>) -> Result<(), Fault> {
+    for event in device.events {
+        device.writer.write(alloc, rt, event)?;
+    }
+    Ok(())
+}
+
+fn all_sent(sent: Result<Vec<Result<(), Fault>>, AllocError>) -> Result<(), Fault> {
+    for sent in sent?.iter() {
+        (*sent)?;
     }
     Ok(())
 }
 
 /// All devices at once, each on a thread of its own, or one after the other where no thread can be
 /// started. Then the button closes the window: it is a writer that writes nothing.
-fn send_all<'w, R: Threads + Wait + Sync>(
+fn send_all<R: Threads + Wait + Sync>(
     rt: &R,
     alloc: Global,
-    devices: Vec<Device<'w>>,
-    mut button: Writer<'w, 'w>,
+    devices: Vec<Device<'_, '_>>,
+    mut button: Writer<'_, '_>,
 ) -> Result<(), Fault> {
-    let sent = map_vec(rt, devices, &|device: Device| send(rt, alloc, device));
+    let sent = map_vec(
+        rt,
+        devices,
+        &|mut device: Device| send(rt, alloc, &mut device),
+    );
     button.hangup();
-    for sent in sent? {
-        sent?;
-    }
-    Ok(())
+    all_sent(sent)
 }
 
 /// What the window shows.
@@ -98,7 +106,10 @@ fn show_in<R: Wait>(rt: &R, reader: &mut Reader<'_, '_>, window: &mut Window) ->
 }
 
 /// Each device with its writer.
-fn devices_of<'w>(alloc: Global, writers: Vec<Writer<'w, 'w>>) -> Result<Vec<Device<'w>>, Fault> {
+fn devices_of<'p, 'k>(
+    alloc: Global,
+    writers: Vec<Writer<'p, 'k>>,
+) -> Result<Vec<Device<'p, 'k>>, Fault> {
     let mut devices = Vec::new(alloc);
     for (writer, events) in writers.into_iter().zip([KEYBOARD, MOUSE, FRAME]) {
         devices.push(Device { writer, events })?;
@@ -107,12 +118,12 @@ fn devices_of<'w>(alloc: Global, writers: Vec<Writer<'w, 'w>>) -> Result<Vec<Dev
 }
 
 /// The reader, for which the others wait, is first.
-fn run_all<'w, R: Threads + Wait + Sync>(
+fn run_all<R: Threads + Wait + Sync>(
     rt: &R,
     alloc: Global,
-    reader: Reader<'w, 'w>,
-    devices: Vec<Device<'w>>,
-    button: Writer<'w, 'w>,
+    reader: Reader<'_, '_>,
+    devices: Vec<Device<'_, '_>>,
+    button: Writer<'_, '_>,
 ) -> Result<Window, Fault> {
     scope(scope_env(), rt, move |scope| {
         let Ok(showing) = scope.spawn(move || show(rt, alloc, reader)) else {
@@ -123,16 +134,16 @@ fn run_all<'w, R: Threads + Wait + Sync>(
 }
 
 /// Makes a process for each device and for the button.
-fn open<'w, R: Threads + Wait + Sync>(
+fn open<'k, R: Threads + Wait + Sync>(
     rt: &R,
     alloc: Global,
-    started: Started<'w>,
-    ends: Ends<'w>,
+    roster: &mut Roster<'k>,
+    proc: Proc<'k>,
+    ends: Ends<'_>,
 ) -> Result<Window, Fault> {
-    let mut roster = started.roster;
-    let mut reader = Reader::new(ends.first.parts().read, started.proc);
+    let mut reader = Reader::new(ends.first.parts().read, proc);
     let outs = ends.second.parts().writes;
-    let mut writers = fork_writers(alloc, &mut roster, &mut reader.proc, outs)?;
+    let mut writers = fork_writers(alloc, roster, &mut reader.proc, outs)?;
     let button = writers.pop().ok_or(Fault::BadSize)?;
     let devices = devices_of(alloc, writers)?;
     run_all(rt, alloc, reader, devices, button)
@@ -141,9 +152,9 @@ fn open<'w, R: Threads + Wait + Sync>(
 /// A pipe with room for two events that nobody has read.
 fn run<R: Threads + Wait + Sync>(rt: &R, alloc: Global) -> Result<Window, Fault> {
     let OpenedKernel { kernel, start } = Kernel::new(alloc, 5, 10)?;
-    let mut started = kernel.start(start);
-    let OpenedPipe { pipe, start } = Pipe::new(alloc, &mut started.roster, 2, 4)?;
-    open(rt, alloc, started, pipe.ends(start))
+    let Started { mut roster, proc } = kernel.start(start);
+    let OpenedPipe { pipe, start } = Pipe::new(alloc, &mut roster, 2, 4)?;
+    open(rt, alloc, &mut roster, proc, pipe.ends(start))
 }
 
 fn main(rt: HostRuntime) -> io::Result<()> {
