@@ -25,6 +25,8 @@ struct Run<'a> {
     first: usize,
     times: usize,
     kind: ErrorKind,
+    /// The write that takes nothing, counted from 1; 0 where each takes some.
+    nothing_at: usize,
 }
 
 impl<'a> Run<'a> {
@@ -36,6 +38,7 @@ impl<'a> Run<'a> {
             first,
             times: 1,
             kind,
+            nothing_at: 0,
         }
     }
 
@@ -80,11 +83,16 @@ struct Writer<'a> {
 impl Write for Writer<'_> {
     fn write(&mut self, buf: &[u8]) -> io::Result<usize> {
         self.run.count(Call::Write, &mut self.writes)?;
-        let count = buf.len().min(self.run.takes);
+        let takes_some = self.writes != self.run.nothing_at;
+        let count = if takes_some {
+            buf.len().min(self.run.takes)
+        } else {
+            0
+        };
         if self.held.extend_from_slice(&buf[..count]).is_err() {
             return Err(Error::from(ErrorKind::OutOfMemory));
         }
-        self.is_flushed = false;
+        self.is_flushed = self.is_flushed && count == 0;
         Ok(count)
     }
 
@@ -269,8 +277,24 @@ fn a_schedule_with_long_answers_fails_at_each_flush(rt: HostRuntime) {
     fail_each_flush(&rt, rt.alloc(), &script, &answers, 4);
 }
 
+// Of what is written the device takes nothing of the last byte, once.
+fn take_no_last_byte(rt: &impl Abort, alloc: Global, report: &[u8]) {
+    let front = report.len().saturating_sub(1);
+    let run = Run {
+        nothing_at: if front == 0 { 1 } else { 2 },
+        ..Run::new(report, front.max(1), Call::Read, 1, ErrorKind::Other)
+    };
+    assert_eq!(rt;
+        play(rt, alloc, run, report),
+        fallen([0, run.nothing_at, 0], front)
+    );
+}
+
 #[test]
-fn a_report_fails_at_its_flush(rt: HostRuntime) {
+fn a_report_of_each_length_fails_at_its_end(rt: HostRuntime) {
     let report = b"writers 2 writes 6 bytes 96 in order\n";
-    fail_each_flush(&rt, rt.alloc(), report, report, 1);
+    for length in 1..=report.len() {
+        fail_each_flush(&rt, rt.alloc(), &report[..length], &report[..length], 1);
+        take_no_last_byte(&rt, rt.alloc(), &report[..length]);
+    }
 }

@@ -2,7 +2,8 @@
 //! proved once more for its tests.
 //! Read `plain`, a pipe for one thread; `worlds`, the machine of sleep and wakeup; `words`, the
 //! same on shared words; `locks` and `rooms`, objects under a lock; `spaces`, where calls meet by
-//! tags; `units` and `timers`, of semaphores; and `devices`, scripts on streams that fail.
+//! tags; `units` and `timers`, of semaphores; `devices`, scripts on streams that fail; and `sizes`,
+//! what no program makes at each size.
 #![tactic(auto)]
 
 #[cfg(test)]
@@ -13,6 +14,8 @@ mod locks;
 mod plain;
 #[cfg(test)]
 mod rooms;
+#[cfg(test)]
+mod sizes;
 #[cfg(test)]
 mod spaces;
 #[cfg(test)]

@@ -327,3 +327,26 @@ fn a_third_process_may_have_taken_the_sleeper(rt: HostRuntime) {
     words.mark(holding);
     let _ = woken(&rt, &words, asleep);
 }
+
+// The sleeper was taken, and another process is posted in its place: it is released all the same.
+#[test]
+fn another_may_be_posted_in_the_place_of_the_sleeper(rt: HostRuntime) {
+    let Opened {
+        words,
+        seat,
+        mut pids,
+    } = words_of(&rt, rt.alloc(), 3, 1);
+    let sleeper = next(&rt, &words, &mut pids);
+    let third = next(&rt, &words, &mut pids);
+    let low = woke(&rt, &words, seat, FIRST, 0);
+    let asleep = fallen(&rt, &words, sleeper, FIRST);
+    let (asleep, seat) = check(&rt, &words, asleep, low, false);
+    let low = woke(&rt, &words, seat, FIRST, 0);
+    let Ok(posted) = words.post(third, FIRST, 0) else {
+        panic!(rt; "nobody is posted")
+    };
+    let (asleep, seat) = check(&rt, &words, asleep, low, true);
+    let _ = woken(&rt, &words, asleep);
+    woke(&rt, &words, seat, FIRST, 1);
+    end_posted(&rt, &words, posted);
+}
