@@ -1,6 +1,9 @@
 //! What a look at a kernel shows in too little room, and how it is printed.
 use crate::kernels::kernel_of;
-use plan9::{Look, Note, NoteSet, OpenedKernel, Pid, ProcStatus, RendezId, RendezStatus};
+use plan9::{
+    Kernel, Look, Note, NoteSet, OpenedKernel, Pid, Proc, ProcStatus, RendezId, RendezStatus,
+    Started,
+};
 use std::alloc::Global;
 use std::process::Abort;
 
@@ -68,4 +71,46 @@ fn a_look_prints_a_table(rt: HostRuntime) {
         rendez_count: 2,
     };
     assert!(rt; prints(&rt, rt.alloc(), look, TABLE));
+}
+
+const FIRST_OF_MANY: &str = " pid state  rendez mark notes\n   0 Ready       -    - -\n\
+    \x20  1 Ready       -    - interrupt\n   2 Ready       -    - -\n\
+    \x20  3 Ready       -    - hangup, expired\nand 12 more processes\n\
+    rendez                level posted\n     0                    5      -\n\
+    \x20    1                    0      -\n     2 18446744073709551615      -\n\
+    and 10 more rendez\n";
+
+// Posts to these, also to one that is not shown.
+fn post_notes(rt: &impl Abort, proc: &mut Proc<'_>, rows: &[(u64, NoteSet)]) {
+    for (pid, notes) in rows {
+        assert_eq!(rt; proc.postnote(Pid(*pid), *notes), Ok(()));
+    }
+}
+
+// Raises these levels, where nobody sleeps.
+fn raise_levels(rt: &impl Abort, proc: &mut Proc<'_>, rows: &[(u64, u64)]) {
+    for (rendez, level) in rows {
+        assert!(rt; proc.wakeup(RendezId(*rendez), *level).is_ok());
+    }
+}
+
+// What a look shows that has room for four processes and three Rendez.
+fn shows_the_first(rt: &impl Abort, alloc: Global, kernel: &Kernel) -> bool {
+    let mut procs = [ProcStatus::default(); ROOM];
+    let mut all = [RendezStatus::default(); 3];
+    prints(rt, alloc, kernel.look(&mut procs, &mut all), FIRST_OF_MANY)
+}
+
+#[test]
+fn a_look_shows_the_first_of_many(rt: HostRuntime) {
+    let OpenedKernel { kernel, start } = kernel_of(&rt, rt.alloc(), 16, 13);
+    let Started {
+        roster: _,
+        mut proc,
+    } = kernel.start(start);
+    let two = NoteSet::of(Note::Expired).join(NoteSet::of(Note::Hangup));
+    let (one, other) = (NoteSet::of(Note::Interrupt), NoteSet::of(Note::Alarm));
+    post_notes(&rt, &mut proc, &[(1, one), (3, two), (9, other)]);
+    raise_levels(&rt, &mut proc, &[(0, 5), (2, u64::MAX), (7, 9)]);
+    assert!(rt; shows_the_first(&rt, rt.alloc(), &kernel));
 }

@@ -1,13 +1,18 @@
-//! A ticker that a note ends, real time, children on threads, and faults in words.
+//! A ticker that a note ends, real time by a clock of the test's own, children on threads, and
+//! faults in words.
 use crate::kernels::{forked, kernel_of};
 use plan9::{
     Beat, Clock, Fault, FaultText, Note, NoteSet, OpenedKernel, Pid, Proc, RealTime, Started,
     Ticker, Time, fork,
 };
 use std::alloc::Global;
+use std::io::{self, Error, ErrorKind};
 use std::process::Abort;
 use std::sync::Wait;
+use std::sync::atomic::AtomicU64;
+use std::sync::atomic::Ordering::SeqCst;
 use std::thread::{Threads, scope, scope_env};
+use std::time::{Clock as SystemClock, Duration};
 
 /// Moments one after the other. At the third its process posts a note.
 #[derive(Drop)]
@@ -59,6 +64,71 @@ fn a_beat_comes_behind_a_millisecond(rt: HostRuntime) {
     let mut beat = Beat::new(&rt);
     assert!(rt; beat.next() >= 1);
     assert!(rt; beat.next() >= 2);
+}
+
+/// A clock that goes on in sleeps alone: each takes what it was asked for, and so much longer.
+#[derive(Drop)]
+struct Hands {
+    micros: AtomicU64,
+    sleeps: AtomicU64,
+    longer: u64,
+    /// Whether it can be read.
+    is_seen: bool,
+}
+
+impl SystemClock for Hands {
+    fn monotonic(&self) -> io::Result<Duration> {
+        if self.is_seen {
+            Ok(Duration::from_micros(self.micros.load(SeqCst)))
+        } else {
+            Err(Error::from(ErrorKind::Other))
+        }
+    }
+
+    fn since_1970(&self) -> io::Result<Duration> {
+        self.monotonic()
+    }
+
+    fn sleep(&self, duration: Duration) {
+        let asked = u64::try_from(duration.as_micros()).unwrap_or(u64::MAX);
+        self.micros
+            .fetch_add(asked.saturating_add(self.longer), SeqCst);
+        self.sleeps.fetch_add(1, SeqCst);
+    }
+}
+
+// The moments of a beat, each with the microseconds of the clock and its sleeps then.
+fn beats_so(rt: &impl Abort, longer: u64, is_seen: bool, rows: &[(u64, u64, u64)]) {
+    let hands = Hands {
+        micros: AtomicU64::new(0),
+        sleeps: AtomicU64::new(0),
+        longer,
+        is_seen,
+    };
+    let mut beat = Beat::new(&hands);
+    for row in rows {
+        let moment = beat.next();
+        let came = (moment, hands.micros.load(SeqCst), hands.sleeps.load(SeqCst));
+        assert_eq!(rt; came, *row);
+    }
+}
+
+#[test]
+fn a_beat_is_one_sleep_and_what_its_clock_says(rt: HostRuntime) {
+    beats_so(&rt, 0, true, &[(1, 1_000, 1), (2, 2_000, 2), (3, 3_000, 3)]);
+    beats_so(
+        &rt,
+        41_500,
+        true,
+        &[(42, 42_500, 1), (85, 85_000, 2), (127, 127_500, 3)],
+    );
+    // Where the clock can't be read each sleep counts as one.
+    beats_so(
+        &rt,
+        41_500,
+        false,
+        &[(1, 42_500, 1), (2, 85_000, 2), (3, 127_500, 3)],
+    );
 }
 
 #[test]
