@@ -59,7 +59,7 @@ fn produce<R: Wait + Now>(rt: &R, mut side: Side<'_, '_>, places: &Places) -> Re
 fn run_both<R: Threads + Wait + Now + Sync>(
     rt: &R,
     producer: Side<'_, '_>,
-    mut consumer: Side<'_, '_>,
+    consumer: &mut Side<'_, '_>,
 ) -> Result<u64, Fault> {
     let places = &[0; 4].map(AtomicU64::new);
     let ticker = producer.takes.pid();
@@ -67,7 +67,7 @@ fn run_both<R: Threads + Wait + Now + Sync>(
         let Ok(producing) = scope.spawn(move || produce(rt, producer, places)) else {
             return Err(Fault::Device);
         };
-        let sum = empty(rt, &mut consumer, places);
+        let sum = empty(rt, consumer, places);
         let noted = consumer
             .gives
             .postnote(ticker, NoteSet::of(Note::Interrupt));
@@ -84,56 +84,63 @@ struct Shared {
 }
 
 fn share(alloc: Global, roster: &mut Roster<'_>) -> Result<Shared, Fault> {
-    Ok(Shared {
-        free: Pool::new(alloc, roster, 4, 2)?,
-        items: Pool::new(alloc, roster, 0, 2)?,
-        clock: Clock::new(alloc, 2)?,
-    })
+    let free = Pool::new(alloc, roster, 4, 2)?;
+    let items = Pool::new(alloc, roster, 0, 2)?;
+    let clock = Clock::new(alloc, 2)?;
+    Ok(Shared { free, items, clock })
 }
 
-/// A process at this pool, and a child of it there.
-fn two<'s, 'k, R: Wait>(
-    rt: &R,
-    pool: &'s mut Pool,
+/// The producer: two children of the first process.
+fn producer<'s, 'k>(
+    shared: &'s mut Shared,
     roster: &mut Roster<'k>,
-    proc: Proc<'k>,
-) -> Result<(Holder<'s, 'k>, Holder<'s, 'k>), Fault> {
-    let mut first = pool.first(proc)?;
-    let second = first.fork(rt, roster)?;
-    Ok((first, second))
-}
-
-/// Seats four processes, two at each pool, and runs both sides.
-fn seat<R: Threads + Wait + Now + Sync>(
-    rt: &R,
-    shared: &mut Shared,
-    started: Started<'_>,
-) -> Result<u64, Fault> {
-    let Started { roster, proc } = started;
-    let (mut roster, mut proc) = (roster, proc);
-    let child = fork(&mut roster, &mut proc)?;
-    let mut timer = shared.clock.first()?;
-    let watch = timer.split(rt)?;
-    let (takes, refills) = two(rt, &mut shared.free, &mut roster, proc)?;
-    let (gives, drains) = two(rt, &mut shared.items, &mut roster, child)?;
-    let producer = Side {
+    proc: &mut Proc<'k>,
+) -> Result<Side<'s, 'k>, Fault> {
+    let takes = shared.free.first(fork(roster, proc)?)?;
+    let gives = shared.items.first(fork(roster, proc)?)?;
+    let watch = shared.clock.first()?;
+    Ok(Side {
         takes,
         gives,
         watch,
-    };
-    let consumer = Side {
-        takes: drains,
-        gives: refills,
-        watch: timer,
-    };
-    run_both(rt, producer, consumer)
+    })
+}
+
+/// The consumer: a child of each of the producer's two.
+fn consumer<'s, 'k, R: Wait>(
+    rt: &R,
+    producer: &mut Side<'s, 'k>,
+    roster: &mut Roster<'k>,
+) -> Result<Side<'s, 'k>, Fault> {
+    let watch = producer.watch.split(rt)?;
+    let takes = producer.gives.fork(rt, roster)?;
+    let gives = producer.takes.fork(rt, roster)?;
+    Ok(Side {
+        takes,
+        gives,
+        watch,
+    })
+}
+
+fn seat<'k, R: Threads + Wait + Now + Sync>(
+    rt: &R,
+    shared: &mut Shared,
+    roster: &mut Roster<'k>,
+    proc: &mut Proc<'k>,
+) -> Result<u64, Fault> {
+    let mut producer = producer(shared, roster, proc)?;
+    let mut consumer = consumer(rt, &mut producer, roster)?;
+    run_both(rt, producer, &mut consumer)
 }
 
 fn run<R: Threads + Wait + Now + Sync>(rt: &R, alloc: Global) -> Result<u64, Fault> {
-    let OpenedKernel { kernel, start } = Kernel::new(alloc, 4, 4)?;
-    let mut started = kernel.start(start);
-    let mut shared = share(alloc, &mut started.roster)?;
-    seat(rt, &mut shared, started)
+    let OpenedKernel { kernel, start } = Kernel::new(alloc, 5, 4)?;
+    let Started {
+        mut roster,
+        mut proc,
+    } = kernel.start(start);
+    let mut shared = share(alloc, &mut roster)?;
+    seat(rt, &mut shared, &mut roster, &mut proc)
 }
 
 fn main(rt: HostRuntime) -> std::io::Result<()> {

@@ -1,107 +1,107 @@
-//! A desk with deadlines: of three that wait one gives up, one is cancelled, and one is served.
+//! A desk with deadlines. One client gives up, and another is cancelled. The first one asks again
+//! when the desk is free, and is served.
 #![tactic(auto)]
 
 use plan9::{
-    Clock, Fault, FaultText, Holder, Kernel, Note, NoteSet, OpenedKernel, Pool, RealTime, Started,
-    Ticker, Watch, fork,
+    Clock, Fault, FaultText, Holder, Kernel, Note, NoteSet, OpenedKernel, Pool, Proc, RealTime,
+    Roster, Started, Ticker, Watch, fork,
 };
 use std::alloc::Global;
 use std::sync::Wait;
-use std::thread::{Threads, map_vec, scope, scope_env};
+use std::thread::{Threads, scope, scope_env};
 use std::time::Clock as Now;
 
-/// For how many milliseconds each client waits.
-const PATIENCE: [u32; 3] = [5, 600_000, 600_000];
-
+/// How a wait ended.
 type Outcome = Result<(), Fault>;
 
-/// A client waits at the desk, with a timer.
+/// The desk, which is taken when the clients come, and the client that has no patience.
 #[derive(Drop)]
-struct Client<'s, 't, 'k> {
-    at: Holder<'s, 'k>,
-    watch: Watch<'t>,
-    ms: u32,
+struct Front<'s, 't, 'k> {
+    desk: Holder<'s, 'k>,
+    hasty: Holder<'s, 'k>,
+    timer: Watch<'t>,
 }
 
-/// Is served before its time is over, and leaves the desk to the next one.
-fn ask<R: Wait + Now>(rt: &R, time: &RealTime, me: &mut Client<'_, '_, '_>) -> Outcome {
-    let now = time.now(rt);
-    me.at.acquire_within(rt, &mut me.watch, now, me.ms)?;
-    me.at.release(rt, 1).map(|_| ())
+/// Waits for five milliseconds from now.
+fn ask<R: Wait + Now>(rt: &R, time: &RealTime, front: &mut Front<'_, '_, '_>) -> Outcome {
+    let Front { hasty, timer, .. } = front;
+    hasty.acquire_within(rt, timer, time.now(rt), 5)
 }
 
-/// Cancels the second client, lets the first one's time pass, and then serves the last one.
+/// The other client waits on a thread of its own, for as long as it takes, and a note cancels it.
 fn serve<R: Threads + Wait + Now + Sync>(
     rt: &R,
     time: &RealTime,
-    desk: &mut Holder<'_, '_>,
-    mut clients: Vec<Client<'_, '_, '_>>,
-) -> Result<Vec<Outcome>, Fault> {
-    let mut last = clients.pop().ok_or(Fault::NoProc)?;
-    let second = clients.get(1).ok_or(Fault::NoProc)?.at.pid();
+    front: &mut Front<'_, '_, '_>,
+    mut other: Holder<'_, '_>,
+) -> Result<[Outcome; 3], Fault> {
+    let pid = other.pid();
     scope(scope_env(), rt, move |scope| {
-        let waiting = scope.spawn(move || ask(rt, time, &mut last));
-        let noted = desk.postnote(second, NoteSet::of(Note::Hangup));
-        let asked = map_vec(rt, clients, &|mut me: Client| ask(rt, time, &mut me));
-        let freed = desk.release(rt, 1);
-        let served = match waiting {
-            Ok(waiting) => waiting.join(rt),
-            Err(refused) => (refused.value)(),
+        let Ok(waiting) = scope.spawn(move || other.acquire(rt)) else {
+            return Err(Fault::Device);
         };
-        noted.and(freed)?;
-        let mut outcomes = asked?;
-        outcomes.push(served)?;
-        Ok(outcomes)
+        let gave_up = ask(rt, time, front);
+        let noted = front.desk.postnote(pid, NoteSet::of(Note::Hangup));
+        let cancelled = waiting.join(rt);
+        let freed = front.desk.release(rt, 1);
+        let served = ask(rt, time, front);
+        noted.and(freed).map(|_| [gave_up, cancelled, served])
     })
 }
 
 /// The desk beside a process that tells the time.
-fn run_all<R: Threads + Wait + Now + Sync>(
+fn run_all<'k, R: Threads + Wait + Now + Sync>(
     rt: &R,
-    mut ticker: Ticker<'_, '_>,
-    mut desk: Holder<'_, '_>,
-    clients: Vec<Client<'_, '_, '_>>,
-) -> Result<Vec<Outcome>, Fault> {
-    let time = &RealTime::new(rt);
-    let pid = ticker.proc.pid();
+    mut ticker: Ticker<'_, 'k>,
+    front: &mut Front<'_, '_, 'k>,
+    roster: &mut Roster<'k>,
+) -> Result<[Outcome; 3], Fault> {
+    let (time, pid) = (&RealTime::new(rt), ticker.proc.pid());
+    let other = front.desk.fork(rt, roster)?;
     scope(scope_env(), rt, move |scope| {
-        let ticking = scope.spawn(move || ticker.run(rt, &mut time.beat(rt)));
-        let ticking = ticking.ok().ok_or(Fault::Device)?;
-        let outcomes = serve(rt, time, &mut desk, clients);
-        let noted = desk.postnote(pid, NoteSet::of(Note::Interrupt));
+        let Ok(ticking) = scope.spawn(move || ticker.run(rt, &mut time.beat(rt))) else {
+            return Err(Fault::Device);
+        };
+        let outcomes = serve(rt, time, front, other);
+        let noted = front.desk.postnote(pid, NoteSet::of(Note::Interrupt));
         ticking.join(rt);
         noted.and(outcomes)
     })
 }
 
-/// Seats the clients, and takes the desk.
-fn open<R: Threads + Wait + Now + Sync>(
+fn take_desk<'s, 't, 'k, R: Wait>(
     rt: &R,
-    alloc: Global,
-    pool: &mut Pool,
-    clock: &mut Clock,
-    started: Started<'_>,
-) -> Result<Vec<Outcome>, Fault> {
-    let (mut roster, mut proc) = (started.roster, started.proc);
-    let first = fork(&mut roster, &mut proc)?;
-    let mut holders = pool.holders(alloc, rt, &mut roster, first, 4)?;
-    let mut desk = holders.pop().ok_or(Fault::NoProc)?;
-    let mut watch = clock.first()?;
-    let mut clients = Vec::new(alloc);
-    for at in holders {
-        let (ms, watch) = (PATIENCE[clients.len().min(2)], watch.split(rt)?);
-        clients.push(Client { at, watch, ms })?;
-    }
+    pool: &'s mut Pool,
+    watch: &mut Watch<'t>,
+    roster: &mut Roster<'k>,
+    proc: Proc<'k>,
+) -> Result<Front<'s, 't, 'k>, Fault> {
+    let mut desk = pool.first(proc)?;
     desk.acquire(rt)?;
-    run_all(rt, Ticker { watch, proc }, desk, clients)
+    let (timer, hasty) = (watch.split(rt)?, desk.fork(rt, roster)?);
+    Ok(Front { desk, hasty, timer })
 }
 
-fn run<R: Threads + Wait + Now + Sync>(rt: &R, alloc: Global) -> Result<Vec<Outcome>, Fault> {
-    let OpenedKernel { kernel, start } = Kernel::new(alloc, 5, 4)?;
+/// Three processes at the desk, and one that tells the time.
+fn seat<R: Threads + Wait + Now + Sync>(
+    rt: &R,
+    pool: &mut Pool,
+    clock: &mut Clock,
+    started: &mut Started<'_>,
+) -> Result<[Outcome; 3], Fault> {
+    let Started { roster, proc } = started;
+    let first = fork(roster, proc)?;
+    let (mut watch, proc) = (clock.first()?, fork(roster, proc)?);
+    let mut front = take_desk(rt, pool, &mut watch, roster, first)?;
+    run_all(rt, Ticker { watch, proc }, &mut front, roster)
+}
+
+fn run<R: Threads + Wait + Now + Sync>(rt: &R, alloc: Global) -> Result<[Outcome; 3], Fault> {
+    let OpenedKernel { kernel, start } = Kernel::new(alloc, 5, 3)?;
     let mut started = kernel.start(start);
-    let mut pool = Pool::new(alloc, &mut started.roster, 1, 4)?;
-    let mut clock = Clock::new(alloc, 4)?;
-    open(rt, alloc, &mut pool, &mut clock, started)
+    let mut pool = Pool::new(alloc, &mut started.roster, 1, 3)?;
+    let mut clock = Clock::new(alloc, 2)?;
+    seat(rt, &mut pool, &mut clock, &mut started)
 }
 
 fn main(rt: HostRuntime) -> std::io::Result<()> {
@@ -109,10 +109,10 @@ fn main(rt: HostRuntime) -> std::io::Result<()> {
         Ok(outcomes) => outcomes,
         Err(fault) => return println!(rt; "the desk failed: {fault}"),
     };
-    for outcome in outcomes.iter() {
+    for outcome in outcomes {
         match outcome {
             Ok(()) => println!(rt; "served")?,
-            Err(fault) => println!(rt; "{}", FaultText(*fault))?,
+            Err(fault) => println!(rt; "{}", FaultText(fault))?,
         }
     }
     Ok(())

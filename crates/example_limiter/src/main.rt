@@ -47,44 +47,57 @@ fn ask<R: Wait>(rt: &R, client: &mut Holder<'_, '_>) -> Result<(), Fault> {
     Ok(())
 }
 
-/// All clients, each on a thread of its own, beside the process that pours. Says how many
-/// milliseconds it took.
+/// All clients, each on a thread of its own. Says at which millisecond the last was done.
+fn ask_all<R: Threads + Wait + Clock + Sync>(
+    rt: &R,
+    time: &RealTime,
+    clients: Vec<Holder<'_, '_>>,
+) -> Result<u64, Fault> {
+    let asked = map_vec(rt, clients, &|mut client: Holder| ask(rt, &mut client))?;
+    for asked in asked.iter() {
+        (*asked)?;
+    }
+    Ok(time.now(rt))
+}
+
+/// The clients beside the process that pours.
 fn run_all<R: Threads + Wait + Clock + Sync>(
     rt: &R,
-    mut main: Proc<'_>,
+    main: &mut Proc<'_>,
     mut bucket: Holder<'_, '_>,
     clients: Vec<Holder<'_, '_>>,
 ) -> Result<u64, Fault> {
-    let time = &RealTime::new(rt);
-    let pid = bucket.pid();
+    let (time, pid) = (&RealTime::new(rt), bucket.pid());
     scope(scope_env(), rt, move |scope| {
         let Ok(pouring) = scope.spawn(move || pour(rt, time, &mut bucket)) else {
             return Err(Fault::Device);
         };
-        let asked = map_vec(rt, clients, &|mut client: Holder| ask(rt, &mut client));
-        let took = time.now(rt);
+        let took = ask_all(rt, time, clients);
         let noted = main.postnote(pid, NoteSet::of(Note::Interrupt));
-        pouring.join(rt).and(noted)?;
-        for asked in asked? {
-            asked?;
-        }
-        Ok(took)
+        pouring.join(rt).and(noted).and(took)
     })
 }
 
-fn run<R: Threads + Wait + Clock + Sync>(rt: &R, alloc: Global) -> Result<u64, Fault> {
-    let procs = CLIENTS + 1;
-    let plan = Plan::new().processes(1 + procs).semaphore(procs);
-    let OpenedKernel { kernel, start } = plan.build(alloc)?;
-    let Started {
-        mut roster,
-        mut proc,
-    } = kernel.start(start);
-    let mut pool = Pool::new(alloc, &mut roster, BURST, procs)?;
-    let first = fork(&mut roster, &mut proc)?;
-    let mut clients = pool.holders(alloc, rt, &mut roster, first, procs)?;
+/// The clients, and one process more, are children of the first one.
+fn seat<R: Threads + Wait + Clock + Sync>(
+    rt: &R,
+    alloc: Global,
+    pool: &mut Pool,
+    started: &mut Started<'_>,
+) -> Result<u64, Fault> {
+    let Started { roster, proc } = started;
+    let first = fork(roster, proc)?;
+    let mut clients = pool.holders(alloc, rt, roster, first, CLIENTS + 1)?;
     let bucket = clients.pop().ok_or(Fault::NoProc)?;
     run_all(rt, proc, bucket, clients)
+}
+
+fn run<R: Threads + Wait + Clock + Sync>(rt: &R, alloc: Global) -> Result<u64, Fault> {
+    let plan = Plan::new().processes(CLIENTS + 2).semaphore(CLIENTS + 1);
+    let OpenedKernel { kernel, start } = plan.build(alloc)?;
+    let mut started = kernel.start(start);
+    let mut pool = Pool::new(alloc, &mut started.roster, BURST, CLIENTS + 1)?;
+    seat(rt, alloc, &mut pool, &mut started)
 }
 
 fn main(rt: HostRuntime) -> std::io::Result<()> {
