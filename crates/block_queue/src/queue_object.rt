@@ -61,7 +61,7 @@ pub enum QueueReply {
     Hung,
 }
 
-/// A bounded queue of blocks with hangup.
+/// A bounded queue of blocks with hangup. It is there for the specification: tests alone call it.
 #[derive(Drop)]
 pub struct QueueObject {
     limit: u64,

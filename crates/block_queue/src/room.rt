@@ -1,6 +1,6 @@
 //! How a put looks for room, before it asks whether there is any, and how it gives way to another
 //! put. A look is a load with no seat and no step: it stands in no history, and no contract says
-//! what it finds. The step behind it answers the put.
+//! what it finds. The step after it answers the put.
 ghost use Rattle.std.specs.Prelude.{◌<◌};
 
 use crate::places::sequence;
@@ -10,7 +10,7 @@ use std::hint::spin_loop;
 /// How often a put looks.
 const LOOKS: u64 = 50;
 
-/// How long it pauses behind a look that found no room, and where another put came first.
+/// How long it pauses after a look that found no room, and where another put came first.
 const PAUSES: u64 = 8;
 
 impl Queue {

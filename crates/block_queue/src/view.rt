@@ -22,7 +22,7 @@ pub enum Stage {
     Counted(u64),
     /// It then found the place of the next write free.
     Placed(u64),
-    /// Its write was accepted, behind so many others, and it has the slot of its place.
+    /// Its write was accepted, after so many others, and it has the slot of its place.
     Storing {
         count: u64,
         writer: u64,

@@ -87,7 +87,7 @@ the_request_is_seen = refl
 nothing_is_seen : (outside_view [] None inside).account.seen ≡ []
 nothing_is_seen = refl
 
--- parted the parent has not all numbers, and joined again it has
+-- parted the parent does not have all numbers, and joined again it has
 parted : HasAllNumbers (parent_view inside).account → ⊥
 parted all = let out : false ≡ true = all.gave.0 in cc
 

@@ -140,7 +140,7 @@ impl<O: Object> Locked<O> {
         }
     }
 
-    // Has the request answered by who has taken the lock, and gives the lock back.
+    // Has the request answered by the thread that has taken the lock, and gives the lock back.
     fn answer_last(&self, stepper: &mut Stepper<O>, by: u64, request: O::Call) -> O::Reply
         requires stepper { IsStepperOf self.now stepper.old }
         requires taken { (before : Me O O.Call O.Reply) ×

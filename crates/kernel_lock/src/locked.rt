@@ -68,7 +68,7 @@ impl<O: Object> Locked<O> {
     }
 
     /// Puts the object under a lock and gives all its seats, with no lock taken.
-    /// Where there is no memory the object comes back.
+    /// Where there is no memory the object comes back. Tests alone call it.
     pub fn new_whole(alloc: Global, object: O, seats: u64) -> Result<OpenedWhole<O>, AllocFailed<O>>
         requires { 0 < seats }
         ensures opening { IfOk result (λ opened.
@@ -174,7 +174,7 @@ impl<O: Object> Locked<O> {
         }
     }
 
-    /// Takes the lock for the last time, and gives the object back.
+    /// Takes the lock for the last time, and gives the object back. Tests alone call it.
     pub fn close<R: Wait>(self, rt: &R, seat: LockSeat<O>) -> O
         requires { IsSeatOf self seat }
 

@@ -28,7 +28,7 @@ pub trait Object: Drop {
             definition.after (definition.state self.old) request };
 }
 
-/// What a seat asks behind a request while it still holds the lock, by what that was answered.
+/// What a seat asks after a request while it still holds the lock, by what that was answered.
 pub trait Follows<Q, R> {
     ghost use Rattle.std.specs.Prelude.{Option};
 

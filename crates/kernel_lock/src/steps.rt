@@ -117,7 +117,7 @@ impl<O: Object> Locked<O> {
 
     /// Writes the request that was served into the history, and keeps the lock.
     // Step Enter: load of the word. The slot is the seat's, before and after.
-    // Seat: Inside, and behind it Inside with the history and that request, which it has seen.
+    // Seat: Inside, and after it Inside with the history and that request, which it has seen.
     // Keeps the rule: the request was answered right, the history is legal with it,
     // and no other seat is inside.
     pub(crate) fn enter<M: Made<O::Call, O::Reply>>(&self, stepper: &mut Stepper<O>)

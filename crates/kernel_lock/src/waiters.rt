@@ -2,7 +2,7 @@
 //! keeps those who wait from burning the processor, and those who release from calling the system
 //! where nobody sleeps. What has to be done for those who sleep is a value that only the next act
 //! spends: a lock that was given back is looked at, a mark that is set is cleared, and then one
-//! thread is woken; who has slept sets the mark again.
+//! thread is woken; a thread that has slept sets the mark again.
 ghost use Rattle.std.specs.Prelude.{◌≡◌, ◌≢◌, ◌%◌, true, false, IfNone};
 ghost use Rattle.kernel_lock.specs.declared.view.Stage.TheVariants.{Outside};
 
@@ -32,14 +32,14 @@ pub(crate) struct Announced {
     ghost odd: { mark % 2 ≡ 1 },
 }
 
-/// The lock was found taken behind the announcement. `sleep` spends it.
+/// The lock was found taken after the announcement. `sleep` spends it.
 #[derive(Drop)]
 pub(crate) struct Taken {
     announced: Announced,
 }
 
 impl Taken {
-    /// The word of the lock, as it was found behind the announcement.
+    /// The word of the lock, as it was found after the announcement.
     pub(crate) fn behind(announced: Announced, _word: u64) -> Taken
         requires { _word ≢ 0 }
     {
@@ -100,7 +100,7 @@ impl Waiters {
     }
 
     /// Says that a thread is about to sleep.
-    // A release that finds no mark comes before this step, so a look at the lock behind it finds it
+    // A release that finds no mark comes before this step, so a look at the lock after it finds it
     // free, or taken by another thread, whose release finds the mark.
     pub(crate) fn announce(&self) -> Announced {
         let found = self.mark.fetch_or(1, SeqCst);
@@ -129,7 +129,7 @@ impl Waiters {
         if slept { Some(self.announce()) } else { None }
     }
 
-    /// Looks whether a thread has announced itself, behind a release.
+    /// Looks whether a thread has announced itself, after a release.
     pub(crate) fn look(&self, given_back: GivenBack) -> Option<Marked> {
         let GivenBack { marker: () } = given_back;
         let mark = self.mark.load(SeqCst);

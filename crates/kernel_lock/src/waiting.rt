@@ -62,7 +62,7 @@ impl<O: Object> Locked<O> {
     }
 
     /// Sleeps until a release, where the lock is still taken.
-    // A release before the mark woke nobody. The look behind the mark finds that one.
+    // A release before the mark woke nobody. The look after the mark finds that one.
     pub(crate) fn sleep<R: Wait>(&self, rt: &R, stepper: &mut Stepper<O>, turn: Turn) -> Turn
         requires { IsStepperOf self.now stepper.old }
         ensures stepper { IsSameStepper stepper.old stepper.new }
@@ -76,7 +76,7 @@ impl<O: Object> Locked<O> {
         }
     }
 
-    // Looks at the lock behind an announcement: a thread may sleep where it is still taken.
+    // Looks at the lock after an announcement: a thread may sleep where it is still taken.
     fn watch_again(&self, stepper: &mut Stepper<O>, announced: Announced) -> Option<Taken>
         requires { IsStepperOf self.now stepper.old }
         ensures stepper { IsSameStepper stepper.old stepper.new }

@@ -25,7 +25,7 @@ nothing_read opts = record { writers = opts.writers; writes = 0; bytes = 0; in_o
 pub no_report : (opts : ThreadsOpts) → IsReportOf opts (nothing_read opts)
 no_report opts = record { writers = refl; whole = λ yes. absurd (cc); most = λ yes. absurd (cc) }
 
--- a run that could not begin for want of memory has written nothing
+-- a run that was out of memory before it began has written nothing
 pub ends_for_memory : (asked : Option Task) (input held : Option (List ℕ)) (status : ℕ)
     → status ≡ FAULT
     → IfSome asked (λ task. EndsTask task input held held status)

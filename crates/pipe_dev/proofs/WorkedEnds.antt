@@ -39,7 +39,7 @@ module _ (queue : Queue) (row : Row) where
   end_has_no_seat write one = cc
 
 module _ (key : Key) (row : Row) (old new : Calling) where
-  -- no round is over for want of memory
+  -- no round is over as out of memory
   round_wants_memory : IfReadOver (Some (Err fault.Memory)) key row old new → ⊥
   round_wants_memory over = over.failed
 

@@ -4,8 +4,8 @@ ghost use Rattle.std.specs.Prelude.{◌≡◌, ◌+◌, ◌<◌, ◌^◌};
 use sleep_wakeup::Proc;
 use sync_base::{Mode, RendezId};
 
-/// The Rendez of a direction: the reader's, and behind it one for each writer, in order. And
-/// whether a read of it stops at the end of a write.
+/// The Rendez of a direction: the reader's, and after it one for each writer, in order. And whether
+/// a read of it stops at the end of a write.
 #[derive(Clone, Copy, Drop)]
 pub struct Row {
     pub(crate) first: u64,

@@ -35,7 +35,7 @@ pub(crate) fn wake_writers(proc: &mut Proc<'_>, row: &Row, level: u64)
     }
 }
 
-/// Wakes both sides, behind a hangup that the reader's seat has seen.
+/// Wakes both sides, after a hangup that the reader's seat has seen.
 pub(crate) fn wake_behind_take(proc: &mut Proc<'_>, row: &Row, seat: &TakeSeat)
     requires hung { HasHang (take_account seat.now).seen }
     ensures woken { WakesIfKnown row.now proc.old proc.new.process }
@@ -45,7 +45,7 @@ pub(crate) fn wake_behind_take(proc: &mut Proc<'_>, row: &Row, seat: &TakeSeat)
     wake_all(proc, row);
 }
 
-/// Wakes both sides, behind a hangup that the writer's seat has seen.
+/// Wakes both sides, after a hangup that the writer's seat has seen.
 pub(crate) fn wake_behind_put(proc: &mut Proc<'_>, row: &Row, seat: &PutSeat)
     requires hung { HasHang (put_account seat.now).seen }
     ensures woken { WakesIfKnown row.now proc.old proc.new.process }
@@ -56,7 +56,7 @@ pub(crate) fn wake_behind_put(proc: &mut Proc<'_>, row: &Row, seat: &PutSeat)
 }
 
 // Wakes both sides, where the process is of their kernel. No file but this can call it, so it comes
-// behind a hangup alone.
+// after a hangup alone.
 fn wake_all(proc: &mut Proc<'_>, row: &Row)
     ensures woken { WakesIfKnown row.now proc.old proc.new.process }
     ensures words { proc.new.words ≡ proc.old.words }

@@ -27,9 +27,9 @@ impl<'p> WriteEnd<'p> {
     /// number. Where there is no room it waits. Memory is taken for the bytes.
     ///
     /// Refuses, in this order, as `TooBig` above the atomic size, as `NoRendez` where the process
-    /// is of another kernel, which has not all Rendez of the direction, as `Memory`, as `Hungup`
-    /// where the direction is hung up, and then the note of a write on a closed pipe is posted to
-    /// the process; as `Worn` where the last number is given, and where it would wait as
+    /// is of another kernel, which does not own all the Rendez of the direction, as `Memory`, as
+    /// `Hungup` where the direction is hung up, and then the note of a write on a closed pipe is
+    /// posted to the process; as `Worn` where the last number is given, and where it would wait as
     /// `DoubleSleep` and `Interrupted`. A write that was accepted wakes the reader with its number.
     /// After pipe(3) and write(2).
     pub fn write<R: Wait>(
@@ -39,8 +39,8 @@ impl<'p> WriteEnd<'p> {
         proc: &mut Proc<'_>,
         bytes: &[u8],
     ) -> Result<u64, Fault>
-        // A write above the atomic size is refused first, and then a process of a kernel that has
-        // not all Rendez of the direction.
+        // A write above the atomic size is refused first, and then a process of a kernel that does
+        // not own all the Rendez of the direction.
         ensures too_big { IsErrOf result TooBig ↔ (ATOMIC_SIZE < length bytes.now) }
         ensures no_rendez { length bytes.now ≤ ATOMIC_SIZE
             → (IsErrOf result NoRendez ↔ ¬ HasRow proc.old.words self.old.row) }

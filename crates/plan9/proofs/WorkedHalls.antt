@@ -27,7 +27,7 @@ module _ (hall : Hosting) (running : Running) (guest : Visiting) where
   first_where_one_was none first = let member = first.member_is in cc
 
   -- a process of the hall's own kernel is refused as one of another, the first one as a second, and
-  -- one for want of memory
+  -- one as out of memory
   refused_by_its_own_kernel : HasRow hall.space running.words
       → WhyNotFirstGuest hall running fault.NoRendez → ⊥
   refused_by_its_own_kernel row why = why row
@@ -70,7 +70,7 @@ module _ (old new child : Visiting) (running : Running) where
   further_as_its_parent same further =
       let above = further.further.above in omega (arith, same, above)
 
-  -- one is refused by its own kernel, while a member is left, or for want of memory
+  -- one is refused by its own kernel, while a member is left, or as out of memory
   guest_refused_by_its_own_kernel : HasRow old.space running.words
       → WhyNoGuest old new running fault.NoRendez → ⊥
   guest_refused_by_its_own_kernel row (other, same) = other row

@@ -34,7 +34,7 @@ module _ (pool : Pooled) (running : Running) (holding : Holding) where
   first_where_somebody_was none first = let seat = first.seat_is in cc
 
   -- a process of the pool's own kernel is refused as one of another, the first one as a second, and
-  -- one for want of memory
+  -- one as out of memory
   refused_by_its_own_kernel : HasRow pool.sema running.words
       → WhyNotFirst pool running fault.NoRendez → ⊥
   refused_by_its_own_kernel row why = why row
@@ -92,7 +92,7 @@ module _ (old new child : Holding) (running : Running) where
       let gave = ap (λ account. length account.gave) further.given.account.parent_is in
       omega (arith, same, gave)
 
-  -- one is refused by its own kernel, while a seat is left, or for want of memory
+  -- one is refused by its own kernel, while a seat is left, or as out of memory
   join_refused_by_its_own_kernel : HasRow old.sema running.words
       → WhyNotJoined old new running fault.NoRendez → ⊥
   join_refused_by_its_own_kernel row (other, same) = other row
@@ -117,8 +117,8 @@ module _ (before after : Unused) (old new child : Holding) where
   fork_uses_no_pid_up other forks = other forks.roster
 
 module _ (old new : Forking) where
-  -- a fork is refused though a pid and a seat are left, for want of memory, or by its own kernel
-  -- with no child that comes back
+  -- a fork is refused though a pid and a seat are left, as out of memory, or by its own kernel with
+  -- no child that comes back
   fork_refused_though_all_is_left : HasPid old.roster
       → given_of new.parent.seat.seat < limit_of old.parent.sema.lock
       → WhyNoFork old new None fault.NoProc → ⊥

@@ -213,7 +213,7 @@ module _ (old new : Reader) (buffer : Buffers) where
       subst (λ (answer : Result ReadAnswer Fault). IfErr answer (λ why. ⊥))
       (reads.no_rendez.1 none) tt
 
-  -- a read that doesn't wait is refused for want of a number, or did something and was refused
+  -- a read that doesn't wait is refused as out of numbers, or did something and was refused
   try_is_worn : TriesOnce buffer (Err fault.Worn) old new → ⊥
   try_is_worn tries = ⊎_elim (λ bad. cc) (λ none. cc) tries.fault
 

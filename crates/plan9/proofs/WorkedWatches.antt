@@ -19,7 +19,7 @@ module _ (clock : Clocked) (watch : Watching) where
   first_where_somebody_was : clock.spare ≡ None → IsFirstWatch clock watch → ⊥
   first_where_somebody_was none first = let seat = first.seat_is in cc
 
-  -- it is taken though it is there, or for want of memory
+  -- it is refused as taken though it is there, or as out of memory
   taken_though_it_is_there : (seat : TimerSeat) → clock.spare ≡ Some seat
       → IsTaken clock fault.NoProc → ⊥
   taken_though_it_is_there seat left none = cc
@@ -47,7 +47,7 @@ module _ (old new child : Watching) where
       let gave = ap (λ account. length account.gave) further.given.account.parent_is in
       omega (arith, same, gave)
 
-  -- one is refused while a seat is left, or for want of memory
+  -- one is refused while a seat is left, or as out of memory
   refused_though_a_seat_is_left : given_of new.seat.seat < limit_of old.timers.lock
       → WhyNoWatch old new fault.NoProc → ⊥
   refused_though_a_seat_is_left fewer knows =

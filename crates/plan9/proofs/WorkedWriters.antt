@@ -29,7 +29,8 @@ module _ (unused : Unused) (count : ℕ) where
       → HasPids unused count → ⊥
   more_pids_than_there_are fewer pids = omega (arith, fewer, pids)
 
-  -- they are refused though pids are left, for want of memory before that of a pid, or of a Rendez
+  -- they are refused though pids are left, as out of memory before as out of pids, or as out of
+  -- Rendez
   refused_though_pids_are_left : HasPids unused count → WhyNoWriters unused count fault.NoProc → ⊥
   refused_though_pids_are_left pids why = why pids
 

@@ -68,8 +68,8 @@ got (Err fault) = Err fault
 abbrev pub got_now : Bool → Result Semacquired Fault
 got_now now = Ok (if now then sema.Acquired else sema.NotNow)
 
--- why a process can't be the first to hold: its kernel has not all Rendez of the pool, or somebody
--- was the first
+-- why a process can't be the first to hold: its kernel does not own all the Rendez of the pool, or
+-- somebody was the first
 abbrev pub WhyNotFirst : Pooled → Running → Fault → Type 0
 WhyNotFirst pool running fault.NoRendez = ¬ HasRow pool.sema running.words
 WhyNotFirst pool running fault.NoProc = HasRow pool.sema running.words × (pool.spare ≡ None)
@@ -98,8 +98,8 @@ pub record IsFurtherHolder (old new : Holding) (running : Running) (child : Hold
 abbrev pub KnowsNoSeat : Holding → Holding → Type 0
 KnowsNoSeat old new = KnowsAllGiven old.sema.lock old.seat.seat new.seat.seat
 
--- why a process can't hold as well: its kernel has not all Rendez of the pool, or all seats were
--- given
+-- why a process can't hold as well: its kernel does not own all the Rendez of the pool, or all
+-- seats were given
 abbrev pub WhyNotJoined : Holding → Holding → Running → Fault → Type 0
 WhyNotJoined old new running fault.NoRendez =
     (¬ HasRow old.sema running.words) × (new ≡ old)
@@ -132,8 +132,8 @@ pub record Forking : Type 0 where
 abbrev pub forking : Unused → Holding → Forking
 forking roster parent = record { roster = roster; parent = parent }
 
--- the next process of a roster was made, and a seat was given that it can't have: its kernel has
--- not all Rendez of the pool
+-- the next process of a roster was made, and a seat was given that it can't have: its kernel does
+-- not own all the Rendez of the pool
 pub record IsUnseated (old new : Forking) (unseated : Unseated) : Type 0 where
   pub pid : HasPid old.roster
   pub no_row : ¬ HasRow old.parent.sema old.roster.words
@@ -161,7 +161,8 @@ pub record AreHolders (sema : Sema) (running : Running) (unused : Unused) (count
   pub kernels : AllByRecursion (λ holding.
       (holding.running ≡ running) ⊎ (holding.running.words ≡ unused.words)) holders
 
--- what may stand against it: too few pids or seats, a kernel that has not all Rendez, no memory
+-- what may stand against it: too few pids or seats, a kernel that does not own all the Rendez, no
+-- memory
 abbrev pub IsNoHolders : Fault → Type 0
 IsNoHolders fault.NoProc = ⊤
 IsNoHolders fault.NoRendez = ⊤

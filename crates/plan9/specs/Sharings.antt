@@ -127,7 +127,7 @@ pub record CallsShared (end : ReadSide) (old : Holding) (Call : Reader → Reade
   pub seat_is : new.seat ≡ old.seat
 
 -- A read, which was answered so. A buffer of no bytes is refused first, and then a process of a
--- kernel that has not all Rendez of the direction.
+-- kernel that does not own all the Rendez of the direction.
 pub record ReadsOnce (buffer : Buffers) (answer : Result ReadAnswer Fault) (old new : Reader) :
     Type 0 where
   pub bad_count : IsErrOf answer BadCount ↔ (buffer.before ≡ [])

@@ -23,8 +23,8 @@ impl Model for Clock {
     ghost invariant = { λ clock. IsSpareTimer clock.timers clock.spare };
 }
 
-/// A seat at the timers of a clock, with one timer. `Holder::acquire_within` waits by it, and who
-/// knows the time tells it with `tick`. One thread has it at a time.
+/// A seat at the timers of a clock, with one timer. `Holder::acquire_within` waits by it, and a
+/// process that knows the time tells it with `tick`. One thread has it at a time.
 #[derive(Drop)]
 pub struct Watch<'t> {
     pub(crate) timers: &'t Timers,
@@ -48,8 +48,8 @@ impl Clock {
     ghost use Rattle.semaphore.specs.Timers.{WhyNoTimers};
     ghost use Rattle.plan9.specs.Watches.{IsFirstWatch, IsNewClock, IsTaken};
 
-    /// A clock for so many processes, who ticks too. Refuses, in this order, as `NoProc` where they
-    /// are not from 1 to 1,024, and `Memory`. Doesn't wait.
+    /// A clock for so many processes, the one that ticks among them. Refuses, in this order, as
+    /// `NoProc` where they are not from 1 to 1,024, and `Memory`. Doesn't wait.
     pub fn new(alloc: Global, procs: u64) -> Result<Clock, Fault>
         // Refused first.
         ensures in_range { OnOk result (IsProcCount procs) }

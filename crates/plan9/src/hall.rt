@@ -112,8 +112,8 @@ impl Hall {
     }
 
     /// The first guest. Refuses, in this order, as `NoRendez` a process of another kernel, which
-    /// has not all Rendez of the hall, and as `NoProc` where another was the first before; the
-    /// process comes back. Takes no memory and doesn't wait.
+    /// does not own all the Rendez of the hall, and as `NoProc` where another was the first before;
+    /// the process comes back. Takes no memory and doesn't wait.
     pub fn first<'s, 'k>(&'s mut self, proc: Proc<'k>) -> Result<Guest<'s, 'k>, Refused<'k>>
         ensures fault { IfErr result
             (ComesBack (WhyNotFirstGuest self.old proc.entry) proc.entry) }
@@ -219,9 +219,9 @@ impl<'s, 'k> Guest<'s, 'k> {
     }
 
     /// Another process that is a guest as well.
-    /// Refuses, in this order, as `NoRendez` a process of another kernel, which has not all Rendez
-    /// of the hall, and as `NoProc` where the space has had all its members; the process comes
-    /// back. It waits for the space's lock. Takes no memory.
+    /// Refuses, in this order, as `NoRendez` a process of another kernel, which does not own all
+    /// the Rendez of the hall, and as `NoProc` where the space has had all its members; the process
+    /// comes back. It waits for the space's lock. Takes no memory.
     pub fn join<R: Wait>(&mut self, rt: &R, proc: Proc<'k>) -> Result<Guest<'s, 'k>, Refused<'k>>
         ensures same { IsSameGuest self.old self.new }
         ensures fault { IfErr result
@@ -291,7 +291,7 @@ impl<'s, 'k> Guest<'s, 'k> {
     }
 
     /// Its member is one of its space's, whose Rendez are of its kernel: so each call of it may be
-    /// made.
+    /// made. It is there for the specification, and does nothing.
     pub fn is_admitted(&self)
         ensures { IsAdmittedGuest self.now }
     {

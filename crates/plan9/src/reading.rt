@@ -32,8 +32,8 @@ impl<'p, 'k> Reader<'p, 'k> {
 
     /// Reads until the buffer is full, from write to write, also in message mode. Where the pipe
     /// ends before, or a read is refused, it says how many bytes came: they are in the buffer, and
-    /// the next read goes on behind them. It waits. Takes no memory.
-    /// A buffer of no bytes is full. After readn in read(2).
+    /// the next read goes on after them. It waits. Takes no memory. A buffer of no bytes is full.
+    /// After readn in read(2).
     pub fn read_exact<R: Wait>(&mut self, rt: &R, buffer: &mut [u8]) -> Result<(), Short>
         ensures { FillsUp self.old buffer.old result self.new buffer.new }
     {

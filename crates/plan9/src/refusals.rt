@@ -15,7 +15,7 @@ impl<'k> From<Refused<'k>> for Fault {
 
     ghost from_gives = { λ refused fault. fault ≡ refused.fault };
 
-    /// The process is let go. Takes no memory and doesn't wait.
+    /// The process is dropped. Takes no memory and doesn't wait.
     fn from(refused: Refused<'k>) -> Fault {
         let Refused { proc: _, fault } = refused;
         fault
@@ -34,7 +34,7 @@ impl<'p> From<Unforked<'p>> for Fault {
 
     ghost from_gives = { λ unforked fault. fault ≡ unforked.fault };
 
-    /// The ends are let go. Takes no memory and doesn't wait.
+    /// The ends are dropped. Takes no memory and doesn't wait.
     fn from(unforked: Unforked<'p>) -> Fault {
         let Unforked { ends: _, fault } = unforked;
         fault

@@ -64,7 +64,7 @@ impl<'p> From<Unshared<'p>> for Fault {
 
     ghost from_gives = { λ refused fault. fault ≡ refused.fault };
 
-    /// The end is let go. Takes no memory and doesn't wait.
+    /// The end is dropped. Takes no memory and doesn't wait.
     fn from(refused: Unshared<'p>) -> Fault {
         let Unshared { end: _, fault } = refused;
         fault
@@ -106,8 +106,8 @@ impl<'p> Shared<'p> {
     }
 
     /// The first that has turns at the end. Refuses, in this order, as `NoRendez` a process of
-    /// another kernel, which has not all Rendez of the turns, and as `NoProc` where somebody was
-    /// the first before; the process comes back. Takes no memory and doesn't wait.
+    /// another kernel, which does not own all the Rendez of the turns, and as `NoProc` where
+    /// somebody was the first before; the process comes back. Takes no memory and doesn't wait.
     pub fn first<'s, 'k>(&'s mut self, proc: Proc<'k>) -> Result<Sharer<'s, 'p, 'k>, Refused<'k>>
         ensures fault { IfErr result
             (ComesBack (WhyNotFirst self.old.turns proc.entry) proc.entry) }

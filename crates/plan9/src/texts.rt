@@ -6,7 +6,7 @@ use sync_base::{Fault, Note, NoteSet};
 #[derive(Clone, Copy)]
 pub struct NoteTexts(pub NoteSet);
 
-/// A fault in words: its own text, and behind that of `Interrupted` the notes that ended the wait.
+/// A fault in words: its own text, and after that of `Interrupted` the notes that ended the wait.
 #[derive(Clone, Copy)]
 pub struct FaultText(pub Fault);
 

@@ -112,7 +112,7 @@ impl<'t, 'k> Ticker<'t, 'k> {
 
     /// Ticks at each moment that comes, until notes are pending for its process, and answers those,
     /// which are pending no longer. It looks for notes before each moment that it asks for, so the
-    /// last tick may stand behind a note. It waits, in `time` and for the timers' lock. Takes no
+    /// last tick may stand after a note. It waits, in `time` and for the timers' lock. Takes no
     /// memory.
     pub fn run<R: Wait, T: Time>(&mut self, rt: &R, time: &mut T) -> NoteSet
         ensures { TicksOn self.old result self.new }

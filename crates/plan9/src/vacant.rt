@@ -5,7 +5,7 @@ use sleep_wakeup::Proc;
 use std::marker::Model;
 use sync_base::Fault;
 
-/// A seat at a pool that no process has. `fill` gives it to one; let go, nobody can have it any
+/// A seat at a pool that no process has. `fill` gives it to one; dropped, nobody can have it any
 /// more.
 #[derive(Drop)]
 pub struct Vacant<'s> {
@@ -29,7 +29,7 @@ impl<'s> Model for Vacant<'s> {
     } };
 }
 
-/// A process, and a seat that it can't have: its kernel has not all Rendez of the pool.
+/// A process, and a seat that it can't have: its kernel does not own all the Rendez of the pool.
 #[derive(Drop)]
 pub struct Unseated<'s, 'k> {
     pub seat: Vacant<'s>,
@@ -64,7 +64,7 @@ impl<'s, 'k> From<NotHolder<'s, 'k>> for Fault {
 
     ghost from_gives = { λ refused fault. fault ≡ refused.fault };
 
-    /// The child and the seat are let go. Takes no memory and doesn't wait.
+    /// The child and the seat are dropped. Takes no memory and doesn't wait.
     fn from(refused: NotHolder<'s, 'k>) -> Fault {
         let NotHolder { unseated: _, fault } = refused;
         fault
@@ -76,8 +76,8 @@ impl<'s> Vacant<'s> {
     ghost use Rattle.semaphore.specs.Seats.{HasRow};
     ghost use Rattle.plan9.specs.Pools.{IsFilled};
 
-    /// Gives the seat to a process. Refuses a process of another kernel, which has not all Rendez
-    /// of the pool, and hands both back. Takes no memory and doesn't wait.
+    /// Gives the seat to a process. Refuses a process of another kernel, which does not own all the
+    /// Rendez of the pool, and hands both back. Takes no memory and doesn't wait.
     pub fn fill<'k>(self, proc: Proc<'k>) -> Result<Holder<'s, 'k>, Unseated<'s, 'k>>
         // Refused first, and then both are as they were.
         ensures refused { OnErr result (¬ HasRow self.entry.sema proc.entry.words) }

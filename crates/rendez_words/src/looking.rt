@@ -1,5 +1,5 @@
 //! How a process looks at its flags, and parks until they change. A process parks on what it saw
-//! there behind its announcement, and on nothing else: `look_behind` alone gives a `Seen`, and
+//! there after its announcement, and on nothing else: `look_behind` alone gives a `Seen`, and
 //! `park` alone spends it.
 ghost use Rattle.std.specs.Prelude.{◌≡◌, ◌<◌, ◌%◌, ◌^◌, OnErr, IfOk, IfErr, MatchResult};
 ghost use Rattle.std.specs.Bool.{OnTrue, OnFalse};
@@ -19,7 +19,7 @@ use crate::words::Words;
 use sleep_core::{Event, ProcFlags};
 use std::sync::Wait;
 
-/// What a process saw in its flags behind its announcement, and they don't end its wait.
+/// What a process saw in its flags after its announcement, and they don't end its wait.
 #[must_use]
 pub(crate) struct Seen<'a> {
     announced: &'a Announced,
@@ -50,7 +50,7 @@ impl Words {
     }
 
     /// The same, of a process that has said that it parks.
-    // A mark that found it awake came before it said so, and this look comes behind: it sees that.
+    // A mark that found it awake came before it said so, and this look comes after: it sees that.
     pub(crate) fn look_behind<'a>(
         &self,
         announced: &'a Announced,

@@ -19,6 +19,8 @@ impl Words {
     /// Whether the sleeper is no longer posted. The receipt is one that was given with this seat.
     /// Both states come back as they were. Takes no memory and doesn't wait.
     ///
+    /// It is there for the specification: tests alone call it.
+    ///
     /// It says nothing of who took the sleeper: a third process may have, whose wakeup has not
     /// returned and whose steps neither of the two has seen. So a sleeper that is released, by a
     /// receipt that alone would not do it, need not have its mark yet.
@@ -27,7 +29,7 @@ impl Words {
         requires seat { IsProcessOf self.now seat }
         requires done { HasReceipt seat done.now }
 
-        // The answer is what the posted word says, behind the steps of the two and such steps of
+        // The answer is what the posted word says, after the steps of the two and such steps of
         // other processes as were made.
         ensures checked { IsChecked self.now asleep seat result.released }
 

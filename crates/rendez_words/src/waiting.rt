@@ -106,7 +106,7 @@ impl Words {
     }
 }
 
-// What a process does behind a look that found nothing, by how often it has looked.
+// What a process does after a look that found nothing, by how often it has looked.
 fn pause(looks: u64) {
     if looks < LOOKS {
         for _ in 0..PAUSES {

@@ -18,7 +18,7 @@ use Rattle.semaphore.proofs.BrokenTimers as timers
 abbrev pid : ℕ → Pid
 pid n = record { 0 = n }
 
--- what a call in time sees of the timers: it set its timer, and the tick at 160 took it
+-- what a timed call sees of the timers: it set its timer, and the tick at 160 took it
 ticked : List TimerEntry
 ticked =
     record { by = 0; request = Cancel 0; reply = told.Expired }

@@ -12,7 +12,7 @@ use sync_base::Fault;
 /// A ring of links through the seats that stand in line and the end of the line.
 #[derive(Debug, Drop)]
 pub(crate) struct SeatLine {
-    /// Who comes behind each seat, or the end. Behind the end comes the first.
+    /// What comes after each seat, or the end. After the end comes the first.
     next: Vec<usize>,
     /// Who comes before each seat, or the end. Before the end comes the last.
     prev: Vec<usize>,

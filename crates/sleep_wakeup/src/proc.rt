@@ -65,6 +65,7 @@ impl<'k> Proc<'k> {
     }
 
     /// Its steps are those of a process in a run of the core, so the laws of the core hold of them.
+    /// It is there for the specification, and does nothing.
     pub fn is_in_a_run(&self)
         ensures { IsProcessOf self.now.words self.now.process }
     {

@@ -31,7 +31,7 @@ impl<'k> Proc<'k> {
 
     /// `sleep`, with a probe that is told 1 before the process posts itself, 2 before it tests, 3
     /// before it looks, for a mark or notes or for a mark alone, 4 before it withdraws, 5 before it
-    /// clears its flags, and 6 behind that.
+    /// clears its flags, and 6 after that.
     pub fn sleep_probed<R: Wait, P: Probe>(
         &mut self,
         rt: &R,

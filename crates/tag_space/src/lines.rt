@@ -56,7 +56,7 @@ impl Lines {
         }
     }
 
-    // The lines behind it move.
+    // The lines after it move.
     fn insert_upward(&mut self, at: usize, line: (Tag, u64))
         requires at { at ≤ self.old.count }
         requires room { self.old.first + self.old.count < length self.old.slots.items }
@@ -112,7 +112,7 @@ impl Lines {
         self.count -= 1;
     }
 
-    // The lines behind it move.
+    // The lines after it move.
     fn remove_downward(&mut self, at: usize)
         requires { at < self.old.count }
         ensures lines { lines_of self.new ≡ remove (lines_of self.old) at }

@@ -134,7 +134,7 @@ impl TagSpace {
     }
 
     /// Makes one member of two, each between two calls. It calls as the first, and has seen what
-    /// both have. Takes no memory and doesn't wait.
+    /// both have. Tests alone call it, to see who met whom. Takes no memory and doesn't wait.
     pub fn join_members(&self, first: Member, second: Member) -> Member
         requires first { IsMemberOf self.now first }
         requires second { IsMemberOf self.now second }

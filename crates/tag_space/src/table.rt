@@ -1,4 +1,4 @@
-//! How a space finds who waits with a tag: by binary search in a table sorted by tag.
+//! How a space finds the call that waits with a tag: by binary search in a table sorted by tag.
 ghost use Rattle.std.specs.Prelude.{◌≡◌, ◌<◌, ◌≤◌, ◌+◌, ◌*◌, ltb, if◌then◌else◌, length, IfOk};
 ghost use Rattle.std.specs.Prelude.{IfErr};
 ghost use Rattle.tag_space.specs.Table.{IsRising, IsAt, IsGapFor};

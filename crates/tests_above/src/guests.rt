@@ -177,7 +177,7 @@ fn are_halves(rt: &impl Abort, all: &[Exchange]) {
     }
 }
 
-// Nothing was refused, some notes came in time, and each exchange has its other half.
+// Nothing was refused, some notes ended a wait, and each exchange has its other half.
 fn meet_in_pairs(rt: &impl Abort, alloc: Global, done: &[Work]) {
     let mut all = Vec::new(alloc);
     let mut interrupted = 0u64;

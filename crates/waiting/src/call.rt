@@ -27,7 +27,7 @@ pub trait WaitingCall {
     /// What a call comes to that was not refused.
     type Out: Drop;
 
-    /// A seat that may call, one whose call waits, and one behind its call.
+    /// A seat that may call, one whose call waits, and one after its call.
     ghost ready: { Self → Self.Seat → Type 0 };
 
     ghost waits: { Self → Self.Seat → Type 0 };
@@ -50,7 +50,7 @@ pub trait WaitingCall {
         ensures asked { (promise self.now).begun (point seat.old proc.old) result
             (point seat.new proc.new) };
 
-    /// The request behind a sleep that ended well.
+    /// The request after a sleep that ended well.
     fn ask<R: Wait>(&self, rt: &R, proc: &mut Proc<'_>, seat: &mut Self::Seat) -> Reply<Self::Out>
         requires waits { waits self.now seat.old }
         requires row { knows self.now proc.old.words }
@@ -60,7 +60,7 @@ pub trait WaitingCall {
         ensures asked { (promise self.now).asked (point seat.old proc.old) result
             (point seat.new proc.new) };
 
-    /// The last request, behind a sleep that failed: what the call had come to by then, if it had.
+    /// The last request, after a sleep that failed: what the call had come to by then, if it had.
     fn leave<R: Wait>(&self, rt: &R, seat: &mut Self::Seat) -> Option<Self::Out>
         requires waits { waits self.now seat.old }
         ensures rests { rests self.now seat.new }

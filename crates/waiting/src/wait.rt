@@ -14,7 +14,7 @@ use sync_base::{Fault, Probe, RendezId};
 /// it was told last, and asks again. A sleep that notes ended, or that found another process on the
 /// Rendez, is the call's last: it leaves, and is refused with that fault. Where it had come to
 /// something by then it answers that, and the notes are pending again.
-/// The probe is told 2 before each sleep and 3 behind it. Takes no memory of its own.
+/// The probe is told 2 before each sleep and 3 after it. Takes no memory of its own.
 pub fn wait_for<R: Wait, C: WaitingCall, P: Probe>(
     rt: &R,
     proc: &mut Proc<'_>,
@@ -76,7 +76,7 @@ pub enum WaitEnd<T> {
     Stopped(Fault, Option<T>),
 }
 
-/// The sleeps of a call that was told to wait with this number, and its requests behind them. The
+/// The sleeps of a call that was told to wait with this number, and its requests after them. The
 /// notes that a failed sleep took are the caller's.
 pub fn sleep_for<R: Wait, C: WaitingCall, P: Probe>(
     rt: &R,

@@ -105,7 +105,7 @@ fn a_sleeper_that_parked_is_woken_by_a_release(rt: HostRuntime) {
     assert_eq!(rt; woken, slept);
 }
 
-// Two calls, and the mark behind them.
+// Two calls, and the mark after them.
 fn mark_behind_calls<R: Wait>(rt: &R, lock: &Locked<Counter>, seat: &mut LockSeat<Counter>) -> u64
     requires { IsSeatOf lock.now seat.old }
     ensures { IsSeatOf lock.now seat.new }

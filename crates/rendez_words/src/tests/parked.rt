@@ -162,7 +162,7 @@ struct Done {
     awake: AtomicU64,
 }
 
-// Waits until this is done. Says whether it was, in time.
+// Waits until this is done. Says whether it was, before the turns ran out.
 fn await_done(what: &AtomicU64) -> bool {
     for _ in 0..LATE {
         if what.load(SeqCst) == 1 {
