@@ -1,8 +1,6 @@
 pub mod AcquireKeeps
 pub mod DivideKeeps
 pub mod EnterKeeps
-pub mod HandKeeps
-pub mod HandOutLemmas
 pub mod MergeKeeps
 pub mod OpeningKeeps
 pub mod ReleaseKeeps

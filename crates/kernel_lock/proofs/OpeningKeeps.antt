@@ -1,5 +1,5 @@
 -- The rule holds when the lock is made: the history is empty, and the object is at home.
-use Rattle.std.proofs.Common.{◌≡◌, ℕ, zero, suc, ◌+◌, ◌<◌, List, [], ◌∷◌, refl, sym, ap, subst}
+use Rattle.std.proofs.Common.{◌≡◌, ℕ, zero, suc, ◌<◌, List, [], ◌∷◌, refl, sym, ap, subst}
 use Rattle.std.proofs.Common.{arith}
 use Rattle.std.proofs.Common.{Some}
 use mathlib.Core.Option.{some, some-injective, some-ne-none}
@@ -18,12 +18,12 @@ use Rattle.kernel_lock.specs.View.{account_of, first_view}
 module _ {Object State Call Reply : Type 0}
     (definition : Definition Object State Call Reply) where
   opening_keeps : (key : Key Object) (guarded : Guarded Object) →
-      guarded.object ≡ key.opening.value → guarded.next ≡ key.more + 1 → key.more < key.limit →
+      guarded.object ≡ key.opening.value → guarded.next ≡ 1 → 0 < key.limit →
       IsOneHistory definition key
       (table.opening (0 ∷ []) (Some guarded ∷ []) (first_view key))
   opening_keeps key guarded object_is next_is within =
       record {
-        ledger = opening_ledger key.more;
+        ledger = opening_ledger 0;
         holder = 0;
         one_word = refl;
         legal = tt;
@@ -34,12 +34,12 @@ module _ {Object State Call Reply : Type 0}
           object = ap definition.state object_is;
           next_is = next_is;
         };
-        seats = seats_open server account_of key.more (first_view key) refl;
+        seats = seats_open server account_of 0 (first_view key) refl;
         each_seat = each_seat;
       }
     where
       now : Standing Call Reply
-      now = record { ledger = opening_ledger key.more; holder = 0; word = 0 }
+      now = record { ledger = opening_ledger 0; holder = 0; word = 0 }
 
       each_seat : (seat : ℕ) (view : View Object Call Reply) →
           get_elem? (first_view key ∷ []) seat ≡ some view → FitsLock now seat view
@@ -51,7 +51,7 @@ module _ {Object State Call Reply : Type 0}
   -- a table with word 0, the object in its slot and the first seat alone fits the empty history
   pub opened_keeps : (key : Key Object) (guarded : Guarded Object) (slots : List (Slot Object)) →
       slots ≡ Some guarded ∷ [] → guarded.object ≡ key.opening.value →
-      guarded.next ≡ key.more + 1 → key.more < key.limit →
+      guarded.next ≡ 1 → 0 < key.limit →
       IsOneHistory definition key (table.opening (0 ∷ []) slots (first_view key))
   opened_keeps key guarded slots slots_are object_is next_is within =
       subst

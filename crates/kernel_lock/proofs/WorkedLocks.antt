@@ -14,7 +14,7 @@ use Rattle.kernel_lock.specs.declared.view.Stage.TheVariants.{Outside}
 use Rattle.kernel_lock.specs.declared.view.View.{View}
 use Rattle.kernel_lock.specs.Definition.{Definition, IsRight, server, meaning_of}
 use Rattle.kernel_lock.specs.View.{inside_view, outside_view, parent_view, child_view}
-use Rattle.kernel_lock.specs.View.{handing_view, handed_view, joined_view}
+use Rattle.kernel_lock.specs.View.{joined_view}
 
 abbrev names : ℕ → Option ℕ
 names zero = Some 0
@@ -93,19 +93,6 @@ parted all = let out : false ≡ true = all.gave.0 in cc
 
 joined : HasAllNumbers (joined_view (parent_view inside) (child_view inside)).account
 joined = record { first = refl; gave = (refl, tt) }
-
--- the first seat of a lock that gives three at once hands 1 over, and then 2
-abbrev whole : View ℕ ℕ ℕ
-whole = record { key = None; account = first_account 2; given = 3; stage = Outside }
-
-hands_the_first : (handed_view whole).account.number ≡ 1
-hands_the_first = refl
-
-hands_the_second : (handed_view (handing_view whole)).account.number ≡ 2
-hands_the_second = refl
-
-keeps_its_own : (handing_view (handing_view whole)).account.shares ≡ unused_share 0 ∷ []
-keeps_its_own = refl
 
 -- 2 is not the next number of a seat that has all numbers and lacks 1
 not_the_next : IsNext {Entry = Served ℕ ℕ} server (first_account 0) 2 → ⊥
@@ -202,7 +189,7 @@ a_split_is_forgotten serves = let given = serves.given in omega (arith, given)
 -- ---- two requests in one hold of the lock
 
 abbrev five : Key ℕ
-five = record { opening = record { marker = _; value = 5 }; limit = 1; more = 0 }
+five = record { opening = record { marker = _; value = 5 }; limit = 1 }
 
 abbrev adds_two_behind : List (Served ℕ ℕ) → List (Served ℕ ℕ)
 adds_two_behind past = served 0 2 10 ∷ past

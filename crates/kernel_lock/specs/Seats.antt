@@ -1,9 +1,9 @@
 -- What clauses see of a lock and of its seats.
-use Rattle.std.specs.Prelude.{◌≡◌, ℕ, ◌+◌, ⊤, List, [], ◌∷◌, IsTrue}
+use Rattle.std.specs.Prelude.{◌≡◌, ℕ, List, [], ◌∷◌, IsTrue}
 use Rattle.std.specs.Prelude.{Option, Some, None, IfSome, unwrap_or}
 use Rattle.histories.specs.declared.account.Account.{Account}
 use Rattle.histories.specs.declared.account.Share.{Share}
-use Rattle.histories.specs.Account.{HasAllNumbers, KnowsHistory, has_number, numbers_from}
+use Rattle.histories.specs.Account.{HasAllNumbers, KnowsHistory, has_number}
 use Rattle.kernel_lock.specs.declared.lock_seat.LockSeat.{LockSeat}
 use Rattle.kernel_lock.specs.declared.locked.Locked.{Locked}
 use Rattle.kernel_lock.specs.declared.view.Served.{Served}
@@ -64,15 +64,9 @@ module _ {Object Call Reply : Type 0} where
     pub number : seat.number ≡ (account_of seat).number
     pub own : HasNumber seat seat.number
 
-  -- the first seat of a new lock, which gave so many numbers from 1 on
-  abbrev pub IsFirstSeat : ℕ → LockSeat Object Call Reply → Type 0
-  IsFirstSeat more seat = IsNew 0 (numbers_from 1 more) (more + 1) (view_of seat)
-
-  -- the other seats of a new lock, numbered from this one on; so many seats were given
-  abbrev pub AreNextSeats : ℕ → ℕ → List (LockSeat Object Call Reply) → Type 0
-  AreNextSeats number given [] = ⊤
-  AreNextSeats number given (seat ∷ seats) =
-      IsNew number [] given (view_of seat) × AreNextSeats (number + 1) given seats
+  -- the first seat of a new lock, which has given no number
+  abbrev pub IsFirstSeat : LockSeat Object Call Reply → Type 0
+  IsFirstSeat seat = IsNew 0 [] 1 (view_of seat)
 
   -- a split gave the child and changed nothing else
   abbrev pub Splits :

@@ -13,7 +13,7 @@ use Rattle.kernel_lock.specs.declared.view.View.{View}
 use Rattle.kernel_lock.specs.Calls.{Serves}
 use Rattle.kernel_lock.specs.Definition.{Definition, IsRight, server, meaning_of, opening_state}
 use Rattle.kernel_lock.specs.View.{history_with, inside_view, outside_view, parent_view, child_view}
-use Rattle.kernel_lock.specs.View.{handing_view, handed_view, joined_view, settled_view}
+use Rattle.kernel_lock.specs.View.{joined_view, settled_view}
 
 -- what lies in the slot
 abbrev pub Slot : Type 0 → Type 0
@@ -39,11 +39,6 @@ module _ {Object Call Reply : Type 0} where
   pub record HasDivided (before after child : Me Object Call Reply) : Type 0 where
     pub parent_is : after ≡ (parent_view before.0, before.1)
     pub child_is : child ≡ (child_view before.0, [])
-
-  -- Hand: the seat handed the second of its numbers over to a new seat
-  pub record HasHanded (before after child : Me Object Call Reply) : Type 0 where
-    pub rest_is : after ≡ (handing_view before.0, before.1)
-    pub child_is : child ≡ (handed_view before.0, [])
 
   -- the seat has the slot alone, and the object lies in it
   pub record HasOnly (me : Me Object Call Reply) : Type 0 where

@@ -1,10 +1,8 @@
 -- What a seat knows, and how it comes to know it.
-use Rattle.std.specs.Prelude.{◌≡◌, ℕ, ◌+◌, ◌<◌, max, List, [], ◌∷◌, Option, Some, None, IsTrue}
+use Rattle.std.specs.Prelude.{ℕ, ◌+◌, max, List, [], ◌∷◌, Option, Some, None, IsTrue}
 use Rattle.histories.specs.declared.account.Account.{Account}
-use Rattle.histories.specs.declared.account.Share.{Share}
 use Rattle.histories.specs.Account.{first_account, spent_account, shorter_of, has_number}
 use Rattle.histories.specs.Changes.{entered_account, parent_account, child_account, joined_account}
-use Rattle.histories.specs.Changes.{keeping_account, handed_account}
 use Rattle.kernel_lock.specs.declared.view.Key.{Key}
 use Rattle.kernel_lock.specs.declared.view.Served.{Served}
 use Rattle.kernel_lock.specs.declared.view.Stage.TheVariants.{Outside, Inside, Joining}
@@ -17,19 +15,6 @@ abbrev pub history_with : {Call Reply : Type 0} → Option (Served Call Reply) �
 history_with None history = history
 history_with (Some served) history = served ∷ history
 
-module _ {Call Reply : Type 0} where
-  -- the second of a seat's numbers, and the others
-  abbrev pub second_share : List (Share (Served Call Reply)) → Share (Served Call Reply)
-  second_share [] = record { number = 0; mine = [] }
-  second_share (first ∷ []) = first
-  second_share (first ∷ second ∷ shares) = second
-
-  abbrev pub other_shares : List (Share (Served Call Reply)) →
-      List (Share (Served Call Reply))
-  other_shares [] = []
-  other_shares (first ∷ []) = []
-  other_shares (first ∷ second ∷ shares) = first ∷ shares
-
 module _ {Object Call Reply : Type 0} where
   abbrev pub account_of : View Object Call Reply → Account (Served Call Reply)
   account_of view = view.account
@@ -38,13 +23,13 @@ module _ {Object Call Reply : Type 0} where
   abbrev pub spent_view : View Object Call Reply
   spent_view = record { key = None; account = spent_account; given = 0; stage = Outside }
 
-  -- the first seat of a lock, which has all numbers that were given when the lock was made
+  -- the first seat of a lock: it has the number 0, and no other was given
   abbrev pub first_view : Key Object → View Object Call Reply
   first_view key =
       record {
         key = Some key;
-        account = first_account key.more;
-        given = key.more + 1;
+        account = first_account 0;
+        given = 1;
         stage = Outside;
       }
 
@@ -77,24 +62,6 @@ module _ {Object Call Reply : Type 0} where
   -- its own number is one of its numbers
   abbrev pub HasOwn : View Object Call Reply → Type 0
   HasOwn view = IsTrue (has_number view.account.shares view.account.number)
-
-  -- it has two numbers or more, of which the first is lower than the second
-  pub record HasSecond (view : View Object Call Reply) : Type 0 where
-    pub first : Share (Served Call Reply)
-    pub second : Share (Served Call Reply)
-    pub others : List (Share (Served Call Reply))
-    pub shares_are : view.account.shares ≡ first ∷ second ∷ others
-    pub lower : first.number < second.number
-
-  -- the seat handed the second of its numbers over
-  abbrev pub handing_view : View Object Call Reply → View Object Call Reply
-  handing_view view =
-      record view { account = keeping_account (other_shares view.account.shares) view.account }
-
-  -- the seat to which it was handed
-  abbrev pub handed_view : View Object Call Reply → View Object Call Reply
-  handed_view view =
-      record view { account = handed_account (second_share view.account.shares) view.account }
 
   -- two seats become one, and what the other had seen is still to be compared
   abbrev pub joined_view : View Object Call Reply → View Object Call Reply →

@@ -20,5 +20,5 @@ mod waiters;
 mod waiting;
 
 pub use lock_seat::LockSeat;
-pub use locked::{Locked, Opened, OpenedWhole};
+pub use locked::{Locked, Opened};
 pub use object::Object;

@@ -5,8 +5,6 @@ ghost use Rattle.kernel_lock.specs.Steps.{HasSettled};
 ghost use Rattle.kernel_lock.specs.View.{
   parent_view,
   child_view,
-  handing_view,
-  handed_view,
   joined_view,
   spent_view,
 };
@@ -66,14 +64,6 @@ impl<O, Q, R> Split<View<O, Q, R>> for Divide {
     ghost left = { parent_view };
 
     ghost right = { child_view };
-}
-
-pub struct Hand;
-
-impl<O, Q, R> Split<View<O, Q, R>> for Hand {
-    ghost left = { handing_view };
-
-    ghost right = { handed_view };
 }
 
 pub struct Merge;

@@ -5,13 +5,13 @@ ghost use Rattle.std.specs.Bool.{OnTrue, OnFalse};
 ghost use Rattle.kernel_lock.specs.declared.view.Stage.TheVariants.{Inside};
 ghost use Rattle.kernel_lock.specs.Seats.{limit_of};
 ghost use Rattle.kernel_lock.specs.Steppers.{IsStepperOf, IsOutside, IsSameStepper};
-ghost use Rattle.kernel_lock.specs.Steps.{TakesLock, HasDivided, HasHanded, IsDue, HasReleased};
+ghost use Rattle.kernel_lock.specs.Steps.{TakesLock, HasDivided, IsDue, HasReleased};
 ghost use Rattle.kernel_lock.specs.Steps.{HasMerged, HasOnly, HasEntered};
-ghost use Rattle.kernel_lock.specs.View.{HasOwn, HasSecond};
+ghost use Rattle.kernel_lock.specs.View.{HasOwn};
 
 use crate::locked::Locked;
 use crate::object::Object;
-use crate::plays::{Acquire, Divide, Enter, Hand, Made, Merge, Release, Settle, Watch};
+use crate::plays::{Acquire, Divide, Enter, Made, Merge, Release, Settle, Watch};
 use crate::rule::Stepper;
 use crate::view::Guarded;
 use crate::waiters::GivenBack;
@@ -144,22 +144,6 @@ impl<O: Object> Locked<O> {
         ensures table { result.table_id ≡ stepper.old.table_id }
     {
         self.table.shared.split_seat::<Divide>(stepper)
-    }
-
-    /// Gives a seat with the second of this one's numbers.
-    // Step Hand: split of a seat that has several numbers, a load of the word.
-    // Seat: Outside, with one number fewer. The new seat is Outside, with that number.
-    // Keeps the rule: the number has one seat before and after, and what it gave,
-    // a lower number of the first seat tells.
-    pub(crate) fn hand(&self, stepper: &mut Stepper<O>) -> Stepper<O>
-        requires stepper { IsStepperOf self.now stepper.old }
-        requires outside { IsOutside stepper.old }
-        requires second { HasSecond stepper.old.me.0 }
-        ensures stepper { IsSameStepper stepper.old stepper.new }
-        ensures handed { HasHanded stepper.old.me stepper.new.me result.me }
-        ensures table { result.table_id ≡ stepper.old.table_id }
-    {
-        self.table.shared.split_seat::<Hand>(stepper)
     }
 
     /// Makes one seat of two.

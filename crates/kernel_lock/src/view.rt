@@ -27,8 +27,6 @@ pub struct Key<O> {
     pub opening: Snapshot<O>,
     /// How many seats the lock may give.
     pub limit: u64,
-    /// How many of them, beside the first, are given when it is made.
-    pub more: u64,
 }
 
 /// What a seat knows.

@@ -108,10 +108,10 @@ pub record IsNewSema (roster : Unused) (value procs : ℕ) (sema : Sema) (seat :
   pub first_is : sema.first ≡ roster.rendez
   pub row : HasRow sema roster.words
   pub seat_is : IsSemaSeatOf sema seat
-  pub first_seat : IsFirstSeat 0 seat.seat
+  pub first_seat : IsFirstSeat seat.seat
 
 -- new timers for so many processes, none of which is set, and their first seat
 pub record AreNewTimers (procs : ℕ) (timers : Timers) (seat : TimerSeat) : Type 0 where
   pub procs_are : timers.procs ≡ procs
   pub seat_is : IsTimerSeatOf timers seat
-  pub first_seat : IsFirstSeat 0 seat.seat
+  pub first_seat : IsFirstSeat seat.seat

@@ -20,7 +20,7 @@ pub record IsNewSpace (before : Unused) (procs : ℕ) (space : TagSpace) : Type 
 -- its first member, which has given no other; nobody has called
 pub record IsFirstMember (space : TagSpace) (member : Member) : Type 0 where
   pub member_of : IsMemberOf space member
-  pub first : IsFirstSeat 0 member.seat
+  pub first : IsFirstSeat member.seat
 
 -- A further member: this one gave it and nothing else, its number is above this one's, and it has
 -- made no call.

@@ -2,7 +2,7 @@
 -- them.
 use Rattle.std.proofs.Common.{refl, sym, ◌∙◌}
 use Rattle.kernel_lock.proofs.OpeningKeeps.{opened_keeps}
-use Rattle.kernel_lock.proofs.locked.Locked.open.Goals as goal
+use Rattle.kernel_lock.proofs.locked.Locked.new.Goals as goal
 
 pub new-requires : goal.new-requires
 new-requires g c =
