@@ -2,7 +2,7 @@
 ghost use Rattle.std.specs.Prelude.{ℕ, ◌+◌, ◌%◌, ◌^◌, ◌<◌, None, All};
 ghost use Rattle.kernel_lock.specs.Seats.{IsSeatOf};
 
-use kernel_lock::{LockSeat, Locked, Object, Opened, OpenedWhole};
+use kernel_lock::{LockSeat, Locked, Object, Opened};
 use std::alloc::{AllocFailed, Global};
 use std::process::Abort;
 use std::sync::Wait;
@@ -55,20 +55,28 @@ pub fn lock_of<O: Object>(rt: &impl Abort, alloc: Global, object: O, seats: u64)
     }
 }
 
-/// The same, with all its seats.
-#[tactic(auto, using(crate::proofs::SeatLemmas::each_all))]
-pub fn whole_of<O: Object>(rt: &impl Abort, alloc: Global, object: O, seats: u64) -> OpenedWhole<O>
-    requires { 0 < seats }
-    ensures seat { IsSeatOf result.lock result.seat }
-    ensures others { All (IsSeatOf result.lock) result.others.items }
+/// So many further seats of a lock.
+pub fn seats_of<O: Object, R: Wait + Abort>(
+    rt: &R,
+    alloc: Global,
+    lock: &Locked<O>,
+    seat: &mut LockSeat<O>,
+    count: u64,
+) -> Vec<LockSeat<O>>
+    requires { IsSeatOf lock.now seat.old }
+    ensures seat { IsSeatOf lock.now seat.new }
+    ensures others { All (IsSeatOf lock.now) result.items }
 {
-    match Locked::new_whole(alloc, object, seats) {
-        Ok(opened) => opened,
-        Err(AllocFailed { value: object }) => match Locked::new_whole(alloc, object, seats) {
-            Ok(opened) => opened,
-            Err(_) => panic!(rt; "no memory where none is refused"),
-        },
+    let mut seats = Vec::new(alloc);
+    for _ in 0..count {
+        let Ok(other) = lock.split(rt, seat) else {
+            panic!(rt; "no seat is left")
+        };
+        if seats.push(other).is_err() {
+            panic!(rt; "no memory for a seat");
+        }
     }
+    seats
 }
 
 // Whether the lock has no seat left to give.
@@ -92,22 +100,6 @@ fn a_lock_gives_as_many_seats_as_it_may(rt: HostRuntime) {
     let both = lock.join(other, seat);
     assert_eq!(rt; both.number(), 1);
     assert_eq!(rt; lock.close(&rt, both).sum, 6);
-}
-
-#[test]
-fn a_lock_gives_all_its_seats_at_once(rt: HostRuntime) {
-    let OpenedWhole {
-        lock,
-        mut seat,
-        others,
-    } = whole_of(&rt, rt.alloc(), Counter { sum: 5 }, 3);
-    assert_eq!(rt; (seat.number(), others.len()), (0, 2));
-    for (at, other) in others.iter().enumerate() {
-        assert_eq!(rt; other.number(), at as u64 + 1);
-    }
-    assert!(rt; is_full(&rt, &lock, &mut seat));
-    assert_eq!(rt; lock.apply(&rt, &mut seat, 2), 7);
-    assert_eq!(rt; lock.close(&rt, seat).sum, 7);
 }
 
 // ---- eight threads
@@ -173,7 +165,8 @@ fn zeros(rt: &impl Abort, alloc: Global, count: u64) -> Vec<AtomicU64> {
 #[test]
 fn calls_of_eight_threads_stand_in_one_history(rt: HostRuntime) {
     let counts = zeros(&rt, rt.alloc(), 8 * CALLS);
-    let OpenedWhole { lock, seat, others } = whole_of(&rt, rt.alloc(), Counter { sum: 0 }, 9);
+    let Opened { lock, mut seat } = lock_of(&rt, rt.alloc(), Counter { sum: 0 }, 9);
+    let others = seats_of(&rt, rt.alloc(), &lock, &mut seat, 8);
     assert!(rt; add_at_once(&rt, &lock, &counts, others));
     assert_eq!(rt; lock.close(&rt, seat).sum, 8 * CALLS);
     assert!(rt; counts.iter().all(|count| count.load(SeqCst) == 1));

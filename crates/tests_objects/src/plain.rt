@@ -1,15 +1,7 @@
 //! Printed texts, and what a plain pipe that was refused memory holds.
 use std::alloc::Global;
 use std::process::Abort;
-use sync_base::{Fault, Flags, Mode, Note, NoteSet, PlainPipe, ReadAnswer, WriteAnswer};
-
-const NOTES: [(Note, &str); 5] = [
-    (Note::Interrupt, "interrupt"),
-    (Note::Hangup, "hangup"),
-    (Note::Alarm, "alarm"),
-    (Note::ClosedPipe, "sys: write on closed pipe"),
-    (Note::Expired, "expired"),
-];
+use sync_base::{Fault, Mode, NoteSet, PlainPipe, ReadAnswer, WriteAnswer};
 
 fn text_is(rt: &impl Abort, alloc: Global, fault: Fault, text: &str) -> bool {
     match fault.to_string(alloc) {
@@ -42,21 +34,6 @@ fn faults_have_their_texts_and_numbers(rt: HostRuntime) {
         assert!(rt; text_is(&rt, rt.alloc(), *fault, text), "{text}");
         assert_eq!(rt; fault.number(), at as u64 + 1, "{text}");
     }
-}
-
-#[test]
-fn notes_and_flags_answer_as_sets(rt: HostRuntime) {
-    let mut all = NoteSet::empty();
-    for (note, text) in NOTES {
-        assert_eq!(rt; note.text(), text);
-        assert!(rt; !all.has(note), "{text}");
-        all = all.join(NoteSet::of(note));
-        assert!(rt; all.has(note), "{text}");
-    }
-    let fewer = all.without(NoteSet::of(Note::Alarm));
-    assert!(rt; fewer.has(Note::Hangup) && !fewer.has(Note::Alarm));
-    let both = Flags::RFPROC.join(Flags::RFREND).join(Flags::NONE);
-    assert_eq!(rt; (both.bits(), both.join(Flags::RFNOTEG).bits()), (3, 7));
 }
 
 fn made(alloc: Global, mode: Mode, limit: u64) -> Result<PlainPipe, Fault> {

@@ -3,8 +3,8 @@
 ghost use Rattle.std.specs.Prelude.{ℕ, ◌+◌, ◌%◌, ◌^◌, None, All};
 ghost use Rattle.kernel_lock.specs.Seats.{IsSeatOf};
 
-use crate::locks::whole_of;
-use kernel_lock::{LockSeat, Locked, Object, OpenedWhole};
+use crate::locks::{lock_of, seats_of};
+use kernel_lock::{LockSeat, Locked, Object, Opened};
 use std::alloc::Global;
 use std::hint::spin_loop;
 use std::process::Abort;
@@ -172,7 +172,8 @@ fn room_of(rt: &impl Abort, door: &Arc<Door>) -> Room {
 fn round<R: Threads + Wait + Abort + Sync>(rt: &R, alloc: Global, parts: &[Part]) -> u64 {
     let door = door_of(rt, alloc);
     let room = room_of(rt, &door);
-    let OpenedWhole { lock, seat, others } = whole_of(rt, alloc, room, 5);
+    let Opened { lock, mut seat } = lock_of(rt, alloc, room, 5);
+    let others = seats_of(rt, alloc, &lock, &mut seat, 4);
     play_at_once(rt, &lock, &door, others, parts);
     lock.close(rt, seat).calls
 }

@@ -2,8 +2,7 @@
 ghost use Rattle.sleep_core.specs.Limits.{IsProcCount};
 
 use semaphore::TimerCall::{Add, Cancel, Expire};
-use semaphore::TimerReply::{Absent, Added, Busy, Ended, Expired, NoneDue, Removed};
-use semaphore::timer_object::deadline;
+use semaphore::TimerReply::{Absent, Added, Ended, Expired, NoneDue};
 use semaphore::{TimerCall, TimerObject, TimerReply};
 use std::alloc::Global;
 use std::process::Abort;
@@ -29,18 +28,16 @@ fn timers_answer(rt: &impl Abort, timers: &mut TimerObject, rows: &[(TimerCall, 
     }
 }
 
-fn add(seat: u64, pid: u64, deadline: u64) -> TimerCall {
-    Add {
-        seat,
-        pid: Pid(pid),
-        deadline,
-    }
-}
+const TIMER: TimerCall = Add {
+    seat: 0,
+    pid: Pid(4),
+    deadline: 150,
+};
 
 #[test]
 fn a_timer_expires_once(rt: HostRuntime) {
     let rows = [
-        (add(0, 4, 150), Added),
+        (TIMER, Added),
         (Expire { now: 149 }, NoneDue),
         (Expire { now: 150 }, Ended(Pid(4))),
         (Expire { now: 150 }, NoneDue),
@@ -49,44 +46,4 @@ fn a_timer_expires_once(rt: HostRuntime) {
     ];
     let mut timers = timers_of(&rt, rt.alloc(), 2);
     timers_answer(&rt, &mut timers, &rows);
-}
-
-#[test]
-fn timers_expire_by_deadline_and_then_by_seat(rt: HostRuntime) {
-    let rows = [
-        (add(4, 14, 7), Added),
-        (add(3, 13, 9), Added),
-        (add(1, 11, 7), Added),
-        (add(0, 10, 8), Added),
-        (add(1, 12, 1), Busy),
-        (add(5, 12, 1), Busy),
-        (Cancel { seat: 5 }, Busy),
-        (Cancel { seat: 0 }, Removed),
-        (Expire { now: u64::MAX }, Ended(Pid(11))),
-        (add(1, 12, 1), Busy),
-        (Expire { now: 6 }, NoneDue),
-        (Expire { now: u64::MAX }, Ended(Pid(14))),
-        (Cancel { seat: 1 }, Expired),
-        (add(1, 12, 9), Added),
-        (Expire { now: 9 }, Ended(Pid(12))),
-        (Expire { now: 9 }, Ended(Pid(13))),
-        (Expire { now: 9 }, NoneDue),
-        (Cancel { seat: 2 }, Absent),
-    ];
-    let mut timers = timers_of(&rt, rt.alloc(), 5);
-    timers_answer(&rt, &mut timers, &rows);
-}
-
-const DEADLINES: [(u64, u32, u64); 4] = [
-    (100, 50, 150),
-    (u64::MAX - 1, 1, u64::MAX),
-    (u64::MAX - 1, 50, u64::MAX),
-    (0, u32::MAX, 4_294_967_295),
-];
-
-#[test]
-fn a_deadline_never_wraps(rt: HostRuntime) {
-    for (now, ms, moment) in DEADLINES {
-        assert_eq!(rt; deadline(now, ms), moment);
-    }
 }

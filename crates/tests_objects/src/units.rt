@@ -7,9 +7,7 @@ ghost use Rattle.semaphore.specs.declared.limits.TheConstants.{LAST_GRANT, MAX_V
 
 use kernel_lock::{Locked, Opened};
 use semaphore::SemaCall::{Acquire, AcquireNow, Collect, Leave, NextWake, Release};
-use semaphore::SemaReply::{
-    Acquired, BadArg, Busy, Gone, Granted, NoWake, NotNow, Value, Wait as Waits, Wake, Worn,
-};
+use semaphore::SemaReply::{Acquired, Granted, NoWake, NotNow, Value, Wait as Waits, Wake, Worn};
 use semaphore::{SemaCall, SemaObject, SemaReply};
 use std::alloc::Global;
 use std::process::Abort;
@@ -37,33 +35,6 @@ fn sema_answers(rt: &impl Abort, sema: &mut SemaObject, rows: &[(SemaCall, SemaR
     }
 }
 
-const UNITS: [(SemaCall, SemaReply); 13] = [
-    (AcquireNow { seat: 0 }, NotNow),
-    (Release { count: 3 }, Value(3)),
-    (Acquire { seat: 0 }, Acquired),
-    (Acquire { seat: 0 }, Acquired),
-    (Acquire { seat: 0 }, Acquired),
-    (AcquireNow { seat: 0 }, NotNow),
-    (
-        Release {
-            count: 2_147_483_647,
-        },
-        Value(2_147_483_647),
-    ),
-    (Release { count: 1 }, BadArg),
-    (Acquire { seat: 0 }, Acquired),
-    (Release { count: 1 }, Value(2_147_483_647)),
-    (Release { count: 0 }, Value(2_147_483_647)),
-    (Release { count: u32::MAX }, BadArg),
-    (NextWake, NoWake),
-];
-
-#[test]
-fn units_are_taken_and_released(rt: HostRuntime) {
-    let mut sema = sema_of(&rt, rt.alloc(), 0, 1, 0);
-    sema_answers(&rt, &mut sema, &UNITS);
-}
-
 const ARRIVALS: [(SemaCall, SemaReply); 10] = [
     (Acquire { seat: 0 }, Waits(0)),
     (Acquire { seat: 1 }, Waits(0)),
@@ -81,37 +52,6 @@ const ARRIVALS: [(SemaCall, SemaReply); 10] = [
 fn a_release_grants_units_in_the_order_of_arrival(rt: HostRuntime) {
     let mut sema = sema_of(&rt, rt.alloc(), 0, 3, 0);
     sema_answers(&rt, &mut sema, &ARRIVALS);
-}
-
-const LEAVERS: [(SemaCall, SemaReply); 22] = [
-    (Acquire { seat: 2 }, Waits(0)),
-    (Acquire { seat: 0 }, Waits(0)),
-    (Acquire { seat: 3 }, Waits(0)),
-    (Acquire { seat: 2 }, Busy),
-    (AcquireNow { seat: 2 }, Busy),
-    (Leave { seat: 0 }, Gone),
-    (Leave { seat: 0 }, Gone),
-    (Collect { seat: 3 }, Waits(0)),
-    (Acquire { seat: 0 }, Waits(0)),
-    (Release { count: 2 }, Value(2)),
-    (Collect { seat: 0 }, Waits(0)),
-    (Leave { seat: 2 }, Granted),
-    (Acquire { seat: 2 }, Waits(1)),
-    (Release { count: 2 }, Value(2)),
-    (NextWake, Wake { seat: 2, grants: 2 }),
-    (NextWake, Wake { seat: 3, grants: 1 }),
-    (NextWake, Wake { seat: 0, grants: 1 }),
-    (NextWake, NoWake),
-    (Acquire { seat: 4 }, Busy),
-    (AcquireNow { seat: 4 }, Busy),
-    (Collect { seat: 4 }, Busy),
-    (Leave { seat: u64::MAX }, Busy),
-];
-
-#[test]
-fn who_leaves_the_line_is_passed_over(rt: HostRuntime) {
-    let mut sema = sema_of(&rt, rt.alloc(), 0, 4, 0);
-    sema_answers(&rt, &mut sema, &LEAVERS);
 }
 
 const WORN: [(SemaCall, SemaReply); 4] = [

@@ -76,21 +76,3 @@ fn a_sleeper_that_a_low_wakeup_took(rt: HostRuntime) {
     assert!(rt; runs(rt.alloc(), &mut world, &events));
     assert!(rt; !world.is_lost());
 }
-
-fn fault_of(alloc: Global, procs: u64, rendez: u64) -> Option<Fault> {
-    World::new(alloc, procs, rendez).err()
-}
-
-#[test]
-fn sizes_of_a_world_are_refused_in_order(rt: HostRuntime) {
-    let rows = [
-        (0, 1, Some(Fault::NoProc)),
-        (1_025, 0, Some(Fault::NoProc)),
-        (1, 0, Some(Fault::NoRendez)),
-        (1_024, 8_193, Some(Fault::NoRendez)),
-        (1_024, 8_192, None),
-    ];
-    for (procs, rendez, fault) in rows {
-        assert_eq!(rt; fault_of(rt.alloc(), procs, rendez), fault);
-    }
-}
