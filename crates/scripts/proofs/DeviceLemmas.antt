@@ -1,8 +1,9 @@
 -- What several reads took and several writes gave, one behind the other.
-use Rattle.std.proofs.Common.{◌≡◌, ◌⊎◌, inl, inr, IfSome, nat_lt, ℕ, suc, ◌+◌, ◌-◌, ◌≤◌, List, []}
+use Rattle.std.proofs.Common.{◌≡◌, ◌⊎◌, inl, inr, IfSome, nat_lt, ℕ, zero, suc, ◌+◌, ◌-◌, ◌≤◌}
+use Rattle.std.proofs.Common.{List, []}
 use Rattle.std.proofs.Common.{◌∷◌, ◌++◌, length, take, drop, Option, Some, None, refl, sym, ◌∙◌, ap}
 use Rattle.std.proofs.Common.{subst, append_assoc, arith, length-append, length-take, Result, Ok}
-use Rattle.std.proofs.Common.{Err, OnErr, unwrap_or}
+use Rattle.std.proofs.Common.{Err, OnErr}
 use Rattle.std.proofs.lemmas.List.{append-nil}
 use Rattle.std.specs.Io.KnownBytes.{Keeps, Appends, Consumes}
 use Rattle.std.proofs.Math.Seq.{take-append_seam}
@@ -11,8 +12,8 @@ use Rattle.std.proofs.lemmas.List.{take-append-le}
 use Rattle.std.proofs.lemmas.Bool.Decides.{nat_tests}
 use Rattle.sync_base.specs.declared.fault.Fault.{Fault}
 use Rattle.scripts.specs.declared.script.TheConstants.{MAX_SCRIPT}
-use Rattle.scripts.specs.Script.{Language, Told, growth, told}
-use Rattle.scripts.specs.Device.{AppendsFront, GivesSome, GivesBehind, TakesUpTo, WritesTold, Tells}
+use Rattle.scripts.specs.Script.{Language, Told, told}
+use Rattle.scripts.specs.Device.{AppendsFront, TakesUpTo, WritesTold, Tells}
 use Rattle.scripts.specs.Device.{IsOutside}
 
 -- what two reads took, the second behind the first
@@ -119,9 +120,9 @@ on_err (Ok x) P p = tt
 on_err (Err e) P p = p
 
 -- room was left for what was read
-pub fits_more : (items room : List ℕ) (len count free most : ℕ) → len ≡ length items → len ≤ most
-    → free ≤ most - len → count ≤ free → length (items ++ take count room) ≤ most
-fits_more items room len count free most is within left read =
+pub fits_more : (items room : List ℕ) (count most : ℕ) → length items ≤ most
+    → count ≤ most - length items → length (items ++ take count room) ≤ most
+fits_more items room count most within left =
     omega (arith, length-append items (take count room), length-take count room)
 
 -- where nothing was written
@@ -189,29 +190,14 @@ told_of_none language None held r fault is outside = tt
 told_of_none language (Some all) held r fault is outside =
     told_unwritten (told language all) held r fault is outside
 
--- what a read put into the room behind other bytes, where the rest of the room is cut off
-pub gives_behind : (most : ℕ) (old new : Option (List ℕ)) (count : Option ℕ) (start : ℕ)
-    (before room after : List ℕ)
-    → IfSome count (λ n. GivesSome most old new n room) → length room ≡ most
-    → start ≡ length before → after ≡ take (start + unwrap_or count 0) (before ++ room)
-    → IfSome count (λ n. GivesBehind most old new n (growth before after))
-gives_behind most old new None start before room after gives len is cut = tt
-gives_behind most old new (Some n) start before room after gives len is cut =
-    record {
-      bytes = take n room;
-      taken = gives.taken;
-      behind = cut ∙ (ap (λ k. take (k + n) (before ++ room)) is
-          ∙ take_past before room n);
-      counted = omega (arith, length-take n room, gives.within, len);
-      within = gives.within;
-      end = gives.end;
-    }
-  where
-    take_past : (a b : List ℕ) (n : ℕ) → take (length a + n) (a ++ b) ≡ a ++ take n b
-    take_past [] b n = let none : 0 + n ≡ n = omega arith in rw none refl
-    take_past (x ∷ a) b n =
-        let one : length (x ∷ a) + n ≡ suc (length a + n) = omega arith in
-        rw one (ap (λ t. x ∷ t) (take_past a b n))
+-- what a read put into the front of its room
+pub front_of_room : (count len : ℕ) (new kept more : List ℕ) → count ≤ len → count ≤ length new
+    → take count (take len ((new ++ kept) ++ more)) ≡ take count new
+front_of_room zero len new kept more within read = refl
+front_of_room (suc n) zero new kept more within read = absurd (omega arith)
+front_of_room (suc n) (suc len) [] kept more within read = absurd (omega arith)
+front_of_room (suc n) (suc len) (b ∷ new) kept more within read =
+    ap (λ (bs : List ℕ). b ∷ bs) (front_of_room n len new kept more (omega arith) (omega arith))
 
 -- what is told where that failed
 pub tells_err : (said : Told) (old now : Option (List ℕ)) (r : Result (Option ℕ) Fault)

@@ -11,7 +11,7 @@ use Rattle.scripts.specs.declared.lines.TheConstants.{LINE_FEED, SPACE}
 use Rattle.scripts.specs.Schedule.{verb_of, verb_word, event_of, event_with, size_of, kinds_of}
 use Rattle.scripts.specs.Schedule.{TakesPid, operands_of, note_of}
 use Rattle.scripts.proofs.LineLemmas.{parts_of-some}
-use Rattle.scripts.proofs.OnePassLemmas.{IsWord, line_behind_word, no_line_of, none_behind_word}
+use Rattle.scripts.proofs.OnePassLemmas.{IsWord, asks_behind_word, none_asked_behind}
 use Rattle.scripts.proofs.OnePassLemmas.{none_before_line_feed, read_as}
 use Rattle.scripts.proofs.PartLemmas.{TailHas, parted}
 
@@ -61,28 +61,24 @@ verb_is_word verb.Drain = record { no_space = refl; no_line_feed = refl }
 verb_is_word verb.Check = record { no_space = refl; no_line_feed = refl }
 
 -- a verb before the words that it asks for
-pub event_asks : (text : List ℕ) (v : Verb) (mid : List ℕ) (rest : List ℕ) (event : Event)
-    → text ≡ verb_word v ++ SPACE ∷ mid → LineAsks (event_with v) mid event rest
-    → LineAsks event_of text event rest
-event_asks text v mid rest event split line =
-    record {
-      words = verb_word v ∷ line.words;
-      begins = subst
-          (λ (t : List ℕ). BeginsWithLine t (verb_word v ∷ line.words) rest) (sym split)
-          (line_behind_word (verb_word v) mid line.words rest (verb_is_word v) line.begins);
-      asks = ap
-          (λ (o : Option Verb). option_and_then (λ v. event_with v line.words) o) (verb_is_read v)
-          ∙ line.asks;
-    }
+pub event_asks : {A : Type 0} (inner : List (List ℕ) → Option A) (text : List ℕ) (v : Verb)
+    (mid rest : List ℕ) (a : A) (event : Event) → text ≡ verb_word v ++ SPACE ∷ mid
+    → ((words : List (List ℕ)) → inner words ≡ Some a → event_with v words ≡ Some event)
+    → LineAsks inner mid a rest → LineAsks event_of text event rest
+event_asks inner text v mid rest a event split each =
+    asks_behind_word inner event_of text (verb_word v) mid rest a event split (verb_is_word v)
+    (λ words asks. ap (λ (o : Option Verb). option_and_then (λ v. event_with v words) o)
+    (verb_is_read v) ∙ each words asks)
 
 -- where those ask for nothing the line is no event
-pub event_asks_none : (text : List ℕ) (v : Verb) (mid : List ℕ)
-    → text ≡ verb_word v ++ SPACE ∷ mid → NoLineAsks (event_with v) mid → NoLineAsks event_of text
-event_asks_none text v mid split none =
-    none_behind_word event_of text (verb_word v) mid split (verb_is_word v)
-    (no_line_of (event_with v) (λ words. event_of (verb_word v ∷ words)) mid
-    (λ words is. ap (λ (o : Option Verb). option_and_then (λ v. event_with v words) o)
-    (verb_is_read v) ∙ is) none)
+pub event_asks_none : {A : Type 0} (inner : List (List ℕ) → Option A) (text : List ℕ) (v : Verb)
+    (mid : List ℕ) → text ≡ verb_word v ++ SPACE ∷ mid
+    → ((words : List (List ℕ)) → inner words ≡ None → event_with v words ≡ None)
+    → NoLineAsks inner mid → NoLineAsks event_of text
+event_asks_none inner text v mid split each =
+    none_asked_behind inner event_of text (verb_word v) mid split (verb_is_word v)
+    (λ words none. ap (λ (o : Option Verb). option_and_then (λ v. event_with v words) o)
+    (verb_is_read v) ∙ each words none)
 
 -- a word that is read as a verb is the verb's
 verb_is : (word : List ℕ) (v : Verb) → verb_of word ≡ Some v → word ≡ verb_word v

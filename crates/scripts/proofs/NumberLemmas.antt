@@ -40,6 +40,19 @@ one_more_fits n count below few =
     pow-le-pow_right {n = 10} (omega arith) {i = count} {j = 18} (omega arith) in
     omega (arith, most)
 
+-- one digit before this byte is a number
+pub one_digit : (end : ℕ) (text : List ℕ) (digit : ℕ) (rest : List ℕ) → 0 < length text
+    → is_ascii_digit (get_or text 0 0) ≡ true → digit ≡ get_or text 0 0 - 48
+    → text ≡ take 1 text ++ end ∷ rest → BeginsWithNumber end text digit rest
+one_digit end text digit rest some is_digit is split =
+    record {
+      word = take 1 text;
+      split = split;
+      spells = ap number_of (take-suc text 0 0 some)
+          ∙ sym (value_of-small (get_or text 0 0 ∷ []) digit (ap (λ v. v && true) is_digit)
+          (omega (arith, is)) (grind (arith, nat_tests)));
+    }
+
 -- what spells a number is digits
 value_digits : (digits : List ℕ) (n : ℕ) → value_of digits ≡ Some n
     → list_all is_ascii_digit digits ≡ true
@@ -171,6 +184,15 @@ spells_none end text number count other all none n rest begins =
     let word = word_is_leading end text number count n rest other all begins in
     let both : Some n ≡ None = sym begins.spells ∙ (ap number_of (sym word) ∙ none) in
     cc
+
+-- nor where the first byte is no digit
+pub no_digit : (end : ℕ) (text : List ℕ) → is_ascii_digit end ≡ false
+    → is_ascii_digit (get_or text 0 0) ≡ false → BeginsWithNoNumber end text
+no_digit end text other first =
+    spells_none end text 0 0 other (record {
+      leading = record { within = omega arith; digits = refl; value = refl };
+      end = first;
+    }) refl
 
 -- as many bytes as a text has are the text
 take_whole : (bs : List ℕ) → take (length bs) bs ≡ bs

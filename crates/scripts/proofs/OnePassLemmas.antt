@@ -91,25 +91,25 @@ first_number_before list n count rest spells split =
     }
 
 -- a word that a line feed follows is a line
-pub line_of_word : (word rest : List ℕ) → IsWord word
-    → BeginsWithLine (word ++ LINE_FEED ∷ rest) (word ∷ []) rest
-line_of_word word rest is =
+pub line_of_word : (text word rest : List ℕ) → text ≡ word ++ LINE_FEED ∷ rest → IsWord word
+    → BeginsWithLine text (word ∷ []) rest
+line_of_word text word rest split is =
     record {
       line = word;
-      split = refl;
+      split = split;
       plain = is.no_line_feed;
       words_are = parts_of-plain is_space word is.no_space;
     }
 
 -- a word and a space before a line make a line
-pub line_behind_word : (word text : List ℕ) (words : List (List ℕ)) (rest : List ℕ) → IsWord word
-    → BeginsWithLine text words rest
-    → BeginsWithLine (word ++ SPACE ∷ text) (word ∷ words) rest
-line_behind_word word text words rest is begins =
+pub line_behind_word : (text word mid : List ℕ) (words : List (List ℕ)) (rest : List ℕ)
+    → text ≡ word ++ SPACE ∷ mid → IsWord word → BeginsWithLine mid words rest
+    → BeginsWithLine text (word ∷ words) rest
+line_behind_word text word mid words rest split is begins =
     record {
       line = word ++ SPACE ∷ begins.line;
-      split = ap (λ (t : List ℕ). word ++ SPACE ∷ t) begins.split
-          ∙ sym (append_assoc word (SPACE ∷ begins.line) (LINE_FEED ∷ rest));
+      split = split ∙ (ap (λ (t : List ℕ). word ++ SPACE ∷ t) begins.split
+          ∙ sym (append_assoc word (SPACE ∷ begins.line) (LINE_FEED ∷ rest)));
       plain = list_all-append (λ b. not (is_line_feed b)) word (SPACE ∷ begins.line)
           ∙ (ap (λ v. v && list_all (λ b. not (is_line_feed b)) begins.line) is.no_line_feed
           ∙ begins.plain);
@@ -143,16 +143,15 @@ pub ends_line : (text : List ℕ) (n : ℕ) (rest : List ℕ)
     (begins : BeginsWithNumber LINE_FEED text n rest)
     → BeginsWithLine text (begins.word ∷ []) rest
 ends_line text n rest begins =
-    subst (λ (t : List ℕ). BeginsWithLine t (begins.word ∷ []) rest) (sym begins.split)
-    (line_of_word begins.word rest (number_is_word begins.word n begins.spells))
+    line_of_word text begins.word rest begins.split (number_is_word begins.word n begins.spells)
 
 -- a number before others
 pub behind_number : (text : List ℕ) (n : ℕ) (mid : List ℕ) (words : List (List ℕ))
     (rest : List ℕ) (begins : BeginsWithNumber SPACE text n mid) → BeginsWithLine mid words rest
     → BeginsWithLine text (begins.word ∷ words) rest
 behind_number text n mid words rest begins line =
-    subst (λ (t : List ℕ). BeginsWithLine t (begins.word ∷ words) rest) (sym begins.split)
-    (line_behind_word begins.word mid words rest (number_is_word begins.word n begins.spells) line)
+    line_behind_word text begins.word mid words rest begins.split
+    (number_is_word begins.word n begins.spells) line
 
 -- no line feed stands in a line
 plain_line : (line : List ℕ) → IsPlain line → list_all (λ b. not (is_line_feed b)) line ≡ true
@@ -185,14 +184,6 @@ no_line asked text none words rest begins fits =
     let both : [] ≡ begins.line ∷ lines_of rest = sym none ∙ is in
     let long = ap (λ (ls : List (List ℕ)). length ls) both in
     absurd (omega (arith, long))
-
--- nor does one whose lines ask for nothing by a weaker reading
-pub no_line_of : {A B : Type 0} (inner : List (List ℕ) → Option B)
-    (outer : List (List ℕ) → Option A) (text : List ℕ)
-    → ((words : List (List ℕ)) → inner words ≡ None → outer words ≡ None)
-    → NoLineAsks inner text → NoLineAsks outer text
-no_line_of inner outer text each none words rest begins fits =
-    each words (none words rest begins fits)
 
 -- a line that begins as the text does goes on as the text does
 record GoesOnBehind (word mid line rest : List ℕ) : Type 0 where
@@ -330,13 +321,27 @@ none_before_line_feed asked text never wrong long words rest begins fits =
     by_tail front (b ∷ tail) others behind split =
         by_others front others (rw behind.1 (parts_of-some is_space tail))
 
--- a line that asks for something by one reading asks for something by another
-pub asks_by : {A B : Type 0} (inner : List (List ℕ) → Option A) (outer : List (List ℕ) → Option B)
-    (text rest : List ℕ) (a : A) (b : B)
-    → ((words : List (List ℕ)) → inner words ≡ Some a → outer words ≡ Some b)
-    → LineAsks inner text a rest → LineAsks outer text b rest
-asks_by inner outer text rest a b each line =
-    record { words = line.words; begins = line.begins; asks = each line.words line.asks }
+-- a word before the words of a line asks with them for what it makes of what they ask for
+pub asks_behind_word : {A B : Type 0} (inner : List (List ℕ) → Option A)
+    (outer : List (List ℕ) → Option B) (text word mid rest : List ℕ) (a : A) (b : B)
+    → text ≡ word ++ SPACE ∷ mid → IsWord word
+    → ((words : List (List ℕ)) → inner words ≡ Some a → outer (word ∷ words) ≡ Some b)
+    → LineAsks inner mid a rest → LineAsks outer text b rest
+asks_behind_word inner outer text word mid rest a b split is each line =
+    record {
+      words = word ∷ line.words;
+      begins = line_behind_word text word mid line.words rest split is line.begins;
+      asks = each line.words line.asks;
+    }
+
+-- and for nothing where they do
+pub none_asked_behind : {A B : Type 0} (inner : List (List ℕ) → Option A)
+    (outer : List (List ℕ) → Option B) (text word mid : List ℕ) → text ≡ word ++ SPACE ∷ mid
+    → IsWord word → ((words : List (List ℕ)) → inner words ≡ None → outer (word ∷ words) ≡ None)
+    → NoLineAsks inner mid → NoLineAsks outer text
+none_asked_behind inner outer text word mid split is each none =
+    none_behind_word outer text word mid split is
+    (λ words rest begins fits. each words (none words rest begins fits))
 
 -- a text whose first line asks for nothing, where that line is not too long
 pub none_on_line : {A : Type 0} (asked : List (List ℕ) → Option A) (text line rest : List ℕ)

@@ -1,10 +1,11 @@
 -- The first part of a text, and what follows it: the end of the text, or the byte that parts it.
 use Rattle.std.proofs.Common.{◌≡◌, ℕ, Bool, true, false, cond, ◌==◌, ◌&&◌, List, [], ◌∷◌, ◌++◌}
 use Rattle.std.proofs.Common.{◌≤◌, ◌-◌, length, take, drop, take-append-drop, refl, ap, sym, ◌∙◌}
-use Rattle.std.proofs.Common.{arith}
+use Rattle.std.proofs.Common.{arith, get_or}
 use Rattle.std.proofs.lemmas.Bool.Decides.{nat_tests}
 use Rattle.std.proofs.lemmas.Grind.{common_steps}
-use Rattle.scripts.specs.Lines.{onto_first, parts_of}
+use Rattle.std.proofs.lemmas.List.{get_or_append_left}
+use Rattle.scripts.specs.Lines.{FourAreBytes, four_of, onto_first, parts_of}
 
 -- of two tests that both pass the first does
 pub first_passes : (v w : Bool) → (v && w) ≡ true → v ≡ true
@@ -88,3 +89,37 @@ word_and_rest word text n above same below =
 
     rest_drop : (k : ℕ) (bs : List ℕ) → take (length bs - k) (drop k bs) ≡ drop k bs
     rest_drop k bs = grind (arith, common_steps)
+
+-- the first four bytes of a text that has them
+four_are : (bs : List ℕ) → 4 ≤ length bs
+    → take 4 bs ≡ get_or bs 0 0 ∷ get_or bs 1 0 ∷ get_or bs 2 0 ∷ get_or bs 3 0 ∷ []
+four_are [] long = absurd (omega (arith, long))
+four_are (a ∷ []) long = absurd (omega (arith, long))
+four_are (a ∷ b ∷ []) long = absurd (omega (arith, long))
+four_are (a ∷ b ∷ c ∷ []) long = absurd (omega (arith, long))
+four_are (a ∷ b ∷ c ∷ d ∷ bs) long = refl
+
+-- four bytes that are the same number are the same
+pub four_same : (text word : List ℕ) → 4 ≤ length text → 4 ≤ length word → FourAreBytes text
+    → FourAreBytes word → four_of text ≡ four_of word → take 4 text ≡ take 4 word
+four_same text word text_has word_has small small' same =
+    let a : get_or text 0 0 ≡ get_or word 0 0 =
+    omega (arith, same, small.first, small'.first) in
+    let b : get_or text 1 0 ≡ get_or word 1 0 =
+    omega (arith, same, a, small.second, small'.second) in
+    let c : get_or text 2 0 ≡ get_or word 2 0 =
+    omega (arith, same, a, b, small.third, small'.third) in
+    let d : get_or text 3 0 ≡ get_or word 3 0 = omega (arith, same, a, b, c) in
+    four_are text text_has ∙ rw (a, b, c, d) (sym (four_are word word_has))
+
+-- a text that begins with a word has its first four bytes
+pub four_begin : (text word rest : List ℕ) → 4 ≤ length word → text ≡ word ++ rest
+    → four_of text ≡ four_of word
+four_begin text word rest has is =
+    rw (
+      is,
+      get_or_append_left word rest 0 0 (omega (arith, has)),
+      get_or_append_left word rest 0 1 (omega (arith, has)),
+      get_or_append_left word rest 0 2 (omega (arith, has)),
+      get_or_append_left word rest 0 3 (omega (arith, has)),
+    ) refl

@@ -22,7 +22,6 @@ use Rattle.scripts.specs.PipeScript.{mode_of, hangup_of, read_of, write_of}
 use Rattle.scripts.specs.PipeLine.{op_word, op_end}
 use Rattle.scripts.proofs.LineLemmas.{parts_of-some, parts_of-plain}
 use Rattle.scripts.proofs.OnePassLemmas.{IsWord, passes_too, line_begins, line_of_word}
-use Rattle.scripts.proofs.OnePassLemmas.{line_behind_word, no_line_of, none_behind_word}
 use Rattle.scripts.proofs.OnePassLemmas.{none_of_words, none_on_line}
 use Rattle.scripts.proofs.PartLemmas.{TailHas, parted}
 
@@ -75,27 +74,11 @@ writes_of writer bytes word n is small read =
     let within : number_within 0 63 writer ≡ Some n = grind (arith, nat_tests) in
     rw (within, read) refl
 
--- a verb before the words that it asks for
-pub op_asks : (text verb mid : List ℕ) (rest : List ℕ) (inner : List (List ℕ) → Option Op)
-    (op : Op) → text ≡ verb ++ SPACE ∷ mid → IsWord verb
-    → ((words : List (List ℕ)) → op_of (verb ∷ words) ≡ inner words)
-    → LineAsks inner mid op rest → LineAsks op_of text op rest
-op_asks text verb mid rest inner op split is same line =
-    record {
-      words = verb ∷ line.words;
-      begins = subst (λ (t : List ℕ). BeginsWithLine t (verb ∷ line.words) rest) (sym split)
-          (line_behind_word verb mid line.words rest is line.begins);
-      asks = same line.words ∙ line.asks;
-    }
-
--- where those ask for nothing the line does
-pub op_asks_none : (text verb mid : List ℕ) (inner : List (List ℕ) → Option Op)
-    → text ≡ verb ++ SPACE ∷ mid → IsWord verb
-    → ((words : List (List ℕ)) → op_of (verb ∷ words) ≡ inner words)
-    → NoLineAsks inner mid → NoLineAsks op_of text
-op_asks_none text verb mid inner split is same none =
-    none_behind_word op_of text verb mid split is
-    (no_line_of inner (λ words. op_of (verb ∷ words)) mid (λ words h. same words ∙ h) none)
+-- a dash is the bytes of a line that ends behind it
+pub dash_line : (text rest : List ℕ) → text ≡ codes "-" ++ LINE_FEED ∷ rest
+    → BeginsWithLine text (codes "-" ∷ []) rest
+dash_line text rest split =
+    line_of_word text (codes "-") rest split (record { no_space = refl; no_line_feed = refl })
 
 -- `hangup` alone
 pub hangup_asks : (text rest : List ℕ) → text ≡ codes "hangup" ++ LINE_FEED ∷ rest
@@ -103,8 +86,8 @@ pub hangup_asks : (text rest : List ℕ) → text ≡ codes "hangup" ++ LINE_FEE
 hangup_asks text rest split =
     record {
       words = codes "hangup" ∷ [];
-      begins = subst (λ (t : List ℕ). BeginsWithLine t (codes "hangup" ∷ []) rest) (sym split)
-          (line_of_word (codes "hangup") rest (record { no_space = refl; no_line_feed = refl }));
+      begins = line_of_word text (codes "hangup") rest split
+          (record { no_space = refl; no_line_feed = refl });
       asks = refl;
     }
 

@@ -1,7 +1,7 @@
 -- What a script says, line by line.
 use Rattle.std.proofs.Common.{◌≡◌, inl, inr, ℕ, ◌+◌, ◌-◌, ◌<◌, ◌≤◌, ◌||◌, nat_lt, nat_le, min, Bool}
 use Rattle.std.proofs.Common.{true, false, List, [], ◌∷◌, ◌++◌, length, take, drop, position}
-use Rattle.std.proofs.Common.{Option, Some, None, Result}
+use Rattle.std.proofs.Common.{Option, Some, None, Result, IfErr}
 use Rattle.std.proofs.Common.{refl, ap, sym, subst, ◌∙◌, append_assoc, arith}
 use Rattle.std.specs.Option.{option_map_or}
 use Rattle.std.specs.Io.KnownBytes.{Appends}
@@ -13,11 +13,12 @@ use Rattle.scripts.specs.declared.script.TheConstants.{MAX_LINE, MAX_SCRIPT}
 use Rattle.scripts.specs.Lines.{is_line_feed, lines_of, cut_line_of, words_of, BeginsWithLine}
 use Rattle.scripts.specs.Lines.{NoLineAsks}
 use Rattle.sync_base.specs.declared.fault.Fault.{Fault}
-use Rattle.scripts.specs.Device.{AppendsFront, WritesTold}
+use Rattle.scripts.specs.Device.{AppendsFront, Devices, IsRunFault, Runs, TakesUpTo, WritesTold}
 use Rattle.scripts.specs.Script.{Language, Answered, Told, fault_at, answer_then, if_fits}
 use Rattle.scripts.specs.Script.{told, lines_told, told_from, FirstAnswered, IsStuck, following}
 use Rattle.scripts.specs.Script.{growth, stage}
 use Rattle.scripts.proofs.DeviceLemmas.{IsWriting, appends_then, appends_nothing, appends_front}
+use Rattle.scripts.proofs.DeviceLemmas.{told_of_all}
 use Rattle.scripts.specs.ScriptLaws.{lines_text}
 use Rattle.scripts.proofs.TextLemmas.{lines_text-lines}
 use Rattle.scripts.proofs.LineLemmas.{cut_line_of-at, lines_of-at, lines_of-missing}
@@ -32,18 +33,27 @@ if_fits_short read line fits = grind (arith, nat_tests)
 pub front-take : (n k : ℕ) (bs : List ℕ) → k ≡ min (length bs) n → take k bs ≡ take n bs
 front-take n k bs is_least = grind (arith, common_steps)
 
--- what its front says, and that bytes follow it, is what a script says: a run that wrote the one
--- wrote the other
-pub front_writes : {S : Type 0} (language : Language S) (input text : List ℕ)
-    (old now : Option (List ℕ)) (result : Result (Unit {0}) Fault) → text ≡ take MAX_SCRIPT input
+-- a run that read this of its script, and wrote what the front of it says
+pub run_of : {S : Type 0} (language : Language S) (devices : Devices) (input read : List ℕ)
+    (k n : ℕ) (result : Result (Unit {0}) Fault)
+    → TakesUpTo (MAX_SCRIPT + 1) devices.unread devices.left input → read ≡ input
+    → k ≡ min (length input) MAX_SCRIPT → n ≡ length input
     → WritesTold (lines_told language
-    (nat_lt MAX_SCRIPT (length input) || nat_lt 0 (length (cut_line_of text))) (lines_of text))
-    old now result
-    → WritesTold (told language input) old now result
-front_writes language input text old now result is_front =
-    subst (λ t. WritesTold (lines_told language
-    (nat_lt MAX_SCRIPT (length input) || nat_lt 0 (length (cut_line_of t))) (lines_of t))
-    old now result) is_front
+    (nat_lt MAX_SCRIPT n || nat_lt 0 (length (cut_line_of (take k read)))) (lines_of (take k read)))
+    devices.held devices.written result
+    → IfErr result IsRunFault → Runs (told language) devices result
+run_of language devices input read k n result takes is least long writes faults =
+    let said : lines_told language
+    (nat_lt MAX_SCRIPT n || nat_lt 0 (length (cut_line_of (take k read)))) (lines_of (take k read))
+    ≡ told language input = rw (long, is, front-take MAX_SCRIPT k input least) refl in
+    record {
+      at_most = (input, takes.taken, takes.within);
+      reads_first = inr (input, takes);
+      told = told_of_all language devices.unread devices.left input devices.held devices.written
+          result takes
+          (subst (λ t. WritesTold t devices.held devices.written result) said writes);
+      faults = faults;
+    }
 
 -- What was written, what is held back, and what the lines to come say, make what is told. The
 -- script has come to a state, and the first line to come has this number.

@@ -6,18 +6,12 @@ use Rattle.std.specs.Io.KnownBytes.{Keeps, IsAtEnd}
 use Rattle.sync_base.specs.declared.fault.Fault.{Fault}
 use Rattle.sync_base.specs.declared.fault.Fault.TheVariants.{BadArg}
 use Rattle.scripts.specs.declared.script.TheConstants.{MAX_SCRIPT}
-use Rattle.scripts.specs.Device.{GivesBehind, IsOutside, Runs, TakesAtMost, TakesScript, TakesUpTo}
-use Rattle.scripts.specs.Script.{Told, growth}
+use Rattle.scripts.specs.Device.{IsOutside, Runs, TakesAtMost, TakesScript, TakesUpTo}
+use Rattle.scripts.specs.Script.{Told}
 
 -- more was taken than was asked for
 more_than_asked : TakesUpTo 2 None None (1 ∷ 2 ∷ 3 ∷ []) → ⊥
 more_than_asked takes = let within : 3 ≤ 2 = takes.within in omega (arith, within)
-
--- more was counted than was read
-more_than_was_read : GivesBehind 2 None None 2 (growth [] (1 ∷ [])) → ⊥
-more_than_was_read gives =
-    let one : 1 ≡ length gives.bytes = ap length gives.behind in
-    omega (arith, one, gives.counted)
 
 module _ (says : List ℕ → Told) (result : Result (Unit {0}) Fault) where
   -- it reads on behind what tells that a script is too long

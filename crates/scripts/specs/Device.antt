@@ -1,12 +1,12 @@
 -- What a run takes from its reader and gives to its writer, where these tell their bytes.
-use Rattle.std.specs.Prelude.{◌≡◌, ◌≤◌, ◌<◌, ◌+◌, ◌++◌, ◌⊎◌, ℕ, List, length, take, Option, None}
+use Rattle.std.specs.Prelude.{◌≡◌, ◌≤◌, ◌<◌, ◌+◌, ◌⊎◌, ℕ, List, length, take, Option, None}
 use Rattle.std.specs.Prelude.{Some, Result, Ok, Err}
 use Rattle.std.specs.Prelude.{IfSome, IfErr}
 use Rattle.std.specs.Io.KnownBytes.{Appends, Consumes, IsAtEnd, Keeps}
 use Rattle.sync_base.specs.declared.fault.Fault.{Fault}
 use Rattle.sync_base.specs.declared.fault.Fault.TheVariants.{Memory, Script, Device}
 use Rattle.scripts.specs.declared.script.TheConstants.{MAX_SCRIPT}
-use Rattle.scripts.specs.Script.{Growth, Told}
+use Rattle.scripts.specs.Script.{Told}
 
 -- at most this many bytes were taken
 abbrev pub TakesAtMost : ℕ → Option (List ℕ) → Option (List ℕ) → Type 0
@@ -26,17 +26,6 @@ TakesScript old new = (input : List ℕ) × TakesUpTo (MAX_SCRIPT + 1) old new i
 -- none were asked for
 pub record GivesSome (most : ℕ) (old new : Option (List ℕ)) (n : ℕ) (room : List ℕ) : Type 0 where
   pub taken : Consumes old new (take n room)
-  pub within : n ≤ most
-  pub end : n ≡ 0 → 0 < most → IsAtEnd new
-
--- a read of at most so many bytes put n of them behind what was there before, and none only at the
--- end or where none were asked for
-pub record GivesBehind (most : ℕ) (old new : Option (List ℕ)) (n : ℕ) (input : Growth)
-    : Type 0 where
-  pub bytes : List ℕ
-  pub taken : Consumes old new bytes
-  pub behind : input.after ≡ input.before ++ bytes
-  pub counted : length bytes ≡ n
   pub within : n ≤ most
   pub end : n ≡ 0 → 0 < most → IsAtEnd new
 

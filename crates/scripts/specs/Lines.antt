@@ -1,5 +1,5 @@
 -- The lines, words and numbers of a script, as docs/SCRIPTS.md describes them.
-use Rattle.std.specs.Prelude.{◌≡◌, ◌≤◌, true, false, length, take, get_or, ◌++◌, ◌==◌, ◌&&◌}
+use Rattle.std.specs.Prelude.{◌≡◌, ◌<◌, ◌≤◌, true, false, length, take, get_or, ◌++◌, ◌==◌, ◌&&◌}
 use Rattle.std.specs.Prelude.{ℕ, ◌+◌, ◌-◌, ◌*◌}
 use Rattle.std.specs.Prelude.{◌^◌, nat_lt, nat_le, Bool, not, if◌then◌else◌, List, [], ◌∷◌, fold}
 use Rattle.std.specs.Prelude.{Option, None, Some, option_and_then}
@@ -66,6 +66,18 @@ parts_behind is_parting (Some rest) = parts_of is_parting rest.now
 -- the words of what follows a space
 abbrev pub words_behind : Option (Bor (List ℕ)) → List (List ℕ)
 words_behind rest = parts_behind is_space rest
+
+-- the first four bytes of a text as one number, of which the first is the lowest
+abbrev pub four_of : List ℕ → ℕ
+four_of text =
+    get_or text 0 0 + 256 * get_or text 1 0 + 65536 * get_or text 2 0 + 16777216 * get_or text 3 0
+
+-- they are bytes
+pub record FourAreBytes (text : List ℕ) : Type 0 where
+  pub first : get_or text 0 0 < 256
+  pub second : get_or text 1 0 < 256
+  pub third : get_or text 2 0 < 256
+  pub fourth : get_or text 3 0 < 256
 
 -- whether a word is this one
 abbrev pub is_word : List ℕ → List ℕ → Bool

@@ -1,19 +1,21 @@
 //! The device: what is read of a reader, and what is written to a writer.
-ghost use Rattle.std.specs.Prelude.{◌≡◌, ◌<◌, ◌≤◌, ◌+◌, length, take, vec_len};
+ghost use Rattle.std.specs.Prelude.{◌≡◌, ◌<◌, ◌≤◌, ◌+◌, ◌++◌, length, take, vec_len};
 ghost use Rattle.std.specs.Prelude.{IfOk, IfErr, OnOk, OnErr, IfSome, IfNone};
 ghost use Rattle.std.specs.Io.KnownBytes.{Appends, Keeps};
 ghost use Rattle.scripts.specs.declared.script.TheConstants.{MAX_SCRIPT};
-ghost use Rattle.scripts.specs.Device.{TakesAtMost, TakesUpTo, GivesSome, GivesBehind};
-ghost use Rattle.scripts.specs.Device.{AppendsFront, IsOutside};
-ghost use Rattle.scripts.specs.Script.{growth};
+ghost use Rattle.scripts.specs.Device.{TakesAtMost, TakesUpTo, GivesSome, AppendsFront};
+ghost use Rattle.scripts.specs.Device.{IsOutside};
 
 use crate::script::MAX_SCRIPT;
-use std::alloc::Global;
+use std::alloc::{AllocError, Global};
 use std::io::{ErrorKind, Read, Write};
 use sync_base::Fault;
 
 /// How many bytes are asked of a reader at once.
 const CHUNK: usize = 65_536;
+
+/// How many bytes are copied at once.
+const PART: usize = 2_048;
 
 /// Reads all that there is, but at most one byte more than a script may have.
 ///
@@ -26,45 +28,44 @@ pub fn read_script<R: Read>(alloc: Global, reader: &mut R) -> Result<Vec<u8>, Fa
         (R.remaining reader.old) (R.remaining reader.new) }
     ensures faults { IfErr result IsOutside }
 {
-    // Room for the longest script at once, so that what was read is never moved.
+    // Room for the longest script at once, so that what was read is moved only once, from the room
+    // of a read.
     let mut input = Vec::with_capacity(alloc, MAX_SCRIPT + 1)?;
+    let mut room = room_of(alloc)?;
     for _ in 0..u64::MAX {
         let most = CHUNK.min(MAX_SCRIPT + 1 - input.len());
         if most == 0 {
             return Ok(input);
         }
-        let Some(count) = read_behind(reader, &mut input, most)? else {
+        let Some(count) = read_some(reader, room.slice_mut(..most))? else {
             continue;
         };
         if count == 0 {
             return Ok(input);
         }
+        append(&mut input, &room[..count])?;
     }
     Err(Fault::Device)
 }
 
-/// One read of at most so many bytes behind what is there: how many it gave, or nothing where a
-/// signal interrupted it. They are read in place, and copied nowhere.
-fn read_behind<R: Read>(
-    reader: &mut R,
-    input: &mut Vec<u8>,
-    most: usize,
-) -> Result<Option<usize>, Fault>
-    requires { vec_len input.old + most ≤ MAX_SCRIPT + 1 }
-    ensures some { IfOk result (λ count. IfSome count (λ n. GivesBehind most
-        (R.remaining reader.old) (R.remaining reader.new) n
-        (growth input.old.items input.new.items))) }
-    ensures none { IfOk result (λ count. IfNone count
-        (Keeps (R.remaining reader.old) (R.remaining reader.new))) }
-    ensures same { IfOk result (λ count. IfNone count (input.new.items ≡ input.old.items)) }
-    ensures err { OnErr result (Keeps (R.remaining reader.old) (R.remaining reader.new)) }
-    ensures faults { IfErr result IsOutside }
+/// Room for one read, which is used again.
+fn room_of(alloc: Global) -> Result<Vec<u8>, AllocError>
+    ensures { IfOk result (λ room. vec_len room ≡ CHUNK) }
 {
-    let start = input.len();
-    input.resize(start + most, 0)?;
-    let count = read_some(reader, input.slice_mut(start..))?;
-    input.truncate(start + count.unwrap_or(0));
-    Ok(count)
+    Vec::from_elem(alloc, 0, CHUNK)
+}
+
+/// Puts bytes behind others, in parts that the C library copies by vectors.
+fn append(bytes: &mut Vec<u8>, more: &[u8]) -> Result<(), AllocError>
+    ensures { OnOk result (bytes.new.items ≡ bytes.old.items ++ more.now) }
+{
+    let mut rest = more;
+    while !rest.is_empty() {
+        let (part, others) = rest.split_at(PART.min(rest.len()));
+        bytes.extend_from_slice(part)?;
+        rest = others;
+    }
+    Ok(())
 }
 
 /// One read to the front of this room: how many bytes it gave, or nothing where a signal

@@ -7,7 +7,8 @@ ghost use Rattle.std.specs.Char.{is_ascii_digit};
 ghost use Rattle.scripts.specs.Lines.{BeginsWithNumber, BeginsWithNoNumber, LeadingDigits};
 ghost use Rattle.scripts.specs.Lines.{AllLeadingDigits, TooLarge, FirstNumber, FirstIsNoNumber};
 ghost use Rattle.scripts.specs.Lines.{lines_of, cut_line_of, parts_of, parts_behind, words_of};
-ghost use Rattle.scripts.specs.Lines.{words_behind, number_of, number_within};
+ghost use Rattle.scripts.specs.Lines.{words_behind, number_of, number_within, four_of};
+ghost use Rattle.scripts.specs.Lines.{FourAreBytes};
 
 use memchr::memchr;
 
@@ -40,12 +41,40 @@ pub fn behind<'t>(word: &[u8], text: &'t [u8]) -> Option<&'t [u8]>
     if text.len() < word.len() {
         return None;
     }
-    for i in 0..word.len() {
+    if word.len() < 4 {
+        return behind_from(0, word, text);
+    }
+    if first_four(text) != first_four(word) {
+        return None;
+    }
+    behind_from(4, word, text)
+}
+
+/// The same, where so many bytes of the two are the same.
+#[inline(always)]
+fn behind_from<'t>(same: usize, word: &[u8], text: &'t [u8]) -> Option<&'t [u8]>
+    requires within { (same ≤ length word.now) × (length word.now ≤ length text.now) }
+    requires same { take same text.now ≡ take same word.now }
+    ensures { MatchOption result ((rest : List ℕ) → ¬ (text.now ≡ word.now ++ rest))
+        (λ rest. text.now ≡ word.now ++ rest.now) }
+{
+    for i in same..word.len() {
         if text[i] != word[i] {
             return None;
         }
     }
     Some(&text[word.len()..])
+}
+
+/// The first four bytes as one number: one test compares them all.
+#[inline(always)]
+fn first_four(text: &[u8]) -> u32
+    requires { 4 ≤ length text.now }
+    ensures value { result ≡ four_of text.now }
+    ensures bytes { FourAreBytes text.now }
+{
+    let low = u32::from(text[0]) + 256 * u32::from(text[1]);
+    low + 65_536 * u32::from(text[2]) + 16_777_216 * u32::from(text[3])
 }
 
 /// The first line, without its line feed, and what follows; `None` where there is no line feed.
@@ -110,8 +139,13 @@ pub fn number_before(end: u8, text: &[u8]) -> Option<(u64, &[u8])>
     let mut n = 0u64;
     let mut count = 0;
     // Where 20 bytes stand, nineteen digits fit, whichever they are, and the text does not end in
-    // them. No step tests either, and the compiler writes the nineteen out.
+    // them. No step tests either, and the compiler writes the nineteen out. Most numbers have one.
     if text.len() >= 20 {
+        let (byte, rest) = byte_behind(1, text);
+        if byte == end {
+            let digit = digit_value(text[0])?;
+            return Some((digit, rest));
+        }
         'short: while count < 19 {
             let Some(digit) = digit_value(text[count]) else {
                 return Some((n, ended(end, text, n, count)?));

@@ -130,10 +130,17 @@ fn write_at<'a, 't>(
     let Some((writer, rest)) = number_before(SPACE, text) else {
         return Ok(None);
     };
+    if writer >= MAX_WRITERS {
+        return Ok(None);
+    }
+    if let Some(rest) = behind(b"-\n", rest) {
+        let bytes = &room[..0];
+        return Ok(Some((PipeOp::Write { writer, bytes }, rest)));
+    }
     let Some((word, rest)) = next_line(rest) else {
         return Ok(None);
     };
-    if writer >= MAX_WRITERS || word.len() > MAX_LINE {
+    if word.len() > MAX_LINE {
         return Ok(None);
     }
     let Some(bytes) = bytes_at(word, room)? else {

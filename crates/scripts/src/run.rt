@@ -7,7 +7,7 @@ ghost use Rattle.scripts.specs.Script.{told};
 use crate::device::read_script;
 use crate::pipe_script::PipeScript;
 use crate::schedule::Schedule;
-use crate::script::{Script, tell};
+use crate::script::{MAX_SCRIPT, Script, tell};
 use std::alloc::Global;
 use std::io::{Read, Write};
 use sync_base::Fault;
@@ -72,5 +72,9 @@ pub fn run_script<S: Script, R: Read, W: Write>(
     }) result }
 {
     let input = read_script(alloc, reader)?;
-    tell::<S, W>(alloc, &input, writer)
+    let text = &input[..input.len().min(MAX_SCRIPT)];
+    match tell::<S, W>(alloc, text, input.len() > MAX_SCRIPT, writer)? {
+        None => Ok(()),
+        Some(line) => Err(Fault::Script(line)),
+    }
 }

@@ -4,9 +4,9 @@ ghost use Rattle.std.specs.Prelude.{◌≡◌, true, false, Some, None, ◌≤�
 ghost use Rattle.std.specs.Prelude.{ℕ, List, length};
 ghost use Rattle.std.specs.Prelude.{nat_lt, IfOk, IfErr, OnOk};
 ghost use Rattle.scripts.specs.Lines.{lines_of, cut_line_of};
-ghost use Rattle.scripts.specs.Device.{Tells, WritesTold, IsOutside, IsRunFault};
+ghost use Rattle.scripts.specs.Device.{Tells, IsOutside};
 ghost use Rattle.scripts.specs.Script.{Language, Opens, AnswersFirst};
-ghost use Rattle.scripts.specs.Script.{IsShorter, following, growth, told, lines_told};
+ghost use Rattle.scripts.specs.Script.{IsShorter, following, growth, lines_told};
 ghost use Rattle.scripts.specs.Script.{stage, told_from};
 
 use crate::device::write_whole;
@@ -62,25 +62,9 @@ const PIECE: usize = 65_536;
 /// a stream and the answers to a long line `notepg` may take more, and then the room grows.
 const ROOM: usize = PIECE + 131_077;
 
-/// Writes what a script says, of which at most one byte more than it may have is looked at.
-///
-/// Memory, Device: a front of it was written. Script: the first line that is not in the grammar,
-/// and then all that the script says was written.
-pub fn tell<S: Script, W: Write>(alloc: Global, input: &[u8], writer: &mut W) -> Result<(), Fault>
-    ensures told { WritesTold (told S.language input.now)
-        (W.contents writer.old) (W.contents writer.new) result }
-    ensures faults { IfErr result IsRunFault }
-{
-    let text = &input[..input.len().min(MAX_SCRIPT)];
-    match tell_text::<S, W>(alloc, text, input.len() > MAX_SCRIPT, writer)? {
-        None => Ok(()),
-        Some(line) => Err(Fault::Script(line)),
-    }
-}
-
 /// Writes what the lines of a text say, and gives the number of the line at fault. Where the script
 /// is too long, the text is the front of it.
-fn tell_text<S: Script, W: Write>(
+pub fn tell<S: Script, W: Write>(
     alloc: Global,
     text: &[u8],
     is_too_long: bool,

@@ -1,7 +1,7 @@
 -- The verb, the list and the kinds are the words of the line; where one of them is not there, no
 -- line asks for a group.
-use Rattle.std.proofs.Common.{◌≡◌, [], ◌∷◌, List, ℕ, codes, refl, sym, subst}
-use Rattle.scripts.specs.Lines.{words_of, BeginsWithLine}
+use Rattle.std.proofs.Common.{◌≡◌, [], ◌∷◌, codes, refl, sym}
+use Rattle.scripts.specs.Lines.{words_of}
 use Rattle.scripts.specs.Schedule.{group_of}
 use Rattle.scripts.proofs.GroupLemmas.{group_asked, group_is_word, no_kinds, no_pids}
 use Rattle.scripts.proofs.GroupLemmas.{no_word_asks_none}
@@ -55,11 +55,8 @@ returns c =
     rw (c.next_word.ensures, c.in_ok-kinds.was, kinds_are_word kinds _ are) refl in
     record {
       words = codes "notepg" ∷ words_of line.line.now;
-      begins = subst
-          (λ (t : List ℕ). BeginsWithLine t (codes "notepg" ∷ words_of line.line.now)
-          line.rest.now) (sym c.in_ok-behind.ensures)
-          (line_behind_word (codes "notepg") _ _ _ group_is_word
-          (line_begins _ _ _ line.ensures.lines line.ensures.cut));
+      begins = line_behind_word _ (codes "notepg") _ _ _ c.in_ok-behind.ensures group_is_word
+          (line_begins _ _ _ line.ensures.lines line.ensures.cut);
       asked = group_asked (words_of line.line.now) c.next_word.result.0.now kinds _ words
           c.in_ok-pids.ensures are;
     }

@@ -1,8 +1,7 @@
--- A text that is shorter than the word, or has another byte in its place, does not begin with it.
-use Rattle.std.proofs.Common.{◌∙◌, length, get_or, ap, arith}
+-- A text that is shorter than the word, or has other four bytes first, does not begin with it.
+use Rattle.std.proofs.Common.{◌∙◌, length, ap, arith, sym}
 use Rattle.std.proofs.Common.{length-append}
-use Rattle.std.proofs.lemmas.List.{get_or_append_left}
-use Rattle.scripts.proofs.PartLemmas.{word_and_rest}
+use Rattle.scripts.proofs.PartLemmas.{four_begin, four_same}
 use Rattle.scripts.proofs.lines.behind.Goals as goal
 
 pub returns-then-text-word : goal.returns-then-text-word
@@ -10,13 +9,15 @@ returns-then-text-word c rest is =
     let long = ap length is ∙ length-append c.args.word.now rest in
     omega (arith, long, c.if-text-word.true)
 
-pub returns-then-text-i : goal.returns-then-text-i
-returns-then-text-i c rest is =
-    c.if-text-i.true
-    (ap (λ t. get_or t c.loop-i.i 0) is
-    ∙ get_or_append_left c.args.word.now rest 0 c.loop-i.i (omega arith))
+pub returns-then-first_four : goal.returns-then-first_four
+returns-then-first_four c rest is =
+    c.if-first_four.true
+    (c.first_four.ensures.value
+    ∙ (four_begin c.args.text.now c.args.word.now rest (omega arith) is
+    ∙ sym c.first_four-2.ensures.value))
 
-pub returns : goal.returns
-returns c =
-    word_and_rest c.args.word.now c.args.text.now c.loop-i.i (omega arith) c.loop-i.invariant
-    (omega arith)
+pub behind_from-requires-2-clause-same : goal.behind_from-requires-2-clause-same
+behind_from-requires-2-clause-same c =
+    four_same c.args.text.now c.args.word.now (omega arith) (omega arith) c.first_four.ensures.bytes
+    c.first_four-2.ensures.bytes
+    (sym c.first_four.ensures.value ∙ (c.if-first_four.false ∙ c.first_four-2.ensures.value))

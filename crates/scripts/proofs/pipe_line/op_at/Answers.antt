@@ -1,9 +1,10 @@
 -- The verb that was found and the words behind it are a line, and ask for this operation; where
 -- none was found, or no such words stand behind it, no line asks for one.
 use Rattle.std.proofs.Common.{codes, refl}
-use Rattle.scripts.specs.PipeScript.{read_of, write_of}
-use Rattle.scripts.proofs.OnePassLemmas.{IsWord, found_by, found_by_ok}
-use Rattle.scripts.proofs.PipeLineLemmas.{hangup_asks, no_verb_asks_none, op_asks, op_asks_none}
+use Rattle.scripts.specs.PipeScript.{op_of, read_of, write_of}
+use Rattle.scripts.proofs.OnePassLemmas.{IsWord, asks_behind_word, found_by, found_by_ok}
+use Rattle.scripts.proofs.OnePassLemmas.{none_asked_behind}
+use Rattle.scripts.proofs.PipeLineLemmas.{hangup_asks, no_verb_asks_none}
 use Rattle.scripts.proofs.pipe_line.op_at.Goals as goal
 
 pub returns-in_default : goal.returns-in_default
@@ -14,8 +15,8 @@ returns-in-Write c =
     let split = rw c.in-Write.is at c.in-Some.ensures in
     let is : IsWord (codes "write") = record { no_space = refl; no_line_feed = refl } in
     found_by_ok c.write_at.result _ _ _ _
-    (op_asks_none _ (codes "write") _ write_of split is (λ words. refl))
-    (λ f line. op_asks _ (codes "write") _ _ write_of _ split is (λ words. refl) line)
+    (none_asked_behind write_of op_of _ _ _ split is (λ words none. none))
+    (λ f line. asks_behind_word write_of op_of _ _ _ _ _ _ split is (λ words asks. asks) line)
     c.write_at.ensures
 
 pub returns-in-Read : goal.returns-in-Read
@@ -23,8 +24,8 @@ returns-in-Read c =
     let split = rw c.in-Read.is at c.in-Some.ensures in
     let is : IsWord (codes "read") = record { no_space = refl; no_line_feed = refl } in
     found_by c.read_at.result _ _ _ _
-    (op_asks_none _ (codes "read") _ read_of split is (λ words. refl))
-    (λ f line. op_asks _ (codes "read") _ _ read_of _ split is (λ words. refl) line)
+    (none_asked_behind read_of op_of _ _ _ split is (λ words none. none))
+    (λ f line. asks_behind_word read_of op_of _ _ _ _ _ _ split is (λ words asks. asks) line)
     c.read_at.ensures
 
 pub returns-in-Hangup : goal.returns-in-Hangup
