@@ -1,3 +1,4 @@
+mod PoolLemmas
 mod ReadingLemmas
 pub mod Sending
 mod SharingLemmas
@@ -9,5 +10,6 @@ mod WorkedPools
 mod WorkedReads
 mod WorkedSharings
 mod WorkedStreams
+mod WorkedTickers
 mod WorkedWatches
 mod WorkedWriters

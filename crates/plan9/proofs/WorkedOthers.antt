@@ -1,11 +1,10 @@
--- What is of another kernel, row or end, what does not come back as it was, and what a turn and a
--- tick are: each against one row.
+-- What is of another kernel, row or end, what does not come back as it was, and what a turn is:
+-- each against one row.
 use Rattle.std.proofs.Common.{◌≡◌, ◌≢◌, ℕ, List, [], ◌∷◌, Result, Ok, Err, refl, arith}
 use Rattle.std.specs.Prelude.{None}
 use Rattle.sync_base.specs.declared.fault.Fault.{Fault}
 use Rattle.sync_base.specs.declared.fault.Fault.TheVariants as fault
 use Rattle.rendez_words.specs.declared.words.Words.{Words}
-use Rattle.rendez_words.specs.Words.{procs_of}
 use Rattle.sleep_wakeup.specs.Kernel.{Running}
 use Rattle.kernel_lock.specs.Seats.{Splits}
 use Rattle.tag_space.specs.declared.member.Member.{Member}
@@ -16,9 +15,6 @@ use Rattle.semaphore.specs.declared.sema.SemaSeat.{SemaSeat}
 use Rattle.semaphore.specs.Acquiring.{Waits}
 use Rattle.semaphore.specs.Releasing.{Releases}
 use Rattle.semaphore.specs.Seats as seats
-use Rattle.semaphore.specs.Ticking.{Ticks}
-use Rattle.waiting.specs.Waiting.{point}
-use Rattle.sync_base.specs.declared.note.NoteSet.{NoteSet}
 use Rattle.pipe_dev.specs.declared.answers.ReadAnswer.{ReadAnswer}
 use Rattle.pipe_dev.specs.Ends.{WriteSide, IsSameWriteEnd}
 use Rattle.pipe_dev.specs.Rendezes.{HasRow}
@@ -27,7 +23,6 @@ use Rattle.plan9.specs.declared.pipes.Writer.{Writer}
 use Rattle.plan9.specs.declared.refusals.Refused.{Refused}
 use Rattle.plan9.specs.declared.refusals.Unforked.{Unforked}
 use Rattle.plan9.specs.declared.sharing.Sharer.{Sharer}
-use Rattle.plan9.specs.declared.ticker.Ticker.{Ticker}
 use Rattle.plan9.specs.Halls.{IsRowOfSpace, IsAdmitted}
 use Rattle.plan9.specs.Plans.{CountsProcs}
 use Rattle.plan9.specs.Pools.{Holding, IsSeated, IsFurtherVacancy, got, holder_point}
@@ -35,9 +30,7 @@ use Rattle.plan9.specs.Readings.{ReadsPiece}
 use Rattle.plan9.specs.Refusals.{ComesBack, ComeBack}
 use Rattle.plan9.specs.Sharings.{AsksForTurn, Buffers, GivesTurnBack, HasNoTurn, HasTurn, ReadsOnce}
 use Rattle.plan9.specs.Streams.{Lent, TakesNothing, WritesNothing, IsSameWriter}
-use Rattle.plan9.specs.Tickers.{Looks, TicksOnce, EndsTicking, TicksOn}
 use Rattle.plan9.specs.Vacancies.{IsRowOf, Vacancy}
-use Rattle.plan9.specs.Watches.{IsSameWatch}
 
 who_wants_more_gets_them : ¬ CountsProcs 3 (record { procs = 1; rendez = 0 })
     (record { procs = 1; rendez = 0 })
@@ -128,25 +121,3 @@ module _ (old new : Writer) where
 
   a_writer_of_another_kernel : new.proc.words ≢ old.proc.words → ¬ IsSameWriter old new
   a_writer_of_another_kernel other same = other same.words_are
-
--- ---- a ticker
-
-module _ (old new : Running) (came : NoteSet) where
-  a_look_at_another_kernel : new.words ≢ old.words → ¬ Looks old came new
-  a_look_at_another_kernel other looks = other looks.words_are
-
-module _ (old new : Ticker) where
-  a_tick_with_another_watch : ¬ IsSameWatch old.watch new.watch → ¬ TicksOnce old new
-  a_tick_with_another_watch other ticks = other ticks.same
-
-  a_tick_is_at_its_kernel : (ticks : TicksOnce old new) → new.proc.words ≡ ticks.looked.words
-  a_tick_is_at_its_kernel ticks = ticks.words_are
-
-  a_tick_is_one_of_its_timers : (ticks : TicksOnce old new)
-      → Ticks old.watch.timers (procs_of ticks.looked.words) ticks.now ticks.expired
-      (point old.watch.seat ticks.looked) (point new.watch.seat new.proc)
-  a_tick_is_one_of_its_timers ticks = ticks.called
-
-  ticks_that_no_notes_end : (came : NoteSet) → ((before : Ticker) → ¬ EndsTicking before came new)
-      → ¬ TicksOn old came new
-  ticks_that_no_notes_end came none ticks = none ticks.before ticks.ended

@@ -1,11 +1,8 @@
 -- What no plan counts, what is not spare, what is no fork, and what no ticker does: each against
 -- one row.
-use Rattle.std.proofs.Common.{◌≡◌, ◌≢◌, ◌+◌, ℕ, false, Some, Ok, Err, refl, arith}
+use Rattle.std.proofs.Common.{◌≡◌, ◌≢◌, ◌+◌, ℕ, false, Some, Ok, Err, arith}
 use Rattle.sync_base.specs.declared.fault.Fault.TheVariants as fault
 use Rattle.sync_base.specs.declared.limits.TheConstants.{MAX_PROCS, MAX_RENDEZ}
-use Rattle.sync_base.specs.declared.note.NoteSet.{NoteSet}
-use Rattle.sync_base.specs.NoteSet.{no_notes}
-use Rattle.rendez_words.specs.Steps.{drains}
 use Rattle.sleep_wakeup.specs.Forks.{HasPid}
 use Rattle.sleep_wakeup.specs.Kernel.{Running, Unused, next_process, one_pid_less}
 use Rattle.tag_space.specs.declared.member.Member.{Member}
@@ -16,13 +13,10 @@ use Rattle.semaphore.specs.declared.sema.SemaSeat.{SemaSeat}
 use Rattle.semaphore.specs.declared.timers.Timers.{Timers}
 use Rattle.semaphore.specs.declared.timers.TimerSeat.{TimerSeat}
 use Rattle.semaphore.specs.Seats.{IsSemaSeatOf, IsTimerSeatOf}
-use Rattle.pipe_dev.specs.Rounds.{Rounds}
-use Rattle.plan9.specs.declared.ticker.Ticker.{Ticker}
 use Rattle.plan9.specs.Forkings.{ForksOne}
 use Rattle.plan9.specs.Halls.{IsRowOfSpace, IsSpareMember}
 use Rattle.plan9.specs.Plans.{Planned, IsPlan, CountsProcs, CountsProcsAlone, CountsRendez, Seats}
 use Rattle.plan9.specs.Pools.{IsSpareOf}
-use Rattle.plan9.specs.Tickers.{Looks, TicksOnce, EndsTicking, TicksOn}
 use Rattle.plan9.specs.Vacancies.{IsRowOf}
 use Rattle.plan9.specs.Watches.{IsSpareTimer}
 
@@ -113,27 +107,3 @@ module _ (parent : ℕ) (before after : Unused) (child : Running) where
 
   refused_fork_uses_a_pid_up : after ≢ before → ¬ ForksOne parent before (Err fault.NoProc) after
   refused_fork_uses_a_pid_up other refused = other refused.2
-
--- ---- a ticker
-
-module _ (old new : Running) (came : NoteSet) where
-  notes_that_were_not_taken : new.process ≢ drains old.process came → ¬ Looks old came new
-  notes_that_were_not_taken other looks = other looks.took
-
-module _ (old new : Ticker) (came : NoteSet) where
-  notes_end_it_before_a_tick : ((looked : Running) → ¬ Looks old.proc no_notes looked)
-      → ¬ TicksOnce old new
-  notes_end_it_before_a_tick pending ticks = pending ticks.looked ticks.none
-
-  no_notes_end_it_not : ¬ EndsTicking old no_notes new
-  no_notes_end_it_not ends = ends.some refl
-
-  a_tick_behind_its_notes : new.watch ≢ old.watch → ¬ EndsTicking old came new
-  a_tick_behind_its_notes other ends = other ends.watch_is
-
-  an_end_without_a_look : ¬ Looks old.proc came new.proc → ¬ EndsTicking old came new
-  an_end_without_a_look other ends = other ends.looked
-
-  an_end_of_no_ticks : ((times : ℕ) (before : Ticker) → ¬ Rounds TicksOnce times old before)
-      → ¬ TicksOn old came new
-  an_end_of_no_ticks none ticks = none ticks.times ticks.before ticks.ticked

@@ -1,11 +1,14 @@
 -- What is no pool, no holder of its units and no reason to refuse one: each against one row of what
 -- the calls of a pool say.
-use Rattle.std.proofs.Common.{◌≡◌, ◌≢◌, ◌⊎◌, ◌<◌, false, [], ◌∷◌, length, inl, inr}
-use Rattle.std.proofs.Common.{ap, arith, Some, None}
+use Rattle.std.proofs.Common.{◌≡◌, ◌≢◌, ◌⊎◌, ◌<◌, ℕ, false, [], ◌∷◌, length, inl, inr}
+use Rattle.std.proofs.Common.{ap, arith, Option, Some, None}
 use Rattle.kernel_lock.specs.Seats.{number_of, account_of, given_of, limit_of}
+use Rattle.sync_base.specs.declared.fault.Fault.{Fault}
 use Rattle.sync_base.specs.declared.fault.Fault.TheVariants as fault
 use Rattle.sleep_wakeup.specs.Forks.{HasPid}
 use Rattle.sleep_wakeup.specs.Kernel.{Running, Unused, next_process, one_pid_less}
+use Rattle.rendez_words.specs.Words.{procs_of}
+use Rattle.pipe_dev.specs.Rounds.{Rounds}
 use Rattle.semaphore.specs.declared.sema.Sema.{Sema}
 use Rattle.semaphore.specs.declared.sema.SemaSeat.{SemaSeat}
 use Rattle.semaphore.specs.Seats.{HasRow, IsSemaSeatOf}
@@ -13,7 +16,9 @@ use Rattle.plan9.specs.Pools.{Pooled, Holding, IsNewPool, IsFirstHolder, WhyNotF
 use Rattle.plan9.specs.Pools.{IsSameHolder, IsSeatedHolder, IsSameParent, IsFurtherHolder}
 use Rattle.plan9.specs.declared.vacant.Unseated.{Unseated}
 use Rattle.plan9.specs.Pools.{KnowsNoSeat, WhyNotJoined, ForksHolder, Forking, WhyNoFork}
-use Rattle.plan9.specs.Pools.{IsFilled, AreHolders, IsNoHolders}
+use Rattle.plan9.specs.Pools.{IsFilled, AreHolders, MayHold, ForksOneMore, StopsForking, forking}
+use Rattle.plan9.specs.Pools.{Gathering, AsksTooMany, LacksMemory, HasNoFirst, HasTooFew}
+use Rattle.plan9.specs.Pools.{WhyNoHolders}
 use Rattle.plan9.specs.Vacancies.{Vacancy}
 
 -- ---- the first
@@ -193,5 +198,114 @@ module _ (at : Sema) (running : Running) (unused : Unused) (holding : Holding) w
       by (inl same) = another same
       by (inr same) = elsewhere same
 
-no_holders_for_a_bad_argument : IsNoHolders fault.BadArg → ⊥
-no_holders_for_a_bad_argument why = why
+-- ---- and why there are none
+
+module _ (pool : Pooled) (unused : Unused) where
+  -- nobody may hold where none are asked for, or more than there are seats or pids
+  no_one_is_no_holder : ¬ MayHold pool unused 0
+  no_one_is_no_holder may = let one = may.one in omega (arith, one)
+
+  three_of_two_seats : pool.sema.procs ≡ 2 → ¬ MayHold pool unused 3
+  three_of_two_seats two may = let seats = may.seats in omega (arith, two, seats)
+
+  two_and_no_pid_is_left : unused.pids.next ≡ procs_of unused.words → ¬ MayHold pool unused 2
+  two_and_no_pid_is_left none may = let pids = may.pids in omega (arith, none, pids)
+
+module _ (old new : Forking) where
+  -- one more was not forked, or its parent is another then
+  no_child_was_forked :
+      ((child : Holding) → ¬ ForksHolder old.roster old.parent new.parent child new.roster)
+      → ¬ ForksOneMore old new
+  no_child_was_forked none more = none more.child more.forks
+
+  a_child_of_another_parent : ¬ IsSameParent old.parent new.parent → ¬ ForksOneMore old new
+  a_child_of_another_parent other more = other more.same
+
+module _ (start stop : Forking) (why : Fault) where
+  -- it stops though all hold, behind children that were not forked, or at no refusal
+  it_stops_though_all_hold : ¬ StopsForking 1 start why stop
+  it_stops_though_all_hold stops = let fewer = stops.fewer in omega (arith, fewer)
+
+  it_stops_behind_no_children :
+      ((times : ℕ) (before : Forking) → ¬ Rounds ForksOneMore times start before)
+      → ¬ StopsForking 3 start why stop
+  it_stops_behind_no_children none stops = none stops.times stops.before stops.forked
+
+  it_stops_at_no_refusal : ((before : Forking) (unseated : Option Unseated)
+      → ¬ WhyNoFork before stop unseated why) → ¬ StopsForking 3 start why stop
+  it_stops_at_no_refusal none stops = none stops.before stops.unseated stops.stopped
+
+module _ (asked : Gathering) (after : Unused) (why : Fault) where
+  -- too many are asked for, though there are seats and pids, or one of them is used up
+  too_many_where_all_may_hold : MayHold asked.pool asked.roster asked.count
+      → ¬ AsksTooMany asked after why
+  too_many_where_all_may_hold may asks = asks.many may
+
+  too_many_for_the_memory : ¬ AsksTooMany asked after fault.Memory
+  too_many_for_the_memory asks = let no : fault.Memory ≡ fault.NoProc = asks.why_is in cc
+
+  too_many_use_a_pid_up : after ≢ asked.roster → ¬ AsksTooMany asked after why
+  too_many_use_a_pid_up other asks = other asks.unused
+
+  -- there is no memory for too many, or it is told as no pid, or one is used up
+  no_memory_for_too_many : ¬ MayHold asked.pool asked.roster asked.count
+      → ¬ LacksMemory asked after why
+  no_memory_for_too_many many lacks = many lacks.may
+
+  no_memory_told_as_no_pid : ¬ LacksMemory asked after fault.NoProc
+  no_memory_told_as_no_pid lacks = let no : fault.NoProc ≡ fault.Memory = lacks.why_is in cc
+
+  no_memory_uses_a_pid_up : after ≢ asked.roster → ¬ LacksMemory asked after why
+  no_memory_uses_a_pid_up other lacks = other lacks.unused
+
+  -- nobody is the first of too many, nor refused as a first for no reason, nor uses a pid up
+  no_first_of_too_many : ¬ MayHold asked.pool asked.roster asked.count
+      → ¬ HasNoFirst asked after why
+  no_first_of_too_many many none = many none.may
+
+  no_first_for_no_reason : ¬ WhyNotFirst asked.pool asked.running why
+      → ¬ HasNoFirst asked after why
+  no_first_for_no_reason no_reason none = no_reason none.why_is
+
+  no_first_uses_a_pid_up : after ≢ asked.roster → ¬ HasNoFirst asked after why
+  no_first_uses_a_pid_up other none = other none.unused
+
+  -- there are too few of too many, of no first, or though none was refused
+  too_few_of_too_many : ¬ MayHold asked.pool asked.roster asked.count
+      → ¬ HasTooFew asked after why
+  too_few_of_too_many many few = many few.may
+
+  too_few_of_no_first : ((first : Holding) → ¬ IsFirstHolder asked.pool asked.running first)
+      → ¬ HasTooFew asked after why
+  too_few_of_no_first none few = none few.first few.first_is
+
+  too_few_though_none_was_refused : ((first last : Holding)
+      → ¬ StopsForking asked.count (forking asked.roster first) why (forking after last))
+      → ¬ HasTooFew asked after why
+  too_few_though_none_was_refused none few = none few.first few.last few.stops
+
+module _ (asked : Gathering) (after : Unused) where
+  -- want of memory stands behind the count, and is no fault of a child
+  no_memory_stands_behind_the_count : ¬ MayHold asked.pool asked.roster asked.count
+      → ¬ WhyNoHolders asked after fault.Memory
+  no_memory_stands_behind_the_count many (inl asks) =
+      too_many_for_the_memory asked after fault.Memory asks
+  no_memory_stands_behind_the_count many (inr (inl lacks)) = many lacks.may
+  no_memory_stands_behind_the_count many (inr (inr (inl none))) = many none.may
+  no_memory_stands_behind_the_count many (inr (inr (inr few))) = many few.may
+
+  -- there is no other reason
+  no_fork_for_a_bad_argument : (before stop : Forking) (unseated : Option Unseated)
+      → ¬ WhyNoFork before stop unseated fault.BadArg
+  no_fork_for_a_bad_argument before stop None why = why
+  no_fork_for_a_bad_argument before stop (Some unseated) why = why
+
+  no_holders_for_a_bad_argument : ¬ WhyNoHolders asked after fault.BadArg
+  no_holders_for_a_bad_argument (inl asks) =
+      let no : fault.BadArg ≡ fault.NoProc = asks.why_is in cc
+  no_holders_for_a_bad_argument (inr (inl lacks)) =
+      let no : fault.BadArg ≡ fault.Memory = lacks.why_is in cc
+  no_holders_for_a_bad_argument (inr (inr (inl none))) = none.why_is
+  no_holders_for_a_bad_argument (inr (inr (inr few))) =
+      no_fork_for_a_bad_argument few.stops.before (forking after few.last) few.stops.unseated
+      few.stops.stopped

@@ -9,7 +9,7 @@ use Rattle.semaphore.specs.Seats.{units_given}
 use Rattle.pipe_dev.specs.WriteCalls.{writer_of}
 use Rattle.plan9.specs.declared.pipes.Reader.{Reader}
 use Rattle.plan9.specs.declared.pipes.Writer.{Writer}
-use Rattle.plan9.specs.Pools.{Holding, got, holder_point}
+use Rattle.plan9.specs.Pools.{Holding, got}
 use Rattle.plan9.specs.Readings.{ReadsBy}
 use Rattle.plan9.specs.Sharings.{AsksForTurn}
 use Rattle.plan9.specs.Streams.{Lent, Takes, TakesNothing, WritesNothing, WritesOnce, EndsWriting}

@@ -1,5 +1,5 @@
 -- What is no read and no write of a stream: each against one row of what the streams say.
-use Rattle.std.proofs.Common.{◌≡◌, ◌≢◌, ℕ, List, [], length, Option, Some, None, Result, Ok, Err}
+use Rattle.std.proofs.Common.{◌≢◌, ℕ, List, [], length, Option, Some, None, Ok}
 use Rattle.std.proofs.Common.{inl, inr}
 use Rattle.std.specs.declared.io.Error.{Error}
 use Rattle.std.specs.IoError.{error_kind}

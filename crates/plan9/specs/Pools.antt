@@ -1,12 +1,13 @@
 -- What clauses see of a pool, and of those who hold its units.
-use Rattle.std.specs.Prelude.{◌≡◌, ◌⊎◌, ⊤, ℕ, Bool, false, if◌then◌else◌, List, length}
-use Rattle.std.specs.Prelude.{Option, Some, None, Result, Ok, Err}
+use Rattle.std.specs.Prelude.{◌≡◌, ◌⊎◌, ◌≤◌, ◌<◌, ◌+◌, ⊤, ℕ, Bool, false, if◌then◌else◌, List}
+use Rattle.std.specs.Prelude.{length, Option, Some, None, Result, Ok, Err}
 use Rattle.std.specs.List.{AllByRecursion}
 use Rattle.sync_base.specs.declared.fault.Fault.{Fault}
 use Rattle.sync_base.specs.declared.fault.Fault.TheVariants as fault
 use Rattle.sleep_wakeup.specs.Forks.{HasPid}
 use Rattle.sleep_wakeup.specs.Kernel.{Running, Unused, next_process, one_pid_less}
 use Rattle.rendez_words.specs.declared.words.Words.{Words}
+use Rattle.rendez_words.specs.Words.{procs_of}
 use Rattle.kernel_lock.specs.Seats.{number_of, Splits, KnowsAllGiven}
 use Rattle.semaphore.specs.declared.acquiring.Semacquired.{Semacquired}
 use Rattle.semaphore.specs.declared.acquiring.Semacquired.TheVariants as sema
@@ -14,6 +15,7 @@ use Rattle.semaphore.specs.declared.sema.Sema.{Sema}
 use Rattle.semaphore.specs.declared.sema.SemaSeat.{SemaSeat}
 use Rattle.semaphore.specs.Seats.{HasRow, IsNewSema, IsSemaSeatOf}
 use Rattle.waiting.specs.Waiting.{Point, point}
+use Rattle.pipe_dev.specs.Rounds.{Rounds}
 use Rattle.plan9.specs.declared.vacant.Unseated.{Unseated}
 use Rattle.plan9.specs.Vacancies.{Vacancy}
 
@@ -161,10 +163,69 @@ pub record AreHolders (sema : Sema) (running : Running) (unused : Unused) (count
   pub kernels : AllByRecursion (λ holding.
       (holding.running ≡ running) ⊎ (holding.running.words ≡ unused.words)) holders
 
--- what may stand against it: too few pids or seats, a kernel that does not own all the Rendez, no
--- memory
-abbrev pub IsNoHolders : Fault → Type 0
-IsNoHolders fault.NoProc = ⊤
-IsNoHolders fault.NoRendez = ⊤
-IsNoHolders fault.Memory = ⊤
-IsNoHolders other = ⊥
+-- one or more are asked for, and there are seats for so many, and pids for all but one
+pub record MayHold (pool : Pooled) (unused : Unused) (count : ℕ) : Type 0 where
+  pub one : 0 < count
+  pub seats : count ≤ pool.sema.procs
+  pub pids : unused.pids.next + count ≤ procs_of unused.words + 1
+
+-- one child more holds
+pub record ForksOneMore (old new : Forking) : Type 0 where
+  pub child : Holding
+  pub forks : ForksHolder old.roster old.parent new.parent child new.roster
+  pub same : IsSameParent old.parent new.parent
+
+-- some children hold, fewer than so many with their parent, and then one does not
+pub record StopsForking (count : ℕ) (start : Forking) (why : Fault) (stop : Forking) :
+    Type 0 where
+  pub times : ℕ
+  pub fewer : times + 1 < count
+  pub before : Forking
+  pub forked : Rounds ForksOneMore times start before
+  pub unseated : Option Unseated
+  pub stopped : WhyNoFork before stop unseated why
+
+-- who asks for so many holders, and of what
+pub record Gathering : Type 0 where
+  pub pool : Pooled
+  pub running : Running
+  pub roster : Unused
+  pub count : ℕ
+
+abbrev pub gathering : Pooled → Running → Unused → ℕ → Gathering
+gathering pool running roster count =
+    record { pool = pool; running = running; roster = roster; count = count }
+
+-- no process is made: none are asked for, or too many
+pub record AsksTooMany (asked : Gathering) (after : Unused) (why : Fault) : Type 0 where
+  pub many : ¬ MayHold asked.pool asked.roster asked.count
+  pub why_is : why ≡ fault.NoProc
+  pub unused : after ≡ asked.roster
+
+-- none is made: there is no memory for the list
+pub record LacksMemory (asked : Gathering) (after : Unused) (why : Fault) : Type 0 where
+  pub may : MayHold asked.pool asked.roster asked.count
+  pub why_is : why ≡ fault.Memory
+  pub unused : after ≡ asked.roster
+
+-- none is made: the process can't be the first
+pub record HasNoFirst (asked : Gathering) (after : Unused) (why : Fault) : Type 0 where
+  pub may : MayHold asked.pool asked.roster asked.count
+  pub why_is : WhyNotFirst asked.pool asked.running why
+  pub unused : after ≡ asked.roster
+
+-- the process was the first, and then a child could not hold
+pub record HasTooFew (asked : Gathering) (after : Unused) (why : Fault) : Type 0 where
+  pub may : MayHold asked.pool asked.roster asked.count
+  pub first : Holding
+  pub last : Holding
+  pub first_is : IsFirstHolder asked.pool asked.running first
+  pub stops : StopsForking asked.count (forking asked.roster first) why (forking after last)
+
+-- what stands against it, in this order
+abbrev pub WhyNoHolders : Gathering → Unused → Fault → Type 0
+WhyNoHolders asked after why =
+    AsksTooMany asked after why
+    ⊎ (LacksMemory asked after why
+    ⊎ (HasNoFirst asked after why
+    ⊎ HasTooFew asked after why))

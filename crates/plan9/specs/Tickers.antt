@@ -1,5 +1,5 @@
 -- What a ticker does. Own.
-use Rattle.std.specs.Prelude.{◌≡◌, ◌≢◌, ℕ}
+use Rattle.std.specs.Prelude.{◌≡◌, ◌≢◌, ◌<◌, ◌+◌, ◌^◌, ℕ}
 use Rattle.sync_base.specs.declared.note.NoteSet.{NoteSet}
 use Rattle.sync_base.specs.NoteSet.{no_notes}
 use Rattle.rendez_words.specs.Steps.{drains}
@@ -16,26 +16,43 @@ pub record Looks (old : Running) (came : NoteSet) (new : Running) : Type 0 where
   pub words_are : new.words ≡ old.words
   pub took : new.process ≡ drains old.process came
 
--- no note was pending, and then it ticked once, at some moment
-pub record TicksOnce (old new : Ticker) : Type 0 where
-  pub looked : Running
-  pub none : Looks old.proc no_notes looked
-  pub now : ℕ
-  pub expired : ℕ
-  pub same : IsSameWatch old.watch new.watch
-  pub words_are : new.proc.words ≡ looked.words
-  pub called : Ticks old.watch.timers (procs_of looked.words) now expired
-      (point old.watch.seat looked) (point new.watch.seat new.proc)
+-- a beat goes on, up to the last number, and says where it is
+pub record IsBeat (old moment new : ℕ) : Type 0 where
+  pub on : old + 1 < 2 ^ 64 → old < new
+  pub moment_is : moment ≡ new
+
+-- a ticker, and the time that it asks for its moments
+pub record Timed (Time : Type 0) : Type 0 where
+  pub ticker : Ticker
+  pub time : Time
+
+abbrev pub timed : {Time : Type 0} → Ticker → Time → Timed Time
+timed ticker time = record { ticker = ticker; time = time }
 
 -- these notes were pending, and it did nothing but take them
-pub record EndsTicking (old : Ticker) (came : NoteSet) (new : Ticker) : Type 0 where
+pub record EndsTicking {Time : Type 0} (old : Timed Time) (came : NoteSet) (new : Timed Time) :
+    Type 0 where
   pub some : came ≢ no_notes
-  pub watch_is : new.watch ≡ old.watch
-  pub looked : Looks old.proc came new.proc
+  pub watch_is : new.ticker.watch ≡ old.ticker.watch
+  pub looked : Looks old.ticker.proc came new.ticker.proc
+  pub time_is : new.time ≡ old.time
 
--- some ticks, and then notes
-pub record TicksOn (old : Ticker) (came : NoteSet) (new : Ticker) : Type 0 where
-  pub times : ℕ
-  pub before : Ticker
-  pub ticked : Rounds TicksOnce times old before
-  pub ended : EndsTicking before came new
+module _ {Time : Type 0} (tells : Time → ℕ → Time → Type 0) where
+  -- no note was pending, and then it asked the time once, and ticked once at the moment that came
+  pub record TicksOnce (old new : Timed Time) : Type 0 where
+    pub looked : Running
+    pub none : Looks old.ticker.proc no_notes looked
+    pub now : ℕ
+    pub told : tells old.time now new.time
+    pub expired : ℕ
+    pub same : IsSameWatch old.ticker.watch new.ticker.watch
+    pub words_are : new.ticker.proc.words ≡ looked.words
+    pub called : Ticks old.ticker.watch.timers (procs_of looked.words) now expired
+        (point old.ticker.watch.seat looked) (point new.ticker.watch.seat new.ticker.proc)
+
+  -- some ticks, and then notes
+  pub record TicksOn (old : Timed Time) (came : NoteSet) (new : Timed Time) : Type 0 where
+    pub times : ℕ
+    pub before : Timed Time
+    pub ticked : Rounds TicksOnce times old before
+    pub ended : EndsTicking before came new

@@ -1,7 +1,10 @@
 //! A pool of units, and processes that hold them: each has its process, its seat and the
 //! semaphore together.
-ghost use Rattle.std.specs.Prelude.{◌≡◌, ◌≤◌, ◌+◌, ◌↔◌, true};
+ghost use Rattle.std.specs.Prelude.{◌≡◌, ◌≤◌, ◌<◌, ◌+◌, ◌↔◌, true, [], length, IfErr, OnOk};
+ghost use Rattle.std.specs.List.{AllByRecursion};
+ghost use Rattle.std.specs.Vec.{vec_capacity};
 ghost use Rattle.rendez_words.specs.Words.{rendez_of};
+ghost use Rattle.plan9.specs.Pools.{IsSameParent, MayHold, StopsForking, forking};
 
 use crate::clock::Watch;
 use crate::refusals::Refused;
@@ -76,8 +79,9 @@ impl Pool {
       AreHolders,
       IsFirstHolder,
       IsNewPool,
-      IsNoHolders,
+      WhyNoHolders,
       WhyNotFirst,
+      gathering,
     };
 
     /// A pool of so many units for so many processes. It takes as many Rendez as there are
@@ -151,12 +155,15 @@ impl Pool {
         proc: Proc<'k>,
         count: u64,
     ) -> Result<Vec<Holder<'s, 'k>>, Refused<'k>>
-        ensures fault { IfErr result (ComesBack IsNoHolders proc.entry) }
+        // Refused, in this order; before there are children the roster is as it was.
+        ensures fault { IfErr result (ComesBack (WhyNoHolders
+            (gathering self.old proc.entry roster.old count) roster.new) proc.entry) }
+
+        // Otherwise they hold.
         ensures holders { IfOk result (λ holders.
             AreHolders self.old.sema proc.entry roster.old count holders.items) }
     {
-        let (pids, _) = roster.left();
-        if count == 0 || count > self.procs || pids < count - 1 {
+        if !may_hold(self, roster, count) {
             return Err(Refused {
                 proc,
                 fault: Fault::NoProc,
@@ -169,20 +176,59 @@ impl Pool {
             });
         };
         let mut first = self.first(proc)?;
-        'forking: for _ in 1..count {
-            match first.fork(rt, roster) {
-                Ok(child) => holders.push_reserved(child),
-                Err(refused) => {
-                    return Err(Refused {
-                        proc: first.into_proc(),
-                        fault: refused.fault,
-                    });
-                }
+        match fork_others(&mut first, rt, roster, &mut holders, count) {
+            Ok(()) => {
+                holders.push_reserved(first);
+                Ok(holders)
             }
+            Err(fault) => Err(Refused {
+                proc: first.into_proc(),
+                fault,
+            }),
         }
-        holders.push_reserved(first);
-        Ok(holders)
     }
+}
+
+// Whether one or more are asked for, and there are seats for so many, and pids for all but one.
+fn may_hold(pool: &Pool, roster: &Roster<'_>, count: u64) -> bool
+    ensures { result ≡ true ↔ MayHold pool.now roster.now count }
+{
+    let (pids, _) = roster.left();
+    0 < count && count <= pool.procs && count - 1 <= pids
+}
+
+// Makes children of the first, so many holders in all, and puts them into a list that has room.
+fn fork_others<'s, 'k, R: Wait>(
+    first: &mut Holder<'s, 'k>,
+    rt: &R,
+    roster: &mut Roster<'k>,
+    holders: &mut Vec<Holder<'s, 'k>>,
+    count: u64,
+) -> Result<(), Fault>
+    requires one { 0 < count }
+    requires none { holders.old.items ≡ [] }
+    requires room { count ≤ vec_capacity holders.old }
+
+    // It stops where a child can't hold.
+    ensures fault { IfErr result (λ why. StopsForking count (forking roster.old first.old) why
+        (forking roster.new first.new)) }
+
+    // Those that were made hold, and there is room for the first.
+    ensures counted { OnOk result (length holders.new.items + 1 ≡ count) }
+    ensures room { count ≤ vec_capacity holders.new }
+    ensures at_sema { AllByRecursion (λ holding. holding.sema ≡ first.old.sema)
+        holders.new.items }
+    ensures kernels { AllByRecursion (λ holding. holding.running.words ≡ roster.old.words)
+        holders.new.items }
+    ensures parent { IsSameParent first.old first.new }
+{
+    'forking: for _ in 1..count {
+        match first.fork(rt, roster) {
+            Ok(child) => holders.push_reserved(child),
+            Err(refused) => return Err(refused.fault),
+        }
+    }
+    Ok(())
 }
 
 // Whether the kernel of the process has so many Rendez from this one on.

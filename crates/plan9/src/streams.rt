@@ -1,5 +1,5 @@
 //! A reader and a writer as std's `Read` and `Write`, for code that knows no pipes.
-ghost use Rattle.std.specs.Prelude.{◌≡◌};
+ghost use Rattle.std.specs.Prelude.{◌≡◌, None};
 ghost use Rattle.plan9.specs.Streams.{kind_of as kind};
 
 use crate::pipes::{Reader, Writer};
@@ -31,7 +31,8 @@ pub struct WriteStream<'r, 'p, 'k, R> {
 impl<'r, 'p, 'k, R> ReadStream<'r, 'p, 'k, R> {
     /// A stream of this reader. Takes no memory and doesn't wait.
     pub fn new(rt: &'r R, reader: Reader<'p, 'k>) -> ReadStream<'r, 'p, 'k, R>
-        ensures { result.reader ≡ reader.entry }
+        ensures reader { result.reader ≡ reader.entry }
+        ensures fault { result.fault ≡ None }
     {
         ReadStream {
             rt,
@@ -44,7 +45,8 @@ impl<'r, 'p, 'k, R> ReadStream<'r, 'p, 'k, R> {
 impl<'r, 'p, 'k, R> WriteStream<'r, 'p, 'k, R> {
     /// A stream of this writer. Takes no memory and doesn't wait.
     pub fn new(alloc: Global, rt: &'r R, writer: Writer<'p, 'k>) -> WriteStream<'r, 'p, 'k, R>
-        ensures { result.writer ≡ writer.entry }
+        ensures writer { result.writer ≡ writer.entry }
+        ensures fault { result.fault ≡ None }
     {
         WriteStream {
             alloc,
@@ -69,20 +71,22 @@ fn kind_of(fault: Fault) -> ErrorKind
 }
 
 impl<'r, 'p, 'k, R: Wait> Read for ReadStream<'r, 'p, 'k, R> {
-    ghost use Rattle.std.specs.Prelude.{None};
+    ghost use Rattle.std.specs.Prelude.{◌≡◌, None, OnOk};
     ghost use Rattle.std.specs.Io.{ReadsAtMost};
     ghost use Rattle.std.specs.Io.KnownBytes.{ReadConsumes};
     ghost use Rattle.plan9.specs.Streams.{Streams, lent};
 
     /// Reads as `Reader::next_piece`, and answers no bytes at the end alone: empty writes are
     /// passed. A buffer of no bytes is given none, and nothing is read. It waits. Takes no memory.
-    /// A fault is in `fault`; the error is `OutOfMemory`, `BrokenPipe` for `Hungup`, `ResourceBusy`
-    /// for `DoubleSleep`, and else `Other`, also where notes ended the wait.
+    /// A fault is in `fault`, which a read that succeeds leaves as it was. The error then is
+    /// `OutOfMemory`, `BrokenPipe` for `Hungup`, `ResourceBusy` for `DoubleSleep`, and else
+    /// `Other`, also where notes ended the wait.
     fn read(&mut self, buf: &mut [u8]) -> io::Result<usize>
         ensures bound { ReadsAtMost result buf.new }
         ensures bytes { ReadConsumes None None result buf.new }
         ensures reads { Streams (lent self.old.reader buf.old) result self.new.fault
             (lent self.new.reader buf.new) }
+        ensures kept { OnOk result (self.new.fault ≡ self.old.fault) }
     {
         if buf.is_empty() {
             return Ok(0);
@@ -103,7 +107,7 @@ impl<'r, 'p, 'k, R: Wait> Read for ReadStream<'r, 'p, 'k, R> {
 }
 
 impl<'r, 'p, 'k, R: Wait> Write for WriteStream<'r, 'p, 'k, R> {
-    ghost use Rattle.std.specs.Prelude.{None};
+    ghost use Rattle.std.specs.Prelude.{◌≡◌, None, OnOk, OnErr};
     ghost use Rattle.std.specs.Io.{WritesAtMost};
     ghost use Rattle.std.specs.Io.KnownBytes.{WriteAppends};
     ghost use Rattle.plan9.specs.Streams.{StreamsOut};
@@ -116,6 +120,7 @@ impl<'r, 'p, 'k, R: Wait> Write for WriteStream<'r, 'p, 'k, R> {
         ensures bytes { WriteAppends None None result buf.now }
         ensures writes { StreamsOut self.old.writer buf.now result self.new.fault
             self.new.writer }
+        ensures kept { OnOk result (self.new.fault ≡ self.old.fault) }
     {
         let count = buf.len().min(ATOMIC_SIZE as usize);
         if count == 0 {
@@ -130,8 +135,11 @@ impl<'r, 'p, 'k, R: Wait> Write for WriteStream<'r, 'p, 'k, R> {
         }
     }
 
-    /// Nothing is held back. Takes no memory and doesn't wait.
-    fn flush(&mut self) -> io::Result<()> {
+    /// Nothing is held back, so nothing is done. Takes no memory and doesn't wait.
+    fn flush(&mut self) -> io::Result<()>
+        ensures same { self.new ≡ self.old }
+        ensures done { OnErr result ⊥ }
+    {
         Ok(())
     }
 }

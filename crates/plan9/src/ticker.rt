@@ -10,8 +10,14 @@ use sync_base::NoteSet;
 
 /// What tells a ticker when to tick.
 pub trait Time {
+    ghost use Rattle.std.specs.Prelude.{⊤, ℕ};
+
+    /// What is known of a moment, by the time before it and behind it: nothing, unless it is said.
+    ghost tells: { Self → ℕ → Self → Type 0 } = { λ old moment new. ⊤ };
+
     /// Waits until the next moment to tick at, if it likes, and says which it is, in milliseconds.
-    fn next(&mut self) -> u64;
+    fn next(&mut self) -> u64
+        ensures told { tells self.old result self.new };
 }
 
 /// Real time that a ticker and those who wait share: the milliseconds since it was made. Its `beat`
@@ -81,14 +87,15 @@ fn passed<R: Clock>(rt: &R, began: Option<Instant>) -> Option<u64> {
 }
 
 impl<'r, R: Clock> Time for Beat<'r, R> {
-    ghost use Rattle.std.specs.Prelude.{◌≡◌, ◌+◌, ◌<◌, ◌^◌};
+    ghost use Rattle.plan9.specs.Tickers.{IsBeat};
+
+    ghost tells = { λ old moment new. IsBeat old.now moment new.now };
 
     /// Sleeps for a millisecond, and says how many have passed since it began: more than it said
     /// before, up to the last number. Where the clock can't be read it counts each sleep as one. A
     /// note does not end the sleep. Takes no memory.
     fn next(&mut self) -> u64
-        ensures on { self.old.now + 1 < 2 ^ 64 → self.old.now < self.new.now }
-        ensures moment { result ≡ self.new.now }
+        ensures told { IsBeat self.old.now result self.new.now }
     {
         sleep(self.rt, Duration::from_millis(1));
         let counted = self.now.saturating_add(1);
@@ -108,14 +115,14 @@ pub struct Ticker<'t, 'k> {
 }
 
 impl<'t, 'k> Ticker<'t, 'k> {
-    ghost use Rattle.plan9.specs.Tickers.{TicksOn};
+    ghost use Rattle.plan9.specs.Tickers.{TicksOn, timed};
 
-    /// Ticks at each moment that comes, until notes are pending for its process, and answers those,
-    /// which are pending no longer. It looks for notes before each moment that it asks for, so the
-    /// last tick may stand after a note. It waits, in `time` and for the timers' lock. Takes no
-    /// memory.
+    /// Ticks at each moment that `time` gives, once and in their order, until notes are pending for
+    /// its process, and answers those, which are pending no longer. It looks for notes before each
+    /// moment that it asks for, so the last tick may stand after a note. It waits, in `time` and
+    /// for the timers' lock. Takes no memory.
     pub fn run<R: Wait, T: Time>(&mut self, rt: &R, time: &mut T) -> NoteSet
-        ensures { TicksOn self.old result self.new }
+        ensures { TicksOn T.tells (timed self.old time.old) result (timed self.new time.new) }
     {
         'ticking: for _ in rt.forever() {
             let came = self.proc.notes();

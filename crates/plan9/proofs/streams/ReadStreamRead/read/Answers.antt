@@ -12,6 +12,7 @@ reading-preserved g c =
           (lent c.reading.self.reader c.reading.buf)
           (lent c.next_piece.new.self c.next_piece.new.buffer) c.next_piece.result
           c.reading.invariant.so_far came c.next_piece.ensures;
+      kept = c.reading.invariant.kept;
     }
 
 pub returns-in-Ok-Some-clause-reads : goal.returns-in-Ok-Some-clause-reads

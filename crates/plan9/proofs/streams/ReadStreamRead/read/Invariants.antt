@@ -1,4 +1,5 @@
--- some empty writes were passed
+-- some empty writes were passed, and no fault came
+use Rattle.std.proofs.Common.{◌≡◌}
 use Rattle.plan9.specs.Streams.{lent}
 use Rattle.plan9.proofs.StreamLemmas.{Passed}
 use Rattle.plan9.proofs.streams.ReadStreamRead.read.Given as goal
@@ -7,4 +8,5 @@ abbrev pub invariant-reading : goal.invariant-reading
 invariant-reading g l =
     record {
       so_far : Passed (lent l.initial.self.reader l.initial.buf) (lent l.self.reader l.buf);
+      kept : l.self.fault ≡ l.initial.self.fault;
     }

@@ -1,6 +1,6 @@
 -- a tick more, and the notes that ended it
 use Rattle.std.proofs.Common.{suc, refl, subst}
-use Rattle.plan9.specs.Tickers.{Looks}
+use Rattle.plan9.specs.Tickers.{Looks, timed}
 use Rattle.plan9.proofs.ticker.Ticker.run.Goals as goal
 
 pub ticking-preserved : goal.ticking-preserved
@@ -9,7 +9,7 @@ ticking-preserved g c =
       times = (
         suc c.ticking.invariant.times.0,
         record {
-          between = c.ticking.self;
+          between = timed c.ticking.self c.ticking.time;
           rounds = c.ticking.invariant.times.1;
           last = record {
             looked = c.notes-came.new.self;
@@ -20,6 +20,7 @@ ticking-preserved g c =
                   took = c.notes-came.ensures.taken;
                 });
             now = c.next-moment.result;
+            told = c.next-moment.ensures.told;
             expired = c.tick-expired.result;
             same = c.tick-expired.ensures.same;
             words_are = c.tick-expired.ensures.words;
@@ -33,7 +34,7 @@ pub returns-then-not-is_empty : goal.returns-then-not-is_empty
 returns-then-not-is_empty g c =
     record {
       times = c.ticking.invariant.times.0;
-      before = c.ticking.self;
+      before = timed c.ticking.self c.ticking.time;
       ticked = c.ticking.invariant.times.1;
       ended = record {
         some = λ same. let is = c.is_empty.ensures.1 same in
@@ -43,5 +44,6 @@ returns-then-not-is_empty g c =
           words_are = c.notes-came.ensures.words;
           took = c.notes-came.ensures.taken;
         };
+        time_is = refl;
       };
     }

@@ -1,0 +1,109 @@
+-- What is no look, no tick and no end of a ticker: each against one row of what a ticker does. And
+-- where each tick is of a time that counts.
+use Rattle.std.proofs.Common.{◌≡◌, ◌≢◌, ◌+◌, ℕ, refl, ap, arith}
+use Rattle.sync_base.specs.declared.note.NoteSet.{NoteSet}
+use Rattle.sync_base.specs.NoteSet.{no_notes}
+use Rattle.rendez_words.specs.Steps.{drains}
+use Rattle.rendez_words.specs.Words.{procs_of}
+use Rattle.sleep_wakeup.specs.Kernel.{Running}
+use Rattle.semaphore.specs.Ticking.{Ticks}
+use Rattle.waiting.specs.Waiting.{point}
+use Rattle.pipe_dev.specs.Rounds.{Rounds}
+use Rattle.plan9.specs.Tickers.{IsBeat, Timed, Looks, TicksOnce, EndsTicking, TicksOn}
+use Rattle.plan9.specs.Watches.{IsSameWatch}
+
+module _ (old new : Running) (came : NoteSet) where
+  a_look_at_another_kernel : new.words ≢ old.words → ¬ Looks old came new
+  a_look_at_another_kernel other looks = other looks.words_are
+
+  notes_that_were_not_taken : new.process ≢ drains old.process came → ¬ Looks old came new
+  notes_that_were_not_taken other looks = other looks.took
+
+-- a beat stands still, or goes back, or says another moment than its own
+a_beat_that_stands_still : ¬ IsBeat 3 3 3
+a_beat_that_stands_still beat = let more = beat.on (omega arith) in omega (arith, more)
+
+a_beat_that_goes_back : ¬ IsBeat 3 2 2
+a_beat_that_goes_back beat = let more = beat.on (omega arith) in omega (arith, more)
+
+a_beat_that_says_another_moment : ¬ IsBeat 3 5 4
+a_beat_that_says_another_moment beat = let is : 5 ≡ 4 = beat.moment_is in omega (arith, is)
+
+-- but at the last number it stands
+a_beat_that_stands_at_the_end :
+    IsBeat 18446744073709551615 18446744073709551615 18446744073709551615
+a_beat_that_stands_at_the_end = record { on = λ more. omega (arith, more); moment_is = refl }
+
+-- ---- of any time
+
+module _ {Time : Type 0} (tells : Time → ℕ → Time → Type 0) (old new : Timed Time) where
+  notes_end_it_before_a_tick : ((looked : Running) → ¬ Looks old.ticker.proc no_notes looked)
+      → ¬ TicksOnce tells old new
+  notes_end_it_before_a_tick pending ticks = pending ticks.looked ticks.none
+
+  a_tick_at_no_moment_of_its_time : ((moment : ℕ) → ¬ tells old.time moment new.time)
+      → ¬ TicksOnce tells old new
+  a_tick_at_no_moment_of_its_time none ticks = none ticks.now ticks.told
+
+  a_tick_with_another_watch : ¬ IsSameWatch old.ticker.watch new.ticker.watch
+      → ¬ TicksOnce tells old new
+  a_tick_with_another_watch other ticks = other ticks.same
+
+  a_tick_is_at_its_kernel : (ticks : TicksOnce tells old new)
+      → new.ticker.proc.words ≡ ticks.looked.words
+  a_tick_is_at_its_kernel ticks = ticks.words_are
+
+  a_tick_is_one_of_its_timers : (ticks : TicksOnce tells old new)
+      → Ticks old.ticker.watch.timers (procs_of ticks.looked.words) ticks.now ticks.expired
+      (point old.ticker.watch.seat ticks.looked) (point new.ticker.watch.seat new.ticker.proc)
+  a_tick_is_one_of_its_timers ticks = ticks.called
+
+module _ {Time : Type 0} (old new : Timed Time) (came : NoteSet) where
+  no_notes_end_it_not : ¬ EndsTicking old no_notes new
+  no_notes_end_it_not ends = ends.some refl
+
+  a_tick_behind_its_notes : new.ticker.watch ≢ old.ticker.watch → ¬ EndsTicking old came new
+  a_tick_behind_its_notes other ends = other ends.watch_is
+
+  an_end_without_a_look : ¬ Looks old.ticker.proc came new.ticker.proc
+      → ¬ EndsTicking old came new
+  an_end_without_a_look other ends = other ends.looked
+
+  a_moment_behind_its_notes : new.time ≢ old.time → ¬ EndsTicking old came new
+  a_moment_behind_its_notes other ends = other ends.time_is
+
+module _ {Time : Type 0} (tells : Time → ℕ → Time → Type 0) (old new : Timed Time)
+    (came : NoteSet) where
+  an_end_of_no_ticks :
+      ((times : ℕ) (before : Timed Time) → ¬ Rounds (TicksOnce tells) times old before)
+      → ¬ TicksOn tells old came new
+  an_end_of_no_ticks none ticks = none ticks.times ticks.before ticks.ticked
+
+  ticks_that_no_notes_end : ((before : Timed Time) → ¬ EndsTicking before came new)
+      → ¬ TicksOn tells old came new
+  ticks_that_no_notes_end none ticks = none ticks.before ticks.ended
+
+-- ---- of a time that counts
+
+-- it is a number, which each moment is one above
+abbrev counts : ℕ → ℕ → ℕ → Type 0
+counts old moment new = (moment ≡ old + 1) × (new ≡ old + 1)
+
+module _ (old new : Timed ℕ) where
+  the_first_tick_is_at_one : old.time ≡ 0 → (ticks : TicksOnce counts old new) → ticks.now ≡ 1
+  the_first_tick_is_at_one start ticks = let told = ticks.told.0 in omega (arith, start, told)
+
+  the_second_tick_is_at_two : old.time ≡ 0 → (ticks : Rounds (TicksOnce counts) 2 old new)
+      → ticks.last.now ≡ 2
+  the_second_tick_is_at_two start ticks =
+      let begun = ap (λ it. it.time) ticks.rounds.rounds in
+      let first = ticks.rounds.last.told.1 in
+      let second = ticks.last.told.0 in
+      omega (arith, start, begun, first, second)
+
+  two_ticks_are_two_moments : Rounds (TicksOnce counts) 2 old new → new.time ≡ old.time + 2
+  two_ticks_are_two_moments ticks =
+      let begun = ap (λ it. it.time) ticks.rounds.rounds in
+      let first = ticks.rounds.last.told.1 in
+      let second = ticks.last.told.1 in
+      omega (arith, begun, first, second)

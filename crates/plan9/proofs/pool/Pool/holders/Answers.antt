@@ -1,0 +1,44 @@
+-- the children hold, and the first behind them; or one does not, and the first comes back
+use Rattle.std.proofs.Common.{◌≡◌, ◌⊎◌, ◌∙◌, arith, inl, inr, subst}
+use Rattle.histories.proofs.ListLemmas.{all_weaker}
+use Rattle.std.specs.List.{AllByRecursion}
+use Rattle.plan9.proofs.PoolLemmas.{all_and_one, one_longer}
+use Rattle.plan9.proofs.pool.Pool.holders.Goals as goal
+
+pub returns-in-Ok-fork_others-clause-holders : goal.returns-in-Ok-fork_others-clause-holders
+returns-in-Ok-fork_others-clause-holders g c =
+    let first = c.in_ok-first.ensures.first in
+    let same = c.fork_others.ensures.parent in
+    let children = c.fork_others.new.holders.items in
+    let all = c.push_reserved.new.self.items in
+    let last = c.fork_others.new.first in
+    let items = c.push_reserved.ensures.items in
+    let counted = c.in-Ok-fork_others.ensures.counted in
+    let longer = one_longer children all last items in
+    record {
+      count_is = omega (arith, counted, longer);
+      at_sema = all_and_one (λ holding. holding.sema ≡ c.args.self.now.sema) children all last
+          items (subst (λ sema. AllByRecursion (λ holding. holding.sema ≡ sema) children)
+          first.sema_is c.fork_others.ensures.at_sema) (same.sema_is ∙ first.sema_is);
+      kernels = all_and_one (λ holding. (holding.running ≡ c.args.proc)
+          ⊎ (holding.running.words ≡ c.args.roster.now.words)) children all last items
+          (all_weaker (λ holding. holding.running.words ≡ c.args.roster.now.words)
+          (λ holding. (holding.running ≡ c.args.proc)
+          ⊎ (holding.running.words ≡ c.args.roster.now.words))
+          (λ holding is. inr is) children c.fork_others.ensures.kernels)
+          (inl (same.running_is ∙ first.running_is));
+    }
+
+pub returns-clause-fault : goal.returns-clause-fault
+returns-clause-fault g c =
+    record {
+      why = inr (inr (inr (record {
+        may = c.may_hold.ensures.0 c.if-not-may_hold.false;
+        first = c.in_ok-first.first;
+        last = c.fork_others.new.first;
+        first_is = c.in_ok-first.ensures.first;
+        stops = c.in-Err.ensures.fault;
+      })));
+      proc_is = c.into_proc.ensures ∙ c.fork_others.ensures.parent.running_is
+          ∙ c.in_ok-first.ensures.first.running_is;
+    }
