@@ -20,6 +20,7 @@ use Rattle.pipe_dev.specs.BlockReads.{ReadsBlock}
 use Rattle.pipe_dev.specs.ReadCalls.{Calling}
 use Rattle.pipe_dev.specs.Sides.{HasWrittenJust}
 use Rattle.pipe_dev.specs.WriteCalls.{Writes, call_of, writer_of}
+use Rattle.pipe_dev.proofs.BlockLemmas.{found_end}
 use Rattle.pipe_dev.proofs.SideLemmas.{writes_add}
 use Rattle.crew.specs.declared.crew.Writer.{Writer}
 use Rattle.crew.specs.Message.{message_of}
@@ -35,7 +36,8 @@ hung_now key seat old new enters = ap (λ (a : Account Entry). is_hung a.seen) e
 at_end_now : (key : Key) (row : Row) (old new : Calling) → ReadsBlock key row old (Ok read.End) new
     → is_at_end new.reader.account.seen ≡ true
 at_end_now key row old new reads =
-    ap (λ (a : Account Entry). is_at_end a.seen) reads.ended.0.entered.adds.new_is
+    ap (λ (a : Account Entry). is_at_end a.seen)
+    (found_end key row old new reads).1.entered.adds.new_is
 
 -- the same, of an answer that is the end
 pub at_end : (key : Key) (row : Row) (old : Calling) (answer : Result ReadAnswer Fault)

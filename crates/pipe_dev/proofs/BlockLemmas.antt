@@ -1,55 +1,89 @@
 -- What reads of blocks come to, and what they add to what their end has read.
-use Rattle.std.proofs.Common.{◌≡◌, inl, ℕ, suc, ◌<◌, Bool, true, false, nat_le}
+use Rattle.std.proofs.Common.{◌≡◌, inl, inr, ℕ, suc, ◌<◌, Bool, true, false, nat_le}
 use Rattle.std.proofs.Common.{List, ◌∷◌, length, take, refl, sym, ◌∙◌, ap, subst, arith, None, Some}
 use Rattle.std.proofs.Common.{if◌then◌else◌, drop}
-use Rattle.std.specs.Prelude.{Result, Ok, Err}
+use Rattle.std.specs.Prelude.{Result, Ok, Err, ⊤}
 use Rattle.std.proofs.lemmas.Bool.Decides.{nat_tests}
 use Rattle.std.proofs.lemmas.List.{take_all}
 use Rattle.sync_base.specs.declared.fault.Fault.{Fault}
 use Rattle.sync_base.specs.declared.fault.Fault.TheVariants as fault
+use Rattle.rendez_words.specs.Process.{Process}
+use Rattle.sleep_wakeup.specs.Deeds.{FailsAsleep}
 use Rattle.sync_base.specs.declared.ids.RendezId.{RendezId}
 use Rattle.sync_base.specs.declared.mode.Mode.TheVariants.{Message}
-use Rattle.rendez_words.specs.declared.words.Words.{Words}
-use Rattle.rendez_words.specs.Process.{Process}
-use Rattle.sleep_wakeup.specs.Calls.{WhyNotSlept}
-use Rattle.histories.specs.declared.account.Account.{Account}
-use Rattle.block_queue.specs.declared.entry.Entry.{Entry}
+use Rattle.block_queue.specs.declared.entry.Entry.TheVariants.{NotYet, End}
 use Rattle.block_queue.specs.declared.view.Key.{Key}
 use Rattle.block_queue.specs.Seats.{key_of}
 use Rattle.pipe_dev.specs.declared.answers.ReadAnswer.{ReadAnswer}
 use Rattle.pipe_dev.specs.declared.answers.ReadAnswer.TheVariants as read
 use Rattle.pipe_dev.specs.declared.row.Row.{Row}
-use Rattle.pipe_dev.specs.BlockReads.{GetsBlock, KeepsReadingBlock}
+use Rattle.pipe_dev.specs.BlockReads.{GetsBlock, AsksForBlock, ReadsBlock}
 use Rattle.pipe_dev.specs.CallLaws.{BlockReadsAreSteps}
 use Rattle.pipe_dev.specs.Chain.{AddsPart, AddsRead, IsOfSteps, reading_at}
 use Rattle.pipe_dev.specs.Parts.{Part, part_of, rest_of}
-use Rattle.pipe_dev.specs.ReadCalls.{Reader, Calling, calling, reader_of, FindsNotYet}
-use Rattle.pipe_dev.specs.ReadCalls.{FailsForWrite}
-use Rattle.pipe_dev.specs.Rendezes.{HasRow, reader_rendez}
+use Rattle.pipe_dev.specs.Filling.{Lending, Taker, FindsNothing}
+use Rattle.pipe_dev.specs.ReadCalls.{Reader, Calling, calling, reader_of, GivesUp, waits_by}
+use Rattle.pipe_dev.specs.ReadCalls.{IsAskedRead, calling_at, lent_at}
+use Rattle.pipe_dev.specs.Rendezes.{reader_rendez}
 use Rattle.pipe_dev.specs.SideLaws.{BlockReadsAddToTheirEnd}
-use Rattle.pipe_dev.proofs.ChainLemmas.{slept_then, slept_then_ended, slept_then_failed}
-use Rattle.pipe_dev.proofs.ChainLemmas.{got_next, no_step}
-use Rattle.pipe_dev.proofs.RoundLemmas.{fails_asleep, not_yet_low}
+use Rattle.pipe_dev.proofs.ChainLemmas.{Makes, makes_more, taker_reads, found_none, got_next}
+use Rattle.pipe_dev.proofs.ChainLemmas.{no_step}
+use Rattle.pipe_dev.proofs.SightLemmas.{waited_ends, refused_for}
+use Rattle.waiting.specs.declared.call.Reply.{Reply}
+use Rattle.waiting.specs.declared.call.Reply.TheVariants.{Wait}
+use Rattle.waiting.specs.Waiting.{Point, Waited, reply_of}
 use Rattle.pipe_dev.proofs.SideLemmas.{steps_add}
 
 -- ---- a call
 
--- a sleep that did not end well
-pub fails_for_write : (words : Words) (key : Key) (row : Row) (old : Reader)
-    (account : Account Entry) (number : ℕ) (rendez : RendezId) (after : Process) (why : Fault)
-    → key.first ≡ 0 → HasRow words row → rendez ≡ reader_rendez row
-    → FindsNotYet key number old (record { account = account; rest = None; process = old.process })
-    → WhyNotSlept words old.process rendez number after why
-    → FailsForWrite key row old why (record { account = account; rest = None; process = after })
-fails_for_write words key row old account number rendez after why first has is found failed =
-    record {
-      number = number;
-      found = found;
-      failed = fails_asleep words old.process (reader_rendez row) number after why
-          (omega (arith, has))
-          (not_yet_low key number old.account account first found.none.entered)
-          (subst (λ (r : RendezId). WhyNotSlept words old.process r number after why) is failed);
-    }
+-- it is refused by no request, and a failed sleep has other reasons
+failed : (before after : Process) (rendez : RendezId) (number : ℕ) (why : Fault)
+    → FailsAsleep before rendez number after why → IsAskedRead (Err why)
+failed before after rendez number (fault.Interrupted notes) fails = tt
+failed before after rendez number fault.DoubleSleep fails = tt
+failed before after rendez number other fails = absurd fails
+
+-- so it answers nothing that comes before its first request
+pub is_asked_block : (key : Key) (row : Row) (rendez : RendezId) (old : Point Lending)
+    (answer : Result ReadAnswer Fault) (new : Point Lending)
+    → Waited (waits_by (AsksForBlock key row)) rendez old answer new → IsAskedRead answer
+is_asked_block key row rendez old (Ok answer) new waited = tt
+is_asked_block key row rendez old (Err why) new waited =
+    refused_for (λ old told new. AsksForBlock key row (calling_at old) told (calling_at new))
+    GivesUp rendez (λ why. IsAskedRead (Err why)) (λ old new why asks. absurd asks)
+    (λ before after number why fails. failed before after rendez number why fails)
+    old why new waited
+
+-- where it was answered the end, its last request found it
+abbrev FoundEnd : Key → Result ReadAnswer Fault → Lending → Type 0
+FoundEnd key (Ok read.End) seat = (old : Taker) × FindsNothing key End old seat.taker
+FoundEnd key answer seat = ⊤
+
+request_found_end : (key : Key) (row : Row) (old new : Point Lending)
+    (answer : Result ReadAnswer Fault)
+    → AsksForBlock key row (calling_at old) (reply_of answer) (calling_at new)
+    → FoundEnd key answer new.seat
+request_found_end key row old new (Ok read.End) asks = (
+  old.seat.taker,
+  record {
+    none_left = asks.0.none_left;
+    entered = asks.0.entered;
+    rest = asks.0.rest;
+  },
+)
+request_found_end key row old new (Ok (read.Got count)) asks = tt
+request_found_end key row old new (Err why) asks = tt
+
+-- so of a whole call
+pub found_end : (key : Key) (row : Row) (old new : Calling)
+    → ReadsBlock key row old (Ok read.End) new
+    → (before : Taker) × FindsNothing key End before (lent_at new).seat.taker
+found_end key row old new reads =
+    waited_ends (λ old told new. AsksForBlock key row (calling_at old) told (calling_at new))
+    GivesUp (reader_rendez row) (λ seat. ⊤) (FoundEnd key) (λ old new number on asks. tt)
+    (λ old new answer on asks. request_found_end key row old new answer asks)
+    (λ old new out on gives. absurd gives) (λ old new why on same. tt)
+    (lent_at old) (Ok read.End) (lent_at new) tt reads
 
 -- ---- the laws
 
@@ -87,37 +121,88 @@ block_part key row old new block parts gets =
       parts = refl;
     }
 
-kept_steps : (key : Key) (row : Row) (old : Calling) (answer : Result ReadAnswer Fault)
-    (new : Calling) → KeepsReadingBlock key row old answer new → (parts : List Part)
+module _ (key : Key) (row : Row) (begun : Reader) (parts : List Part) where
+  -- while it waits it has added nothing
+  abbrev On : Lending → Type 0
+  On seat = Makes key (reading_at begun parts) (taker_reads seat.taker parts)
+
+  -- and at the end what it answers
+  record Over (answer : Result ReadAnswer Fault) (seat : Lending) : Type 0 where
+    parts' : List Part
+    added : AddsRead Message answer seat.buffer parts parts'
+    makes : Makes key (reading_at begun parts) (taker_reads seat.taker parts')
+
+  abbrev Asks : Point Lending → Reply ReadAnswer → Point Lending → Type 0
+  Asks old told new = AsksForBlock key row (calling_at old) told (calling_at new)
+
+  goes_on : (old new : Point Lending) (number : ℕ) → On old.seat → Asks old (Wait number) new
+      → On new.seat
+  goes_on old new number makes asks =
+      makes_more key (reading_at begun parts) (taker_reads old.seat.taker parts)
+      (taker_reads new.seat.taker parts) makes
+      (inr (found_none key (NotYet number) (calling_at old).reader (calling_at new).reader parts tt
+      asks.0.none))
+
+  answered : (old new : Point Lending) (answer : Result ReadAnswer Fault) → On old.seat
+      → Asks old (reply_of answer) new → Over answer new.seat
+  answered old new (Ok (read.Got count)) makes asks =
+      let gets = asks.0 in
+      record {
+        parts' = gets.left ∷ parts;
+        added = record {
+          part = gets.left;
+          bytes = sym gets.block_is
+              ∙ sym (ap (λ n. take n new.seat.buffer) asks.1
+              ∙ take_all (length new.seat.buffer) new.seat.buffer (omega arith));
+          parts_are = refl;
+        };
+        makes = makes_more key (reading_at begun parts) (taker_reads old.seat.taker parts)
+            (taker_reads new.seat.taker (gets.left ∷ parts)) makes
+            (inl (block_part key row (calling_at old).reader (calling_at new).reader
+            new.seat.buffer parts gets));
+      }
+  answered old new (Ok read.End) makes asks =
+      record {
+        parts' = parts;
+        added = refl;
+        makes = makes_more key (reading_at begun parts) (taker_reads old.seat.taker parts)
+            (taker_reads new.seat.taker parts) makes
+            (inr (found_none key End (calling_at old).reader (calling_at new).reader parts tt
+            asks.0));
+      }
+  answered old new (Err why) makes asks = absurd asks
+
+  gave_up : (old new : Lending) (why : Fault) → On old → new ≡ old → Over (Err why) new
+  gave_up old new why makes same =
+      record { parts' = parts; added = refl; makes = subst On (sym same) makes }
+
+waited_steps : (key : Key) (row : Row) (old : Calling) (answer : Result ReadAnswer Fault)
+    (new : Calling) → Waited (waits_by (AsksForBlock key row)) (reader_rendez row) (lent_at old)
+    answer (lent_at new)
+    → (parts : List Part)
     → IsOfSteps key (AddsRead Message answer new.buffer) old.reader parts new.reader
-kept_steps key row old (Ok (read.Got count)) new reads parts =
-    let gets = reads.ended.0 in
-    slept_then key row (AddsRead Message (Ok (read.Got count)) new.buffer) reads.times old.reader
-    reads.between new.reader parts (gets.left ∷ parts) reads.slept
-    (record {
-      part = gets.left;
-      bytes = sym gets.block_is
-          ∙ sym (ap (λ n. take n new.buffer) reads.ended.1
-          ∙ take_all (length new.buffer) new.buffer (omega arith));
-      parts_are = refl;
-    })
-    (inl (block_part key row reads.between new.reader new.buffer parts gets))
-kept_steps key row old (Ok read.End) new reads parts =
-    slept_then_ended key row (AddsRead Message (Ok read.End) new.buffer) reads.times old.reader
-    reads.between new.reader parts refl reads.slept reads.ended.0
-kept_steps key row old (Err why) new reads parts =
-    slept_then_failed key row (AddsRead Message (Err why) new.buffer) reads.times old.reader
-    reads.between new.reader parts why refl reads.slept reads.ended.0
+waited_steps key row old answer new waited parts =
+    let over = waited_ends (Asks key row old.reader parts) GivesUp (reader_rendez row)
+    (On key row old.reader parts) (Over key row old.reader parts)
+    (goes_on key row old.reader parts) (answered key row old.reader parts)
+    (λ old new out makes gives. absurd gives) (gave_up key row old.reader parts)
+    (lent_at old) answer (lent_at new) (record { times = 0; steps = refl }) waited in
+    record {
+      parts' = over.parts';
+      added = over.added;
+      times = over.makes.times;
+      steps = over.makes.steps;
+    }
 
 -- each read of a block is steps of its end, and adds one part, whose bytes are the block
 pub block_reads_are_steps : BlockReadsAreSteps
 block_reads_are_steps key row old (Ok answer) new reads parts =
-    kept_steps key row old (Ok answer) new reads parts
+    waited_steps key row old (Ok answer) new reads parts
 block_reads_are_steps key row old (Err fault.NoRendez) new reads parts =
     no_step key (AddsRead Message (Err fault.NoRendez) new.buffer) old.reader new.reader parts
     reads.same refl
 block_reads_are_steps key row old (Err why) new reads parts =
-    kept_steps key row old (Err why) new reads parts
+    waited_steps key row old (Err why) new reads parts
 
 -- it adds to what its end has read just what it answers, and the end stays where it is
 pub block_reads_add : BlockReadsAddToTheirEnd

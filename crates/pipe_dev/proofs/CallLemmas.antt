@@ -1,16 +1,18 @@
 -- What the rounds of a read and of a write come to.
-use Rattle.std.proofs.Common.{◌≡◌, ℕ, ◌≢◌, ◌<◌, List, [], ◌∷◌, length, ap, refl, subst, arith, true}
-use Rattle.std.specs.Prelude.{Err}
+use Rattle.std.proofs.Common.{◌≡◌, ℕ, ◌≢◌, List, [], ◌∷◌, length, ap, refl, ◌∙◌}
+use Rattle.std.proofs.Common.{subst, arith, true}
+use Rattle.std.specs.Prelude.{Option, Some, None, Result, Ok, Err}
 use Rattle.sync_base.specs.declared.fault.Fault.{Fault}
 use Rattle.sync_base.specs.declared.fault.Fault.TheVariants as fault
 use Rattle.sync_base.specs.declared.ids.RendezId.{RendezId}
 use Rattle.rendez_words.specs.declared.words.Words.{Words}
 use Rattle.rendez_words.specs.Process.{Process}
 use Rattle.sleep_wakeup.specs.Calls.{WhyNotSlept}
-use Rattle.sleep_wakeup.specs.Deeds.{SleepsWell}
-use Rattle.histories.specs.declared.account.Account.{Account}
-use Rattle.block_queue.specs.declared.entry.Entry.{Entry}
+use Rattle.sleep_wakeup.specs.Deeds.{SleepsWell, FailsAsleep}
+use Rattle.block_queue.specs.declared.queue.Queue.{Queue}
+use Rattle.block_queue.specs.declared.seats.PutSeat.{PutSeat}
 use Rattle.block_queue.specs.declared.view.Key.{Key}
+use Rattle.block_queue.specs.Seats.{key_of}
 use Rattle.pipe_dev.specs.declared.row.Row.{Row}
 use Rattle.pipe_dev.specs.declared.filling.Came.{Came}
 use Rattle.pipe_dev.specs.declared.filling.Stop.TheVariants as stop
@@ -18,11 +20,15 @@ use Rattle.pipe_dev.specs.declared.reading.Found.TheVariants as found
 use Rattle.pipe_dev.specs.ReadCalls.{Calling, calling, came_to, TriesOn, GivesBytes, SleepsOn}
 use Rattle.pipe_dev.specs.ReadCalls.{FailsOn, is_got}
 use Rattle.pipe_dev.specs.ReadSteps.{found_of}
-use Rattle.pipe_dev.specs.Rendezes.{HasRow, reader_rendez, writer_rendez}
-use Rattle.pipe_dev.specs.WriteCalls.{WriteCall, Writer, FindsFull, FailsForRoom}
-use Rattle.pipe_dev.specs.WriteCalls.{EndsWrite, IsAsked}
+use Rattle.pipe_dev.specs.Rendezes.{HasRow, reader_rendez}
+use Rattle.pipe_dev.specs.WriteCalls.{WriteCall, Writer, AsksForRoom, GivesUp, IsAsked}
+use Rattle.pipe_dev.specs.WriteCalls.{writing, call_with}
+use Rattle.waiting.specs.declared.call.Reply.TheVariants.{Refused}
+use Rattle.waiting.specs.Waiting.{Waited}
+use Rattle.pipe_dev.proofs.SightLemmas.{refused_for}
 use Rattle.pipe_dev.proofs.ModeLemmas.{got_at, not_yet_at, end_at}
-use Rattle.pipe_dev.proofs.RoundLemmas.{fails_asleep, not_yet_low, full_low}
+use Rattle.pipe_dev.proofs.RoundLemmas.{not_yet_low}
+use Rattle.waiting.proofs.RoundLemmas.{fails_asleep}
 
 -- a buffer with room stays one
 pub still_some : (xs ys : List ℕ) → length ys ≡ length xs → xs ≢ [] → ys ≢ []
@@ -93,43 +99,44 @@ fails_on words key row old between came number rendez after why first has is tri
           failed);
     }
 
--- such a fault is answered by no other step of a write
-failed_write : (call : WriteCall) (old : Writer) (why : Fault) (new : Writer)
-    → FailsForRoom call old why new → EndsWrite call old (Err why) new × IsAsked (Err why)
-failed_write call old (fault.Interrupted notes) new fails = (fails, tt)
-failed_write call old fault.DoubleSleep new fails = (fails, tt)
-failed_write call old fault.NoRendez new fails = absurd fails.failed
-failed_write call old fault.BadLevel new fails = absurd fails.failed
-failed_write call old fault.Memory new fails = absurd fails.failed
-failed_write call old fault.Hungup new fails = absurd fails.failed
-failed_write call old fault.TooBig new fails = absurd fails.failed
-failed_write call old fault.BadArg new fails = absurd fails.failed
-failed_write call old fault.BadCount new fails = absurd fails.failed
-failed_write call old fault.BadSize new fails = absurd fails.failed
-failed_write call old fault.Worn new fails = absurd fails.failed
-failed_write call old fault.NoProc new fails = absurd fails.failed
-failed_write call old fault.BadFlags new fails = absurd fails.failed
-failed_write call old (fault.Script line) new fails = absurd fails.failed
-failed_write call old fault.TimedOut new fails = absurd fails.failed
-failed_write call old fault.Device new fails = absurd fails.failed
+-- the queue refuses a write for two reasons
+refused : (call : WriteCall) (old : Writer) (why : Fault) (new : Writer)
+    → AsksForRoom call old (Refused why) new → IsAsked (Err why)
+refused call old fault.Hungup new asks = tt
+refused call old fault.Worn new asks = tt
+refused call old other new asks = absurd asks
 
--- the sleep of a write did not end well
-pub write_fails : (words : Words) (call : WriteCall) (old : Writer) (account : Account Entry)
-    (number : ℕ) (rendez : RendezId) (after : Process) (why : Fault) → call.key.first ≡ 0
-    → HasRow words call.row → call.writer < call.row.writers
-    → rendez ≡ writer_rendez call.row call.writer
-    → FindsFull call number old (record { account = account; process = old.process })
-    → WhyNotSlept words old.process rendez number after why
-    → EndsWrite call old (Err why) (record { account = account; process = after })
-    × IsAsked (Err why)
-write_fails words call old account number rendez after why first has writer_in is found told =
-    failed_write call old why (record { account = account; process = after })
-    record {
-      number = number;
-      found = found;
-      failed = fails_asleep words old.process (writer_rendez call.row call.writer) number after
-          why
-          (omega (arith, has, writer_in))
-          (full_low call.key call.writer call.bytes number old.account account first found.entered)
-          (subst (λ (r : RendezId). WhyNotSlept words old.process r number after why) is told);
-    }
+-- and a sleep fails for two reasons
+failed : (before : Process) (rendez : RendezId) (number : ℕ) (after : Process) (why : Fault)
+    → FailsAsleep before rendez number after why → IsAsked (Err why)
+failed before rendez number after (fault.Interrupted notes) fails = tt
+failed before rendez number after fault.DoubleSleep fails = tt
+failed before rendez number after other fails = absurd fails
+
+-- so it answers nothing that comes before its first request
+pub is_asked : (call : WriteCall) (rendez : RendezId) (old : Writer) (answer : Result ℕ Fault)
+    (new : Writer) → Waited (writing call) rendez old answer new → IsAsked answer
+is_asked call rendez old (Ok number) new waited = tt
+is_asked call rendez old (Err why) new waited =
+    refused_for (AsksForRoom call) GivesUp rendez (λ why. IsAsked (Err why))
+    (λ old new why asks. refused call old why new asks)
+    (λ before after number why fails. failed before rendez number after why fails)
+    old why new waited
+
+-- what was asked for this call was asked for the same one
+pub same_call : (queue : Queue) (row : Row) (seat : PutSeat) (block bytes : List ℕ) (writer : ℕ)
+    → seat.writer ≡ writer → block ≡ bytes
+    → call_with queue row seat block
+    ≡ record { key = key_of queue; row = row; writer = writer; bytes = bytes }
+same_call queue row seat block bytes writer same is =
+    ap (λ (w : ℕ). record (call_with queue row seat block) { writer = w }) same
+    ∙ ap (λ (bs : List ℕ).
+    record (record (call_with queue row seat block) { writer = writer }) { bytes = bs }) is
+
+-- what is there is the same
+pub some_is : (block bytes : List ℕ) → Some block ≡ Some bytes → block ≡ bytes
+some_is block bytes same = ap inside same
+  where
+    inside : Option (List ℕ) → List ℕ
+    inside None = []
+    inside (Some one) = one

@@ -190,15 +190,18 @@ tried_steps key row old (Err why) new room reads parts =
 -- ---- reads that go on
 
 -- what a try adds: the parts that it read, and an entry where it found nothing
-abbrev taker_reads : Taker → List Part → Reading
+abbrev pub taker_reads : Taker → List Part → Reading
 taker_reads taker parts = record { account = taker.account; parts = parts; rest = taker.rest }
 
 -- some steps from one reading to another
-record Makes (key : Key) (old new : Reading) : Type 0 where
-  times : ℕ
-  steps : Rounds (ReadStep key) times old new
+pub record Makes (key : Key) (old new : Reading) : Type 0 where
+  -- so many
+  pub times : ℕ
+  -- each of them a step
+  pub steps : Rounds (ReadStep key) times old new
 
-makes_more : (key : Key) (old between new : Reading) → Makes key old between
+-- and one more
+pub makes_more : (key : Key) (old between new : Reading) → Makes key old between
     → ReadStep key between new → Makes key old new
 makes_more key old between new makes step =
     record {

@@ -1,4 +1,5 @@
 pub mod PartLemmas
+pub mod SightLemmas
 pub mod LawLemmas
 pub mod RoundLemmas
 pub mod LongLemmas

@@ -1,15 +1,7 @@
--- What a sleep between two tries tells, and which numbers it may have.
+-- Which numbers a sleep between two tries may have, and who knew of a hangup.
 use Rattle.std.proofs.Common.{◌≡◌, ℕ, ◌<◌, true, List, [], ◌∷◌, sym, subst, arith}
-use Rattle.sync_base.specs.declared.fault.Fault.{Fault}
-use Rattle.sync_base.specs.declared.fault.Fault.TheVariants as fault
-use Rattle.sync_base.specs.declared.ids.RendezId.{RendezId}
 use Rattle.sync_base.specs.declared.limits.TheConstants.{TOP_LEVEL}
 use Rattle.sync_base.specs.Pipe.{begun_number}
-use Rattle.rendez_words.specs.declared.words.Words.{Words}
-use Rattle.rendez_words.specs.Process.{Process}
-use Rattle.rendez_words.specs.Words.{rendez_of}
-use Rattle.sleep_wakeup.specs.Calls.{WhyNotSlept}
-use Rattle.sleep_wakeup.specs.Deeds.{FailsAsleep}
 use Rattle.histories.specs.declared.account.Account.{Account}
 use Rattle.histories.specs.History.{IsLegal}
 use Rattle.block_queue.specs.declared.entry.Entry.{Entry}
@@ -23,30 +15,6 @@ use Rattle.block_queue.specs.Places.{IsQueueState}
 use Rattle.block_queue.proofs.RuleMoves.{history_fits}
 use Rattle.block_queue.proofs.StateLemmas.{begun_is}
 use Rattle.pipe_dev.specs.WriteCalls.{HasHang}
-
--- a sleep of a Rendez that is there, below the level of a hangup
-pub fails_asleep : (words : Words) (before : Process) (rendez : RendezId) (threshold : ℕ)
-    (after : Process) (why : Fault) → rendez.0 < rendez_of words → threshold < TOP_LEVEL
-    → WhyNotSlept words before rendez threshold after why
-    → FailsAsleep before rendez threshold after why
-fails_asleep words before rendez threshold after (fault.Interrupted notes) there low told = told
-fails_asleep words before rendez threshold after fault.DoubleSleep there low told = told.1
-fails_asleep words before rendez threshold after fault.NoRendez there low told =
-    absurd (omega (arith, there, told.0))
-fails_asleep words before rendez threshold after fault.BadLevel there low told =
-    absurd (omega (arith, low, told.1))
-fails_asleep words before rendez threshold after fault.Memory there low told = absurd told
-fails_asleep words before rendez threshold after fault.Hungup there low told = absurd told
-fails_asleep words before rendez threshold after fault.TooBig there low told = absurd told
-fails_asleep words before rendez threshold after fault.BadArg there low told = absurd told
-fails_asleep words before rendez threshold after fault.BadCount there low told = absurd told
-fails_asleep words before rendez threshold after fault.BadSize there low told = absurd told
-fails_asleep words before rendez threshold after fault.Worn there low told = absurd told
-fails_asleep words before rendez threshold after fault.NoProc there low told = absurd told
-fails_asleep words before rendez threshold after fault.BadFlags there low told = absurd told
-fails_asleep words before rendez threshold after (fault.Script line) there low told = absurd told
-fails_asleep words before rendez threshold after fault.TimedOut there low told = absurd told
-fails_asleep words before rendez threshold after fault.Device there low told = absurd told
 
 -- the entry is right behind what was seen before it
 pub entered_right : (key : Key) (entry : Entry) (old new : Account Entry)

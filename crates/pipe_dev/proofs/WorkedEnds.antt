@@ -1,5 +1,5 @@
 -- What an end has between two calls and what a round of a call comes to, in plain words.
-use Rattle.std.proofs.Common.{◌≡◌, ℕ, true, List, [], ◌∷◌, Some, None}
+use Rattle.std.proofs.Common.{◌≡◌, ℕ, true, [], ◌∷◌, Some, None}
 use Rattle.std.specs.Prelude.{Err}
 use Rattle.sync_base.specs.declared.fault.Fault.TheVariants as fault
 use Rattle.sleep_wakeup.specs.Deeds.{SleepsWell}
@@ -11,12 +11,10 @@ use Rattle.pipe_dev.specs.declared.row.Row.{Row}
 use Rattle.pipe_dev.specs.Ends.{WriteSide, HasReadCursor, HasWriteSeat}
 use Rattle.pipe_dev.specs.ReadCalls.{Calling}
 use Rattle.pipe_dev.specs.ReadSteps.{IfOver as IfReadOver, IfSlept}
-use Rattle.pipe_dev.specs.Rendezes.{reader_rendez, writer_rendez}
+use Rattle.pipe_dev.specs.Rendezes.{reader_rendez}
 use Rattle.pipe_dev.specs.Seating.{AreSeated}
 use Rattle.pipe_dev.specs.WriteCalls.{WriteCall, Writer, HasHang, IsTooLate, IsWornOut}
-use Rattle.pipe_dev.specs.WriteCalls.{FindsFull, SleepsForRoom}
-use Rattle.pipe_dev.specs.WriteSteps.{IfOver as IfWriteOver, IfAgain}
-use Rattle.pipe_dev.specs.declared.writing.Turn.TheVariants.{Over, Again}
+use Rattle.pipe_dev.specs.WriteCalls.{FindsFull}
 
 module _ (queue : Queue) (row : Row) where
   -- between two calls nobody has taken its cursor from an end
@@ -49,39 +47,19 @@ module _ (key : Key) (row : Row) (old new : Calling) where
   a_round_that_goes_on_slept slept = slept.slept
 
 module _ (call : WriteCall) (old new : Writer) where
-  -- no round of a write finds its bytes too big, or its process of another kernel, or wants memory
-  round_finds_too_big : IfWriteOver (Over (Err fault.TooBig)) call old new → ⊥
-  round_finds_too_big over = over.1
-
-  round_finds_no_rendez : IfWriteOver (Over (Err fault.NoRendez)) call old new → ⊥
-  round_finds_no_rendez over = over.1
-
-  round_of_a_write_wants_memory : IfWriteOver (Over (Err fault.Memory)) call old new → ⊥
-  round_of_a_write_wants_memory over = over.1
-
   -- who is told of a hangup has seen it
-  who_is_too_late_has_seen_it : IsTooLate call old new → HasHang new.account.seen
+  who_is_too_late_has_seen_it : IsTooLate call old new → HasHang new.seat.seen
   who_is_too_late_has_seen_it late = late.knew
-
-  -- a round that goes on hands the bytes back
-  a_round_that_goes_on_hands_back : (back : List ℕ) → IfAgain (Again back) call old new
-      → back ≡ call.bytes
-  a_round_that_goes_on_hands_back back again = again.1
 
   -- who is told that the last number is given makes no step
   worn_out_makes_no_step : IsWornOut call old new → new.process ≡ old.process
   worn_out_makes_no_step worn = worn.process
 
   -- who has seen the hangup is not told that there is no room
-  full_behind_a_hangup : (number : ℕ) → saw_hangup call.key old.account ≡ true
+  full_behind_a_hangup : (number : ℕ) → saw_hangup call.key old.seat ≡ true
       → FindsFull call number old new → ⊥
   full_behind_a_hangup number saw full = let fresh = full.fresh in cc
 
   -- and who is told so makes no step there
   full_makes_no_step : (number : ℕ) → FindsFull call number old new → new.process ≡ old.process
   full_makes_no_step number full = full.process
-
-  -- a round that goes on has slept on the writer's own Rendez
-  a_write_that_goes_on_slept : (slept : SleepsForRoom call old new)
-      → SleepsWell old.process (writer_rendez call.row call.writer) slept.number new.process
-  a_write_that_goes_on_slept slept = slept.slept

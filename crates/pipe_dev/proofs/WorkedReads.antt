@@ -11,13 +11,19 @@ use Rattle.rendez_words.specs.Steps.{posts}
 use Rattle.block_queue.specs.declared.entry.Entry.{Entry}
 use Rattle.block_queue.specs.declared.entry.Entry.TheVariants as entry
 use Rattle.block_queue.specs.Meaning.{Enters}
+use Rattle.pipe_dev.specs.declared.answers.ReadAnswer.{ReadAnswer}
 use Rattle.pipe_dev.specs.declared.answers.ReadAnswer.TheVariants as read
 use Rattle.pipe_dev.specs.declared.answers.TryAnswer.TheVariants as try
-use Rattle.pipe_dev.specs.BlockReads.{ReadsBlock}
+use Rattle.pipe_dev.specs.BlockReads.{ReadsBlock, AsksForBlock}
 use Rattle.pipe_dev.specs.Chain.{IsMade, IsNoBlock, AddsNothing}
 use Rattle.pipe_dev.specs.Parts.{Part}
 use Rattle.pipe_dev.specs.ReadCalls.{Reader, Reads, Tries, GoesOn, TakesOut, FindsNotYet}
-use Rattle.pipe_dev.specs.ReadCalls.{SleepsForWrite, calling}
+use Rattle.pipe_dev.specs.Filling.{Lending}
+use Rattle.pipe_dev.specs.ReadCalls.{Calling, GivesUp, SleepsForWrite, calling, lending_of, lent_at}
+use Rattle.waiting.specs.declared.call.Reply.{Reply}
+use Rattle.waiting.specs.declared.call.Reply.TheVariants.{Done, Wait, Refused}
+use Rattle.waiting.specs.declared.wait.WaitEnd.TheVariants.{Answered}
+use Rattle.waiting.specs.Waiting.{Told}
 use Rattle.pipe_dev.specs.Reading.{Reading}
 use Rattle.pipe_dev.specs.Rendezes.{WakesWriters}
 use Rattle.pipe_dev.proofs.ReadingLemmas.{what_is_read_is_right}
@@ -254,74 +260,70 @@ module _ (table : TableId) where
 
   -- ---- a read of a block
 
+  abbrev asks_for_block : Calling → Reply ReadAnswer → Calling → Type 0
+  asks_for_block = AsksForBlock tight rendez_row
+
   -- it slept once; then the block is the write, whole, and its writer was woken with the number 1
   waits_and_reads_a_block : ReadsBlock tight rendez_row (calling (reader unread idle) b)
       (Ok (read.Got 2)) (calling (reader has_taken (woke reader_woken 4 1)) a)
   waits_and_reads_a_block =
-      record {
-        times = 1;
-        between = reader told reader_woken;
-        slept = record { between = reader unread idle; rounds = refl; last = sleeps_for_a_write };
-        ended = (
-          record {
-            left = record { place = 0; writer = 0; bytes = a };
-            next = inr record { none_left = refl; taken = takes_out; woken = wakes_the_writer };
-            block_is = refl;
-            rest = refl;
-          },
-          refl,
-        );
-      }
+      inr (record {
+        first = block_told;
+        begun = (finds_not_yet, refl);
+        waited = record {
+          ending = Answered (Ok (read.Got 2));
+          process = woke reader_woken 4 1;
+          slept = record {
+            times = 0;
+            last = block_told;
+            rounds = refl;
+            ends = record {
+              woken = reader_woken;
+              slept = sleeps idle 3 0 no_notes;
+              asked = (
+                record {
+                  left = record { place = 0; writer = 0; bytes = a };
+                  next = inr record {
+                    none_left = refl;
+                    taken = takes_out;
+                    woken = wakes_the_writer;
+                  };
+                  block_is = refl;
+                  rest = refl;
+                },
+                refl,
+              );
+            };
+          };
+          returned = refl;
+          answer_is = refl;
+        };
+      })
+    where
+      block_told : Told Lending
+      block_told = record { at = lent_at (calling (reader told idle) b); number = 0 }
 
   -- of a write that was begun it reads what is left, and wakes nobody
   reads_a_begun_block : ReadsBlock tight rendez_row (calling (begun idle) a) (Ok (read.Got 1))
       (calling (reader has_taken idle) (98 ∷ []))
   reads_a_begun_block =
-      record {
-        times = 0;
-        between = begun idle;
-        slept = refl;
-        ended = (
-          record {
-            left = second_byte;
-            next = inl record { left_is = refl; account = refl; process = refl };
-            block_is = refl;
-            rest = refl;
-          },
-          refl,
-        );
-      }
+      inl (
+        record {
+          left = second_byte;
+          next = inl record { left_is = refl; account = refl; process = refl };
+          block_is = refl;
+          rest = refl;
+        },
+        refl,
+      )
 
   reads_no_block_at_the_end : ReadsBlock tight rendez_row (calling (reader unread idle) b)
       (Ok read.End) (calling (reader has_ended idle) b)
   reads_no_block_at_the_end =
-      record {
-        times = 0;
-        between = reader unread idle;
-        slept = refl;
-        ended = (
-          record { none_left = refl; entered = finds_the_end; rest = refl; process = refl },
-          refl,
-        );
-      }
-
-  block_read_is_interrupted : ReadsBlock tight rendez_row (calling (reader unread idle) b)
-      (Err (fault.Interrupted (only Interrupt)))
-      (calling (reader told (slept idle 3 0 (only Interrupt))) b)
-  block_read_is_interrupted =
-      record {
-        times = 0;
-        between = reader unread idle;
-        slept = refl;
-        ended = (
-          record {
-            number = 0;
-            found = finds_not_yet;
-            failed = (sleeps idle 3 0 (only Interrupt), has_notes);
-          },
-          refl,
-        );
-      }
+      inl (
+        record { none_left = refl; entered = finds_the_end; rest = refl; process = refl },
+        refl,
+      )
 
   block_read_of_another_kernel : ReadsBlock tight rendez_row (calling (reader unread idle) b)
       (Err fault.NoRendez) (calling (reader unread idle) b)
@@ -331,31 +333,34 @@ module _ (table : TableId) where
       (Err fault.NoRendez) (calling (reader told idle) b) → ⊥
   refused_block_read_asks reads = let seen = ap (λ (r : Reader). r.account.seen) reads.same in cc
 
-  block_read_leaves_a_rest :
-      ReadsBlock tight rendez_row (calling (reader told reader_woken) b) (Ok (read.Got 1))
-      (calling (begun (woke reader_woken 4 1)) (97 ∷ [])) → ⊥
-  block_read_leaves_a_rest reads = let rest = reads.ended.0.rest in cc
+  block_read_leaves_a_rest : ¬ asks_for_block (calling (reader told reader_woken) b)
+      (Done (read.Got 1)) (calling (begun (woke reader_woken 4 1)) (97 ∷ []))
+  block_read_leaves_a_rest asks = let rest = asks.0.rest in cc
 
-  block_read_counts_another_size :
-      ReadsBlock tight rendez_row (calling (begun idle) a) (Ok (read.Got 2))
-      (calling (reader has_taken idle) (98 ∷ [])) → ⊥
-  block_read_counts_another_size reads = let count = reads.ended.1 in cc
+  block_read_counts_another_size : ¬ asks_for_block (calling (begun idle) a) (Done (read.Got 2))
+      (calling (reader has_taken idle) (98 ∷ []))
+  block_read_counts_another_size asks = let count = asks.1 in cc
 
-  block_read_takes_the_block_at_the_end :
-      ReadsBlock tight rendez_row (calling (reader unread idle) b) (Ok read.End)
-      (calling (reader has_ended idle) []) → ⊥
-  block_read_takes_the_block_at_the_end reads = let bytes = reads.ended.1 in cc
+  block_read_takes_the_block_at_the_end : ¬ asks_for_block (calling (reader unread idle) b)
+      (Done read.End) (calling (reader has_ended idle) [])
+  block_read_takes_the_block_at_the_end asks = let bytes = asks.1 in cc
+
+  -- one that waits leaves the block as it was, and so does one whose sleep failed
+  block_read_that_waits_takes_the_block : ¬ asks_for_block (calling (reader unread idle) b)
+      (Wait 0) (calling (reader told idle) [])
+  block_read_that_waits_takes_the_block asks = let bytes = asks.1 in cc
 
   interrupted_block_read_takes_the_block :
-      ReadsBlock tight rendez_row (calling (reader unread idle) b)
-      (Err (fault.Interrupted (only Interrupt)))
-      (calling (reader told (slept idle 3 0 (only Interrupt))) []) → ⊥
-  interrupted_block_read_takes_the_block reads = let bytes = reads.ended.1 in cc
+      ¬ GivesUp (lending_of (calling (reader told idle) b)) None
+      (lending_of (calling (reader told idle) []))
+  interrupted_block_read_takes_the_block same =
+      let bytes = ap (λ (l : Lending). l.buffer) same in cc
 
-  block_read_of_no_bytes_is_refused : (new : Reader)
-      → ReadsBlock tight rendez_row (calling (reader unread idle) []) (Err fault.BadCount)
-      (calling new []) → ⊥
-  block_read_of_no_bytes_is_refused new reads = reads.ended.0.failed
+  read_that_gave_up_is_answered : (old new : Lending) → ¬ GivesUp old (Some read.End) new
+  read_that_gave_up_is_answered old new gives = gives
+
+  queue_refuses_a_block_read : (old new : Calling) → ¬ asks_for_block old (Refused fault.Worn) new
+  queue_refuses_a_block_read old new asks = asks
 
   -- ---- what calls make of a read end
 

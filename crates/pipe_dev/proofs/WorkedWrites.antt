@@ -1,7 +1,7 @@
 -- Writes and hangups worked out by the definitions alone, short writes that they refuse, and which
 -- ends of a direction are all.
 use Rattle.std.proofs.Common.{◌≡◌, ℕ, false, true, List, [], ◌∷◌, ◌++◌, Some, None, refl, sym, ◌∙◌}
-use Rattle.std.proofs.Common.{inl, ap, arith, length, reverse}
+use Rattle.std.proofs.Common.{inl, inr, ap, arith, length, reverse}
 use Rattle.std.specs.Prelude.{Ok, Err}
 use Rattle.std.proofs.lemmas.List.{reverse-reverse}
 use Rattle.histories.specs.declared.account.Account.{Account}
@@ -13,10 +13,9 @@ use Rattle.sync_base.specs.declared.limits.TheConstants.{LAST_WRITE, TOP_LEVEL}
 use Rattle.sync_base.specs.declared.mode.Mode.TheVariants.{Message}
 use Rattle.sync_base.specs.declared.note.Note.TheVariants.{Interrupt, ClosedPipe}
 use Rattle.sync_base.specs.NoteSet.{no_notes, only}
-use Rattle.sleep_core.specs.declared.answer.Answer.TheVariants as answer
 use Rattle.rendez_words.specs.declared.words.Words.{Words}
 use Rattle.rendez_words.specs.Process.{Process, TableId, pid_in}
-use Rattle.rendez_words.specs.Steps.{posts, notes}
+use Rattle.rendez_words.specs.Steps.{notes}
 use Rattle.block_queue.specs.declared.entry.Entry.{Entry}
 use Rattle.block_queue.specs.declared.entry.Entry.TheVariants as entry
 use Rattle.block_queue.specs.declared.queue.Queue.{Queue}
@@ -26,7 +25,10 @@ use Rattle.pipe_dev.specs.declared.row.Row.{Row}
 use Rattle.pipe_dev.specs.Ends.{ReadSide, WriteSide, AreAllEnds}
 use Rattle.pipe_dev.specs.Rendezes.{HasRow, WakesAll, WakesIfKnown}
 use Rattle.pipe_dev.specs.WriteCalls.{WriteCall, Writer, Writes, WritesLong, atomic_writes}
-use Rattle.pipe_dev.specs.WriteCalls.{bytes_in}
+use Rattle.pipe_dev.specs.WriteCalls.{AsksForRoom, GivesUp, bytes_in}
+use Rattle.waiting.specs.declared.call.Reply.TheVariants.{Wait, Refused}
+use Rattle.waiting.specs.declared.wait.WaitEnd.TheVariants.{Answered, Stopped}
+use Rattle.waiting.specs.Waiting.{Told}
 use Rattle.pipe_dev.proofs.WorkedEntries.{a, b, tight, IsRun, seen_3, seen_4, seen_6, run_4, run_6}
 use Rattle.pipe_dev.proofs.WorkedEntries.{run_7, at_rendez, rendez_row, woke, slept, sleeps}
 use Rattle.pipe_dev.proofs.WorkedEntries.{has_notes, is_not_idle}
@@ -146,7 +148,7 @@ module _ (table : TableId) where
   -- ---- a write
 
   abbrev writer : Account Entry → Process → Writer
-  writer account process = record { account = account; process = process }
+  writer account process = record { seat = account; process = process }
 
   abbrev writer_woken : Process
   writer_woken = slept idle 4 0 no_notes
@@ -158,82 +160,91 @@ module _ (table : TableId) where
   abbrev call : List ℕ → WriteCall
   call bytes = record { key = tight; row = rendez_row; writer = 0; bytes = bytes }
 
-  -- it found no room and slept once, and then was accepted and woke the reader with the number 2
+  -- it found no room
+  abbrev first_told : Told (Account Entry)
+  first_told = record { at = writer was_full idle; number = 0 }
+
+  finds_full : AsksForRoom (call b) (writer has_put idle) (Wait 0) (writer was_full idle)
+  finds_full = record { entered = finds_no_room; fresh = refl; process = refl }
+
+  -- it slept once, and then was accepted and woke the reader with the number 2
   waits_and_writes : Writes (call b) (writer has_put idle) (Ok 2) second_written
   waits_and_writes =
-      record {
-        times = 1;
-        between = writer was_full writer_woken;
-        slept = record {
-          between = writer has_put idle;
-          rounds = refl;
-          last = record {
-            number = 0;
-            found = record { entered = finds_no_room; fresh = refl; process = refl };
-            slept = sleeps idle 4 0 no_notes;
-          };
-        };
-        ended = record {
-          stands = record { between = is_taken; taken = is_accepted; stood = then_stands };
-          woken = record {
-            receipt = record { rendez = at_rendez 3; level = 2 };
-            woken = record {
-              ends = inl refl;
-              rendez_is = refl;
-              level_is = refl;
-              receipt = inl refl;
+      inr (record {
+        first = first_told;
+        begun = finds_full;
+        waited = record {
+          ending = Answered (Ok 2);
+          process = second_written.process;
+          slept = record {
+            times = 0;
+            last = first_told;
+            rounds = refl;
+            ends = record {
+              woken = writer_woken;
+              slept = sleeps idle 4 0 no_notes;
+              asked = record {
+                stands = record { between = is_taken; taken = is_accepted; stood = then_stands };
+                woken = record {
+                  receipt = record { rendez = at_rendez 3; level = 2 };
+                  woken = record {
+                    ends = inl refl;
+                    rendez_is = refl;
+                    level_is = refl;
+                    receipt = inl refl;
+                  };
+                };
+              };
             };
           };
+          returned = refl;
+          answer_is = refl;
         };
-      }
+      })
 
   write_comes_too_late : Writes (call b) (writer unwritten idle) (Err fault.Hungup)
       (writer is_late (notes idle (pid_in idle) (only ClosedPipe)))
   write_comes_too_late =
-      record {
-        times = 0;
-        between = writer unwritten idle;
-        slept = refl;
-        ended = record { entered = finds_the_hangup; knew = tt; noted = refl };
-      }
+      inl (record { entered = finds_the_hangup; knew = tt; noted = refl })
 
   numbers_are_worn_out : Writes (record (call b) { key = record tight { first = LAST_WRITE } })
       (writer unwritten idle) (Err fault.Worn) (writer is_worn idle)
-  numbers_are_worn_out =
-      record {
-        times = 0;
-        between = writer unwritten idle;
-        slept = refl;
-        ended = record { entered = finds_no_number; process = refl };
-      }
+  numbers_are_worn_out = inl (record { entered = finds_no_number; process = refl })
 
   write_is_interrupted : Writes (call b) (writer has_put idle)
       (Err (fault.Interrupted (only Interrupt))) (writer was_full (slept idle 4 0 (only Interrupt)))
   write_is_interrupted =
-      record {
-        times = 0;
-        between = writer has_put idle;
-        slept = refl;
-        ended = record {
-          number = 0;
-          found = record { entered = finds_no_room; fresh = refl; process = refl };
-          failed = (sleeps idle 4 0 (only Interrupt), has_notes);
+      inr (record {
+        first = first_told;
+        begun = finds_full;
+        waited = record {
+          ending = Stopped (fault.Interrupted (only Interrupt)) None;
+          process = slept idle 4 0 (only Interrupt);
+          slept = record {
+            times = 0;
+            last = first_told;
+            rounds = refl;
+            ends = record {
+              failed = (sleeps idle 4 0 (only Interrupt), has_notes);
+              left = refl;
+            };
+          };
+          returned = refl;
+          answer_is = refl;
         };
-      }
+      })
 
-  write_sleeps_where_another_does : Writes (call b) (writer has_put idle) (Err fault.DoubleSleep)
-      (writer was_full (posts idle (at_rendez 4) 0 answer.DoubleSleep))
-  write_sleeps_where_another_does =
-      record {
-        times = 0;
-        between = writer has_put idle;
-        slept = refl;
-        ended = record {
-          number = 0;
-          found = record { entered = finds_no_room; fresh = refl; process = refl };
-          failed = refl;
-        };
-      }
+  -- what the queue answers no write, and what no write that gave up comes to
+  queue_refuses_for_memory : (new : Writer)
+      → ¬ AsksForRoom (call b) (writer has_put idle) (Refused fault.Memory) new
+  queue_refuses_for_memory new asks = asks
+
+  write_that_gave_up_is_accepted : ¬ GivesUp was_full (Some 2) was_full
+  write_that_gave_up_is_accepted gives = gives
+
+  write_gives_up_with_an_entry_more : ¬ GivesUp was_full None is_taken
+  write_gives_up_with_an_entry_more same =
+      let seen = ap (λ (a : Account Entry). length a.seen) same in cc
 
   write_is_too_big : Writes (call b) (writer has_put idle) (Err fault.TooBig) (writer has_put idle)
   write_is_too_big = refl
@@ -248,12 +259,11 @@ module _ (table : TableId) where
 
   refused_write_asks : Writes (call b) (writer has_put idle) (Err fault.NoRendez)
       (writer was_full idle) → ⊥
-  refused_write_asks same = let seen = ap (λ (w : Writer). length w.account.seen) same in cc
+  refused_write_asks same = let seen = ap (λ (w : Writer). length w.seat.seen) same in cc
 
-  late_write_posts_no_note : Writes (call b) (writer unwritten idle) (Err fault.Hungup)
-      (writer is_late idle) → ⊥
-  late_write_posts_no_note writes =
-      let trace = ap (λ (p : Process). p.trace) writes.ended.noted in cc
+  late_write_posts_no_note : ¬ AsksForRoom (call b) (writer unwritten idle)
+      (Refused fault.Hungup) (writer is_late idle)
+  late_write_posts_no_note late = let trace = ap (λ (p : Process). p.trace) late.noted in cc
 
   -- ---- a long write
 

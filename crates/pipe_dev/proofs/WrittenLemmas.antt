@@ -1,5 +1,5 @@
 -- What the calls of a write end add to what its seat knows as accepted.
-use Rattle.std.proofs.Common.{◌≡◌, ◌≢◌, ◌⊎◌, inl, inr, eqb, ℕ, zero, suc, ◌+◌, true, false}
+use Rattle.std.proofs.Common.{◌≡◌, ◌≢◌, ◌⊎◌, inl, inr, eqb, ℕ, ◌+◌, true, false}
 use Rattle.std.proofs.Common.{if◌then◌else◌, List, [], ◌∷◌, ◌++◌, map, refl, sym, ◌∙◌, ap, subst}
 use Rattle.std.specs.Prelude.{IsTrue, ◌||◌, Result, Ok, Err}
 use Rattle.std.specs.List.{AllByRecursion}
@@ -10,6 +10,7 @@ use Rattle.histories.specs.declared.account.Share.{Share}
 use Rattle.histories.specs.Account.{has_number, share_after}
 use Rattle.sync_base.specs.declared.fault.Fault.{Fault}
 use Rattle.sync_base.specs.declared.fault.Fault.TheVariants as fault
+use Rattle.sync_base.specs.declared.ids.RendezId.{RendezId}
 use Rattle.block_queue.specs.declared.entry.Entry.{Entry}
 use Rattle.block_queue.specs.declared.entry.Entry.TheVariants.{Taken, Stood, Full, Hungup, Worn}
 use Rattle.block_queue.specs.declared.entry.Entry.TheVariants.{Hung}
@@ -22,9 +23,11 @@ use Rattle.pipe_dev.specs.CallLaws.{NewEndsHaveWrittenNothing, WritesAddWhatWasA
 use Rattle.pipe_dev.specs.CallLaws.{HangupsWriteNothing}
 use Rattle.pipe_dev.specs.Chain.{HasWritten, written_by}
 use Rattle.pipe_dev.specs.Finishing.{accepted_in}
-use Rattle.pipe_dev.specs.Rounds.{Rounds}
-use Rattle.pipe_dev.specs.WriteCalls.{WriteCall, Writer, Asks, EndsWrite, HasHang}
-use Rattle.pipe_dev.specs.WriteCalls.{SleepsForRoom}
+use Rattle.pipe_dev.specs.Rendezes.{writer_rendez}
+use Rattle.pipe_dev.specs.WriteCalls.{WriteCall, Writer, AsksForRoom, GivesUp, HasHang, writing}
+use Rattle.waiting.specs.declared.call.Reply.TheVariants.{Wait}
+use Rattle.waiting.specs.Waiting.{Waited, reply_of}
+use Rattle.pipe_dev.proofs.SightLemmas.{waited_ends}
 
 -- the seat knows these of the shares of this writer
 abbrev Are : ℕ → List (List ℕ) → List (Share Entry) → Type 0
@@ -77,57 +80,58 @@ entered_none key entry old new writer blocks enters by_it says written =
     (entered key entry old new writer blocks [] enters by_it
     (λ mine. says mine ∙ sym (append-nil (accepted_in mine))) written)
 
-all_rounds : (call : WriteCall) (times : ℕ) (old new : Writer) (blocks : List (List ℕ))
-    → Rounds (SleepsForRoom call) times old new → HasWritten old.account call.writer blocks
-    → HasWritten new.account call.writer blocks
-all_rounds call zero old new blocks rounds written =
-    subst (λ (w : Writer). HasWritten w.account call.writer blocks) (sym rounds) written
-all_rounds call (suc times) old new blocks rounds written =
-    entered_none call.key (Full call.writer call.bytes rounds.last.number) rounds.between.account
-    new.account
-    call.writer blocks
-    rounds.last.found.entered refl (λ mine. refl)
-    (all_rounds call times old rounds.between blocks rounds.rounds written)
+-- ---- a write
 
-at_end : (call : WriteCall) (old : Writer) (answer : Result ℕ Fault) (new : Writer)
-    (blocks : List (List ℕ)) → EndsWrite call old answer new
-    → HasWritten old.account call.writer blocks
-    → HasWritten new.account call.writer (blocks ++ written_by answer call.bytes)
-at_end call old (Ok number) new blocks ends written =
-    entered_none call.key (Stood call.writer number) ends.stands.between new.account call.writer
-    (blocks ++ call.bytes ∷ [])
-    ends.stands.stood refl (λ mine. refl)
-    (entered call.key (Taken call.writer call.bytes number) old.account ends.stands.between
-    call.writer blocks
-    (call.bytes ∷ [])
-    ends.stands.taken refl (λ mine. refl) written)
-at_end call old (Err fault.Hungup) new blocks ends written =
-    entered call.key (Hungup call.writer call.bytes) old.account new.account call.writer blocks []
-    ends.entered refl
-    (λ mine. sym (append-nil (accepted_in mine))) written
-at_end call old (Err fault.Worn) new blocks ends written =
-    entered call.key (Worn call.writer call.bytes) old.account new.account call.writer blocks []
-    ends.entered refl
-    (λ mine. sym (append-nil (accepted_in mine))) written
-at_end call old (Err why) new blocks ends written =
-    entered call.key (Full call.writer call.bytes ends.number) old.account new.account call.writer
-    blocks []
-    ends.found.entered refl
-    (λ mine. sym (append-nil (accepted_in mine))) written
+module _ (call : WriteCall) (blocks : List (List ℕ)) where
+  abbrev Before : Account Entry → Type 0
+  Before seat = HasWritten seat call.writer blocks
 
-asked : (call : WriteCall) (old : Writer) (answer : Result ℕ Fault) (new : Writer)
-    (blocks : List (List ℕ)) → Asks call old answer new → HasWritten old.account call.writer blocks
-    → HasWritten new.account call.writer (blocks ++ written_by answer call.bytes)
-asked call old answer new blocks asks written =
-    at_end call asks.between answer new blocks asks.ended
-    (all_rounds call asks.times old asks.between blocks asks.slept written)
+  abbrev After : Result ℕ Fault → Account Entry → Type 0
+  After answer seat = HasWritten seat call.writer (blocks ++ written_by answer call.bytes)
 
-untouched : (old new : Writer) (writer : ℕ) (blocks : List (List ℕ)) → new ≡ old
-    → HasWritten old.account writer blocks → HasWritten new.account writer (blocks ++ [])
-untouched old new writer blocks same written =
-    subst (λ (w : Writer). HasWritten w.account writer (blocks ++ [])) (sym same)
-    (subst (λ (bs : List (List ℕ)). HasWritten old.account writer bs) (sym (append-nil blocks))
-    written)
+  -- an entry that says nothing of the kind, before which nothing was accepted
+  none_more : (entry : Entry) (old new : Account Entry) → Enters call.key entry old new
+      → seat_of entry ≡ call.writer + 1
+      → ((mine : List Entry) → accepted_in (entry ∷ mine) ≡ accepted_in mine)
+      → Before old → HasWritten new call.writer (blocks ++ [])
+  none_more entry old new enters by_it says written =
+      entered call.key entry old new call.writer blocks [] enters by_it
+      (λ mine. says mine ∙ sym (append-nil (accepted_in mine))) written
+
+  goes_on : (old new : Writer) (number : ℕ) → Before old.seat
+      → AsksForRoom call old (Wait number) new → Before new.seat
+  goes_on old new number written full =
+      entered_none call.key (Full call.writer call.bytes number) old.seat new.seat call.writer
+      blocks full.entered refl (λ mine. refl) written
+
+  answered : (old new : Writer) (answer : Result ℕ Fault) → Before old.seat
+      → AsksForRoom call old (reply_of answer) new → After answer new.seat
+  answered old new (Ok number) written accepts =
+      entered_none call.key (Stood call.writer number) accepts.stands.between new.seat call.writer
+      (blocks ++ call.bytes ∷ []) accepts.stands.stood refl (λ mine. refl)
+      (entered call.key (Taken call.writer call.bytes number) old.seat accepts.stands.between
+      call.writer blocks (call.bytes ∷ []) accepts.stands.taken refl (λ mine. refl) written)
+  answered old new (Err fault.Hungup) written late =
+      none_more (Hungup call.writer call.bytes) old.seat new.seat late.entered refl (λ mine. refl)
+      written
+  answered old new (Err fault.Worn) written worn =
+      none_more (Worn call.writer call.bytes) old.seat new.seat worn.entered refl (λ mine. refl)
+      written
+  answered old new (Err why) written asks = absurd asks
+
+  gave_up : (old new : Account Entry) → new ≡ old → Before old
+      → HasWritten new call.writer (blocks ++ [])
+  gave_up old new same written =
+      subst (λ (seat : Account Entry). HasWritten seat call.writer (blocks ++ [])) (sym same)
+      (subst (λ (bs : List (List ℕ)). HasWritten old call.writer bs) (sym (append-nil blocks))
+      written)
+
+  asked : (rendez : RendezId) (old : Writer) (answer : Result ℕ Fault) (new : Writer)
+      → Waited (writing call) rendez old answer new → Before old.seat → After answer new.seat
+  asked rendez old answer new waited written =
+      waited_ends (AsksForRoom call) GivesUp rendez Before After goes_on answered
+      (λ old new number written gives. absurd gives)
+      (λ old new why written same. gave_up old new same written) old answer new written waited
 
 -- the account of a new write end knows of no accepted write
 pub new_ends_have_written_nothing : NewEndsHaveWrittenNothing
@@ -143,15 +147,15 @@ new_ends_have_written_nothing writer =
 -- a write's bytes come behind what was written exactly where it is answered a number
 pub writes_add_what_was_accepted : WritesAddWhatWasAccepted
 writes_add_what_was_accepted call old (Ok number) new wrote blocks written =
-    asked call old (Ok number) new blocks wrote written
+    asked call blocks (writer_rendez call.row call.writer) old (Ok number) new wrote written
 writes_add_what_was_accepted call old (Err fault.TooBig) new wrote blocks written =
-    untouched old new call.writer blocks wrote written
+    gave_up call blocks old.seat new.seat (ap (λ (w : Writer). w.seat) wrote) written
 writes_add_what_was_accepted call old (Err fault.NoRendez) new wrote blocks written =
-    untouched old new call.writer blocks wrote written
+    gave_up call blocks old.seat new.seat (ap (λ (w : Writer). w.seat) wrote) written
 writes_add_what_was_accepted call old (Err fault.Memory) new wrote blocks written =
-    untouched old new call.writer blocks wrote written
+    gave_up call blocks old.seat new.seat (ap (λ (w : Writer). w.seat) wrote) written
 writes_add_what_was_accepted call old (Err why) new wrote blocks written =
-    asked call old (Err why) new blocks wrote written
+    asked call blocks (writer_rendez call.row call.writer) old (Err why) new wrote written
 
 -- after a hangup by a writer it has written what it had written before
 pub hangups_write_nothing : HangupsWriteNothing

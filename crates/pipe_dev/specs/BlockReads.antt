@@ -1,6 +1,6 @@
 -- What a read of a whole block does, after pipe(3) and bread of the kernel's devices: it hands over
 -- the block that was written, in place of a copy of its bytes.
-use Rattle.std.specs.Prelude.{◌≡◌, ◌⊎◌, ℕ, List, length, None, Result, Ok, Err}
+use Rattle.std.specs.Prelude.{◌≡◌, ◌⊎◌, ℕ, List, length, None, Result, Err}
 use Rattle.sync_base.specs.declared.fault.Fault.{Fault}
 use Rattle.sync_base.specs.declared.fault.Fault.TheVariants as fault
 use Rattle.block_queue.specs.declared.view.Key.{Key}
@@ -8,9 +8,12 @@ use Rattle.pipe_dev.specs.declared.answers.ReadAnswer.{ReadAnswer}
 use Rattle.pipe_dev.specs.declared.answers.ReadAnswer.TheVariants as read
 use Rattle.pipe_dev.specs.declared.row.Row.{Row}
 use Rattle.pipe_dev.specs.Parts.{Part}
-use Rattle.pipe_dev.specs.ReadCalls.{Reader, Calling, calling, GoesOn, TakesOut, FindsEnd}
-use Rattle.pipe_dev.specs.ReadCalls.{SleepsForWrite, FailsForWrite, IsUntouchedRead}
-use Rattle.pipe_dev.specs.Rounds.{Rounds}
+use Rattle.pipe_dev.specs.ReadCalls.{Reader, Calling, GoesOn, TakesOut, FindsEnd, FindsNotYet}
+use Rattle.pipe_dev.specs.ReadCalls.{IsUntouchedRead, lent_at, waits_by}
+use Rattle.pipe_dev.specs.Rendezes.{reader_rendez}
+use Rattle.waiting.specs.declared.call.Reply.{Reply}
+use Rattle.waiting.specs.declared.call.Reply.TheVariants as reply
+use Rattle.waiting.specs.Waiting.{Waited}
 
 -- Got: all that is left of the write that was begun, or else the next write; nothing of it is left
 pub record GetsBlock (key : Key) (row : Row) (old : Reader) (block : List ℕ) (new : Reader) :
@@ -20,25 +23,20 @@ pub record GetsBlock (key : Key) (row : Row) (old : Reader) (block : List ℕ) (
   pub block_is : block ≡ left.bytes
   pub rest : new.rest ≡ None
 
--- how it ends; the block of the caller is the one that it got, and else as it was
-abbrev pub EndsBlockRead : Key → Row → Calling → Result ReadAnswer Fault → Calling → Type 0
-EndsBlockRead key row old (Ok (read.Got count)) new =
+-- one request of it, by what it was told; the block of the caller is the one that it got, and else
+-- as it was
+abbrev pub AsksForBlock : Key → Row → Calling → Reply ReadAnswer → Calling → Type 0
+AsksForBlock key row old (reply.Done (read.Got count)) new =
     GetsBlock key row old.reader new.buffer new.reader × (count ≡ length new.buffer)
-EndsBlockRead key row old (Ok read.End) new =
+AsksForBlock key row old (reply.Done read.End) new =
     FindsEnd key old.reader new.reader × (new.buffer ≡ old.buffer)
-EndsBlockRead key row old (Err why) new =
-    FailsForWrite key row old.reader why new.reader × (new.buffer ≡ old.buffer)
-
--- some times it found nothing and slept; and then it ended
-pub record KeepsReadingBlock (key : Key) (row : Row) (old : Calling)
-    (answer : Result ReadAnswer Fault) (new : Calling) : Type 0 where
-  pub times : ℕ
-  pub between : Reader
-  pub slept : Rounds (SleepsForWrite key row) times old.reader between
-  pub ended : EndsBlockRead key row (calling between old.buffer) answer new
+AsksForBlock key row old (reply.Wait number) new =
+    FindsNotYet key number old.reader new.reader × (new.buffer ≡ old.buffer)
+AsksForBlock key row old (reply.Refused why) new = ⊥
 
 -- What it did, by its answer, in either mode. Own: one by a process of another kernel does nothing.
 abbrev pub ReadsBlock : Key → Row → Calling → Result ReadAnswer Fault → Calling → Type 0
 ReadsBlock key row old (Err fault.NoRendez) new =
     IsUntouchedRead old.reader old.buffer new.reader new.buffer
-ReadsBlock key row old answer new = KeepsReadingBlock key row old answer new
+ReadsBlock key row old answer new =
+    Waited (waits_by (AsksForBlock key row)) (reader_rendez row) (lent_at old) answer (lent_at new)

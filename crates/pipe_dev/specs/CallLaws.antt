@@ -62,8 +62,8 @@ abbrev pub WritesAddWhatWasAccepted : Type 0
 WritesAddWhatWasAccepted =
     (call : WriteCall) (old : Writer) (answer : Result ℕ Fault) (new : Writer)
     → Writes call old answer new
-    → (blocks : List (List ℕ)) → HasWritten old.account call.writer blocks
-    → HasWritten new.account call.writer (blocks ++ written_by answer call.bytes)
+    → (blocks : List (List ℕ)) → HasWritten old.seat call.writer blocks
+    → HasWritten new.seat call.writer (blocks ++ written_by answer call.bytes)
 
 abbrev pub HangupsWriteNothing : Type 0
 HangupsWriteNothing =

@@ -1,6 +1,6 @@
 -- What the calls of a read end do, after pipe(2), pipe(3) and read(2).
 use Rattle.std.specs.Prelude.{◌≡◌, ◌⊎◌, ◌+◌, ◌++◌, ℕ, nat_lt, Bool, true}
-use Rattle.std.specs.Prelude.{List, length, drop}
+use Rattle.std.specs.Prelude.{List, length, drop, ⊤}
 use Rattle.std.specs.Prelude.{Option, Some, None, Result, Ok, Err}
 use Rattle.histories.specs.declared.account.Account.{Account}
 use Rattle.sync_base.specs.declared.fault.Fault.{Fault}
@@ -31,6 +31,8 @@ use Rattle.pipe_dev.specs.Filling.{Lending, FillsUp, last_number}
 use Rattle.pipe_dev.specs.Parts.{Part, part_of, rest_of}
 use Rattle.pipe_dev.specs.Rendezes.{reader_rendez, WakesWriters, WakesWith}
 use Rattle.pipe_dev.specs.Rounds.{Rounds}
+use Rattle.waiting.specs.declared.call.Reply.{Reply}
+use Rattle.waiting.specs.Waiting.{Promise, Point}
 
 -- the reader between two steps of a call: what its seat knows, what is left of a write that was
 -- begun, and the process that calls
@@ -136,6 +138,43 @@ pub record KeepsTrying (key : Key) (row : Row) (old : Calling)
   pub slept : Rounds (SleepsForWrite key row) times old.reader between
   pub ended : EndsRead key row (calling between old.buffer) answer new
 
+-- a call that waits, as its end and its buffer stand
+abbrev pub lending_of : Calling → Lending
+lending_of call =
+    record {
+      taker = record { account = call.reader.account; rest = call.reader.rest };
+      buffer = call.buffer;
+    }
+
+abbrev pub lent_at : Calling → Point Lending
+lent_at call = record { seat = lending_of call; process = call.reader.process }
+
+abbrev pub calling_at : Point Lending → Calling
+calling_at at =
+    record {
+      reader = record {
+        account = at.seat.taker.account;
+        rest = at.seat.taker.rest;
+        process = at.process;
+      };
+      buffer = at.seat.buffer;
+    }
+
+-- where a sleep of it failed it asks nothing more, and reads nothing more
+abbrev pub GivesUp : Lending → Option ReadAnswer → Lending → Type 0
+GivesUp old (Some answer) new = ⊥
+GivesUp old None new = new ≡ old
+
+-- a read that waits, by what each of its requests does
+abbrev pub waits_by : (Calling → Reply ReadAnswer → Calling → Type 0)
+    → Promise Lending ReadAnswer
+waits_by Asks =
+    record {
+      begun = λ old told new. Asks (calling_at old) told (calling_at new);
+      asked = λ old told new. Asks (calling_at old) told (calling_at new);
+      left = GivesUp;
+    }
+
 -- a read that was refused at once did nothing
 pub record IsUntouchedRead (old : Reader) (buffer : List ℕ) (new : Reader) (buffer' : List ℕ) :
     Type 0 where
@@ -148,13 +187,6 @@ reader_with cursor proc =
     record { account = take_account cursor.seat; rest = cursor.rest; process = proc.process }
 
 -- ---- in either mode
-
-abbrev pub lending_of : Calling → Lending
-lending_of call =
-    record {
-      taker = record { account = call.reader.account; rest = call.reader.rest };
-      buffer = call.buffer;
-    }
 
 abbrev pub came_to : ℕ → Stop → Came
 came_to count why = record { count = count; stop = why }
@@ -247,3 +279,9 @@ Reads key row old (Err fault.NoRendez) new =
     IsUntouchedRead old.reader old.buffer new.reader new.buffer
 Reads key row old answer new =
     InMode row.mode (KeepsTrying key row old answer new) (KeepsReading key row old answer new)
+
+-- an answer that comes only from a request or a sleep
+abbrev pub IsAskedRead : Result ReadAnswer Fault → Type 0
+IsAskedRead (Err fault.BadCount) = ⊥
+IsAskedRead (Err fault.NoRendez) = ⊥
+IsAskedRead answer = ⊤

@@ -1,5 +1,5 @@
 -- What the steps of a read come to.
-use Rattle.std.specs.Prelude.{◌≡◌, ℕ, nat_lt, if◌then◌else◌, Option, Some, None, ⊤, Result}
+use Rattle.std.specs.Prelude.{ℕ, nat_lt, if◌then◌else◌, Option, Some, None, ⊤, Result}
 use Rattle.sync_base.specs.declared.fault.Fault.{Fault}
 use Rattle.block_queue.specs.declared.view.Key.{Key}
 use Rattle.pipe_dev.specs.declared.answers.ReadAnswer.{ReadAnswer}
@@ -11,8 +11,10 @@ use Rattle.pipe_dev.specs.declared.filling.Stop.TheVariants as stop
 use Rattle.pipe_dev.specs.declared.reading.Found.{Found}
 use Rattle.pipe_dev.specs.declared.reading.Found.TheVariants as found
 use Rattle.pipe_dev.specs.declared.row.Row.{Row}
-use Rattle.pipe_dev.specs.ReadCalls.{Calling, EndsOn, SleepsOn, SleepsForWrite}
-use Rattle.pipe_dev.specs.BlockReads.{EndsBlockRead}
+use Rattle.pipe_dev.specs.ReadCalls.{Calling, EndsOn, SleepsOn}
+use Rattle.pipe_dev.specs.declared.block_reading.Lending as block_reading
+use Rattle.pipe_dev.specs.Filling.{Lending}
+use Rattle.pipe_dev.specs.FillSteps.{taker_with}
 
 -- what a try is answered: bytes, or why there are none
 abbrev pub found_at : ℕ → Stop → Found
@@ -42,15 +44,7 @@ abbrev pub IfSlept :
 IfSlept (Some answer) key row old new = ⊤
 IfSlept None key row old new = SleepsOn key row old new
 
--- the round ended the read of a block
-abbrev pub IfBlockOver :
-    Option (Result ReadAnswer Fault) → Key → Row → Calling → Calling → Type 0
-IfBlockOver (Some answer) key row old new = EndsBlockRead key row old answer new
-IfBlockOver None key row old new = ⊤
-
--- the round found nothing and slept, and left the block as it was
-abbrev pub IfBlockSlept :
-    Option (Result ReadAnswer Fault) → Key → Row → Calling → Calling → Type 0
-IfBlockSlept (Some answer) key row old new = ⊤
-IfBlockSlept None key row old new =
-    SleepsForWrite key row old.reader new.reader × (new.buffer ≡ old.buffer)
+-- what a read of a block has with it, as its contract sees it
+abbrev pub lending_in : block_reading.Lending → Lending
+lending_in lending =
+    record { taker = taker_with lending.cursor; buffer = lending.block.items }

@@ -8,9 +8,9 @@ use Rattle.sync_base.specs.declared.fault.Fault.TheVariants as fault
 use Rattle.sync_base.specs.declared.limits.TheConstants.{ATOMIC_SIZE}
 use Rattle.sync_base.specs.declared.note.Note.TheVariants.{ClosedPipe}
 use Rattle.sync_base.specs.NoteSet.{only}
-use Rattle.rendez_words.specs.Process.{Process, pid_in}
+use Rattle.rendez_words.specs.Process.{pid_in}
 use Rattle.rendez_words.specs.Steps.{notes}
-use Rattle.sleep_wakeup.specs.Deeds.{SleepsWell, FailsAsleep, WakesOne}
+use Rattle.sleep_wakeup.specs.Deeds.{WakesOne}
 use Rattle.sleep_wakeup.specs.Kernel.{Running}
 use Rattle.block_queue.specs.declared.entry.Entry.{Entry}
 use Rattle.block_queue.specs.declared.entry.Entry.TheVariants as entry
@@ -25,15 +25,16 @@ use Rattle.pipe_dev.specs.declared.answers.Long.{Long}
 use Rattle.pipe_dev.specs.declared.row.Row.{Row}
 use Rattle.pipe_dev.specs.Ends.{WriteSide}
 use Rattle.pipe_dev.specs.Rendezes.{reader_rendez, writer_rendez}
-use Rattle.pipe_dev.specs.Rounds.{Rounds}
+use Rattle.waiting.specs.declared.call.Reply.{Reply}
+use Rattle.waiting.specs.declared.call.Reply.TheVariants as reply
+use Rattle.waiting.specs.Waiting.{Promise, Point, Waited, point}
 
 -- the writer between two steps of a call: what its seat knows, and the process that calls
-pub record Writer : Type 0 where
-  pub account : Account Entry
-  pub process : Process
+abbrev pub Writer : Type 0
+Writer = Point (Account Entry)
 
 abbrev pub writer_of : WriteSide → Running → Writer
-writer_of side proc = record { account = side.account; process = proc.process }
+writer_of side proc = point side.account proc
 
 -- a call of write: the queue and the Rendez of the direction, who writes there, and the bytes
 pub record WriteCall : Type 0 where
@@ -51,27 +52,13 @@ call_of side bytes =
 -- hangup is not told so.
 pub record FindsFull (call : WriteCall) (number : ℕ) (old new : Writer) : Type 0 where
   pub entered : Enters call.key (entry.Full call.writer call.bytes number)
-      old.account new.account
-  pub fresh : saw_hangup call.key old.account ≡ false
+      old.seat new.seat
+  pub fresh : saw_hangup call.key old.seat ≡ false
   pub process : new.process ≡ old.process
-
--- it was answered Full, and slept on its own Rendez with the number of that answer, and well
-pub record SleepsForRoom (call : WriteCall) (old new : Writer) : Type 0 where
-  pub number : ℕ
-  pub found : FindsFull call number old (record new { process = old.process })
-  pub slept : SleepsWell old.process (writer_rendez call.row call.writer) number new.process
-
--- the sleep did not end well
-pub record FailsForRoom (call : WriteCall) (old : Writer) (why : Fault) (new : Writer) :
-    Type 0 where
-  pub number : ℕ
-  pub found : FindsFull call number old (record new { process = old.process })
-  pub failed : FailsAsleep old.process (writer_rendez call.row call.writer) number
-      new.process why
 
 -- the write was accepted and stands, and the reader was woken with its number
 pub record Accepts (call : WriteCall) (number : ℕ) (old new : Writer) : Type 0 where
-  pub stands : Stands call.key call.writer call.bytes number old.account new.account
+  pub stands : Stands call.key call.writer call.bytes number old.seat new.seat
   pub woken : WakesOne old.process (reader_rendez call.row) number new.process
 
 -- someone hung the direction up, as far as this history tells
@@ -83,29 +70,32 @@ HasHang (other ∷ past) = HasHang past
 -- Hungup: the writer has seen the hangup, and the note of a write on a closed pipe was posted to
 -- the process that calls
 pub record IsTooLate (call : WriteCall) (old new : Writer) : Type 0 where
-  pub entered : Enters call.key (entry.Hungup call.writer call.bytes) old.account new.account
-  pub knew : HasHang new.account.seen
+  pub entered : Enters call.key (entry.Hungup call.writer call.bytes) old.seat new.seat
+  pub knew : HasHang new.seat.seen
   pub noted : new.process ≡ notes old.process (pid_in old.process) (only ClosedPipe)
 
 -- the last number is given
 pub record IsWornOut (call : WriteCall) (old new : Writer) : Type 0 where
-  pub entered : Enters call.key (entry.Worn call.writer call.bytes) old.account new.account
+  pub entered : Enters call.key (entry.Worn call.writer call.bytes) old.seat new.seat
   pub process : new.process ≡ old.process
 
--- how a write ends that asked the queue
-abbrev pub EndsWrite : WriteCall → Writer → Result ℕ Fault → Writer → Type 0
-EndsWrite call old (Ok number) new = Accepts call number old new
-EndsWrite call old (Err fault.Hungup) new = IsTooLate call old new
-EndsWrite call old (Err fault.Worn) new = IsWornOut call old new
-EndsWrite call old (Err why) new = FailsForRoom call old why new
+-- one request of a write, by what it was told
+abbrev pub AsksForRoom : WriteCall → Writer → Reply ℕ → Writer → Type 0
+AsksForRoom call old (reply.Done number) new = Accepts call number old new
+AsksForRoom call old (reply.Wait number) new = FindsFull call number old new
+AsksForRoom call old (reply.Refused fault.Hungup) new = IsTooLate call old new
+AsksForRoom call old (reply.Refused fault.Worn) new = IsWornOut call old new
+AsksForRoom call old (reply.Refused why) new = ⊥
 
--- it found the direction full some times and slept; and then it ended
-pub record Asks (call : WriteCall) (old : Writer) (answer : Result ℕ Fault) (new : Writer) :
-    Type 0 where
-  pub times : ℕ
-  pub between : Writer
-  pub slept : Rounds (SleepsForRoom call) times old between
-  pub ended : EndsWrite call between answer new
+-- where a sleep of it failed it asks nothing more, and was not accepted
+abbrev pub GivesUp : Account Entry → Option ℕ → Account Entry → Type 0
+GivesUp old (Some number) new = ⊥
+GivesUp old None new = new ≡ old
+
+-- a write, as its wait asks the queue
+abbrev pub writing : WriteCall → Promise (Account Entry) ℕ
+writing call =
+    record { begun = AsksForRoom call; asked = AsksForRoom call; left = GivesUp }
 
 -- What a write did, by its answer. Own: a write above the atomic size is refused first, and then
 -- one by a process of another kernel; they and a write for whose block there is no memory do
@@ -114,7 +104,8 @@ abbrev pub Writes : WriteCall → Writer → Result ℕ Fault → Writer → Typ
 Writes call old (Err fault.TooBig) new = new ≡ old
 Writes call old (Err fault.NoRendez) new = new ≡ old
 Writes call old (Err fault.Memory) new = new ≡ old
-Writes call old answer new = Asks call old answer new
+Writes call old answer new =
+    Waited (writing call) (writer_rendez call.row call.writer) old answer new
 
 -- ---- a long write
 
@@ -175,7 +166,7 @@ pub record WritesLong (call : WriteCall) (old : Writer) (long : Long) (new : Wri
 
 -- the writer that has this seat
 abbrev pub writer_with : PutSeat → Running → Writer
-writer_with seat proc = record { account = put_account seat; process = proc.process }
+writer_with seat proc = point (put_account seat) proc
 
 -- the write of these bytes by this seat
 abbrev pub call_with : Queue → Row → PutSeat → List ℕ → WriteCall

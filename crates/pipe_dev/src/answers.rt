@@ -2,7 +2,7 @@
 use sync_base::Fault;
 
 /// What a read was answered. In stream mode its bytes may be of many writes.
-#[derive(Clone, Copy, Debug, PartialEq, Eq)]
+#[derive(Clone, Copy, Debug, PartialEq, Eq, Drop)]
 pub enum ReadAnswer {
     /// So many bytes of one write are in the buffer.
     Got(usize),

@@ -1,23 +1,27 @@
 //! How a direction is read block by block. A block changes hands, and no byte is copied.
 ghost use Rattle.std.specs.Prelude.{◌≡◌};
 ghost use Rattle.block_queue.specs.Seats.{key_of};
-ghost use Rattle.pipe_dev.specs.BlockReads.{KeepsReadingBlock};
+ghost use Rattle.pipe_dev.specs.BlockReads.{AsksForBlock};
 ghost use Rattle.pipe_dev.specs.Ends.{IsReadCursor};
-ghost use Rattle.pipe_dev.specs.ReadCalls.{calling, reader_with};
-ghost use Rattle.pipe_dev.specs.ReadSteps.{IfBlockOver, IfBlockSlept};
-ghost use Rattle.pipe_dev.specs.Rendezes.{HasRow};
+ghost use Rattle.pipe_dev.specs.ReadCalls.{IsAskedRead, calling, lent_at, reader_with, waits_by};
+ghost use Rattle.pipe_dev.specs.ReadSteps.{lending_in};
+ghost use Rattle.pipe_dev.specs.Rendezes.{HasRow, reader_rendez};
+ghost use Rattle.pipe_dev.specs.WriteSteps.{seen_by};
+ghost use Rattle.waiting.specs.Waiting.{Waited};
 
 use crate::answers::ReadAnswer;
 use crate::begun::Begun;
 use crate::cursor::ReadCursor;
 use crate::read_end::ReadEnd;
-use crate::reading::{Done, Round};
+use crate::reading::Done;
 use crate::row::Row;
 use crate::waking::wake_writers;
 use block_queue::{Queue, TakeAnswer};
 use sleep_wakeup::Proc;
+use std::mem;
 use std::sync::Wait;
-use sync_base::Fault;
+use sync_base::{Fault, NoProbe};
+use waiting::{Reply, WaitingCall, wait_for};
 
 impl<'p> ReadEnd<'p> {
     ghost use Rattle.std.specs.Prelude.{◌≡◌, ◌↔◌, IsErrOf};
@@ -68,7 +72,7 @@ impl<'p> ReadEnd<'p> {
     }
 }
 
-// Asks and sleeps until it is answered.
+// Asks and sleeps until it is answered. The block of the caller goes along, and comes back.
 fn block_with<R: Wait>(
     queue: &Queue,
     row: &Row,
@@ -81,74 +85,100 @@ fn block_with<R: Wait>(
     requires kernel { HasRow proc.old.words row.now }
     ensures cursor { IsReadCursor queue.now row.now result.cursor }
     ensures words { proc.new.words ≡ proc.old.words }
-    ensures read { KeepsReadingBlock (key_of queue.now) row.now
-        (calling (reader_with cursor proc.old) block.old.items) result.answer
-        (calling (reader_with result.cursor proc.new) block.new.items) }
+    ensures asked { Waited (waits_by (AsksForBlock (key_of queue.now) row.now))
+        (reader_rendez row.now) (lent_at (calling (reader_with cursor proc.old) block.old.items))
+        result.answer (lent_at (calling (reader_with result.cursor proc.new) block.new.items)) }
+    ensures answer { IsAskedRead result.answer }
 {
-    let mut cursor = cursor;
-    'reading: for _ in rt.forever() {
-        let Round { cursor: now, over } = block_round(queue, row, rt, cursor, proc, block);
-        cursor = now;
-        match over {
-            Some(answer) => return Done { cursor, answer },
-            None => {}
-        }
-    }
-    unreachable!()
+    let none = Vec::new(*block.allocator());
+    let lent = mem::replace(block, none);
+    let mut lending = Lending {
+        cursor,
+        block: lent,
+    };
+    let call = BlockReading { queue, row };
+    let rendez = row.reader();
+    let answer = wait_for(rt, proc, rendez, &call, &mut lending, &mut NoProbe);
+    let Lending {
+        cursor,
+        block: back,
+    } = lending;
+    let _none = mem::replace(block, back);
+    Done { cursor, answer }
 }
 
-// One round: what is left of a write that was begun, or else the next write; and where none is
-// there a sleep.
-fn block_round<R: Wait>(
-    queue: &Queue,
-    row: &Row,
-    rt: &R,
-    cursor: ReadCursor,
-    proc: &mut Proc<'_>,
-    block: &mut Vec<u8>,
-) -> Round
-    requires cursor { IsReadCursor queue.now row.now cursor }
-    requires kernel { HasRow proc.old.words row.now }
-    ensures cursor { IsReadCursor queue.now row.now result.cursor }
-    ensures words { proc.new.words ≡ proc.old.words }
-    ensures over { IfBlockOver result.over (key_of queue.now) row.now
-        (calling (reader_with cursor proc.old) block.old.items)
-        (calling (reader_with result.cursor proc.new) block.new.items) }
-    ensures slept { IfBlockSlept result.over (key_of queue.now) row.now
-        (calling (reader_with cursor proc.old) block.old.items)
-        (calling (reader_with result.cursor proc.new) block.new.items) }
-{
-    let ReadCursor { mut seat, rest } = cursor;
-    if let Some(begun) = rest {
-        seat.spare.keep(begun.hand_over(block));
-        return Round {
-            cursor: ReadCursor { seat, rest: None },
-            over: Some(Ok(ReadAnswer::Got(block.len()))),
-        };
+/// What a read of a block has with it: what its end holds, and the block of its caller.
+#[derive(Drop)]
+pub(crate) struct Lending {
+    pub(crate) cursor: ReadCursor,
+    pub(crate) block: Vec<u8>,
+}
+
+/// A call of read_block: what it asks of its queue.
+#[derive(Drop)]
+pub(crate) struct BlockReading<'q> {
+    pub(crate) queue: &'q Queue,
+    pub(crate) row: &'q Row,
+}
+
+impl<'q> WaitingCall for BlockReading<'q> {
+    type Seat = Lending;
+
+    type Out = ReadAnswer;
+
+    ghost ready = { λ call lending. IsReadCursor call.queue.now call.row.now lending.cursor };
+
+    ghost waits = { λ call lending. IsReadCursor call.queue.now call.row.now lending.cursor };
+
+    ghost rests = { λ call lending. IsReadCursor call.queue.now call.row.now lending.cursor };
+
+    ghost knows = { λ call words. HasRow words call.row.now };
+
+    ghost promise = { λ call. seen_by lending_in
+        (waits_by (AsksForBlock (key_of call.queue.now) call.row.now)) };
+
+    fn begin<R: Wait>(
+        &self,
+        rt: &R,
+        proc: &mut Proc<'_>,
+        lending: &mut Lending,
+    ) -> Reply<ReadAnswer> {
+        self.ask(rt, proc, lending)
     }
-    match queue.take(&mut seat) {
-        TakeAnswer::Block(bytes, writer, number) => {
-            let whole = Begun::whole(bytes, writer, number - 1);
-            seat.spare.keep(whole.hand_over(block));
-            wake_writers(proc, row, number);
-            Round {
-                cursor: ReadCursor { seat, rest: None },
-                over: Some(Ok(ReadAnswer::Got(block.len()))),
-            }
+
+    // What is left of a write that was begun, or else the next write, whose writers are woken.
+    fn ask<R: Wait>(
+        &self,
+        _rt: &R,
+        proc: &mut Proc<'_>,
+        lending: &mut Lending,
+    ) -> Reply<ReadAnswer> {
+        if let Some(begun) = lending.cursor.rest.take() {
+            lending
+                .cursor
+                .seat
+                .spare
+                .keep(begun.hand_over(&mut lending.block));
+            return Reply::Done(ReadAnswer::Got(lending.block.len()));
         }
-        TakeAnswer::End => Round {
-            cursor: ReadCursor { seat, rest: None },
-            over: Some(Ok(ReadAnswer::End)),
-        },
-        TakeAnswer::NotYet(number) => match proc.sleep(rt, row.reader(), number) {
-            Ok(()) => Round {
-                cursor: ReadCursor { seat, rest: None },
-                over: None,
-            },
-            Err(fault) => Round {
-                cursor: ReadCursor { seat, rest: None },
-                over: Some(Err(fault)),
-            },
-        },
+        match self.queue.take(&mut lending.cursor.seat) {
+            TakeAnswer::Block(bytes, writer, number) => {
+                let whole = Begun::whole(bytes, writer, number - 1);
+                lending
+                    .cursor
+                    .seat
+                    .spare
+                    .keep(whole.hand_over(&mut lending.block));
+                wake_writers(proc, self.row, number);
+                Reply::Done(ReadAnswer::Got(lending.block.len()))
+            }
+            TakeAnswer::NotYet(number) => Reply::Wait(number),
+            TakeAnswer::End => Reply::Done(ReadAnswer::End),
+        }
+    }
+
+    // It reads nothing more.
+    fn leave<R: Wait>(&self, _rt: &R, _lending: &mut Lending) -> Option<ReadAnswer> {
+        None
     }
 }

@@ -1,9 +1,11 @@
 //! How a direction is written.
 ghost use Rattle.std.specs.Prelude.{◌≡◌};
+ghost use Rattle.block_queue.specs.Seats.{key_of};
 ghost use Rattle.pipe_dev.specs.Ends.{IsWriteSeat};
-ghost use Rattle.pipe_dev.specs.Rendezes.{HasRow};
-ghost use Rattle.pipe_dev.specs.WriteCalls.{Asks, IsAsked, call_with, writer_with};
-ghost use Rattle.pipe_dev.specs.WriteSteps.{IfOver, IfAgain};
+ghost use Rattle.pipe_dev.specs.Rendezes.{HasRow, writer_rendez};
+ghost use Rattle.pipe_dev.specs.WriteCalls.{IsAsked, call_with, writer_with, writing};
+ghost use Rattle.pipe_dev.specs.WriteSteps.{IsPutting, account_in, seen_by};
+ghost use Rattle.waiting.specs.Waiting.{Waited};
 
 use crate::row::Row;
 use crate::waking::wake;
@@ -13,7 +15,8 @@ use sleep_wakeup::Proc;
 use std::alloc::Global;
 use std::sync::Wait;
 use sync_base::limits::ATOMIC_SIZE;
-use sync_base::{Fault, Note, NoteSet, Piece};
+use sync_base::{Fault, NoProbe, Note, NoteSet, Piece};
+use waiting::{Reply, WaitingCall, wait_for};
 
 impl<'p> WriteEnd<'p> {
     ghost use Rattle.std.specs.Prelude.{◌≡◌, ◌<◌, ◌≤◌, ◌↔◌, length, IsErrOf};
@@ -63,7 +66,7 @@ impl<'p> WriteEnd<'p> {
         match seat.spare.take().filled(alloc, bytes) {
             Ok(block) => {
                 let Done { seat, answer } = write_with(
-                    self.queue, &self.row, rt, seat, proc, block,
+                    self.queue, &self.row, rt, seat, proc, bytes, block,
                 );
                 self.seat = Some(seat);
                 answer
@@ -84,106 +87,117 @@ struct Done {
     answer: Result<u64, Fault>,
 }
 
-// How far one round of a write came.
-#[derive(Drop)]
-pub(crate) enum Turn {
-    Over(Result<u64, Fault>),
-    /// It slept, and tries again with this block.
-    Again(Piece),
-}
-
-#[derive(Drop)]
-struct Round {
-    seat: PutSeat,
-    turn: Turn,
-}
-
-// Tries and sleeps until it is answered.
+// Asks and sleeps until it is answered.
 fn write_with<R: Wait>(
     queue: &Queue,
     row: &Row,
     rt: &R,
     seat: PutSeat,
     proc: &mut Proc<'_>,
+    bytes: &[u8],
     block: Piece,
 ) -> Done
     requires seat { IsWriteSeat queue.now row.now seat.writer seat }
     requires kernel { HasRow proc.old.words row.now }
+    requires block { block ≡ bytes.now }
     ensures seat { IsWriteSeat queue.now row.now seat.writer result.seat }
     ensures words { proc.new.words ≡ proc.old.words }
-    ensures asked { Asks (call_with queue.now row.now seat block)
-        (writer_with seat proc.old) result.answer
+    ensures asked { Waited (writing (call_with queue.now row.now seat bytes.now))
+        (writer_rendez row.now seat.writer) (writer_with seat proc.old) result.answer
         (writer_with result.seat proc.new) }
     ensures answer { IsAsked result.answer }
 {
-    let mut seat = seat;
-    let mut block = block;
-    'writing: for _ in rt.forever() {
-        let Round { seat: now, turn } = write_round(queue, row, rt, seat, proc, block);
-        seat = now;
-        match turn {
-            Turn::Over(answer) => return Done { seat, answer },
-            Turn::Again(back) => block = back,
-        }
-    }
-    unreachable!()
+    let writer = seat.writer();
+    let rendez = row.writer(writer);
+    let call = Writing {
+        queue,
+        row,
+        writer,
+        bytes,
+    };
+    let mut putting = Putting {
+        seat,
+        block: Some(block),
+    };
+    let answer = wait_for(rt, proc, rendez, &call, &mut putting, &mut NoProbe);
+    let Putting { seat, block: _ } = putting;
+    Done { seat, answer }
 }
 
-// One round: a put, and where there is no room a sleep.
-fn write_round<R: Wait>(
-    queue: &Queue,
-    row: &Row,
-    rt: &R,
-    seat: PutSeat,
-    proc: &mut Proc<'_>,
-    block: Piece,
-) -> Round
-    requires seat { IsWriteSeat queue.now row.now seat.writer seat }
-    requires kernel { HasRow proc.old.words row.now }
-    ensures seat { IsWriteSeat queue.now row.now seat.writer result.seat }
-    ensures words { proc.new.words ≡ proc.old.words }
-    ensures over { IfOver result.turn (call_with queue.now row.now seat block)
-        (writer_with seat proc.old) (writer_with result.seat proc.new) }
-    ensures again { IfAgain result.turn (call_with queue.now row.now seat block)
-        (writer_with seat proc.old) (writer_with result.seat proc.new) }
-{
-    let mut seat = seat;
-    let writer = seat.writer();
-    match queue.put(rt, &mut seat, block) {
-        PutAnswer::Taken(number) => {
-            wake(proc, row.reader(), number);
-            Round {
-                seat,
-                turn: Turn::Over(Ok(number)),
+/// The seat of a write, and its block while the queue has not taken it.
+#[derive(Drop)]
+pub(crate) struct Putting {
+    pub(crate) seat: PutSeat,
+    pub(crate) block: Option<Piece>,
+}
+
+/// A call of write: what it asks of its queue.
+#[derive(Drop)]
+pub(crate) struct Writing<'q> {
+    pub(crate) queue: &'q Queue,
+    pub(crate) row: &'q Row,
+    pub(crate) writer: u64,
+    pub(crate) bytes: &'q [u8],
+}
+
+impl<'q> WaitingCall for Writing<'q> {
+    type Seat = Putting;
+
+    type Out = u64;
+
+    ghost ready = { λ call putting.
+        IsPutting call.queue.now call.row.now call.writer call.bytes.now putting };
+
+    ghost waits = { λ call putting.
+        IsPutting call.queue.now call.row.now call.writer call.bytes.now putting };
+
+    ghost rests = { λ call putting.
+        IsWriteSeat call.queue.now call.row.now call.writer putting.seat };
+
+    ghost knows = { λ call words. HasRow words call.row.now };
+
+    ghost promise = { λ call. seen_by account_in (writing (record {
+      key = key_of call.queue.now;
+      row = call.row.now;
+      writer = call.writer;
+      bytes = call.bytes.now;
+    })) };
+
+    fn begin<R: Wait>(&self, rt: &R, proc: &mut Proc<'_>, putting: &mut Putting) -> Reply<u64> {
+        self.ask(rt, proc, putting)
+    }
+
+    // A put; where it was accepted the reader is woken with its number.
+    fn ask<R: Wait>(&self, rt: &R, proc: &mut Proc<'_>, putting: &mut Putting) -> Reply<u64> {
+        let Some(block) = putting.block.take() else {
+            unreachable!()
+        };
+        match self.queue.put(rt, &mut putting.seat, block) {
+            PutAnswer::Taken(number) => {
+                wake(proc, self.row.reader(), number);
+                Reply::Done(number)
+            }
+            PutAnswer::Full(back, number) => {
+                putting.block = Some(back);
+                Reply::Wait(number)
+            }
+            PutAnswer::Hungup(back) => {
+                putting.seat.spare.keep(Spare::of(back));
+                proc.put_back(NoteSet::of(Note::ClosedPipe));
+                Reply::Refused(Fault::Hungup)
+            }
+            PutAnswer::Worn(back) => {
+                putting.seat.spare.keep(Spare::of(back));
+                Reply::Refused(Fault::Worn)
             }
         }
-        PutAnswer::Full(back, number) => match proc.sleep(rt, row.writer(writer), number) {
-            Ok(()) => Round {
-                seat,
-                turn: Turn::Again(back),
-            },
-            Err(fault) => {
-                seat.spare.keep(Spare::of(back));
-                Round {
-                    seat,
-                    turn: Turn::Over(Err(fault)),
-                }
-            }
-        },
-        PutAnswer::Hungup(back) => {
-            seat.spare.keep(Spare::of(back));
-            proc.put_back(NoteSet::of(Note::ClosedPipe));
-            Round {
-                seat,
-                turn: Turn::Over(Err(Fault::Hungup)),
-            }
+    }
+
+    // Nothing was accepted, and the memory of the block is kept.
+    fn leave<R: Wait>(&self, _rt: &R, putting: &mut Putting) -> Option<u64> {
+        if let Some(block) = putting.block.take() {
+            putting.seat.spare.keep(Spare::of(block));
         }
-        PutAnswer::Worn(back) => {
-            seat.spare.keep(Spare::of(back));
-            Round {
-                seat,
-                turn: Turn::Over(Err(Fault::Worn)),
-            }
-        }
+        None
     }
 }

@@ -1,28 +1,38 @@
--- one round more
-use Rattle.std.proofs.Common.{suc, ◌∙◌, subst}
+-- The wait, as the account of the seat and the bytes of the block know it.
+use Rattle.std.proofs.Common.{List, ℕ, sym, subst}
+use Rattle.sync_base.specs.declared.ids.RendezId.{RendezId}
 use Rattle.block_queue.specs.Seats.{key_of}
-use Rattle.pipe_dev.specs.ReadCalls.{calling, reader_with}
-use Rattle.pipe_dev.specs.ReadSteps.{IfBlockSlept}
+use Rattle.pipe_dev.specs.BlockReads.{AsksForBlock}
+use Rattle.pipe_dev.specs.ReadCalls.{calling, lent_at, reader_with, waits_by}
+use Rattle.pipe_dev.specs.ReadSteps.{lending_in}
+use Rattle.waiting.specs.Waiting.{Waited}
+use Rattle.pipe_dev.proofs.SightLemmas.{waited_seen}
 use Rattle.pipe_dev.proofs.block_reading.block_with.Goals as goal
 
-pub reading-preserved : goal.reading-preserved
-reading-preserved g c =
-    let slept =
-    subst (λ over. IfBlockSlept over (key_of c.args.queue.now) c.args.row.now
-    (calling (reader_with c.reading.cursor c.reading.proc) c.reading.block.items)
-    (calling (reader_with c.block_round-now.result.cursor c.block_round-now.new.proc)
-    c.block_round-now.new.block.items))
-    c.in-None-over.is c.block_round-now.ensures.slept in
-    record {
-      cursor = c.block_round-now.ensures.cursor;
-      words = c.block_round-now.ensures.words ∙ c.reading.invariant.words;
-      same = slept.1 ∙ c.reading.invariant.same;
-      times = (
-        suc c.reading.invariant.times.0,
-        record {
-          between = reader_with c.reading.cursor c.reading.proc;
-          rounds = c.reading.invariant.times.1;
-          last = slept.0;
-        },
-      );
-    }
+pub returns-clause-asked : goal.returns-clause-asked
+returns-clause-asked g c =
+    let key = key_of c.args.queue.now in
+    let row = c.args.row.now in
+    let W : RendezId → List ℕ → List ℕ → Type 0 =
+    λ rendez old new. Waited (waits_by (AsksForBlock key row)) rendez
+    (lent_at (calling (reader_with c.args.cursor c.args.proc.now) old))
+    c.wait_for-answer.result
+    (lent_at (calling (reader_with c.wait_for-answer.new.seat.cursor c.wait_for-answer.new.proc)
+    new)) in
+    subst (λ rendez. W rendez c.args.block.now.items c.replace-none.new.dest.items)
+    c.reader-rendez.ensures
+    (subst (λ block. W c.reader-rendez.result block.items c.replace-none.new.dest.items)
+    c.replace-lent.ensures.value
+    (subst (λ block. W c.reader-rendez.result c.replace-lent.result.items block.items)
+    (sym c.replace-none.ensures.after)
+    (waited_seen lending_in (waits_by (AsksForBlock key row)) c.reader-rendez.result
+    (record {
+      seat = record { cursor = c.args.cursor; block = c.replace-lent.result };
+      process = c.args.proc.now.process;
+    })
+    c.wait_for-answer.result
+    (record {
+      seat = c.wait_for-answer.new.seat;
+      process = c.wait_for-answer.new.proc.process;
+    })
+    c.wait_for-answer.ensures.waited)))
