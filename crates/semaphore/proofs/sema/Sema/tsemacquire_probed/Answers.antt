@@ -52,10 +52,6 @@ returns-in-Refused-clause-called g c =
       takes = inl (record { begun = c.in-Refused.ensures.asked; timer = refl });
     }
 
-pub sleep_for-ending-requires-clause-waits : goal.sleep_for-ending-requires-clause-waits
-sleep_for-ending-requires-clause-waits g c =
-    (c.in-Wait.ensures.stands.0, c.add.ensures.asks.seat)
-
 pub sleep_for-ending-requires-clause-rendez : goal.sleep_for-ending-requires-clause-rendez
 sleep_for-ending-requires-clause-rendez g c =
     subst (λ words. c.rendez-rendez.result.0 < rendez_of words) (sym c.in-Wait.ensures.words)
