@@ -33,11 +33,6 @@ consumes_kept (Some xs) None new a first kept = absurd first
 consumes_kept (Some xs) (Some ys) None a first kept = absurd kept
 consumes_kept (Some xs) (Some ys) (Some zs) a first kept = first ∙ ap (λ l. a ++ l) (sym kept)
 
--- before the first read nothing is taken
-pub consumes_nothing : (old : Option (List ℕ)) → Consumes old old []
-consumes_nothing None = tt
-consumes_nothing (Some xs) = refl
-
 -- before the first write nothing is added
 pub appends_nothing : (old : Option (List ℕ)) → Appends old old []
 appends_nothing None = tt
@@ -124,11 +119,6 @@ pub fits_more : (items room : List ℕ) (count most : ℕ) → length items ≤ 
     → count ≤ most - length items → length (items ++ take count room) ≤ most
 fits_more items room count most within left =
     omega (arith, length-append items (take count room), length-take count room)
-
--- where nothing was written
-pub keeps_all : (old : Option (List ℕ)) → Keeps old old
-keeps_all None = tt
-keeps_all (Some xs) = refl
 
 -- a run that fails when a front is written
 pub told_partly : (said : Told) (old now : Option (List ℕ)) (r : Result (Unit {0}) Fault)

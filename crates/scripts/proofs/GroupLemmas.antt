@@ -196,19 +196,6 @@ list_rises first others word part parts is rise =
     by_others (Some more) some =
         record { named = first ∷ more; rise = rw (parts, is, some) refl; same = rw some refl }
 
--- and where they do not rise it is none
-pub list_falls : (first : ℕ) (others : Option (Bor (List ℕ))) (word part : List ℕ)
-    → parts_of is_comma word ≡ part ∷ parts_behind is_comma others → number_of part ≡ Some first
-    → is_some (rising_behind (Some first) (parts_behind is_comma others)) ≡ false
-    → pids_of word ≡ None
-list_falls first others word part parts is falls =
-    by_others (rising_behind (Some first) (parts_behind is_comma others)) refl
-  where
-    by_others : (more : Option (List ℕ))
-        → rising_behind (Some first) (parts_behind is_comma others) ≡ more → pids_of word ≡ None
-    by_others None none = rw (parts, is, none) refl
-    by_others (Some more) some = let bad = rw some at falls in absurd (cc)
-
 -- nor is a word whose first part is no number
 pub list_begins_with_none : (words : List (List ℕ)) (word part : List ℕ)
     → parts_of is_comma word ≡ part ∷ words → number_of part ≡ None → pids_of word ≡ None

@@ -92,17 +92,6 @@ kind_comes_first list note (Some rest) begins =
     ap (parts_of is_comma) begins
     ∙ parts_of-part is_comma (kind_text note) COMMA rest.now (kind_has_no_comma note) refl
 
--- so the kinds of the list are that one and the others
-pub kinds_begin : (set : NoteSet) (list : List ℕ) (note : Note) (rest : Option (Bor (List ℕ)))
-    → IsFirst (kind_text note) list rest
-    → with_kinds set (parts_of is_comma list)
-    ≡ option_and_then (λ more. with_kinds more (parts_behind is_comma rest)) (kind_added set note)
-kinds_begin set list note rest begins =
-    ap (with_kinds set) (kind_comes_first list note rest begins)
-    ∙ ap (option_and_then (λ (note : Note).
-    option_and_then (λ more. with_kinds more (parts_behind is_comma rest)) (kind_added set note)))
-    (kind_is_read note)
-
 -- and one that begins with none has none
 pub kinds_are_none : (set : NoteSet) (list : List ℕ)
     → ((note : Note) → IsNotFirst (kind_text note) list)

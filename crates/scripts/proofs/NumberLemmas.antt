@@ -7,6 +7,7 @@ use Rattle.std.proofs.Common.{arith, append-nil, length-append, length-take, tak
 use Rattle.std.specs.List.{list_all}
 use Rattle.std.specs.Char.{is_ascii_digit}
 use Rattle.std.proofs.Math.Nat.{pow-le-pow_right}
+use Rattle.std.proofs.Math.Seq.{take-length}
 use Rattle.std.proofs.lemmas.Bool.Decides.{nat_tests}
 use Rattle.std.proofs.lemmas.List.Folds.{list_all-append}
 use Rattle.scripts.specs.declared.lines.TheConstants.{COMMA, ZERO}
@@ -194,18 +195,13 @@ no_digit end text other first =
       end = first;
     }) refl
 
--- as many bytes as a text has are the text
-take_whole : (bs : List ℕ) → take (length bs) bs ≡ bs
-take_whole [] = refl
-take_whole (b ∷ bs) = ap (λ (ds : List ℕ). b ∷ ds) (take_whole bs)
-
 -- nor where they are all of the text
 pub ends_in_digits : (end : ℕ) (text : List ℕ) (number count : ℕ) → is_ascii_digit end ≡ false
     → AllLeadingDigits text number count → count ≡ length text → BeginsWithNoNumber end text
 ends_in_digits end text number count other all whole n rest begins =
     let word = word_is_leading end text number count n rest other all begins in
     let short = ap length begins.split ∙ length-append begins.word (end ∷ rest) in
-    let same = ap length (sym word ∙ (ap (λ m. take m text) whole ∙ take_whole text)) in
+    let same = ap length (sym word ∙ (ap (λ m. take m text) whole ∙ take-length text)) in
     omega (arith, short, same)
 
 -- what stands behind the same front is the same
@@ -324,4 +320,4 @@ none_spelt word number count all none = none_by (number_of word) (λ n spells.
 pub whole_spelt : (word : List ℕ) (n count : ℕ) → count ≡ length word
     → number_of (take count word) ≡ Some n → Some n ≡ number_of word
 whole_spelt word n count whole spells =
-    sym spells ∙ ap number_of (ap (λ m. take m word) whole ∙ take_whole word)
+    sym spells ∙ ap number_of (ap (λ m. take m word) whole ∙ take-length word)

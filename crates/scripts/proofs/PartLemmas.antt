@@ -2,6 +2,7 @@
 use Rattle.std.proofs.Common.{◌≡◌, ℕ, Bool, true, false, cond, ◌==◌, ◌&&◌, List, [], ◌∷◌, ◌++◌}
 use Rattle.std.proofs.Common.{◌≤◌, ◌-◌, length, take, drop, take-append-drop, refl, ap, sym, ◌∙◌}
 use Rattle.std.proofs.Common.{arith, get_or}
+use Rattle.std.proofs.Math.Seq.{take-length}
 use Rattle.std.proofs.lemmas.Bool.Decides.{nat_tests}
 use Rattle.std.proofs.lemmas.Grind.{common_steps}
 use Rattle.std.proofs.lemmas.List.{get_or_append_left}
@@ -78,15 +79,11 @@ pub word_and_rest : (word text : List ℕ) (n : ℕ) → length word ≤ n → t
 word_and_rest word text n above same below =
     let whole : n ≡ length word = omega (arith, above, below) in
     let front : take (length word) text ≡ word =
-    rw whole at same ∙ take_whole word in
+    rw whole at same ∙ take-length word in
     sym (take-append-drop (length word) text)
     ∙ (ap (λ (f : List ℕ). f ++ drop (length word) text) front
     ∙ ap (λ (r : List ℕ). word ++ r) (sym (rest_drop (length word) text)))
   where
-    take_whole : (bs : List ℕ) → take (length bs) bs ≡ bs
-    take_whole [] = refl
-    take_whole (b ∷ bs) = ap (λ (ds : List ℕ). b ∷ ds) (take_whole bs)
-
     rest_drop : (k : ℕ) (bs : List ℕ) → take (length bs - k) (drop k bs) ≡ drop k bs
     rest_drop k bs = grind (arith, common_steps)
 

@@ -74,28 +74,6 @@ pub record GoesOn {T S : Type 0} (stands : T → S → Type 0) (language : Langu
   pub fault : said.fault ≡ (told_from language (too_long || nat_lt 0 (length cut))
       (stage state number) (lines_of rest)).fault
 
--- before the first line nothing is written, and nothing is held back
-pub goes_begin : {T S : Type 0} (stands : T → S → Type 0) (language : Language S)
-    (too_long : Bool) (old : Option (List ℕ)) (s : S) (t : T) (held lines : List ℕ) → stands t s
-    → held ≡ []
-    → GoesOn stands language too_long (cut_line_of lines)
-    (told_from language (too_long || nat_lt 0 (length (cut_line_of lines))) (stage s 2)
-    (lines_of lines)) old old t 2 held lines
-goes_begin stands language too_long old s t held lines stands_now none =
-    record {
-      state = s;
-      stands_now = stands_now;
-      cut_is = refl;
-      writing = record {
-        written = [];
-        whole = ap (λ (h : List ℕ). h ++ (told_from language
-            (too_long || nat_lt 0 (length (cut_line_of lines))) (stage s 2)
-            (lines_of lines)).output) none;
-        appended = appends_nothing old;
-      };
-      fault = refl;
-    }
-
 -- what the lines say where the first of them is answered
 told-answered : {S : Type 0} (language : Language S) (is_cut : Bool) (s : S) (number : ℕ)
     (line : List ℕ) (lines : List (List ℕ)) (answered : Answered S)
