@@ -53,14 +53,6 @@ kind_is word note is =
     (λ is. read_as kind_text word (codes "expired") Expired note _ is refl
     (λ is. absurd (cc))))))
 
--- and the kind's is read as it
-kind_is_read : (note : Note) → note_named (kind_text note) ≡ Some note
-kind_is_read Interrupt = refl
-kind_is_read Hangup = refl
-kind_is_read Alarm = refl
-kind_is_read ClosedPipe = refl
-kind_is_read Expired = refl
-
 -- it has no space in it, and no comma
 kind_has_no_space : (note : Note) → has_no_space (kind_text note) ≡ true
 kind_has_no_space Interrupt = refl
@@ -69,28 +61,10 @@ kind_has_no_space Alarm = refl
 kind_has_no_space ClosedPipe = refl
 kind_has_no_space Expired = refl
 
-kind_has_no_comma : (note : Note) → list_all (λ b. not (is_comma b)) (kind_text note) ≡ true
-kind_has_no_comma Interrupt = refl
-kind_has_no_comma Hangup = refl
-kind_has_no_comma Alarm = refl
-kind_has_no_comma ClosedPipe = refl
-kind_has_no_comma Expired = refl
-
 -- the word of a kind has no space
 kind_has_none : (word : List ℕ) (note : Note) → note_named word ≡ Some note
     → has_no_space word ≡ true
 kind_has_none word note is = rw (kind_is word note is) (kind_has_no_space note)
-
--- a list that begins with a kind has it first, and then those behind the comma
-kind_comes_first : (list : List ℕ) (note : Note) (rest : Option (Bor (List ℕ)))
-    → IsFirst (kind_text note) list rest
-    → parts_of is_comma list ≡ kind_text note ∷ parts_behind is_comma rest
-kind_comes_first list note None begins =
-    ap (parts_of is_comma) begins
-    ∙ parts_of-plain is_comma (kind_text note) (kind_has_no_comma note)
-kind_comes_first list note (Some rest) begins =
-    ap (parts_of is_comma) begins
-    ∙ parts_of-part is_comma (kind_text note) COMMA rest.now (kind_has_no_comma note) refl
 
 -- and one that begins with none has none
 pub kinds_are_none : (set : NoteSet) (list : List ℕ)
