@@ -1,8 +1,8 @@
 -- What the lines of a schedule ask for, word by word.
 use Rattle.std.proofs.Common.{◌≡◌, ℕ, ◌<◌, List, [], ◌∷◌, ◌++◌, length, ◌+◌, codes, option_and_then}
-use Rattle.std.proofs.Common.{ap, sym, subst, ◌∙◌, append_assoc, Option, None, Some, Bor, refl}
+use Rattle.std.proofs.Common.{ap, sym, ◌∙◌, append_assoc, Option, None, Some, Bor, refl}
 use Rattle.std.proofs.Common.{arith}
-use Rattle.scripts.specs.Lines.{is_space, words_of, number_of, BeginsWithLine, BeginsWithNoNumber}
+use Rattle.scripts.specs.Lines.{is_space, words_of, number_of, BeginsWithNoNumber}
 use Rattle.scripts.specs.Lines.{LineAsks, NoLineAsks}
 use Rattle.sleep_core.specs.declared.event.Event.{Event}
 use Rattle.scripts.specs.declared.event_line.Verb.{Verb}

@@ -1,6 +1,6 @@
 -- What spells kinds of notes is one word: no kind has a space in it, and a comma is none.
 use Rattle.std.proofs.Common.{◌≡◌, ◌&&◌, ℕ, Bool, true, false, not, List, [], ◌∷◌, ◌++◌, length}
-use Rattle.std.proofs.Common.{if◌then◌else◌, codes, Option, None, Some, option_and_then, Bor, refl}
+use Rattle.std.proofs.Common.{if◌then◌else◌, codes, Option, None, Some, option_and_then, refl}
 use Rattle.std.proofs.Common.{ap, sym, ◌∙◌, append-nil, length-append, arith}
 use Rattle.std.specs.List.{list_all}
 use Rattle.std.proofs.lemmas.Bool.Decides.{nat_tests}
@@ -12,11 +12,11 @@ use Rattle.sync_base.specs.declared.note.NoteSet.{NoteSet}
 use Rattle.sync_base.specs.NoteSet.{no_notes}
 use Rattle.scripts.specs.declared.lines.TheConstants.{COMMA}
 use Rattle.scripts.specs.EventText.{kind_text}
-use Rattle.scripts.specs.Lines.{is_comma, is_space, is_word, onto_first, parts_behind, parts_of}
+use Rattle.scripts.specs.Lines.{is_comma, is_space, is_word, onto_first, parts_of}
 use Rattle.scripts.specs.Lines.{words_of}
-use Rattle.scripts.specs.Schedule.{IsFirst, IsNotFirst, kind_added, kinds_of, note_named}
+use Rattle.scripts.specs.Schedule.{IsNotFirst, kind_added, kinds_of, note_named}
 use Rattle.scripts.specs.Schedule.{with_kinds}
-use Rattle.scripts.proofs.LineLemmas.{parts_of-part, parts_of-plain, parts_of-some}
+use Rattle.scripts.proofs.LineLemmas.{parts_of-plain, parts_of-some}
 use Rattle.scripts.proofs.NumberLemmas.{same_behind}
 use Rattle.scripts.proofs.OnePassLemmas.{read_as}
 use Rattle.scripts.proofs.PartLemmas.{TailHas, parted}

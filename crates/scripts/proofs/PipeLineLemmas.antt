@@ -21,7 +21,7 @@ use Rattle.scripts.specs.PipeScript.{Op, Writes, Hangs_up, answered, pipe_langua
 use Rattle.scripts.specs.PipeScript.{mode_of, hangup_of, read_of, write_of}
 use Rattle.scripts.specs.PipeLine.{op_word, op_end}
 use Rattle.scripts.proofs.LineLemmas.{parts_of-some, parts_of-plain}
-use Rattle.scripts.proofs.OnePassLemmas.{IsWord, passes_too, line_begins, line_of_word}
+use Rattle.scripts.proofs.OnePassLemmas.{passes_too, line_begins, line_of_word}
 use Rattle.scripts.proofs.OnePassLemmas.{none_of_words, none_on_line}
 use Rattle.scripts.proofs.PartLemmas.{TailHas, parted}
 

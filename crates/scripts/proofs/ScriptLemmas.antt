@@ -17,7 +17,7 @@ use Rattle.scripts.specs.Device.{AppendsFront, Devices, IsRunFault, Runs, TakesU
 use Rattle.scripts.specs.Script.{Language, Answered, Told, fault_at, answer_then, if_fits}
 use Rattle.scripts.specs.Script.{told, lines_told, told_from, FirstAnswered, IsStuck, following}
 use Rattle.scripts.specs.Script.{growth, stage}
-use Rattle.scripts.proofs.DeviceLemmas.{IsWriting, appends_then, appends_nothing, appends_front}
+use Rattle.scripts.proofs.DeviceLemmas.{IsWriting, appends_then, appends_front}
 use Rattle.scripts.proofs.DeviceLemmas.{told_of_all}
 use Rattle.scripts.specs.ScriptLaws.{lines_text}
 use Rattle.scripts.proofs.TextLemmas.{lines_text-lines}
