@@ -5,6 +5,7 @@ mod SharingLemmas
 mod StreamLemmas
 mod WorkedHalls
 mod WorkedOthers
+mod WorkedPieces
 mod WorkedPlans
 mod WorkedPools
 mod WorkedReads
