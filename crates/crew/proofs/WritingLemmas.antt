@@ -16,11 +16,12 @@ use Rattle.pipe_dev.specs.declared.answers.ReadAnswer.TheVariants as read
 use Rattle.pipe_dev.specs.declared.row.Row.{Row}
 use Rattle.pipe_dev.specs.Chain.{written_by}
 use Rattle.pipe_dev.specs.Ends.{IsSameWriteEnd}
-use Rattle.pipe_dev.specs.BlockReads.{ReadsBlock}
+use Rattle.pipe_dev.specs.BlockReads.{AsksForBlock, ReadsBlock}
+use Rattle.pipe_dev.specs.Rendezes.{reader_rendez}
 use Rattle.pipe_dev.specs.ReadCalls.{Calling}
 use Rattle.pipe_dev.specs.Sides.{HasWrittenJust}
 use Rattle.pipe_dev.specs.WriteCalls.{Writes, call_of, writer_of}
-use Rattle.pipe_dev.proofs.BlockLemmas.{found_end}
+use Rattle.pipe_dev.proofs.AskedLemmas.{last_asked}
 use Rattle.pipe_dev.proofs.SideLemmas.{writes_add}
 use Rattle.crew.specs.declared.crew.Writer.{Writer}
 use Rattle.crew.specs.Message.{message_of}
@@ -37,7 +38,8 @@ at_end_now : (key : Key) (row : Row) (old new : Calling) → ReadsBlock key row 
     → is_at_end new.reader.account.seen ≡ true
 at_end_now key row old new reads =
     ap (λ (a : Account Entry). is_at_end a.seen)
-    (found_end key row old new reads).1.entered.adds.new_is
+    (last_asked (AsksForBlock key row) (reader_rendez row) old read.End new
+    reads).asked.0.entered.adds.new_is
 
 -- the same, of an answer that is the end
 pub at_end : (key : Key) (row : Row) (old : Calling) (answer : Result ReadAnswer Fault)

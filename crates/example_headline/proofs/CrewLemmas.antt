@@ -1,9 +1,9 @@
 -- How a reader and writers go on, by what their ends' calls answer.
-use Rattle.std.proofs.Common.{◌≡◌, ◌≢◌, ◌+◌, ◌++◌, ◌<◌, ℕ, zero, suc, List, [], ◌∷◌, length, map}
+use Rattle.std.proofs.Common.{◌≡◌, ◌≢◌, ◌+◌, ◌++◌, ◌<◌, ℕ, suc, List, [], ◌∷◌, length, map}
 use Rattle.std.proofs.Common.{refl, false}
-use Rattle.std.proofs.Common.{reverse, sym, ◌∙◌, ap, subst, arith, Option, Some, None, get_or}
+use Rattle.std.proofs.Common.{reverse, sym, ◌∙◌, ap, subst, arith, Some, None}
 use Rattle.std.proofs.Common.{◌≤◌, Bool}
-use Rattle.std.specs.Prelude.{Result, Ok, Err, take, slice_get, slice_index_or, vec_items}
+use Rattle.std.specs.Prelude.{Result, Ok, Err, take, slice_index_or, vec_items}
 use Rattle.std.specs.List.{AllByRecursion, AllZip}
 use Rattle.std.proofs.lemmas.List.{append-nil, map-append, reverse-append}
 use Rattle.sync_base.specs.declared.fault.Fault.{Fault}
@@ -20,10 +20,13 @@ use Rattle.pipe_dev.specs.declared.answers.ReadAnswer.{ReadAnswer}
 use Rattle.pipe_dev.specs.declared.answers.ReadAnswer.TheVariants as read
 use Rattle.pipe_dev.specs.declared.row.Row.{Row}
 use Rattle.pipe_dev.specs.Chain.{AddsRead, written_by}
-use Rattle.pipe_dev.specs.Ends.{ReadSide, WriteSide, IsSameReadEnd, IsSameWriteEnd}
+use Rattle.pipe_dev.specs.Ends.{ReadSide, IsSameReadEnd, IsSameWriteEnd}
 use Rattle.pipe_dev.specs.Parts.{Part}
-use Rattle.pipe_dev.specs.ReadCalls.{Reads, InMode, KeepsTrying, KeepsReading, calling}
-use Rattle.pipe_dev.specs.ReadCalls.{reader_of}
+use Rattle.pipe_dev.specs.declared.filling.Stop.TheVariants as stop
+use Rattle.pipe_dev.specs.ReadCalls.{AsksForBytes, FindsEnd, InMode, Reads, TriesOn}
+use Rattle.pipe_dev.specs.ReadCalls.{calling, came_to, lent_at, reader_of}
+use Rattle.pipe_dev.specs.Rendezes.{reader_rendez}
+use Rattle.pipe_dev.proofs.AskedLemmas.{LastAsked, last_asked}
 use Rattle.pipe_dev.specs.Sides.{HasWrittenJust}
 use Rattle.pipe_dev.specs.WriteCalls.{Writes, call_of, writer_of}
 use Rattle.pipe_dev.proofs.SideLemmas.{reads_add, read_ends_hang_up, writes_add, write_ends_hang_up}
@@ -90,22 +93,30 @@ pub sees_end : (key : Key) (row : Row) (old end : ReadSide) (before after : Runn
     (buffer buffer' : List ℕ) → row.mode ≡ Message
     → Reads key row (calling (reader_of old before) buffer) (Ok read.End)
     (calling (reader_of end after) buffer') → HasSeenEnd end
-sees_end key row old end before after buffer buffer' mode reads = by row.mode mode reads
+sees_end key row old end before after buffer buffer' mode reads = by row.mode mode last.asked
   where
+    last : LastAsked (AsksForBytes key row) (reader_rendez row) read.End
+        (lent_at (calling (reader_of end after) buffer')).seat
+    last =
+        last_asked (AsksForBytes key row) (reader_rendez row)
+        (calling (reader_of old before) buffer) read.End (calling (reader_of end after) buffer')
+        reads
+
     by : (m : Mode) → m ≡ Message
         → InMode m
-        (KeepsTrying key row (calling (reader_of old before) buffer) (Ok read.End)
-        (calling (reader_of end after) buffer'))
-        (KeepsReading key row (calling (reader_of old before) buffer) (Ok read.End)
-        (calling (reader_of end after) buffer'))
+        (FindsEnd key last.before.reader
+        (record (reader_of end after) { process = last.process })
+        × (buffer' ≡ last.before.buffer))
+        (TriesOn key row last.before (came_to 0 stop.End)
+        (calling (record (reader_of end after) { process = last.process }) buffer'))
         → HasSeenEnd end
-    by Message is trying =
+    by Message is finds =
         record {
-          past = trying.ended.0.entered.adds.past;
-          newest = ap (λ (a : Account Entry). a.seen) trying.ended.0.entered.adds.new_is;
-          rest = trying.ended.0.rest;
+          past = finds.0.entered.adds.past;
+          newest = ap (λ (a : Account Entry). a.seen) finds.0.entered.adds.new_is;
+          rest = finds.0.rest;
         }
-    by Stream is reading = cc
+    by Stream is tries = cc
 
 -- a reader that hung up has read on: its end has read no more, and it keeps what it had got
 pub hung_read : (old new : Reader)

@@ -1,6 +1,6 @@
 -- What is held of a direction whose reader came to the end: nothing.
 use Rattle.std.proofs.Common.{◌≡◌, ◌⊎◌, ◌<◌, ◌≤◌, ◌++◌, ℕ, true, false, List, [], ◌∷◌, length, inl}
-use Rattle.std.proofs.Common.{inr, get_or, ap, refl, sym, subst, ◌∙◌, Option, Some, None}
+use Rattle.std.proofs.Common.{inr, get_or, ap, refl, sym, subst, ◌∙◌, Some, None}
 use Rattle.std.specs.Prelude.{slice_get, drop}
 use Rattle.std.proofs.lemmas.List.{drop_all}
 use Rattle.std.proofs.lemmas.Option.{slice_get_cases}

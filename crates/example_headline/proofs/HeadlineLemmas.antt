@@ -1,20 +1,18 @@
 -- What all ends of a crew come to.
 use Rattle.std.proofs.Common.{◌≡◌, ◌+◌, ◌++◌, ◌<◌, ℕ, zero, suc, List, [], ◌∷◌, length, map, refl}
 use Rattle.std.proofs.Common.{sym}
-use Rattle.std.proofs.Common.{◌∙◌, ap, subst, arith, Option, reverse}
+use Rattle.std.proofs.Common.{◌∙◌, ap, subst, arith}
 use Rattle.std.specs.Prelude.{take}
 use Rattle.std.specs.List.{AllByRecursion, AllZip}
 use Rattle.std.proofs.lemmas.List.{length-map}
 use Rattle.histories.specs.Account.{numbers_from}
-use Rattle.histories.proofs.ListLemmas.{all_weaker}
 use Rattle.sync_base.specs.declared.mode.Mode.TheVariants.{Message}
 use Rattle.sync_base.specs.Write.{Write}
 use Rattle.block_queue.specs.declared.queue.Queue.{Queue}
 use Rattle.block_queue.specs.Seats.{key_of}
-use Rattle.pipe_dev.specs.declared.closing.Held.{Held}
 use Rattle.pipe_dev.specs.declared.pipe.DirectionStart.{DirectionStart}
 use Rattle.pipe_dev.specs.Ends.{ReadSide, WriteSide, reading_of}
-use Rattle.pipe_dev.specs.Finishing.{GivesHeld, rest_bytes}
+use Rattle.pipe_dev.specs.Finishing.{GivesHeld}
 use Rattle.pipe_dev.specs.Laws.{IsAllWritten}
 use Rattle.pipe_dev.specs.Openings.{IsDirectionStartOf, AreNewEnds}
 use Rattle.pipe_dev.specs.Parts.{Part, whole_from, bytes_by}
@@ -23,13 +21,12 @@ use Rattle.pipe_dev.specs.Sides.{HasWrittenJust}
 use Rattle.pipe_dev.proofs.SideLemmas.{new_ends_are_unused, calls_keep_all_ends}
 use Rattle.pipe_dev.proofs.SideLemmas.{finishes_find_accepted}
 use Rattle.example_headline.specs.declared.crew.Crew.{Crew}
-use Rattle.example_headline.specs.declared.reader.Reader.{Reader}
 use Rattle.example_headline.specs.declared.settling.Outcome.{Outcome}
 use Rattle.example_headline.specs.declared.settling.Written.{Written}
 use Rattle.example_headline.specs.declared.writer.Writer.{Writer}
-use Rattle.example_headline.specs.Crew.{IsReady, IsFresh, AreEnds, HasReadOn, HasWrittenOn}
+use Rattle.example_headline.specs.Crew.{IsReady, IsFresh, HasReadOn, HasWrittenOn}
 use Rattle.example_headline.specs.Crew.{HasEnded, HasWorked, messages_of}
-use Rattle.example_headline.specs.Crew.{CountsAll, KeepsAll, ends_of}
+use Rattle.example_headline.specs.Crew.{CountsAll, ends_of}
 use Rattle.example_headline.specs.Headline.{IsWholeAndOnce, AreFirst, AreTheirs}
 use Rattle.example_headline.specs.Headline.{accepted_of}
 use Rattle.example_headline.proofs.CrewLemmas.{same_ends, still_counts}

@@ -2,14 +2,11 @@
 use Rattle.std.proofs.Common.{◌≡◌, inl, inr, ℕ, suc, ◌<◌, Bool, true, false, nat_le}
 use Rattle.std.proofs.Common.{List, ◌∷◌, length, take, refl, sym, ◌∙◌, ap, subst, arith, None, Some}
 use Rattle.std.proofs.Common.{if◌then◌else◌, drop}
-use Rattle.std.specs.Prelude.{Result, Ok, Err, ⊤}
+use Rattle.std.specs.Prelude.{Result, Ok, Err}
 use Rattle.std.proofs.lemmas.Bool.Decides.{nat_tests}
 use Rattle.std.proofs.lemmas.List.{take_all}
 use Rattle.sync_base.specs.declared.fault.Fault.{Fault}
 use Rattle.sync_base.specs.declared.fault.Fault.TheVariants as fault
-use Rattle.rendez_words.specs.Process.{Process}
-use Rattle.sleep_wakeup.specs.Deeds.{FailsAsleep}
-use Rattle.sync_base.specs.declared.ids.RendezId.{RendezId}
 use Rattle.sync_base.specs.declared.mode.Mode.TheVariants.{Message}
 use Rattle.block_queue.specs.declared.entry.Entry.TheVariants.{NotYet, End}
 use Rattle.block_queue.specs.declared.view.Key.{Key}
@@ -17,73 +14,22 @@ use Rattle.block_queue.specs.Seats.{key_of}
 use Rattle.pipe_dev.specs.declared.answers.ReadAnswer.{ReadAnswer}
 use Rattle.pipe_dev.specs.declared.answers.ReadAnswer.TheVariants as read
 use Rattle.pipe_dev.specs.declared.row.Row.{Row}
-use Rattle.pipe_dev.specs.BlockReads.{GetsBlock, AsksForBlock, ReadsBlock}
+use Rattle.pipe_dev.specs.BlockReads.{GetsBlock, AsksForBlock}
 use Rattle.pipe_dev.specs.CallLaws.{BlockReadsAreSteps}
 use Rattle.pipe_dev.specs.Chain.{AddsPart, AddsRead, IsOfSteps, reading_at}
 use Rattle.pipe_dev.specs.Parts.{Part, part_of, rest_of}
-use Rattle.pipe_dev.specs.Filling.{Lending, Taker, FindsNothing}
+use Rattle.pipe_dev.specs.Filling.{Lending}
 use Rattle.pipe_dev.specs.ReadCalls.{Reader, Calling, calling, reader_of, GivesUp, waits_by}
-use Rattle.pipe_dev.specs.ReadCalls.{IsAskedRead, calling_at, lent_at}
+use Rattle.pipe_dev.specs.ReadCalls.{calling_at, lent_at}
 use Rattle.pipe_dev.specs.Rendezes.{reader_rendez}
 use Rattle.pipe_dev.specs.SideLaws.{BlockReadsAddToTheirEnd}
 use Rattle.pipe_dev.proofs.ChainLemmas.{Makes, makes_more, taker_reads, found_none, got_next}
 use Rattle.pipe_dev.proofs.ChainLemmas.{no_step}
-use Rattle.pipe_dev.proofs.SightLemmas.{waited_ends, refused_for}
+use Rattle.pipe_dev.proofs.SightLemmas.{waited_ends}
 use Rattle.waiting.specs.declared.call.Reply.{Reply}
 use Rattle.waiting.specs.declared.call.Reply.TheVariants.{Wait}
 use Rattle.waiting.specs.Waiting.{Point, Waited, reply_of}
 use Rattle.pipe_dev.proofs.SideLemmas.{steps_add}
-
--- ---- a call
-
--- it is refused by no request, and a failed sleep has other reasons
-failed : (before after : Process) (rendez : RendezId) (number : ℕ) (why : Fault)
-    → FailsAsleep before rendez number after why → IsAskedRead (Err why)
-failed before after rendez number (fault.Interrupted notes) fails = tt
-failed before after rendez number fault.DoubleSleep fails = tt
-failed before after rendez number other fails = absurd fails
-
--- so it answers nothing that comes before its first request
-pub is_asked_block : (key : Key) (row : Row) (rendez : RendezId) (old : Point Lending)
-    (answer : Result ReadAnswer Fault) (new : Point Lending)
-    → Waited (waits_by (AsksForBlock key row)) rendez old answer new → IsAskedRead answer
-is_asked_block key row rendez old (Ok answer) new waited = tt
-is_asked_block key row rendez old (Err why) new waited =
-    refused_for (λ old told new. AsksForBlock key row (calling_at old) told (calling_at new))
-    GivesUp rendez (λ why. IsAskedRead (Err why)) (λ old new why asks. absurd asks)
-    (λ before after number why fails. failed before after rendez number why fails)
-    old why new waited
-
--- where it was answered the end, its last request found it
-abbrev FoundEnd : Key → Result ReadAnswer Fault → Lending → Type 0
-FoundEnd key (Ok read.End) seat = (old : Taker) × FindsNothing key End old seat.taker
-FoundEnd key answer seat = ⊤
-
-request_found_end : (key : Key) (row : Row) (old new : Point Lending)
-    (answer : Result ReadAnswer Fault)
-    → AsksForBlock key row (calling_at old) (reply_of answer) (calling_at new)
-    → FoundEnd key answer new.seat
-request_found_end key row old new (Ok read.End) asks = (
-  old.seat.taker,
-  record {
-    none_left = asks.0.none_left;
-    entered = asks.0.entered;
-    rest = asks.0.rest;
-  },
-)
-request_found_end key row old new (Ok (read.Got count)) asks = tt
-request_found_end key row old new (Err why) asks = tt
-
--- so of a whole call
-pub found_end : (key : Key) (row : Row) (old new : Calling)
-    → ReadsBlock key row old (Ok read.End) new
-    → (before : Taker) × FindsNothing key End before (lent_at new).seat.taker
-found_end key row old new reads =
-    waited_ends (λ old told new. AsksForBlock key row (calling_at old) told (calling_at new))
-    GivesUp (reader_rendez row) (λ seat. ⊤) (FoundEnd key) (λ old new number on asks. tt)
-    (λ old new answer on asks. request_found_end key row old new answer asks)
-    (λ old new out on gives. absurd gives) (λ old new why on same. tt)
-    (lent_at old) (Ok read.End) (lent_at new) tt reads
 
 -- ---- the laws
 

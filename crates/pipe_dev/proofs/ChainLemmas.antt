@@ -1,12 +1,11 @@
 -- The calls of a read end are steps, and what all steps and a finish come to.
 use Rattle.std.proofs.Common.{◌≡◌, ◌≢◌, ◌⊎◌, inl, inr, eqb, ℕ, zero, suc, ◌+◌, ◌-◌, ◌<◌, Bool, true}
 use Rattle.std.proofs.Common.{false, List, [], ◌∷◌, ◌++◌, length, drop, refl, sym, ◌∙◌, ap, subst}
-use Rattle.std.proofs.Common.{arith, length-append, Option}
+use Rattle.std.proofs.Common.{arith, length-append}
 use Rattle.std.specs.Prelude.{◌||◌, Result, Ok, Err, take}
 use Rattle.std.specs.List.{AllByRecursion}
 use Rattle.std.proofs.lemmas.Bool.Decides.{eqb_tells, nat_tests}
 use Rattle.std.proofs.lemmas.List.{take_at, append-nil, append_assoc}
-use Rattle.histories.specs.declared.account.Account.{Account}
 use Rattle.histories.specs.declared.account.Share.{Share}
 use Rattle.histories.specs.Account.{has_number}
 use Rattle.histories.proofs.ListLemmas.{all_past, all_since}
@@ -20,6 +19,7 @@ use Rattle.block_queue.specs.declared.view.Key.{Key}
 use Rattle.block_queue.specs.Seats.{key_of}
 use Rattle.pipe_dev.specs.declared.answers.ReadAnswer.{ReadAnswer}
 use Rattle.pipe_dev.specs.declared.answers.ReadAnswer.TheVariants as read
+use Rattle.pipe_dev.specs.declared.answers.TryAnswer.{TryAnswer}
 use Rattle.pipe_dev.specs.declared.answers.TryAnswer.TheVariants as try
 use Rattle.pipe_dev.specs.declared.row.Row.{Row}
 use Rattle.pipe_dev.specs.CallLaws.{ReadsAreSteps, TriesAreSteps, HangupsAreSteps}
@@ -29,15 +29,19 @@ use Rattle.pipe_dev.specs.Ends.{WriteSide, reading_of}
 use Rattle.pipe_dev.specs.Finishing.{accepted_in, shares_of, holdings_of}
 use Rattle.pipe_dev.specs.Laws.{EachWriteIsReadWholeAndOnce, IsAllOfWriter, IsAllWritten, found_at}
 use Rattle.pipe_dev.specs.Filling.{Taker, TakesMore, Filling, IsLeft, IsTakenOut, FindsNothing}
-use Rattle.pipe_dev.specs.Filling.{StopsAt, begins, goes_further}
+use Rattle.pipe_dev.specs.Filling.{Lending, StopsAt, begins, goes_further}
 use Rattle.pipe_dev.specs.declared.filling.Stop.{Stop}
 use Rattle.pipe_dev.specs.declared.filling.Stop.TheVariants as stop
 use Rattle.pipe_dev.specs.Parts.{Part, bytes_by, bytes_of}
-use Rattle.pipe_dev.specs.ReadCalls.{Reader, Gets, FindsNone, IsFilled, KeepsTrying, SleepsForWrite}
+use Rattle.pipe_dev.specs.ReadCalls.{Reader, Gets, FindsNone, FindsNotYet, IsFilled, Tries}
 use Rattle.pipe_dev.specs.Parts.{part_of}
 use Rattle.pipe_dev.specs.ReadCalls.{GoesOn, TakesOut, InMode, IsNotYet, IsNotYetOn, FindsEnd}
-use Rattle.pipe_dev.specs.ReadCalls.{Calling, calling, came_to, lending_of, TriesOn, GivesBytes}
-use Rattle.pipe_dev.specs.ReadCalls.{SleepsOn, KeepsReading, FailsForWrite}
+use Rattle.pipe_dev.specs.ReadCalls.{Calling, came_to, lending_of, TriesOn, GivesBytes}
+use Rattle.pipe_dev.specs.ReadCalls.{AsksForBytes, GivesUp, calling_at, lent_at, reading}
+use Rattle.pipe_dev.specs.Rendezes.{reader_rendez}
+use Rattle.waiting.specs.declared.call.Reply.TheVariants.{Wait}
+use Rattle.waiting.specs.Waiting.{Point, Waited, reply_of}
+use Rattle.pipe_dev.proofs.SightLemmas.{waited_ends}
 use Rattle.pipe_dev.specs.Reading.{Reading}
 use Rattle.pipe_dev.specs.Rounds.{Rounds}
 use Rattle.pipe_dev.proofs.LawLemmas.{each_share_is_read_whole_and_once}
@@ -56,24 +60,6 @@ found_none key entry old new parts none found =
       no_block = none;
       rest = found.rest ∙ sym found.none_left;
       parts = refl;
-    }
-
-slept_round : (key : Key) (row : Row) (old new : Reader) (parts : List Part)
-    → SleepsForWrite key row old new → AddsNothing key (reading_at old parts) (reading_at new parts)
-slept_round key row old new parts slept =
-    found_none key (NotYet slept.number) old (record new { process = old.process }) parts tt
-    slept.found.none
-
--- sleeps are steps that add nothing
-pub slept_rounds : (key : Key) (row : Row) (times : ℕ) (old new : Reader) (parts : List Part)
-    → Rounds (SleepsForWrite key row) times old new
-    → Rounds (ReadStep key) times (reading_at old parts) (reading_at new parts)
-slept_rounds key row zero old new parts rounds = ap (λ (r : Reader). reading_at r parts) rounds
-slept_rounds key row (suc times) old new parts rounds =
-    record {
-      between = reading_at rounds.between parts;
-      rounds = slept_rounds key row times old rounds.between parts rounds.rounds;
-      last = inr (slept_round key row rounds.between new parts rounds.last);
     }
 
 -- a buffer with room
@@ -132,60 +118,6 @@ no_step key Adds old new parts same adds =
       times = 0;
       steps = ap (λ (r : Reader). reading_at r parts) same;
     }
-
--- some sleeps, and then this step
-pub slept_then : (key : Key) (row : Row) (Adds : List Part → List Part → Type 0) (times : ℕ)
-    (old between new : Reader) (parts parts' : List Part)
-    → Rounds (SleepsForWrite key row) times old between → Adds parts parts'
-    → ReadStep key (reading_at between parts) (reading_at new parts')
-    → IsOfSteps key Adds old parts new
-slept_then key row Adds times old between new parts parts' slept adds last =
-    record {
-      parts' = parts';
-      added = adds;
-      times = suc times;
-      steps = record {
-        between = reading_at between parts;
-        rounds = slept_rounds key row times old between parts slept;
-        last = last;
-      };
-    }
-
--- some sleeps, and then the end
-pub slept_then_ended : (key : Key) (row : Row) (Adds : List Part → List Part → Type 0) (times : ℕ)
-    (old between new : Reader) (parts : List Part) → Adds parts parts
-    → Rounds (SleepsForWrite key row) times old between → FindsEnd key between new
-    → IsOfSteps key Adds old parts new
-slept_then_ended key row Adds times old between new parts adds slept finds =
-    slept_then key row Adds times old between new parts parts slept adds
-    (inr (found_none key End between new parts tt finds))
-
--- some sleeps, and then one that did not end well
-pub slept_then_failed : (key : Key) (row : Row) (Adds : List Part → List Part → Type 0) (times : ℕ)
-    (old between new : Reader) (parts : List Part) (why : Fault) → Adds parts parts
-    → Rounds (SleepsForWrite key row) times old between → FailsForWrite key row between why new
-    → IsOfSteps key Adds old parts new
-slept_then_failed key row Adds times old between new parts why adds slept fails =
-    slept_then key row Adds times old between new parts parts slept adds
-    (inr (found_none key (NotYet fails.number) between
-    (record new { process = between.process }) parts tt fails.found.none))
-
-tried_steps : (key : Key) (row : Row) (old : Calling) (answer : Result ReadAnswer Fault)
-    (new : Calling) → old.buffer ≢ [] → KeepsTrying key row old answer new → (parts : List Part)
-    → IsOfSteps key (AddsRead Message answer new.buffer) old.reader parts new.reader
-tried_steps key row old (Ok (read.Got count)) new room reads parts =
-    let gets = reads.ended in
-    let part = part_of (length old.buffer) gets.left in
-    slept_then key row (AddsRead Message (Ok (read.Got count)) new.buffer) reads.times old.reader
-    reads.between new.reader parts (part ∷ parts) reads.slept
-    (got_one part old.buffer new.buffer count parts gets.filled)
-    (inl (got_part key row (calling reads.between old.buffer) count new parts room gets))
-tried_steps key row old (Ok read.End) new room reads parts =
-    slept_then_ended key row (AddsRead Message (Ok read.End) new.buffer) reads.times old.reader
-    reads.between new.reader parts refl reads.slept reads.ended.0
-tried_steps key row old (Err why) new room reads parts =
-    slept_then_failed key row (AddsRead Message (Err why) new.buffer) reads.times old.reader
-    reads.between new.reader parts why refl reads.slept reads.ended.0
 
 -- ---- reads that go on
 
@@ -351,43 +283,6 @@ try_adds key row old count why new parts room tries =
       makes = try_makes key row old count why new parts room tries;
     }
 
--- calls behind calls
-added_then : (key : Key) (old between new : Reader) (parts : List Part) (bytes : List ℕ)
-    → (first : Added key old parts [] between) → Added key between first.parts' bytes new
-    → Added key old parts bytes new
-added_then key old between new parts bytes first second =
-    record {
-      parts' = second.parts';
-      adds = record {
-        added = second.adds.added ++ first.adds.added;
-        bytes_are =
-            bytes_append second.adds.added first.adds.added
-            ∙ (ap (λ (xs : List ℕ). xs ++ bytes_of second.adds.added) first.adds.bytes_are
-            ∙ second.adds.bytes_are);
-        parts_are =
-            second.adds.parts_are
-            ∙ (ap (λ (ps : List Part). second.adds.added ++ ps) first.adds.parts_are
-            ∙ sym (append_assoc second.adds.added first.adds.added parts));
-      };
-      makes = makes_then key (reading_at old parts) (reading_at between first.parts')
-          (reading_at new second.parts') first.makes second.makes.times second.makes.steps;
-    }
-  where
-    -- the newest parts stand in front
-    bytes_append : (xs ys : List Part) → bytes_of (xs ++ ys) ≡ bytes_of ys ++ bytes_of xs
-    bytes_append [] ys = sym (append-nil (bytes_of ys))
-    bytes_append (x ∷ xs) ys =
-        ap (λ (bs : List ℕ). bs ++ x.bytes) (bytes_append xs ys)
-        ∙ append_assoc (bytes_of ys) (bytes_of xs) x.bytes
-
-none_added : (key : Key) (reader : Reader) (parts : List Part) → Added key reader parts [] reader
-none_added key reader parts =
-    record {
-      parts' = parts;
-      adds = record { added = []; bytes_are = refl; parts_are = refl };
-      makes = record { times = 0; steps = refl };
-    }
-
 -- a call that gave no byte leaves its buffer with room
 room_stays : (key : Key) (row : Row) (old : Calling) (why : Stop) (new : Calling)
     → old.buffer ≢ [] → TriesOn key row old (came_to 0 why) new → new.buffer ≢ []
@@ -399,114 +294,7 @@ room_stays key row old why new room tries none =
     let empty : length new.buffer ≡ 0 = ap length none in
     absurd (omega (arith, some, size, empty))
 
--- reads that slept have passed empty writes alone
-slept_adds : (key : Key) (row : Row) (times : ℕ) (old new : Calling) (parts : List Part)
-    → old.buffer ≢ [] → Rounds (SleepsOn key row) times old new
-    → Added key old.reader parts [] new.reader × (new.buffer ≢ [])
-slept_adds key row zero old new parts room rounds = (
-  subst (λ (c : Calling). Added key old.reader parts [] c.reader) (sym rounds)
-      (none_added key old.reader parts),
-  subst (λ (c : Calling). c.buffer ≢ []) (sym rounds) room,
-)
-slept_adds key row (suc times) old new parts room rounds =
-    let before = slept_adds key row times old rounds.between parts room rounds.rounds in
-    let last = rounds.last in
-    let awake = calling (record new.reader { process = last.before }) new.buffer in (
-      added_then key old.reader rounds.between.reader new.reader parts [] before.0
-          (again key rounds.between.reader awake.reader new.reader before.0.parts' new.buffer refl
-          refl
-          (try_adds key row rounds.between 0 (stop.NotYet last.number) awake before.0.parts'
-          before.1
-          last.tried)),
-      room_stays key row rounds.between (stop.NotYet last.number) awake before.1 last.tried,
-    )
-  where
-    -- a sleep changes the process alone
-    again : (k : Key) (from awake after : Reader) (ps : List Part) (buffer : List ℕ)
-        → after.account ≡ awake.account → after.rest ≡ awake.rest
-        → Added k from ps (take 0 buffer) awake → Added k from ps [] after
-    again k from awake after ps buffer account rest added =
-        record {
-          parts' = added.parts';
-          adds = added.adds;
-          makes = record {
-            times = added.makes.times;
-            steps = subst (λ (a : Account Entry). Rounds (ReadStep k) added.makes.times
-                (reading_at from ps)
-                (record { account = a; parts = added.parts'; rest = after.rest })) (sym account)
-                (subst (λ (r : Option Part). Rounds (ReadStep k) added.makes.times
-                (reading_at from ps)
-                (record { account = awake.account; parts = added.parts'; rest = r })) (sym rest)
-                added.makes.steps);
-          };
-        }
-
 -- ---- each call
-
-kept_steps : (key : Key) (row : Row) (old : Calling) (answer : Result ReadAnswer Fault)
-    (new : Calling) → old.buffer ≢ [] → KeepsReading key row old answer new
-    → (parts : List Part)
-    → IsOfSteps key (AddsRead Stream answer new.buffer) old.reader parts new.reader
-kept_steps key row old (Ok (read.Got count)) new room reads parts =
-    let before = slept_adds key row reads.times old reads.between parts room reads.slept in
-    added_steps key (AddsRead Stream (Ok (read.Got count)) new.buffer) old.reader new.reader parts
-    (take count new.buffer) (λ parts' adds. adds)
-    (added_then key old.reader reads.between.reader new.reader parts (take count new.buffer)
-    before.0
-    (try_adds key row reads.between count reads.ended.why new before.0.parts' before.1
-    reads.ended.tried))
-kept_steps key row old (Ok read.End) new room reads parts =
-    let before = slept_adds key row reads.times old reads.between parts room reads.slept in
-    added_steps key (AddsRead Stream (Ok read.End) new.buffer) old.reader new.reader parts
-    [] (λ parts' adds. adds)
-    (added_then key old.reader reads.between.reader new.reader parts [] before.0
-    (try_adds key row reads.between 0 stop.End new before.0.parts' before.1 reads.ended))
-kept_steps key row old (Err why) new room reads parts =
-    let before = slept_adds key row reads.times old reads.between parts room reads.slept in
-    let fails = reads.ended in
-    let awake = calling (record new.reader { process = fails.before }) new.buffer in
-    let tried = try_adds key row reads.between 0 (stop.NotYet fails.number) awake before.0.parts'
-    before.1 fails.tried in
-    added_steps key (AddsRead Stream (Err why) new.buffer) old.reader new.reader parts
-    [] (λ parts' adds. adds)
-    (added_then key old.reader reads.between.reader new.reader parts [] before.0
-    (record {
-      parts' = tried.parts';
-      adds = tried.adds;
-      makes = record { times = tried.makes.times; steps = tried.makes.steps };
-    }))
-
--- in each mode
-by_mode_steps : (key : Key) (row : Row) (old : Calling) (answer : Result ReadAnswer Fault)
-    (new : Calling) → old.buffer ≢ [] → (mode : Mode)
-    → InMode mode (KeepsTrying key row old answer new) (KeepsReading key row old answer new)
-    → (parts : List Part)
-    → IsOfSteps key (AddsRead mode answer new.buffer) old.reader parts new.reader
-by_mode_steps key row old answer new room Message reads parts =
-    tried_steps key row old answer new room reads parts
-by_mode_steps key row old answer new room Stream reads parts =
-    kept_steps key row old answer new room reads parts
-
--- a read that was refused at once
-refused_steps : (key : Key) (why : Fault) (old new : Reader) (buffer' : List ℕ)
-    (parts : List Part) (mode : Mode) → new ≡ old
-    → IsOfSteps key (AddsRead mode (Err why) buffer') old parts new
-refused_steps key why old new buffer' parts Message same =
-    no_step key (AddsRead Message (Err why) buffer') old new parts same refl
-refused_steps key why old new buffer' parts Stream same =
-    no_step key (AddsRead Stream (Err why) buffer') old new parts same
-    (record { added = []; bytes_are = refl; parts_are = refl })
-
--- each read is steps of its end, and adds the parts whose bytes it got in its buffer
-pub reads_are_steps : ReadsAreSteps
-reads_are_steps key row old (Ok answer) new room reads parts =
-    by_mode_steps key row old (Ok answer) new room row.mode reads parts
-reads_are_steps key row old (Err fault.BadCount) new room reads parts =
-    refused_steps key fault.BadCount old.reader new.reader new.buffer parts row.mode reads.same
-reads_are_steps key row old (Err fault.NoRendez) new room reads parts =
-    refused_steps key fault.NoRendez old.reader new.reader new.buffer parts row.mode reads.same
-reads_are_steps key row old (Err why) new room reads parts =
-    by_mode_steps key row old (Err why) new room row.mode reads parts
 
 tried_got : (key : Key) (row : Row) (old : Calling) (count : ℕ) (new : Calling) → old.buffer ≢ []
     → (mode : Mode) → InMode mode (Gets key row old count new) (GivesBytes key row old count new)
@@ -578,6 +366,207 @@ tries_are_steps key row old try.NotYet new room tries parts =
     tried_not_yet key row old new room row.mode tries parts
 tries_are_steps key row old try.End new room tries parts =
     tried_end key row old new room row.mode tries parts
+
+-- ---- a read that waits
+
+-- one request that is told to wait is a try that gave no byte
+waits_as_try : (key : Key) (row : Row) (old : Calling) (number : ℕ) (new : Calling)
+    → AsksForBytes key row old (Wait number) new → Tries key row old try.NotYet new
+waits_as_try key row old number new asks = by row.mode asks
+  where
+    by : (mode : Mode)
+        → InMode mode (FindsNotYet key number old.reader new.reader × (new.buffer ≡ old.buffer))
+        (TriesOn key row old (came_to 0 (stop.NotYet number)) new)
+        → InMode mode (IsNotYet key old.reader new.reader × (new.buffer ≡ old.buffer))
+        (IsNotYetOn key row old new)
+    by Message asks = (record { number = number; found = asks.0 }, asks.1)
+    by Stream asks = record { number = number; tried = asks }
+
+-- and leaves its buffer with room
+waits_with_room : (key : Key) (row : Row) (old : Calling) (number : ℕ) (new : Calling)
+    → old.buffer ≢ [] → AsksForBytes key row old (Wait number) new → new.buffer ≢ []
+waits_with_room key row old number new room asks = by row.mode asks
+  where
+    by : (mode : Mode)
+        → InMode mode (FindsNotYet key number old.reader new.reader × (new.buffer ≡ old.buffer))
+        (TriesOn key row old (came_to 0 (stop.NotYet number)) new) → new.buffer ≢ []
+    by Message asks = subst (λ (xs : List ℕ). xs ≢ []) (sym asks.1) room
+    by Stream asks = room_stays key row old (stop.NotYet number) new room asks
+
+-- the newest parts stand in front
+bytes_append : (xs ys : List Part) → bytes_of (xs ++ ys) ≡ bytes_of ys ++ bytes_of xs
+bytes_append [] ys = sym (append-nil (bytes_of ys))
+bytes_append (x ∷ xs) ys =
+    ap (λ (bs : List ℕ). bs ++ x.bytes) (bytes_append xs ys)
+    ∙ append_assoc (bytes_of ys) (bytes_of xs) x.bytes
+
+-- what is added behind empty writes
+parts_then : (parts between after : List Part) (bytes : List ℕ) → AddsParts [] parts between
+    → AddsParts bytes between after → AddsParts bytes parts after
+parts_then parts between after bytes first second =
+    record {
+      added = second.added ++ first.added;
+      bytes_are =
+          bytes_append second.added first.added
+          ∙ (ap (λ (xs : List ℕ). xs ++ bytes_of second.added) first.bytes_are
+          ∙ second.bytes_are);
+      parts_are =
+          second.parts_are
+          ∙ (ap (λ (ps : List Part). second.added ++ ps) first.parts_are
+          ∙ sym (append_assoc second.added first.added parts));
+    }
+
+-- and behind a request that was told to wait, in either mode
+adds_then : (mode : Mode) (buffer buffer' : List ℕ) (answer : TryAnswer)
+    (parts between after : List Part) → AddsTry mode try.NotYet buffer parts between
+    → AddsTry mode answer buffer' between after → AddsTry mode answer buffer' parts after
+adds_then Message buffer buffer' answer parts between after none adds =
+    subst (λ (ps : List Part). AddsTry Message answer buffer' ps after) none adds
+adds_then Stream buffer buffer' (try.Got count) parts between after none adds =
+    parts_then parts between after (take count buffer') none adds
+adds_then Stream buffer buffer' try.NotYet parts between after none adds =
+    parts_then parts between after [] none adds
+adds_then Stream buffer buffer' try.End parts between after none adds =
+    parts_then parts between after [] none adds
+
+-- a read that waits adds what such a try adds, and none where it was refused
+got_read : (mode : Mode) (count : ℕ) (buffer : List ℕ) (parts parts' : List Part)
+    → AddsTry mode (try.Got count) buffer parts parts'
+    → AddsRead mode (Ok (read.Got count)) buffer parts parts'
+got_read Message count buffer parts parts' adds = adds
+got_read Stream count buffer parts parts' adds = adds
+
+end_read : (mode : Mode) (buffer : List ℕ) (parts parts' : List Part)
+    → AddsTry mode try.End buffer parts parts' → AddsRead mode (Ok read.End) buffer parts parts'
+end_read Message buffer parts parts' adds = adds
+end_read Stream buffer parts parts' adds = adds
+
+fault_read : (mode : Mode) (why : Fault) (buffer : List ℕ) (parts parts' : List Part)
+    → AddsTry mode try.NotYet buffer parts parts'
+    → AddsRead mode (Err why) buffer parts parts'
+fault_read Message why buffer parts parts' adds = adds
+fault_read Stream why buffer parts parts' adds = adds
+
+adds_none : (mode : Mode) (buffer : List ℕ) (parts : List Part)
+    → AddsTry mode try.NotYet buffer parts parts
+adds_none Message buffer parts = refl
+adds_none Stream buffer parts = record { added = []; bytes_are = refl; parts_are = refl }
+
+module _ (key : Key) (row : Row) (begun : Reader) (parts : List Part) where
+  -- what a read has added whose last request was answered so
+  record Tried (answer : TryAnswer) (seat : Lending) : Type 0 where
+    parts' : List Part
+    added : AddsTry row.mode answer seat.buffer parts parts'
+    makes : Makes key (reading_at begun parts) (taker_reads seat.taker parts')
+
+  -- while it waits
+  record On (seat : Lending) : Type 0 where
+    room : seat.buffer ≢ []
+    tried : Tried try.NotYet seat
+
+  -- and at the end
+  record Over (answer : Result ReadAnswer Fault) (seat : Lending) : Type 0 where
+    parts' : List Part
+    added : AddsRead row.mode answer seat.buffer parts parts'
+    makes : Makes key (reading_at begun parts) (taker_reads seat.taker parts')
+
+  more : (old new : Point Lending) (answer : TryAnswer) → On old.seat
+      → Tries key row (calling_at old) answer (calling_at new) → Tried answer new.seat
+  more old new answer on tries =
+      let tried = on.tried in
+      let steps = tries_are_steps key row (calling_at old) answer (calling_at new) on.room tries
+      tried.parts' in
+      record {
+        parts' = steps.parts';
+        added = adds_then row.mode old.seat.buffer new.seat.buffer answer parts tried.parts'
+            steps.parts' tried.added steps.added;
+        makes = makes_then key (reading_at begun parts) (taker_reads old.seat.taker tried.parts')
+            (taker_reads new.seat.taker steps.parts') tried.makes steps.times steps.steps;
+      }
+
+  goes_on : (old new : Point Lending) (number : ℕ) → On old.seat
+      → AsksForBytes key row (calling_at old) (Wait number) (calling_at new) → On new.seat
+  goes_on old new number on asks =
+      record {
+        room = waits_with_room key row (calling_at old) number (calling_at new) on.room asks;
+        tried = more old new try.NotYet on
+            (waits_as_try key row (calling_at old) number (calling_at new) asks);
+      }
+
+  answered : (old new : Point Lending) (answer : Result ReadAnswer Fault) → On old.seat
+      → AsksForBytes key row (calling_at old) (reply_of answer) (calling_at new)
+      → Over answer new.seat
+  answered old new (Ok (read.Got count)) on asks =
+      let tried = more old new (try.Got count) on asks in
+      record {
+        parts' = tried.parts';
+        added = got_read row.mode count new.seat.buffer parts tried.parts' tried.added;
+        makes = tried.makes;
+      }
+  answered old new (Ok read.End) on asks =
+      let tried = more old new try.End on asks in
+      record {
+        parts' = tried.parts';
+        added = end_read row.mode new.seat.buffer parts tried.parts' tried.added;
+        makes = tried.makes;
+      }
+  answered old new (Err why) on asks = absurd asks
+
+  gave_up : (old new : Lending) (why : Fault) → On old → new ≡ old → Over (Err why) new
+  gave_up old new why on same =
+      subst (Over (Err why)) (sym same)
+      (record {
+        parts' = on.tried.parts';
+        added = fault_read row.mode why old.buffer parts on.tried.parts' on.tried.added;
+        makes = on.tried.makes;
+      })
+
+waited_steps : (key : Key) (row : Row) (old : Calling) (answer : Result ReadAnswer Fault)
+    (new : Calling) → old.buffer ≢ []
+    → Waited (reading key row) (reader_rendez row) (lent_at old) answer (lent_at new)
+    → (parts : List Part)
+    → IsOfSteps key (AddsRead row.mode answer new.buffer) old.reader parts new.reader
+waited_steps key row old answer new room waited parts =
+    let over = waited_ends
+    (λ old told new. AsksForBytes key row (calling_at old) told (calling_at new)) GivesUp
+    (reader_rendez row) (On key row old.reader parts) (Over key row old.reader parts)
+    (goes_on key row old.reader parts) (answered key row old.reader parts)
+    (λ old new out on gives. absurd gives) (gave_up key row old.reader parts)
+    (lent_at old) answer (lent_at new)
+    (record {
+      room = room;
+      tried = record {
+        parts' = parts;
+        added = adds_none row.mode old.buffer parts;
+        makes = record { times = 0; steps = refl };
+      };
+    })
+    waited in
+    record {
+      parts' = over.parts';
+      added = over.added;
+      times = over.makes.times;
+      steps = over.makes.steps;
+    }
+
+-- a read that was refused at once
+refused_steps : (key : Key) (row : Row) (why : Fault) (old new : Reader) (buffer' : List ℕ)
+    (parts : List Part) → new ≡ old
+    → IsOfSteps key (AddsRead row.mode (Err why) buffer') old parts new
+refused_steps key row why old new buffer' parts same =
+    no_step key (AddsRead row.mode (Err why) buffer') old new parts same
+    (fault_read row.mode why buffer' parts parts (adds_none row.mode buffer' parts))
+
+-- each read is steps of its end, and adds the parts whose bytes it got in its buffer
+pub reads_are_steps : ReadsAreSteps
+reads_are_steps key row old (Ok answer) new room reads parts =
+    waited_steps key row old (Ok answer) new room reads parts
+reads_are_steps key row old (Err fault.BadCount) new room reads parts =
+    refused_steps key row fault.BadCount old.reader new.reader new.buffer parts reads.same
+reads_are_steps key row old (Err fault.NoRendez) new room reads parts =
+    refused_steps key row fault.NoRendez old.reader new.reader new.buffer parts reads.same
+reads_are_steps key row old (Err why) new room reads parts =
+    waited_steps key row old (Err why) new room reads parts
 
 -- a hangup by the reader is one step of its end, and adds no part
 pub hangups_are_steps : HangupsAreSteps

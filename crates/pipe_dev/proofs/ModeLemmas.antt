@@ -1,22 +1,15 @@
 -- What a read that goes on as its mode says comes to in message mode: one part, or nothing.
-use Rattle.std.proofs.Common.{◌≡◌, ◌⊎◌, inl, inr, ℕ, zero, suc, ◌+◌, Bool, true, false, nat_lt}
+use Rattle.std.proofs.Common.{◌≡◌, ◌≢◌, ◌⊎◌, inl, inr, ℕ, zero, suc, ◌+◌, Bool, true, false, nat_lt}
 use Rattle.std.proofs.Common.{List, [], ◌∷◌, length, Option, refl, sym, ◌∙◌, ap, subst}
 use Rattle.std.proofs.Common.{arith, if◌then◌else◌, ◌-◌, drop}
-use Rattle.std.specs.Prelude.{Result, Ok, Err}
 use Rattle.std.proofs.lemmas.Bool.Decides.{nat_tests}
 use Rattle.histories.specs.declared.account.Account.{Account}
-use Rattle.sync_base.specs.declared.fault.Fault.{Fault}
-use Rattle.sync_base.specs.declared.fault.Fault.TheVariants as fault
 use Rattle.sync_base.specs.declared.mode.Mode.{Mode}
 use Rattle.sync_base.specs.declared.mode.Mode.TheVariants.{Message, Stream}
-use Rattle.rendez_words.specs.Process.{Process}
-use Rattle.sleep_wakeup.specs.Deeds.{SleepsWell, FailsAsleep}
 use Rattle.block_queue.specs.declared.entry.Entry.{Entry}
 use Rattle.block_queue.specs.declared.entry.Entry.TheVariants as entry
 use Rattle.block_queue.specs.declared.view.Key.{Key}
 use Rattle.block_queue.specs.Meaning.{Enters}
-use Rattle.pipe_dev.specs.declared.answers.ReadAnswer.{ReadAnswer}
-use Rattle.pipe_dev.specs.declared.answers.ReadAnswer.TheVariants as read
 use Rattle.pipe_dev.specs.declared.answers.TryAnswer.{TryAnswer}
 use Rattle.pipe_dev.specs.declared.filling.Came.{Came}
 use Rattle.pipe_dev.specs.declared.filling.Stop.{Stop}
@@ -30,15 +23,14 @@ use Rattle.pipe_dev.specs.Filling.{has_none, goes_further, number_of, last_numbe
 use Rattle.pipe_dev.specs.Parts.{Part, part_of, bytes_of}
 use Rattle.pipe_dev.specs.ReadCalls.{GoesOn, TakesOut, Gets, FindsNone, FindsNotYet}
 use Rattle.pipe_dev.specs.ReadCalls.{FindsEnd}
-use Rattle.pipe_dev.specs.ReadCalls.{SleepsForWrite, FailsForWrite, EndsRead, KeepsTrying}
-use Rattle.pipe_dev.specs.ReadCalls.{Reads, Tries}
-use Rattle.pipe_dev.specs.ReadCalls.{IsNotYet, IsNotYetOn, InMode}
-use Rattle.pipe_dev.specs.ReadCalls.{Calling, calling, came_to, TriesOn, GivesBytes}
-use Rattle.pipe_dev.specs.ReadCalls.{SleepsOn, FailsOn}
-use Rattle.pipe_dev.specs.ReadCalls.{EndsOn, KeepsReading, lending_of, is_got}
-use Rattle.pipe_dev.specs.ReadSteps.{found_at, found_of, answer_of}
-use Rattle.pipe_dev.specs.Rendezes.{WakesWith, WakesWriters, reader_rendez}
+use Rattle.pipe_dev.specs.ReadCalls.{AsksForBytes, Tries, IsNotYet, IsNotYetOn, InMode}
+use Rattle.pipe_dev.specs.ReadCalls.{Calling, came_to, TriesOn, GivesBytes}
+use Rattle.pipe_dev.specs.ReadCalls.{lending_of, is_got}
+use Rattle.pipe_dev.specs.ReadSteps.{found_at, found_of, answer_of, told_by}
+use Rattle.pipe_dev.specs.Rendezes.{WakesWith, WakesWriters}
 use Rattle.pipe_dev.specs.Rounds.{Rounds}
+use Rattle.waiting.specs.Waiting.{IsLow}
+use Rattle.pipe_dev.proofs.RoundLemmas.{not_yet_low}
 
 -- ---- by what a try is answered
 
@@ -336,114 +328,13 @@ message_bytes key row old count new is gives = by gives.why gives.tried gives.go
         let no : false ≡ true = ap (nat_lt 0) (sym none) ∙ got in
         cc
 
--- ---- a read that waits
-
--- a sleep of a read of messages
-slept_message : (key : Key) (row : Row) (old new : Calling) → row.mode ≡ Message
-    → SleepsOn key row old new
-    → SleepsForWrite key row old.reader new.reader × (new.buffer ≡ old.buffer)
-slept_message key row old new is sleeps =
-    let told = message_not_yet key row old 0 sleeps.number
-    (calling (record new.reader { process = sleeps.before }) new.buffer) is sleeps.tried in (
-      record {
-        number = sleeps.number;
-        found = record {
-          none = record {
-            none_left = told.found.none.none_left;
-            entered = told.found.none.entered;
-            rest = told.found.none.rest;
-            process = refl;
-          };
-          fresh = told.found.fresh;
-        };
-        slept = subst (λ (p : Process). SleepsWell p (reader_rendez row) sleeps.number
-            new.reader.process) told.found.none.process sleeps.slept;
-      },
-      told.buffer,
-    )
-
-slept_messages : (key : Key) (row : Row) (times : ℕ) (old new : Calling) → row.mode ≡ Message
-    → Rounds (SleepsOn key row) times old new
-    → Rounds (SleepsForWrite key row) times old.reader new.reader × (new.buffer ≡ old.buffer)
-slept_messages key row zero old new is rounds =
-    (ap (λ (c : Calling). c.reader) rounds, ap (λ (c : Calling). c.buffer) rounds)
-slept_messages key row (suc times) old new is rounds =
-    let before = slept_messages key row times old rounds.between is rounds.rounds in
-    let last = slept_message key row rounds.between new is rounds.last in (
-      record { between = rounds.between.reader; rounds = before.0; last = last.0 },
-      last.1 ∙ before.1,
-    )
-
--- a sleep that did not end well
-failed_message : (key : Key) (row : Row) (old : Calling) (why : Fault) (new : Calling)
-    → row.mode ≡ Message → FailsOn key row old why new
-    → FailsForWrite key row old.reader why new.reader × (new.buffer ≡ old.buffer)
-failed_message key row old why new is fails =
-    let told = message_not_yet key row old 0 fails.number
-    (calling (record new.reader { process = fails.before }) new.buffer) is fails.tried in (
-      record {
-        number = fails.number;
-        found = record {
-          none = record {
-            none_left = told.found.none.none_left;
-            entered = told.found.none.entered;
-            rest = told.found.none.rest;
-            process = refl;
-          };
-          fresh = told.found.fresh;
-        };
-        failed = subst (λ (p : Process). FailsAsleep p (reader_rendez row) fails.number
-            new.reader.process why) told.found.none.process fails.failed;
-      },
-      told.buffer,
-    )
-
-ends_message : (key : Key) (row : Row) (old : Calling) (buffer : List ℕ)
-    (answer : Result ReadAnswer Fault) (new : Calling) → row.mode ≡ Message → old.buffer ≡ buffer
-    → EndsOn key row old answer new → EndsRead key row (calling old.reader buffer) answer new
-ends_message key row old buffer (Ok (read.Got count)) new is same ends =
-    subst (λ (xs : List ℕ). Gets key row (calling old.reader xs) count new) same
-    (message_bytes key row old count new is ends)
-ends_message key row old buffer (Ok read.End) new is same ends =
-    let told = message_end key row old 0 new is ends in (told.found, told.buffer ∙ same)
-ends_message key row old buffer (Err why) new is same ends =
-    let told = failed_message key row old why new is ends in (told.0, told.1 ∙ same)
-
--- a read of messages that goes on as its mode says keeps trying
-pub keeps_trying : (key : Key) (row : Row) (old : Calling) (answer : Result ReadAnswer Fault)
-    (new : Calling) → row.mode ≡ Message → KeepsReading key row old answer new
-    → KeepsTrying key row old answer new
-keeps_trying key row old answer new is reads =
-    let slept = slept_messages key row reads.times old reads.between is reads.slept in
-    record {
-      times = reads.times;
-      between = reads.between.reader;
-      slept = slept.0;
-      ended = ends_message key row reads.between old.buffer answer new is slept.1 reads.ended;
-    }
+-- ---- in either mode
 
 -- what is so in each mode
 in_mode : (mode : Mode) (OfMessages OfStream : Type 0) → (mode ≡ Message → OfMessages) → OfStream
     → InMode mode OfMessages OfStream
 in_mode Message OfMessages OfStream of_messages of_stream = of_messages refl
 in_mode Stream OfMessages OfStream of_messages of_stream = of_stream
-
-by_its_mode : (key : Key) (row : Row) (old : Calling) (answer : Result ReadAnswer Fault)
-    (new : Calling) → KeepsReading key row old answer new
-    → InMode row.mode (KeepsTrying key row old answer new) (KeepsReading key row old answer new)
-by_its_mode key row old answer new reads =
-    in_mode row.mode (KeepsTrying key row old answer new) (KeepsReading key row old answer new)
-    (λ is. keeps_trying key row old answer new is reads) reads
-
--- a read that asked the queue is answered by no refusal that comes first
-pub reads_by_mode : (key : Key) (row : Row) (old : Calling) (answer : Result ReadAnswer Fault)
-    (new : Calling) → KeepsReading key row old answer new → Reads key row old answer new
-reads_by_mode key row old (Ok answer) new reads =
-    by_its_mode key row old (Ok answer) new reads
-reads_by_mode key row old (Err fault.BadCount) new reads = absurd reads.ended.failed
-reads_by_mode key row old (Err fault.NoRendez) new reads = absurd reads.ended.failed
-reads_by_mode key row old (Err why) new reads =
-    by_its_mode key row old (Err why) new reads
 
 tries_in_mode : (key : Key) (row : Row) (old : Calling) (count : ℕ) (why : Stop) (told : Found)
     (new : Calling) → found_at count why ≡ told → TriesOn key row old (came_to count why) new
@@ -481,3 +372,44 @@ pub tries_by_mode : (key : Key) (row : Row) (old : Calling) (came : Came) (answe
 tries_by_mode key row old came answer new tried is =
     subst (λ (a : TryAnswer). Tries key row old a new) (sym is)
     (tries_in_mode key row old came.count came.stop (found_of came) new refl tried)
+
+-- what a try tells a read that waits
+asks_in_mode : (key : Key) (row : Row) (old : Calling) (count : ℕ) (why : Stop) (told : Found)
+    (new : Calling) → found_at count why ≡ told → TriesOn key row old (came_to count why) new
+    → AsksForBytes key row old (told_by told) new
+asks_in_mode key row old count why (found.Got got) new is tried =
+    tries_in_mode key row old count why (found.Got got) new is tried
+asks_in_mode key row old count why found.End new is tried =
+    tries_in_mode key row old count why found.End new is tried
+asks_in_mode key row old count why (found.NotYet number) new is tried =
+    let none = subst (λ (c : Came). TriesOn key row old c new)
+    (not_yet_at count why number is) tried in
+    in_mode row.mode (FindsNotYet key number old.reader new.reader × (new.buffer ≡ old.buffer))
+    (TriesOn key row old (came_to 0 (stop.NotYet number)) new)
+    (λ mode. let said = message_not_yet key row old 0 number new mode none in
+    (said.found, said.buffer)) none
+
+-- a read that waits
+pub asks_by_mode : (key : Key) (row : Row) (old : Calling) (came : Came) (told : Found)
+    (new : Calling) → TriesOn key row old came new → told ≡ found_of came
+    → AsksForBytes key row old (told_by told) new
+asks_by_mode key row old came told new tried is =
+    asks_in_mode key row old came.count came.stop told new (sym is) tried
+
+-- the number that it is told is low
+pub told_low : (key : Key) (row : Row) (old : Calling) (came : Came) (told : Found) (new : Calling)
+    → key.first ≡ 0 → TriesOn key row old came new → told ≡ found_of came → IsLow (told_by told)
+told_low key row old came (found.Got count) new first tried is = tt
+told_low key row old came found.End new first tried is = tt
+told_low key row old came (found.NotYet number) new first tried is =
+    let none = subst (λ (c : Came). TriesOn key row old c new)
+    (not_yet_at came.count came.stop number (sym is)) tried in
+    not_yet_low key number none.fills.filling.taker.account new.reader.account first
+    none.fills.stopped.1.nothing.entered
+
+-- a buffer with room stays one
+pub still_some : (xs ys : List ℕ) → length ys ≡ length xs → xs ≢ [] → ys ≢ []
+still_some [] ys same some none = some refl
+still_some (x ∷ xs) ys same some none =
+    let size : length ys ≡ 0 = ap length none in
+    absurd (omega (arith, size, same))

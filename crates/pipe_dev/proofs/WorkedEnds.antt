@@ -1,17 +1,10 @@
--- What an end has between two calls and what a round of a call comes to, in plain words.
+-- What an end has between two calls and what a request of a write comes to, in plain words.
 use Rattle.std.proofs.Common.{◌≡◌, ℕ, true, [], ◌∷◌, Some, None}
-use Rattle.std.specs.Prelude.{Err}
-use Rattle.sync_base.specs.declared.fault.Fault.TheVariants as fault
-use Rattle.sleep_wakeup.specs.Deeds.{SleepsWell}
 use Rattle.block_queue.specs.declared.queue.Queue.{Queue}
 use Rattle.block_queue.specs.declared.seats.PutSeat.{PutSeat}
-use Rattle.block_queue.specs.declared.view.Key.{Key}
 use Rattle.block_queue.specs.Steps.{saw_hangup}
 use Rattle.pipe_dev.specs.declared.row.Row.{Row}
 use Rattle.pipe_dev.specs.Ends.{WriteSide, HasReadCursor, HasWriteSeat}
-use Rattle.pipe_dev.specs.ReadCalls.{Calling}
-use Rattle.pipe_dev.specs.ReadSteps.{IfOver as IfReadOver, IfSlept}
-use Rattle.pipe_dev.specs.Rendezes.{reader_rendez}
 use Rattle.pipe_dev.specs.Seating.{AreSeated}
 use Rattle.pipe_dev.specs.WriteCalls.{WriteCall, Writer, HasHang, IsTooLate, IsWornOut}
 use Rattle.pipe_dev.specs.WriteCalls.{FindsFull}
@@ -35,16 +28,6 @@ module _ (queue : Queue) (row : Row) where
 
   end_has_no_seat : (write : WriteSide) → AreSeated queue row [] (write ∷ []) → ⊥
   end_has_no_seat write one = cc
-
-module _ (key : Key) (row : Row) (old new : Calling) where
-  -- no round is over as out of memory
-  round_wants_memory : IfReadOver (Some (Err fault.Memory)) key row old new → ⊥
-  round_wants_memory over = over.failed
-
-  -- a round that goes on has slept on the reader's Rendez
-  a_round_that_goes_on_slept : (slept : IfSlept None key row old new)
-      → SleepsWell slept.before (reader_rendez row) slept.number new.reader.process
-  a_round_that_goes_on_slept slept = slept.slept
 
 module _ (call : WriteCall) (old new : Writer) where
   -- who is told of a hangup has seen it

@@ -3,11 +3,8 @@ use Rattle.std.proofs.Common.{◌≡◌, ◌⊎◌, ◌+◌, [], ◌∷◌, Some
 use Rattle.std.specs.Prelude.{Ok, Err}
 use Rattle.histories.specs.declared.account.Account.{Account}
 use Rattle.sync_base.specs.declared.fault.Fault.TheVariants as fault
-use Rattle.sync_base.specs.declared.note.Note.TheVariants.{Interrupt}
-use Rattle.sync_base.specs.NoteSet.{no_notes, only}
-use Rattle.sleep_core.specs.declared.answer.Answer.TheVariants as answer
+use Rattle.sync_base.specs.NoteSet.{no_notes}
 use Rattle.rendez_words.specs.Process.{Process, TableId}
-use Rattle.rendez_words.specs.Steps.{posts}
 use Rattle.block_queue.specs.declared.entry.Entry.{Entry}
 use Rattle.block_queue.specs.declared.entry.Entry.TheVariants as entry
 use Rattle.block_queue.specs.Meaning.{Enters}
@@ -19,7 +16,7 @@ use Rattle.pipe_dev.specs.Chain.{IsMade, IsNoBlock, AddsNothing}
 use Rattle.pipe_dev.specs.Parts.{Part}
 use Rattle.pipe_dev.specs.ReadCalls.{Reader, Reads, Tries, GoesOn, TakesOut, FindsNotYet}
 use Rattle.pipe_dev.specs.Filling.{Lending}
-use Rattle.pipe_dev.specs.ReadCalls.{Calling, GivesUp, SleepsForWrite, calling, lending_of, lent_at}
+use Rattle.pipe_dev.specs.ReadCalls.{AsksForBytes, Calling, GivesUp, calling, lending_of, lent_at}
 use Rattle.waiting.specs.declared.call.Reply.{Reply}
 use Rattle.waiting.specs.declared.call.Reply.TheVariants.{Done, Wait, Refused}
 use Rattle.waiting.specs.declared.wait.WaitEnd.TheVariants.{Answered}
@@ -29,7 +26,7 @@ use Rattle.pipe_dev.specs.Rendezes.{WakesWriters}
 use Rattle.pipe_dev.proofs.ReadingLemmas.{what_is_read_is_right}
 use Rattle.pipe_dev.proofs.WorkedEntries.{a, b, tight, IsRun, seen_1, seen_5, run_1, run_5, taker}
 use Rattle.pipe_dev.proofs.WorkedEntries.{taker_enters, unread, at_rendez, rendez_row, woke, slept}
-use Rattle.pipe_dev.proofs.WorkedEntries.{sleeps, has_notes, is_not_idle}
+use Rattle.pipe_dev.proofs.WorkedEntries.{sleeps, is_not_idle}
 
 -- ---- what the reader's seat knows
 
@@ -94,11 +91,6 @@ module _ (table : TableId) where
         fresh = λ knew. cc;
       }
 
-  sleeps_for_a_write : SleepsForWrite tight rendez_row (reader unread idle)
-      (reader told reader_woken)
-  sleeps_for_a_write =
-      record { number = 0; found = finds_not_yet; slept = sleeps idle 3 0 no_notes }
-
   wakes_the_writer : WakesWriters rendez_row 1 1 reader_woken (woke reader_woken 4 1)
   wakes_the_writer =
       record {
@@ -114,63 +106,43 @@ module _ (table : TableId) where
   waits_and_reads : Reads tight rendez_row (calling (reader unread idle) (0 ∷ 0 ∷ 0 ∷ []))
       (Ok (read.Got 2)) (calling (reader has_taken (woke reader_woken 4 1)) (97 ∷ 98 ∷ 0 ∷ []))
   waits_and_reads =
-      record {
-        times = 1;
-        between = reader told reader_woken;
-        slept = record { between = reader unread idle; rounds = refl; last = sleeps_for_a_write };
-        ended = record {
-          left = record { place = 0; writer = 0; bytes = a };
-          next = inr record {
-            none_left = refl;
-            taken = takes_out;
-            woken = wakes_the_writer;
+      inr (record {
+        first = read_told;
+        begun = (finds_not_yet, refl);
+        waited = record {
+          ending = Answered (Ok (read.Got 2));
+          process = woke reader_woken 4 1;
+          slept = record {
+            times = 0;
+            last = read_told;
+            rounds = refl;
+            ends = record {
+              woken = reader_woken;
+              slept = sleeps idle 3 0 no_notes;
+              asked = record {
+                left = record { place = 0; writer = 0; bytes = a };
+                next = inr record {
+                  none_left = refl;
+                  taken = takes_out;
+                  woken = wakes_the_writer;
+                };
+                filled = record { count_is = refl; bytes = refl };
+                rest = refl;
+              };
+            };
           };
-          filled = record { count_is = refl; bytes = refl };
-          rest = refl;
+          returned = refl;
+          answer_is = refl;
         };
-      }
+      })
+    where
+      read_told : Told Lending
+      read_told = record { at = lent_at (calling (reader told idle) (0 ∷ 0 ∷ 0 ∷ [])); number = 0 }
 
   reads_to_the_end : Reads tight rendez_row (calling (reader unread idle) b) (Ok read.End)
       (calling (reader has_ended idle) b)
   reads_to_the_end =
-      record {
-        times = 0;
-        between = reader unread idle;
-        slept = refl;
-        ended = (
-          record { none_left = refl; entered = finds_the_end; rest = refl; process = refl },
-          refl,
-        );
-      }
-
-  read_is_interrupted : Reads tight rendez_row (calling (reader unread idle) b)
-      (Err (fault.Interrupted (only Interrupt)))
-      (calling (reader told (slept idle 3 0 (only Interrupt))) b)
-  read_is_interrupted =
-      record {
-        times = 0;
-        between = reader unread idle;
-        slept = refl;
-        ended = (
-          record {
-            number = 0;
-            found = finds_not_yet;
-            failed = (sleeps idle 3 0 (only Interrupt), has_notes);
-          },
-          refl,
-        );
-      }
-
-  read_sleeps_where_another_does : Reads tight rendez_row (calling (reader unread idle) b)
-      (Err fault.DoubleSleep)
-      (calling (reader told (posts idle (at_rendez 3) 0 answer.DoubleSleep)) b)
-  read_sleeps_where_another_does =
-      record {
-        times = 0;
-        between = reader unread idle;
-        slept = refl;
-        ended = (record { number = 0; found = finds_not_yet; failed = refl }, refl);
-      }
+      inl (record { none_left = refl; entered = finds_the_end; rest = refl; process = refl }, refl)
 
   read_of_no_bytes : Reads tight rendez_row (calling (reader unread idle) []) (Err fault.BadCount)
       (calling (reader unread idle) [])
@@ -188,15 +160,13 @@ module _ (table : TableId) where
       (Err fault.BadCount) (calling (reader unread idle) a) → ⊥
   refused_read_writes_its_buffer reads = let bytes = reads.buffer_same in cc
 
-  read_ends_for_want_of_memory : (new : Reader)
-      → Reads tight rendez_row (calling (reader unread idle) b) (Err fault.Memory) (calling new b)
-      → ⊥
-  read_ends_for_want_of_memory new reads = reads.ended.0.failed
+  queue_refuses_a_read : (old new : Calling)
+      → ¬ AsksForBytes tight rendez_row old (Refused fault.Memory) new
+  queue_refuses_a_read old new asks = asks
 
-  read_tries_again_at_once : SleepsForWrite tight rendez_row (reader unread idle)
-      (reader told idle) → ⊥
-  read_tries_again_at_once sleeps =
-      let trace = ap (λ (p : Process). p.trace) sleeps.slept.leaves.cleared in cc
+  read_that_waits_fills_its_buffer : ¬ AsksForBytes tight rendez_row
+      (calling (reader unread idle) b) (Wait 0) (calling (reader told idle) a)
+  read_that_waits_fills_its_buffer asks = let bytes = asks.1 in cc
 
   -- ---- a read that does not wait
 

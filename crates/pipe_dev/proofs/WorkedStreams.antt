@@ -6,10 +6,9 @@ use Rattle.histories.specs.declared.account.Account.{Account}
 use Rattle.sync_base.specs.declared.fault.Fault.TheVariants as fault
 use Rattle.sync_base.specs.declared.mode.Mode.TheVariants.{Stream}
 use Rattle.sync_base.specs.declared.note.Note.TheVariants.{Interrupt}
-use Rattle.sync_base.specs.NoteSet.{no_notes, only}
-use Rattle.sleep_core.specs.declared.answer.Answer.TheVariants as answer
+use Rattle.sync_base.specs.NoteSet.{only}
 use Rattle.rendez_words.specs.Process.{Process, TableId}
-use Rattle.rendez_words.specs.Steps.{posts, raises}
+use Rattle.rendez_words.specs.Steps.{raises}
 use Rattle.sleep_wakeup.specs.Calls.{Ends}
 use Rattle.block_queue.specs.declared.entry.Entry.{Entry}
 use Rattle.block_queue.specs.declared.entry.Entry.TheVariants as entry
@@ -19,9 +18,11 @@ use Rattle.pipe_dev.specs.declared.answers.TryAnswer.TheVariants as try
 use Rattle.pipe_dev.specs.declared.filling.Stop.TheVariants as stop
 use Rattle.pipe_dev.specs.declared.row.Row.{Row}
 use Rattle.pipe_dev.specs.Parts.{Part, bytes_of}
-use Rattle.pipe_dev.specs.ReadCalls.{Reader, Reads, Tries, calling, TriesOn, SleepsOn, came_to}
+use Rattle.pipe_dev.specs.ReadCalls.{Reader, Reads, Tries, calling, TriesOn, came_to, lent_at}
 use Rattle.pipe_dev.specs.Rendezes.{WakesWriters, WakesWith}
-use Rattle.pipe_dev.specs.Filling.{begins, last_number}
+use Rattle.pipe_dev.specs.Filling.{Lending, begins, last_number}
+use Rattle.waiting.specs.declared.wait.WaitEnd.TheVariants.{Stopped}
+use Rattle.waiting.specs.Waiting.{Told}
 use Rattle.pipe_dev.proofs.WorkedEntries.{a, b, IsRun, taker, taker_enters, unread, at_rendez, woke}
 use Rattle.pipe_dev.proofs.WorkedEntries.{slept, sleeps, has_notes, is_not_idle}
 use Rattle.pipe_dev.proofs.WorkedFills.{part, loose, one_out, two_out, all_out, told, takes_first}
@@ -164,13 +165,7 @@ module _ (table : TableId) where
 
   reads_all : Reads loose row (calling (reader unread idle) zeros) (Ok (read.Got 3))
       (calling (reader told (woke idle 4 3)) (97 ∷ 98 ∷ 99 ∷ 0 ∷ []))
-  reads_all =
-      record {
-        times = 0;
-        between = calling (reader unread idle) zeros;
-        slept = refl;
-        ended = answers_all;
-      }
+  reads_all = inl answers_all
 
   -- a wakeup is a step at least
   wakes_nobody : (level : ℕ) → WakesWriters row 1 level idle idle → ⊥
@@ -321,48 +316,34 @@ module _ (table : TableId) where
       (calling (reader told_empty (woke idle 4 1)) b)
   tries_too_early = record { number = 1; tried = passes_an_empty_write }
 
-  -- it wakes first, and then sleeps with the number that it was told
-  passes_and_sleeps : SleepsOn loose row (calling (reader unread idle) b)
-      (calling (reader told_empty (slept (woke idle 4 1) 3 1 no_notes)) b)
-  passes_and_sleeps =
-      record {
-        number = 1;
-        before = woke idle 4 1;
-        tried = passes_an_empty_write;
-        slept = sleeps (woke idle 4 1) 3 1 no_notes;
-      }
-
+  -- it wakes first, then sleeps with the number that it was told, and is interrupted
   read_is_interrupted : Reads loose row (calling (reader unread idle) b)
       (Err (fault.Interrupted (only Interrupt)))
       (calling (reader told_empty (slept (woke idle 4 1) 3 1 (only Interrupt))) b)
   read_is_interrupted =
-      record {
-        times = 0;
-        between = calling (reader unread idle) b;
-        slept = refl;
-        ended = record {
-          number = 1;
-          before = woke idle 4 1;
-          tried = passes_an_empty_write;
-          failed = (sleeps (woke idle 4 1) 3 1 (only Interrupt), has_notes);
+      inr (record {
+        first = read_told;
+        begun = passes_an_empty_write;
+        waited = record {
+          ending = Stopped (fault.Interrupted (only Interrupt)) None;
+          process = slept (woke idle 4 1) 3 1 (only Interrupt);
+          slept = record {
+            times = 0;
+            last = read_told;
+            rounds = refl;
+            ends = record {
+              failed = (sleeps (woke idle 4 1) 3 1 (only Interrupt), has_notes);
+              left = refl;
+            };
+          };
+          returned = refl;
+          answer_is = refl;
         };
-      }
-
-  read_sleeps_where_another_does : Reads loose row (calling (reader unread idle) b)
-      (Err fault.DoubleSleep)
-      (calling (reader told_empty (posts (woke idle 4 1) (at_rendez 3) 1 answer.DoubleSleep)) b)
-  read_sleeps_where_another_does =
-      record {
-        times = 0;
-        between = calling (reader unread idle) b;
-        slept = refl;
-        ended = record {
-          number = 1;
-          before = woke idle 4 1;
-          tried = passes_an_empty_write;
-          failed = refl;
-        };
-      }
+      })
+    where
+      read_told : Told Lending
+      read_told =
+          record { at = lent_at (calling (reader told_empty (woke idle 4 1)) b); number = 1 }
 
   finds_an_end : TriesOn loose row (calling (reader unread idle) b) (came_to 0 stop.End)
       (calling (reader has_ended idle) b)
@@ -384,13 +365,7 @@ module _ (table : TableId) where
 
   reads_to_the_end : Reads loose row (calling (reader unread idle) b) (Ok read.End)
       (calling (reader has_ended idle) b)
-  reads_to_the_end =
-      record {
-        times = 0;
-        between = calling (reader unread idle) b;
-        slept = refl;
-        ended = finds_an_end;
-      }
+  reads_to_the_end = inl finds_an_end
 
   -- an end has no byte
   end_fills_its_buffer : (new : Reader)

@@ -1,14 +1,13 @@
 -- What the calls of a read end do, after pipe(2), pipe(3) and read(2).
 use Rattle.std.specs.Prelude.{◌≡◌, ◌⊎◌, ◌+◌, ◌++◌, ℕ, nat_lt, Bool, true}
 use Rattle.std.specs.Prelude.{List, length, drop, ⊤}
-use Rattle.std.specs.Prelude.{Option, Some, None, Result, Ok, Err}
+use Rattle.std.specs.Prelude.{Option, Some, None, Result, Err}
 use Rattle.histories.specs.declared.account.Account.{Account}
 use Rattle.sync_base.specs.declared.fault.Fault.{Fault}
 use Rattle.sync_base.specs.declared.fault.Fault.TheVariants as fault
 use Rattle.sync_base.specs.declared.mode.Mode.{Mode}
 use Rattle.sync_base.specs.declared.mode.Mode.TheVariants.{Message, Stream}
 use Rattle.rendez_words.specs.Process.{Process}
-use Rattle.sleep_wakeup.specs.Deeds.{SleepsWell, FailsAsleep}
 use Rattle.sleep_wakeup.specs.Kernel.{Running}
 use Rattle.block_queue.specs.declared.answers.TakeAnswer.TheVariants as take_answer
 use Rattle.block_queue.specs.declared.entry.Entry.{Entry}
@@ -30,9 +29,9 @@ use Rattle.pipe_dev.specs.Ends.{ReadSide}
 use Rattle.pipe_dev.specs.Filling.{Lending, FillsUp, last_number}
 use Rattle.pipe_dev.specs.Parts.{Part, part_of, rest_of}
 use Rattle.pipe_dev.specs.Rendezes.{reader_rendez, WakesWriters, WakesWith}
-use Rattle.pipe_dev.specs.Rounds.{Rounds}
 use Rattle.waiting.specs.declared.call.Reply.{Reply}
-use Rattle.waiting.specs.Waiting.{Promise, Point}
+use Rattle.waiting.specs.declared.call.Reply.TheVariants as reply
+use Rattle.waiting.specs.Waiting.{Promise, Point, Waited}
 
 -- the reader between two steps of a call: what its seat knows, what is left of a write that was
 -- begun, and the process that calls
@@ -108,35 +107,6 @@ pub record IsNotYet (key : Key) (old new : Reader) : Type 0 where
   pub found : FindsNotYet key number old new
 
 -- ---- a read that waits
-
--- it was answered NotYet, and slept on its own Rendez with the number of that answer, and well
-pub record SleepsForWrite (key : Key) (row : Row) (old new : Reader) : Type 0 where
-  pub number : ℕ
-  pub found : FindsNotYet key number old (record new { process = old.process })
-  pub slept : SleepsWell old.process (reader_rendez row) number new.process
-
--- the sleep did not end well
-pub record FailsForWrite (key : Key) (row : Row) (old : Reader) (why : Fault) (new : Reader) :
-    Type 0 where
-  pub number : ℕ
-  pub found : FindsNotYet key number old (record new { process = old.process })
-  pub failed : FailsAsleep old.process (reader_rendez row) number new.process why
-
--- how a read ends
-abbrev pub EndsRead : Key → Row → Calling → Result ReadAnswer Fault → Calling → Type 0
-EndsRead key row old (Ok (read.Got count)) new = Gets key row old count new
-EndsRead key row old (Ok read.End) new =
-    FindsEnd key old.reader new.reader × (new.buffer ≡ old.buffer)
-EndsRead key row old (Err why) new =
-    FailsForWrite key row old.reader why new.reader × (new.buffer ≡ old.buffer)
-
--- some times it found nothing and slept; and then it ended
-pub record KeepsTrying (key : Key) (row : Row) (old : Calling)
-    (answer : Result ReadAnswer Fault) (new : Calling) : Type 0 where
-  pub times : ℕ
-  pub between : Reader
-  pub slept : Rounds (SleepsForWrite key row) times old.reader between
-  pub ended : EndsRead key row (calling between old.buffer) answer new
 
 -- a call that waits, as its end and its buffer stand
 abbrev pub lending_of : Calling → Lending
@@ -215,38 +185,6 @@ pub record GivesBytes (key : Key) (row : Row) (old : Calling) (count : ℕ) (new
   pub tried : TriesOn key row old (came_to count why) new
   pub got : is_got (came_to count why) ≡ true
 
--- It gave no byte, for the next write was not there yet; it has passed the empty writes that it
--- met, and slept on its own Rendez with the number of that answer, and well.
-pub record SleepsOn (key : Key) (row : Row) (old new : Calling) : Type 0 where
-  pub number : ℕ
-  pub before : Process
-  pub tried : TriesOn key row old (came_to 0 (stop.NotYet number))
-      (calling (record new.reader { process = before }) new.buffer)
-  pub slept : SleepsWell before (reader_rendez row) number new.reader.process
-
--- the sleep did not end well
-pub record FailsOn (key : Key) (row : Row) (old : Calling) (why : Fault) (new : Calling) :
-    Type 0 where
-  pub number : ℕ
-  pub before : Process
-  pub tried : TriesOn key row old (came_to 0 (stop.NotYet number))
-      (calling (record new.reader { process = before }) new.buffer)
-  pub failed : FailsAsleep before (reader_rendez row) number new.reader.process why
-
--- how a read ends
-abbrev pub EndsOn : Key → Row → Calling → Result ReadAnswer Fault → Calling → Type 0
-EndsOn key row old (Ok (read.Got count)) new = GivesBytes key row old count new
-EndsOn key row old (Ok read.End) new = TriesOn key row old (came_to 0 stop.End) new
-EndsOn key row old (Err why) new = FailsOn key row old why new
-
--- some times it gave no byte and slept; and then it ended
-pub record KeepsReading (key : Key) (row : Row) (old : Calling)
-    (answer : Result ReadAnswer Fault) (new : Calling) : Type 0 where
-  pub times : ℕ
-  pub between : Calling
-  pub slept : Rounds (SleepsOn key row) times old between
-  pub ended : EndsOn key row between answer new
-
 -- a try that was answered NotYet, with some number
 pub record IsNotYetOn (key : Key) (row : Row) (old new : Calling) : Type 0 where
   pub number : ℕ
@@ -270,6 +208,20 @@ Tries key row old try.End new =
     InMode row.mode (FindsEnd key old.reader new.reader × (new.buffer ≡ old.buffer))
     (TriesOn key row old (came_to 0 stop.End) new)
 
+-- One request of a read that waits, by what it was told: a try. One that is told to wait gave no
+-- byte, and in stream mode it has passed the empty writes that it met.
+abbrev pub AsksForBytes : Key → Row → Calling → Reply ReadAnswer → Calling → Type 0
+AsksForBytes key row old (reply.Done (read.Got count)) new = Tries key row old (try.Got count) new
+AsksForBytes key row old (reply.Done read.End) new = Tries key row old try.End new
+AsksForBytes key row old (reply.Wait number) new =
+    InMode row.mode (FindsNotYet key number old.reader new.reader × (new.buffer ≡ old.buffer))
+    (TriesOn key row old (came_to 0 (stop.NotYet number)) new)
+AsksForBytes key row old (reply.Refused why) new = ⊥
+
+-- a read, as its wait asks the queue
+abbrev pub reading : Key → Row → Promise Lending ReadAnswer
+reading key row = waits_by (AsksForBytes key row)
+
 -- What a read did, by its answer. Own: a read into a buffer of no bytes is refused first, and then
 -- one by a process of another kernel; they do nothing.
 abbrev pub Reads : Key → Row → Calling → Result ReadAnswer Fault → Calling → Type 0
@@ -278,7 +230,7 @@ Reads key row old (Err fault.BadCount) new =
 Reads key row old (Err fault.NoRendez) new =
     IsUntouchedRead old.reader old.buffer new.reader new.buffer
 Reads key row old answer new =
-    InMode row.mode (KeepsTrying key row old answer new) (KeepsReading key row old answer new)
+    Waited (reading key row) (reader_rendez row) (lent_at old) answer (lent_at new)
 
 -- an answer that comes only from a request or a sleep
 abbrev pub IsAskedRead : Result ReadAnswer Fault → Type 0

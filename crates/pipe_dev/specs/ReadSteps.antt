@@ -1,20 +1,23 @@
 -- What the steps of a read come to.
-use Rattle.std.specs.Prelude.{ℕ, nat_lt, if◌then◌else◌, Option, Some, None, ⊤, Result}
-use Rattle.sync_base.specs.declared.fault.Fault.{Fault}
-use Rattle.block_queue.specs.declared.view.Key.{Key}
+use Rattle.std.specs.Prelude.{ℕ, nat_lt, if◌then◌else◌, List}
+use Rattle.sleep_wakeup.specs.Kernel.{Running}
 use Rattle.pipe_dev.specs.declared.answers.ReadAnswer.{ReadAnswer}
+use Rattle.pipe_dev.specs.declared.answers.ReadAnswer.TheVariants as read
 use Rattle.pipe_dev.specs.declared.answers.TryAnswer.{TryAnswer}
 use Rattle.pipe_dev.specs.declared.answers.TryAnswer.TheVariants as try
+use Rattle.pipe_dev.specs.declared.block_reading.Lending as block_reading
+use Rattle.pipe_dev.specs.declared.cursor.ReadCursor.{ReadCursor}
 use Rattle.pipe_dev.specs.declared.filling.Came.{Came}
 use Rattle.pipe_dev.specs.declared.filling.Stop.{Stop}
 use Rattle.pipe_dev.specs.declared.filling.Stop.TheVariants as stop
 use Rattle.pipe_dev.specs.declared.reading.Found.{Found}
 use Rattle.pipe_dev.specs.declared.reading.Found.TheVariants as found
-use Rattle.pipe_dev.specs.declared.row.Row.{Row}
-use Rattle.pipe_dev.specs.ReadCalls.{Calling, EndsOn, SleepsOn}
-use Rattle.pipe_dev.specs.declared.block_reading.Lending as block_reading
 use Rattle.pipe_dev.specs.Filling.{Lending}
 use Rattle.pipe_dev.specs.FillSteps.{taker_with}
+use Rattle.pipe_dev.specs.ReadCalls.{calling, lent_at, reader_with}
+use Rattle.waiting.specs.declared.call.Reply.{Reply}
+use Rattle.waiting.specs.declared.call.Reply.TheVariants.{Done, Wait}
+use Rattle.waiting.specs.Waiting.{Told}
 
 -- what a try is answered: bytes, or why there are none
 abbrev pub found_at : ℕ → Stop → Found
@@ -32,17 +35,16 @@ answer_of (found.Got count) = try.Got count
 answer_of (found.NotYet number) = try.NotYet
 answer_of found.End = try.End
 
--- the round ended the read
-abbrev pub IfOver :
-    Option (Result ReadAnswer Fault) → Key → Row → Calling → Calling → Type 0
-IfOver (Some answer) key row old new = EndsOn key row old answer new
-IfOver None key row old new = ⊤
+-- what a try tells a read that waits
+abbrev pub told_by : Found → Reply ReadAnswer
+told_by (found.Got count) = Done (read.Got count)
+told_by (found.NotYet number) = Wait number
+told_by found.End = Done read.End
 
--- the round gave no byte and slept
-abbrev pub IfSlept :
-    Option (Result ReadAnswer Fault) → Key → Row → Calling → Calling → Type 0
-IfSlept (Some answer) key row old new = ⊤
-IfSlept None key row old new = SleepsOn key row old new
+-- where a read stands that was told this number last
+abbrev pub told_with : ReadCursor → Running → List ℕ → ℕ → Told Lending
+told_with cursor proc buffer number =
+    record { at = lent_at (calling (reader_with cursor proc) buffer); number = number }
 
 -- what a read of a block has with it, as its contract sees it
 abbrev pub lending_in : block_reading.Lending → Lending

@@ -1,10 +1,13 @@
 //! How a direction is read.
-ghost use Rattle.std.specs.Prelude.{◌≡◌, ◌≢◌, []};
+ghost use Rattle.std.specs.Prelude.{◌≡◌, ◌≢◌, ◌<◌, []};
+ghost use Rattle.sync_base.specs.declared.limits.TheConstants.{TOP_LEVEL};
 ghost use Rattle.block_queue.specs.Seats.{key_of};
 ghost use Rattle.pipe_dev.specs.Ends.{IsReadCursor};
-ghost use Rattle.pipe_dev.specs.ReadCalls.{KeepsReading, Tries, TriesOn, calling, reader_with};
-ghost use Rattle.pipe_dev.specs.ReadSteps.{IfOver, IfSlept, answer_of, found_of};
-ghost use Rattle.pipe_dev.specs.Rendezes.{HasRow};
+ghost use Rattle.pipe_dev.specs.ReadCalls.{AsksForBytes, IsAskedRead, Tries, TriesOn, reading};
+ghost use Rattle.pipe_dev.specs.ReadCalls.{calling, lent_at, reader_with};
+ghost use Rattle.pipe_dev.specs.ReadSteps.{answer_of, found_of, told_by, told_with};
+ghost use Rattle.pipe_dev.specs.Rendezes.{HasRow, reader_rendez};
+ghost use Rattle.waiting.specs.Waiting.{IsLow, Waited, WaitsOn};
 
 use crate::answers::{ReadAnswer, TryAnswer};
 use crate::cursor::ReadCursor;
@@ -34,7 +37,6 @@ impl<'p> ReadEnd<'p> {
     /// not own all the Rendez of the direction, and where it would wait as `DoubleSleep` and
     /// `Interrupted`. A read that took a write out wakes each writer with its number, in stream
     /// mode with that of the last one. After pipe(3) and read(2).
-    #[tactic(auto, using(crate::proofs::ModeLemmas::reads_by_mode))]
     pub fn read<R: Wait>(
         &mut self,
         rt: &R,
@@ -134,14 +136,14 @@ struct Tried {
     came: Came,
 }
 
-// How far one round of a read came: it is over, or it slept.
+// What a request of a read found.
 #[derive(Drop)]
-pub(crate) struct Round {
-    pub(crate) cursor: ReadCursor,
-    pub(crate) over: Option<Result<ReadAnswer, Fault>>,
+struct Asked {
+    cursor: ReadCursor,
+    found: Found,
 }
 
-// Tries and sleeps until it is answered.
+// Tries until it is answered.
 fn read_with<R: Wait>(
     queue: &Queue,
     row: &Row,
@@ -155,61 +157,102 @@ fn read_with<R: Wait>(
     requires room { buffer.old ≢ [] }
     ensures cursor { IsReadCursor queue.now row.now result.cursor }
     ensures words { proc.new.words ≡ proc.old.words }
-    ensures read { KeepsReading (key_of queue.now) row.now
-        (calling (reader_with cursor proc.old) buffer.old) result.answer
-        (calling (reader_with result.cursor proc.new) buffer.new) }
+    ensures asked { Waited (reading (key_of queue.now) row.now) (reader_rendez row.now)
+        (lent_at (calling (reader_with cursor proc.old) buffer.old)) result.answer
+        (lent_at (calling (reader_with result.cursor proc.new) buffer.new)) }
+    ensures answer { IsAskedRead result.answer }
 {
-    let mut cursor = cursor;
-    'reading: for _ in rt.forever() {
-        let Round { cursor: now, over } = read_round(queue, row, rt, cursor, proc, buffer);
-        cursor = now;
-        match over {
-            Some(answer) => return Done { cursor, answer },
-            None => {}
-        }
+    let Asked { cursor, found } = ask_for_bytes(queue, row, cursor, proc, buffer);
+    match found {
+        Found::Got(count) => Done {
+            cursor,
+            answer: Ok(ReadAnswer::Got(count)),
+        },
+        Found::End => Done {
+            cursor,
+            answer: Ok(ReadAnswer::End),
+        },
+        Found::NotYet(number) => read_on(queue, row, rt, cursor, proc, buffer, number),
     }
-    unreachable!()
 }
 
-// One round: a try, and where it found nothing a sleep.
-fn read_round<R: Wait>(
+// The rest of a read that was told to wait with this number: the loop of `waiting`, with the buffer
+// that is lent.
+fn read_on<R: Wait>(
     queue: &Queue,
     row: &Row,
     rt: &R,
     cursor: ReadCursor,
     proc: &mut Proc<'_>,
     buffer: &mut [u8],
-) -> Round
+    number: u64,
+) -> Done
+    requires cursor { IsReadCursor queue.now row.now cursor }
+    requires kernel { HasRow proc.old.words row.now }
+    requires room { buffer.old ≢ [] }
+    requires low { number < TOP_LEVEL }
+    ensures cursor { IsReadCursor queue.now row.now result.cursor }
+    ensures words { proc.new.words ≡ proc.old.words }
+    ensures waited { WaitsOn (reading (key_of queue.now) row.now) (reader_rendez row.now)
+        (told_with cursor proc.old buffer.old number) result.answer
+        (lent_at (calling (reader_with result.cursor proc.new) buffer.new)) }
+{
+    let mut cursor = cursor;
+    let mut number = number;
+    'reading: for _ in rt.forever() {
+        match proc.sleep(rt, row.reader(), number) {
+            Err(why) => {
+                return Done {
+                    cursor,
+                    answer: Err(why),
+                };
+            }
+            Ok(()) => {
+                let Asked { cursor: now, found } = ask_for_bytes(queue, row, cursor, proc, buffer);
+                cursor = now;
+                match found {
+                    Found::Got(count) => {
+                        return Done {
+                            cursor,
+                            answer: Ok(ReadAnswer::Got(count)),
+                        };
+                    }
+                    Found::End => {
+                        return Done {
+                            cursor,
+                            answer: Ok(ReadAnswer::End),
+                        };
+                    }
+                    Found::NotYet(again) => number = again,
+                }
+            }
+        }
+    }
+    unreachable!()
+}
+
+// One request: a try.
+fn ask_for_bytes(
+    queue: &Queue,
+    row: &Row,
+    cursor: ReadCursor,
+    proc: &mut Proc<'_>,
+    buffer: &mut [u8],
+) -> Asked
     requires cursor { IsReadCursor queue.now row.now cursor }
     requires kernel { HasRow proc.old.words row.now }
     requires room { buffer.old ≢ [] }
     ensures cursor { IsReadCursor queue.now row.now result.cursor }
     ensures words { proc.new.words ≡ proc.old.words }
-    ensures over { IfOver result.over (key_of queue.now) row.now
-        (calling (reader_with cursor proc.old) buffer.old)
-        (calling (reader_with result.cursor proc.new) buffer.new) }
-    ensures slept { IfSlept result.over (key_of queue.now) row.now
-        (calling (reader_with cursor proc.old) buffer.old)
+    ensures room { buffer.new ≢ [] }
+    ensures low { IsLow (told_by result.found) }
+    ensures asked { AsksForBytes (key_of queue.now) row.now
+        (calling (reader_with cursor proc.old) buffer.old) (told_by result.found)
         (calling (reader_with result.cursor proc.new) buffer.new) }
 {
     let Tried { cursor, came } = try_with(queue, row, cursor, proc, buffer);
-    match found_by(came) {
-        Found::Got(count) => Round {
-            cursor,
-            over: Some(Ok(ReadAnswer::Got(count))),
-        },
-        Found::End => Round {
-            cursor,
-            over: Some(Ok(ReadAnswer::End)),
-        },
-        Found::NotYet(number) => match proc.sleep(rt, row.reader(), number) {
-            Ok(()) => Round { cursor, over: None },
-            Err(fault) => Round {
-                cursor,
-                over: Some(Err(fault)),
-            },
-        },
-    }
+    let found = found_by(came);
+    Asked { cursor, found }
 }
 
 // What a try that came so far found: it got what it has read, and if that is nothing it is told why

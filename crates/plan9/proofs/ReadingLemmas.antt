@@ -12,7 +12,10 @@ use Rattle.pipe_dev.specs.declared.answers.ReadAnswer.TheVariants as read
 use Rattle.pipe_dev.specs.declared.row.Row.{Row}
 use Rattle.pipe_dev.specs.Parts.{part_of, bytes_of}
 use Rattle.pipe_dev.specs.ReadCalls as calls
-use Rattle.pipe_dev.specs.ReadCalls.{Reads, InMode, KeepsTrying, KeepsReading, calling}
+use Rattle.pipe_dev.specs.ReadCalls.{AsksForBytes, Calling, Gets, GivesBytes, InMode, Reads}
+use Rattle.pipe_dev.specs.ReadCalls.{calling, lent_at}
+use Rattle.pipe_dev.specs.Rendezes.{reader_rendez}
+use Rattle.pipe_dev.proofs.AskedLemmas.{LastAsked, last_asked}
 use Rattle.pipe_dev.specs.Rounds.{Rounds}
 use Rattle.plan9.specs.declared.pipes.Reader.{Reader}
 use Rattle.plan9.specs.Readings.{Filling, FillsUp, GoesOn, IsSameReader, LiesIn, ReadsBehind}
@@ -23,30 +26,37 @@ got_fits : (key : Key) (row : Row) (old : calls.Reader) (buffer : List ℕ) (cou
     (new : calls.Reader) (buffer' : List ℕ)
     → Reads key row (calling old buffer) (Ok (read.Got count)) (calling new buffer')
     → count ≤ length buffer'
-got_fits key row old buffer count new buffer' reads = by row.mode reads
+got_fits key row old buffer count new buffer' reads = by row.mode last.asked
   where
+    last : LastAsked (AsksForBytes key row) (reader_rendez row) (read.Got count)
+        (lent_at (calling new buffer')).seat
+    last =
+        last_asked (AsksForBytes key row) (reader_rendez row) (calling old buffer) (read.Got count)
+        (calling new buffer') reads
+
     by : (mode : Mode)
         → InMode mode
-        (KeepsTrying key row (calling old buffer) (Ok (read.Got count)) (calling new buffer'))
-        (KeepsReading key row (calling old buffer) (Ok (read.Got count)) (calling new buffer'))
+        (Gets key row last.before count (calling (record new { process = last.process }) buffer'))
+        (GivesBytes key row last.before count
+        (calling (record new { process = last.process }) buffer'))
         → count ≤ length buffer'
-    by Message trying =
-        let filled = trying.ended.filled in
-        let bytes = (part_of (length buffer) trying.ended.left).bytes in
+    by Message gets =
+        let filled = gets.filled in
+        let bytes = (part_of (length last.before.buffer) gets.left).bytes in
         omega (
           arith,
           filled.count_is,
           ap length filled.bytes,
-          length-append bytes (drop count buffer),
+          length-append bytes (drop count last.before.buffer),
         )
-    by Stream reading =
-        let filled = reading.ended.tried.fills.filled in
-        let bytes = bytes_of reading.ended.tried.fills.filling.parts in
+    by Stream gives =
+        let filled = gives.tried.fills.filled in
+        let bytes = bytes_of gives.tried.fills.filling.parts in
         omega (
           arith,
           filled.count_is,
           ap length filled.bytes_are,
-          length-append bytes (drop count reading.between.buffer),
+          length-append bytes (drop count last.before.buffer),
         )
 
 -- a piece lies in the buffer into which it was read
