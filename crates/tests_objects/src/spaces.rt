@@ -40,10 +40,6 @@ fn collect(member: u64) -> GroupCall {
     GroupCall::Collect { member }
 }
 
-fn leave(member: u64) -> GroupCall {
-    GroupCall::Leave { member }
-}
-
 fn met(value: u64, member: u64, count: u64) -> GroupReply {
     GroupReply::Met {
         value,
@@ -67,7 +63,7 @@ fn two_meet_and_one_leaves(rt: HostRuntime) {
         (call(1, 7, 9), met(5, 0, 1)),
         (collect(0), was_met(9)),
         (call(0, 7, 5), wait(1)),
-        (leave(0), Gone),
+        (GroupCall::Leave { member: 0 }, Gone),
         (call(1, 7, 9), wait(0)),
         (call(1, 8, 1), Busy),
     ];
