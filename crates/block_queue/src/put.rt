@@ -18,11 +18,11 @@ ghost use Rattle.block_queue.specs.Tries.{IfAnswered, IfAgain, IsAgain, IsTaken}
 use crate::answers::PutAnswer;
 use crate::places::{MARK, free, place};
 use crate::queue::Queue;
-use crate::queue_object::StoredBlock;
 use crate::room::pause;
 use crate::rule::Stepper;
 use crate::seats::PutSeat;
 use crate::spare::Spare;
+use crate::stored_block::StoredBlock;
 use std::marker::Brand;
 use std::snapshot::Snapshot;
 use std::sync::Wait;

@@ -17,9 +17,9 @@ ghost use Rattle.sync_base.specs.declared.limits.TheConstants.{LAST_WRITE};
 use crate::places::{TAIL, place, sequence, stored};
 use crate::plays::{Accept, Asks, PutSequence, PutTail, Store};
 use crate::queue::Queue;
-use crate::queue_object::StoredBlock;
 use crate::rule::Stepper;
 use crate::spare::{Slot, Spare};
+use crate::stored_block::StoredBlock;
 use std::snapshot::Snapshot;
 use sync_base::Piece;
 

@@ -5,29 +5,13 @@ ghost use Rattle.block_queue.specs.QueueObject.{Kept, new_kept, put_reply, take_
 ghost use Rattle.block_queue.specs.QueueObject.{after_reply};
 ghost use Rattle.block_queue.specs.declared.queue_object.QueueCall.TheVariants.{Put, Take};
 
+use crate::stored_block::StoredBlock;
 use kernel_lock::Object;
 use std::alloc::Global;
 use std::collections::VecDeque;
 use std::marker::Model;
 use sync_base::limits::LAST_WRITE;
 use sync_base::{Fault, Piece};
-
-/// A block that stands in a queue, and who wrote it.
-#[derive(Drop)]
-pub struct StoredBlock {
-    /// The number of its writer, from 0 on.
-    pub writer: u64,
-    /// Its bytes, whole.
-    pub block: Piece,
-}
-
-impl Model for StoredBlock {
-    ghost use Rattle.sync_base.specs.Write.{Write};
-
-    ghost Value = { Write };
-
-    ghost view = { λ stored. record { writer = stored.writer; bytes = stored.block } };
-}
 
 /// A call on a queue.
 #[derive(Drop)]

@@ -1,6 +1,6 @@
 //! Memory that comes back, and what a slot of the ring keeps. A reader leaves the memory of a block
 //! that it has read in a slot, where a writer finds it.
-use crate::queue_object::StoredBlock;
+use crate::stored_block::StoredBlock;
 use std::alloc::Global;
 use std::marker::Model;
 use sync_base::Piece;

@@ -17,10 +17,10 @@ ghost use Rattle.block_queue.specs.Tries.{IsTakingOut, HasTakenOut};
 use crate::answers::TakeAnswer;
 use crate::places::{MARK, stored};
 use crate::queue::Queue;
-use crate::queue_object::StoredBlock;
 use crate::rule::Stepper;
 use crate::seats::{PutSeat, TakeSeat};
 use crate::spare::Spare;
+use crate::stored_block::StoredBlock;
 use std::marker::Brand;
 use sync_base::{NoProbe, Probe};
 

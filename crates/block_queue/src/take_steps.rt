@@ -11,9 +11,9 @@ ghost use Rattle.block_queue.specs.Steps.{HasFreed, HasHung};
 use crate::places::{MARK, TAIL, place, sequence, stored};
 use crate::plays::{Asks, FreePlace, Hang, TakeReady, TakeSequence, TakeTail};
 use crate::queue::Queue;
-use crate::queue_object::StoredBlock;
 use crate::rule::Stepper;
 use crate::spare::{Slot, Spare};
+use crate::stored_block::StoredBlock;
 
 impl Queue {
     /// Reads whether the next block stands, before it is asked why none does.
