@@ -16,4 +16,5 @@ pub mod StepKeeps
 mod WorkedAnswers
 mod WorkedRefusals
 mod WorkedStates
+mod WorkedSteps
 pub mod WorkedWords

@@ -1,5 +1,5 @@
 -- Whom each answer of a step tells of, and what no step has set: each against one row.
-use Rattle.std.proofs.Common.{[], ◌∷◌, arith}
+use Rattle.std.proofs.Common.{◌≢◌, [], ◌∷◌}
 use Rattle.std.specs.Prelude.{⊤, ℕ}
 use Rattle.sync_base.specs.declared.note.Note.TheVariants.{Alarm}
 use Rattle.sync_base.specs.NoteSet.{only}
@@ -62,11 +62,12 @@ abbrev after : Process → Entry → Process
 after process entry = record process { trace = entry ∷ process.trace }
 
 module _ (process : Process) where
-  who_marked_another_may_not_wake : ¬ HasSet (after process (marks 2)) 3
-  who_marked_another_may_not_wake set = omega (arith, set)
+  module _ (pid other : ℕ) (differ : pid ≢ other) where
+    who_marked_another_may_not_wake : ¬ HasSet (after process (marks pid)) other
+    who_marked_another_may_not_wake set = differ set
 
-  who_noted_another_may_not_wake : ¬ HasSet (after process (notes 2)) 3
-  who_noted_another_may_not_wake set = omega (arith, set)
+    who_noted_another_may_not_wake : ¬ HasSet (after process (notes pid)) other
+    who_noted_another_may_not_wake set = differ set
 
   who_looked_may_not_wake : ¬ HasSet (after process looks) 1
   who_looked_may_not_wake set = set
