@@ -21,3 +21,5 @@ pub mod WorkedObject
 mod WorkedPlaces
 mod WorkedGathers
 mod WorkedRefusals
+mod WorkedRule
+mod WorkedSteps

@@ -7,7 +7,7 @@ use Rattle.block_queue.specs.declared.entry.Entry.{Entry}
 use Rattle.block_queue.specs.declared.entry.Entry.TheVariants.{Taken, Stood, Full, Hungup, Worn}
 use Rattle.block_queue.specs.declared.entry.Entry.TheVariants.{Block, NotYet, End, Hung}
 use Rattle.sync_base.specs.Write.{Write}
-use Rattle.block_queue.specs.History.{opening_state, with_put}
+use Rattle.block_queue.specs.History.{IsRight, opening_state, with_put}
 use Rattle.block_queue.proofs.WordMoves.{same_some}
 use Rattle.block_queue.specs.Meaning.{queue_meaning}
 
@@ -20,19 +20,15 @@ a = 97 ∷ []
 
 -- ---- a run, entry by entry: each answer is the one that the definitions allow there
 
+taken_is_right : IsRight 0 (opening_state 1) (Taken 0 a 1)
+taken_is_right =
+    record {
+      may = record { may = (refl, omega arith); number_is = refl; given = omega arith };
+      in_turn = refl;
+    }
+
 taken_run : IsRun (Taken 0 a 1 ∷ [])
-taken_run = (
-  record {
-    may = record {
-      may = (refl, omega arith);
-      number_is = refl;
-      given =
-          omega arith;
-    };
-    in_turn = refl;
-  },
-  tt,
-)
+taken_run = (taken_is_right, tt)
 
 -- the put has not returned, so the write is not there yet
 waiting_run : IsRun (NotYet 0 ∷ Taken 0 a 1 ∷ [])

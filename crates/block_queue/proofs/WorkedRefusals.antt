@@ -13,7 +13,7 @@ use Rattle.block_queue.specs.declared.entry.Entry.{Entry}
 use Rattle.block_queue.specs.declared.opening.Opened.{Opened}
 use Rattle.block_queue.specs.declared.view.Key.{Key}
 use Rattle.block_queue.specs.declared.view.View.{View}
-use Rattle.sync_base.specs.declared.limits.TheConstants.{LAST_WRITE}
+use Rattle.sync_base.specs.declared.limits.TheConstants.{LAST_WRITE, MAX_PIPE_LIMIT, MAX_WRITERS}
 use Rattle.block_queue.specs.Calls.{Refuses, IsFreshPut, IsFreshTake}
 use Rattle.block_queue.specs.Meaning.{queue_after}
 use Rattle.block_queue.specs.Opening.{IsBadQueue, IsBadFirst, Opens, AreNewPutSeats}
@@ -38,7 +38,10 @@ module _ (key : Key) (old new : Account Entry) where
 
 -- ---- queues that are not made
 
-sizes_in_range_are_no_reason : ¬ IsBadQueue 1 1
+no_queue_has_no_writer : IsBadQueue 1 0
+no_queue_has_no_writer = inr (inl refl)
+
+sizes_in_range_are_no_reason : ¬ IsBadQueue MAX_PIPE_LIMIT MAX_WRITERS
 sizes_in_range_are_no_reason (inl (inl none)) = omega (arith, none)
 sizes_in_range_are_no_reason (inl (inr many)) = omega (arith, many)
 sizes_in_range_are_no_reason (inr (inl none)) = omega (arith, none)
