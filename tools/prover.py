@@ -59,7 +59,15 @@ class Refused:
     def is_kept(self, file):
         return os.path.isfile(self.place_of(file))
 
-    def keep(self, file):
+    def keep(self, file, goal):
+        """Keeps the kind and the name of the goal that refused it."""
         os.makedirs(KEPT, exist_ok=True)
         with open(self.place_of(file), "w", encoding="utf-8") as kept:
-            kept.write(f"{os.path.relpath(file, TOP)}\n")
+            kept.write("\n".join([os.path.relpath(file, TOP), *goal, ""]))
+
+    def kept(self, file):
+        """The kind and the name of that goal, if it was refused."""
+        if not self.is_kept(file):
+            return None
+        with open(self.place_of(file), encoding="utf-8") as kept:
+            return tuple([*kept.read().splitlines()[1:3], "-", "-"][:2])
