@@ -17,6 +17,7 @@ use crate::parking::Announced;
 use crate::states::Caller;
 use crate::words::Words;
 use sleep_core::{Event, ProcFlags};
+use std::marker::Brand;
 use std::sync::Wait;
 
 /// What a process saw in its flags after its announcement, and they don't end its wait.
@@ -28,6 +29,8 @@ pub(crate) struct Seen<'a> {
 
 impl Words {
     /// Looks at the flags of the process: what they are where they end its wait, or else the word.
+    // Step Look: load of the flags. Seat: Asleep, then Woken or Leaving, or Awaiting, then Woken;
+    // as it was where the flags don't end its wait.
     pub(crate) fn look_at(&self, caller: &mut Caller, notes_end: bool) -> Result<ProcFlags, u64>
         requires process { IsProcessOf self.now caller.old }
         requires looking { IsLooking notes_end (phase_in caller.old) }
@@ -40,7 +43,8 @@ impl Words {
         ensures ends { IfOk result (EndsWait notes_end) }
         ensures same { OnErr result (caller.new ≡ caller.old) }
     {
-        let word = self.look_once(caller, notes_end);
+        let pid = caller.pid();
+        let word = self.load::<Brand>(caller, self.flags_word(pid), &Event::Look { pid });
         let flags = flags_in(word);
         if ends_wait(flags, notes_end) {
             Ok(flags)
@@ -97,20 +101,6 @@ impl Words {
             word: _,
         } = seen;
         self.table.shared.park(rt, word, expected);
-    }
-
-    // Step Look: load of the flags. Seat: Asleep, then Woken or Leaving, or Awaiting, then Woken;
-    // as it was where the flags don't end its wait.
-    fn look_once(&self, caller: &mut Caller, notes_end: bool) -> u64
-        requires process { IsProcessOf self.now caller.old }
-        requires looking { IsLooking notes_end (phase_in caller.old) }
-        ensures table { caller.new.table ≡ caller.old.table }
-        ensures made { HasMade (sizes_of self.now) (Look (pid_in caller.old))
-            (part_of caller.old) result (part_of caller.new) }
-    {
-        let _ = notes_end;
-        let pid = caller.pid();
-        self.load(caller, self.flags_word(pid), Event::Look { pid })
     }
 }
 

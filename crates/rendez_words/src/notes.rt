@@ -8,6 +8,7 @@ use crate::flags_word::{flags_in, word_from};
 use crate::states::Seat;
 use crate::words::Words;
 use sleep_core::{Event, ProcFlags};
+use std::marker::Brand;
 use sync_base::{Fault, NoteSet, Pid};
 
 impl Words {
@@ -50,7 +51,7 @@ impl Words {
         let pid = seat.caller.pid();
         let event = Event::Drain { pid };
         let word = self.flags_word(pid);
-        let found = self.swap(&mut seat.caller, word, 0, event);
+        let found = self.swap::<Brand>(&mut seat.caller, word, 0, &event);
         flags_in(found).notes
     }
 }

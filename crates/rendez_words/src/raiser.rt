@@ -13,6 +13,7 @@ use crate::sleeper::NOBODY;
 use crate::states::{Done, Holding, Owing, Refused, Returned, Seat, TakeAnswer};
 use crate::words::Words;
 use sleep_core::{Event, ProcFlags};
+use std::marker::Brand;
 use sync_base::{Fault, NoteSet, Pid, RendezId};
 
 impl Words {
@@ -43,7 +44,7 @@ impl Words {
         let pid = caller.pid();
         let event = Event::Raise { pid, rendez, level };
         let word = self.level_word(rendez);
-        self.fetch_max(&mut caller, word, level, event);
+        self.fetch_max::<Brand>(&mut caller, word, level, &event);
         Ok(Owing {
             caller,
             rendez,

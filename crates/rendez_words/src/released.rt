@@ -54,7 +54,7 @@ impl Words {
         } = raiser;
         self.join(&mut stepper, other);
         let event = Event::Check { pid: Pid(pid) };
-        let found = self.check(&mut stepper, self.posted_word(rendez), event);
+        let found = self.check::<Brand>(&mut stepper, self.posted_word(rendez), &event);
         let other = self.cut(&mut stepper);
         let caller = Caller { stepper, pid };
         let raiser = Caller {
@@ -86,20 +86,7 @@ impl Words {
     }
 
     // Step Check: load of the posted word. Seat: joined, and as it was.
-    fn check(&self, stepper: &mut Stepper, word: usize, event: Event) -> u64
-        requires stepper { stepper.old.table_id ≡ table_of self.now }
-        requires joined { IsJoined stepper.old.me }
-        requires step { IsStep (sizes_of self.now) event (sleeper_in stepper.old.me.0)
-            word (λ n. n) }
-        requires unkept { IsUnkept event }
-        ensures table { stepper.new.table_id ≡ stepper.old.table_id }
-        ensures checked { HasChecked (sizes_of self.now) event
-            stepper.old.me result stepper.new.me }
-    {
-        self.check_for::<Brand>(stepper, word, &event)
-    }
-
-    fn check_for<M: Making>(&self, stepper: &mut Stepper, word: usize, _event: &Event) -> u64
+    fn check<M: Making>(&self, stepper: &mut Stepper, word: usize, _event: &Event) -> u64
         requires sizes { M.sizes ≡ sizes_of self.now }
         requires stepper { stepper.old.table_id ≡ table_of self.now }
         requires joined { IsJoined stepper.old.me }

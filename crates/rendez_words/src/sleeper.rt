@@ -9,13 +9,13 @@ ghost use Rattle.rendez_words.specs.States.{IsPosted};
 ghost use Rattle.rendez_words.specs.Steps.{posts, tests, looks, withdraws, clears};
 ghost use Rattle.rendez_words.specs.Words.{IsProcessOf, MayPost, WhyNotPosted};
 
-use crate::flags_word::flags_in;
 use crate::states::{
     Asleep, Awaiting, Cleared, Leaving, LookAnswer, Out, Posted, Refused, Seat, TestAnswer,
     WithdrawAnswer, Woken,
 };
 use crate::words::Words;
 use sleep_core::Event;
+use std::marker::Brand;
 use std::sync::Wait;
 use sync_base::limits::TOP_LEVEL;
 use sync_base::{Fault, RendezId};
@@ -61,7 +61,7 @@ impl Words {
             threshold,
         };
         let word = self.posted_word(rendez);
-        let found = self.compare_exchange(&mut caller, word, NOBODY, pid.0 + 1, event);
+        let found = self.compare_exchange::<Brand>(&mut caller, word, NOBODY, pid.0 + 1, &event);
         if found == NOBODY {
             Ok(Posted {
                 caller,
@@ -94,7 +94,7 @@ impl Words {
         let pid = caller.pid();
         let event = Event::Test { pid };
         let word = self.level_word(rendez);
-        let level = self.load(&mut caller, word, event);
+        let level = self.load::<Brand>(&mut caller, word, &event);
         if level > threshold {
             TestAnswer::Leaving(Leaving { caller, rendez })
         } else {
@@ -144,7 +144,7 @@ impl Words {
         let event = Event::Withdraw { pid };
         let word = self.posted_word(rendez);
         let posted_as = pid.0 + 1;
-        let found = self.compare_exchange(&mut caller, word, posted_as, NOBODY, event);
+        let found = self.compare_exchange::<Brand>(&mut caller, word, posted_as, NOBODY, &event);
         if found == posted_as {
             WithdrawAnswer::Out(Out { caller })
         } else {

@@ -1,7 +1,8 @@
 //! One function for each atomic operation, which makes an event of the core; and one that swaps
 //! only where a load finds something. All orderings are the table's. Each asks that the operation
 //! does to its word what the event does to its cell, and tells what the table answers to the event
-//! from what was found there.
+//! from what was found there. Who calls one passes `Brand`, and the proof picks the event that it
+//! stands for.
 ghost use Rattle.std.specs.Prelude.{◌≡◌, ◌==◌, ◌+◌, ◌<◌, max, bit_or};
 ghost use Rattle.std.specs.Bool.{OnTrue, OnFalse};
 ghost use prog.Atomic.{either};
@@ -45,17 +46,7 @@ impl Words {
     }
 
     /// Reads the word.
-    pub(crate) fn load(&self, caller: &mut Caller, word: usize, event: Event) -> u64
-        requires table { caller.old.table ≡ table_of self.now }
-        requires step { IsStep (sizes_of self.now) event (part_of caller.old) word (λ n. n) }
-        ensures table { caller.new.table ≡ caller.old.table }
-        ensures made { HasMade (sizes_of self.now) event
-            (part_of caller.old) result (part_of caller.new) }
-    {
-        self.load_for::<Brand>(caller, word, &event)
-    }
-
-    fn load_for<M: Making>(&self, caller: &mut Caller, word: usize, _event: &Event) -> u64
+    pub(crate) fn load<M: Making>(&self, caller: &mut Caller, word: usize, _event: &Event) -> u64
         requires sizes { M.sizes ≡ sizes_of self.now }
         requires table { caller.old.table ≡ table_of self.now }
         requires step { IsStep M.sizes M.event (part_of caller.old) word (λ n. n) }
@@ -66,17 +57,13 @@ impl Words {
     }
 
     /// Writes the word, and answers what it was.
-    pub(crate) fn swap(&self, caller: &mut Caller, word: usize, new: u64, event: Event) -> u64
-        requires table { caller.old.table ≡ table_of self.now }
-        requires step { IsStep (sizes_of self.now) event (part_of caller.old) word (λ _. new) }
-        ensures table { caller.new.table ≡ caller.old.table }
-        ensures made { HasMade (sizes_of self.now) event
-            (part_of caller.old) result (part_of caller.new) }
-    {
-        self.swap_for::<Brand>(caller, word, new, &event)
-    }
-
-    fn swap_for<M: Making>(&self, caller: &mut Caller, word: usize, new: u64, _event: &Event) -> u64
+    pub(crate) fn swap<M: Making>(
+        &self,
+        caller: &mut Caller,
+        word: usize,
+        new: u64,
+        _event: &Event,
+    ) -> u64
         requires sizes { M.sizes ≡ sizes_of self.now }
         requires table { caller.old.table ≡ table_of self.now }
         requires step { IsStep M.sizes M.event (part_of caller.old) word (λ _. new) }
@@ -97,14 +84,14 @@ impl Words {
         ensures made { HasMade (sizes_of self.now) event
             (part_of caller.old) result (part_of caller.new) }
     {
-        if self.load_empty_for::<Brand>(caller, word, &event) {
+        if self.load_empty::<Brand>(caller, word, &event) {
             return 0;
         }
-        self.swap_for::<Brand>(caller, word, 0, &event)
+        self.swap::<Brand>(caller, word, 0, &event)
     }
 
     // Whether the word is empty, and then this load has made the event.
-    fn load_empty_for<M: Making>(&self, caller: &mut Caller, word: usize, _event: &Event) -> bool
+    fn load_empty<M: Making>(&self, caller: &mut Caller, word: usize, _event: &Event) -> bool
         requires sizes { M.sizes ≡ sizes_of self.now }
         requires table { caller.old.table ≡ table_of self.now }
         requires step { IsStep M.sizes M.event (part_of caller.old) word (λ _. 0) }
@@ -121,25 +108,7 @@ impl Words {
     }
 
     /// Writes the word where it is `old`, and answers what it was.
-    pub(crate) fn compare_exchange(
-        &self,
-        caller: &mut Caller,
-        word: usize,
-        old: u64,
-        new: u64,
-        event: Event,
-    ) -> u64
-        requires table { caller.old.table ≡ table_of self.now }
-        requires step { IsStep (sizes_of self.now) event (part_of caller.old) word
-            (λ n. either (n == old) new n) }
-        ensures table { caller.new.table ≡ caller.old.table }
-        ensures made { HasMade (sizes_of self.now) event
-            (part_of caller.old) result (part_of caller.new) }
-    {
-        self.compare_exchange_for::<Brand>(caller, word, old, new, &event)
-    }
-
-    fn compare_exchange_for<M: Making>(
+    pub(crate) fn compare_exchange<M: Making>(
         &self,
         caller: &mut Caller,
         word: usize,
@@ -160,24 +129,7 @@ impl Words {
     }
 
     /// Raises the word to `least`, and answers what it was.
-    pub(crate) fn fetch_max(
-        &self,
-        caller: &mut Caller,
-        word: usize,
-        least: u64,
-        event: Event,
-    ) -> u64
-        requires table { caller.old.table ≡ table_of self.now }
-        requires step { IsStep (sizes_of self.now) event (part_of caller.old) word
-            (λ n. max n least) }
-        ensures table { caller.new.table ≡ caller.old.table }
-        ensures made { HasMade (sizes_of self.now) event
-            (part_of caller.old) result (part_of caller.new) }
-    {
-        self.fetch_max_for::<Brand>(caller, word, least, &event)
-    }
-
-    fn fetch_max_for<M: Making>(
+    pub(crate) fn fetch_max<M: Making>(
         &self,
         caller: &mut Caller,
         word: usize,
@@ -213,11 +165,11 @@ impl Words {
         ensures pid { result.pid ≡ pid.0 }
     {
         let word = self.flags_word(pid);
-        let found = self.fetch_or_for::<Brand>(caller, word, bits, &event);
+        let found = self.fetch_or::<Brand>(caller, word, bits, &event);
         Unwoken::new(pid, found)
     }
 
-    fn fetch_or_for<M: Making>(
+    fn fetch_or<M: Making>(
         &self,
         caller: &mut Caller,
         word: usize,

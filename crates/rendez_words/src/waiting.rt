@@ -14,6 +14,7 @@ use crate::states::Caller;
 use crate::words::Words;
 use sleep_core::{Event, ProcFlags};
 use std::hint::spin_loop;
+use std::marker::Brand;
 use std::sync::Wait;
 use std::thread::yield_now;
 use sync_base::NoteSet;
@@ -101,7 +102,7 @@ impl Words {
     {
         let pid = caller.pid();
         let word = self.flags_word(pid);
-        let found = self.swap(caller, word, 0, Event::Clear { pid });
+        let found = self.swap::<Brand>(caller, word, 0, &Event::Clear { pid });
         flags_in(found).notes
     }
 }

@@ -1,7 +1,7 @@
 -- The maximum is a step of the seat's process on a word of the table, so the rule stays.
 use Rattle.std.proofs.Common.{rules}
 use Rattle.rendez_words.proofs.StepAnswers.{step_in, step_allowed}
-use Rattle.rendez_words.proofs.words.Words.fetch_max_for.Goals as goal
+use Rattle.rendez_words.proofs.words.Words.fetch_max.Goals as goal
 
 pub fetch_max-requires : goal.fetch_max-requires
 fetch_max-requires g c = (

@@ -1,7 +1,7 @@
 -- The exchange is a step of the seat's process on a word of the table, so the rule stays.
 use Rattle.std.proofs.Common.{rules}
 use Rattle.rendez_words.proofs.StepAnswers.{step_in, step_allowed}
-use Rattle.rendez_words.proofs.words.Words.compare_exchange_for.Goals as goal
+use Rattle.rendez_words.proofs.words.Words.compare_exchange.Goals as goal
 
 pub compare_exchange-requires : goal.compare_exchange-requires
 compare_exchange-requires g c = (

@@ -1,7 +1,7 @@
 -- The load makes the event where it finds the word empty, and else changes nothing: the rule stays.
 use Rattle.std.proofs.Common.{rules}
 use Rattle.rendez_words.proofs.StepAnswers.{step_in, where_empty_allowed}
-use Rattle.rendez_words.proofs.words.Words.load_empty_for.Goals as goal
+use Rattle.rendez_words.proofs.words.Words.load_empty.Goals as goal
 
 pub load-found-requires : goal.load-found-requires
 load-found-requires g c = (

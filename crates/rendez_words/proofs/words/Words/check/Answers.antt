@@ -2,7 +2,7 @@
 use Rattle.std.proofs.Common.{rules}
 use Rattle.rendez_words.proofs.CheckKeeps.{check_allowed}
 use Rattle.rendez_words.proofs.StepAnswers.{step_in}
-use Rattle.rendez_words.proofs.words.Words.check_for.Goals as goal
+use Rattle.rendez_words.proofs.words.Words.check.Goals as goal
 
 pub load-requires : goal.load-requires
 load-requires g c = (

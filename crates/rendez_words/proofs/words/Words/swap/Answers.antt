@@ -1,10 +1,10 @@
--- The setting of bits is a step of the seat's process on a word of the table, so the rule stays.
+-- The swap is a step of the seat's process on a word of the table, so the rule stays.
 use Rattle.std.proofs.Common.{rules}
 use Rattle.rendez_words.proofs.StepAnswers.{step_in, step_allowed}
-use Rattle.rendez_words.proofs.words.Words.fetch_or_for.Goals as goal
+use Rattle.rendez_words.proofs.words.Words.swap.Goals as goal
 
-pub fetch_or-requires : goal.fetch_or-requires
-fetch_or-requires g c = (
+pub swap-requires : goal.swap-requires
+swap-requires g c = (
   search rules,
   step_in _ _ _ _ _ _ _ c.requires.sizes c.args.self.now.word_count c.requires.step,
   step_allowed _ _ _ _ _ _ _ _ _ c.requires.sizes c.caller.invariant c.caller.view_is

@@ -1,7 +1,7 @@
 -- The load is a step of the seat's process on a word of the table, so the rule stays.
 use Rattle.std.proofs.Common.{rules}
 use Rattle.rendez_words.proofs.StepAnswers.{step_in, step_allowed}
-use Rattle.rendez_words.proofs.words.Words.load_for.Goals as goal
+use Rattle.rendez_words.proofs.words.Words.load.Goals as goal
 
 pub load-requires : goal.load-requires
 load-requires g c = (
