@@ -115,33 +115,27 @@ fn answer_lines<S: Script, W: Write>(
             held.clear();
         }
     }
-    let faulty_line = end(&script, is_cut(is_too_long, rest), number, &mut held)?;
+    let faulty_line = end(&script, is_too_long, rest, number, &mut held)?;
     write_whole(writer, &held)?;
     Ok(faulty_line)
 }
 
-/// Whether bytes are left behind the lines, or the script is too long.
-fn is_cut(is_too_long: bool, rest: &[u8]) -> bool
-    ensures { result ≡ (is_too_long || nat_lt 0 (length rest.now)) }
-{
-    is_too_long || !rest.is_empty()
-}
-
 /// Ends a script behind the last line that could be answered: the next one is at fault where bytes
-/// are left, and otherwise the closing line is written.
+/// are left or the script is too long, and otherwise the closing line is written.
 fn end<S: Script>(
     script: &S,
-    is_cut: bool,
+    is_too_long: bool,
+    rest: &[u8],
     number: u64,
     output: &mut Vec<u8>,
 ) -> Result<Option<u64>, AllocError>
-    ensures fault { is_cut ≡ true → IfOk result (λ fault.
+    ensures fault { (is_too_long || nat_lt 0 (length rest.now)) ≡ true → IfOk result (λ fault.
         (fault ≡ Some number) × (output.new.items ≡ output.old.items)) }
-    ensures closing_line { is_cut ≡ false → (s : S.State) → S.stands_for script.now s →
-        IfOk result (λ fault. (fault ≡ None)
+    ensures closing_line { (is_too_long || nat_lt 0 (length rest.now)) ≡ false
+        → (s : S.State) → S.stands_for script.now s → IfOk result (λ fault. (fault ≡ None)
         × (output.new.items ≡ output.old.items ++ S.language.closing_line s)) }
 {
-    if is_cut {
+    if is_too_long || !rest.is_empty() {
         return Ok(Some(number));
     }
     script.push_closing_line(output)?;

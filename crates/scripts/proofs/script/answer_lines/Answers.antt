@@ -1,5 +1,5 @@
 -- Each way out of the loop over the lines, from what was written and held back when it was taken.
-use Rattle.std.proofs.Common.{[], ◌++◌, List, ℕ, ap, subst, ◌∙◌, arith}
+use Rattle.std.proofs.Common.{[], ◌++◌, List, ℕ, ap, refl, subst, ◌∙◌, arith}
 use Rattle.std.specs.Io.KnownBytes.{Appends}
 use Rattle.std.proofs.lemmas.Result.{err_from_is_err_and}
 use Rattle.scripts.specs.Device.{AppendsFront}
@@ -59,7 +59,7 @@ returns-in_err-write_whole-2-clause-told g c s stands =
     let goes = c.loop-held.invariant.goes_on s stands in
     let stuck = rw c.in_default.is at (c.in_ok-after.ensures.answered goes.state goes.stands_now) in
     let ended = goes_end _ _ _ _ _ _ _ _ c.answer_first.new.self _ _ _ c.end.new.output.items
-    c.is_cut.result c.in_ok-faulty_line.faulty_line goes stuck.0 c.is_cut.ensures
+    _ c.in_ok-faulty_line.faulty_line goes stuck.0 refl
     (λ t. let e = c.in_ok-faulty_line.ensures.fault t in (e.0, e.1 ∙ stuck.1))
     (λ f now standing. let e = c.in_ok-faulty_line.ensures.closing_line f now standing in (
       e.0,
@@ -79,7 +79,7 @@ returns-clause-told g c s stands =
     let goes = c.loop-held.invariant.goes_on s stands in
     let stuck = rw c.in_default.is at (c.in_ok-after.ensures.answered goes.state goes.stands_now) in
     let ended = goes_end _ _ _ _ _ _ _ _ c.answer_first.new.self _ _ _ c.end.new.output.items
-    c.is_cut.result c.in_ok-faulty_line.faulty_line goes stuck.0 c.is_cut.ensures
+    _ c.in_ok-faulty_line.faulty_line goes stuck.0 refl
     (λ t. let e = c.in_ok-faulty_line.ensures.fault t in (e.0, e.1 ∙ stuck.1))
     (λ f now standing. let e = c.in_ok-faulty_line.ensures.closing_line f now standing in (
       e.0,
