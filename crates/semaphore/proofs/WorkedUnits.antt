@@ -1,5 +1,6 @@
 -- Runs of semaphores and timers, computed from the definitions alone, and histories that are none.
-use Rattle.std.proofs.Common.{◌≡◌, ℕ, List, [], ◌∷◌, refl}
+use Rattle.std.proofs.Common.{◌≡◌, ◌⊎◌, ◌<◌, ◌+◌, ℕ, false, List, [], ◌∷◌, length, inl, inr, refl}
+use Rattle.std.proofs.Common.{arith}
 use Rattle.histories.specs.History.{state_after, IsLegal}
 use Rattle.semaphore.specs.declared.limits.TheConstants.{MAX_VALUE, LAST_GRANT}
 use Rattle.semaphore.specs.declared.sema_object.Stage.TheVariants.{Idle, Granted}
@@ -15,9 +16,12 @@ use Rattle.semaphore.specs.declared.timer_object.TimerCall.TheVariants.{Add, Exp
 use Rattle.semaphore.specs.declared.timer_object.TimerReply.{TimerReply}
 use Rattle.semaphore.specs.declared.timer_object.TimerReply.TheVariants as told
 use Rattle.sync_base.specs.declared.ids.Pid.{Pid}
-use Rattle.semaphore.specs.Units.{SemaState, opening, answer_to, after, passed}
+use Rattle.semaphore.specs.Units.{SemaState, opening, answer_to, after, passed, grants_of}
 use Rattle.semaphore.specs.Timers as timers
+use Rattle.semaphore.specs.SeatLine.{stands_in}
 use Rattle.semaphore.specs.SemaHistory.{SemaEntry, sema_meaning, released, taken, collected}
+use Rattle.semaphore.specs.SemaHistory.{uncollected, last_named}
+use Rattle.semaphore.specs.SemaLaws.{UnitsAddUp, NobodyWaitsForNothing, EachGrantIsNamed}
 use Rattle.semaphore.proofs.Broken.{entry, loses_a_granted_unit, gives_a_unit_twice}
 use Rattle.semaphore.proofs.Broken.{grants_out_of_order, passes_the_limit, adds_what_it_refused}
 
@@ -113,6 +117,28 @@ no_release_passes_the_limit legal = let clash : reply.Value 2147483648 ≡ reply
 no_refused_release_adds : IsLegal sema_meaning (opening 0 3 0) adds_what_it_refused → ⊥
 unfolding passed
 no_refused_release_adds legal = let clash : reply.Acquired ≡ reply.NotNow = legal.0.reply in cc
+
+-- ---- what the laws forbid of three seats and one unit
+
+module _ (past : List SemaEntry) (legal : IsLegal sema_meaning (opening 1 3 0) past) where
+  abbrev left : SemaState
+  left = state_after sema_meaning (opening 1 3 0) past
+
+  units_are_neither_lost_nor_made : UnitsAddUp
+      → left.value + taken past + uncollected left.stages ≡ 1 + released past
+  units_are_neither_lost_nor_made law = law 1 3 0 past (omega arith) (omega arith) legal
+
+  no_seat_waits_beside_a_unit : NobodyWaitsForNothing → left.value ≡ 1 → left.waiters ≡ []
+  no_seat_waits_beside_a_unit law one = by (law 1 3 0 past (omega arith) (omega arith) legal)
+    where
+      by : (left.value ≡ 0) ⊎ (left.waiters ≡ []) → left.waiters ≡ []
+      by (inl none) = absurd (omega (arith, one, none))
+      by (inr none) = none
+
+  seat_1_is_named_with_its_latest_count : EachGrantIsNamed → 1 < length left.stages
+      → stands_in left.unnamed 1 ≡ false → grants_of left 1 ≡ last_named 0 1 past
+  seat_1_is_named_with_its_latest_count law =
+      law 1 3 0 past (omega arith) (omega arith) legal 1
 
 -- timers
 pid : ℕ → Pid
