@@ -1,20 +1,21 @@
 -- What no plan counts, what is not spare, what is no fork, and what no ticker does: each against
 -- one row.
-use Rattle.std.proofs.Common.{◌≡◌, ◌≢◌, ◌+◌, ℕ, false, Some, Ok, Err, arith}
+use Rattle.std.proofs.Common.{◌≡◌, ◌≢◌, ◌<◌, ◌≤◌, ◌+◌, ℕ, false, Some, Ok, Err, arith}
 use Rattle.sync_base.specs.declared.fault.Fault.TheVariants as fault
 use Rattle.sync_base.specs.declared.limits.TheConstants.{MAX_PROCS, MAX_RENDEZ}
+use Rattle.rendez_words.specs.declared.words.Words.{Words}
 use Rattle.sleep_wakeup.specs.Forks.{HasPid}
 use Rattle.sleep_wakeup.specs.Kernel.{Running, Unused, next_process, one_pid_less}
 use Rattle.tag_space.specs.declared.member.Member.{Member}
 use Rattle.tag_space.specs.declared.space.TagSpace.{TagSpace}
-use Rattle.tag_space.specs.Members.{IsMemberOf}
+use Rattle.tag_space.specs.Members.{IsMemberOf, HasRow}
 use Rattle.semaphore.specs.declared.sema.Sema.{Sema}
 use Rattle.semaphore.specs.declared.sema.SemaSeat.{SemaSeat}
 use Rattle.semaphore.specs.declared.timers.Timers.{Timers}
 use Rattle.semaphore.specs.declared.timers.TimerSeat.{TimerSeat}
 use Rattle.semaphore.specs.Seats.{IsSemaSeatOf, IsTimerSeatOf}
 use Rattle.plan9.specs.Forkings.{ForksOne}
-use Rattle.plan9.specs.Halls.{IsRowOfSpace, IsSpareMember}
+use Rattle.plan9.specs.Halls.{IsRowOfSpace, IsSpareMember, IsAdmitted}
 use Rattle.plan9.specs.Plans.{Planned, IsPlan, CountsProcs, CountsProcsAlone, CountsRendez, Seats}
 use Rattle.plan9.specs.Pools.{IsSpareOf}
 use Rattle.plan9.specs.Vacancies.{IsRowOf}
@@ -37,24 +38,32 @@ no_plan_counts_two_rendez_too_many : ¬ IsPlan (counted 1 (MAX_RENDEZ + 2))
 no_plan_counts_two_rendez_too_many plan =
     let limited = plan.rendez_limited in omega (arith, limited)
 
-who_wants_fewer_takes_none_away : ¬ CountsProcs 2 (counted 3 0) (counted 2 0)
-who_wants_fewer_takes_none_away counts =
-    let stays = counts.as_before (omega arith) in omega (arith, stays)
+module _ (new : Planned) where
+  who_wants_fewer_leaves_what_there_is : CountsProcs 2 (counted 3 0) new → 2 ≤ 3 → new.procs ≡ 3
+  who_wants_fewer_leaves_what_there_is counts = counts.as_before
 
-too_many_processes_are_not_forgotten : ¬ CountsProcs (MAX_PROCS + 1) (counted 1 0) (counted 5 0)
-too_many_processes_are_not_forgotten counts =
-    let many = counts.too_many (omega arith) in omega (arith, many)
+  who_wants_more_gets_just_so_many : CountsProcs 3 (counted 2 0) new → 2 < 3 → 3 ≤ MAX_PROCS
+      → new.procs ≡ 3
+  who_wants_more_gets_just_so_many counts = counts.more
+
+  too_many_processes_are_not_forgotten : CountsProcs (MAX_PROCS + 1) (counted 1 0) new
+      → MAX_PROCS < MAX_PROCS + 1 → MAX_PROCS < new.procs
+  too_many_processes_are_not_forgotten counts = counts.too_many
+
+  processes_alone_leave_the_rendez : CountsProcsAlone 2 (counted 2 1) new → new.rendez ≡ 1
+  processes_alone_leave_the_rendez counts = counts.rendez
+
+  rendez_are_just_so_many_more : CountsRendez 2 (counted 1 3) new → 3 + 2 ≤ MAX_RENDEZ
+      → new.rendez ≡ 3 + 2
+  rendez_are_just_so_many_more counts = counts.more
+
+  too_many_rendez_are_not_forgotten : CountsRendez MAX_RENDEZ (counted 1 1) new
+      → MAX_RENDEZ < 1 + MAX_RENDEZ → MAX_RENDEZ < new.rendez
+  too_many_rendez_are_not_forgotten counts = counts.too_many
 
 who_wants_processes_alone_takes_none_away : ¬ CountsProcsAlone 2 (counted 3 0) (counted 2 0)
 who_wants_processes_alone_takes_none_away counts =
     let stays = counts.procs.as_before (omega arith) in omega (arith, stays)
-
-processes_alone_want_no_rendez : ¬ CountsProcsAlone 2 (counted 2 0) (counted 2 1)
-processes_alone_want_no_rendez counts = let same = counts.rendez in omega (arith, same)
-
-too_many_rendez_are_not_forgotten : ¬ CountsRendez (MAX_RENDEZ + 1) (counted 1 0) (counted 1 5)
-too_many_rendez_are_not_forgotten counts =
-    let many = counts.too_many (omega arith) in omega (arith, many)
 
 an_object_takes_no_process_away : ¬ Seats 2 (counted 3 0) (counted 2 2)
 an_object_takes_no_process_away seats =
@@ -83,6 +92,13 @@ module _ (space : TagSpace) (member : Member) where
 
   a_space_of_another_row : space.first.0 ≢ 3 → ¬ IsRowOfSpace space 3 2
   a_space_of_another_row other row = other row.first_is
+
+  a_space_for_another_count : space.procs ≢ 2 → ¬ IsRowOfSpace space 3 2
+  a_space_for_another_count other row = other row.procs_are
+
+  admitted_without_its_rendez : (words : Words) → ¬ HasRow space words
+      → ¬ IsAdmitted space words member
+  admitted_without_its_rendez words other admitted = other admitted.row
 
 -- ---- a fork
 

@@ -2,7 +2,7 @@
 -- the calls of a pool say.
 use Rattle.std.proofs.Common.{◌≡◌, ◌≢◌, ◌⊎◌, ◌<◌, ℕ, false, [], ◌∷◌, length, inl, inr}
 use Rattle.std.proofs.Common.{ap, arith, Option, Some, None}
-use Rattle.kernel_lock.specs.Seats.{number_of, account_of, given_of, limit_of}
+use Rattle.kernel_lock.specs.Seats.{number_of, account_of, given_of, limit_of, Splits}
 use Rattle.sync_base.specs.declared.fault.Fault.{Fault}
 use Rattle.sync_base.specs.declared.fault.Fault.TheVariants as fault
 use Rattle.sleep_wakeup.specs.Forks.{HasPid}
@@ -18,7 +18,7 @@ use Rattle.plan9.specs.declared.vacant.Unseated.{Unseated}
 use Rattle.plan9.specs.Pools.{KnowsNoSeat, WhyNotJoined, ForksHolder, Forking, WhyNoFork}
 use Rattle.plan9.specs.Pools.{IsFilled, AreHolders, MayHold, ForksOneMore, StopsForking, forking}
 use Rattle.plan9.specs.Pools.{Gathering, AsksTooMany, LacksMemory, HasNoFirst, HasTooFew}
-use Rattle.plan9.specs.Pools.{WhyNoHolders}
+use Rattle.plan9.specs.Pools.{WhyNoHolders, IsFurtherVacancy}
 use Rattle.plan9.specs.Vacancies.{Vacancy}
 
 -- ---- the first
@@ -75,6 +75,15 @@ module _ (old new : Holding) where
   -- who holds has a seat of another semaphore
   seated_elsewhere : (IsSemaSeatOf old.sema old.seat → ⊥) → IsSeatedHolder old → ⊥
   seated_elsewhere other seated = other seated.seat_is
+
+  seated_without_its_rendez : (HasRow old.sema old.running.words → ⊥) → IsSeatedHolder old → ⊥
+  seated_without_its_rendez other seated = other seated.row
+
+  -- a seat is vacant that its parent did not give
+  vacant_and_not_given : (vacancy : Vacancy)
+      → (Splits old.sema.lock old.seat.seat new.seat.seat vacancy.seat.seat → ⊥)
+      → IsFurtherVacancy old new vacancy → ⊥
+  vacant_and_not_given vacancy none further = none further.given
 
   -- all seats were given, and the one that asked does not know it
   nobody_knows : given_of new.seat.seat < limit_of old.sema.lock → KnowsNoSeat old new → ⊥
@@ -183,9 +192,9 @@ module _ (vacancy : Vacancy) (running : Running) (holding : Holding) where
 -- ---- all at once
 
 module _ (at : Sema) (running : Running) (unused : Unused) (holding : Holding) where
-  -- one fewer than were asked for, one at another semaphore, and one of another kernel
-  one_too_few : AreHolders at running unused 2 (holding ∷ []) → ⊥
-  one_too_few are = let many : 1 ≡ 2 = are.count_is in omega (arith, many)
+  -- as many as were asked for, one at another semaphore, and one of another kernel
+  one_is_one : (count : ℕ) → AreHolders at running unused count (holding ∷ []) → 1 ≡ count
+  one_is_one count are = are.count_is
 
   one_elsewhere : holding.sema ≢ at → AreHolders at running unused 1 (holding ∷ []) → ⊥
   one_elsewhere other are = other are.at_sema.0

@@ -1,7 +1,7 @@
 -- What is no shared end, nobody who shares one and no turn: each against one row of what the calls
 -- of a shared end say.
-use Rattle.std.proofs.Common.{◌≡◌, ◌≢◌, ◌<◌, ◌≤◌, ℕ, true, List, [], Result, Ok, Err, IfErr}
-use Rattle.std.proofs.Common.{inl, inr, ⊎_elim, subst}
+use Rattle.std.proofs.Common.{◌≡◌, ◌≢◌, ◌<◌, ◌≤◌, ℕ, true, false, List, [], Result, Ok, Err}
+use Rattle.std.proofs.Common.{Bool, IfErr, inl, inr, ⊎_elim, subst}
 use Rattle.sync_base.specs.declared.fault.Fault.{Fault}
 use Rattle.sync_base.specs.declared.fault.Fault.TheVariants as fault
 use Rattle.sync_base.specs.declared.note.NoteSet.{NoteSet}
@@ -9,7 +9,12 @@ use Rattle.sync_base.specs.declared.ids.Pid.{Pid}
 use Rattle.rendez_words.specs.Steps.{notes, drains}
 use Rattle.rendez_words.specs.Words.{procs_of}
 use Rattle.sleep_wakeup.specs.Kernel.{Running, Unused, HasRendez, rendez_less}
+use Rattle.semaphore.specs.Acquiring.{Semacquires}
 use Rattle.semaphore.specs.Opening.{WhyNotOpened}
+use Rattle.semaphore.specs.Releasing.{Releases}
+use Rattle.block_queue.specs.Seats.{key_of}
+use Rattle.pipe_dev.specs.BlockReads.{ReadsBlock}
+use Rattle.pipe_dev.specs.ReadCalls.{Tries, calling, reader_of}
 use Rattle.sleep_core.specs.Limits.{IsProcCount}
 use Rattle.pipe_dev.specs.declared.answers.ReadAnswer.{ReadAnswer}
 use Rattle.pipe_dev.specs.declared.answers.ReadAnswer.TheVariants as read
@@ -21,7 +26,9 @@ use Rattle.plan9.specs.declared.pipes.Reader.{Reader}
 use Rattle.plan9.specs.declared.sharing.Shared.{Shared}
 use Rattle.plan9.specs.declared.sharing.Sharer.{Sharer}
 use Rattle.plan9.specs.declared.sharing.Unshared.{Unshared}
-use Rattle.plan9.specs.Pools.{Holding, IsNewPool, IsFirstHolder, ForksHolder, IsSameHolder}
+use Rattle.plan9.specs.Pools.{Holding, IsNewPool, IsFirstHolder, ForksHolder, IsSameHolder, got_now}
+use Rattle.plan9.specs.Pools.{holder_point}
+use Rattle.plan9.specs.Readings.{ReadsBy}
 use Rattle.plan9.specs.Sharings.{Buffers, IsNewShared, IsNotShared, IsFirstSharer, IsSameSharer}
 use Rattle.plan9.specs.Sharings.{ForksSharer, GivesTurnBack, AsksForTurn, AsksNow, CallsShared}
 use Rattle.plan9.specs.Sharings.{HasNoTurn, HasTurn, InTurn, PostsAsSharer, ReadsBlockOnce}
@@ -162,12 +169,30 @@ module _ (old new : Sharer) (buffer : Buffers) where
       → TriesInTurn old buffer (Ok (try.Got 3)) new → ⊥
   bytes_without_a_turn_now none turn = none turn.begun turn.asks
 
+  -- it is not yet there, and no turn was asked for
+  not_yet_without_asking : (AsksNow false old.holder new.holder → ⊥)
+      → ((begun : Holding) → AsksNow true old.holder begun → ⊥)
+      → TriesInTurn old buffer (Ok try.NotYet) new → ⊥
+  not_yet_without_asking not none (inl refused) = not refused.asks
+  not_yet_without_asking not none (inr turn) = none turn.begun turn.asks
+
   -- no turn was got, and its fault is another
   refused_for_another_fault : ((why : Fault) → AsksForTurn (Err why) old.holder new.holder → ⊥)
       → ((begun : Holding) → AsksForTurn (Ok tt) old.holder begun → ⊥)
       → InTurn ReadsOnce old buffer (Err fault.Worn) new → ⊥
   refused_for_another_fault not none (inl refused) = not fault.Worn refused.asks
   refused_for_another_fault not none (inr turn) = none turn.begun turn.asks
+
+module _ (old new : Holding) where
+  -- a unit is not given back, or one is asked for and waited for
+  no_unit_is_given_back : ((answer : Result ℕ Fault)
+      → Releases old.sema 1 (holder_point old) answer (holder_point new) → ⊥)
+      → GivesTurnBack old new → ⊥
+  no_unit_is_given_back none gives = none gives.answer gives.called
+
+  who_asks_now_waits : (has : Bool) → (Semacquires false old.sema (holder_point old) (got_now has)
+      (holder_point new) → ⊥) → AsksNow has old new → ⊥
+  who_asks_now_waits has waits asks = waits asks
 
 module _ (end : ReadSide) (old new : Holding) (Call : Reader → Reader → Type 0) where
   -- an end of another pipe lay there, or lies there then
@@ -205,6 +230,36 @@ module _ (old new : Reader) (buffer : Buffers) where
   no_bytes_are_tried none tries =
       subst (λ (answer : Result TryAnswer Fault). IfErr answer (λ why. ⊥))
       (tries.bad_count.1 none) tt
+
+  -- bytes are read, or tried, and the process knows not all Rendez
+  read_without_rendez : buffer.before ≢ [] → (HasRow old.proc.words old.end.row → ⊥)
+      → ReadsOnce buffer (Ok (read.Got 3)) old new → ⊥
+  read_without_rendez some none reads =
+      subst (λ (answer : Result ReadAnswer Fault). IfErr answer (λ why. ⊥))
+      ((reads.no_rendez some).1 none) tt
+
+  try_without_rendez : buffer.before ≢ [] → (HasRow old.proc.words old.end.row → ⊥)
+      → TriesOnce buffer (Ok (try.Got 3)) old new → ⊥
+  try_without_rendez some none tries =
+      subst (λ (answer : Result TryAnswer Fault). IfErr answer (λ why. ⊥))
+      ((tries.no_rendez some).1 none) tt
+
+  -- what was read, or tried, was not
+  no_bytes_were_read : (ReadsBy old buffer.before (Ok (read.Got 3)) new buffer.after → ⊥)
+      → ReadsOnce buffer (Ok (read.Got 3)) old new → ⊥
+  no_bytes_were_read none reads = none reads.reads
+
+  no_block_was_read : (ReadsBlock (key_of old.end.queue) old.end.row
+      (calling (reader_of old.end old.proc) buffer.before) (Ok read.End)
+      (calling (reader_of new.end new.proc) buffer.after) → ⊥)
+      → ReadsBlockOnce buffer (Ok read.End) old new → ⊥
+  no_block_was_read none reads = none reads.reads
+
+  nothing_was_tried : (Tries (key_of old.end.queue) old.end.row
+      (calling (reader_of old.end old.proc) buffer.before) (try.Got 3)
+      (calling (reader_of new.end new.proc) buffer.after) → ⊥)
+      → TriesOnce buffer (Ok (try.Got 3)) old new → ⊥
+  nothing_was_tried none tries = none tries.tries
 
   -- a block is read, and the process knows not all Rendez
   block_without_rendez : (HasRow old.proc.words old.end.row → ⊥)
