@@ -1,7 +1,7 @@
 //! The headline of pipes over threads, proved by a caller from the contracts of `pipe_dev` alone.
 //!
-//! Three writers and a reader, each on a thread of its own, have the ends of one direction of a
-//! pipe. They write and read, the direction is hung up, and all ends are given back. The one
+//! Up to three writers and a reader, each on a thread of its own, have the ends of one direction of
+//! a pipe. They write and read, the direction is hung up, and all ends are given back. The one
 //! contract is that of `run`: for each writer, what was read and what is still held is what was
 //! accepted of it, whole, in its order, contiguous and once.
 //! Read `writer`, `writing`, `reader`, `crew`; `settling`; and then `run`.
@@ -27,10 +27,10 @@ const MESSAGES: &[&[&[u8]]] = &[
     &[b"a frame of a window", b"and its size"],
 ];
 
-/// A copy of all messages, for the writers to have.
-fn copied(alloc: Global) -> Result<Vec<Vec<Piece>>, Fault> {
+/// A copy of the messages of so many, for the writers to have.
+fn copied(alloc: Global, writers: usize) -> Result<Vec<Vec<Piece>>, Fault> {
     let mut all = Vec::new(alloc);
-    for messages in MESSAGES {
+    for messages in MESSAGES.iter().take(writers) {
         let mut pieces = Vec::new(alloc);
         for message in *messages {
             pieces.push(Piece::of(Vec::from_slice(alloc, message)?))?;
@@ -49,12 +49,8 @@ fn count(pieces: &[Piece]) -> u64 {
     bytes
 }
 
-fn main(rt: HostRuntime) -> io::Result<()> {
-    let alloc = rt.alloc();
-    let told = match copied(alloc) {
-        Ok(messages) => run(&rt, alloc, 16, messages),
-        Err(fault) => Err(fault),
-    };
+/// Tells what came of a run.
+fn tell(rt: &HostRuntime, told: Result<Outcome, Fault>) -> io::Result<()> {
     match told {
         Ok(
             Outcome {
@@ -72,4 +68,17 @@ fn main(rt: HostRuntime) -> io::Result<()> {
         }
         Err(fault) => println!(rt; "the run failed: {fault}"),
     }
+}
+
+fn main(rt: HostRuntime) -> io::Result<()> {
+    let alloc = rt.alloc();
+    // For the first writer alone, for two and for all.
+    for writers in 1..=MESSAGES.len() {
+        let told = match copied(alloc, writers) {
+            Ok(messages) => run(&rt, alloc, 16, messages),
+            Err(fault) => Err(fault),
+        };
+        tell(&rt, told)?;
+    }
+    Ok(())
 }
