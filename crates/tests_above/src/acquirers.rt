@@ -1,5 +1,5 @@
-//! Eight processes that acquire and release units, with notes, time-outs and ticks between; a pool
-//! whose list of holders is refused memory; and the example of semacquire(2).
+//! Eight processes that acquire and release units, with notes, time-outs and ticks between; pools
+//! of each size, and one whose list of holders is refused memory; and the example of semacquire(2).
 ghost use Rattle.sleep_wakeup.specs.Starts.{IsStartOf};
 ghost use Rattle.semaphore.specs.Seats.{HasRow, IsSemaSeatOf, IsTimerSeatOf};
 
@@ -279,6 +279,25 @@ fn a_pool_that_is_refused_memory_has_all_its_seats(rt: HostRuntime) {
         assert!(rt; hold_two(&rt, rt.alloc(), &mut pool, &mut roster, proc).is_none());
     }
     assert_eq!(rt; roster.left(), (0, 1));
+}
+
+// A pool, all of whose processes hold.
+fn hold_all<R: Wait + Abort>(rt: &R, alloc: Global, count: u64) {
+    let OpenedKernel { kernel, start } = kernel_of(rt, alloc, count, count);
+    let Started { mut roster, proc } = kernel.start(start);
+    let mut pool = pool_of(rt, alloc, &mut roster, 0, count);
+    match pool.holders(alloc, rt, &mut roster, proc, count) {
+        Ok(holders) => assert_eq!(rt; holders.len() as u64, count),
+        Err(_) => panic!(rt; "no holders"),
+    }
+}
+
+// No size of the list is refused.
+#[test]
+fn all_processes_of_a_kernel_hold_at_each_size(rt: HostRuntime) {
+    for count in 1..=1_024 {
+        hold_all(&rt, rt.alloc(), count);
+    }
 }
 
 /// A process, a semaphore of one unit, and timers.
