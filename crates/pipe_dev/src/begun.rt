@@ -94,6 +94,7 @@ impl Begun {
 
     /// Makes the block that of the bytes that are left, and gives the memory that it had. Where a
     /// part was read the bytes move to the front of their memory, and else none moves.
+    #[inline(always)]
     pub(crate) fn hand_over(self, block: &mut Vec<u8>) -> Spare
         ensures { block.new.items ≡ self.bytes }
     {

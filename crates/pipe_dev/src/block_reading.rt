@@ -147,6 +147,7 @@ impl<'q> WaitingCall for BlockReading<'q> {
     }
 
     // What is left of a write that was begun, or else the next write, whose writers are woken.
+    #[inline(always)]
     fn ask<R: Wait>(
         &self,
         _rt: &R,

@@ -51,6 +51,7 @@ pub(crate) struct Step {
 }
 
 /// Reads part by part: in message mode one, and in stream mode as far as the buffer has room.
+#[inline(always)]
 pub(crate) fn fill(queue: &Queue, row: &Row, cursor: ReadCursor, buffer: &mut [u8]) -> Filled
     requires cursor { IsReadCursor queue.now row.now cursor }
     requires room { buffer.old ≢ [] }
@@ -101,6 +102,7 @@ pub(crate) fn fill(queue: &Queue, row: &Row, cursor: ReadCursor, buffer: &mut [u
 }
 
 // One part: of what is left of a write that was begun, or else of the next write.
+#[inline(always)]
 fn take_part(queue: &Queue, row: &Row, cursor: ReadCursor, room: &mut [u8]) -> Step
     requires cursor { IsReadCursor queue.now row.now cursor }
     ensures cursor { IsReadCursor queue.now row.now result.cursor }

@@ -232,6 +232,7 @@ fn read_on<R: Wait>(
 }
 
 // One request: a try.
+#[inline(always)]
 fn ask_for_bytes(
     queue: &Queue,
     row: &Row,
@@ -315,6 +316,7 @@ fn answer_to(came: Came) -> TryAnswer
 
 // One try: what is left of a write that was begun, or else the next write, and so on as far as it
 // goes. Then it wakes each writer with the number of the last write that it took out.
+#[inline(always)]
 fn try_with(
     queue: &Queue,
     row: &Row,

@@ -168,6 +168,7 @@ impl<'q> WaitingCall for Writing<'q> {
     }
 
     // A put; where it was accepted the reader is woken with its number.
+    #[inline(always)]
     fn ask<R: Wait>(&self, rt: &R, proc: &mut Proc<'_>, putting: &mut Putting) -> Reply<u64> {
         let Some(block) = putting.block.take() else {
             unreachable!()
