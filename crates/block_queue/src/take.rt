@@ -48,6 +48,7 @@ impl Queue {
     /// Answers `End` where the queue is hung up and all that was accepted is taken out, `NotYet`
     /// where no block is left or the put of the next one has not returned, and else `Block`. A seat
     /// that knew of the hangup is answered `NotYet` only while a block is left.
+    #[inline(always)]
     pub fn take(&self, seat: &mut TakeSeat) -> TakeAnswer
         requires seat { IsTakeSeatOf self.now seat.old }
         ensures seat { IsTakeSeatOf self.now seat.new }
@@ -67,6 +68,7 @@ impl Queue {
     ///
     /// It has a quick look at the place before point 1. Where the block stands there, both points
     /// are passed and neither word is loaded again.
+    #[inline(always)]
     pub fn take_probed<P: Probe>(&self, seat: &mut TakeSeat, probe: &mut P) -> TakeAnswer
         requires seat { IsTakeSeatOf self.now seat.old }
         ensures seat { IsTakeSeatOf self.now seat.new }
@@ -87,6 +89,7 @@ impl Queue {
 
     // Where a quick look finds the next block it comes out, and the tail is left to the writers.
     // Else the tail says whether the queue has ended, and the block may stand since.
+    #[inline(always)]
     pub(crate) fn take_next<P: Probe>(
         &self,
         stepper: &mut Stepper,
