@@ -8,6 +8,7 @@ mod SpaceLemmas
 mod PromiseLemmas
 mod WaitLemmas
 mod WorkedSpaces
+mod WorkedTables
 mod OtherLemmas
 pub mod AskLemmas
 mod CountLemmas

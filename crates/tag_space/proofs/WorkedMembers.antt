@@ -1,13 +1,16 @@
 -- What a member has and keeps, each against one row: another's Rendez; and what a joined member
 -- knows.
-use Rattle.std.proofs.Common.{◌≡◌, ◌≢◌, ◌<◌, ◌+◌, arith}
+use Rattle.std.proofs.Common.{◌≡◌, ◌≢◌, ◌<◌, ◌+◌, [], arith}
 use Rattle.std.specs.Prelude.{max}
-use Rattle.kernel_lock.specs.Seats.{given_of}
+use Rattle.histories.specs.Account.{KnowsHistory}
+use Rattle.kernel_lock.specs.Seats.{given_of, IsSeatOf}
 use Rattle.rendez_words.specs.declared.words.Words.{Words}
 use Rattle.rendez_words.specs.Words.{rendez_of}
 use Rattle.tag_space.specs.declared.member.Member.{Member}
 use Rattle.tag_space.specs.declared.space.TagSpace.{TagSpace}
-use Rattle.tag_space.specs.Members.{HasRow, IsSameMember}
+use Rattle.tag_space.specs.Members.{HasRow, IsOneOf, IsSameMember, number_of, account_of}
+use Rattle.tag_space.specs.Members.{space_of}
+use Rattle.tag_space.specs.Rendezvous.{rendezvous}
 use Rattle.tag_space.specs.Spaces.{JoinsMembers}
 
 module _ (space : TagSpace) where
@@ -15,6 +18,12 @@ module _ (space : TagSpace) where
   a_row_beyond_the_words : (words : Words) → rendez_of words < space.first.0 + space.procs
       → HasRow space words → ⊥
   a_row_beyond_the_words words fewer row = omega (arith, fewer, row)
+
+  each_member_has_its_own_rendez : (member : Member) → IsOneOf space member
+      → IsSeatOf space.lock member.seat
+      × KnowsHistory (rendezvous (space_of space)) [] space.procs (account_of member)
+      × (member.rendez.0 ≡ space.first.0 + number_of member)
+  each_member_has_its_own_rendez member one = (one.seat, one.history, one.rendez)
 
 module _ (before after second joined : Member) where
   -- a member of the same number sleeps in another Rendez

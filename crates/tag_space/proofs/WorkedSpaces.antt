@@ -1,5 +1,5 @@
 -- Short histories of tag spaces, computed, and for each promise a history that would break it.
-use Rattle.std.proofs.Common.{◌≡◌, ℕ, List, [], ◌∷◌, refl, ap, arith, Some}
+use Rattle.std.proofs.Common.{◌≡◌, ℕ, List, [], ◌∷◌, refl, ap, arith, Some, inl, inr}
 use Rattle.histories.specs.History.{IsLegal}
 use Rattle.tag_space.specs.declared.calls.GroupCall.{GroupCall}
 use Rattle.tag_space.specs.declared.calls.GroupCall.TheVariants.{Call, Collect, Leave}
@@ -12,7 +12,10 @@ use Rattle.tag_space.specs.Group.{group, member_of}
 use Rattle.tag_space.specs.Rendezvous.{Entry, Space, Offer, Pair, stage_of, pairs_of, count_of}
 use Rattle.tag_space.specs.Rendezvous.Stage.{Over, Waits, Paired}
 use Rattle.tag_space.specs.Rendezvous.{rendezvous, last_wait}
-use Rattle.tag_space.specs.Promises.{AreMeetings, MeetsOnce, WaitApart, IsAlone}
+use Rattle.tag_space.specs.Laws.{IsToldOf}
+use Rattle.tag_space.specs.Outcome.{IsInPair}
+use Rattle.tag_space.specs.Promises.{AreMeetings, IsMeeting, IsMade, MeetsOnce, WaitApart}
+use Rattle.tag_space.specs.Promises.{IsAlone}
 use Rattle.tag_space.proofs.SpaceLemmas.{groups_are_spaces}
 
 -- a member's own call, answered so
@@ -229,11 +232,24 @@ another_value_told legal =
 
 -- ---- histories that break a promise: no space has them
 
+the_first_call_has_the_number_0 : (entry : Entry) (first : Offer) → IsMade (entry ∷ []) first
+    → first.number ≡ 0
+the_first_call_has_the_number_0 entry first (inl made) = made.0
+the_first_call_has_the_number_0 entry first (inr none) = absurd none
+
+who_is_told_has_called : (past : List Entry) (member : ℕ) (told : IsToldOf past member 9)
+    → (told.offer.member ≡ member) × IsInPair past told.offer 9
+who_is_told_has_called past member told = (told.mine, told.in_pair)
+
+a_meeting_is_of_two_calls : (history : List Entry) (pair : Pair) → IsMeeting history pair
+    → IsMade history pair.waiting × IsMade history pair.finding
+a_meeting_is_of_two_calls history pair is = (is.waiting, is.finding)
+
 last_wait_of_who_left : last_wait one_left 0 ≡ Some (offer 0 0 7 5)
 last_wait_of_who_left = refl
 
 two_tags_meet : AreMeetings (told (gives 1 8 9) (Met 5 0 1) ∷ one_waits) → ⊥
-two_tags_meet meetings = omega (arith, meetings.0.tags)
+two_tags_meet meetings = let same : 7 ≡ 8 = meetings.0.tags in omega (arith, same)
 
 one_meets_itself : AreMeetings (told (gives 0 7 9) (Met 5 0 1) ∷ one_waits) → ⊥
 one_meets_itself meetings = meetings.0.members refl
@@ -243,7 +259,8 @@ one_meets_twice once = once.0.1.0 refl
 
 two_wait_with_a_tag : WaitApart (told (gives 1 7 9) (Wait 0) ∷ one_waits) → ⊥
 two_wait_with_a_tag apart =
-    omega (arith, apart 0 1 (offer 0 0 7 5) (offer 1 1 7 9) refl refl refl)
+    let same : 0 ≡ 1 = apart 0 1 (offer 0 0 7 5) (offer 1 1 7 9) refl refl refl in
+    omega (arith, same)
 
 one_meets_who_left : IsAlone (told (gives 1 7 9) (Met 5 0 1) ∷ one_left) 0 → ⊥
 one_meets_who_left alone = alone.0 refl
