@@ -2,7 +2,7 @@
 -- against one row.
 use Rattle.std.proofs.Common.{◌≡◌, ◌≢◌, ◌⊎◌, ◌<◌, ◌+◌, ℕ, Bool, true, false, List, [], ◌∷◌, length}
 use Rattle.std.proofs.Common.{Some, None, Result, Ok, Err, inl, inr, refl, sym, ap, ◌∙◌, subst}
-use Rattle.std.proofs.Common.{arith}
+use Rattle.std.proofs.Common.{arith, not}
 use Rattle.std.proofs.lemmas.List.{length-append}
 use Rattle.histories.specs.declared.account.Account.{Account}
 use Rattle.kernel_lock.specs.Seats.{number_of, seen_of, opening_of}
@@ -34,6 +34,7 @@ use Rattle.semaphore.specs.Acquiring.{Begins, Collects, Leaves, Waits, AsksNow, 
 use Rattle.semaphore.specs.Acquiring.{acquiring}
 use Rattle.semaphore.specs.Asking.{Asks, OnlyAsks, AsksTimers, AsksBoth, AsksRelease, now_reply}
 use Rattle.semaphore.specs.Asking.{wake_next, wake_reply, cancel_reply, expire_reply}
+use Rattle.semaphore.specs.Asking.{IsTold, IsTimed}
 use Rattle.semaphore.specs.Definitions.{timer_definition}
 use Rattle.semaphore.specs.Releasing.{HasReleased, HasWoken, Releases, WakesOneMore}
 use Rattle.semaphore.specs.Seats.{IsSeatAt, IsSeatAtTimers, rendez_of_seat, units_given}
@@ -41,6 +42,9 @@ use Rattle.semaphore.specs.SemaHistory.{SemaEntry}
 use Rattle.semaphore.specs.SemaLaws.{AlwaysHolds}
 use Rattle.semaphore.specs.Ticking.{ExpiresOneMore, FindsNone, Tells, Ticks}
 use Rattle.semaphore.specs.TimerHistory.{TimerEntry, WasTaken}
+use Rattle.semaphore.specs.Timers.{may_add, timer_of}
+use Rattle.semaphore.specs.Timers as timing
+use Rattle.semaphore.specs.Units.{IsSound, is_idle, stage_of, answer_to}
 use Rattle.semaphore.specs.Timing.{AcquiresInTime, AwaitsTick, Awaiting, BegunAtOnce, Keeps}
 use Rattle.semaphore.specs.Timing.{Looks, LooksForTick, IsEndedByNotes, PutsBackAny, TimedPoint}
 use Rattle.semaphore.specs.Timing.{WaitsInTime}
@@ -235,6 +239,22 @@ both_add sema call first second before after both =
     let one = asking_adds sema false call first before both.between both.asked_first in
     let two = asking_adds sema false NextWake second both.between after both.asked_second in
     omega (arith, one, two)
+
+-- ---- what a request finds
+
+module _ (procs number : ℕ) (waits : Bool) where
+  a_reply_answers_some_state : (call : SemaCall) (reply : SemaReply)
+      (is : IsTold procs number waits call reply) → IsSound is.state
+      × (length is.state.stages ≡ procs) × (number < procs)
+      × (is_idle (stage_of is.state number) ≡ not waits) × (reply ≡ answer_to is.state call)
+  a_reply_answers_some_state call reply is =
+      (is.sound, is.size, is.within, is.idle, is.answer_is)
+
+  a_reply_answers_some_timers : (call : TimerCall) (reply : TimerReply)
+      (is : IsTimed procs number waits call reply) → (length is.state ≡ procs)
+      × (number < procs) × (may_add (timer_of is.state number) ≡ not waits)
+      × (reply ≡ timing.answer_to is.state call)
+  a_reply_answers_some_timers call reply is = (is.size, is.within, is.free, is.answer_is)
 
 -- ---- typed answers
 
@@ -438,6 +458,10 @@ another_note_was_taken (inr none) = none
 another_took_its : ¬ HasTaken (Left 4 (Some (only Expired)) ∷ []) 5
 another_took_its (inl it) = let four : 4 ≡ 5 = it.0 in omega (arith, four)
 another_took_its (inr none) = none
+
+another_took_its_without_a_sleep : ¬ HasTaken (Drained 6 (only Expired) ∷ []) 5
+another_took_its_without_a_sleep (inl it) = let six : 6 ≡ 5 = it.0 in omega (arith, six)
+another_took_its_without_a_sleep (inr none) = none
 
 a_sleep_that_ends_well_takes_none : ¬ HasTaken (Left 5 None ∷ []) 5
 a_sleep_that_ends_well_takes_none taken = taken

@@ -1,6 +1,6 @@
 -- What no new semaphore is, no new timers are and no reason to refuse them: each against one row of
 -- what their constructors say.
-use Rattle.std.proofs.Common.{◌≡◌, ◌≤◌, ◌<◌, ℕ, length, ap, arith}
+use Rattle.std.proofs.Common.{◌≡◌, ◌≢◌, ◌≤◌, ◌<◌, ℕ, length, ap, arith}
 use Rattle.histories.specs.declared.account.Account.{Account}
 use Rattle.kernel_lock.specs.Seats.{gave_of}
 use Rattle.sync_base.specs.declared.fault.Fault.TheVariants as fault
@@ -22,17 +22,17 @@ use Rattle.semaphore.specs.Units.{IsSemaRange}
 -- ---- a semaphore
 
 module _ (roster : Unused) (sema : Sema) (seat : SemaSeat) where
-  -- it has a unit more than it was asked for
-  a_unit_too_many : opening_value sema ≡ 2 → IsNewSema roster 1 3 sema seat → ⊥
-  a_unit_too_many two new = let value = new.value_is in omega (arith, two, value)
+  -- it has a unit more than it was asked for, or none
+  another_value : opening_value sema ≢ 1 → IsNewSema roster 1 3 sema seat → ⊥
+  another_value other new = other new.value_is
 
-  -- it serves a process fewer
-  a_process_too_few : sema.procs ≡ 2 → IsNewSema roster 1 3 sema seat → ⊥
-  a_process_too_few two new = let procs = new.procs_are in omega (arith, two, procs)
+  -- it serves a process fewer, or one more
+  another_count : sema.procs ≢ 3 → IsNewSema roster 1 3 sema seat → ⊥
+  another_count other new = other new.procs_are
 
-  -- its row begins before the next Rendez
-  a_row_that_was_given : sema.first < roster.rendez → IsNewSema roster 1 3 sema seat → ⊥
-  a_row_that_was_given low new = let first = new.first_is in omega (arith, low, first)
+  -- its row begins before the next Rendez, or after it
+  another_row : sema.first ≢ roster.rendez → IsNewSema roster 1 3 sema seat → ⊥
+  another_row other new = other new.first_is
 
   -- its row is none of the kernel's
   a_row_of_no_kernel : (HasRow sema roster.words → ⊥) → IsNewSema roster 1 3 sema seat → ⊥
@@ -99,9 +99,9 @@ module _ (roster : Unused) (value procs : ℕ) where
 -- ---- timers
 
 module _ (timers : Timers) (seat : TimerSeat) (procs : ℕ) where
-  -- they serve a process fewer
-  timers_for_too_few : timers.procs ≡ 2 → AreNewTimers 3 timers seat → ⊥
-  timers_for_too_few two new = let are = new.procs_are in omega (arith, two, are)
+  -- they serve a process fewer, or one more
+  timers_for_another_count : timers.procs ≢ 3 → AreNewTimers 3 timers seat → ⊥
+  timers_for_another_count other new = other new.procs_are
 
   -- their first seat is another's
   a_timer_of_another : (IsTimerSeatOf timers seat → ⊥) → AreNewTimers 3 timers seat → ⊥

@@ -1,7 +1,7 @@
 -- What is no lock of a semaphore or of timers, and no seat of them: each against one row.
-use Rattle.std.proofs.Common.{◌≡◌, ◌≢◌, ◌<◌, ◌≤◌, ◌+◌, ◌^◌, ℕ, Bool, true, false, List, [], ◌∷◌}
-use Rattle.std.proofs.Common.{Option, Some, length, refl, ap, sym, ◌∙◌, arith}
-use Rattle.std.specs.Prelude.{replicate}
+use Rattle.std.proofs.Common.{◌≡◌, ◌≢◌, ◌<◌, ◌≤◌, ◌+◌, ◌*◌, ◌^◌, ℕ, Bool, true, false, List}
+use Rattle.std.proofs.Common.{[], ◌∷◌, Option, Some, length, refl, ap, sym, ◌∙◌, arith}
+use Rattle.std.specs.Prelude.{replicate, count_by, slice_index_or}
 use Rattle.rendez_words.specs.declared.words.Words.{Words}
 use Rattle.rendez_words.specs.Words.{rendez_of}
 use Rattle.kernel_lock.specs.declared.locked.Locked.{Locked}
@@ -24,12 +24,12 @@ use Rattle.semaphore.specs.declared.timers.Timers.{Timers}
 use Rattle.semaphore.specs.declared.timers.TimerSeat.{TimerSeat}
 use Rattle.semaphore.specs.Definitions.{sema_definition, timer_definition}
 use Rattle.semaphore.specs.Opening.{IsSemaLock, IsTimerLock}
-use Rattle.semaphore.specs.SeatLine.{IsRing}
+use Rattle.semaphore.specs.SeatLine.{IsRing, IsLinked, AreSeats, stands_in}
 use Rattle.semaphore.specs.Seats.{IsSeatAt, IsSeatAtTimers, IsTimerSet, HasRow, is_waiting}
 use Rattle.semaphore.specs.Seats.{own_of}
 use Rattle.semaphore.specs.SemaHistory.{SemaEntry, taken}
 use Rattle.semaphore.specs.TimerHistory.{has_timer}
-use Rattle.semaphore.specs.Tournament.{IsTournament}
+use Rattle.semaphore.specs.Tournament.{IsTournament, IsWon}
 use Rattle.semaphore.specs.Units.{SemaState}
 use Rattle.semaphore.proofs.Broken.{entry}
 
@@ -110,9 +110,26 @@ the_units_of_a_seat = (refl, refl)
 
 -- ---- sizes
 
-a_ring_of_too_many : (next prev : List ℕ) (stands : List Bool) → ¬ (length stands < 2 ^ 32)
-    → ¬ IsRing next prev stands 1
-a_ring_of_too_many next prev stands many ring = many ring.few
+no_seat_stands_after_the_last : ¬ AreSeats 2 (2 ∷ [])
+no_seat_stands_after_the_last are = let below = are.0 in omega (arith, below)
 
-a_tournament_of_too_many : (nodes : List (Option Due)) → ¬ IsTournament (2 ^ 32) nodes
-a_tournament_of_too_many nodes tournament = let few = tournament.few in omega (arith, few)
+-- the links lead from behind two seats in line to the first, the second, and back
+two_seats_are_linked : IsLinked (1 ∷ 2 ∷ 0 ∷ []) (2 ∷ 0 ∷ 1 ∷ []) 2 (0 ∷ 1 ∷ []) 2
+two_seats_are_linked = (refl, (refl, (refl, (refl, (refl, refl)))))
+
+module _ (next prev : List ℕ) (stands : List Bool) (ring : IsRing next prev stands 1) where
+  a_ring_has_room_for_each : (length stands < 2 ^ 32) × (length next ≡ length stands + 1)
+      × (length prev ≡ length stands + 1) × AreSeats (length stands) ring.order
+  a_ring_has_room_for_each = (ring.few, ring.next_size, ring.prev_size, ring.seats)
+
+  a_ring_holds_who_stands : (length ring.order ≡ 1) × (count_by (λ stand. stand) stands ≡ 1)
+      × IsLinked next prev (length stands) ring.order (length stands)
+      × ((seat : ℕ) → seat < length stands
+      → slice_index_or stands seat false ≡ stands_in ring.order seat)
+  a_ring_holds_who_stands = (ring.many, ring.counted, ring.linked, ring.told)
+
+a_tournament_has_two_nodes_for_each : (entrants : ℕ) (nodes : List (Option Due))
+    → IsTournament entrants nodes → (1 ≤ entrants) × (entrants < 2 ^ 32)
+    × (length nodes ≡ 2 * entrants)
+    × ((place : ℕ) → 1 ≤ place → place < entrants → IsWon nodes place)
+a_tournament_has_two_nodes_for_each entrants nodes is = (is.some, is.few, is.size, is.won)

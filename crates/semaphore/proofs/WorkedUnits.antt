@@ -1,9 +1,9 @@
 -- Runs of semaphores and timers, computed from the definitions alone, and histories that are none.
-use Rattle.std.proofs.Common.{◌≡◌, ◌⊎◌, ◌<◌, ◌+◌, ℕ, false, List, [], ◌∷◌, length, inl, inr, refl}
-use Rattle.std.proofs.Common.{arith}
+use Rattle.std.proofs.Common.{◌≡◌, ◌⊎◌, ◌<◌, ◌≤◌, ◌+◌, ℕ, true, false, List, [], ◌∷◌, length}
+use Rattle.std.proofs.Common.{inl, inr, refl, arith}
 use Rattle.histories.specs.History.{state_after, IsLegal}
 use Rattle.semaphore.specs.declared.limits.TheConstants.{MAX_VALUE, LAST_GRANT}
-use Rattle.semaphore.specs.declared.sema_object.Stage.TheVariants.{Idle, Granted}
+use Rattle.semaphore.specs.declared.sema_object.Stage.TheVariants.{Idle, Waiting, Granted}
 use Rattle.semaphore.specs.declared.sema_object.SemaCall.{SemaCall}
 use Rattle.semaphore.specs.declared.sema_object.SemaCall.TheVariants.{Acquire, AcquireNow, Release}
 use Rattle.semaphore.specs.declared.sema_object.SemaCall.TheVariants.{NextWake, Collect, Leave}
@@ -16,9 +16,10 @@ use Rattle.semaphore.specs.declared.timer_object.TimerCall.TheVariants.{Add, Exp
 use Rattle.semaphore.specs.declared.timer_object.TimerReply.{TimerReply}
 use Rattle.semaphore.specs.declared.timer_object.TimerReply.TheVariants as told
 use Rattle.sync_base.specs.declared.ids.Pid.{Pid}
-use Rattle.semaphore.specs.Units.{SemaState, opening, answer_to, after, passed, grants_of}
+use Rattle.semaphore.specs.Units.{SemaState, IsSound, opening, answer_to, after, passed, grants_of}
+use Rattle.semaphore.specs.Units.{stage_of}
 use Rattle.semaphore.specs.Timers as timers
-use Rattle.semaphore.specs.SeatLine.{stands_in}
+use Rattle.semaphore.specs.SeatLine.{stands_in, AreSeats}
 use Rattle.semaphore.specs.SemaHistory.{SemaEntry, sema_meaning, released, taken, collected}
 use Rattle.semaphore.specs.SemaHistory.{uncollected, last_named}
 use Rattle.semaphore.specs.SemaLaws.{UnitsAddUp, NobodyWaitsForNothing, EachGrantIsNamed}
@@ -117,6 +118,21 @@ no_release_passes_the_limit legal = let clash : reply.Value 2147483648 ≡ reply
 no_refused_release_adds : IsLegal sema_meaning (opening 0 3 0) adds_what_it_refused → ⊥
 unfolding passed
 no_refused_release_adds legal = let clash : reply.Acquired ≡ reply.NotNow = legal.0.reply in cc
+
+-- ---- a state that a semaphore can be in
+
+module _ (s : SemaState) (sound : IsSound s) where
+  a_sound_state_has_its_sizes : (s.value ≤ MAX_VALUE) × (length s.grants ≡ length s.stages)
+      × AreSeats (length s.stages) s.waiters × AreSeats (length s.stages) s.unnamed
+  a_sound_state_has_its_sizes = (sound.value, sound.counted, sound.waiters, sound.unnamed)
+
+  who_stands_in_line_waits : (seat : ℕ)
+      → (stands_in s.waiters seat ≡ true → stage_of s seat ≡ Waiting)
+      × (stage_of s seat ≡ Waiting → stands_in s.waiters seat ≡ true)
+      × (stands_in s.waiters seat ≡ true → grants_of s seat < LAST_GRANT)
+      × (grants_of s seat ≤ LAST_GRANT)
+  who_stands_in_line_waits seat =
+      (sound.waits seat, sound.stands seat, sound.may_wait seat, sound.fits seat)
 
 -- ---- what the laws forbid of three seats and one unit
 
