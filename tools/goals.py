@@ -2,13 +2,14 @@
 import re
 
 CLAUSE = "a clause of the edited function, what it ensures"
-ANSWERED_CLAUSE = "such a clause, whose answer, written by hand, is no proof of it any more"
-ANSWER = "another goal of that function whose answer is no proof of it any more"
+ANSWERED_CLAUSE = "a clause whose answer, written by hand, is no proof of it any more"
+ANSWER = "another goal whose answer is no proof of it any more"
 LAW = "a lemma, an example or a law, where a definition is edited"
 CALLED = "what a function requires that the edited one calls"
 LOOP = "the invariant of a loop, which carries a clause"
 TYPE = "the invariant of a type"
-OTHER = "that no number is out of its range, and nothing else"
+OTHER = "that a number is in its range, or a place is not reached, and nothing else"
+# Of those that refuse a function the first of these counts.
 STRONGEST = [CLAUSE, LOOP, TYPE, CALLED, ANSWERED_CLAUSE, ANSWER, OTHER]
 # Refused, and the prover names no goal.
 NONE = ("no goal that is named", "-")
