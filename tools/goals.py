@@ -17,7 +17,7 @@ NONE = ("no goal that is named", "-")
 EMPTY = [("does not cover", "the borrow checker does not cover the edited function"),
          ("no proof: expected proof", "a proof file has another form than the edited function wants"),
          ("is not in scope", "it names what is not there"), ("has no field", "it names what is not there"),
-         ("that can be named from here", "an answer is to a goal that is not there"),
+         ("that can be named from here", "an answer is to a goal that is not there"), ("(nearest: ", "an answer names what is not there"),
          ("could not tell", "a limit of the prover came first"), ("ran out of", "a limit of the prover came first"),
          ("limit (", "a limit of the prover came first")]
 # By the first letters of a goal, and where none fits, by what stands in it.
