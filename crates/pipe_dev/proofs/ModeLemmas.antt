@@ -336,10 +336,11 @@ in_mode : (mode : Mode) (OfMessages OfStream : Type 0) → (mode ≡ Message →
 in_mode Message OfMessages OfStream of_messages of_stream = of_messages refl
 in_mode Stream OfMessages OfStream of_messages of_stream = of_stream
 
-tries_in_mode : (key : Key) (row : Row) (old : Calling) (count : ℕ) (why : Stop) (told : Found)
+-- what a try tells a read
+asks_in_mode : (key : Key) (row : Row) (old : Calling) (count : ℕ) (why : Stop) (told : Found)
     (new : Calling) → found_at count why ≡ told → TriesOn key row old (came_to count why) new
-    → Tries key row old (answer_of told) new
-tries_in_mode key row old count why (found.Got got) new is tried =
+    → AsksForBytes key row old (told_by told) new
+asks_in_mode key row old count why (found.Got got) new is tried =
     let said = got_at count why got is in
     let gives : GivesBytes key row old got new = record {
       why = why;
@@ -348,39 +349,12 @@ tries_in_mode key row old count why (found.Got got) new is tried =
     } in
     in_mode row.mode (Gets key row old got new) (GivesBytes key row old got new)
     (λ mode. message_bytes key row old got new mode gives) gives
-tries_in_mode key row old count why (found.NotYet number) new is tried =
-    let none = subst (λ (c : Came). TriesOn key row old c new)
-    (not_yet_at count why number is) tried in
-    in_mode row.mode (IsNotYet key old.reader new.reader × (new.buffer ≡ old.buffer))
-    (IsNotYetOn key row old new)
-    (λ mode. let said = message_not_yet key row old 0 number new mode none in (
-      record { number = number; found = said.found },
-      said.buffer,
-    ))
-    (record { number = number; tried = none })
-tries_in_mode key row old count why found.End new is tried =
+asks_in_mode key row old count why found.End new is tried =
     let none = subst (λ (c : Came). TriesOn key row old c new)
     (end_at count why is) tried in
     in_mode row.mode (FindsEnd key old.reader new.reader × (new.buffer ≡ old.buffer))
     (TriesOn key row old (came_to 0 stop.End) new)
     (λ mode. let said = message_end key row old 0 new mode none in (said.found, said.buffer)) none
-
--- a read that does not wait
-pub tries_by_mode : (key : Key) (row : Row) (old : Calling) (came : Came) (answer : TryAnswer)
-    (new : Calling) → TriesOn key row old came new → answer ≡ answer_of (found_of came)
-    → Tries key row old answer new
-tries_by_mode key row old came answer new tried is =
-    subst (λ (a : TryAnswer). Tries key row old a new) (sym is)
-    (tries_in_mode key row old came.count came.stop (found_of came) new refl tried)
-
--- what a try tells a read that waits
-asks_in_mode : (key : Key) (row : Row) (old : Calling) (count : ℕ) (why : Stop) (told : Found)
-    (new : Calling) → found_at count why ≡ told → TriesOn key row old (came_to count why) new
-    → AsksForBytes key row old (told_by told) new
-asks_in_mode key row old count why (found.Got got) new is tried =
-    tries_in_mode key row old count why (found.Got got) new is tried
-asks_in_mode key row old count why found.End new is tried =
-    tries_in_mode key row old count why found.End new is tried
 asks_in_mode key row old count why (found.NotYet number) new is tried =
     let none = subst (λ (c : Came). TriesOn key row old c new)
     (not_yet_at count why number is) tried in
@@ -389,23 +363,50 @@ asks_in_mode key row old count why (found.NotYet number) new is tried =
     (λ mode. let said = message_not_yet key row old 0 number new mode none in
     (said.found, said.buffer)) none
 
--- a read that waits
+-- one request of a read
 pub asks_by_mode : (key : Key) (row : Row) (old : Calling) (came : Came) (told : Found)
     (new : Calling) → TriesOn key row old came new → told ≡ found_of came
     → AsksForBytes key row old (told_by told) new
 asks_by_mode key row old came told new tried is =
     asks_in_mode key row old came.count came.stop told new (sym is) tried
 
+-- a read that does not wait is answered what its request is told
+pub tries_as_asked : (key : Key) (row : Row) (old : Calling) (told : Found) (answer : TryAnswer)
+    (new : Calling) → AsksForBytes key row old (told_by told) new → answer ≡ answer_of told
+    → Tries key row old answer new
+tries_as_asked key row old told answer new asked is =
+    subst (λ (a : TryAnswer). Tries key row old a new) (sym is) (by told asked)
+  where
+    of_none : (number : ℕ) (mode : Mode)
+        → InMode mode (FindsNotYet key number old.reader new.reader × (new.buffer ≡ old.buffer))
+        (TriesOn key row old (came_to 0 (stop.NotYet number)) new)
+        → InMode mode (IsNotYet key old.reader new.reader × (new.buffer ≡ old.buffer))
+        (IsNotYetOn key row old new)
+    of_none number Message said = (record { number = number; found = said.0 }, said.1)
+    of_none number Stream tried = record { number = number; tried = tried }
+
+    by : (told : Found) → AsksForBytes key row old (told_by told) new
+        → Tries key row old (answer_of told) new
+    by (found.Got count) asked = asked
+    by (found.NotYet number) asked = of_none number row.mode asked
+    by found.End asked = asked
+
 -- the number that it is told is low
-pub told_low : (key : Key) (row : Row) (old : Calling) (came : Came) (told : Found) (new : Calling)
-    → key.first ≡ 0 → TriesOn key row old came new → told ≡ found_of came → IsLow (told_by told)
-told_low key row old came (found.Got count) new first tried is = tt
-told_low key row old came found.End new first tried is = tt
-told_low key row old came (found.NotYet number) new first tried is =
-    let none = subst (λ (c : Came). TriesOn key row old c new)
-    (not_yet_at came.count came.stop number (sym is)) tried in
-    not_yet_low key number none.fills.filling.taker.account new.reader.account first
-    none.fills.stopped.1.nothing.entered
+pub told_low : (key : Key) (row : Row) (old : Calling) (told : Found) (new : Calling)
+    → key.first ≡ 0 → AsksForBytes key row old (told_by told) new → IsLow (told_by told)
+told_low key row old (found.Got count) new first asked = tt
+told_low key row old found.End new first asked = tt
+told_low key row old (found.NotYet number) new first asked = by row.mode asked
+  where
+    by : (mode : Mode)
+        → InMode mode (FindsNotYet key number old.reader new.reader × (new.buffer ≡ old.buffer))
+        (TriesOn key row old (came_to 0 (stop.NotYet number)) new)
+        → IsLow (told_by (found.NotYet number))
+    by Message said =
+        not_yet_low key number old.reader.account new.reader.account first said.0.none.entered
+    by Stream tried =
+        not_yet_low key number tried.fills.filling.taker.account new.reader.account first
+        tried.fills.stopped.1.nothing.entered
 
 -- a buffer with room stays one
 pub still_some : (xs ys : List ℕ) → length ys ≡ length xs → xs ≢ [] → ys ≢ []

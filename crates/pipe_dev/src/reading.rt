@@ -3,7 +3,7 @@ ghost use Rattle.std.specs.Prelude.{◌≡◌, ◌≢◌, ◌<◌, []};
 ghost use Rattle.sync_base.specs.declared.limits.TheConstants.{TOP_LEVEL};
 ghost use Rattle.block_queue.specs.Seats.{key_of};
 ghost use Rattle.pipe_dev.specs.Ends.{IsReadCursor};
-ghost use Rattle.pipe_dev.specs.ReadCalls.{AsksForBytes, IsAskedRead, Tries, TriesOn, reading};
+ghost use Rattle.pipe_dev.specs.ReadCalls.{AsksForBytes, IsAskedRead, Tries, reading};
 ghost use Rattle.pipe_dev.specs.ReadCalls.{calling, lent_at, reader_with};
 ghost use Rattle.pipe_dev.specs.ReadSteps.{answer_of, found_of, told_by, told_with};
 ghost use Rattle.pipe_dev.specs.Rendezes.{HasRow, reader_rendez};
@@ -130,12 +130,6 @@ struct Answered {
     answer: TryAnswer,
 }
 
-#[derive(Drop)]
-struct Tried {
-    cursor: ReadCursor,
-    came: Came,
-}
-
 // What a request of a read found.
 #[derive(Drop)]
 struct Asked {
@@ -231,7 +225,8 @@ fn read_on<R: Wait>(
     unreachable!()
 }
 
-// One request: a try.
+// One request, a try: what is left of a write that was begun, or else the next write, and so on as
+// far as it goes. Then it wakes each writer with the number of the last write that it took out.
 #[inline(always)]
 fn ask_for_bytes(
     queue: &Queue,
@@ -251,7 +246,10 @@ fn ask_for_bytes(
         (calling (reader_with cursor proc.old) buffer.old) (told_by result.found)
         (calling (reader_with result.cursor proc.new) buffer.new) }
 {
-    let Tried { cursor, came } = try_with(queue, row, cursor, proc, buffer);
+    let Filled { cursor, took, came } = fill(queue, row, cursor, buffer);
+    if let Some(number) = took {
+        wake_writers(proc, row, number);
+    }
     let found = found_by(came);
     Asked { cursor, found }
 }
@@ -298,44 +296,18 @@ fn try_once(
         (calling (reader_with cursor proc.old) buffer.old) result.answer
         (calling (reader_with result.cursor proc.new) buffer.new) }
 {
-    let Tried { cursor, came } = try_with(queue, row, cursor, proc, buffer);
-    let answer = answer_to(came);
+    let Asked { cursor, found } = ask_for_bytes(queue, row, cursor, proc, buffer);
+    let answer = answer_to(found);
     Answered { cursor, answer }
 }
 
 // What a read that does not wait is answered.
-fn answer_to(came: Came) -> TryAnswer
-    ensures { result ≡ answer_of (found_of came) }
+fn answer_to(found: Found) -> TryAnswer
+    ensures { result ≡ answer_of found }
 {
-    match found_by(came) {
+    match found {
         Found::Got(count) => TryAnswer::Got(count),
         Found::NotYet(_) => TryAnswer::NotYet,
         Found::End => TryAnswer::End,
     }
-}
-
-// One try: what is left of a write that was begun, or else the next write, and so on as far as it
-// goes. Then it wakes each writer with the number of the last write that it took out.
-#[inline(always)]
-fn try_with(
-    queue: &Queue,
-    row: &Row,
-    cursor: ReadCursor,
-    proc: &mut Proc<'_>,
-    buffer: &mut [u8],
-) -> Tried
-    requires cursor { IsReadCursor queue.now row.now cursor }
-    requires kernel { HasRow proc.old.words row.now }
-    requires room { buffer.old ≢ [] }
-    ensures cursor { IsReadCursor queue.now row.now result.cursor }
-    ensures words { proc.new.words ≡ proc.old.words }
-    ensures tried { TriesOn (key_of queue.now) row.now
-        (calling (reader_with cursor proc.old) buffer.old) result.came
-        (calling (reader_with result.cursor proc.new) buffer.new) }
-{
-    let Filled { cursor, took, came } = fill(queue, row, cursor, buffer);
-    if let Some(number) = took {
-        wake_writers(proc, row, number);
-    }
-    Tried { cursor, came }
 }

@@ -1,28 +1,47 @@
--- A try is what a read asks, in its mode.
+-- A try is what a read asks, in its mode; each writer was woken with the number of the last write
+-- that was taken out.
+use Rattle.std.proofs.Common.{sym, ◌∙◌, subst}
 use Rattle.block_queue.specs.Seats.{key_of}
+use Rattle.pipe_dev.specs.Filling.{last_number}
 use Rattle.pipe_dev.specs.ReadCalls.{calling, reader_with}
+use Rattle.pipe_dev.specs.Rendezes.{WakesWith}
 use Rattle.pipe_dev.proofs.ModeLemmas.{asks_by_mode, still_some, told_low}
 use Rattle.pipe_dev.proofs.reading.ask_for_bytes.Goals as goal
+use Rattle.pipe_dev.proofs.reading.ask_for_bytes.Goals.{in-Some, in_default}
 
 pub returns-clause-room : goal.returns-clause-room
 returns-clause-room c =
-    still_some c.args.buffer.now c.try_with-cursor.new.buffer c.try_with-cursor.auto.buffer
+    still_some c.args.buffer.now c.fill-cursor.new.buffer c.fill-cursor.auto.buffer
     c.requires.room
+
+pub returns-clause-asked : goal.returns-clause-asked
+returns-clause-asked c =
+    let filled = c.fill-cursor.ensures.filled in
+    let row = c.args.row.now in
+    let before = c.args.proc.now.process in
+    let last = last_number c.args.cursor.rest filled.fills.filling.parts in
+    asks_by_mode (key_of c.args.queue.now) row
+    (calling (reader_with c.args.cursor c.args.proc.now) c.args.buffer.now)
+    c.fill-cursor.result.came c.found_by-found.result
+    (calling (reader_with c.fill-cursor.result.cursor c.match-took.proc) c.fill-cursor.new.buffer)
+    (record {
+      fills = filled.fills;
+      woken = elim c.match-took.branch [
+        | in-Some w ↦ subst (λ p. WakesWith row last before p.process) (sym w.proc-is)
+            (subst (λ n. WakesWith row n before w.wake_writers.new.proc.process)
+            (sym w.in-Some.is ∙ filled.took)
+            w.wake_writers.ensures.woken)
+        | in_default w ↦ subst (λ p. WakesWith row last before p.process) (sym w.proc-is)
+            (subst (λ n. WakesWith row n before before) (sym w.in_default.is ∙ filled.took)
+            (λ i. before))
+      ];
+    })
+    c.found_by-found.ensures
 
 pub returns-clause-low : goal.returns-clause-low
 returns-clause-low c =
     told_low (key_of c.args.queue.now) c.args.row.now
     (calling (reader_with c.args.cursor c.args.proc.now) c.args.buffer.now)
-    c.try_with-cursor.result.came c.found_by-found.result
-    (calling (reader_with c.try_with-cursor.result.cursor c.try_with-cursor.new.proc)
-    c.try_with-cursor.new.buffer)
-    c.requires.cursor.row_is.first c.try_with-cursor.ensures.tried c.found_by-found.ensures
-
-pub returns-clause-asked : goal.returns-clause-asked
-returns-clause-asked c =
-    asks_by_mode (key_of c.args.queue.now) c.args.row.now
-    (calling (reader_with c.args.cursor c.args.proc.now) c.args.buffer.now)
-    c.try_with-cursor.result.came c.found_by-found.result
-    (calling (reader_with c.try_with-cursor.result.cursor c.try_with-cursor.new.proc)
-    c.try_with-cursor.new.buffer)
-    c.try_with-cursor.ensures.tried c.found_by-found.ensures
+    c.found_by-found.result
+    (calling (reader_with c.fill-cursor.result.cursor c.match-took.proc) c.fill-cursor.new.buffer)
+    c.requires.cursor.row_is.first (returns-clause-asked c)
