@@ -292,7 +292,6 @@ fn hold_all<R: Wait + Abort>(rt: &R, alloc: Global, count: u64) {
     }
 }
 
-// No size of the list is refused.
 #[test]
 fn all_processes_of_a_kernel_hold_at_each_size(rt: HostRuntime) {
     for count in 1..=1_024 {

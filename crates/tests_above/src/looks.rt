@@ -87,13 +87,6 @@ fn post_notes(rt: &impl Abort, proc: &mut Proc<'_>, rows: &[(u64, NoteSet)]) {
     }
 }
 
-// Raises these levels, where nobody sleeps.
-fn raise_levels(rt: &impl Abort, proc: &mut Proc<'_>, rows: &[(u64, u64)]) {
-    for (rendez, level) in rows {
-        assert!(rt; proc.wakeup(RendezId(*rendez), *level).is_ok());
-    }
-}
-
 // What a look shows that has room for four processes and three Rendez.
 fn shows_the_first(rt: &impl Abort, alloc: Global, kernel: &Kernel) -> bool {
     let mut procs = [ProcStatus::default(); ROOM];
@@ -111,6 +104,8 @@ fn a_look_shows_the_first_of_many(rt: HostRuntime) {
     let two = NoteSet::of(Note::Expired).join(NoteSet::of(Note::Hangup));
     let (one, other) = (NoteSet::of(Note::Interrupt), NoteSet::of(Note::Alarm));
     post_notes(&rt, &mut proc, &[(1, one), (3, two), (9, other)]);
-    raise_levels(&rt, &mut proc, &[(0, 5), (2, u64::MAX), (7, 9)]);
+    for (rendez, level) in [(0, 5), (2, u64::MAX), (7, 9)] {
+        assert!(rt; proc.wakeup(RendezId(rendez), level).is_ok());
+    }
     assert!(rt; shows_the_first(&rt, rt.alloc(), &kernel));
 }

@@ -38,11 +38,6 @@ fn postnote_page(rt: HostRuntime) {
     assert!(rt; driver.notes().is_empty());
 }
 
-// RFPROC and RFNOTEG.
-fn apart() -> Flags {
-    Flags::RFPROC.join(Flags::RFNOTEG)
-}
-
 fn made<'k>(rt: &impl Abort, roster: &mut Roster<'k>, by: &mut Proc<'k>, flags: Flags) -> Proc<'k> {
     match roster.rfork(by, flags) {
         Ok(Some(child)) => child,
@@ -58,7 +53,8 @@ fn postnote_page_of_groups(rt: HostRuntime) {
         mut proc,
     } = kernel.start(start);
     let mut first = made(&rt, &mut roster, &mut proc, Flags::RFPROC);
-    let mut second = made(&rt, &mut roster, &mut proc, apart());
+    let apart = Flags::RFPROC.join(Flags::RFNOTEG);
+    let mut second = made(&rt, &mut roster, &mut proc, apart);
     let mut third = made(&rt, &mut roster, &mut second, Flags::RFPROC);
     let alarm = NoteSet::of(Note::Alarm);
     assert_eq!(rt; roster.postnote_group(&mut proc, Pid(1), alarm), Ok(2));

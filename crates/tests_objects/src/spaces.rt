@@ -36,8 +36,8 @@ fn call(member: u64, tag: u64, value: u64) -> GroupCall {
     }
 }
 
-fn collect(member: u64) -> GroupCall {
-    GroupCall::Collect { member }
+fn was_met(value: u64) -> GroupReply {
+    GroupReply::WasMet { value }
 }
 
 fn met(value: u64, member: u64, count: u64) -> GroupReply {
@@ -46,10 +46,6 @@ fn met(value: u64, member: u64, count: u64) -> GroupReply {
         member,
         count,
     }
-}
-
-fn was_met(value: u64) -> GroupReply {
-    GroupReply::WasMet { value }
 }
 
 fn wait(count: u64) -> GroupReply {
@@ -61,7 +57,7 @@ fn two_meet_and_one_leaves(rt: HostRuntime) {
     let rows = [
         (call(0, 7, 5), wait(0)),
         (call(1, 7, 9), met(5, 0, 1)),
-        (collect(0), was_met(9)),
+        (GroupCall::Collect { member: 0 }, was_met(9)),
         (call(0, 7, 5), wait(1)),
         (GroupCall::Leave { member: 0 }, Gone),
         (call(1, 7, 9), wait(0)),
@@ -82,7 +78,7 @@ fn the_last_count_waits_no_more(rt: HostRuntime) {
     let rows = [
         (call(0, 7, 5), wait(18_446_744_073_709_551_613)),
         (call(1, 7, 9), met(5, 0, 18_446_744_073_709_551_614)),
-        (collect(0), was_met(9)),
+        (GroupCall::Collect { member: 0 }, was_met(9)),
         (call(0, 7, 1), Worn),
         (call(1, 8, 2), wait(18_446_744_073_709_551_613)),
         (call(0, 8, 3), met(2, 1, 18_446_744_073_709_551_614)),
