@@ -20,7 +20,7 @@ use Rattle.block_queue.specs.declared.queue_object.QueueReply.TheVariants as rep
 use Rattle.block_queue.specs.declared.entry.Entry.{Entry}
 use Rattle.block_queue.specs.History.{QueueState, opening_state, with_put}
 use Rattle.block_queue.specs.Meaning.{queue_meaning}
-use Rattle.block_queue.specs.QueueObject.{Kept, new_kept, last_number, queue_definition}
+use Rattle.block_queue.specs.QueueObject.{Contents, new_kept, last_number, queue_definition}
 use Rattle.block_queue.specs.QueueObject.{put_reply, take_reply, reply_to, after_reply}
 use Rattle.block_queue.specs.Laws.{Shows, IsCall, entries_of, queue_history}
 use Rattle.block_queue.specs.Laws.{EachCallIsRight, ObjectsAreQueues}
@@ -44,7 +44,7 @@ drop_first (y ∷ ys) zero x rest is =
     (at, more)
 drop_first (y ∷ ys) (suc n) x rest is = drop_first ys n x rest is
 
-module _ (first : ℕ) (kept : Kept) (s : QueueState) (by : ℕ) (shows : Shows first kept s) where
+module _ (first : ℕ) (kept : Contents) (s : QueueState) (by : ℕ) (shows : Shows first kept s) where
   -- how many writes wait, by what is kept
   count : length kept.waiting + s.pipe.read_whole ≡ length s.pipe.accepted
   count =
@@ -338,7 +338,7 @@ objects_are_queues limit first (served ∷ past) low legal =
           (state_after (queue_meaning first) s entries)) legal.0.reply call.after),
     )
   where
-    kept : Kept
+    kept : Contents
     kept = state_after (meaning_of queue_definition) (new_kept limit first) past
 
     s : QueueState

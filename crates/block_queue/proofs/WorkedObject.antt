@@ -1,6 +1,6 @@
 -- Calls on a sequential queue worked out by the definitions alone, and answers that come too early.
 use Rattle.std.proofs.Common.{◌≡◌, ℕ, true, false, List, [], ◌∷◌, Some, None, refl}
-use Rattle.kernel_lock.specs.declared.view.Served.{Served}
+use Rattle.kernel_lock.specs.declared.view.Operation.{Operation}
 use Rattle.sync_base.specs.declared.limits.TheConstants.{LAST_WRITE}
 use Rattle.block_queue.specs.declared.entry.Entry.TheVariants.{Taken, Stood, Full, Hungup, Worn}
 use Rattle.block_queue.specs.declared.entry.Entry.TheVariants.{Block, NotYet, End, Hung}
@@ -10,7 +10,7 @@ use Rattle.block_queue.specs.declared.queue_object.QueueReply.{QueueReply}
 use Rattle.block_queue.specs.declared.queue_object.QueueReply.TheVariants as reply
 use Rattle.block_queue.specs.History.{QueueState, opening_state, after_entry}
 use Rattle.block_queue.specs.Laws.{IsFirst, queue_history}
-use Rattle.block_queue.specs.QueueObject.{Kept, new_kept, reply_to, kept_after, named_by}
+use Rattle.block_queue.specs.QueueObject.{Contents, new_kept, reply_to, kept_after, named_by}
 
 abbrev a : List ℕ
 a = 97 ∷ []
@@ -18,14 +18,14 @@ a = 97 ∷ []
 abbrev b : List ℕ
 b = 98 ∷ []
 
-abbrev served : ℕ → QueueCall → QueueReply → Served QueueCall QueueReply
+abbrev served : ℕ → QueueCall → QueueReply → Operation QueueCall QueueReply
 served by call answer = record { by = by; request = call; reply = answer }
 
 -- what a queue of one place keeps with one block, and hung up
-abbrev kept_full : Kept
+abbrev kept_full : Contents
 kept_full = kept_after (new_kept 1 0) (Put 0 a)
 
-abbrev kept_hung : Kept
+abbrev kept_hung : Contents
 kept_hung = kept_after kept_full Hang
 
 -- ---- the answers of a run, and the first that applies

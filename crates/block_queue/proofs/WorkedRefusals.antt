@@ -8,7 +8,7 @@ use Rattle.histories.specs.declared.account.Share.{Share}
 use Rattle.sync_base.specs.Pipe.{next_write}
 use Rattle.block_queue.specs.declared.answers.PutAnswer.TheVariants as put
 use Rattle.block_queue.specs.declared.answers.TakeAnswer.TheVariants as take
-use Rattle.block_queue.specs.declared.put.Tried.TheVariants.{Answered, Again}
+use Rattle.block_queue.specs.declared.put.PutAttempt.TheVariants.{Answered, Again}
 use Rattle.block_queue.specs.declared.entry.Entry.{Entry}
 use Rattle.block_queue.specs.declared.opening.Opened.{Opened}
 use Rattle.block_queue.specs.declared.view.Key.{Key}

@@ -26,7 +26,7 @@ use Rattle.block_queue.specs.Meaning.{queue_after, queue_meaning}
 use Rattle.block_queue.specs.Places.{Homes, IsUnstored, IsPlace, AreWords, IsQueueState}
 use Rattle.block_queue.specs.Places.{free_word, stored_word, place_of, sequence_of, ring_words}
 use Rattle.block_queue.specs.Places.{tail_word}
-use Rattle.block_queue.specs.QueueObject.{Kept, new_kept, after_reply}
+use Rattle.block_queue.specs.QueueObject.{Contents, new_kept, after_reply}
 use Rattle.block_queue.specs.Rule.{IsStageLooking, IsCounted, IsPlaced, IsStoring, IsLooking}
 use Rattle.block_queue.specs.Rule.{IsMoving, FitsStage, IsReader, FitsView, IsOneQueue}
 use Rattle.block_queue.specs.Rule.{account_of, is_moving, put_at}
@@ -176,7 +176,8 @@ module _ (key : Key) (t : table.State (Option Write) View) (is : IsOneQueue key 
 
 -- ---- a call on the object
 
-a_call_is_legal_and_first : (kept : Kept) (s : QueueState) (call : QueueCall) (answer : QueueReply)
+a_call_is_legal_and_first : (kept : Contents) (s : QueueState) (call : QueueCall)
+    (answer : QueueReply)
     → IsCall 0 kept s 1 call answer
     → IsLegal (queue_meaning 0) s (entries_of 1 call answer) × IsFirst 0 s answer
     × Shows 0 (after_reply kept call answer)

@@ -2,7 +2,7 @@
 use Rattle.std.specs.Prelude.{◌≡◌, ◌≢◌, ◌+◌, ◌≤◌, ℕ, false, ⊤, None}
 use Rattle.std.specs.Prelude.{List, [], ◌∷◌, ◌++◌, length, drop}
 use Rattle.histories.specs.History.{IsLegal, state_after}
-use Rattle.kernel_lock.specs.declared.view.Served.{Served}
+use Rattle.kernel_lock.specs.declared.view.Operation.{Operation}
 use Rattle.kernel_lock.specs.Definition.{meaning_of}
 use Rattle.sync_base.specs.Pipe.{next_write, next_number, waiting_of}
 use Rattle.sync_base.specs.declared.limits.TheConstants.{LAST_WRITE}
@@ -15,7 +15,7 @@ use Rattle.block_queue.specs.declared.queue_object.QueueReply.{QueueReply}
 use Rattle.block_queue.specs.declared.queue_object.QueueReply.TheVariants as reply
 use Rattle.block_queue.specs.History.{QueueState, opening_state}
 use Rattle.block_queue.specs.Meaning.{queue_meaning}
-use Rattle.block_queue.specs.QueueObject.{Kept, new_kept, last_number, queue_definition}
+use Rattle.block_queue.specs.QueueObject.{Contents, new_kept, last_number, queue_definition}
 use Rattle.block_queue.specs.QueueObject.{reply_to, after_reply}
 
 -- The entries of one call, newest first. Own: where calls come one behind the other, a write stands
@@ -33,14 +33,14 @@ entries_of by Hang reply.Hung = Hung by ∷ []
 entries_of by call answer = []
 
 -- the history of the queue that the calls of an object make
-abbrev pub queue_history : List (Served QueueCall QueueReply) → List Entry
+abbrev pub queue_history : List (Operation QueueCall QueueReply) → List Entry
 queue_history [] = []
 queue_history (served ∷ past) =
     entries_of served.by served.request served.reply ++ queue_history past
 
 -- what the object keeps shows the state of a direction: the blocks that wait are the writes that
 -- were accepted and not read, none of which is begun, and each put has returned
-pub record Shows (first : ℕ) (kept : Kept) (s : QueueState) : Type 0 where
+pub record Shows (first : ℕ) (kept : Contents) (s : QueueState) : Type 0 where
   pub limit : kept.limit ≡ s.pipe.limit
   pub whole : s.pipe.offset ≡ 0
   pub within : s.pipe.read_whole ≤ length s.pipe.accepted
@@ -70,7 +70,7 @@ IsFirst first s reply.Hung = ⊤
 
 -- A call that is answered so: its entries may stand behind the state, nothing before the answer may
 -- be given, and what is kept then shows the state that the entries leave.
-pub record IsCall (first : ℕ) (kept : Kept) (s : QueueState) (by : ℕ) (call : QueueCall)
+pub record IsCall (first : ℕ) (kept : Contents) (s : QueueState) (by : ℕ) (call : QueueCall)
     (answer : QueueReply) : Type 0 where
   pub legal : IsLegal (queue_meaning first) s (entries_of by call answer)
   pub is_first : IsFirst first s answer
@@ -80,13 +80,13 @@ pub record IsCall (first : ℕ) (kept : Kept) (s : QueueState) (by : ℕ) (call 
 -- each call on the sequential queue is answered as a direction answers it
 abbrev pub EachCallIsRight : Type 0
 EachCallIsRight =
-    (first : ℕ) (kept : Kept) (s : QueueState) (by : ℕ) (call : QueueCall)
+    (first : ℕ) (kept : Contents) (s : QueueState) (by : ℕ) (call : QueueCall)
     → Shows first kept s → IsCall first kept s by call (reply_to kept call)
 
 -- each history of the object is a legal history of the queue, and what it keeps shows what is left
 abbrev pub ObjectsAreQueues : Type 0
 ObjectsAreQueues =
-    (limit first : ℕ) (history : List (Served QueueCall QueueReply)) → first ≤ LAST_WRITE
+    (limit first : ℕ) (history : List (Operation QueueCall QueueReply)) → first ≤ LAST_WRITE
     → IsLegal (meaning_of queue_definition) (new_kept limit first) history
     → IsLegal (queue_meaning first) (opening_state limit) (queue_history history)
     × Shows first (state_after (meaning_of queue_definition) (new_kept limit first) history)

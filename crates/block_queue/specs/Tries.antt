@@ -9,18 +9,18 @@ use Rattle.block_queue.specs.declared.answers.TakeAnswer.{TakeAnswer}
 use Rattle.block_queue.specs.declared.view.Stage.TheVariants.{Moving}
 use Rattle.block_queue.specs.declared.answers.PutAnswer.{PutAnswer}
 use Rattle.block_queue.specs.declared.answers.PutAnswer.TheVariants.{Taken, Full, Hungup, Worn}
-use Rattle.block_queue.specs.declared.put.Tried.{Tried}
-use Rattle.block_queue.specs.declared.put.Tried.TheVariants.{Answered, Again}
+use Rattle.block_queue.specs.declared.put.PutAttempt.{PutAttempt}
+use Rattle.block_queue.specs.declared.put.PutAttempt.TheVariants.{Answered, Again}
 
-abbrev pub IfAnswered : Tried → (PutAnswer → Type 0) → Type 0
+abbrev pub IfAnswered : PutAttempt → (PutAnswer → Type 0) → Type 0
 IfAnswered (Answered answer) P = P answer
 IfAnswered (Again back) P = ⊤
 
-abbrev pub IfAgain : Tried → (List ℕ → Type 0) → Type 0
+abbrev pub IfAgain : PutAttempt → (List ℕ → Type 0) → Type 0
 IfAgain (Answered answer) P = ⊤
 IfAgain (Again back) P = P back
 
-abbrev pub IsAgain : Tried → Type 0
+abbrev pub IsAgain : PutAttempt → Type 0
 IsAgain (Answered answer) = ⊥
 IsAgain (Again back) = ⊤
 

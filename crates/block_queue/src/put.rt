@@ -31,7 +31,7 @@ use sync_base::{NoProbe, Piece, Probe};
 
 /// How far one round of a put came.
 #[derive(Drop)]
-pub(crate) enum Tried {
+pub(crate) enum PutAttempt {
     Answered(PutAnswer),
     /// Another put came first, or a hangup: the put begins again.
     Again(Piece),
@@ -104,8 +104,8 @@ impl Queue {
         let mut block = block;
         for _ in rt.forever() {
             match self.try_put(stepper, spare, writer, block, probe) {
-                Tried::Answered(answer) => return answer,
-                Tried::Again(back) => {
+                PutAttempt::Answered(answer) => return answer,
+                PutAttempt::Again(back) => {
                     pause();
                     block = back;
                 }
@@ -122,7 +122,7 @@ impl Queue {
         writer: u64,
         block: Piece,
         probe: &mut P,
-    ) -> Tried
+    ) -> PutAttempt
         requires stepper { IsFreeStepperOf self.now stepper.old (writer + 1) }
         ensures stepper { IsFreeStepperOf self.now stepper.new (writer + 1) }
         ensures answer { IfAnswered result (λ answer. Puts (key_of self.now) writer block
@@ -134,10 +134,10 @@ impl Queue {
         probe.at(1);
         let tail = self.put_tail::<Brand>(stepper, writer, &block);
         if tail >= MARK {
-            return Tried::Answered(PutAnswer::Hungup(block));
+            return PutAttempt::Answered(PutAnswer::Hungup(block));
         }
         if self.key.first + tail == LAST_WRITE {
-            return Tried::Answered(PutAnswer::Worn(block));
+            return PutAttempt::Answered(PutAnswer::Worn(block));
         }
         let free = free(self.key.limit, tail);
         self.look_for_room(place(self.key.limit, tail), free);
@@ -145,10 +145,10 @@ impl Queue {
         let word = self.put_sequence::<Brand>(stepper, writer, &block, tail);
         if word < free {
             let number = self.key.first + tail - self.key.limit;
-            return Tried::Answered(PutAnswer::Full(block, number));
+            return PutAttempt::Answered(PutAnswer::Full(block, number));
         }
         if word > free {
-            return Tried::Again(block);
+            return PutAttempt::Again(block);
         }
         self.claim(stepper, spare, writer, block, tail, probe)
     }
@@ -162,7 +162,7 @@ impl Queue {
         block: Piece,
         count: u64,
         probe: &mut P,
-    ) -> Tried
+    ) -> PutAttempt
         requires stepper { IsStepperOf self.now stepper.old (writer + 1) }
         requires number { stepper.old.me.0.account.number ≡ writer + 1 }
         requires stage { stepper.old.me.0.stage ≡ Placed count }
@@ -177,13 +177,13 @@ impl Queue {
     {
         probe.at(3);
         if self.accept::<Brand>(stepper, writer, &block, count) != count {
-            return Tried::Again(block);
+            return PutAttempt::Again(block);
         }
         probe.at(4);
         let asked = Snapshot::of(&block);
         spare.keep(self.move_in(stepper, count, StoredBlock { writer, block }));
         probe.at(5);
         self.store::<Brand>(stepper, writer, &asked, count);
-        Tried::Answered(PutAnswer::Taken(self.key.first + count + 1))
+        PutAttempt::Answered(PutAnswer::Taken(self.key.first + count + 1))
     }
 }

@@ -1,7 +1,7 @@
 //! The queue for one thread: a sequential object, which a kernel lock can share among threads.
 ghost use Rattle.std.specs.Prelude.{◌≡◌, ◌<◌, ◌≤◌, length, IfOk, IfErr};
 ghost use Rattle.sync_base.specs.declared.limits.TheConstants.{LAST_WRITE, MAX_PIPE_LIMIT};
-ghost use Rattle.block_queue.specs.QueueObject.{Kept, new_kept, put_reply, take_reply};
+ghost use Rattle.block_queue.specs.QueueObject.{Contents, new_kept, put_reply, take_reply};
 ghost use Rattle.block_queue.specs.QueueObject.{after_reply};
 ghost use Rattle.block_queue.specs.declared.queue_object.QueueCall.TheVariants.{Put, Take};
 
@@ -59,9 +59,9 @@ impl Model for QueueObject {
     ghost use Rattle.std.specs.Prelude.{◌+◌, ◌≤◌, length};
     ghost use Rattle.std.specs.VecDeque.{deque_capacity};
     ghost use Rattle.sync_base.specs.declared.limits.TheConstants.{LAST_WRITE};
-    ghost use Rattle.block_queue.specs.QueueObject.{Kept};
+    ghost use Rattle.block_queue.specs.QueueObject.{Contents};
 
-    ghost Value = { Kept };
+    ghost Value = { Contents };
 
     ghost view = { λ queue. record {
       limit = queue.limit;
@@ -139,13 +139,13 @@ impl QueueObject {
 }
 
 impl Object for QueueObject {
-    ghost use Rattle.block_queue.specs.QueueObject.{Kept, queue_definition};
+    ghost use Rattle.block_queue.specs.QueueObject.{Contents, queue_definition};
 
     type Call = QueueCall;
 
     type Reply = QueueReply;
 
-    ghost State = { Kept };
+    ghost State = { Contents };
 
     ghost definition = { queue_definition };
 

@@ -81,12 +81,12 @@ impl Spare {
 /// What a slot keeps: a block, or the memory of one.
 #[derive(Drop)]
 pub struct Slot {
-    kept: Kept,
+    kept: Payload,
 }
 
 // One of the two, so that as few bytes as can be change hands.
 #[derive(Drop)]
-pub(crate) enum Kept {
+pub(crate) enum Payload {
     Block(StoredBlock),
     Memory(Spare),
 }
@@ -109,7 +109,7 @@ impl Slot {
         ensures { result ≡ Some block }
     {
         Slot {
-            kept: Kept::Block(block),
+            kept: Payload::Block(block),
         }
     }
 
@@ -118,7 +118,7 @@ impl Slot {
         ensures { result ≡ None }
     {
         Slot {
-            kept: Kept::Memory(spare),
+            kept: Payload::Memory(spare),
         }
     }
 
@@ -128,8 +128,8 @@ impl Slot {
     {
         let Slot { kept } = self;
         match kept {
-            Kept::Block(block) => Some(block),
-            Kept::Memory(_) => None,
+            Payload::Block(block) => Some(block),
+            Payload::Memory(_) => None,
         }
     }
 
@@ -137,8 +137,8 @@ impl Slot {
     pub(crate) fn into_spare(self) -> Spare {
         let Slot { kept } = self;
         match kept {
-            Kept::Block(_) => Spare::none(),
-            Kept::Memory(spare) => spare,
+            Payload::Block(_) => Spare::none(),
+            Payload::Memory(spare) => spare,
         }
     }
 }

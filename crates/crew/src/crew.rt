@@ -32,7 +32,7 @@ pub struct Writer<'p> {
 
 /// A writer that has hung its direction up.
 #[derive(Drop)]
-pub struct Gone<'p> {
+pub struct HungWriter<'p> {
     pub(crate) end: WriteEnd<'p>,
     pub(crate) ghost hung: { is_hung end.account.seen ≡ true },
 }
@@ -106,14 +106,14 @@ impl<'p> Writer<'p> {
 
     /// Hangs the pipe up.
     #[tactic(auto, using(crate::proofs::WritingLemmas::hung_now))]
-    pub fn hangup(self) -> Gone<'p> {
+    pub fn hangup(self) -> HungWriter<'p> {
         let Writer {
             mut proc,
             mut end,
             ..
         } = self;
         end.hangup(&mut proc);
-        Gone { end }
+        HungWriter { end }
     }
 
     /// Why it wrote no more, if a write was refused.

@@ -6,7 +6,7 @@ ghost use Rattle.sync_base.specs.declared.fault.Fault.TheVariants.{BadArg};
 ghost use Rattle.crew.specs.Threads.{AreWithin, IsReportOf, WhyNotRun};
 ghost use Rattle.crew.specs.Writing.{HasWrittenOn, HasEnded, IsReadyWriter};
 
-use crate::crew::{Counted, Crew, Gone, Reader, Writer};
+use crate::crew::{Counted, Crew, HungWriter, Reader, Writer};
 use crate::gate::Gate;
 use crate::opts::{Report, is_within};
 use pipe_dev::{Ends, Parts, Pipe};
@@ -196,7 +196,7 @@ fn write_unless<'p, R: Wait, G: Gate>(
 #[derive(Drop)]
 struct Joined<'p> {
     wrote: Result<(), Fault>,
-    gone: Option<Gone<'p>>,
+    gone: Option<HungWriter<'p>>,
 }
 
 // The first of two faults, where there is one.

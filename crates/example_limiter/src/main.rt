@@ -4,7 +4,8 @@
 #![tactic(auto)]
 
 use plan9::{
-    Fault, Holder, Note, NoteSet, OpenedKernel, Plan, Pool, Proc, RealTime, Started, Time, fork,
+    Fault, Holder, Note, NoteSet, OpenedKernel, Plan, Pool, Proc, RealTime, Started, TickSource,
+    fork,
 };
 use std::alloc::Global;
 use std::sync::Wait;

@@ -10,27 +10,27 @@ use Rattle.histories.specs.Changes.{child_account, entered_account, joined_accou
 use Rattle.histories.specs.Changes.{AddsEntry, GivesNumber, JoinsAccounts, LooksAt}
 
 -- a jar of coins: a seat puts coins in, or takes some that are there
-data Deed : Type 0 where
-  puts : (by coins : ℕ) → Deed
-  takes : (by coins : ℕ) → Deed
+data Move : Type 0 where
+  puts : (by coins : ℕ) → Move
+  takes : (by coins : ℕ) → Move
 
-abbrev by : Deed → ℕ
+abbrev by : Move → ℕ
 by (puts seat coins) = seat
 by (takes seat coins) = seat
 
-abbrev MayBe : ℕ → Deed → Type 0
+abbrev MayBe : ℕ → Move → Type 0
 MayBe held (puts seat coins) = 0 < coins
 MayBe held (takes seat coins) = coins ≤ held
 
-abbrev held_after : ℕ → Deed → ℕ
+abbrev held_after : ℕ → Move → ℕ
 held_after held (puts seat coins) = held + coins
 held_after held (takes seat coins) = 0
 
-abbrev jar : Meaning ℕ Deed
+abbrev jar : Meaning ℕ Move
 jar = record { by = by; IsRight = MayBe; after = held_after }
 
 -- newest first: seat 0 puts 2, seat 1 puts 3, seat 0 takes 5
-abbrev day : List Deed
+abbrev day : List Move
 day = takes 0 5 ∷ puts 1 3 ∷ puts 0 2 ∷ []
 
 -- an entry comes behind its past, so the jar is empty at the end of the day
@@ -63,7 +63,7 @@ morning_is_past = record { since = takes 0 5 ∷ []; new_is = refl }
 -- ---- accounts
 
 -- the first seat gives the numbers 1 and 2
-abbrev first : Account Deed
+abbrev first : Account Move
 first =
     record {
       number = 0;
@@ -72,10 +72,10 @@ first =
       gave = numbers_from 1 2;
     }
 
-abbrev second : Account Deed
+abbrev second : Account Move
 second = child_account 1 record { number = 0; shares = []; seen = []; gave = [] }
 
-abbrev third : Account Deed
+abbrev third : Account Move
 third = child_account 2 record { number = 0; shares = []; seen = []; gave = [] }
 
 gave_in_order : first.gave ≡ 1 ∷ 2 ∷ []
@@ -120,25 +120,25 @@ shorter_is_first = refl
 -- ---- what a call may not have made of an account
 
 -- seat 1 once it has made this entry, and nothing else was made
-abbrev second_put : Account Deed
+abbrev second_put : Account Move
 second_put = entered_account by (puts 1 3) [] second
 
 -- a join that forgets a number, or what was seen, is none
 a_number_is_forgotten : JoinsAccounts second_put third second_put → ⊥
 a_number_is_forgotten joins =
-    let one = ap (λ (account : Account Deed). length account.shares) joins.joined_is in
+    let one = ap (λ (account : Account Move). length account.shares) joins.joined_is in
     omega (arith, one)
 
-not_behind : (since : List Deed) (entry : Deed) → [] ≡ since ++ entry ∷ [] → ⊥
+not_behind : (since : List Move) (entry : Move) → [] ≡ since ++ entry ∷ [] → ⊥
 not_behind [] entry is = cc
 not_behind (newer ∷ since) entry is = cc
 
-the_first_is_forgotten : (joined : Account Deed) → joined.seen ≡ []
+the_first_is_forgotten : (joined : Account Move) → joined.seen ≡ []
     → JoinsAccounts second_put third joined → ⊥
 the_first_is_forgotten joined none joins =
     not_behind joins.first_past.since (puts 1 3) (sym none ∙ joins.first_past.new_is)
 
-the_second_is_forgotten : (joined : Account Deed) → joined.seen ≡ []
+the_second_is_forgotten : (joined : Account Move) → joined.seen ≡ []
     → JoinsAccounts third second_put joined → ⊥
 the_second_is_forgotten joined none joins =
     not_behind joins.second_past.since (puts 1 3) (sym none ∙ joins.second_past.new_is)
@@ -147,22 +147,22 @@ the_second_is_forgotten joined none joins =
 nothing_is_made : AddsEntry by (puts 1 3) second second → ⊥
 nothing_is_made adds =
     let grew : [] ≡ puts 1 3 ∷ adds.past =
-    ap (λ (account : Account Deed). account.seen) adds.new_is in
+    ap (λ (account : Account Move). account.seen) adds.new_is in
     cc
 
 -- and begins no history anew
 a_history_is_begun_anew : AddsEntry by (puts 1 3) second_put second_put → ⊥
 a_history_is_begun_anew adds =
     let seen : puts 1 3 ∷ [] ≡ puts 1 3 ∷ adds.past =
-    ap (λ (account : Account Deed). account.seen) adds.new_is in
+    ap (λ (account : Account Move). account.seen) adds.new_is in
     let past : [] ≡ adds.past = cc in
     not_behind adds.looked.since (puts 1 3) (past ∙ adds.looked.history_is)
 
 -- a number that is given is the next one, and its parent tells of it
-abbrev alone : Account Deed
+abbrev alone : Account Move
 alone = record { number = 0; shares = unused_share 0 ∷ []; seen = []; gave = [] }
 
-a_number_is_passed_over : (new : Account Deed)
+a_number_is_passed_over : (new : Account Move)
     → GivesNumber by alone new (child_account 2 alone) → ⊥
 a_number_is_passed_over new gives =
     let out : false ≡ true =
@@ -171,13 +171,13 @@ a_number_is_passed_over new gives =
 
 a_number_is_given_secretly : GivesNumber by alone alone (child_account 1 alone) → ⊥
 a_number_is_given_secretly gives =
-    let told = ap (λ (account : Account Deed). length account.gave) gives.parent_is in
+    let told = ap (λ (account : Account Move). length account.gave) gives.parent_is in
     omega (arith, told)
 
 a_child_knows_more : GivesNumber by alone (parent_account 1 alone)
     (record { number = 1; shares = unused_share 1 ∷ []; seen = day; gave = [] }) → ⊥
 a_child_knows_more gives =
-    let seen : day ≡ [] = ap (λ (account : Account Deed). account.seen) gives.child_is in cc
+    let seen : day ≡ [] = ap (λ (account : Account Move). account.seen) gives.child_is in cc
 
 -- a look begins no history anew, misses no entry where the seat has all numbers, and finds none of
 -- the seat's own that the seat does not know
@@ -188,7 +188,7 @@ a_look_of_all_misses_one : LooksAt by (puts 1 3 ∷ []) alone → ⊥
 a_look_of_all_misses_one looks =
     let none = looks.alone (record { first = refl; gave = tt }) in
     let is : puts 1 3 ∷ [] ≡ [] =
-    looks.history_is ∙ ap (λ (since : List Deed). since ++ []) none in
+    looks.history_is ∙ ap (λ (since : List Move). since ++ []) none in
     cc
 
 an_entry_of_its_own_is_news : LooksAt by (puts 1 3 ∷ []) second → ⊥

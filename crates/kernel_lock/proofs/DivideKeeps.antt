@@ -10,12 +10,12 @@ use Rattle.histories.specs.Ledger.{ledger_gave}
 use Rattle.histories.proofs.ListLemmas.{past_refl, each_set, each_end}
 use Rattle.histories.proofs.SeatsKeep.{seats_split}
 use Rattle.kernel_lock.specs.declared.view.Key.{Key}
-use Rattle.kernel_lock.specs.declared.view.Served.{Served}
+use Rattle.kernel_lock.specs.declared.view.Operation.{Operation}
 use Rattle.kernel_lock.specs.declared.view.Stage.{Stage}
 use Rattle.kernel_lock.specs.declared.view.Stage.TheVariants.{Inside}
 use Rattle.kernel_lock.specs.declared.view.View.{View}
 use Rattle.kernel_lock.specs.Definition.{Definition, server}
-use Rattle.kernel_lock.specs.Rule.{Standing, IsInside, FitsStage, FitsLock, IsOneHistory}
+use Rattle.kernel_lock.specs.Rule.{LockState, IsInside, FitsStage, FitsLock, IsOneHistory}
 use Rattle.kernel_lock.specs.View.{HasOwn, account_of, parent_view, child_view}
 use Rattle.kernel_lock.proofs.RuleLemmas.{lock_moves}
 
@@ -23,7 +23,7 @@ module _ {Object State Call Reply : Type 0}
     (definition : Definition Object State Call Reply) where
   -- a seat that is inside and knows of room below the limit may give the next number to a new seat
   pub divide_keeps : (key : Key Object) (id : ℕ) (before : View Object Call Reply)
-      (history : List (Served Call Reply)) → before.stage ≡ Inside history →
+      (history : List (Operation Call Reply)) → before.stage ≡ Inside history →
       before.given < key.limit → HasOwn before →
       table.Splits (IsOneHistory definition key) id before (parent_view before) (child_view before)
   divide_keeps key id before history stage_is room own s rule at =
@@ -45,13 +45,13 @@ module _ {Object State Call Reply : Type 0}
             parent_fits others);
       }
     where
-      now : Standing Call Reply
+      now : LockState Call Reply
       now = record { ledger = rule.ledger; holder = rule.holder; word = get_or s.words 0 0 }
 
       new_seat : ℕ
       new_seat = length (set s.views id (parent_view before))
 
-      after : Standing Call Reply
+      after : LockState Call Reply
       after =
           record {
             ledger = ledger_gave before.account.number new_seat rule.ledger;

@@ -14,11 +14,11 @@ use Rattle.histories.proofs.HistoryLemmas.{by_below_weaker}
 use Rattle.histories.proofs.ListLemmas.{set_here}
 use Rattle.histories.proofs.SeatsKeep as seats
 use Rattle.kernel_lock.specs.declared.view.Key.{Key}
-use Rattle.kernel_lock.specs.declared.view.Served.{Served}
+use Rattle.kernel_lock.specs.declared.view.Operation.{Operation}
 use Rattle.kernel_lock.specs.declared.view.Stage.{Stage}
 use Rattle.kernel_lock.specs.declared.view.View.{View}
 use Rattle.kernel_lock.specs.Definition.{Definition, server, meaning_of, opening_state}
-use Rattle.kernel_lock.specs.Rule.{Standing, IsInside, FitsStage, IsOneHistory}
+use Rattle.kernel_lock.specs.Rule.{LockState, IsInside, FitsStage, IsOneHistory}
 use Rattle.kernel_lock.specs.Steps.{Slot, Me, FindsObject, TakesLock, IsOwnRight, IsDue}
 use Rattle.kernel_lock.specs.Steps.{HasReleased, HasEntered}
 use Rattle.kernel_lock.specs.View.{account_of, history_with, inside_view, outside_view}
@@ -27,14 +27,14 @@ use Rattle.kernel_lock.proofs.RuleLemmas.{lock_moves, rule_after}
 
 module _ {Object Call Reply : Type 0} where
   -- a seat that gives the lock back keeps its key
-  pub outside_key : (history : List (Served Call Reply)) (served : Option (Served Call Reply))
+  pub outside_key : (history : List (Operation Call Reply)) (served : Option (Operation Call Reply))
       (view : View Object Call Reply) → (outside_view history served view).key ≡ view.key
   outside_key history None view = refl
   outside_key history (Some served) view = refl
 
   -- with a request, it has seen the whole history
-  pub outside_seen : (ledger : Ledger (Served Call Reply))
-      (served : Option (Served Call Reply)) (view : View Object Call Reply) →
+  pub outside_seen : (ledger : Ledger (Operation Call Reply))
+      (served : Option (Operation Call Reply)) (view : View Object Call Reply) →
       IfSome served (λ _. (ledger_after served ledger).history
       ≡ (outside_view ledger.history served view).account.seen)
   outside_seen ledger None view = tt
@@ -42,14 +42,14 @@ module _ {Object Call Reply : Type 0} where
 
 module _ {Object State Call Reply : Type 0}
     (definition : Definition Object State Call Reply) (key : Key Object)
-    (served : Option (Served Call Reply)) (id : ℕ) (me : Me Object Call Reply)
+    (served : Option (Operation Call Reply)) (id : ℕ) (me : Me Object Call Reply)
     (due : IsDue definition key served me)
     (s : table.State (Slot Object) (View Object Call Reply))
     (rule : IsOneHistory definition key s) (at : get_elem? s.views id ≡ some me.0) where
-  abbrev now : Standing Call Reply
+  abbrev now : LockState Call Reply
   now = record { ledger = rule.ledger; holder = rule.holder; word = get_or s.words 0 0 }
 
-  abbrev ledger : Ledger (Served Call Reply)
+  abbrev ledger : Ledger (Operation Call Reply)
   ledger = ledger_after served rule.ledger
 
   inside : IsInside now id due.history me.0.given
@@ -60,7 +60,7 @@ module _ {Object State Call Reply : Type 0}
   after : Follows definition key s rule id me at served
   after =
       follows definition key s rule id me at served
-      (subst (λ (h : List (Served Call Reply)). IfSome served (IsOwnRight definition key h me.0))
+      (subst (λ (h : List (Operation Call Reply)). IfSome served (IsOwnRight definition key h me.0))
       inside.history_is due.served_right)
 
   -- what it would know outside
@@ -112,7 +112,7 @@ module _ {Object State Call Reply : Type 0}
   finds =
       record {
         object = due.object
-            ∙ ap (λ (h : List (Served Call Reply)). state_after (meaning_of definition)
+            ∙ ap (λ (h : List (Operation Call Reply)). state_after (meaning_of definition)
             (opening_state definition key) (history_with served h)) inside.history_is
             ∙ ap (state_after (meaning_of definition) (opening_state definition key))
             (sym after.history);
@@ -158,7 +158,7 @@ module _ {Object State Call Reply : Type 0}
         view_is = λ history stage_is.
             let same : rule.ledger.history ≡ history =
             let e = stage_is in let f = due.stage_is in let h = inside.history_is in cc in
-            ap (λ (h : List (Served Call Reply)). outside_view h served me.0) same;
+            ap (λ (h : List (Operation Call Reply)). outside_view h served me.0) same;
         slots_are = refl;
       }
 
@@ -176,7 +176,7 @@ module _ {Object State Call Reply : Type 0}
 -- a load of the word by who is inside keeps the rule, with the request in the history
 pub enter_keeps : {Object State Call Reply : Type 0}
     (definition : Definition Object State Call Reply) (key : Key Object)
-    (served : Option (Served Call Reply)) (slots id : ℕ) (me : Me Object Call Reply) →
+    (served : Option (Operation Call Reply)) (slots id : ℕ) (me : Me Object Call Reply) →
     IsDue definition key served me →
     table.Allows (IsOneHistory definition key) slots id me 0 (λ n. n)
     (λ _ after. HasEntered definition served me after)

@@ -10,7 +10,7 @@ use Rattle.histories.proofs.SeatsKeep.{seats_join, seen_before_join}
 use Rattle.kernel_lock.specs.declared.view.Key.{Key}
 use Rattle.kernel_lock.specs.declared.view.View.{View}
 use Rattle.kernel_lock.specs.Definition.{Definition, server}
-use Rattle.kernel_lock.specs.Rule.{Standing, FitsLock, IsOneHistory}
+use Rattle.kernel_lock.specs.Rule.{LockState, FitsLock, IsOneHistory}
 use Rattle.kernel_lock.specs.View.{account_of, joined_view, spent_view}
 use Rattle.kernel_lock.proofs.RuleLemmas.{lock_stays}
 
@@ -49,10 +49,10 @@ module _ {Object State Call Reply : Type 0}
       at_other : get_elem? s.views other ≡ some second
       at_other = sym (set_else s.views id other (joined_view first second) apart) ∙ there
 
-      now : Standing Call Reply
+      now : LockState Call Reply
       now = record { ledger = rule.ledger; holder = rule.holder; word = get_or s.words 0 0 }
 
-      after : Standing Call Reply
+      after : LockState Call Reply
       after =
           record {
             ledger = ledger_joined id other rule.ledger;

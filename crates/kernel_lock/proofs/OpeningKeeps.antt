@@ -11,7 +11,7 @@ use Rattle.kernel_lock.specs.declared.view.Guarded.{Guarded}
 use Rattle.kernel_lock.specs.declared.view.Key.{Key}
 use Rattle.kernel_lock.specs.declared.view.View.{View}
 use Rattle.kernel_lock.specs.Definition.{Definition, server}
-use Rattle.kernel_lock.specs.Rule.{Standing, FitsLock, IsOneHistory}
+use Rattle.kernel_lock.specs.Rule.{LockState, FitsLock, IsOneHistory}
 use Rattle.kernel_lock.specs.Steps.{Slot}
 use Rattle.kernel_lock.specs.View.{account_of, first_view}
 
@@ -38,7 +38,7 @@ module _ {Object State Call Reply : Type 0}
         each_seat = each_seat;
       }
     where
-      now : Standing Call Reply
+      now : LockState Call Reply
       now = record { ledger = opening_ledger 0; holder = 0; word = 0 }
 
       each_seat : (seat : ℕ) (view : View Object Call Reply) →

@@ -13,11 +13,11 @@ use Rattle.histories.proofs.ListLemmas.{past_refl, past_cons}
 use Rattle.histories.proofs.SeatsKeep.{seats_stay, seats_enter}
 use Rattle.kernel_lock.specs.declared.view.Guarded.{Guarded}
 use Rattle.kernel_lock.specs.declared.view.Key.{Key}
-use Rattle.kernel_lock.specs.declared.view.Served.{Served}
+use Rattle.kernel_lock.specs.declared.view.Operation.{Operation}
 use Rattle.kernel_lock.specs.declared.view.Stage.{Stage}
 use Rattle.kernel_lock.specs.declared.view.View.{View}
 use Rattle.kernel_lock.specs.Definition.{Definition, server, meaning_of, opening_state}
-use Rattle.kernel_lock.specs.Rule.{Standing, IsInside, FitsStage, FitsLock, IsOneHistory}
+use Rattle.kernel_lock.specs.Rule.{LockState, IsInside, FitsStage, FitsLock, IsOneHistory}
 use Rattle.kernel_lock.specs.Steps.{Slot, Me, IsOwnRight, IsDue, HasReleased}
 use Rattle.kernel_lock.specs.View.{account_of, history_with, outside_view}
 use Rattle.kernel_lock.proofs.RuleLemmas.{lock_moves, rule_after}
@@ -32,8 +32,8 @@ module _ {Object : Type 0} where
       cc
 
 -- the ledger with the request that was served, if one was
-abbrev pub ledger_after : {Call Reply : Type 0} → Option (Served Call Reply) →
-    Ledger (Served Call Reply) → Ledger (Served Call Reply)
+abbrev pub ledger_after : {Call Reply : Type 0} → Option (Operation Call Reply) →
+    Ledger (Operation Call Reply) → Ledger (Operation Call Reply)
 ledger_after None ledger = ledger
 ledger_after (Some served) ledger = ledger_with served ledger
 
@@ -44,7 +44,7 @@ module _ {Object State Call Reply : Type 0}
       (at : get_elem? s.views id ≡ some me.0) where
     -- what holds of the history behind the step, with a request and without, and of the seats
     -- where this one knows what a release tells it
-    pub record Follows (served : Option (Served Call Reply)) : Type 0 where
+    pub record Follows (served : Option (Operation Call Reply)) : Type 0 where
       -- the request is the newest
       pub history : (ledger_after served rule.ledger).history ≡
           history_with served rule.ledger.history
@@ -61,7 +61,7 @@ module _ {Object State Call Reply : Type 0}
           AreSeats server account_of (ledger_after served rule.ledger) (set s.views id view)
 
     -- the request was answered right, so all that holds
-    pub follows : (served : Option (Served Call Reply)) →
+    pub follows : (served : Option (Operation Call Reply)) →
         IfSome served (IsOwnRight definition key rule.ledger.history me.0) → Follows served
     follows None right =
         record {
@@ -85,20 +85,20 @@ module _ {Object State Call Reply : Type 0}
         }
 
     -- a release gives no number
-    pub outside_given : (history : List (Served Call Reply))
-        (served : Option (Served Call Reply)) →
+    pub outside_given : (history : List (Operation Call Reply))
+        (served : Option (Operation Call Reply)) →
         (outside_view history served me.0).given ≡ me.0.given
     outside_given history None = refl
     outside_given history (Some served) = refl
 
-    outside_fits : (now : Standing Call Reply) (history : List (Served Call Reply))
-        (served : Option (Served Call Reply)) → me.0.given ≤ now.ledger.next →
+    outside_fits : (now : LockState Call Reply) (history : List (Operation Call Reply))
+        (served : Option (Operation Call Reply)) → me.0.given ≤ now.ledger.next →
         FitsLock now id (outside_view history served me.0)
     outside_fits now history None given = record { given = given; stage = tt }
     outside_fits now history (Some served) given = record { given = given; stage = tt }
 
   -- storing 0 keeps the rule where what lies in the slot is what the history and the request leave
-  pub release_keeps : (key : Key Object) (served : Option (Served Call Reply)) (slots id : ℕ)
+  pub release_keeps : (key : Key Object) (served : Option (Operation Call Reply)) (slots id : ℕ)
       (me : Me Object Call Reply) → 0 < slots → IsDue definition key served me →
       table.Allows (IsOneHistory definition key) slots id me 0 (λ _. 0)
       (λ _ after. HasReleased served me after)
@@ -116,7 +116,7 @@ module _ {Object State Call Reply : Type 0}
     record {
       view_is = λ history stage_is.
           let same : due.history ≡ history = let e = stage_is in let f = due.stage_is in cc in
-          ap (λ (h : List (Served Call Reply)). outside_view h served me.0) same;
+          ap (λ (h : List (Operation Call Reply)). outside_view h served me.0) same;
       slots_are = refl;
     },
   )
@@ -138,7 +138,7 @@ module _ {Object State Call Reply : Type 0}
       after : Follows key s rule id me at served
       after =
           follows key s rule id me at served
-          (subst (λ (h : List (Served Call Reply)). IfSome served
+          (subst (λ (h : List (Operation Call Reply)). IfSome served
           (IsOwnRight definition key h me.0))
           inside.history_is due.served_right)
 
@@ -149,7 +149,7 @@ module _ {Object State Call Reply : Type 0}
       }
       kept =
           subst
-          (λ (h : List (Served Call Reply)). IsOneHistory definition key record {
+          (λ (h : List (Operation Call Reply)). IsOneHistory definition key record {
             words = set s.words 0 0;
             homes = set s.homes 0 (some (Some due.guarded));
             views = set s.views id (outside_view h served me.0);
@@ -163,7 +163,7 @@ module _ {Object State Call Reply : Type 0}
             guarded = due.guarded;
             there = set_here s.homes 0 (some (Some due.guarded)) (omega arith);
             object = due.object
-                ∙ ap (λ (h : List (Served Call Reply)). state_after (meaning_of definition)
+                ∙ ap (λ (h : List (Operation Call Reply)). state_after (meaning_of definition)
                 (opening_state definition key) (history_with served h)) inside.history_is
                 ∙ ap (state_after (meaning_of definition) (opening_state definition key))
                 (sym after.history);

@@ -13,17 +13,17 @@ use Rattle.histories.proofs.ListLemmas.{past_trans, each_set}
 use Rattle.histories.proofs.SeatsKeep as seats
 use Rattle.kernel_lock.specs.declared.view.Guarded.{Guarded}
 use Rattle.kernel_lock.specs.declared.view.Key.{Key}
-use Rattle.kernel_lock.specs.declared.view.Served.{Served}
+use Rattle.kernel_lock.specs.declared.view.Operation.{Operation}
 use Rattle.kernel_lock.specs.declared.view.Stage.{Stage}
 use Rattle.kernel_lock.specs.declared.view.Stage.TheVariants.{Outside, Inside, Joining}
 use Rattle.kernel_lock.specs.declared.view.View.{View}
 use Rattle.kernel_lock.specs.Definition.{Definition, server, meaning_of, opening_state}
-use Rattle.kernel_lock.specs.Rule.{Standing, FitsStage, FitsLock, IsAtHome, IsOneHistory}
+use Rattle.kernel_lock.specs.Rule.{LockState, FitsStage, FitsLock, IsAtHome, IsOneHistory}
 use Rattle.kernel_lock.specs.View.{account_of}
 
 module _ {Call Reply : Type 0} where
   -- a stage of a seat that is not inside still fits when the history grows
-  pub stage_moves : (now now' : Standing Call Reply) (seat given : ℕ)
+  pub stage_moves : (now now' : LockState Call Reply) (seat given : ℕ)
       (stage : Stage Call Reply) → FitsStage now seat given stage →
       IsPast now.ledger.history now'.ledger.history → (seat ≡ now.holder → now.word ≡ 1 → ⊥) →
       FitsStage now' seat given stage
@@ -34,7 +34,7 @@ module _ {Call Reply : Type 0} where
       past_trans other now.ledger.history now'.ledger.history fits grows
 
   -- and so does what it knows of the lock
-  pub lock_moves : {Object : Type 0} (now now' : Standing Call Reply) (seat : ℕ)
+  pub lock_moves : {Object : Type 0} (now now' : LockState Call Reply) (seat : ℕ)
       (view : View Object Call Reply) → FitsLock now seat view →
       IsPast now.ledger.history now'.ledger.history → now.ledger.next ≤ now'.ledger.next →
       (seat ≡ now.holder → now.word ≡ 1 → ⊥) → FitsLock now' seat view
@@ -46,7 +46,7 @@ module _ {Call Reply : Type 0} where
       }
 
   -- who has which number is nothing to them
-  stage_stays : (now : Standing Call Reply) (owner parent : ℕ → ℕ) (seat given : ℕ)
+  stage_stays : (now : LockState Call Reply) (owner parent : ℕ → ℕ) (seat given : ℕ)
       (stage : Stage Call Reply) → FitsStage now seat given stage →
       FitsStage
       record {
@@ -66,7 +66,7 @@ module _ {Call Reply : Type 0} where
   stage_stays now owner parent seat given (Joining other) fits = fits
 
   -- a seat that fits the lock still fits where numbers change their owner or their parent
-  pub lock_stays : {Object : Type 0} (now : Standing Call Reply) (owner parent : ℕ → ℕ)
+  pub lock_stays : {Object : Type 0} (now : LockState Call Reply) (owner parent : ℕ → ℕ)
       (seat : ℕ) (view : View Object Call Reply) → FitsLock now seat view →
       FitsLock
       record {
@@ -99,7 +99,7 @@ module _ {Object State Call Reply : Type 0}
   -- the rule after a step of one seat that stores a number into the word
   pub rule_after : (key : Key Object) (s : Table)
       (homes : List (maybe.Option (Option (Guarded Object)))) (id n : ℕ)
-      (after : View Object Call Reply) (ledger : Ledger (Served Call Reply)) (holder : ℕ) →
+      (after : View Object Call Reply) (ledger : Ledger (Operation Call Reply)) (holder : ℕ) →
       length s.words ≡ 1 →
       IsLegal (meaning_of definition) (opening_state definition key) ledger.history →
       ledger.next ≤ key.limit → (n ≡ 0 → IsAtHome definition key ledger homes) →

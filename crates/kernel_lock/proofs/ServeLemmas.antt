@@ -14,7 +14,7 @@ use Rattle.kernel_lock.specs.declared.lock_seat.LockSeat.{LockSeat}
 use Rattle.kernel_lock.specs.declared.locked.Locked.{Locked}
 use Rattle.kernel_lock.specs.declared.view.Guarded.{Guarded}
 use Rattle.kernel_lock.specs.declared.view.Key.{Key}
-use Rattle.kernel_lock.specs.declared.view.Served.{Served}
+use Rattle.kernel_lock.specs.declared.view.Operation.{Operation}
 use Rattle.kernel_lock.specs.declared.view.Stage.TheVariants.{Outside}
 use Rattle.kernel_lock.specs.declared.view.View.{View}
 use Rattle.kernel_lock.specs.Calls.{Serves, ServesBoth, ServesThen}
@@ -26,18 +26,18 @@ use Rattle.kernel_lock.specs.View.{inside_view, outside_view}
 use Rattle.kernel_lock.proofs.ReleaseKeeps.{same_guarded}
 
 -- a number that a request names is the seat's, or else its own is
-pub caller_is_own : {Call Reply : Type 0} (shares : List (Share (Served Call Reply)))
+pub caller_is_own : {Call Reply : Type 0} (shares : List (Share (Operation Call Reply)))
     (own : ℕ) (named : Option ℕ) → IfSome named (λ n. has_number shares n ≡ true) →
     has_number shares own ≡ true → IfSome named (λ n. has_number shares n ≡ true)
 caller_is_own shares own named names has = names
 
 module _ {Object Call Reply : Type 0} where
   -- a seat has the numbers that it had
-  pub keeps_numbers : (served : Served Call Reply) (old new : View Object Call Reply) →
+  pub keeps_numbers : (served : Operation Call Reply) (old new : View Object Call Reply) →
       Serves served old new → (number : ℕ) → has_number old.account.shares number ≡ true →
       has_number new.account.shares number ≡ true
   keeps_numbers served old new serves number has =
-      ap (λ (account : Account (Served Call Reply)). has_number account.shares number)
+      ap (λ (account : Account (Operation Call Reply)). has_number account.shares number)
       serves.account.new_is
       ∙ has_number-share_after server served old.account.shares number ∙ has
 
@@ -54,7 +54,7 @@ module _ {Object State Call Reply : Type 0}
       }
 
   module _ (key : Key Object) (before middle after : Me Object Call Reply)
-      (served : Served Call Reply) (keyed : before.0.key ≡ Some key) (none : before.1 ≡ [])
+      (served : Operation Call Reply) (keyed : before.0.key ≡ Some key) (none : before.1 ≡ [])
       (taken : TakesLock definition before middle)
       (answered : HasAnswered definition served.request served.reply middle after)
       (own : has_number before.0.account.shares served.by ≡ true)
@@ -170,15 +170,15 @@ module _ {Object State Call Reply : Type 0}
   -- ---- two requests in one hold of the lock
 
   -- a request that follows is made under the number that it names, or else under the seat's own
-  pub follower_is_own : (shares : List (Share (Served Call Reply))) (own : ℕ)
+  pub follower_is_own : (shares : List (Share (Operation Call Reply))) (own : ℕ)
       (named : Option ℕ) → IfSome named (λ n. has_number shares n ≡ true) →
       has_number shares own ≡ true → has_number shares (unwrap_or named own) ≡ true
   follower_is_own shares own None names has = has
   follower_is_own shares own (Some number) names has = names
 
-  module _ (key : Key Object) (first : Served Call Reply) (before middle : Me Object Call Reply)
+  module _ (key : Key Object) (first : Operation Call Reply) (before middle : Me Object Call Reply)
       (entered : HasEntered definition (Some first) before middle)
-      (old : Me Object Call Reply) (history : List (Served Call Reply))
+      (old : Me Object Call Reply) (history : List (Operation Call Reply))
       (done : HasServed definition key history first old entered.between) where
     -- behind the first request the seat is inside, as if it had taken the lock once more
     abbrev pub takes_again : (by : ℕ) → has_number old.0.account.shares by ≡ true →
@@ -192,7 +192,7 @@ module _ {Object State Call Reply : Type 0}
         }
 
     -- so both are served, the second right behind the first
-    pub serves_both : (second : Served Call Reply) (final : Me Object Call Reply) →
+    pub serves_both : (second : Operation Call Reply) (final : Me Object Call Reply) →
         HasServed definition key entered.taken.history second entered.between final →
         ServesBoth definition key first second old.0 final.0
     serves_both second final then =
@@ -205,7 +205,7 @@ module _ {Object State Call Reply : Type 0}
         }
 
   -- which is what was served where the second follows the first
-  pub serves_then : (key : Key Object) (own : ℕ) (first : Served Call Reply)
+  pub serves_then : (key : Key Object) (own : ℕ) (first : Operation Call Reply)
       (follower : Option Call) (by : ℕ) (next : Call) (reply : Reply)
       (old new : View Object Call Reply) → follower ≡ Some next →
       by ≡ unwrap_or (definition.named next) own →
@@ -233,22 +233,22 @@ module _ {Object State Call Reply : Type 0}
       before after) by_is serves))
 
   -- one request or two change the seat's own number not
-  pub then_number : (key : Key Object) (own : ℕ) (first : Served Call Reply)
+  pub then_number : (key : Key Object) (own : ℕ) (first : Operation Call Reply)
       (next : Option Call) (reply : Option Reply) (old new : View Object Call Reply) →
       ServesThen definition key own first next reply old new →
       new.account.number ≡ old.account.number
   then_number key own first None None old new serves =
-      ap (λ (account : Account (Served Call Reply)). account.number) serves.account.new_is
+      ap (λ (account : Account (Operation Call Reply)). account.number) serves.account.new_is
   then_number key own first (Some next) (Some reply) old new serves =
-      ap (λ (account : Account (Served Call Reply)). account.number)
+      ap (λ (account : Account (Operation Call Reply)). account.number)
       serves.second_served.account.new_is
-      ∙ ap (λ (account : Account (Served Call Reply)). account.number)
+      ∙ ap (λ (account : Account (Operation Call Reply)). account.number)
       serves.first_served.account.new_is
   then_number key own first None (Some reply) old new serves = absurd serves
   then_number key own first (Some next) None old new serves = absurd serves
 
   -- and take none
-  pub then_keeps : (key : Key Object) (own : ℕ) (first : Served Call Reply)
+  pub then_keeps : (key : Key Object) (own : ℕ) (first : Operation Call Reply)
       (next : Option Call) (reply : Option Reply) (old new : View Object Call Reply) →
       ServesThen definition key own first next reply old new →
       (number : ℕ) → has_number old.account.shares number ≡ true →
@@ -290,7 +290,7 @@ module _ {Object State Call Reply : Type 0}
           key = refl;
           stage = refl;
           number = seat.number
-              ∙ sym (ap (λ (account : Account (Served Call Reply)). account.number)
+              ∙ sym (ap (λ (account : Account (Operation Call Reply)). account.number)
               first.account.new_is);
           own = keeps_numbers _ (view_of old) between first old.number seat.own;
         };

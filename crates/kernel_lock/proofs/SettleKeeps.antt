@@ -13,7 +13,7 @@ use Rattle.kernel_lock.specs.declared.view.Stage.{Stage}
 use Rattle.kernel_lock.specs.declared.view.Stage.TheVariants.{Joining}
 use Rattle.kernel_lock.specs.declared.view.View.{View}
 use Rattle.kernel_lock.specs.Definition.{Definition, meaning_of, opening_state}
-use Rattle.kernel_lock.specs.Rule.{Standing, FitsStage, FitsLock, IsOneHistory}
+use Rattle.kernel_lock.specs.Rule.{LockState, FitsStage, FitsLock, IsOneHistory}
 use Rattle.kernel_lock.specs.Steps.{Slot, Me, HasSettled, HasMerged}
 use Rattle.kernel_lock.specs.View.{joined_view, settled_view}
 use Rattle.kernel_lock.proofs.RuleLemmas.{sits, knows_history}
@@ -48,7 +48,7 @@ module _ {Object State Call Reply : Type 0}
     },
   )
     where
-      now : Standing Call Reply
+      now : LockState Call Reply
       now = record { ledger = rule.ledger; holder = rule.holder; word = get_or s.words 0 0 }
 
       fits : FitsLock now id me.0

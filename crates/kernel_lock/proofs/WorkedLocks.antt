@@ -9,7 +9,7 @@ use Rattle.histories.specs.Changes.{IsNext, LooksAt, child_account}
 use Rattle.kernel_lock.specs.Calls.{ServesBoth, ServesThen}
 use Rattle.kernel_lock.specs.Calls.{IsNew, Serves, GivesSeat, RefusesSeat, JoinsSeats, EndsHistory}
 use Rattle.kernel_lock.specs.declared.view.Key.{Key}
-use Rattle.kernel_lock.specs.declared.view.Served.{Served}
+use Rattle.kernel_lock.specs.declared.view.Operation.{Operation}
 use Rattle.kernel_lock.specs.declared.view.Stage.TheVariants.{Outside}
 use Rattle.kernel_lock.specs.declared.view.View.{View}
 use Rattle.kernel_lock.specs.Definition.{Definition, IsRight, server, meaning_of}
@@ -31,11 +31,11 @@ counter =
       named = names;
     }
 
-abbrev served : ℕ → ℕ → ℕ → Served ℕ ℕ
+abbrev served : ℕ → ℕ → ℕ → Operation ℕ ℕ
 served by amount reply = record { by = by; request = amount; reply = reply }
 
 -- newest first: seat 1 adds 2 to 5, then seat 0 adds 3
-abbrev day : List (Served ℕ ℕ)
+abbrev day : List (Operation ℕ ℕ)
 day = served 0 3 10 ∷ served 1 2 7 ∷ []
 
 the_sum_of_the_day : state_after (meaning_of counter) 5 day ≡ 10
@@ -95,11 +95,11 @@ joined : HasAllNumbers (joined_view (parent_view inside) (child_view inside)).ac
 joined = record { first = refl; gave = (refl, tt) }
 
 -- 2 is not the next number of a seat that has all numbers and lacks 1
-not_the_next : IsNext {Entry = Served ℕ ℕ} server (first_account 0) 2 → ⊥
+not_the_next : IsNext {Entry = Operation ℕ ℕ} server (first_account 0) 2 → ⊥
 not_the_next next =
     let out : false ≡ true = next.all record { first = refl; gave = tt } 1 (omega arith) in cc
 
-the_next : IsNext {Entry = Served ℕ ℕ} server (first_account 0) 1
+the_next : IsNext {Entry = Operation ℕ ℕ} server (first_account 0) 1
 the_next =
     record {
       own = (omega arith, tt);
@@ -114,7 +114,7 @@ the_next =
 -- ---- what no call does: each breaks one row
 
 -- the first seat, which has made these requests and given these numbers, and knows of so many seats
-abbrev seat : List (Served ℕ ℕ) → List ℕ → ℕ → View ℕ ℕ ℕ
+abbrev seat : List (Operation ℕ ℕ) → List ℕ → ℕ → View ℕ ℕ ℕ
 seat mine gave given =
     record {
       key = None;
@@ -138,18 +138,18 @@ child given =
       stage = Outside;
     }
 
-abbrev adds_three : List (Served ℕ ℕ)
+abbrev adds_three : List (Operation ℕ ℕ)
 adds_three = served 0 3 8 ∷ []
 
-abbrev adds_three_wrongly : List (Served ℕ ℕ)
+abbrev adds_three_wrongly : List (Operation ℕ ℕ)
 adds_three_wrongly = served 0 3 9 ∷ []
 
 -- a seat that has all numbers looked at no more than it had seen
-no_more : (mine : List (Served ℕ ℕ)) (history : List (Served ℕ ℕ))
+no_more : (mine : List (Operation ℕ ℕ)) (history : List (Operation ℕ ℕ))
     → LooksAt server history (seat mine [] 1).account → history ≡ mine
 no_more mine history looked =
     looked.history_is
-    ∙ ap (λ (since : List (Served ℕ ℕ)). since ++ mine)
+    ∙ ap (λ (since : List (Operation ℕ ℕ)). since ++ mine)
     (looked.alone (record { first = refl; gave = tt }))
 
 -- an end that forgets the request, and one of a history that is not legal
@@ -157,13 +157,14 @@ the_request_is_forgotten : EndsHistory counter 5 1 (seat adds_three [] 1) 5 → 
 the_request_is_forgotten ends =
     let is = no_more adds_three ends.history ends.looked in
     let left : 5 ≡ 8 = ends.object_is
-    ∙ ap (λ (history : List (Served ℕ ℕ)). state_after (meaning_of counter) 5 history) is in
+    ∙ ap (λ (history : List (Operation ℕ ℕ)). state_after (meaning_of counter) 5 history) is in
     omega (arith, left)
 
 the_reply_is_wrong : EndsHistory counter 5 1 (seat adds_three_wrongly [] 1) 8 → ⊥
 the_reply_is_wrong ends =
     let is = no_more adds_three_wrongly ends.history ends.looked in
-    let legal = subst (λ (history : List (Served ℕ ℕ)). IsLegal (meaning_of counter) 5 history) is
+    let legal = subst (λ (history : List (Operation ℕ ℕ)). IsLegal (meaning_of counter) 5 history)
+    is
     ends.legal.legal in
     let wrong : 9 ≡ 8 = legal.0.reply in
     omega (arith, wrong)
@@ -171,7 +172,7 @@ the_reply_is_wrong ends =
 -- a new seat that was at work, and one that knows of another
 a_new_seat_was_at_work : IsNew 0 [] 1 (seat adds_three [] 1) → ⊥
 a_new_seat_was_at_work new =
-    let seen = ap (λ (account : Account (Served ℕ ℕ)). length account.seen) new.account in
+    let seen = ap (λ (account : Account (Operation ℕ ℕ)). length account.seen) new.account in
     omega (arith, seen)
 
 a_new_seat_knows_of_another : IsNew {Object = ℕ} 0 [] 1 (seat [] [] 2) → ⊥
@@ -180,7 +181,8 @@ a_new_seat_knows_of_another new = let given = new.given_is in omega (arith, give
 -- a request that no history has, and one that makes the seat forget a split
 no_request : Serves (served 0 3 8) (seat [] [] 1) (seat [] [] 1) → ⊥
 no_request serves =
-    let seen = ap (λ (account : Account (Served ℕ ℕ)). length account.seen) serves.account.new_is in
+    let seen = ap (λ (account : Account (Operation ℕ ℕ)). length account.seen) serves.account.new_is
+    in
     omega (arith, seen)
 
 a_split_is_forgotten : Serves (served 0 3 8) (seat [] [] 2) (seat adds_three [] 1) → ⊥
@@ -191,7 +193,7 @@ a_split_is_forgotten serves = let given = serves.given in omega (arith, given)
 abbrev five : Key ℕ
 five = record { opening = record { marker = _; value = 5 }; limit = 1 }
 
-abbrev adds_two_behind : List (Served ℕ ℕ) → List (Served ℕ ℕ)
+abbrev adds_two_behind : List (Operation ℕ ℕ) → List (Operation ℕ ℕ)
 adds_two_behind past = served 0 2 10 ∷ past
 
 -- another request between the two, no second request, and a first one that is answered wrong
@@ -201,16 +203,16 @@ another_stands_between :
 another_stands_between both =
     let next : served 1 0 8 ∷ adds_three ≡ both.between.account.seen =
     ap (drop 1) both.at_once in
-    let first = ap (λ (account : Account (Served ℕ ℕ)). account.seen)
+    let first = ap (λ (account : Account (Operation ℕ ℕ)). account.seen)
     both.first_served.account.new_is in
     let wrong : 1 ≡ 0 = ap oldest (next ∙ first) in
     omega (arith, wrong)
   where
-    drop : ℕ → List (Served ℕ ℕ) → List (Served ℕ ℕ)
+    drop : ℕ → List (Operation ℕ ℕ) → List (Operation ℕ ℕ)
     drop count [] = []
     drop count (entry ∷ past) = past
 
-    oldest : List (Served ℕ ℕ) → ℕ
+    oldest : List (Operation ℕ ℕ) → ℕ
     oldest [] = 0
     oldest (entry ∷ past) = entry.by
 
@@ -218,9 +220,9 @@ the_second_is_left_out :
     ServesBoth counter five (served 0 3 8) (served 0 2 10) (seat [] [] 1)
     (seat (adds_two_behind []) [] 1) → ⊥
 the_second_is_left_out both =
-    let first = ap (λ (account : Account (Served ℕ ℕ)). length account.seen)
+    let first = ap (λ (account : Account (Operation ℕ ℕ)). length account.seen)
     both.first_served.account.new_is in
-    let all = ap (λ (seen : List (Served ℕ ℕ)). length seen) both.at_once in
+    let all = ap (λ (seen : List (Operation ℕ ℕ)). length seen) both.at_once in
     omega (arith, first, all)
 
 the_first_is_answered_wrong :
@@ -230,9 +232,10 @@ the_first_is_answered_wrong both =
     let first = both.first_served.account in
     let none = no_more [] first.past first.looked in
     let legal : IsLegal (meaning_of counter) 5 adds_three_wrongly =
-    subst (λ (past : List (Served ℕ ℕ)). IsLegal (meaning_of counter) 5 (served 0 3 9 ∷ past)) none
-    (subst (λ (seen : List (Served ℕ ℕ)). IsLegal (meaning_of counter) 5 seen)
-    (ap (λ (account : Account (Served ℕ ℕ)). account.seen) first.new_is)
+    subst (λ (past : List (Operation ℕ ℕ)). IsLegal (meaning_of counter) 5 (served 0 3 9 ∷ past))
+    none
+    (subst (λ (seen : List (Operation ℕ ℕ)). IsLegal (meaning_of counter) 5 seen)
+    (ap (λ (account : Account (Operation ℕ ℕ)). account.seen) first.new_is)
     both.knows.history.legal) in
     let wrong : 9 ≡ 8 = legal.0.reply in
     omega (arith, wrong)
@@ -258,7 +261,7 @@ a_number_that_was_given gives = let later = gives.later in omega (arith, later)
 the_parent_tells_nobody : GivesSeat 9 (seat [] [] 1) (seat [] [] 2) (child 2) → ⊥
 the_parent_tells_nobody gives =
     let gave =
-    ap (λ (account : Account (Served ℕ ℕ)). length account.gave) gives.account.parent_is in
+    ap (λ (account : Account (Operation ℕ ℕ)). length account.gave) gives.account.parent_is in
     omega (arith, gave)
 
 the_parent_forgets : GivesSeat 9 (seat [] [] 1) (seat [] (1 ∷ []) 1) (child 2) → ⊥
@@ -283,7 +286,7 @@ refused_and_given refuses =
 the_second_is_forgotten : JoinsSeats (seat [] (1 ∷ []) 2) (child 2) (seat [] (1 ∷ []) 2) → ⊥
 the_second_is_forgotten joins =
     let shares =
-    ap (λ (account : Account (Served ℕ ℕ)). length account.shares) joins.account.joined_is in
+    ap (λ (account : Account (Operation ℕ ℕ)). length account.shares) joins.account.joined_is in
     omega (arith, shares)
 
 what_it_knew_is_forgotten : JoinsSeats (seat [] (1 ∷ []) 2) (child 3) (seat [] (1 ∷ []) 2) → ⊥

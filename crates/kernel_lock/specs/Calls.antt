@@ -5,7 +5,7 @@ use Rattle.histories.specs.History.{IsHistory, state_after}
 use Rattle.histories.specs.Account.{KnowsHistory, unused_share}
 use Rattle.histories.specs.Changes.{LooksAt, AddsEntry, IsNext, GivesNumber, JoinsAccounts}
 use Rattle.kernel_lock.specs.declared.view.Key.{Key}
-use Rattle.kernel_lock.specs.declared.view.Served.{Served}
+use Rattle.kernel_lock.specs.declared.view.Operation.{Operation}
 use Rattle.kernel_lock.specs.declared.view.View.{View}
 use Rattle.kernel_lock.specs.Definition.{Definition, server, meaning_of, opening_state}
 
@@ -19,7 +19,7 @@ module _ {Object Call Reply : Type 0} where
     pub given_is : view.given ≡ given
 
   -- a request was served: it stands behind a past that ends what the seat had seen
-  pub record Serves (served : Served Call Reply)
+  pub record Serves (served : Operation Call Reply)
       (old new : View Object Call Reply) : Type 0 where
     pub account : AddsEntry server served old.account new.account
     pub given : old.given ≤ new.given
@@ -46,7 +46,7 @@ module _ {Object Call Reply : Type 0} where
 module _ {Object State Call Reply : Type 0}
     (definition : Definition Object State Call Reply) (key : Key Object) where
   -- two requests were served, the second right behind the first
-  pub record ServesBoth (first second : Served Call Reply)
+  pub record ServesBoth (first second : Operation Call Reply)
       (old new : View Object Call Reply) : Type 0 where
     -- what the seat knows between the two
     pub between : View Object Call Reply
@@ -59,7 +59,7 @@ module _ {Object State Call Reply : Type 0}
 
   -- a request was served, and the one that followed its answer, if one did, by the seat that it
   -- names or else by the seat's own number
-  abbrev pub ServesThen : ℕ → Served Call Reply → Option Call → Option Reply →
+  abbrev pub ServesThen : ℕ → Operation Call Reply → Option Call → Option Reply →
       View Object Call Reply → View Object Call Reply → Type 0
   ServesThen own first None None old new = Serves first old new
   ServesThen own first (Some next) (Some reply) old new =
@@ -72,7 +72,7 @@ module _ {Object State Call Reply : Type 0}
 pub record EndsHistory {Object State Call Reply : Type 0}
     (definition : Definition Object State Call Reply) (opening : State) (limit : ℕ)
     (view : View Object Call Reply) (object : Object) : Type 0 where
-  pub history : List (Served Call Reply)
+  pub history : List (Operation Call Reply)
   pub looked : LooksAt server history view.account
   pub legal : IsHistory (meaning_of definition) opening limit history
   pub object_is : definition.state object ≡ state_after (meaning_of definition) opening history

@@ -2,7 +2,7 @@
 use Rattle.std.specs.Prelude.{◌≡◌, ℕ, Option, IfSome}
 use Rattle.histories.specs.History.{Meaning}
 use Rattle.kernel_lock.specs.declared.view.Key.{Key}
-use Rattle.kernel_lock.specs.declared.view.Served.{Served}
+use Rattle.kernel_lock.specs.declared.view.Operation.{Operation}
 
 pub record Definition (Object State Call Reply : Type 0) : Type 0 where
   -- what an object means
@@ -14,18 +14,18 @@ pub record Definition (Object State Call Reply : Type 0) : Type 0 where
   pub named : Call → Option ℕ
 
 -- the number of the seat that made the request
-abbrev pub server : {Call Reply : Type 0} → Served Call Reply → ℕ
+abbrev pub server : {Call Reply : Type 0} → Operation Call Reply → ℕ
 server served = served.by
 
 module _ {Object State Call Reply : Type 0}
     (definition : Definition Object State Call Reply) where
   -- the reply is the definition's in this state, and a request that names a seat is by that seat
-  pub record IsRight (state : State) (served : Served Call Reply) : Type 0 where
+  pub record IsRight (state : State) (served : Operation Call Reply) : Type 0 where
     pub reply : served.reply ≡ definition.answer state served.request
     pub named : IfSome (definition.named served.request) (λ number. number ≡ served.by)
 
   -- a history of served requests, newest first
-  abbrev pub meaning_of : Meaning State (Served Call Reply)
+  abbrev pub meaning_of : Meaning State (Operation Call Reply)
   meaning_of =
       record {
         by = server;

@@ -8,7 +8,7 @@ use Rattle.histories.specs.History.{IsPast, IsLegal, state_after}
 use Rattle.histories.specs.Ledger.{Ledger, AreSeats}
 use Rattle.kernel_lock.specs.declared.view.Guarded.{Guarded}
 use Rattle.kernel_lock.specs.declared.view.Key.{Key}
-use Rattle.kernel_lock.specs.declared.view.Served.{Served}
+use Rattle.kernel_lock.specs.declared.view.Operation.{Operation}
 use Rattle.kernel_lock.specs.declared.view.Stage.{Stage}
 use Rattle.kernel_lock.specs.declared.view.Stage.TheVariants.{Outside, Inside, Joining}
 use Rattle.kernel_lock.specs.declared.view.View.{View}
@@ -16,15 +16,15 @@ use Rattle.kernel_lock.specs.Definition.{Definition, server, meaning_of, opening
 use Rattle.kernel_lock.specs.View.{account_of}
 
 -- how a lock stands: the one history with its numbers, the seat that is inside, and the word
-pub record Standing (Call Reply : Type 0) : Type 0 where
-  pub ledger : Ledger (Served Call Reply)
+pub record LockState (Call Reply : Type 0) : Type 0 where
+  pub ledger : Ledger (Operation Call Reply)
   pub holder : ℕ
   pub word : ℕ
 
-module _ {Call Reply : Type 0} (now : Standing Call Reply) (seat : ℕ) where
+module _ {Call Reply : Type 0} (now : LockState Call Reply) (seat : ℕ) where
   -- the seat is the one that is inside: the word is 1, and it knows the history
   -- and how many seats were given
-  pub record IsInside (known : List (Served Call Reply)) (given : ℕ) : Type 0 where
+  pub record IsInside (known : List (Operation Call Reply)) (given : ℕ) : Type 0 where
     pub history_is : known ≡ now.ledger.history
     pub given_is : given ≡ now.ledger.next
     pub holder_is : seat ≡ now.holder
@@ -44,7 +44,7 @@ module _ {Call Reply : Type 0} (now : Standing Call Reply) (seat : ℕ) where
 module _ {Object State Call Reply : Type 0}
     (definition : Definition Object State Call Reply) where
   -- the object lies in the slot as the history leaves it, and beside it lies the next number
-  pub record IsAtHome (key : Key Object) (ledger : Ledger (Served Call Reply))
+  pub record IsAtHome (key : Key Object) (ledger : Ledger (Operation Call Reply))
       (homes : List (maybe.Option (Option (Guarded Object)))) : Type 0 where
     pub guarded : Guarded Object
     pub there : get_elem? homes 0 ≡ some (some (Some guarded))
@@ -56,7 +56,7 @@ module _ {Object State Call Reply : Type 0}
   pub record IsOneHistory (key : Key Object)
       (s : table.State (Option (Guarded Object)) (View Object Call Reply)) : Type 0 where
     -- the history, and who has which number
-    pub ledger : Ledger (Served Call Reply)
+    pub ledger : Ledger (Operation Call Reply)
     -- the seat that is inside, where one is
     pub holder : ℕ
     -- the table has one word

@@ -6,7 +6,7 @@ use Rattle.histories.specs.declared.account.Share.{Share}
 use Rattle.histories.specs.Account.{HasAllNumbers, KnowsHistory, has_number}
 use Rattle.kernel_lock.specs.declared.lock_seat.LockSeat.{LockSeat}
 use Rattle.kernel_lock.specs.declared.locked.Locked.{Locked}
-use Rattle.kernel_lock.specs.declared.view.Served.{Served}
+use Rattle.kernel_lock.specs.declared.view.Operation.{Operation}
 use Rattle.kernel_lock.specs.declared.view.Stage.TheVariants.{Outside}
 use Rattle.kernel_lock.specs.declared.view.View.{View}
 use Rattle.kernel_lock.specs.Calls.{IsNew, Serves, GivesSeat, RefusesSeat, JoinsSeats, EndsHistory}
@@ -23,7 +23,7 @@ module _ {Object Call Reply : Type 0} where
   view_of seat = head_view seat.badge.views
 
   -- the seat's account: its numbers with their requests, what it has seen, the numbers that it gave
-  abbrev pub account_of : LockSeat Object Call Reply → Account (Served Call Reply)
+  abbrev pub account_of : LockSeat Object Call Reply → Account (Operation Call Reply)
   account_of seat = (view_of seat).account
 
   -- the number under which the seat makes the requests that name no seat
@@ -31,11 +31,11 @@ module _ {Object Call Reply : Type 0} where
   number_of seat = seat.number
 
   -- the seat's numbers, each with its requests: its mine
-  abbrev pub shares_of : LockSeat Object Call Reply → List (Share (Served Call Reply))
+  abbrev pub shares_of : LockSeat Object Call Reply → List (Share (Operation Call Reply))
   shares_of seat = (account_of seat).shares
 
   -- the history as far as the seat has seen it, newest first
-  abbrev pub seen_of : LockSeat Object Call Reply → List (Served Call Reply)
+  abbrev pub seen_of : LockSeat Object Call Reply → List (Operation Call Reply)
   seen_of seat = (account_of seat).seen
 
   -- the numbers that the seat gave
@@ -98,7 +98,7 @@ module _ {Object State Call Reply : Type 0}
   NamesOwn seat request = IfSome (definition.named request) (HasNumber seat)
 
   -- the request of this seat with its reply
-  abbrev pub served_by : LockSeat Object Call Reply → Call → Reply → Served Call Reply
+  abbrev pub served_by : LockSeat Object Call Reply → Call → Reply → Operation Call Reply
   served_by seat request reply =
       record {
         by = unwrap_or (definition.named request) (number_of seat);

@@ -7,7 +7,7 @@ use Rattle.histories.specs.Account.{KnowsHistory, has_number}
 use Rattle.histories.specs.Changes.{LooksAt, IsNext}
 use Rattle.kernel_lock.specs.declared.view.Guarded.{Guarded}
 use Rattle.kernel_lock.specs.declared.view.Key.{Key}
-use Rattle.kernel_lock.specs.declared.view.Served.{Served}
+use Rattle.kernel_lock.specs.declared.view.Operation.{Operation}
 use Rattle.kernel_lock.specs.declared.view.Stage.TheVariants.{Outside, Inside, Joining}
 use Rattle.kernel_lock.specs.declared.view.View.{View}
 use Rattle.kernel_lock.specs.Calls.{Serves}
@@ -29,9 +29,9 @@ module _ {Object Call Reply : Type 0} where
     pub same : after ≡ before
 
   -- Release: the seat is outside, and has seen the history with the request, if one was served
-  pub record HasReleased (served : Option (Served Call Reply))
+  pub record HasReleased (served : Option (Operation Call Reply))
       (before after : Me Object Call Reply) : Type 0 where
-    pub view_is : (history : List (Served Call Reply)) → before.0.stage ≡ Inside history →
+    pub view_is : (history : List (Operation Call Reply)) → before.0.stage ≡ Inside history →
         after.0 ≡ outside_view history served before.0
     pub slots_are : after.1 ≡ table.rest before.1
 
@@ -47,7 +47,7 @@ module _ {Object Call Reply : Type 0} where
 
   -- the seat is inside, and the number beside the object is the next one
   pub record IsInsideWith (me : Me Object Call Reply) : Type 0 where
-    pub history : List (Served Call Reply)
+    pub history : List (Operation Call Reply)
     pub guarded : Guarded Object
     pub stage_is : me.0.stage ≡ Inside history
     pub slots_are : me.1 ≡ (0, Some guarded) ∷ []
@@ -66,7 +66,7 @@ module _ {Object State Call Reply : Type 0}
     (definition : Definition Object State Call Reply) where
   -- what a seat finds inside: the object, as the history leaves it
   pub record FindsObject (key : Key Object) (view : View Object Call Reply)
-      (history : List (Served Call Reply)) (guarded : Guarded Object) : Type 0 where
+      (history : List (Operation Call Reply)) (guarded : Guarded Object) : Type 0 where
     pub object : definition.state guarded.object ≡
         state_after (meaning_of definition) (opening_state definition key) history
     pub legal : IsHistory (meaning_of definition) (opening_state definition key) key.limit history
@@ -76,7 +76,7 @@ module _ {Object State Call Reply : Type 0}
 
   -- the seat is inside and has the slot, and knows the history and the next number
   pub record TakesLock (before after : Me Object Call Reply) : Type 0 where
-    pub history : List (Served Call Reply)
+    pub history : List (Operation Call Reply)
     pub guarded : Guarded Object
     pub view_is : after.0 ≡ inside_view history guarded.next before.0
     pub slots_are : after.1 ≡ (0, Some guarded) ∷ before.1
@@ -93,14 +93,14 @@ module _ {Object State Call Reply : Type 0}
     pub taken : found ≢ 0 → after ≡ before
 
   -- the request was answered right, and is by one of the seat's numbers
-  pub record IsOwnRight (key : Key Object) (history : List (Served Call Reply))
-      (view : View Object Call Reply) (served : Served Call Reply) : Type 0 where
+  pub record IsOwnRight (key : Key Object) (history : List (Operation Call Reply))
+      (view : View Object Call Reply) (served : Operation Call Reply) : Type 0 where
     pub right : IsRight definition
         (state_after (meaning_of definition) (opening_state definition key) history) served
     pub own : IsTrue (has_number view.account.shares served.by)
 
   -- Enter: as if the seat had given the lock back, and at once had taken it again
-  pub record HasEntered (served : Option (Served Call Reply))
+  pub record HasEntered (served : Option (Operation Call Reply))
       (before after : Me Object Call Reply) : Type 0 where
     pub between : Me Object Call Reply
     pub released : HasReleased served before between
@@ -109,9 +109,9 @@ module _ {Object State Call Reply : Type 0}
     pub at_once : IfSome served (λ _. taken.history ≡ between.0.account.seen)
 
   -- what a release asks: the object in the slot is what the history and the request leave
-  pub record IsDue (key : Key Object) (served : Option (Served Call Reply))
+  pub record IsDue (key : Key Object) (served : Option (Operation Call Reply))
       (me : Me Object Call Reply) : Type 0 where
-    pub history : List (Served Call Reply)
+    pub history : List (Operation Call Reply)
     pub guarded : Guarded Object
     pub others : List (ℕ × Slot Object)
     pub key_is : me.0.key ≡ Some key
@@ -144,8 +144,8 @@ module _ {Object State Call Reply : Type 0}
     pub taken : TakesLock before after
 
   -- and is outside again, behind the request that it made inside, where it found this history
-  pub record HasServed (key : Key Object) (history : List (Served Call Reply))
-      (served : Served Call Reply) (before after : Me Object Call Reply) : Type 0 where
+  pub record HasServed (key : Key Object) (history : List (Operation Call Reply))
+      (served : Operation Call Reply) (before after : Me Object Call Reply) : Type 0 where
     -- it is still one of this lock's
     pub key_is : after.0.key ≡ Some key
     pub stage_is : after.0.stage ≡ Outside
@@ -162,7 +162,7 @@ module _ {Object State Call Reply : Type 0}
   pub record HasSettled (before after : Me Object Call Reply) : Type 0 where
     pub view_is : after.0 ≡ settled_view before.0
     pub slots_are : after.1 ≡ before.1
-    pub other : (other : List (Served Call Reply)) → before.0.stage ≡ Joining other →
+    pub other : (other : List (Operation Call Reply)) → before.0.stage ≡ Joining other →
         length other ≤ length before.0.account.seen → IsPast other before.0.account.seen
     pub knows : (key : Key Object) → before.0.key ≡ Some key →
         KnowsHistory (meaning_of definition) (opening_state definition key) key.limit

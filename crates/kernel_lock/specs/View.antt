@@ -4,19 +4,19 @@ use Rattle.histories.specs.declared.account.Account.{Account}
 use Rattle.histories.specs.Account.{first_account, spent_account, shorter_of, has_number}
 use Rattle.histories.specs.Changes.{entered_account, parent_account, child_account, joined_account}
 use Rattle.kernel_lock.specs.declared.view.Key.{Key}
-use Rattle.kernel_lock.specs.declared.view.Served.{Served}
+use Rattle.kernel_lock.specs.declared.view.Operation.{Operation}
 use Rattle.kernel_lock.specs.declared.view.Stage.TheVariants.{Outside, Inside, Joining}
 use Rattle.kernel_lock.specs.declared.view.View.{View}
 use Rattle.kernel_lock.specs.Definition.{server}
 
 -- a history with the request that was served, if one was
-abbrev pub history_with : {Call Reply : Type 0} → Option (Served Call Reply) →
-    List (Served Call Reply) → List (Served Call Reply)
+abbrev pub history_with : {Call Reply : Type 0} → Option (Operation Call Reply) →
+    List (Operation Call Reply) → List (Operation Call Reply)
 history_with None history = history
 history_with (Some served) history = served ∷ history
 
 module _ {Object Call Reply : Type 0} where
-  abbrev pub account_of : View Object Call Reply → Account (Served Call Reply)
+  abbrev pub account_of : View Object Call Reply → Account (Operation Call Reply)
   account_of view = view.account
 
   -- a seat that was spent in a join: it has no number and has seen nothing
@@ -34,12 +34,12 @@ module _ {Object Call Reply : Type 0} where
       }
 
   -- the seat is inside, and knows the history and how many seats were given
-  abbrev pub inside_view : List (Served Call Reply) → ℕ → View Object Call Reply →
+  abbrev pub inside_view : List (Operation Call Reply) → ℕ → View Object Call Reply →
       View Object Call Reply
   inside_view history given view = record view { given = given; stage = Inside history }
 
   -- the seat is outside again; if a request was served, it has seen the history with that one
-  abbrev pub outside_view : List (Served Call Reply) → Option (Served Call Reply) →
+  abbrev pub outside_view : List (Operation Call Reply) → Option (Operation Call Reply) →
       View Object Call Reply → View Object Call Reply
   outside_view history None view = record view { stage = Outside }
   outside_view history (Some served) view =

@@ -31,9 +31,9 @@ impl<O, Q, R> Play<Option<Guarded<O>>, View<O, Q, R>> for Watch {
 /// The request that was served inside, or none where the seat was divided.
 /// Each release picks it.
 pub trait Made<Q, R> {
-    ghost use Rattle.kernel_lock.specs.declared.view.Served.{Served};
+    ghost use Rattle.kernel_lock.specs.declared.view.Operation.{Operation};
 
-    ghost served: { Option (Served Q R) };
+    ghost served: { Option (Operation Q R) };
 }
 
 impl<Q, R> Made<Q, R> for Brand {

@@ -5,7 +5,7 @@ use std::collections::LinkedList;
 use std::snapshot::Snapshot;
 
 /// One request in the history of an object.
-pub struct Served<Q, R> {
+pub struct Operation<Q, R> {
     /// The number of the seat that made the request.
     pub by: u64,
     pub request: Q,
@@ -16,9 +16,9 @@ pub struct Served<Q, R> {
 pub enum Stage<Q, R> {
     Outside,
     /// It has taken the lock, and this is the history.
-    Inside(LinkedList<Served<Q, R>>),
+    Inside(LinkedList<Operation<Q, R>>),
     /// It was joined with a seat that had seen this.
-    Joining(LinkedList<Served<Q, R>>),
+    Joining(LinkedList<Operation<Q, R>>),
 }
 
 /// What is fixed when a lock is made.
@@ -34,7 +34,7 @@ pub struct View<O, Q, R> {
     /// The key of its lock, or `None` where it was spent in a join.
     pub key: Option<Key<O>>,
     /// Its numbers with their requests, what it has seen, and the numbers that it gave.
-    pub account: Account<Served<Q, R>>,
+    pub account: Account<Operation<Q, R>>,
     /// How many seats it knows to have been given: the numbers below this one.
     pub given: u64,
     pub stage: Stage<Q, R>,

@@ -47,18 +47,18 @@ impl Taken {
     }
 }
 
-/// Whether a thread that has to get the lock has slept for it.
+/// An attempt at the lock: whether the thread that has to get it has slept for it.
 /// It can't be dropped: `pass_on` spends it.
 #[must_use]
-pub(crate) struct Turn {
+pub(crate) struct Attempt {
     slept: bool,
 }
 
-impl Turn {
-    pub(crate) fn new() -> Turn
+impl Attempt {
+    pub(crate) fn new() -> Attempt
         ensures { result.slept ≡ false }
     {
-        Turn { slept: false }
+        Attempt { slept: false }
     }
 }
 
@@ -111,21 +111,21 @@ impl Waiters {
     }
 
     /// Sleeps until the next wake, if there was none since the announcement.
-    pub(crate) fn sleep<R: Wait>(&self, rt: &R, taken: Taken, turn: Turn) -> Turn
+    pub(crate) fn sleep<R: Wait>(&self, rt: &R, taken: Taken, attempt: Attempt) -> Attempt
         ensures slept { result.slept ≡ true }
     {
-        let Turn { slept: _ } = turn;
+        let Attempt { slept: _ } = attempt;
         self.mark.park(rt, taken.announced.mark);
-        Turn { slept: true }
+        Attempt { slept: true }
     }
 
-    /// Ends the turn of a thread that has the lock, and says whether it set the mark again.
+    /// Ends the attempt of a thread that has the lock, and says whether it set the mark again.
     /// Where it slept others may sleep still, and it was woken in their place:
     /// its release wakes one of them.
-    pub(crate) fn pass_on(&self, turn: Turn) -> Option<Announced>
-        ensures slept { IfNone result (turn.slept ≡ false) }
+    pub(crate) fn pass_on(&self, attempt: Attempt) -> Option<Announced>
+        ensures slept { IfNone result (attempt.slept ≡ false) }
     {
-        let Turn { slept } = turn;
+        let Attempt { slept } = attempt;
         if slept { Some(self.announce()) } else { None }
     }
 

@@ -8,7 +8,7 @@ use crate::object::Object;
 use crate::plays::Made;
 use crate::rule::Stepper;
 use crate::steps::FREE;
-use crate::waiters::{Announced, GivenBack, Taken, Turn};
+use crate::waiters::{Announced, Attempt, GivenBack, Taken};
 use std::hint::spin_loop;
 use std::sync::Wait;
 
@@ -35,44 +35,49 @@ impl<O: Object> Locked<O> {
         if self.acquire(stepper) {
             return;
         }
-        let mut turn = Turn::new();
+        let mut attempt = Attempt::new();
         for _ in rt.forever() {
-            turn = self.wait(rt, stepper, turn);
+            attempt = self.wait(rt, stepper, attempt);
             if self.acquire(stepper) {
                 break;
             }
         }
-        self.waiters.pass_on(turn);
+        self.waiters.pass_on(attempt);
     }
 
     // Looks at the word for a while, and then sleeps until a release.
-    fn wait<R: Wait>(&self, rt: &R, stepper: &mut Stepper<O>, turn: Turn) -> Turn
+    fn wait<R: Wait>(&self, rt: &R, stepper: &mut Stepper<O>, attempt: Attempt) -> Attempt
         requires { IsStepperOf self.now stepper.old }
         ensures stepper { IsSameStepper stepper.old stepper.new }
         ensures same { stepper.new.me ≡ stepper.old.me }
-        ensures slept { turn.slept ≡ true → result.slept ≡ true }
+        ensures slept { attempt.slept ≡ true → result.slept ≡ true }
     {
         for _ in 0..LOOKS {
             pause();
             if self.watch(stepper) == FREE {
-                return turn;
+                return attempt;
             }
         }
-        self.sleep(rt, stepper, turn)
+        self.sleep(rt, stepper, attempt)
     }
 
     /// Sleeps until a release, where the lock is still taken.
     // A release before the mark woke nobody. The look after the mark finds that one.
-    pub(crate) fn sleep<R: Wait>(&self, rt: &R, stepper: &mut Stepper<O>, turn: Turn) -> Turn
+    pub(crate) fn sleep<R: Wait>(
+        &self,
+        rt: &R,
+        stepper: &mut Stepper<O>,
+        attempt: Attempt,
+    ) -> Attempt
         requires { IsStepperOf self.now stepper.old }
         ensures stepper { IsSameStepper stepper.old stepper.new }
         ensures same { stepper.new.me ≡ stepper.old.me }
-        ensures slept { turn.slept ≡ true → result.slept ≡ true }
+        ensures slept { attempt.slept ≡ true → result.slept ≡ true }
     {
         let announced = self.waiters.announce();
         match self.watch_again(stepper, announced) {
-            Some(taken) => self.waiters.sleep(rt, taken, turn),
-            None => turn,
+            Some(taken) => self.waiters.sleep(rt, taken, attempt),
+            None => attempt,
         }
     }
 

@@ -11,7 +11,7 @@ use Rattle.counted_slot.proofs.Counted.TheSendSync as counted
 use Rattle.block_queue.proofs.spare.Slot.TheSendSync as slot
 use Rattle.block_queue.specs.contracts.spare.Spare as Spare
 use Rattle.sleep_wakeup.proofs.proc.Proc.TheSendSync as proc
-use Rattle.pipe_dev.specs.contracts.begun.Begun as Begun
+use Rattle.pipe_dev.specs.contracts.remainder.Remainder as Remainder
 use Rattle.pipe_dev.specs.contracts.read_end.ReadEnd as ReadEnd
 use Rattle.pipe_dev.specs.contracts.write_end.WriteEnd as WriteEnd
 use Rattle.pipe_dev.proofs.read_end.ReadEnd.TheSendSync as read_end
@@ -43,15 +43,15 @@ badge_sync V =
 spare_sync : IsSync Spare.the_row
 spare_sync = search (sendable, crosses) depth 30
 
-begun_sync : IsSync Begun.the_row
-begun_sync = search (sendable, crosses) depth 30
+remainder_sync : IsSync Remainder.the_row
+remainder_sync = search (sendable, crosses) depth 30
 
 ruleset end_parts = (
   sendable,
   crosses,
   badge_sync,
   spare_sync,
-  begun_sync,
+  remainder_sync,
   shared.the_sync,
   lease.the_sync,
   slot.the_send,

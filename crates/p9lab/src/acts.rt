@@ -4,7 +4,7 @@ use crate::calling::{Until, can_come, ending, has_come, waiting};
 use crate::desk::Stops;
 use crate::lines::{Words, behind_two, line_of, number_of, words_of};
 use crate::scene::Scene;
-use crate::steps::{Deed, begin, deed_of, step};
+use crate::steps::{Command, begin, command_of, step};
 use crate::verbs::Call;
 use std::alloc::Global;
 use std::sync::Wait;
@@ -133,7 +133,7 @@ fn keep_act(
     let inner = words_of(act_in(text, line))?;
     let number = number_of(inner.list[0]).unwrap_or(0);
     if number > 0 {
-        deed_of(&inner)?;
+        command_of(&inner)?;
         scene.place_of(number)?;
     }
     if acts.keep(point, line, number) {
@@ -172,16 +172,16 @@ fn step_served<R: Threads + Wait + Copy + Send + 'static>(
     let Some(at) = scene.place_of(number) else {
         return step(rt, alloc, scene, words);
     };
-    match deed_of(words)? {
-        Deed::Waits => {
+    match command_of(words)? {
+        Command::Waits => {
             let came = comes_served(rt, alloc, scene, acts, text, at, Until::Waits);
             Some(waiting(came))
         }
-        Deed::Ends => {
+        Command::Ends => {
             let came = comes_served(rt, alloc, scene, acts, text, at, Until::Ends);
             Some(ending(rt, scene, at, came))
         }
-        Deed::Call(call) => Some(call_served(rt, alloc, scene, acts, text, at, call, words)),
+        Command::Call(call) => Some(call_served(rt, alloc, scene, acts, text, at, call, words)),
         _ => step(rt, alloc, scene, words),
     }
 }

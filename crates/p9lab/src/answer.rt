@@ -1,5 +1,7 @@
 //! What a line is answered.
-use plan9::{Done, Fault, Long, NoteSet, ProcStatus, ReadAnswer, RendezStatus, Short, TryAnswer};
+use plan9::{
+    Done, Fault, Long, NoteSet, ProcStatus, ReadAnswer, RendezStatus, ShortRead, TryAnswer,
+};
 
 /// What stands behind the word of an answer.
 #[derive(Clone, Copy)]
@@ -14,7 +16,7 @@ pub enum More {
     /// Those of them at which the process stood posted in a Rendez.
     Posted,
     /// How a process stands, as a look shows it.
-    Standing(ProcStatus),
+    Status(ProcStatus),
     /// How a Rendez stands.
     Level(RendezStatus),
 }
@@ -58,13 +60,13 @@ impl Answer {
     }
 
     /// After ps(1): `Wakeme` is posted, and its Rendez stands behind it; any other is `Ready`.
-    pub fn standing(status: ProcStatus) -> Answer {
+    pub fn status(status: ProcStatus) -> Answer {
         let word = if status.posted.is_some() {
             "Wakeme"
         } else {
             "Ready"
         };
-        Answer::with(word, More::Standing(status))
+        Answer::with(word, More::Status(status))
     }
 
     pub fn level(status: RendezStatus) -> Answer {
@@ -157,12 +159,12 @@ pub fn have_piece(answer: Result<Option<usize>, Fault>) -> Answer {
 }
 
 /// A buffer that is full, or how far it came.
-pub fn have_filled(answer: Result<(), Short>, count: usize) -> Answer {
+pub fn have_filled(answer: Result<(), ShortRead>, count: usize) -> Answer {
     match answer {
         Ok(()) => Answer::got(count),
-        Err(Short { count, fault: None }) => Answer::with("short", More::Bytes(count)),
+        Err(ShortRead { count, fault: None }) => Answer::with("short", More::Bytes(count)),
         Err(
-            Short {
+            ShortRead {
                 count,
                 fault: Some(fault),
             },

@@ -8,7 +8,7 @@ use crate::roles::lone::lone_at;
 use crate::roles::peer::{Peer, first_of, fork_peer};
 use crate::roles::queue::{keeper_at, putter_at, taker_at};
 use crate::roles::sharer::first_sharer;
-use crate::scene::{Begun, Place, Scene, Stay, begin, keep, push, set};
+use crate::scene::{Place, Scene, Setup, Stay, begin, keep, push, set};
 use plan9::{
     Fault, Flags, Guest, Holder, Kernel, NoteSet, OpenedSpace, Pid, Proc, Reader, Roster, Sharer,
     TagSpace, Unforked, WriteEnd, Writer, fork_writers,
@@ -327,7 +327,7 @@ struct Stranger {
 }
 
 fn open_stranger(alloc: Global, procs: u64, rendez: u64) -> Result<Stranger, Fault> {
-    let Begun {
+    let Setup {
         kernel,
         mut roster,
         zero,

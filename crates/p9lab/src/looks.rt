@@ -21,7 +21,7 @@ fn status_of(kernel: &Kernel, statuses: &mut Vec<ProcStatus>, pid: u64) -> Optio
 }
 
 /// How the process with this number stands.
-pub fn standing_of(scene: &mut Scene, number: u64) -> Answer {
+pub fn look_answer(scene: &mut Scene, number: u64) -> Answer {
     let at = scene.place_of(number);
     let Scene {
         kernel,
@@ -37,7 +37,7 @@ pub fn standing_of(scene: &mut Scene, number: u64) -> Answer {
         None => status_of(kernel, statuses, number),
     };
     match seen {
-        Some(status) => Answer::standing(status),
+        Some(status) => Answer::status(status),
         None => refused(Fault::NoProc),
     }
 }

@@ -139,7 +139,7 @@ impl Page {
     }
 
     // The Rendez of one that is posted, its mark, and the notes that are pending.
-    fn put_standing(&mut self, status: ProcStatus) {
+    fn put_status(&mut self, status: ProcStatus) {
         if let Some(rendez) = status.posted {
             self.put_behind(rendez.0);
         }
@@ -177,7 +177,7 @@ impl Page {
             More::Notes(notes) => self.put_notes(notes),
             More::Points => self.put_points(visits),
             More::Posted => self.put_posted(visits),
-            More::Standing(status) => self.put_standing(status),
+            More::Status(status) => self.put_status(status),
             More::Level(status) => self.put_level(status),
         }
         if let Some(number) = answer.behind {

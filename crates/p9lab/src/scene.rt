@@ -69,20 +69,20 @@ pub fn push<T: Drop>(places: &mut Vec<T>, value: T) -> bool {
 
 /// A kernel, its roster and its process 0.
 #[derive(Drop)]
-pub struct Begun {
+pub struct Setup {
     pub kernel: &'static Kernel,
     pub roster: Roster<'static>,
     pub zero: Proc<'static>,
 }
 
-pub fn begin(alloc: Global, made: Result<OpenedKernel, Fault>) -> Result<Begun, Fault>
+pub fn begin(alloc: Global, made: Result<OpenedKernel, Fault>) -> Result<Setup, Fault>
     requires { IfOk made (λ opened. IsStartOf opened.kernel opened.start) }
 {
     let OpenedKernel { kernel, start } = made?;
     let kernel = keep(alloc, kernel)?;
     let kernel = &*kernel;
     let Started { roster, proc } = kernel.start(start);
-    Ok(Begun {
+    Ok(Setup {
         kernel,
         roster,
         zero: proc,
@@ -90,8 +90,8 @@ pub fn begin(alloc: Global, made: Result<OpenedKernel, Fault>) -> Result<Begun, 
 }
 
 /// A scene with this kernel, and nobody but process 0.
-pub fn open(alloc: Global, turns: u64, begun: Result<Begun, Fault>) -> Result<Scene, Fault> {
-    let Begun {
+pub fn open(alloc: Global, turns: u64, begun: Result<Setup, Fault>) -> Result<Scene, Fault> {
+    let Setup {
         kernel,
         roster,
         zero,

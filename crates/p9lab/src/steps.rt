@@ -8,7 +8,7 @@ use crate::casting::{
 };
 use crate::desk::Stops;
 use crate::lines::{WORDS, Words, number_of};
-use crate::looks::{level_of, standing_of};
+use crate::looks::{level_of, look_answer};
 use crate::objects::{
     Stock, made, make_clock, make_group, make_pipe, make_sema, make_space, make_stream,
 };
@@ -26,7 +26,7 @@ use std::thread::Threads;
 
 /// What a process is told.
 #[derive(Clone, Copy)]
-pub enum Deed {
+pub enum Command {
     Waits,
     Ends,
     Points,
@@ -40,24 +40,24 @@ pub enum Deed {
 }
 
 /// What stands behind the number of a process.
-pub fn deed_of(words: &Words<'_>) -> Option<Deed> {
+pub fn command_of(words: &Words<'_>) -> Option<Command> {
     match words.list[1] {
-        "waits" => bare(words, Deed::Waits),
-        "ends" => bare(words, Deed::Ends),
-        "points" => bare(words, Deed::Points),
-        "posted" => bare(words, Deed::Posted),
-        "look" => bare(words, Deed::Look),
-        "fork" => Some(Deed::Fork),
-        "rfork" => Some(Deed::Rfork),
-        "notepg" => Some(Deed::NoteGroup),
-        "clock" => Some(Deed::Clock),
-        _ => Some(Deed::Call(call_of(words)?)),
+        "waits" => bare(words, Command::Waits),
+        "ends" => bare(words, Command::Ends),
+        "points" => bare(words, Command::Points),
+        "posted" => bare(words, Command::Posted),
+        "look" => bare(words, Command::Look),
+        "fork" => Some(Command::Fork),
+        "rfork" => Some(Command::Rfork),
+        "notepg" => Some(Command::NoteGroup),
+        "clock" => Some(Command::Clock),
+        _ => Some(Command::Call(call_of(words)?)),
     }
 }
 
-fn bare(words: &Words<'_>, deed: Deed) -> Option<Deed> {
+fn bare(words: &Words<'_>, command: Command) -> Option<Command> {
     if words.count == 2 && !words.apart {
-        Some(deed)
+        Some(command)
     } else {
         None
     }
@@ -316,7 +316,7 @@ fn step_zero<R: Wait>(
         "fork" => fork_as(rt, alloc, scene, 0, words),
         "rfork" => rfork_as(rt, alloc, scene, 0, words),
         "notepg" => note_group_as(scene, 0, words),
-        "look" => counted_words(words, standing_of(scene, 0)),
+        "look" => counted_words(words, look_answer(scene, 0)),
         "tick" => tick(rt, scene, words),
         "pids_left" => counted_words(words, Answer::counted("pids", scene.roster.left().0)),
         "rendez_left" => { counted_words(words, Answer::counted("rendez", scene.roster.left().1)) }
@@ -375,22 +375,22 @@ fn step_one<R: Threads + Wait + Copy + Send + 'static>(
     words: &Words<'_>,
 ) -> Option<Answer> {
     let number = number_of(words.list[0])?;
-    let deed = deed_of(words)?;
+    let command = command_of(words)?;
     let at = scene.place_of(number)?;
-    match deed {
-        Deed::Waits => Some(waiting(comes(scene, at, Until::Waits))),
-        Deed::Ends => {
+    match command {
+        Command::Waits => Some(waiting(comes(scene, at, Until::Waits))),
+        Command::Ends => {
             let came = comes(scene, at, Until::Ends);
             Some(ending(rt, scene, at, came))
         }
-        Deed::Points => Some(Answer::points()),
-        Deed::Posted => Some(Answer::posted()),
-        Deed::Look => Some(standing_of(scene, number)),
-        Deed::Fork => fork_as(rt, alloc, scene, number, words),
-        Deed::Rfork => rfork_as(rt, alloc, scene, number, words),
-        Deed::NoteGroup => note_group_as(scene, number, words),
-        Deed::Clock => take_seat(rt, scene, at, words),
-        Deed::Call(call) => Some(call_and_await(rt, alloc, scene, at, call, words)),
+        Command::Points => Some(Answer::points()),
+        Command::Posted => Some(Answer::posted()),
+        Command::Look => Some(look_answer(scene, number)),
+        Command::Fork => fork_as(rt, alloc, scene, number, words),
+        Command::Rfork => rfork_as(rt, alloc, scene, number, words),
+        Command::NoteGroup => note_group_as(scene, number, words),
+        Command::Clock => take_seat(rt, scene, at, words),
+        Command::Call(call) => Some(call_and_await(rt, alloc, scene, at, call, words)),
     }
 }
 

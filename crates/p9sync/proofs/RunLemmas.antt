@@ -10,8 +10,8 @@ use Rattle.command_line.specs.declared.task.Task.{Task}
 use Rattle.command_line.specs.declared.task.Task.TheVariants.{Pipe, Replay, Threads}
 use Rattle.crew.specs.declared.opts.Report.{Report}
 use Rattle.crew.specs.Threads.{IsReportOf}
-use Rattle.scripts.specs.Device.{AppendsFront, WritesTold}
-use Rattle.scripts.specs.Script.{Told}
+use Rattle.scripts.specs.Device.{AppendsFront, WritesTranscript}
+use Rattle.scripts.specs.Script.{Transcript}
 use Rattle.scripts.proofs.DeviceLemmas.{appends_nothing}
 use Rattle.p9sync.specs.ReportText.{report_line}
 use Rattle.p9sync.specs.declared.args.TheConstants.{GOOD, FAULT}
@@ -54,9 +54,9 @@ whole_is_front old new bytes whole =
     (length bytes, subst (λ b. Appends old new b) (sym (take-length bytes)) whole)
 
 -- a run of a script ends so, where it was asked for
-pub ends_script : (told : List ℕ → Told) (unread held written : Option (List ℕ))
+pub ends_script : (told : List ℕ → Transcript) (unread held written : Option (List ℕ))
     (outcome : Result (Unit {0}) Fault) (status : ℕ)
-    → IfSome unread (λ input. WritesTold (told input) held written outcome)
+    → IfSome unread (λ input. WritesTranscript (told input) held written outcome)
     → status ≡ status_of outcome
     → IfSome unread (λ input. EndsRun (told input) held written status)
 ends_script told None held written outcome status runs is = tt

@@ -8,8 +8,8 @@ use Rattle.p9sync.specs.declared.args.TheConstants.{GOOD, FAULT}
 use Rattle.command_line.specs.declared.task.Task.{Task}
 use Rattle.command_line.specs.declared.task.Task.TheVariants.{Pipe, Replay, Threads}
 use Rattle.crew.specs.declared.opts.Report.{Report}
-use Rattle.scripts.specs.Script.{Told}
-use Rattle.scripts.specs.Device.{AppendsFront, WritesTold}
+use Rattle.scripts.specs.Script.{Transcript}
+use Rattle.scripts.specs.Device.{AppendsFront, WritesTranscript}
 use Rattle.scripts.specs.PipeScript.{pipe_told}
 use Rattle.p9sync.specs.ReportText.{report_line}
 use Rattle.scripts.specs.Schedule.{schedule_told}
@@ -29,9 +29,9 @@ status_of_threads (Err fault) = FAULT
 -- A run that was to say this ended with this status. With the status of a good run all was written
 -- and no line is at fault; with the status of a fault all was written and a line is at fault, or a
 -- prefix was written.
-pub record EndsRun (told : Told) (old new : Option (List ℕ)) (status : ℕ) : Type 0 where
+pub record EndsRun (told : Transcript) (old new : Option (List ℕ)) (status : ℕ) : Type 0 where
   pub outcome : Result (Unit {0}) Fault
-  pub written : WritesTold told old new outcome
+  pub written : WritesTranscript told old new outcome
   pub status_is : status ≡ status_of outcome
 
 -- A run on threads ended with this status. With the status of a good run its report was in order

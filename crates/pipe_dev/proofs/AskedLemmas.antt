@@ -2,7 +2,7 @@
 use Rattle.std.proofs.Common.{ℕ, Result, Ok, Err}
 use Rattle.std.specs.Prelude.{⊤}
 use Rattle.rendez_words.specs.Process.{Process}
-use Rattle.sleep_wakeup.specs.Deeds.{FailsAsleep}
+use Rattle.sleep_wakeup.specs.Actions.{FailsAsleep}
 use Rattle.sync_base.specs.declared.fault.Fault.{Fault}
 use Rattle.sync_base.specs.declared.fault.Fault.TheVariants as fault
 use Rattle.sync_base.specs.declared.ids.RendezId.{RendezId}

@@ -5,7 +5,7 @@ use Rattle.sync_base.specs.declared.fault.Fault.{Fault}
 use Rattle.sync_base.specs.declared.fault.Fault.TheVariants as fault
 use Rattle.sync_base.specs.declared.ids.RendezId.{RendezId}
 use Rattle.rendez_words.specs.Process.{Process}
-use Rattle.sleep_wakeup.specs.Deeds.{FailsAsleep}
+use Rattle.sleep_wakeup.specs.Actions.{FailsAsleep}
 use Rattle.block_queue.specs.declared.queue.Queue.{Queue}
 use Rattle.block_queue.specs.declared.seats.PutSeat.{PutSeat}
 use Rattle.block_queue.specs.Seats.{key_of}

@@ -13,7 +13,7 @@ use Rattle.block_queue.specs.declared.queue.Queue.{Queue}
 use Rattle.block_queue.specs.Seats.{key_of}
 use Rattle.pipe_dev.specs.declared.row.Row.{Row}
 use Rattle.pipe_dev.specs.Ends.{WriteSide, IsSameWriteEnd}
-use Rattle.pipe_dev.specs.Rendezes.{HasRow}
+use Rattle.pipe_dev.specs.Rendezes.{OwnsRow}
 use Rattle.pipe_dev.specs.WriteCalls.{Writer, Writes, atomic_writes, atomic_writes_in, call_of}
 
 le-true : (a b : ℕ) → a ≤ b → nat_le a b ≡ true
@@ -149,22 +149,22 @@ not_too_big size why tells fits is =
     let big = tells.0 (ap answer_at is) in absurd (omega (arith, big, fits))
 
 module _ (words now : Words) (row row' : Row) (same : now ≡ words) (same_row : row' ≡ row) where
-  moved : (answer : Result ℕ Fault) → (IsErrOf answer NoRendez ↔ ¬ HasRow now row')
-      → (IsErrOf answer NoRendez ↔ ¬ HasRow words row)
+  moved : (answer : Result ℕ Fault) → (IsErrOf answer NoRendez ↔ ¬ OwnsRow now row')
+      → (IsErrOf answer NoRendez ↔ ¬ OwnsRow words row)
   moved answer tells =
-      subst (λ (w : Words). IsErrOf answer NoRendez ↔ ¬ HasRow w row) same
-      (subst (λ (r : Row). IsErrOf answer NoRendez ↔ ¬ HasRow now r) same_row tells)
+      subst (λ (w : Words). IsErrOf answer NoRendez ↔ ¬ OwnsRow w row) same
+      (subst (λ (r : Row). IsErrOf answer NoRendez ↔ ¬ OwnsRow now r) same_row tells)
 
   -- the long write is refused so where the piece was
-  pub told_alike : (why : Fault) → (IsErrOf (answer_at (Some why)) NoRendez ↔ ¬ HasRow now row')
-      → ((Some why ≡ Some NoRendez) ↔ ¬ HasRow words row)
+  pub told_alike : (why : Fault) → (IsErrOf (answer_at (Some why)) NoRendez ↔ ¬ OwnsRow now row')
+      → ((Some why ≡ Some NoRendez) ↔ ¬ OwnsRow words row)
   told_alike why tells =
       let at = moved (Err why) tells in
       (λ is. at.0 (ap answer_at is), λ none. ap fault_at (at.1 none))
 
   -- all was written, so nothing was refused
-  pub told_none : (number : ℕ) → (IsErrOf (done_with number) NoRendez ↔ ¬ HasRow now row')
-      → ((fault_at (done_with number) ≡ Some NoRendez) ↔ ¬ HasRow words row)
+  pub told_none : (number : ℕ) → (IsErrOf (done_with number) NoRendez ↔ ¬ OwnsRow now row')
+      → ((fault_at (done_with number) ≡ Some NoRendez) ↔ ¬ OwnsRow words row)
   told_none number tells =
       let at = moved (Ok number) tells in (
         λ is. none_is_not_some NoRendez is,

@@ -11,7 +11,7 @@ use Rattle.block_queue.specs.declared.entry.Entry.TheVariants as entry
 use Rattle.block_queue.specs.declared.view.Key.{Key}
 use Rattle.block_queue.specs.Meaning.{Enters}
 use Rattle.pipe_dev.specs.declared.answers.TryAnswer.{TryAnswer}
-use Rattle.pipe_dev.specs.declared.filling.Came.{Came}
+use Rattle.pipe_dev.specs.declared.filling.ReadOutcome.{ReadOutcome}
 use Rattle.pipe_dev.specs.declared.filling.Stop.{Stop}
 use Rattle.pipe_dev.specs.declared.filling.Stop.TheVariants as stop
 use Rattle.pipe_dev.specs.declared.reading.Found.{Found}
@@ -350,13 +350,13 @@ asks_in_mode key row old count why (found.Got got) new is tried =
     in_mode row.mode (Gets key row old got new) (GivesBytes key row old got new)
     (λ mode. message_bytes key row old got new mode gives) gives
 asks_in_mode key row old count why found.End new is tried =
-    let none = subst (λ (c : Came). TriesOn key row old c new)
+    let none = subst (λ (c : ReadOutcome). TriesOn key row old c new)
     (end_at count why is) tried in
     in_mode row.mode (FindsEnd key old.reader new.reader × (new.buffer ≡ old.buffer))
     (TriesOn key row old (came_to 0 stop.End) new)
     (λ mode. let said = message_end key row old 0 new mode none in (said.found, said.buffer)) none
 asks_in_mode key row old count why (found.NotYet number) new is tried =
-    let none = subst (λ (c : Came). TriesOn key row old c new)
+    let none = subst (λ (c : ReadOutcome). TriesOn key row old c new)
     (not_yet_at count why number is) tried in
     in_mode row.mode (FindsNotYet key number old.reader new.reader × (new.buffer ≡ old.buffer))
     (TriesOn key row old (came_to 0 (stop.NotYet number)) new)
@@ -364,7 +364,7 @@ asks_in_mode key row old count why (found.NotYet number) new is tried =
     (said.found, said.buffer)) none
 
 -- one request of a read
-pub asks_by_mode : (key : Key) (row : Row) (old : Calling) (came : Came) (told : Found)
+pub asks_by_mode : (key : Key) (row : Row) (old : Calling) (came : ReadOutcome) (told : Found)
     (new : Calling) → TriesOn key row old came new → told ≡ found_of came
     → AsksForBytes key row old (told_by told) new
 asks_by_mode key row old came told new tried is =

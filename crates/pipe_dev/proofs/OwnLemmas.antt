@@ -7,22 +7,22 @@ use Rattle.pipe_dev.specs.declared.row.Row.{Row}
 use Rattle.pipe_dev.specs.Ends.{ReadSide, WriteSide}
 use Rattle.pipe_dev.specs.Openings.{AreNewEnds, IsNewWriteEnd, HasEachRendez}
 use Rattle.pipe_dev.specs.Openings.{OwnKernelHasEachRendez}
-use Rattle.pipe_dev.specs.Rendezes.{HasRow}
+use Rattle.pipe_dev.specs.Rendezes.{OwnsRow}
 
 -- of one direction
-module _ (words : Words) (queue : Queue) (row : Row) (has : HasRow words row) where
+module _ (words : Words) (queue : Queue) (row : Row) (has : OwnsRow words row) where
   -- each new write end has the direction's row
   each_write : (writes : List WriteSide) → AllByRecursion (IsNewWriteEnd queue row) writes
-      → AllByRecursion (λ write. HasRow words write.row) writes
+      → AllByRecursion (λ write. OwnsRow words write.row) writes
   each_write [] none = tt
   each_write (write ∷ writes) (new, others) =
-      (subst (HasRow words) (sym new.row_is) has, each_write writes others)
+      (subst (OwnsRow words) (sym new.row_is) has, each_write writes others)
 
   new_ends : (read : ReadSide) (writes : List WriteSide) → AreNewEnds queue row read writes
       → HasEachRendez words read writes
   new_ends read writes new =
       record {
-        reader = subst (HasRow words) (sym new.row_is) has;
+        reader = subst (OwnsRow words) (sym new.row_is) has;
         writers = each_write writes new.unwritten;
       }
 

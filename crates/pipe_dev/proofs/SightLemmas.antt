@@ -2,7 +2,7 @@
 use Rattle.std.proofs.Common.{◌≡◌, inl, inr, ap, sym, subst, ℕ, zero, suc, Option, Some, None}
 use Rattle.std.proofs.Common.{Result, Ok, Err}
 use Rattle.rendez_words.specs.Process.{Process}
-use Rattle.sleep_wakeup.specs.Deeds.{FailsAsleep}
+use Rattle.sleep_wakeup.specs.Actions.{FailsAsleep}
 use Rattle.sync_base.specs.declared.fault.Fault.{Fault}
 use Rattle.sync_base.specs.declared.fault.Fault.TheVariants as fault
 use Rattle.sync_base.specs.declared.ids.RendezId.{RendezId}
@@ -10,7 +10,7 @@ use Rattle.waiting.specs.declared.call.Reply.{Reply}
 use Rattle.waiting.specs.declared.call.Reply.TheVariants.{Wait, Refused}
 use Rattle.waiting.specs.declared.wait.WaitEnd.{WaitEnd}
 use Rattle.waiting.specs.declared.wait.WaitEnd.TheVariants.{Answered, Stopped}
-use Rattle.waiting.specs.Waiting.{Promise, Point, Told, SleepsThenAsks, Rounds, Ends, Waited}
+use Rattle.waiting.specs.Waiting.{Promise, Point, WaitPoint, SleepsThenAsks, Rounds, Ends, Waited}
 use Rattle.waiting.specs.Waiting.{reply_of, answer_of}
 use Rattle.waiting.proofs.FoldLemmas.{wait_ends}
 use Rattle.pipe_dev.specs.WriteSteps.{seen_at, seen_by}
@@ -20,16 +20,16 @@ module _ {Seat Seen Out : Type 0} (see : Seat → Seen) (promise : Promise Seen 
   abbrev Seeing : Promise Seat Out
   Seeing = seen_by see promise
 
-  abbrev told_at : Told Seat → Told Seen
+  abbrev told_at : WaitPoint Seat → WaitPoint Seen
   told_at told = record { at = seen_at see told.at; number = told.number }
 
-  asks : (old : Told Seat) (reply : Reply Out) (after : Point Seat)
+  asks : (old : WaitPoint Seat) (reply : Reply Out) (after : Point Seat)
       → SleepsThenAsks Seeing rendez old reply after
       → SleepsThenAsks promise rendez (told_at old) reply (seen_at see after)
   asks old reply after asked =
       record { woken = asked.woken; slept = asked.slept; asked = asked.asked }
 
-  rounds : (times : ℕ) (first now : Told Seat) → Rounds Seeing rendez times first now
+  rounds : (times : ℕ) (first now : WaitPoint Seat) → Rounds Seeing rendez times first now
       → Rounds promise rendez times (told_at first) (told_at now)
   rounds zero first now same = ap told_at same
   rounds (suc times) first now more =
@@ -39,7 +39,7 @@ module _ {Seat Seen Out : Type 0} (see : Seat → Seen) (promise : Promise Seen 
         last = asks more.between (Wait now.number) now.at more.last;
       }
 
-  ends : (last : Told Seat) (end : WaitEnd Out) (after : Point Seat)
+  ends : (last : WaitPoint Seat) (end : WaitEnd Out) (after : Point Seat)
       → Ends Seeing rendez last end after
       → Ends promise rendez (told_at last) end (seen_at see after)
   ends last (Answered answer) after asked = asks last (reply_of answer) after asked
@@ -107,7 +107,7 @@ module _ {Seat Out : Type 0} (Asks : Point Seat → Reply Out → Point Seat →
   abbrev promise : Promise Seat Out
   promise = record { begun = Asks; asked = Asks; left = Leaves }
 
-  ended_for : (why : Fault) (last : Told Seat) (end : WaitEnd Out) (after : Point Seat)
+  ended_for : (why : Fault) (last : WaitPoint Seat) (end : WaitEnd Out) (after : Point Seat)
       → Err why ≡ answer_of end → Ends promise rendez last end after → Why why
   ended_for why last (Answered (Ok out)) after is ends = cc
   ended_for why last (Answered (Err other)) after is ends =

@@ -16,10 +16,10 @@ use Rattle.pipe_dev.specs.declared.pipe.PipeStart.{PipeStart}
 use Rattle.pipe_dev.specs.declared.pipe.Direction.{Direction}
 use Rattle.pipe_dev.specs.declared.row.Row.{Row}
 use Rattle.pipe_dev.specs.Ends.{ReadSide, WriteSide, IsRowOf, IsReadCursor, AreAllEnds}
-use Rattle.pipe_dev.specs.Openings.{IsSeatToGive, IsDirectionStartOf, IsStartOf, HasRows}
+use Rattle.pipe_dev.specs.Openings.{IsSeatToGive, IsDirectionStartOf, IsStartOf, OwnsRows}
 use Rattle.pipe_dev.specs.Openings.{AreNewEnds, key_for}
 use Rattle.pipe_dev.specs.Reading.{IsRest}
-use Rattle.pipe_dev.specs.Rendezes.{HasRow}
+use Rattle.pipe_dev.specs.Rendezes.{OwnsRow}
 use Rattle.pipe_dev.specs.Directions.{IsNewDirection}
 
 -- ---- a read end
@@ -69,7 +69,7 @@ module _ (pipe : Pipe) (start : PipeStart) where
   a_start_of_another_pipe_back other of_it = other of_it.back
 
 module _ (words : Words) (opened : Opened) where
-  a_pipe_of_another_kernel : ¬ HasRow words opened.start.there.row → ¬ HasRows words opened
+  a_pipe_of_another_kernel : ¬ OwnsRow words opened.start.there.row → ¬ OwnsRows words opened
   a_pipe_of_another_kernel other has = other has.there
 
 module _ (queue : Queue) (row : Row) (read : ReadSide) (writes : List WriteSide) where

@@ -14,10 +14,10 @@ use Rattle.pipe_dev.specs.declared.pipe.Opened.{Opened}
 use Rattle.pipe_dev.specs.declared.row.Row.{Row}
 use Rattle.pipe_dev.specs.Ends.{ReadSide, WriteSide}
 use Rattle.pipe_dev.specs.Finishing.{FinishesEnds}
-use Rattle.pipe_dev.specs.Openings.{Opens, OpensStream, HasRows, AreNewEnds, HasEachRendez}
+use Rattle.pipe_dev.specs.Openings.{Opens, OpensStream, OwnsRows, AreNewEnds, HasEachRendez}
 use Rattle.pipe_dev.specs.Openings.{key_for, rendez_for}
 use Rattle.pipe_dev.specs.Parts.{Part}
-use Rattle.pipe_dev.specs.Rendezes.{HasRow, reader_rendez, writer_rendez}
+use Rattle.pipe_dev.specs.Rendezes.{OwnsRow, reader_rendez, writer_rendez}
 
 -- it takes eight Rendez
 takes_eight : rendez_for 3 ≡ 8
@@ -50,7 +50,7 @@ module _ (opened : Opened) (opens : Opens 16 3 10 opened) where
 
   -- so no kernel of 17 Rendez has its rows
   no_rows_of_17 : (words : Words) → rendez_of words ≡ 17 → opened.start.back.row.writers ≡ 3
-      → ¬ HasRows words opened
+      → ¬ OwnsRows words opened
   no_rows_of_17 words few three rows =
       let first = opens.back_first in
       let back = rows.back in
@@ -58,7 +58,7 @@ module _ (opened : Opened) (opens : Opens 16 3 10 opened) where
 
   -- and none of 13 those there
   no_rows_of_13 : (words : Words) → rendez_of words ≡ 13 → opened.start.there.row.writers ≡ 3
-      → ¬ HasRows words opened
+      → ¬ OwnsRows words opened
   no_rows_of_13 words few three rows =
       let first = opens.there_first in
       let there = rows.there in
@@ -91,11 +91,11 @@ module _ (queue : Queue) (row : Row) (read : ReadSide) (write : WriteSide) where
   ends_of_another_row other new = other new.row_is
 
   -- a kernel that lacks a Rendez of the reader, or of the writer
-  a_kernel_without_the_row : (words : Words) → ¬ HasRow words read.row
+  a_kernel_without_the_row : (words : Words) → ¬ OwnsRow words read.row
       → ¬ HasEachRendez words read (write ∷ [])
   a_kernel_without_the_row words none has = none has.reader
 
-  a_kernel_without_the_writers_row : (words : Words) → ¬ HasRow words write.row
+  a_kernel_without_the_writers_row : (words : Words) → ¬ OwnsRow words write.row
       → ¬ HasEachRendez words read (write ∷ [])
   a_kernel_without_the_writers_row words none has = none has.writers.0
 

@@ -10,7 +10,7 @@ use Rattle.sync_base.specs.Pipe.{PipeState}
 use Rattle.sync_base.specs.Write.{Write}
 use Rattle.rendez_words.specs.Process.{Process}
 use Rattle.rendez_words.specs.Steps.{raises, finds_nobody}
-use Rattle.sleep_wakeup.specs.Deeds.{WakesOne}
+use Rattle.sleep_wakeup.specs.Actions.{WakesOne}
 use Rattle.block_queue.specs.declared.entry.Entry.{Entry}
 use Rattle.block_queue.specs.declared.entry.Entry.TheVariants.{Taken, Stood, Block, Hung}
 use Rattle.block_queue.specs.declared.view.Key.{Key}

@@ -20,7 +20,7 @@ use Rattle.pipe_dev.specs.ReadCalls.{AsksForBytes, Calling, GivesUp, calling, le
 use Rattle.waiting.specs.declared.call.Reply.{Reply}
 use Rattle.waiting.specs.declared.call.Reply.TheVariants.{Done, Wait, Refused}
 use Rattle.waiting.specs.declared.wait.WaitEnd.TheVariants.{Answered}
-use Rattle.waiting.specs.Waiting.{Told}
+use Rattle.waiting.specs.Waiting.{WaitPoint}
 use Rattle.pipe_dev.specs.Reading.{Reading}
 use Rattle.pipe_dev.specs.Rendezes.{WakesWriters}
 use Rattle.pipe_dev.proofs.ReadingLemmas.{what_is_read_is_right}
@@ -136,7 +136,7 @@ module _ (table : TableId) where
         };
       })
     where
-      read_told : Told Lending
+      read_told : WaitPoint Lending
       read_told = record { at = lent_at (calling (reader told idle) (0 ∷ 0 ∷ 0 ∷ [])); number = 0 }
 
   reads_to_the_end : Reads tight rendez_row (calling (reader unread idle) b) (Ok read.End)
@@ -270,7 +270,7 @@ module _ (table : TableId) where
         };
       })
     where
-      block_told : Told Lending
+      block_told : WaitPoint Lending
       block_told = record { at = lent_at (calling (reader told idle) b); number = 0 }
 
   -- of a write that was begun it reads what is left, and wakes nobody

@@ -22,7 +22,7 @@ use Rattle.pipe_dev.specs.ReadCalls.{Reader, Reads, Tries, calling, TriesOn, cam
 use Rattle.pipe_dev.specs.Rendezes.{WakesWriters, WakesWith}
 use Rattle.pipe_dev.specs.Filling.{Lending, begins, last_number}
 use Rattle.waiting.specs.declared.wait.WaitEnd.TheVariants.{Stopped}
-use Rattle.waiting.specs.Waiting.{Told}
+use Rattle.waiting.specs.Waiting.{WaitPoint}
 use Rattle.pipe_dev.proofs.WorkedEntries.{a, b, IsRun, taker, taker_enters, unread, at_rendez, woke}
 use Rattle.pipe_dev.proofs.WorkedEntries.{slept, sleeps, has_notes, is_not_idle}
 use Rattle.pipe_dev.proofs.WorkedFills.{part, loose, one_out, two_out, all_out, told, takes_first}
@@ -341,7 +341,7 @@ module _ (table : TableId) where
         };
       })
     where
-      read_told : Told Lending
+      read_told : WaitPoint Lending
       read_told =
           record { at = lent_at (calling (reader told_empty (woke idle 4 1)) b); number = 1 }
 

@@ -23,12 +23,12 @@ use Rattle.block_queue.specs.History.{seat_of}
 use Rattle.block_queue.specs.Meaning.{Enters}
 use Rattle.pipe_dev.specs.declared.row.Row.{Row}
 use Rattle.pipe_dev.specs.Ends.{ReadSide, WriteSide, AreAllEnds}
-use Rattle.pipe_dev.specs.Rendezes.{HasRow, WakesAll, WakesIfKnown}
+use Rattle.pipe_dev.specs.Rendezes.{OwnsRow, WakesAll, WakesIfKnown}
 use Rattle.pipe_dev.specs.WriteCalls.{WriteCall, Writer, Writes, WritesLong, atomic_writes}
 use Rattle.pipe_dev.specs.WriteCalls.{AsksForRoom, GivesUp, bytes_in}
 use Rattle.waiting.specs.declared.call.Reply.TheVariants.{Wait, Refused}
 use Rattle.waiting.specs.declared.wait.WaitEnd.TheVariants.{Answered, Stopped}
-use Rattle.waiting.specs.Waiting.{Told}
+use Rattle.waiting.specs.Waiting.{WaitPoint}
 use Rattle.pipe_dev.proofs.WorkedEntries.{a, b, tight, IsRun, seen_3, seen_4, seen_6, run_4, run_6}
 use Rattle.pipe_dev.proofs.WorkedEntries.{run_7, at_rendez, rendez_row, woke, slept, sleeps}
 use Rattle.pipe_dev.proofs.WorkedEntries.{has_notes, is_not_idle}
@@ -161,7 +161,7 @@ module _ (table : TableId) where
   call bytes = record { key = tight; row = rendez_row; writer = 0; bytes = bytes }
 
   -- it found no room
-  abbrev first_told : Told (Account Entry)
+  abbrev first_told : WaitPoint (Account Entry)
   first_told = record { at = writer was_full idle; number = 0 }
 
   finds_full : AsksForRoom (call b) (writer has_put idle) (Wait 0) (writer was_full idle)
@@ -348,20 +348,20 @@ module _ (table : TableId) where
       }
 
   module _ (words : Words) where
-    wakes_its_kernel : HasRow words rendez_row
+    wakes_its_kernel : OwnsRow words rendez_row
         → WakesIfKnown rendez_row (record { words = words; process = idle }) all_woken
     wakes_its_kernel has = record { known = λ _. wakes_all; foreign = λ hasnt. absurd (hasnt has) }
 
-    wakes_no_other : ¬ HasRow words rendez_row
+    wakes_no_other : ¬ OwnsRow words rendez_row
         → WakesIfKnown rendez_row (record { words = words; process = idle }) idle
     wakes_no_other hasnt = record { known = λ has. absurd (hasnt has); foreign = λ _. refl }
 
-    wakes_another_kernel : ¬ HasRow words rendez_row
+    wakes_another_kernel : ¬ OwnsRow words rendez_row
         → WakesIfKnown rendez_row (record { words = words; process = idle }) all_woken → ⊥
     wakes_another_kernel hasnt wakes =
         let trace = ap (λ (p : Process). p.trace) (wakes.foreign hasnt) in cc
 
-    wakes_nobody : HasRow words rendez_row
+    wakes_nobody : OwnsRow words rendez_row
         → WakesIfKnown rendez_row (record { words = words; process = idle }) idle → ⊥
     wakes_nobody has wakes =
         is_not_idle table (wakes.known has).writers.between TOP_LEVEL

@@ -4,7 +4,7 @@ use Rattle.block_queue.specs.declared.view.Key.{Key}
 use Rattle.block_queue.specs.declared.entry.Entry.TheVariants as entry
 use Rattle.block_queue.specs.Seats.{take_account}
 use Rattle.sync_base.specs.declared.mode.Mode.{Mode}
-use Rattle.pipe_dev.specs.declared.filling.Filled.{Filled}
+use Rattle.pipe_dev.specs.declared.filling.FillResult.{FillResult}
 use Rattle.pipe_dev.specs.declared.filling.Next.{Next}
 use Rattle.pipe_dev.specs.declared.filling.Next.TheVariants as next
 use Rattle.pipe_dev.specs.declared.cursor.ReadCursor.{ReadCursor}
@@ -38,7 +38,7 @@ GivesNext key old next.End new =
     FindsNothing key entry.End old.taker new.taker × (new.buffer ≡ old.buffer)
 
 -- the buffer was filled, and the number of the last write that was taken out is known
-pub record HasFilled (key : Key) (mode : Mode) (old : Lending) (filled : Filled)
+pub record HasFilled (key : Key) (mode : Mode) (old : Lending) (filled : FillResult)
     (new : Lending) : Type 0 where
   pub fills : FillsUp key mode old filled.came new
   pub took : filled.took ≡ last_number old.taker.rest fills.filling.parts

@@ -10,7 +10,7 @@ use Rattle.block_queue.specs.declared.entry.Entry.TheVariants as entry
 use Rattle.block_queue.specs.declared.view.Key.{Key}
 use Rattle.block_queue.specs.Calls.{IsFreshTake}
 use Rattle.block_queue.specs.Meaning.{Enters}
-use Rattle.pipe_dev.specs.declared.filling.Came.{Came}
+use Rattle.pipe_dev.specs.declared.filling.ReadOutcome.{ReadOutcome}
 use Rattle.pipe_dev.specs.declared.filling.Stop.{Stop}
 use Rattle.pipe_dev.specs.declared.filling.Stop.TheVariants as stop
 use Rattle.pipe_dev.specs.Parts.{Part, part_of, rest_of, bytes_of}
@@ -109,7 +109,7 @@ pub record IsFilledBy (bytes buffer buffer' : List ℕ) (count : ℕ) : Type 0 w
   pub bytes_are : buffer' ≡ bytes ++ drop count buffer
 
 -- part by part, up to where it stopped; the buffer has the bytes of the parts, in their order
-pub record FillsUp (key : Key) (mode : Mode) (old : Lending) (came : Came) (new : Lending) :
+pub record FillsUp (key : Key) (mode : Mode) (old : Lending) (came : ReadOutcome) (new : Lending) :
     Type 0 where
   pub times : ℕ
   pub filling : Filling

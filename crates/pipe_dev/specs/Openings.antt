@@ -18,7 +18,7 @@ use Rattle.pipe_dev.specs.declared.pipe.PipeStart.{PipeStart}
 use Rattle.pipe_dev.specs.declared.row.Row.{Row}
 use Rattle.pipe_dev.specs.Ends.{ReadSide, WriteSide, IsRowOf, IsReadCursor, IsWriteSeat}
 use Rattle.pipe_dev.specs.Ends.{AreAllEnds}
-use Rattle.pipe_dev.specs.Rendezes.{HasRow}
+use Rattle.pipe_dev.specs.Rendezes.{OwnsRow}
 
 -- so many writes may stand in each direction, and each has so many writers
 abbrev pub key_for : ℕ → ℕ → Key
@@ -67,9 +67,9 @@ abbrev pub OpensStream : ℕ → ℕ → ℕ → Opened → Type 0
 OpensStream limit writers first opened = OpensIn Stream limit writers first opened
 
 -- its Rendez are the kernel's
-pub record HasRows (words : Words) (opened : Opened) : Type 0 where
-  pub there : HasRow words opened.start.there.row
-  pub back : HasRow words opened.start.back.row
+pub record OwnsRows (words : Words) (opened : Opened) : Type 0 where
+  pub there : OwnsRow words opened.start.there.row
+  pub back : OwnsRow words opened.start.back.row
 
 -- a write end of a new direction
 pub record IsNewWriteEnd (queue : Queue) (row : Row) (write : WriteSide) : Type 0 where
@@ -91,8 +91,8 @@ pub record AreNewEnds (queue : Queue) (row : Row) (read : ReadSide) (writes : Li
 
 -- this kernel has each Rendez of these ends
 pub record HasEachRendez (words : Words) (read : ReadSide) (writes : List WriteSide) : Type 0 where
-  pub reader : HasRow words read.row
-  pub writers : AllByRecursion (λ write. HasRow words write.row) writes
+  pub reader : OwnsRow words read.row
+  pub writers : AllByRecursion (λ write. OwnsRow words write.row) writes
 
 -- Own. The kernel whose roster made a pipe has each Rendez of its ends. A read or a write is
 -- answered NoRendez only where the process's kernel has not (`no_rendez`), so a process of this
@@ -100,7 +100,7 @@ pub record HasEachRendez (words : Words) (read : ReadSide) (writes : List WriteS
 abbrev pub OwnKernelHasEachRendez : Type 0
 OwnKernelHasEachRendez =
     (words : Words) (opened : Opened) (first second : ReadSide) (firsts seconds : List WriteSide)
-    → HasRows words opened
+    → OwnsRows words opened
     → AreNewEnds opened.pipe.there opened.start.there.row first seconds
     → AreNewEnds opened.pipe.back opened.start.back.row second firsts
     → HasEachRendez words first seconds × HasEachRendez words second firsts

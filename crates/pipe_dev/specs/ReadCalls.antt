@@ -20,7 +20,7 @@ use Rattle.pipe_dev.specs.declared.answers.ReadAnswer.{ReadAnswer}
 use Rattle.pipe_dev.specs.declared.answers.ReadAnswer.TheVariants as read
 use Rattle.pipe_dev.specs.declared.answers.TryAnswer.{TryAnswer}
 use Rattle.pipe_dev.specs.declared.answers.TryAnswer.TheVariants as try
-use Rattle.pipe_dev.specs.declared.filling.Came.{Came}
+use Rattle.pipe_dev.specs.declared.filling.ReadOutcome.{ReadOutcome}
 use Rattle.pipe_dev.specs.declared.filling.Stop.{Stop}
 use Rattle.pipe_dev.specs.declared.filling.Stop.TheVariants as stop
 use Rattle.pipe_dev.specs.declared.cursor.ReadCursor.{ReadCursor}
@@ -158,12 +158,12 @@ reader_with cursor proc =
 
 -- ---- in either mode
 
-abbrev pub came_to : ℕ → Stop → Came
+abbrev pub came_to : ℕ → Stop → ReadOutcome
 came_to count why = record { count = count; stop = why }
 
 -- One try, in the mode of the direction. It filled the buffer part by part, up to where it stopped;
 -- and where it took writes out it then woke each writer, with the number of the last of them.
-pub record TriesOn (key : Key) (row : Row) (old : Calling) (came : Came) (new : Calling) :
+pub record TriesOn (key : Key) (row : Row) (old : Calling) (came : ReadOutcome) (new : Calling) :
     Type 0 where
   pub fills : FillsUp key row.mode (lending_of old) came (lending_of new)
   pub woken : WakesWith row (last_number old.reader.rest fills.filling.parts)
@@ -175,7 +175,7 @@ is_got_by stop.Enough some = true
 is_got_by (stop.NotYet number) some = some
 is_got_by stop.End some = some
 
-abbrev pub is_got : Came → Bool
+abbrev pub is_got : ReadOutcome → Bool
 is_got came = is_got_by came.stop (nat_lt 0 came.count)
 
 -- Got: so many bytes

@@ -7,7 +7,7 @@ use Rattle.pipe_dev.specs.declared.answers.TryAnswer.{TryAnswer}
 use Rattle.pipe_dev.specs.declared.answers.TryAnswer.TheVariants as try
 use Rattle.pipe_dev.specs.declared.block_reading.Lending as block_reading
 use Rattle.pipe_dev.specs.declared.cursor.ReadCursor.{ReadCursor}
-use Rattle.pipe_dev.specs.declared.filling.Came.{Came}
+use Rattle.pipe_dev.specs.declared.filling.ReadOutcome.{ReadOutcome}
 use Rattle.pipe_dev.specs.declared.filling.Stop.{Stop}
 use Rattle.pipe_dev.specs.declared.filling.Stop.TheVariants as stop
 use Rattle.pipe_dev.specs.declared.reading.Found.{Found}
@@ -17,7 +17,7 @@ use Rattle.pipe_dev.specs.FillSteps.{taker_with}
 use Rattle.pipe_dev.specs.ReadCalls.{calling, lent_at, reader_with}
 use Rattle.waiting.specs.declared.call.Reply.{Reply}
 use Rattle.waiting.specs.declared.call.Reply.TheVariants.{Done, Wait}
-use Rattle.waiting.specs.Waiting.{Told}
+use Rattle.waiting.specs.Waiting.{WaitPoint}
 
 -- what a try is answered: bytes, or why there are none
 abbrev pub found_at : ℕ → Stop → Found
@@ -26,7 +26,7 @@ found_at count (stop.NotYet number) =
     if nat_lt 0 count then found.Got count else found.NotYet number
 found_at count stop.End = if nat_lt 0 count then found.Got count else found.End
 
-abbrev pub found_of : Came → Found
+abbrev pub found_of : ReadOutcome → Found
 found_of came = found_at came.count came.stop
 
 -- what a read that does not wait is answered of it
@@ -42,7 +42,7 @@ told_by (found.NotYet number) = Wait number
 told_by found.End = Done read.End
 
 -- where a read stands that was told this number last
-abbrev pub told_with : ReadCursor → Running → List ℕ → ℕ → Told Lending
+abbrev pub told_with : ReadCursor → Running → List ℕ → ℕ → WaitPoint Lending
 told_with cursor proc buffer number =
     record { at = lent_at (calling (reader_with cursor proc) buffer); number = number }
 

@@ -5,7 +5,7 @@ use Rattle.sync_base.specs.declared.limits.TheConstants.{TOP_LEVEL}
 use Rattle.rendez_words.specs.declared.words.Words.{Words}
 use Rattle.rendez_words.specs.Process.{Process}
 use Rattle.rendez_words.specs.Words.{rendez_of}
-use Rattle.sleep_wakeup.specs.Deeds.{WakesOne}
+use Rattle.sleep_wakeup.specs.Actions.{WakesOne}
 use Rattle.sleep_wakeup.specs.Kernel.{Running}
 use Rattle.pipe_dev.specs.declared.row.Row.{Row}
 
@@ -18,8 +18,8 @@ abbrev pub writer_rendez : Row → ℕ → RendezId
 writer_rendez row writer = record { 0 = row.first + 1 + writer }
 
 -- the Rendez of the direction are among the kernel's
-abbrev pub HasRow : Words → Row → Type 0
-HasRow words row = row.first + 1 + row.writers ≤ rendez_of words
+abbrev pub OwnsRow : Words → Row → Type 0
+OwnsRow words row = row.first + 1 + row.writers ≤ rendez_of words
 
 -- so many writers were woken, from the first one on, and then one more
 pub record WakesNext (WakesBefore : Process → Type 0) (row : Row) (writer level : ℕ)
@@ -48,5 +48,5 @@ pub record WakesAll (row : Row) (before after : Process) : Type 0 where
 
 -- Own: a process of another kernel, which does not own all these Rendez, wakes nobody.
 pub record WakesIfKnown (row : Row) (before : Running) (after : Process) : Type 0 where
-  pub known : HasRow before.words row → WakesAll row before.process after
-  pub foreign : ¬ HasRow before.words row → after ≡ before.process
+  pub known : OwnsRow before.words row → WakesAll row before.process after
+  pub foreign : ¬ OwnsRow before.words row → after ≡ before.process

@@ -11,7 +11,7 @@ use Rattle.rendez_words.specs.Rule.{ShowsCore}
 use Rattle.block_queue.specs.declared.view.Key.{Key}
 use Rattle.pipe_dev.specs.declared.row.Row.{Row}
 use Rattle.pipe_dev.specs.Parts.{Part}
-use Rattle.pipe_dev.specs.declared.filling.Came.{Came}
+use Rattle.pipe_dev.specs.declared.filling.ReadOutcome.{ReadOutcome}
 use Rattle.pipe_dev.specs.Filling.{last_number}
 use Rattle.pipe_dev.specs.ReadCalls.{Reader, TakesOut, Calling, TriesOn}
 use Rattle.pipe_dev.specs.Rendezes.{WakesAll, reader_rendez, writer_rendez}
@@ -42,7 +42,7 @@ ReadsWakeEachWriter =
 abbrev pub TriesWakeEachWriter : Type 0
 TriesWakeEachWriter =
     (sizes : Sizes) (s : _) (shows : ShowsCore sizes s)
-    → (key : Key) (row : Row) (old : Calling) (came : Came) (new : Calling)
+    → (key : Key) (row : Row) (old : Calling) (came : ReadOutcome) (new : Calling)
     → (tries : TriesOn key row old came new) → HasGoneOn s.views new.reader.process
     → (number : ℕ) → last_number old.reader.rest tries.fills.filling.parts ≡ Some number
     → (writer : ℕ) → writer < row.writers

@@ -5,15 +5,15 @@ ghost use Rattle.pipe_dev.specs.BlockReads.{AsksForBlock};
 ghost use Rattle.pipe_dev.specs.Ends.{IsReadCursor};
 ghost use Rattle.pipe_dev.specs.ReadCalls.{IsAskedRead, calling, lent_at, reader_with, waits_by};
 ghost use Rattle.pipe_dev.specs.ReadSteps.{lending_in};
-ghost use Rattle.pipe_dev.specs.Rendezes.{HasRow, reader_rendez};
+ghost use Rattle.pipe_dev.specs.Rendezes.{OwnsRow, reader_rendez};
 ghost use Rattle.pipe_dev.specs.WriteSteps.{seen_by};
 ghost use Rattle.waiting.specs.Waiting.{Waited};
 
 use crate::answers::ReadAnswer;
-use crate::begun::Begun;
 use crate::cursor::ReadCursor;
 use crate::read_end::ReadEnd;
 use crate::reading::Done;
+use crate::remainder::Remainder;
 use crate::row::Row;
 use crate::waking::wake_writers;
 use block_queue::{Queue, TakeAnswer};
@@ -30,7 +30,7 @@ impl<'p> ReadEnd<'p> {
     ghost use Rattle.pipe_dev.specs.BlockReads.{ReadsBlock};
     ghost use Rattle.pipe_dev.specs.Ends.{IsSameReadEnd};
     ghost use Rattle.pipe_dev.specs.ReadCalls.{calling, reader_of};
-    ghost use Rattle.pipe_dev.specs.Rendezes.{HasRow};
+    ghost use Rattle.pipe_dev.specs.Rendezes.{OwnsRow};
 
     /// Reads all that is left of the write that was begun, or else the next write, and copies
     /// nothing: the block becomes the one that was written, so its length is what was read. The
@@ -50,7 +50,7 @@ impl<'p> ReadEnd<'p> {
         block: &mut Vec<u8>,
     ) -> Result<ReadAnswer, Fault>
         // A process of a kernel that does not own all the Rendez of the direction is refused.
-        ensures no_rendez { IsErrOf result NoRendez ↔ ¬ HasRow proc.old.words self.old.row }
+        ensures no_rendez { IsErrOf result NoRendez ↔ ¬ OwnsRow proc.old.words self.old.row }
 
         // It read, slept and woke so, or did nothing.
         ensures read { ReadsBlock (key_of self.old.queue) self.old.row
@@ -82,7 +82,7 @@ fn block_with<R: Wait>(
     block: &mut Vec<u8>,
 ) -> Done
     requires cursor { IsReadCursor queue.now row.now cursor }
-    requires kernel { HasRow proc.old.words row.now }
+    requires kernel { OwnsRow proc.old.words row.now }
     ensures cursor { IsReadCursor queue.now row.now result.cursor }
     ensures words { proc.new.words ≡ proc.old.words }
     ensures asked { Waited (waits_by (AsksForBlock (key_of queue.now) row.now))
@@ -132,7 +132,7 @@ impl<'q> WaitingCall for BlockReading<'q> {
 
     ghost rests = { λ call lending. IsReadCursor call.queue.now call.row.now lending.cursor };
 
-    ghost knows = { λ call words. HasRow words call.row.now };
+    ghost knows = { λ call words. OwnsRow words call.row.now };
 
     ghost promise = { λ call. seen_by lending_in
         (waits_by (AsksForBlock (key_of call.queue.now) call.row.now)) };
@@ -164,7 +164,7 @@ impl<'q> WaitingCall for BlockReading<'q> {
         }
         match self.queue.take(&mut lending.cursor.seat) {
             TakeAnswer::Block(bytes, writer, number) => {
-                let whole = Begun::whole(bytes, writer, number - 1);
+                let whole = Remainder::whole(bytes, writer, number - 1);
                 lending
                     .cursor
                     .seat

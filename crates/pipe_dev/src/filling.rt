@@ -4,8 +4,8 @@ ghost use Rattle.block_queue.specs.Seats.{key_of};
 ghost use Rattle.pipe_dev.specs.Ends.{IsReadCursor};
 ghost use Rattle.pipe_dev.specs.FillSteps.{GivesNext, HasFilled, lending_with};
 
-use crate::begun::{Begun, Given};
 use crate::cursor::ReadCursor;
+use crate::remainder::{Delivery, Remainder};
 use crate::row::Row;
 use block_queue::{Queue, TakeAnswer};
 use sync_base::Mode;
@@ -23,17 +23,17 @@ pub enum Stop {
 
 /// How far a read came: how many bytes it gave, and why it went no further.
 #[derive(Clone, Copy, Drop)]
-pub struct Came {
+pub struct ReadOutcome {
     pub(crate) count: usize,
     pub(crate) stop: Stop,
 }
 
 /// What a read made of its end and its buffer, and the number of the last write that it took out.
 #[derive(Drop)]
-pub(crate) struct Filled {
+pub(crate) struct FillResult {
     pub(crate) cursor: ReadCursor,
     pub(crate) took: Option<u64>,
-    pub(crate) came: Came,
+    pub(crate) came: ReadOutcome,
 }
 
 // One part more, with the number of its write where that was taken out for it; or none.
@@ -52,7 +52,7 @@ pub(crate) struct Step {
 
 /// Reads part by part: in message mode one, and in stream mode as far as the buffer has room.
 #[inline(always)]
-pub(crate) fn fill(queue: &Queue, row: &Row, cursor: ReadCursor, buffer: &mut [u8]) -> Filled
+pub(crate) fn fill(queue: &Queue, row: &Row, cursor: ReadCursor, buffer: &mut [u8]) -> FillResult
     requires cursor { IsReadCursor queue.now row.now cursor }
     requires room { buffer.old ≢ [] }
     ensures cursor { IsReadCursor queue.now row.now result.cursor }
@@ -77,27 +77,27 @@ pub(crate) fn fill(queue: &Queue, row: &Row, cursor: ReadCursor, buffer: &mut [u
             }
             Next::NotYet(number) => {
                 let stop = Stop::NotYet(number);
-                return Filled {
+                return FillResult {
                     cursor,
                     took,
-                    came: Came { count, stop },
+                    came: ReadOutcome { count, stop },
                 };
             }
             Next::End => {
                 let stop = Stop::End;
-                return Filled {
+                return FillResult {
                     cursor,
                     took,
-                    came: Came { count, stop },
+                    came: ReadOutcome { count, stop },
                 };
             }
         }
     }
     let stop = Stop::Enough;
-    Filled {
+    FillResult {
         cursor,
         took,
-        came: Came { count, stop },
+        came: ReadOutcome { count, stop },
     }
 }
 
@@ -111,7 +111,7 @@ fn take_part(queue: &Queue, row: &Row, cursor: ReadCursor, room: &mut [u8]) -> S
 {
     let ReadCursor { mut seat, rest } = cursor;
     if let Some(begun) = rest {
-        let Given { count, left, spare } = begun.give(room);
+        let Delivery { count, left, spare } = begun.give(room);
         seat.spare.keep(spare);
         return Step {
             cursor: ReadCursor { seat, rest: left },
@@ -120,8 +120,8 @@ fn take_part(queue: &Queue, row: &Row, cursor: ReadCursor, room: &mut [u8]) -> S
     }
     let next = match queue.take(&mut seat) {
         TakeAnswer::Block(block, writer, number) => {
-            let whole = Begun::whole(block, writer, number - 1);
-            let Given { count, left, spare } = whole.give(room);
+            let whole = Remainder::whole(block, writer, number - 1);
+            let Delivery { count, left, spare } = whole.give(room);
             seat.spare.keep(spare);
             return Step {
                 cursor: ReadCursor { seat, rest: left },

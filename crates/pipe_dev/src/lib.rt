@@ -1,11 +1,10 @@
 //! Two-way pipes between processes, after pipe(2) and pipe(3).
-//! Read `row`, `waking`; `begun`, `cursor`, `answers`; `read_end`, `filling`, `reading`,
+//! Read `row`, `waking`; `remainder`, `cursor`, `answers`; `read_end`, `filling`, `reading`,
 //! `block_reading`; `write_end`, `writing`, `write_long`; `hanging`; `pipe`, `end`; `closing`; and
 //! then `laws`, the headline, and `side_laws`.
 #![tactic(auto)]
 
 pub mod answers;
-pub mod begun;
 mod block_reading;
 pub mod closing;
 mod cursor;
@@ -16,6 +15,7 @@ pub mod laws;
 pub mod pipe;
 pub mod read_end;
 mod reading;
+pub mod remainder;
 pub mod row;
 pub mod side_laws;
 mod waking;

@@ -50,7 +50,7 @@ impl Pipe {
     ghost use Rattle.sync_base.specs.declared.fault.Fault.TheVariants.{BadSize, NoRendez, Memory};
     ghost use Rattle.block_queue.specs.Opening.{IsBadQueue};
     ghost use Rattle.sleep_wakeup.specs.Kernel.{HasRendez, rendez_less};
-    ghost use Rattle.pipe_dev.specs.Openings.{Opens, OpensStream, OpensIn, HasRows};
+    ghost use Rattle.pipe_dev.specs.Openings.{Opens, OpensStream, OpensIn, OwnsRows};
     ghost use Rattle.pipe_dev.specs.Openings.{IsStartOf, rendez_for};
 
     /// A new pipe, each of whose directions holds at most `limit` writes that no read has begun and
@@ -76,7 +76,7 @@ impl Pipe {
         ensures allowed { OnOk result (HasRendez roster.old (rendez_for writers)) }
         ensures opened { IfOk result (Opens limit writers roster.old.rendez) }
         ensures start { IfOk result (λ opened. IsStartOf opened.pipe opened.start) }
-        ensures rows { IfOk result (HasRows roster.old.words) }
+        ensures rows { IfOk result (OwnsRows roster.old.words) }
         ensures given { OnOk result (roster.new ≡ rendez_less (rendez_for writers) roster.old) }
     {
         Pipe::open(alloc, roster, Mode::Message, limit, writers)
@@ -104,7 +104,7 @@ impl Pipe {
         ensures allowed { OnOk result (HasRendez roster.old (rendez_for writers)) }
         ensures opened { IfOk result (OpensStream limit writers roster.old.rendez) }
         ensures start { IfOk result (λ opened. IsStartOf opened.pipe opened.start) }
-        ensures rows { IfOk result (HasRows roster.old.words) }
+        ensures rows { IfOk result (OwnsRows roster.old.words) }
         ensures given { OnOk result (roster.new ≡ rendez_less (rendez_for writers) roster.old) }
     {
         Pipe::open(alloc, roster, Mode::Stream, limit, writers)
@@ -130,7 +130,7 @@ impl Pipe {
         ensures allowed { OnOk result (HasRendez roster.old (rendez_for writers)) }
         ensures opened { IfOk result (OpensIn mode limit writers roster.old.rendez) }
         ensures start { IfOk result (λ opened. IsStartOf opened.pipe opened.start) }
-        ensures rows { IfOk result (HasRows roster.old.words) }
+        ensures rows { IfOk result (OwnsRows roster.old.words) }
         ensures given { OnOk result (roster.new ≡ rendez_less (rendez_for writers) roster.old) }
     {
         if limit == 0 || limit > MAX_PIPE_LIMIT || writers == 0 || writers > MAX_WRITERS {

@@ -6,12 +6,12 @@ ghost use Rattle.pipe_dev.specs.Ends.{IsReadCursor};
 ghost use Rattle.pipe_dev.specs.ReadCalls.{AsksForBytes, IsAskedRead, Tries, reading};
 ghost use Rattle.pipe_dev.specs.ReadCalls.{calling, lent_at, reader_with};
 ghost use Rattle.pipe_dev.specs.ReadSteps.{answer_of, found_of, told_by, told_with};
-ghost use Rattle.pipe_dev.specs.Rendezes.{HasRow, reader_rendez};
+ghost use Rattle.pipe_dev.specs.Rendezes.{OwnsRow, reader_rendez};
 ghost use Rattle.waiting.specs.Waiting.{IsLow, Waited, WaitsOn};
 
 use crate::answers::{ReadAnswer, TryAnswer};
 use crate::cursor::ReadCursor;
-use crate::filling::{Came, Filled, Stop, fill};
+use crate::filling::{FillResult, ReadOutcome, Stop, fill};
 use crate::read_end::ReadEnd;
 use crate::row::Row;
 use crate::waking::wake_writers;
@@ -26,7 +26,7 @@ impl<'p> ReadEnd<'p> {
     ghost use Rattle.block_queue.specs.Seats.{key_of};
     ghost use Rattle.pipe_dev.specs.Ends.{IsSameReadEnd};
     ghost use Rattle.pipe_dev.specs.ReadCalls.{Reads, Tries, IsUntouchedRead, calling, reader_of};
-    ghost use Rattle.pipe_dev.specs.Rendezes.{HasRow};
+    ghost use Rattle.pipe_dev.specs.Rendezes.{OwnsRow};
 
     /// Reads what is next: fills the buffer, up to its end or to the end of one write, whichever
     /// comes first. In stream mode it goes on from write to write while its buffer has room, and
@@ -47,7 +47,7 @@ impl<'p> ReadEnd<'p> {
         // all the Rendez of the direction.
         ensures bad_count { IsErrOf result BadCount ↔ (buffer.old ≡ []) }
         ensures no_rendez { buffer.old ≢ []
-            → (IsErrOf result NoRendez ↔ ¬ HasRow proc.old.words self.old.row) }
+            → (IsErrOf result NoRendez ↔ ¬ OwnsRow proc.old.words self.old.row) }
 
         // It read, slept and woke so, or did nothing.
         ensures read { Reads (key_of self.old.queue) self.old.row
@@ -80,7 +80,7 @@ impl<'p> ReadEnd<'p> {
         // all the Rendez of the direction; nothing is done then.
         ensures bad_count { IsErrOf result BadCount ↔ (buffer.old ≡ []) }
         ensures no_rendez { buffer.old ≢ []
-            → (IsErrOf result NoRendez ↔ ¬ HasRow proc.old.words self.old.row) }
+            → (IsErrOf result NoRendez ↔ ¬ OwnsRow proc.old.words self.old.row) }
         ensures fault { IfErr result (λ fault. (fault ≡ BadCount) ⊎ (fault ≡ NoRendez)) }
         ensures refused { OnErr result (IsUntouchedRead
             (reader_of self.old proc.old) buffer.old (reader_of self.new proc.new) buffer.new) }
@@ -147,7 +147,7 @@ fn read_with<R: Wait>(
     buffer: &mut [u8],
 ) -> Done
     requires cursor { IsReadCursor queue.now row.now cursor }
-    requires kernel { HasRow proc.old.words row.now }
+    requires kernel { OwnsRow proc.old.words row.now }
     requires room { buffer.old ≢ [] }
     ensures cursor { IsReadCursor queue.now row.now result.cursor }
     ensures words { proc.new.words ≡ proc.old.words }
@@ -182,7 +182,7 @@ fn read_on<R: Wait>(
     number: u64,
 ) -> Done
     requires cursor { IsReadCursor queue.now row.now cursor }
-    requires kernel { HasRow proc.old.words row.now }
+    requires kernel { OwnsRow proc.old.words row.now }
     requires room { buffer.old ≢ [] }
     requires low { number < TOP_LEVEL }
     ensures cursor { IsReadCursor queue.now row.now result.cursor }
@@ -236,7 +236,7 @@ fn ask_for_bytes(
     buffer: &mut [u8],
 ) -> Asked
     requires cursor { IsReadCursor queue.now row.now cursor }
-    requires kernel { HasRow proc.old.words row.now }
+    requires kernel { OwnsRow proc.old.words row.now }
     requires room { buffer.old ≢ [] }
     ensures cursor { IsReadCursor queue.now row.now result.cursor }
     ensures words { proc.new.words ≡ proc.old.words }
@@ -246,7 +246,7 @@ fn ask_for_bytes(
         (calling (reader_with cursor proc.old) buffer.old) (told_by result.found)
         (calling (reader_with result.cursor proc.new) buffer.new) }
 {
-    let Filled { cursor, took, came } = fill(queue, row, cursor, buffer);
+    let FillResult { cursor, took, came } = fill(queue, row, cursor, buffer);
     if let Some(number) = took {
         wake_writers(proc, row, number);
     }
@@ -256,10 +256,10 @@ fn ask_for_bytes(
 
 // What a try that came so far found: it got what it has read, and if that is nothing it is told why
 // it went no further.
-fn found_by(came: Came) -> Found
+fn found_by(came: ReadOutcome) -> Found
     ensures { result ≡ found_of came }
 {
-    let Came { count, stop } = came;
+    let ReadOutcome { count, stop } = came;
     match stop {
         Stop::Enough => Found::Got(count),
         Stop::NotYet(number) => {
@@ -288,7 +288,7 @@ fn try_once(
     buffer: &mut [u8],
 ) -> Answered
     requires cursor { IsReadCursor queue.now row.now cursor }
-    requires kernel { HasRow proc.old.words row.now }
+    requires kernel { OwnsRow proc.old.words row.now }
     requires room { buffer.old ≢ [] }
     ensures cursor { IsReadCursor queue.now row.now result.cursor }
     ensures words { proc.new.words ≡ proc.old.words }

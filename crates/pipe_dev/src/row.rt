@@ -16,11 +16,11 @@ pub struct Row {
 
 impl Row {
     ghost use Rattle.std.specs.Prelude.{◌≡◌, ◌+◌, ◌<◌, ◌↔◌, true};
-    ghost use Rattle.pipe_dev.specs.Rendezes.{reader_rendez, writer_rendez, HasRow};
+    ghost use Rattle.pipe_dev.specs.Rendezes.{reader_rendez, writer_rendez, OwnsRow};
 
     /// These Rendez are among those of the process's kernel.
     pub(crate) fn is_known_to(&self, proc: &Proc<'_>) -> bool
-        ensures { (result ≡ true) ↔ HasRow proc.now.words self.now }
+        ensures { (result ≡ true) ↔ OwnsRow proc.now.words self.now }
     {
         self.first + 1 + self.writers <= proc.rendez_count()
     }

@@ -1,9 +1,9 @@
 //! Who wakes whom on the Rendez of a direction.
 ghost use Rattle.std.specs.Prelude.{◌≡◌, ◌<◌};
 ghost use Rattle.rendez_words.specs.Words.{rendez_of};
-ghost use Rattle.sleep_wakeup.specs.Deeds.{WakesOne};
+ghost use Rattle.sleep_wakeup.specs.Actions.{WakesOne};
 ghost use Rattle.block_queue.specs.Seats.{put_account, take_account};
-ghost use Rattle.pipe_dev.specs.Rendezes.{HasRow, WakesWriters, WakesIfKnown};
+ghost use Rattle.pipe_dev.specs.Rendezes.{OwnsRow, WakesWriters, WakesIfKnown};
 ghost use Rattle.pipe_dev.specs.WriteCalls.{HasHang};
 
 use crate::row::Row;
@@ -26,7 +26,7 @@ pub(crate) fn wake(proc: &mut Proc<'_>, rendez: RendezId, level: u64)
 
 /// Wakes each writer, from the first one on.
 pub(crate) fn wake_writers(proc: &mut Proc<'_>, row: &Row, level: u64)
-    requires row { HasRow proc.old.words row.now }
+    requires row { OwnsRow proc.old.words row.now }
     ensures woken { WakesWriters row.now row.now.writers level proc.old.process proc.new.process }
     ensures words { proc.new.words ≡ proc.old.words }
 {

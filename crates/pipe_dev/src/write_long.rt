@@ -10,7 +10,7 @@ impl<'p> WriteEnd<'p> {
     ghost use Rattle.std.specs.Prelude.{◌≡◌, ◌≢◌, ◌↔◌, Some};
     ghost use Rattle.sync_base.specs.declared.fault.Fault.TheVariants.{TooBig, NoRendez};
     ghost use Rattle.pipe_dev.specs.Ends.{IsSameWriteEnd};
-    ghost use Rattle.pipe_dev.specs.Rendezes.{HasRow};
+    ghost use Rattle.pipe_dev.specs.Rendezes.{OwnsRow};
     ghost use Rattle.pipe_dev.specs.WriteCalls.{WritesLong, call_of, writer_of};
 
     /// Writes these bytes as writes of the atomic size, and one of the rest; no bytes are one empty
@@ -27,7 +27,7 @@ impl<'p> WriteEnd<'p> {
         // the process is of a kernel that does not own all the Rendez of the direction.
         ensures too_big { result.fault ≢ Some TooBig }
         ensures no_rendez { (result.fault ≡ Some NoRendez)
-            ↔ ¬ HasRow proc.old.words self.old.row }
+            ↔ ¬ OwnsRow proc.old.words self.old.row }
 
         // It wrote so, up to the first write that was not accepted.
         ensures wrote { WritesLong (call_of self.old bytes.now)

@@ -2,7 +2,7 @@
 ghost use Rattle.std.specs.Prelude.{◌≡◌};
 ghost use Rattle.block_queue.specs.Seats.{key_of};
 ghost use Rattle.pipe_dev.specs.Ends.{IsWriteSeat};
-ghost use Rattle.pipe_dev.specs.Rendezes.{HasRow, writer_rendez};
+ghost use Rattle.pipe_dev.specs.Rendezes.{OwnsRow, writer_rendez};
 ghost use Rattle.pipe_dev.specs.WriteCalls.{IsAsked, call_with, writer_with, writing};
 ghost use Rattle.pipe_dev.specs.WriteSteps.{IsPutting, account_in, seen_by};
 ghost use Rattle.waiting.specs.Waiting.{Waited};
@@ -23,7 +23,7 @@ impl<'p> WriteEnd<'p> {
     ghost use Rattle.sync_base.specs.declared.fault.Fault.TheVariants.{TooBig, NoRendez};
     ghost use Rattle.sync_base.specs.declared.limits.TheConstants.{ATOMIC_SIZE};
     ghost use Rattle.pipe_dev.specs.Ends.{IsSameWriteEnd};
-    ghost use Rattle.pipe_dev.specs.Rendezes.{HasRow};
+    ghost use Rattle.pipe_dev.specs.Rendezes.{OwnsRow};
     ghost use Rattle.pipe_dev.specs.WriteCalls.{Writes, call_of, writer_of};
 
     /// Writes these bytes as one write, which is read whole and in one piece, and answers its
@@ -46,7 +46,7 @@ impl<'p> WriteEnd<'p> {
         // not own all the Rendez of the direction.
         ensures too_big { IsErrOf result TooBig ↔ (ATOMIC_SIZE < length bytes.now) }
         ensures no_rendez { length bytes.now ≤ ATOMIC_SIZE
-            → (IsErrOf result NoRendez ↔ ¬ HasRow proc.old.words self.old.row) }
+            → (IsErrOf result NoRendez ↔ ¬ OwnsRow proc.old.words self.old.row) }
 
         // It wrote, slept and woke so, or did nothing.
         ensures wrote { Writes (call_of self.old bytes.now)
@@ -98,7 +98,7 @@ fn write_with<R: Wait>(
     block: Piece,
 ) -> Done
     requires seat { IsWriteSeat queue.now row.now seat.writer seat }
-    requires kernel { HasRow proc.old.words row.now }
+    requires kernel { OwnsRow proc.old.words row.now }
     requires block { block ≡ bytes.now }
     ensures seat { IsWriteSeat queue.now row.now seat.writer result.seat }
     ensures words { proc.new.words ≡ proc.old.words }
@@ -154,7 +154,7 @@ impl<'q> WaitingCall for Writing<'q> {
     ghost rests = { λ call putting.
         IsWriteSeat call.queue.now call.row.now call.writer putting.seat };
 
-    ghost knows = { λ call words. HasRow words call.row.now };
+    ghost knows = { λ call words. OwnsRow words call.row.now };
 
     ghost promise = { λ call. seen_by account_in (writing (record {
       key = key_of call.queue.now;

@@ -5,7 +5,7 @@ use Rattle.kernel_lock.specs.Seats.{given_of, limit_of}
 use Rattle.sync_base.specs.declared.fault.Fault.TheVariants as fault
 use Rattle.sleep_wakeup.specs.Kernel.{Running, Unused}
 use Rattle.tag_space.specs.declared.member.Member.{Member}
-use Rattle.tag_space.specs.Members.{HasRow, IsMemberOf, number_of}
+use Rattle.tag_space.specs.Members.{OwnsRow, IsMemberOf, number_of}
 use Rattle.plan9.specs.Halls.{Hosting, Visiting, IsNewHall, IsFirstGuest, WhyNotFirstGuest}
 use Rattle.plan9.specs.Halls.{IsSameGuest, IsAdmittedGuest, IsFurtherGuest, WhyNoGuest}
 
@@ -28,7 +28,7 @@ module _ (hall : Hosting) (running : Running) (guest : Visiting) where
 
   -- a process of the hall's own kernel is refused as one of another, the first one as a second, and
   -- one as out of memory
-  refused_by_its_own_kernel : HasRow hall.space running.words
+  refused_by_its_own_kernel : OwnsRow hall.space running.words
       → WhyNotFirstGuest hall running fault.NoRendez → ⊥
   refused_by_its_own_kernel row why = why row
 
@@ -71,7 +71,7 @@ module _ (old new child : Visiting) (running : Running) where
       let above = further.further.above in omega (arith, same, above)
 
   -- one is refused by its own kernel, while a member is left, or as out of memory
-  guest_refused_by_its_own_kernel : HasRow old.space running.words
+  guest_refused_by_its_own_kernel : OwnsRow old.space running.words
       → WhyNoGuest old new running fault.NoRendez → ⊥
   guest_refused_by_its_own_kernel row (other, same) = other row
 

@@ -17,7 +17,7 @@ use Rattle.semaphore.specs.Releasing.{Releases}
 use Rattle.semaphore.specs.Seats as seats
 use Rattle.pipe_dev.specs.declared.answers.ReadAnswer.{ReadAnswer}
 use Rattle.pipe_dev.specs.Ends.{WriteSide, IsSameWriteEnd}
-use Rattle.pipe_dev.specs.Rendezes.{HasRow}
+use Rattle.pipe_dev.specs.Rendezes.{OwnsRow}
 use Rattle.plan9.specs.declared.pipes.Reader.{Reader}
 use Rattle.plan9.specs.declared.pipes.Writer.{Writer}
 use Rattle.plan9.specs.declared.refusals.Refused.{Refused}
@@ -43,14 +43,14 @@ module _ (words : Words) (space : TagSpace) (member : Member) where
   a_space_of_fewer : space.procs ≢ 2 → ¬ IsRowOfSpace space 3 2
   a_space_of_fewer other row = other row.procs_are
 
-  a_member_at_another_kernel : ¬ members.HasRow space words → ¬ IsAdmitted space words member
+  a_member_at_another_kernel : ¬ members.OwnsRow space words → ¬ IsAdmitted space words member
   a_member_at_another_kernel other admitted = other admitted.row
 
 module _ (words : Words) (sema : Sema) (seat : SemaSeat) where
   a_semaphore_of_fewer : sema.procs ≢ 2 → ¬ IsRowOf sema 3 2
   a_semaphore_of_fewer other row = other row.procs_are
 
-  a_seat_at_another_kernel : ¬ seats.HasRow sema words → ¬ IsSeated sema words seat
+  a_seat_at_another_kernel : ¬ seats.OwnsRow sema words → ¬ IsSeated sema words seat
   a_seat_at_another_kernel other seated = other seated.row
 
 module _ (old new : Holding) (vacancy : Vacancy) where
@@ -66,7 +66,7 @@ module _ (old new : Reader) (buffer' : List ℕ) where
   a_read_into_no_room_is_no_end reads =
       let no : Ok None ≡ Err fault.BadCount = reads.bad_count.1 refl in cc
 
-  a_read_at_another_kernel_is_no_end : ¬ HasRow old.proc.words old.end.row
+  a_read_at_another_kernel_is_no_end : ¬ OwnsRow old.proc.words old.end.row
       → ¬ ReadsPiece old (7 ∷ []) (Ok None) new buffer'
   a_read_at_another_kernel_is_no_end other reads =
       let refused = reads.no_rendez (λ none. let no : 7 ∷ [] ≡ [] = none in cc) in

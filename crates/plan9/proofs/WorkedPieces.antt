@@ -10,7 +10,7 @@ use Rattle.pipe_dev.specs.Ends.{IsSameReadEnd}
 use Rattle.pipe_dev.specs.Rounds.{Rounds}
 use Rattle.plan9.specs.declared.pipes.Reader.{Reader}
 use Rattle.plan9.specs.declared.pipes.Writer.{Writer}
-use Rattle.plan9.specs.declared.reading.Short.{Short}
+use Rattle.plan9.specs.declared.reading.ShortRead.{ShortRead}
 use Rattle.plan9.specs.Readings.{Filling, IsSameReader, LiesIn, ReadsBy, ReadsPiece, ReadsBehind}
 use Rattle.plan9.specs.Readings.{GoesOn, Stops, EndsFilling, FillsUp, filling, read_answer}
 use Rattle.plan9.specs.Readings.{stopped}
@@ -61,7 +61,7 @@ module _ (old new : Filling) where
   each_byte_counts : (goes : GoesOn old new) → new.count ≡ old.count + goes.more
   each_byte_counts goes = goes.count_is
 
-module _ (before : Filling) (short : Short) (reader : Reader) (buffer : List ℕ) where
+module _ (before : Filling) (short : ShortRead) (reader : Reader) (buffer : List ℕ) where
   what_came_is_told : Stops before short reader buffer → short.count ≡ before.count
   what_came_is_told stops = stops.count_is
 
@@ -77,7 +77,7 @@ module _ (before : Filling) (short : Short) (reader : Reader) (buffer : List ℕ
       → ¬ EndsFilling before (Err short) reader buffer
   it_is_short_and_did_not_stop none ends = none ends
 
-module _ (old new : Reader) (buffer buffer' : List ℕ) (answer : Result ⊤ Short) where
+module _ (old new : Reader) (buffer buffer' : List ℕ) (answer : Result ⊤ ShortRead) where
   filled_by_another_reader : ¬ IsSameReader old new → ¬ FillsUp old buffer answer new buffer'
   filled_by_another_reader other fills = other fills.same
 

@@ -8,7 +8,7 @@ use Rattle.sleep_wakeup.specs.Forks.{HasPid}
 use Rattle.sleep_wakeup.specs.Kernel.{Running, Unused, next_process, one_pid_less}
 use Rattle.tag_space.specs.declared.member.Member.{Member}
 use Rattle.tag_space.specs.declared.space.TagSpace.{TagSpace}
-use Rattle.tag_space.specs.Members.{IsMemberOf, HasRow}
+use Rattle.tag_space.specs.Members.{IsMemberOf, OwnsRow}
 use Rattle.semaphore.specs.declared.sema.Sema.{Sema}
 use Rattle.semaphore.specs.declared.sema.SemaSeat.{SemaSeat}
 use Rattle.semaphore.specs.declared.timers.Timers.{Timers}
@@ -96,7 +96,7 @@ module _ (space : TagSpace) (member : Member) where
   a_space_for_another_count : space.procs ≢ 2 → ¬ IsRowOfSpace space 3 2
   a_space_for_another_count other row = other row.procs_are
 
-  admitted_without_its_rendez : (words : Words) → ¬ HasRow space words
+  admitted_without_its_rendez : (words : Words) → ¬ OwnsRow space words
       → ¬ IsAdmitted space words member
   admitted_without_its_rendez words other admitted = other admitted.row
 

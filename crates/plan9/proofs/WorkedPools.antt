@@ -11,7 +11,7 @@ use Rattle.rendez_words.specs.Words.{procs_of}
 use Rattle.pipe_dev.specs.Rounds.{Rounds}
 use Rattle.semaphore.specs.declared.sema.Sema.{Sema}
 use Rattle.semaphore.specs.declared.sema.SemaSeat.{SemaSeat}
-use Rattle.semaphore.specs.Seats.{HasRow, IsSemaSeatOf}
+use Rattle.semaphore.specs.Seats.{OwnsRow, IsSemaSeatOf}
 use Rattle.plan9.specs.Pools.{Pooled, Holding, IsNewPool, IsFirstHolder, WhyNotFirst}
 use Rattle.plan9.specs.Pools.{IsSameHolder, IsSeatedHolder, IsSameParent, IsFurtherHolder}
 use Rattle.plan9.specs.declared.vacant.Unseated.{Unseated}
@@ -40,7 +40,7 @@ module _ (pool : Pooled) (running : Running) (holding : Holding) where
 
   -- a process of the pool's own kernel is refused as one of another, the first one as a second, and
   -- one as out of memory
-  refused_by_its_own_kernel : HasRow pool.sema running.words
+  refused_by_its_own_kernel : OwnsRow pool.sema running.words
       → WhyNotFirst pool running fault.NoRendez → ⊥
   refused_by_its_own_kernel row why = why row
 
@@ -76,7 +76,7 @@ module _ (old new : Holding) where
   seated_elsewhere : (IsSemaSeatOf old.sema old.seat → ⊥) → IsSeatedHolder old → ⊥
   seated_elsewhere other seated = other seated.seat_is
 
-  seated_without_its_rendez : (HasRow old.sema old.running.words → ⊥) → IsSeatedHolder old → ⊥
+  seated_without_its_rendez : (OwnsRow old.sema old.running.words → ⊥) → IsSeatedHolder old → ⊥
   seated_without_its_rendez other seated = other seated.row
 
   -- a seat is vacant that its parent did not give
@@ -107,7 +107,7 @@ module _ (old new child : Holding) (running : Running) where
       omega (arith, same, gave)
 
   -- one is refused by its own kernel, while a seat is left, or as out of memory
-  join_refused_by_its_own_kernel : HasRow old.sema running.words
+  join_refused_by_its_own_kernel : OwnsRow old.sema running.words
       → WhyNotJoined old new running fault.NoRendez → ⊥
   join_refused_by_its_own_kernel row (other, same) = other row
 
@@ -153,7 +153,7 @@ module _ (old new : Forking) where
 module _ (old new : Forking) (unseated : Unseated) where
   -- a child comes back of the pool's own kernel, where no pid is left, as another process than the
   -- next one, with a seat of another pool, or with no pid used up
-  comes_back_from_its_own_kernel : HasRow old.parent.sema old.roster.words
+  comes_back_from_its_own_kernel : OwnsRow old.parent.sema old.roster.words
       → WhyNoFork old new (Some unseated) fault.NoRendez → ⊥
   comes_back_from_its_own_kernel row why = why.no_row row
 

@@ -21,7 +21,7 @@ use Rattle.pipe_dev.specs.declared.answers.ReadAnswer.TheVariants as read
 use Rattle.pipe_dev.specs.declared.answers.TryAnswer.{TryAnswer}
 use Rattle.pipe_dev.specs.declared.answers.TryAnswer.TheVariants as try
 use Rattle.pipe_dev.specs.Ends.{ReadSide}
-use Rattle.pipe_dev.specs.Rendezes.{HasRow}
+use Rattle.pipe_dev.specs.Rendezes.{OwnsRow}
 use Rattle.plan9.specs.declared.pipes.Reader.{Reader}
 use Rattle.plan9.specs.declared.sharing.Shared.{Shared}
 use Rattle.plan9.specs.declared.sharing.Sharer.{Sharer}
@@ -232,13 +232,13 @@ module _ (old new : Reader) (buffer : Buffers) where
       (tries.bad_count.1 none) tt
 
   -- bytes are read, or tried, and the process knows not all Rendez
-  read_without_rendez : buffer.before ≢ [] → (HasRow old.proc.words old.end.row → ⊥)
+  read_without_rendez : buffer.before ≢ [] → (OwnsRow old.proc.words old.end.row → ⊥)
       → ReadsOnce buffer (Ok (read.Got 3)) old new → ⊥
   read_without_rendez some none reads =
       subst (λ (answer : Result ReadAnswer Fault). IfErr answer (λ why. ⊥))
       ((reads.no_rendez some).1 none) tt
 
-  try_without_rendez : buffer.before ≢ [] → (HasRow old.proc.words old.end.row → ⊥)
+  try_without_rendez : buffer.before ≢ [] → (OwnsRow old.proc.words old.end.row → ⊥)
       → TriesOnce buffer (Ok (try.Got 3)) old new → ⊥
   try_without_rendez some none tries =
       subst (λ (answer : Result TryAnswer Fault). IfErr answer (λ why. ⊥))
@@ -262,7 +262,7 @@ module _ (old new : Reader) (buffer : Buffers) where
   nothing_was_tried none tries = none tries.tries
 
   -- a block is read, and the process knows not all Rendez
-  block_without_rendez : (HasRow old.proc.words old.end.row → ⊥)
+  block_without_rendez : (OwnsRow old.proc.words old.end.row → ⊥)
       → ReadsBlockOnce buffer (Ok read.End) old new → ⊥
   block_without_rendez none reads =
       subst (λ (answer : Result ReadAnswer Fault). IfErr answer (λ why. ⊥))

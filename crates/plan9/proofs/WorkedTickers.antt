@@ -36,7 +36,8 @@ a_beat_that_stands_at_the_end = record { on = λ more. omega (arith, more); mome
 
 -- ---- of any time
 
-module _ {Time : Type 0} (tells : Time → ℕ → Time → Type 0) (old new : Timed Time) where
+module _ {TickSource : Type 0} (tells : TickSource → ℕ → TickSource → Type 0)
+    (old new : Timed TickSource) where
   notes_end_it_before_a_tick : ((looked : Running) → ¬ Looks old.ticker.proc no_notes looked)
       → ¬ TicksOnce tells old new
   notes_end_it_before_a_tick pending ticks = pending ticks.looked ticks.none
@@ -58,7 +59,7 @@ module _ {Time : Type 0} (tells : Time → ℕ → Time → Type 0) (old new : T
       (point old.ticker.watch.seat ticks.looked) (point new.ticker.watch.seat new.ticker.proc)
   a_tick_is_one_of_its_timers ticks = ticks.called
 
-module _ {Time : Type 0} (old new : Timed Time) (came : NoteSet) where
+module _ {TickSource : Type 0} (old new : Timed TickSource) (came : NoteSet) where
   no_notes_end_it_not : ¬ EndsTicking old no_notes new
   no_notes_end_it_not ends = ends.some refl
 
@@ -72,14 +73,15 @@ module _ {Time : Type 0} (old new : Timed Time) (came : NoteSet) where
   a_moment_behind_its_notes : new.time ≢ old.time → ¬ EndsTicking old came new
   a_moment_behind_its_notes other ends = other ends.time_is
 
-module _ {Time : Type 0} (tells : Time → ℕ → Time → Type 0) (old new : Timed Time)
+module _ {TickSource : Type 0} (tells : TickSource → ℕ → TickSource → Type 0)
+    (old new : Timed TickSource)
     (came : NoteSet) where
   an_end_of_no_ticks :
-      ((times : ℕ) (before : Timed Time) → ¬ Rounds (TicksOnce tells) times old before)
+      ((times : ℕ) (before : Timed TickSource) → ¬ Rounds (TicksOnce tells) times old before)
       → ¬ TicksOn tells old came new
   an_end_of_no_ticks none ticks = none ticks.times ticks.before ticks.ticked
 
-  ticks_that_no_notes_end : ((before : Timed Time) → ¬ EndsTicking before came new)
+  ticks_that_no_notes_end : ((before : Timed TickSource) → ¬ EndsTicking before came new)
       → ¬ TicksOn tells old came new
   ticks_that_no_notes_end none ticks = none ticks.before ticks.ended
 

@@ -7,7 +7,7 @@ use Rattle.sleep_wakeup.specs.Kernel.{Running, Unused}
 use Rattle.kernel_lock.specs.Seats.{KnowsAllGiven}
 use Rattle.tag_space.specs.declared.member.Member.{Member}
 use Rattle.tag_space.specs.declared.space.TagSpace.{TagSpace}
-use Rattle.tag_space.specs.Members.{HasRow, IsMemberOf, IsSameMember}
+use Rattle.tag_space.specs.Members.{OwnsRow, IsMemberOf, IsSameMember}
 use Rattle.tag_space.specs.Spaces.{IsFirstMember, IsFurtherMember, IsNewSpace}
 use Rattle.waiting.specs.Waiting.{Point, point}
 
@@ -35,7 +35,7 @@ IsSpareMember space (Some member) = IsMemberOf space member
 -- the member is one of the space's between two calls, and its Rendez are of this kernel
 pub record IsAdmitted (space : TagSpace) (words : Words) (member : Member) : Type 0 where
   pub member_is : IsMemberOf space member
-  pub row : HasRow space words
+  pub row : OwnsRow space words
 
 -- a hall of a new space, whose first member no process has
 abbrev pub IsNewHall : Unused → ℕ → Hosting → Type 0
@@ -46,8 +46,8 @@ IsNewHall roster procs hall =
 -- why a process can't be the first: its kernel does not own all the Rendez of the hall, or another
 -- was
 abbrev pub WhyNotFirstGuest : Hosting → Running → Fault → Type 0
-WhyNotFirstGuest hall running fault.NoRendez = ¬ HasRow hall.space running.words
-WhyNotFirstGuest hall running fault.NoProc = HasRow hall.space running.words × (hall.spare ≡ None)
+WhyNotFirstGuest hall running fault.NoRendez = ¬ OwnsRow hall.space running.words
+WhyNotFirstGuest hall running fault.NoProc = OwnsRow hall.space running.words × (hall.spare ≡ None)
 WhyNotFirstGuest hall running other = ⊥
 
 -- the process has the member that none had
@@ -79,8 +79,8 @@ pub record IsFurtherGuest (old new : Visiting) (running : Running) (child : Visi
 -- why a process can't be a guest as well: its kernel does not own all the Rendez of the hall, or
 -- the space has had all its members
 abbrev pub WhyNoGuest : Visiting → Visiting → Running → Fault → Type 0
-WhyNoGuest old new running fault.NoRendez = (¬ HasRow old.space running.words) × (new ≡ old)
+WhyNoGuest old new running fault.NoRendez = (¬ OwnsRow old.space running.words) × (new ≡ old)
 WhyNoGuest old new running fault.NoProc =
-    HasRow old.space running.words
+    OwnsRow old.space running.words
     × KnowsAllGiven old.space.lock old.member.seat new.member.seat
 WhyNoGuest old new running other = ⊥

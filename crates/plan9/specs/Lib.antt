@@ -26,7 +26,7 @@ pub use Rattle.sleep_wakeup.specs.Starts
 pub use Rattle.sleep_wakeup.specs.Forks
 pub use Rattle.sleep_wakeup.specs.Groups
 pub use Rattle.sleep_wakeup.specs.Calls as SleepCalls
-pub use Rattle.sleep_wakeup.specs.Deeds as SleepDeeds
+pub use Rattle.sleep_wakeup.specs.Actions as SleepActions
 -- pipes
 pub use Rattle.block_queue.specs.Meaning as QueueMeaning
 pub use Rattle.block_queue.specs.Opening as QueueOpening

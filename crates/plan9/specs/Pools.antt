@@ -13,7 +13,7 @@ use Rattle.semaphore.specs.declared.acquiring.Semacquired.{Semacquired}
 use Rattle.semaphore.specs.declared.acquiring.Semacquired.TheVariants as sema
 use Rattle.semaphore.specs.declared.sema.Sema.{Sema}
 use Rattle.semaphore.specs.declared.sema.SemaSeat.{SemaSeat}
-use Rattle.semaphore.specs.Seats.{HasRow, IsNewSema, IsSemaSeatOf}
+use Rattle.semaphore.specs.Seats.{OwnsRow, IsNewSema, IsSemaSeatOf}
 use Rattle.waiting.specs.Waiting.{Point, point}
 use Rattle.pipe_dev.specs.Rounds.{Rounds}
 use Rattle.plan9.specs.declared.vacant.Unseated.{Unseated}
@@ -38,7 +38,7 @@ IsSpareOf sema (Some seat) = IsSemaSeatOf sema seat
 -- the seat is one of the semaphore's that waits for nothing, and its Rendez are of this kernel
 pub record IsSeated (sema : Sema) (words : Words) (seat : SemaSeat) : Type 0 where
   pub seat_is : IsSemaSeatOf sema seat
-  pub row : HasRow sema words
+  pub row : OwnsRow sema words
 
 -- a pool of a new semaphore, whose first seat nobody has
 abbrev pub IsNewPool : Unused → ℕ → ℕ → Pooled → Type 0
@@ -73,8 +73,8 @@ got_now now = Ok (if now then sema.Acquired else sema.NotNow)
 -- why a process can't be the first to hold: its kernel does not own all the Rendez of the pool, or
 -- somebody was the first
 abbrev pub WhyNotFirst : Pooled → Running → Fault → Type 0
-WhyNotFirst pool running fault.NoRendez = ¬ HasRow pool.sema running.words
-WhyNotFirst pool running fault.NoProc = HasRow pool.sema running.words × (pool.spare ≡ None)
+WhyNotFirst pool running fault.NoRendez = ¬ OwnsRow pool.sema running.words
+WhyNotFirst pool running fault.NoProc = OwnsRow pool.sema running.words × (pool.spare ≡ None)
 WhyNotFirst pool running other = ⊥
 
 -- the process has the seat that nobody had
@@ -104,8 +104,8 @@ KnowsNoSeat old new = KnowsAllGiven old.sema.lock old.seat.seat new.seat.seat
 -- seats were given
 abbrev pub WhyNotJoined : Holding → Holding → Running → Fault → Type 0
 WhyNotJoined old new running fault.NoRendez =
-    (¬ HasRow old.sema running.words) × (new ≡ old)
-WhyNotJoined old new running fault.NoProc = HasRow old.sema running.words × KnowsNoSeat old new
+    (¬ OwnsRow old.sema running.words) × (new ≡ old)
+WhyNotJoined old new running fault.NoProc = OwnsRow old.sema running.words × KnowsNoSeat old new
 WhyNotJoined old new running other = ⊥
 
 -- a seat of the same semaphore that was given to no other, and that no process has
@@ -138,7 +138,7 @@ forking roster parent = record { roster = roster; parent = parent }
 -- not own all the Rendez of the pool
 pub record IsUnseated (old new : Forking) (unseated : Unseated) : Type 0 where
   pub pid : HasPid old.roster
-  pub no_row : ¬ HasRow old.parent.sema old.roster.words
+  pub no_row : ¬ OwnsRow old.parent.sema old.roster.words
   pub proc_is : unseated.proc ≡ next_process old.roster
   pub further : IsFurtherVacancy old.parent new.parent unseated.seat
   pub roster : new.roster ≡ one_pid_less old.parent.running.process.pid false old.roster

@@ -8,10 +8,10 @@ use Rattle.pipe_dev.specs.declared.answers.ReadAnswer.{ReadAnswer}
 use Rattle.pipe_dev.specs.declared.answers.ReadAnswer.TheVariants as read
 use Rattle.pipe_dev.specs.Ends.{IsSameReadEnd}
 use Rattle.pipe_dev.specs.ReadCalls.{Reads, calling, reader_of}
-use Rattle.pipe_dev.specs.Rendezes.{HasRow}
+use Rattle.pipe_dev.specs.Rendezes.{OwnsRow}
 use Rattle.pipe_dev.specs.Rounds.{Rounds}
 use Rattle.plan9.specs.declared.pipes.Reader.{Reader}
-use Rattle.plan9.specs.declared.reading.Short.{Short}
+use Rattle.plan9.specs.declared.reading.ShortRead.{ShortRead}
 
 -- the same end, and the same kernel
 pub record IsSameReader (old new : Reader) : Type 0 where
@@ -43,7 +43,7 @@ pub record ReadsPiece (old : Reader) (buffer : List ℕ) (answer : Result (Optio
     (new : Reader) (buffer' : List ℕ) : Type 0 where
   pub bad_count : IsErrOf answer BadCount ↔ (buffer ≡ [])
   pub no_rendez : buffer ≢ []
-      → (IsErrOf answer NoRendez ↔ ¬ HasRow old.proc.words old.end.row)
+      → (IsErrOf answer NoRendez ↔ ¬ OwnsRow old.proc.words old.end.row)
   pub reads : ReadsBy old buffer (read_answer answer) new buffer'
   pub fits : LiesIn buffer' answer
   pub same : IsSameReader old new
@@ -78,18 +78,18 @@ stopped None = Ok read.End
 stopped (Some fault) = Err fault
 
 -- no piece came, behind so many bytes
-pub record Stops (before : Filling) (short : Short) (reader : Reader) (buffer : List ℕ) :
+pub record Stops (before : Filling) (short : ShortRead) (reader : Reader) (buffer : List ℕ) :
     Type 0 where
   pub count_is : short.count ≡ before.count
   pub reads : ReadsBehind before (stopped short.fault) reader buffer
 
 -- the buffer is full, or no more came
-abbrev pub EndsFilling : Filling → Result ⊤ Short → Reader → List ℕ → Type 0
+abbrev pub EndsFilling : Filling → Result ⊤ ShortRead → Reader → List ℕ → Type 0
 EndsFilling before (Ok unit) reader buffer = before ≡ filling reader buffer (length buffer)
 EndsFilling before (Err short) reader buffer = Stops before short reader buffer
 
 -- some reads gave a piece each, one behind the other; and then it ended
-pub record FillsUp (old : Reader) (buffer : List ℕ) (answer : Result ⊤ Short) (new : Reader)
+pub record FillsUp (old : Reader) (buffer : List ℕ) (answer : Result ⊤ ShortRead) (new : Reader)
     (buffer' : List ℕ) : Type 0 where
   pub same : IsSameReader old new
   pub times : ℕ

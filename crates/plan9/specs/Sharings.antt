@@ -21,7 +21,7 @@ use Rattle.pipe_dev.specs.declared.answers.TryAnswer.TheVariants as try
 use Rattle.pipe_dev.specs.BlockReads.{ReadsBlock}
 use Rattle.pipe_dev.specs.Ends.{ReadSide, IsSameReadEnd}
 use Rattle.pipe_dev.specs.ReadCalls.{IsUntouchedRead, Tries, calling, reader_of}
-use Rattle.pipe_dev.specs.Rendezes.{HasRow}
+use Rattle.pipe_dev.specs.Rendezes.{OwnsRow}
 use Rattle.plan9.specs.declared.pipes.Reader.{Reader}
 use Rattle.plan9.specs.declared.sharing.Shared.{Shared}
 use Rattle.plan9.specs.declared.sharing.Sharer.{Sharer}
@@ -132,13 +132,13 @@ pub record ReadsOnce (buffer : Buffers) (answer : Result ReadAnswer Fault) (old 
     Type 0 where
   pub bad_count : IsErrOf answer BadCount ↔ (buffer.before ≡ [])
   pub no_rendez : buffer.before ≢ []
-      → (IsErrOf answer NoRendez ↔ ¬ HasRow old.proc.words old.end.row)
+      → (IsErrOf answer NoRendez ↔ ¬ OwnsRow old.proc.words old.end.row)
   pub reads : ReadsBy old buffer.before answer new buffer.after
 
 -- the read of a block
 pub record ReadsBlockOnce (block : Buffers) (answer : Result ReadAnswer Fault)
     (old new : Reader) : Type 0 where
-  pub no_rendez : IsErrOf answer NoRendez ↔ ¬ HasRow old.proc.words old.end.row
+  pub no_rendez : IsErrOf answer NoRendez ↔ ¬ OwnsRow old.proc.words old.end.row
   pub reads : ReadsBlock (key_of old.end.queue) old.end.row
       (calling (reader_of old.end old.proc) block.before) answer
       (calling (reader_of new.end new.proc) block.after)
@@ -156,7 +156,7 @@ pub record TriesOnce (buffer : Buffers) (answer : Result TryAnswer Fault) (old n
     Type 0 where
   pub bad_count : IsErrOf answer BadCount ↔ (buffer.before ≡ [])
   pub no_rendez : buffer.before ≢ []
-      → (IsErrOf answer NoRendez ↔ ¬ HasRow old.proc.words old.end.row)
+      → (IsErrOf answer NoRendez ↔ ¬ OwnsRow old.proc.words old.end.row)
   pub fault : IfErr answer (λ why. (why ≡ BadCount) ⊎ (why ≡ NoRendez))
   pub tries : TriesBy old buffer.before answer new buffer.after
 

@@ -22,24 +22,25 @@ pub record IsBeat (old moment new : ℕ) : Type 0 where
   pub moment_is : moment ≡ new
 
 -- a ticker, and the time that it asks for its moments
-pub record Timed (Time : Type 0) : Type 0 where
+pub record Timed (TickSource : Type 0) : Type 0 where
   pub ticker : Ticker
-  pub time : Time
+  pub time : TickSource
 
-abbrev pub timed : {Time : Type 0} → Ticker → Time → Timed Time
+abbrev pub timed : {TickSource : Type 0} → Ticker → TickSource → Timed TickSource
 timed ticker time = record { ticker = ticker; time = time }
 
 -- these notes were pending, and it did nothing but take them
-pub record EndsTicking {Time : Type 0} (old : Timed Time) (came : NoteSet) (new : Timed Time) :
+pub record EndsTicking {TickSource : Type 0} (old : Timed TickSource) (came : NoteSet)
+    (new : Timed TickSource) :
     Type 0 where
   pub some : came ≢ no_notes
   pub watch_is : new.ticker.watch ≡ old.ticker.watch
   pub looked : Looks old.ticker.proc came new.ticker.proc
   pub time_is : new.time ≡ old.time
 
-module _ {Time : Type 0} (tells : Time → ℕ → Time → Type 0) where
+module _ {TickSource : Type 0} (tells : TickSource → ℕ → TickSource → Type 0) where
   -- no note was pending, and then it asked the time once, and ticked once at the moment that came
-  pub record TicksOnce (old new : Timed Time) : Type 0 where
+  pub record TicksOnce (old new : Timed TickSource) : Type 0 where
     pub looked : Running
     pub none : Looks old.ticker.proc no_notes looked
     pub now : ℕ
@@ -51,8 +52,9 @@ module _ {Time : Type 0} (tells : Time → ℕ → Time → Type 0) where
         (point old.ticker.watch.seat looked) (point new.ticker.watch.seat new.ticker.proc)
 
   -- some ticks, and then notes
-  pub record TicksOn (old : Timed Time) (came : NoteSet) (new : Timed Time) : Type 0 where
+  pub record TicksOn (old : Timed TickSource) (came : NoteSet)
+      (new : Timed TickSource) : Type 0 where
     pub times : ℕ
-    pub before : Timed Time
+    pub before : Timed TickSource
     pub ticked : Rounds TicksOnce times old before
     pub ended : EndsTicking before came new

@@ -38,7 +38,7 @@ pub use crate::texts::{FaultText, NoteTexts};
 
 // Pipes, and processes that have an end of one.
 pub use crate::pipes::{Reader, Writer, fork_writers};
-pub use crate::reading::Short;
+pub use crate::reading::ShortRead;
 pub use crate::sharing::{Shared, Sharer, Unshared};
 pub use crate::streams::{ReadStream, WriteStream};
 pub use pipe_dev::{
@@ -53,7 +53,7 @@ pub use semaphore::{OpenedSema, Sema, SemaSeat, Semacquired};
 
 // Timers, for waits that end, and seats that have them.
 pub use crate::clock::{Clock, Watch};
-pub use crate::ticker::{Beat, RealTime, Ticker, Time};
+pub use crate::ticker::{Beat, RealTime, TickSource, Ticker};
 pub use semaphore::{OpenedTimers, TimerSeat, Timers};
 
 // Tag spaces: rendezvous, rfork of them, and processes that are members of one.

@@ -33,7 +33,7 @@ impl<'p, 'k> Reader<'p, 'k> {
     ghost use Rattle.pipe_dev.specs.BlockReads.{ReadsBlock};
     ghost use Rattle.pipe_dev.specs.Ends.{IsSameReadEnd};
     ghost use Rattle.pipe_dev.specs.ReadCalls.{Reads, Tries, IsUntouchedRead, calling, reader_of};
-    ghost use Rattle.pipe_dev.specs.Rendezes.{HasRow, WakesIfKnown};
+    ghost use Rattle.pipe_dev.specs.Rendezes.{OwnsRow, WakesIfKnown};
 
     /// A process with a read end. Takes no memory and doesn't wait.
     pub fn new(end: ReadEnd<'p>, proc: Proc<'k>) -> Reader<'p, 'k>
@@ -57,7 +57,7 @@ impl<'p, 'k> Reader<'p, 'k> {
         // all the Rendez of the direction.
         ensures bad_count { IsErrOf result BadCount ↔ (buffer.old ≡ []) }
         ensures no_rendez { buffer.old ≢ []
-            → (IsErrOf result NoRendez ↔ ¬ HasRow self.old.proc.words self.old.end.row) }
+            → (IsErrOf result NoRendez ↔ ¬ OwnsRow self.old.proc.words self.old.end.row) }
 
         // It read, slept and woke so, or did nothing.
         ensures read { Reads (key_of self.old.end.queue) self.old.end.row
@@ -78,7 +78,7 @@ impl<'p, 'k> Reader<'p, 'k> {
         // all the Rendez of the direction; nothing is done then.
         ensures bad_count { IsErrOf result BadCount ↔ (buffer.old ≡ []) }
         ensures no_rendez { buffer.old ≢ []
-            → (IsErrOf result NoRendez ↔ ¬ HasRow self.old.proc.words self.old.end.row) }
+            → (IsErrOf result NoRendez ↔ ¬ OwnsRow self.old.proc.words self.old.end.row) }
         ensures fault { IfErr result (λ fault. (fault ≡ BadCount) ⊎ (fault ≡ NoRendez)) }
         ensures refused { OnErr result (IsUntouchedRead
             (reader_of self.old.end self.old.proc) buffer.old
@@ -108,7 +108,7 @@ impl<'p, 'k> Reader<'p, 'k> {
     pub fn read_block<R: Wait>(&mut self, rt: &R, block: &mut Vec<u8>) -> Result<ReadAnswer, Fault>
         // A process of a kernel that does not own all the Rendez of the direction is refused.
         ensures no_rendez { IsErrOf result NoRendez
-            ↔ ¬ HasRow self.old.proc.words self.old.end.row }
+            ↔ ¬ OwnsRow self.old.proc.words self.old.end.row }
 
         // It read, slept and woke so, or did nothing.
         ensures read { ReadsBlock (key_of self.old.end.queue) self.old.end.row
@@ -144,7 +144,7 @@ impl<'p, 'k> Writer<'p, 'k> {
     ghost use Rattle.block_queue.specs.Meaning.{Enters};
     ghost use Rattle.block_queue.specs.Seats.{key_of};
     ghost use Rattle.pipe_dev.specs.Ends.{IsSameWriteEnd};
-    ghost use Rattle.pipe_dev.specs.Rendezes.{HasRow, WakesIfKnown};
+    ghost use Rattle.pipe_dev.specs.Rendezes.{OwnsRow, WakesIfKnown};
     ghost use Rattle.pipe_dev.specs.WriteCalls.{Writes, WritesLong, call_of, writer_of};
 
     /// A process with a write end. Takes no memory and doesn't wait.
@@ -169,7 +169,7 @@ impl<'p, 'k> Writer<'p, 'k> {
         // not own all the Rendez of the direction.
         ensures too_big { IsErrOf result TooBig ↔ (ATOMIC_SIZE < length bytes.now) }
         ensures no_rendez { length bytes.now ≤ ATOMIC_SIZE
-            → (IsErrOf result NoRendez ↔ ¬ HasRow self.old.proc.words self.old.end.row) }
+            → (IsErrOf result NoRendez ↔ ¬ OwnsRow self.old.proc.words self.old.end.row) }
 
         // It wrote, slept and woke so, or did nothing.
         ensures wrote { Writes (call_of self.old.end bytes.now)
@@ -189,7 +189,7 @@ impl<'p, 'k> Writer<'p, 'k> {
         // the process is of a kernel that does not own all the Rendez of the direction.
         ensures too_big { result.fault ≢ Some TooBig }
         ensures no_rendez { (result.fault ≡ Some NoRendez)
-            ↔ ¬ HasRow self.old.proc.words self.old.end.row }
+            ↔ ¬ OwnsRow self.old.proc.words self.old.end.row }
 
         // It wrote so, up to the first write that was not accepted.
         ensures wrote { WritesLong (call_of self.old.end bytes.now)

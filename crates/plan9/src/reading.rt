@@ -7,7 +7,7 @@ use sync_base::Fault;
 /// How far a `read_exact` came that did not fill its buffer: so many bytes of it were read, and
 /// then the pipe was at its end, or there was this fault.
 #[derive(Clone, Copy, Debug, PartialEq, Eq)]
-pub struct Short {
+pub struct ShortRead {
     pub count: usize,
     pub fault: Option<Fault>,
 }
@@ -34,7 +34,7 @@ impl<'p, 'k> Reader<'p, 'k> {
     /// ends before, or a read is refused, it says how many bytes came: they are in the buffer, and
     /// the next read goes on after them. It waits. Takes no memory. A buffer of no bytes is full.
     /// After readn in read(2).
-    pub fn read_exact<R: Wait>(&mut self, rt: &R, buffer: &mut [u8]) -> Result<(), Short>
+    pub fn read_exact<R: Wait>(&mut self, rt: &R, buffer: &mut [u8]) -> Result<(), ShortRead>
         ensures { FillsUp self.old buffer.old result self.new buffer.new }
     {
         let mut count = 0;
@@ -44,9 +44,9 @@ impl<'p, 'k> Reader<'p, 'k> {
             }
             match self.next_piece(rt, &mut buffer[count..]) {
                 Ok(Some(more)) => count += more,
-                Ok(None) => return Err(Short { count, fault: None }),
+                Ok(None) => return Err(ShortRead { count, fault: None }),
                 Err(fault) => {
-                    return Err(Short {
+                    return Err(ShortRead {
                         count,
                         fault: Some(fault),
                     });

@@ -9,7 +9,7 @@ use std::time::{Clock, Duration, Instant};
 use sync_base::NoteSet;
 
 /// What tells a ticker when to tick.
-pub trait Time {
+pub trait TickSource {
     ghost use Rattle.std.specs.Prelude.{⊤, ℕ};
 
     /// What is known of a moment, by the time before it and behind it: nothing, unless it is said.
@@ -86,7 +86,7 @@ fn passed<R: Clock>(rt: &R, began: Option<Instant>) -> Option<u64> {
     u64::try_from(passed.as_millis()).ok()
 }
 
-impl<'r, R: Clock> Time for Beat<'r, R> {
+impl<'r, R: Clock> TickSource for Beat<'r, R> {
     ghost use Rattle.plan9.specs.Tickers.{IsBeat};
 
     ghost tells = { λ old moment new. IsBeat old.now moment new.now };
@@ -121,7 +121,7 @@ impl<'t, 'k> Ticker<'t, 'k> {
     /// its process, and answers those, which are pending no longer. It looks for notes before each
     /// moment that it asks for, so the last tick may stand after a note. It waits, in `time` and
     /// for the timers' lock. Takes no memory.
-    pub fn run<R: Wait, T: Time>(&mut self, rt: &R, time: &mut T) -> NoteSet
+    pub fn run<R: Wait, T: TickSource>(&mut self, rt: &R, time: &mut T) -> NoteSet
         ensures { TicksOn T.tells (timed self.old time.old) result (timed self.new time.new) }
     {
         'ticking: for _ in rt.forever() {

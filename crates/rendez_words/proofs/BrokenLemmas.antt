@@ -13,8 +13,8 @@ use Rattle.sleep_core.specs.Table.{Cell}
 use Rattle.sleep_core.specs.Table.Cell.{PostedOf, FlagsOf}
 use Rattle.sleep_core.specs.Step.{word_at}
 use Rattle.sleep_core.specs.Runs.{world_of, phase_by}
-use Rattle.sleep_core.specs.Whereabouts.{Place, IsAt, IsHolding, IsInSleep, MayBePosted, WordsAgree}
-use Rattle.sleep_core.specs.Whereabouts.Place.{IsPostedIn, IsHeldBy, IsMarked, IsOut}
+use Rattle.sleep_core.specs.SleepPlaces.{Place, IsAt, IsHolding, IsInSleep, MayBePosted, WordsAgree}
+use Rattle.sleep_core.specs.SleepPlaces.Place.{IsPostedIn, IsHeldBy, IsMarked, IsOut}
 use Rattle.sleep_core.proofs.NoLostWakeup.{runs_are_sound}
 use Rattle.sleep_core.proofs.OwnEvents.{phase_by-own}
 use Rattle.rendez_words.specs.declared.view.Sizes.{Sizes}

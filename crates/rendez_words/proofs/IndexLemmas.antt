@@ -16,8 +16,8 @@ use Rattle.sleep_core.specs.Table.Cell.{PostedOf, LevelOf, FlagsOf, NoCell}
 use Rattle.sleep_core.specs.Table.Word.{Number, Flags}
 use Rattle.sleep_core.specs.Step.{with_phase, with_word, with_returned, word_at, is_refusal}
 use Rattle.sleep_core.specs.Step.{answer_to, changed_by, world_told, world_after}
-use Rattle.sleep_core.specs.Rows.{word_left, word_after}
-use Rattle.sleep_core.proofs.TableRows.{MayStore, stores_its_kind}
+use Rattle.sleep_core.specs.EventTable.{word_left, word_after}
+use Rattle.sleep_core.proofs.EventTableLemmas.{MayStore, stores_its_kind}
 use Rattle.rendez_words.specs.declared.view.Sizes.{Sizes}
 use Rattle.rendez_words.specs.Plays.{number_of, IsWordOf, IsCellIn}
 use Rattle.rendez_words.specs.Rule.{rendez_line, proc_line, words_of, index_of}

@@ -19,7 +19,7 @@ use Rattle.sleep_core.specs.Table.{Cell, Word, pid_of, cell_of, has_notes}
 use Rattle.sleep_core.specs.Table.Cell.{PostedOf, LevelOf, FlagsOf}
 use Rattle.sleep_core.specs.Table.Word.{Number, Flags, NoWord}
 use Rattle.sleep_core.specs.Step.{is_refusal}
-use Rattle.sleep_core.specs.Rows.{word_left, word_after}
+use Rattle.sleep_core.specs.EventTable.{word_left, word_after}
 use Rattle.sleep_core.specs.Runs.{IsMadeBy}
 use Rattle.rendez_words.specs.declared.words.Words.{Words}
 use Rattle.rendez_words.specs.FlagsWord.{flags_word}

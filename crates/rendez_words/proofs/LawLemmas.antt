@@ -6,8 +6,8 @@ use Rattle.sleep_core.proofs.KeptHistory.{returns_by_kept_events}
 use Rattle.sleep_core.proofs.NoLostWakeup.{no_lost_wakeup_lem, sleeps_end_for_a_cause}
 use Rattle.sleep_core.proofs.NoLostWakeup.{returned_wakeup_releases}
 use Rattle.sleep_core.proofs.OwnEvents.{phase_by-kept_own}
-use Rattle.sleep_core.proofs.WhereaboutsLemmas.{sleepers_are_in_one_place, others_are_in_no_place}
-use Rattle.sleep_core.proofs.WhereaboutsLemmas.{words_agree_in_runs}
+use Rattle.sleep_core.proofs.SleepPlaceLemmas.{sleepers_are_in_one_place, others_are_in_no_place}
+use Rattle.sleep_core.proofs.SleepPlaceLemmas.{words_agree_in_runs}
 use Rattle.rendez_words.specs.Laws.{ThreadsKeepPromises, EachSleeperHasAPlace, SeatsKnowPhases}
 use Rattle.rendez_words.specs.Laws.{PidsToComeAreUnused, ReceiptsRelease}
 

@@ -14,9 +14,9 @@ use Rattle.sleep_core.specs.State.{State, phase_of}
 use Rattle.sleep_core.specs.Table.{Cell, Word, pid_of, cell_of, reply}
 use Rattle.sleep_core.specs.Table.Cell.{PostedOf, LevelOf, FlagsOf, NoCell}
 use Rattle.sleep_core.specs.Step.{word_at, answer_to, world_after}
-use Rattle.sleep_core.specs.Rows.{HasWord, IsDue, word_after}
+use Rattle.sleep_core.specs.EventTable.{HasWord, IsDue, word_after}
 use Rattle.sleep_core.specs.Runs.{Entry, IsRun, world_of, own, kept}
-use Rattle.sleep_core.proofs.TableRows.{row}
+use Rattle.sleep_core.proofs.EventTableLemmas.{row}
 use Rattle.sleep_core.proofs.NoLostWakeup.{runs_are_sound}
 use Rattle.rendez_words.specs.declared.view.Part.{Part}
 use Rattle.rendez_words.specs.declared.view.Sizes.{Sizes}

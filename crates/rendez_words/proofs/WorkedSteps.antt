@@ -11,15 +11,15 @@ use Rattle.sleep_core.specs.declared.phase.Phase.TheVariants as phase
 use Rattle.sleep_core.specs.declared.phase.ProcFlags.{ProcFlags}
 use Rattle.sleep_core.specs.History.{history_of}
 use Rattle.sleep_core.specs.Promises.{LosesWakeup, EachSleepIsCaused}
-use Rattle.sleep_core.specs.Rows.{word_after}
+use Rattle.sleep_core.specs.EventTable.{word_after}
 use Rattle.sleep_core.specs.Runs.{Entry, IsMadeBy, IsRun, world_of, own, kept}
 use Rattle.sleep_core.specs.State.{State, phase_of, posted_of, level_of, returned_of, posted_as}
 use Rattle.sleep_core.specs.Step.{word_at, answer_to}
 use Rattle.sleep_core.specs.Table.{Word, pid_of, cell_of, reply}
 use Rattle.sleep_core.specs.Table.Cell.{PostedOf, LevelOf, FlagsOf, NoCell}
 use Rattle.sleep_core.specs.Table.Word.{Flags}
-use Rattle.sleep_core.specs.Whereabouts.{IsInSleep, IsInOnePlace}
-use Rattle.sleep_core.specs.Whereabouts.Place.{IsPostedIn}
+use Rattle.sleep_core.specs.SleepPlaces.{IsInSleep, IsInOnePlace}
+use Rattle.sleep_core.specs.SleepPlaces.Place.{IsPostedIn}
 use Rattle.rendez_words.specs.declared.view.Part.{Part}
 use Rattle.rendez_words.specs.declared.view.Sizes.{Sizes}
 use Rattle.rendez_words.specs.declared.view.View.{View}

@@ -9,7 +9,7 @@ use Rattle.sleep_core.specs.Runs.{world_of, own, phase_by}
 use Rattle.sleep_core.specs.History.{history_of, HasReturned}
 use Rattle.sleep_core.specs.Laws.{IsKept, ReleasesBelow}
 use Rattle.sleep_core.specs.Promises.{EachSleepIsCaused}
-use Rattle.sleep_core.specs.Whereabouts.{IsInSleep, IsInOnePlace, IsAt, Place, WordsAgree}
+use Rattle.sleep_core.specs.SleepPlaces.{IsInSleep, IsInOnePlace, IsAt, Place, WordsAgree}
 use Rattle.rendez_words.specs.declared.view.Part.{Part}
 use Rattle.rendez_words.specs.declared.view.Sizes.{Sizes}
 use Rattle.rendez_words.specs.declared.view.View.{View}

@@ -8,7 +8,7 @@ use Rattle.sleep_core.specs.declared.phase.Phase.{Phase}
 use Rattle.sleep_core.specs.Table.{Cell, Word, pid_of, cell_of, reply}
 use Rattle.sleep_core.specs.Table.Cell.{PostedOf, LevelOf, FlagsOf, NoCell}
 use Rattle.sleep_core.specs.Table.Word.{Number, Flags, NoWord}
-use Rattle.sleep_core.specs.Rows.{word_after}
+use Rattle.sleep_core.specs.EventTable.{word_after}
 use Rattle.sleep_core.specs.Step.{word_at, answer_to}
 use Rattle.sleep_core.specs.Runs.{Entry, IsMadeBy, IsRun, world_of, own, kept, is_kept, phase_by}
 use Rattle.rendez_words.specs.declared.view.Part.{Part}

@@ -12,8 +12,8 @@ use Rattle.std.proofs.lemmas.List.{take-append-le}
 use Rattle.std.proofs.lemmas.Bool.Decides.{nat_tests}
 use Rattle.sync_base.specs.declared.fault.Fault.{Fault}
 use Rattle.scripts.specs.declared.script.TheConstants.{MAX_SCRIPT}
-use Rattle.scripts.specs.Script.{Language, Told, told}
-use Rattle.scripts.specs.Device.{AppendsFront, TakesUpTo, WritesTold, Tells}
+use Rattle.scripts.specs.Script.{Language, Transcript, told}
+use Rattle.scripts.specs.Device.{AppendsFront, TakesUpTo, WritesTranscript, Tells}
 use Rattle.scripts.specs.Device.{IsOutside}
 
 -- what two reads took, the second behind the first
@@ -121,18 +121,18 @@ fits_more items room count most within left =
     omega (arith, length-append items (take count room), length-take count room)
 
 -- a run that fails when a front is written
-pub told_partly : (said : Told) (old now : Option (List ℕ)) (r : Result (Unit {0}) Fault)
+pub told_partly : (said : Transcript) (old now : Option (List ℕ)) (r : Result (Unit {0}) Fault)
     (fault : Fault) → r ≡ Err fault → IsOutside fault → AppendsFront old now said.output
-    → WritesTold said old now r
+    → WritesTranscript said old now r
 told_partly said old now r fault is outside front = rw is (at_fault fault outside)
   where
-    at_fault : (f : Fault) → IsOutside f → WritesTold said old now (Err f)
+    at_fault : (f : Fault) → IsOutside f → WritesTranscript said old now (Err f)
     at_fault f (inl memory) = rw memory front
     at_fault f (inr device) = rw device front
 
 -- a run that fails before it writes
-pub told_unwritten : (said : Told) (old : Option (List ℕ)) (r : Result (Unit {0}) Fault)
-    (fault : Fault) → r ≡ Err fault → IsOutside fault → WritesTold said old old r
+pub told_unwritten : (said : Transcript) (old : Option (List ℕ)) (r : Result (Unit {0}) Fault)
+    (fault : Fault) → r ≡ Err fault → IsOutside fault → WritesTranscript said old old r
 told_unwritten said old r fault is outside =
     told_partly said old old r fault is outside (0, appends_nothing old)
 
@@ -165,17 +165,18 @@ told_taken language (Some all) (Some rest) input takes = by_end takes.most_or_al
 -- a run by all that the reader had
 pub told_of_all : {S : Type 0} (language : Language S) (old new : Option (List ℕ)) (input : List ℕ)
     (held now : Option (List ℕ)) (r : Result (Unit {0}) Fault)
-    → TakesUpTo (MAX_SCRIPT + 1) old new input → WritesTold (told language input) held now r
-    → IfSome old (λ all. WritesTold (told language all) held now r)
+    → TakesUpTo (MAX_SCRIPT + 1) old new input → WritesTranscript (told language input) held now r
+    → IfSome old (λ all. WritesTranscript (told language all) held now r)
 told_of_all language None new input held now r takes writes = tt
 told_of_all language (Some all) new input held now r takes writes =
-    subst (λ t. WritesTold t held now r) (sym (told_taken language (Some all) new input takes))
+    subst (λ t. WritesTranscript t held now r)
+    (sym (told_taken language (Some all) new input takes))
     writes
 
 -- a run that could not read its script
 pub told_of_none : {S : Type 0} (language : Language S) (old held : Option (List ℕ))
     (r : Result (Unit {0}) Fault) (fault : Fault) → r ≡ Err fault → IsOutside fault
-    → IfSome old (λ all. WritesTold (told language all) held held r)
+    → IfSome old (λ all. WritesTranscript (told language all) held held r)
 told_of_none language None held r fault is outside = tt
 told_of_none language (Some all) held r fault is outside =
     told_unwritten (told language all) held r fault is outside
@@ -190,7 +191,7 @@ front_of_room (suc n) (suc len) (b ∷ new) kept more within read =
     ap (λ (bs : List ℕ). b ∷ bs) (front_of_room n len new kept more (omega arith) (omega arith))
 
 -- what is told where that failed
-pub tells_err : (said : Told) (old now : Option (List ℕ)) (r : Result (Option ℕ) Fault)
+pub tells_err : (said : Transcript) (old now : Option (List ℕ)) (r : Result (Option ℕ) Fault)
     (fault : Fault) → r ≡ Err fault → AppendsFront old now said.output → Tells said old now r
 tells_err said old now r fault is front =
     subst (Tells said old now) (sym is) front

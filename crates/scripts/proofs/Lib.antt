@@ -15,10 +15,10 @@ mod ScheduleLemmas
 mod ScriptLawLemmas
 mod ScriptLemmas
 mod TextLemmas
-mod ToldLemmas
+mod TranscriptLemmas
 mod WorkedAnswers
 mod WorkedDevices
 mod WorkedLines
 mod WorkedSchedules
 mod WorkedScripts
-mod WorkedTold
+mod WorkedTranscripts

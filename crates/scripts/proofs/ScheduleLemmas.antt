@@ -6,8 +6,8 @@ use Rattle.sleep_core.specs.declared.event.Event.{Event}
 use Rattle.sleep_core.specs.State.{State, opening}
 use Rattle.sleep_core.specs.Step.{answer_to, world_after}
 use Rattle.sleep_core.specs.Runs.{world_after_all}
-use Rattle.sleep_core.specs.Oversleep.{HasLostWakeup, has_lost_wakeup}
-use Rattle.sleep_core.proofs.OversleepLemmas.{decides_lost}
+use Rattle.sleep_core.specs.LostWakeup.{HasLostWakeup, has_lost_wakeup}
+use Rattle.sleep_core.proofs.LostWakeupLemmas.{decides_lost}
 use Rattle.scripts.specs.declared.event_line.Size.{Size}
 use Rattle.scripts.specs.declared.lines.TheConstants.{LINE_FEED}
 use Rattle.scripts.specs.Lines.{words_of}
@@ -15,7 +15,7 @@ use Rattle.scripts.specs.Script.{Answered}
 use Rattle.scripts.specs.Schedule.{schedule_language, size_of, event_of, events_of}
 use Rattle.scripts.specs.EventText.{event_text}
 use Rattle.scripts.specs.ScriptLaws.{answers_of, NoScheduleSaysLost}
-use Rattle.scripts.proofs.ToldLemmas.{Stays}
+use Rattle.scripts.proofs.TranscriptLemmas.{Stays}
 use Rattle.scripts.proofs.ScriptLawLemmas.{closing_line_kept}
 
 -- events lead to this world from one of some size

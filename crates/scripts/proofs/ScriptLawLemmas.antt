@@ -17,8 +17,8 @@ use Rattle.scripts.proofs.DeviceLemmas.{told_by_front}
 use Rattle.scripts.proofs.TextLemmas.{ArePlain, plain_lines, plain_take, lines_of-text}
 use Rattle.scripts.proofs.TextLemmas.{cut_line_of-text, lines_of-append, first_within}
 use Rattle.scripts.proofs.TextLemmas.{lines_text-lines}
-use Rattle.scripts.proofs.ToldLemmas.{Stays, lines_grow, closing_line_of_lines, LeavesFirst}
-use Rattle.scripts.proofs.ToldLemmas.{fault_leaves_first, cut_lines-fault, front_lines-sound}
+use Rattle.scripts.proofs.TranscriptLemmas.{Stays, lines_grow, closing_line_of_lines, LeavesFirst}
+use Rattle.scripts.proofs.TranscriptLemmas.{fault_leaves_first, cut_lines-fault, front_lines-sound}
 
 -- the first bytes of two texts
 take-append : (n : ℕ) (a b : List ℕ) → take n (a ++ b) ≡ take n a ++ take (n - length a) b

@@ -13,8 +13,9 @@ use Rattle.scripts.specs.declared.script.TheConstants.{MAX_LINE, MAX_SCRIPT}
 use Rattle.scripts.specs.Lines.{is_line_feed, lines_of, cut_line_of, words_of, BeginsWithLine}
 use Rattle.scripts.specs.Lines.{NoLineAsks}
 use Rattle.sync_base.specs.declared.fault.Fault.{Fault}
-use Rattle.scripts.specs.Device.{AppendsFront, Devices, IsRunFault, Runs, TakesUpTo, WritesTold}
-use Rattle.scripts.specs.Script.{Language, Answered, Told, fault_at, answer_then, if_fits}
+use Rattle.scripts.specs.Device.{AppendsFront, Devices, IsRunFault, Runs, TakesUpTo}
+use Rattle.scripts.specs.Device.{WritesTranscript}
+use Rattle.scripts.specs.Script.{Language, Answered, Transcript, fault_at, answer_then, if_fits}
 use Rattle.scripts.specs.Script.{told, lines_told, told_from, FirstAnswered, IsStuck, following}
 use Rattle.scripts.specs.Script.{growth, stage}
 use Rattle.scripts.proofs.DeviceLemmas.{IsWriting, appends_then, appends_front}
@@ -38,7 +39,7 @@ pub run_of : {S : Type 0} (language : Language S) (devices : Devices) (input rea
     (k n : ℕ) (result : Result (Unit {0}) Fault)
     → TakesUpTo (MAX_SCRIPT + 1) devices.unread devices.left input → read ≡ input
     → k ≡ min (length input) MAX_SCRIPT → n ≡ length input
-    → WritesTold (lines_told language
+    → WritesTranscript (lines_told language
     (nat_lt MAX_SCRIPT n || nat_lt 0 (length (cut_line_of (take k read)))) (lines_of (take k read)))
     devices.held devices.written result
     → IfErr result IsRunFault → Runs (told language) devices result
@@ -51,14 +52,15 @@ run_of language devices input read k n result takes is least long writes faults 
       reads_first = inr (input, takes);
       told = told_of_all language devices.unread devices.left input devices.held devices.written
           result takes
-          (subst (λ t. WritesTold t devices.held devices.written result) said writes);
+          (subst (λ t. WritesTranscript t devices.held devices.written result) said writes);
       faults = faults;
     }
 
 -- What was written, what is held back, and what the lines to come say, make what is told. The
 -- script has come to a state, and the first line to come has this number.
 pub record GoesOn {T S : Type 0} (stands : T → S → Type 0) (language : Language S)
-    (too_long : Bool) (cut : List ℕ) (said : Told) (old now : Option (List ℕ)) (t : T) (number : ℕ)
+    (too_long : Bool) (cut : List ℕ) (said : Transcript) (old now : Option (List ℕ)) (t : T)
+    (number : ℕ)
     (held rest : List ℕ) : Type 0 where
   -- the state to which the lines so far have come
   pub state : S
@@ -97,7 +99,7 @@ told-refused {S} language is_cut s number line lines is =
 
 -- an answer is held back behind the others
 pub goes_answered : {T S : Type 0} (stands : T → S → Type 0) (language : Language S)
-    (too_long : Bool) (cut : List ℕ) (said : Told) (old now : Option (List ℕ)) (t t' : T)
+    (too_long : Bool) (cut : List ℕ) (said : Transcript) (old now : Option (List ℕ)) (t t' : T)
     (number : ℕ) (held rest held' rest' : List ℕ)
     (goes : GoesOn stands language too_long cut said old now t number held rest)
     → FirstAnswered (following language goes.state (stands t')) rest rest' (growth held held')
@@ -119,7 +121,7 @@ goes_answered stands language too_long cut said old now t t' number held rest he
       stands_now = first.stands_after;
       cut_is = sym first.cut ∙ goes.cut_is;
       writing = subst (IsWriting old now said.output) same goes.writing;
-      fault = goes.fault ∙ ap (λ (t : Told). t.fault) says;
+      fault = goes.fault ∙ ap (λ (t : Transcript). t.fault) says;
     }
 
 -- what was held back is written
@@ -135,7 +137,7 @@ writes_held old now next bytes held more so_far appends =
 
 -- once what was held back is written nothing is held back, and the lines to come go on as before
 pub goes_written : {T S : Type 0} (stands : T → S → Type 0) (language : Language S)
-    (too_long : Bool) (cut : List ℕ) (said : Told) (old now next : Option (List ℕ)) (t : T)
+    (too_long : Bool) (cut : List ℕ) (said : Transcript) (old now next : Option (List ℕ)) (t : T)
     (number : ℕ) (held rest none : List ℕ)
     → GoesOn stands language too_long cut said old now t number held rest
     → Appends now next held → none ≡ []
@@ -169,7 +171,7 @@ front_of_held old now next bytes held more so_far (n, appends) =
 
 -- where a front of what is held back was written, it is a front of what is told
 pub goes_partly : {T S : Type 0} (stands : T → S → Type 0) (language : Language S)
-    (too_long : Bool) (cut : List ℕ) (said : Told) (old now next : Option (List ℕ)) (t : T)
+    (too_long : Bool) (cut : List ℕ) (said : Transcript) (old now next : Option (List ℕ)) (t : T)
     (number : ℕ) (held rest : List ℕ)
     → GoesOn stands language too_long cut said old now t number held rest
     → AppendsFront now next held → AppendsFront old next said.output
@@ -189,7 +191,7 @@ some_left x r = grind (arith, nat_tests)
 -- what comes behind the lines: a fault where bytes are left or the script is too long, and else the
 -- closing line
 pub goes_end : {T S : Type 0} (stands : T → S → Type 0) (language : Language S) (too_long : Bool)
-    (cut : List ℕ) (said : Told) (old now : Option (List ℕ)) (t t' : T) (number : ℕ)
+    (cut : List ℕ) (said : Transcript) (old now : Option (List ℕ)) (t t' : T) (number : ℕ)
     (held rest held' : List ℕ) (b : Bool) (fault : Option ℕ)
     (goes : GoesOn stands language too_long cut said old now t number held rest)
     → IsStuck (following language goes.state (stands t')) rest
@@ -204,15 +206,15 @@ goes_end {T} {S} stands language too_long cut said old now t t' number held rest
     is_cut : Bool
     is_cut = too_long || nat_lt 0 (length cut)
 
-    joined : (last : Told)
+    joined : (last : Transcript)
         → told_from language is_cut (stage goes.state number) (lines_of rest) ≡ last
         → held' ≡ held ++ last.output → fault ≡ last.fault
         → IsWriting old now said.output (held' ++ []) × (fault ≡ said.fault)
     joined last says held_is fault_is = (
       subst (IsWriting old now said.output)
-          (ap (λ (t : Told). held ++ t.output) says ∙ (sym held_is ∙ sym (append-nil held')))
+          (ap (λ (t : Transcript). held ++ t.output) says ∙ (sym held_is ∙ sym (append-nil held')))
           goes.writing,
-      fault_is ∙ sym (goes.fault ∙ ap (λ (t : Told). t.fault) says),
+      fault_is ∙ sym (goes.fault ∙ ap (λ (t : Transcript). t.fault) says),
     )
 
     none_left : lines_of rest ≡ [] → is_cut ≡ b

@@ -3,7 +3,7 @@
 use Rattle.std.proofs.Common.{◌≡◌, ◌<◌, ℕ, List, [], ◌∷◌, length, Some, None, Bor, ap}
 use Rattle.std.proofs.Common.{arith, length-append}
 use Rattle.sync_base.specs.Pipe.{PipeState}
-use Rattle.sync_base.specs.PlainPipe.{Kept, Shows}
+use Rattle.sync_base.specs.PlainPipe.{Contents, Shows}
 use Rattle.sleep_core.specs.State.{State}
 use Rattle.scripts.specs.declared.lines.TheConstants.{LINE_FEED}
 use Rattle.scripts.specs.PipeLine.{IsAnswered}
@@ -28,7 +28,7 @@ a_first_line_of_the_grammar_opens : {T S : Type 0} (stands : T → S → Type 0)
     → ¬ Opens stands (Some s) None
 a_first_line_of_the_grammar_opens stands s opens = opens
 
-module _ (answered : Answered PipeState) (kept : Kept) where
+module _ (answered : Answered PipeState) (kept : Contents) where
   the_pipe_shows_the_state_after : (old new : List ℕ) → IsAnswered answered kept old new
       → Shows kept answered.after
   the_pipe_shows_the_state_after old new is = is.state

@@ -7,13 +7,13 @@ use Rattle.sync_base.specs.declared.fault.Fault.{Fault}
 use Rattle.sync_base.specs.declared.fault.Fault.TheVariants.{BadArg}
 use Rattle.scripts.specs.declared.script.TheConstants.{MAX_SCRIPT}
 use Rattle.scripts.specs.Device.{IsOutside, Runs, TakesAtMost, TakesScript, TakesUpTo}
-use Rattle.scripts.specs.Script.{Told}
+use Rattle.scripts.specs.Script.{Transcript}
 
 -- more was taken than was asked for
 more_than_asked : TakesUpTo 2 None None (1 ∷ 2 ∷ 3 ∷ []) → ⊥
 more_than_asked takes = let within : 3 ≤ 2 = takes.within in omega (arith, within)
 
-module _ (says : List ℕ → Told) (result : Result (Unit {0}) Fault) where
+module _ (says : List ℕ → Transcript) (result : Result (Unit {0}) Fault) where
   -- it reads on behind what tells that a script is too long
   reads_on : (unread : List ℕ) → MAX_SCRIPT + 1 < length unread
       → Runs says
@@ -50,7 +50,7 @@ module _ (says : List ℕ → Told) (result : Result (Unit {0}) Fault) where
       by (inr (input, takes)) = no_more input takes.taken takes.most_or_all
 
 -- it ends for a fault that no run has
-ends_for_a_bad_argument : (says : List ℕ → Told)
+ends_for_a_bad_argument : (says : List ℕ → Transcript)
     → Runs says (record { unread = None; left = None; held = None; written = None }) (Err BadArg)
     → ⊥
 ends_for_a_bad_argument says runs = by runs.faults

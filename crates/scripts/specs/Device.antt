@@ -6,7 +6,7 @@ use Rattle.std.specs.Io.KnownBytes.{Appends, Consumes, IsAtEnd, Keeps}
 use Rattle.sync_base.specs.declared.fault.Fault.{Fault}
 use Rattle.sync_base.specs.declared.fault.Fault.TheVariants.{Memory, Script, Device}
 use Rattle.scripts.specs.declared.script.TheConstants.{MAX_SCRIPT}
-use Rattle.scripts.specs.Script.{Told}
+use Rattle.scripts.specs.Script.{Transcript}
 
 -- at most this many bytes were taken
 abbrev pub TakesAtMost : ℕ → Option (List ℕ) → Option (List ℕ) → Type 0
@@ -34,15 +34,17 @@ abbrev pub AppendsFront : Option (List ℕ) → Option (List ℕ) → List ℕ �
 AppendsFront old new bytes = (n : ℕ) × Appends old new (take n bytes)
 
 -- What is told was written, and this is its fault. Where that failed, a front of it was written.
-abbrev pub Tells : Told → Option (List ℕ) → Option (List ℕ) → Result (Option ℕ) Fault → Type 0
+abbrev pub Tells : Transcript → Option (List ℕ) → Option (List ℕ) → Result (Option ℕ) Fault → Type 0
 Tells told old new (Ok faulty_line) = (faulty_line ≡ told.fault) × Appends old new told.output
 Tells told old new (Err fault) = AppendsFront old new told.output
 
 -- a run that ended so wrote this of what a script says
-abbrev pub WritesTold : Told → Option (List ℕ) → Option (List ℕ) → Result (Unit {0}) Fault → Type 0
-WritesTold told old new (Ok done) = (told.fault ≡ None) × Appends old new told.output
-WritesTold told old new (Err (Script line)) = (told.fault ≡ Some line) × Appends old new told.output
-WritesTold told old new (Err fault) = AppendsFront old new told.output
+abbrev pub WritesTranscript : Transcript → Option (List ℕ) → Option (List ℕ)
+    → Result (Unit {0}) Fault → Type 0
+WritesTranscript told old new (Ok done) = (told.fault ≡ None) × Appends old new told.output
+WritesTranscript told old new (Err (Script line)) = (told.fault ≡ Some line)
+    × Appends old new told.output
+WritesTranscript told old new (Err fault) = AppendsFront old new told.output
 
 -- memory was refused, or the reader or the writer failed
 abbrev pub IsOutside : Fault → Type 0
@@ -63,10 +65,10 @@ pub record Devices : Type 0 where
 -- A run that says this of its input ended so. No more is read than what tells that a script is too
 -- long, and nothing is written before; what is written is what the input says, and the fault is the
 -- one that it names.
-pub record Runs (says : List ℕ → Told) (devices : Devices) (result : Result (Unit {0}) Fault)
+pub record Runs (says : List ℕ → Transcript) (devices : Devices) (result : Result (Unit {0}) Fault)
     : Type 0 where
   pub at_most : TakesAtMost (MAX_SCRIPT + 1) devices.unread devices.left
   pub reads_first : Keeps devices.held devices.written ⊎ TakesScript devices.unread devices.left
   pub told : IfSome devices.unread
-      (λ input. WritesTold (says input) devices.held devices.written result)
+      (λ input. WritesTranscript (says input) devices.held devices.written result)
   pub faults : IfErr result IsRunFault

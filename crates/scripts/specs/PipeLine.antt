@@ -1,7 +1,7 @@
 -- What the code reads off a line, beside what the grammar says of it.
 use Rattle.std.specs.Prelude.{◌≡◌, ℕ, List, [], ◌∷◌, ◌++◌, codes}
 use Rattle.sync_base.specs.Pipe.{PipeState, opening_in}
-use Rattle.sync_base.specs.PlainPipe.{Kept, Shows}
+use Rattle.sync_base.specs.PlainPipe.{Contents, Shows}
 use Rattle.scripts.specs.declared.lines.TheConstants.{LINE_FEED, SPACE}
 use Rattle.scripts.specs.declared.pipe_line.Opening.{Opening}
 use Rattle.scripts.specs.declared.pipe_line.OpVerb.{OpVerb}
@@ -22,7 +22,7 @@ asked_by (Read most) = Reads most
 asked_by Hangup = Hangs_up
 
 -- the pipe shows the state after an answer, and the answer was written as a line
-pub record IsAnswered (answered : Answered PipeState) (kept : Kept) (old new : List ℕ) : Type 0
+pub record IsAnswered (answered : Answered PipeState) (kept : Contents) (old new : List ℕ) : Type 0
   where
     pub state : Shows kept answered.after
     pub text : new ≡ old ++ answered.text ++ LINE_FEED ∷ []

@@ -14,7 +14,7 @@ use Rattle.sync_base.specs.Pipe.{PipeState, opening_in, write_result, after_writ
 use Rattle.sync_base.specs.Pipe.{after_read, after_hangup}
 use Rattle.sync_base.specs.declared.limits.TheConstants.{MAX_PIPE_LIMIT, MAX_WRITERS}
 use Rattle.scripts.specs.Lines.{words_of, is_word, number_of, number_within}
-use Rattle.scripts.specs.Script.{Language, Answered, Told, told}
+use Rattle.scripts.specs.Script.{Language, Answered, Transcript, told}
 use Rattle.scripts.specs.AnswerText.{write_text, read_text, fault_text}
 
 -- what a line asks for
@@ -100,5 +100,5 @@ pipe_language =
     }
 
 -- what a pipe script says, as a function of its bytes
-abbrev pub pipe_told : List ℕ → Told
+abbrev pub pipe_told : List ℕ → Transcript
 pipe_told input = told pipe_language input

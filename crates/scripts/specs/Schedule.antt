@@ -14,14 +14,14 @@ use Rattle.sleep_core.specs.declared.event.Event.{Event}
 use Rattle.sleep_core.specs.declared.event.Event.TheVariants as event
 use Rattle.sleep_core.specs.State.{State, opening}
 use Rattle.sleep_core.specs.Runs.{answers_to_all, world_after_all}
-use Rattle.sleep_core.specs.Oversleep.{has_lost_wakeup}
+use Rattle.sleep_core.specs.LostWakeup.{has_lost_wakeup}
 use Rattle.scripts.specs.declared.event_line.Size.{Size}
 use Rattle.scripts.specs.declared.event_line.Operands.{Operands}
 use Rattle.scripts.specs.declared.event_line.Verb.{Verb}
 use Rattle.scripts.specs.declared.event_line.Verb.TheVariants as verb
 use Rattle.scripts.specs.declared.lines.TheConstants.{LINE_FEED, COMMA}
 use Rattle.scripts.specs.Lines.{parts_of, is_comma, is_word, words_of, number_of, number_within}
-use Rattle.scripts.specs.Script.{Answered, Language, Told, told}
+use Rattle.scripts.specs.Script.{Answered, Language, Transcript, told}
 use Rattle.scripts.specs.EventText.{event_text}
 
 -- these sizes, where each of them is one
@@ -235,5 +235,5 @@ abbrev pub IsWorld : State → State → Type 0
 IsWorld world state = world ≡ state
 
 -- what a schedule says, as a function of its bytes
-abbrev pub schedule_told : List ℕ → Told
+abbrev pub schedule_told : List ℕ → Transcript
 schedule_told input = told schedule_language input

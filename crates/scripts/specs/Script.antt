@@ -20,16 +20,16 @@ pub record Language (S : Type 0) : Type 0 where
   pub closing_line : S → List ℕ  -- what is written after the last line
 
 -- what a script writes, and the first line that is not in the grammar, counted from 1
-pub record Told : Type 0 where
+pub record Transcript : Type 0 where
   pub output : List ℕ
   pub fault : Option ℕ
 
 -- nothing is written, and the line with this number is at fault
-abbrev pub fault_at : ℕ → Told
+abbrev pub fault_at : ℕ → Transcript
 fault_at number = record { output = []; fault = Some number }
 
 -- an answer with its line end, before what the other lines say
-abbrev pub answer_then : List ℕ → Told → Told
+abbrev pub answer_then : List ℕ → Transcript → Transcript
 answer_then text told = record { output = text ++ LINE_FEED ∷ told.output; fault = told.fault }
 
 -- what a line gives, where it is not too long
@@ -47,7 +47,7 @@ stage state number = record { state = state; number = number }
 
 -- what these lines say, from where a script has come to. Behind them the script ends, or a line
 -- that is cut or stands too far behind.
-abbrev pub told_from : {S : Type 0} → Language S → Bool → Stage S → List (List ℕ) → Told
+abbrev pub told_from : {S : Type 0} → Language S → Bool → Stage S → List (List ℕ) → Transcript
 told_from {S} language is_cut here [] =
     if is_cut
     then fault_at here.number
@@ -60,7 +60,7 @@ told_from {S} language is_cut here (line ∷ lines) =
     (fault_at here.number)
 
 -- what a script of these lines says
-abbrev pub lines_told : {S : Type 0} → Language S → Bool → List (List ℕ) → Told
+abbrev pub lines_told : {S : Type 0} → Language S → Bool → List (List ℕ) → Transcript
 lines_told language is_cut [] = fault_at 1
 lines_told language is_cut (line ∷ lines) =
     option_map_or (λ s. told_from language is_cut (stage s 2) lines)
@@ -73,7 +73,7 @@ is_cut_off input =
     nat_lt MAX_SCRIPT (length input) || nat_lt 0 (length (cut_line_of (take MAX_SCRIPT input)))
 
 -- what a script says, as a function of its bytes
-abbrev pub told : {S : Type 0} → Language S → List ℕ → Told
+abbrev pub told : {S : Type 0} → Language S → List ℕ → Transcript
 told language input = lines_told language (is_cut_off input) (lines_of (take MAX_SCRIPT input))
 
 -- What a program that follows a language keeps of a state, by its own lights: T stands for S where

@@ -6,7 +6,7 @@ ghost use Rattle.scripts.specs.declared.lines.TheConstants.{LINE_FEED};
 
 use crate::lines::LINE_FEED;
 use std::alloc::AllocError;
-use sync_base::{Lent, WriteAnswer};
+use sync_base::{PeekAnswer, WriteAnswer};
 
 /// The answer to a write.
 pub fn push_write_answer(output: &mut Vec<u8>, answer: WriteAnswer) -> Result<(), AllocError>
@@ -21,19 +21,19 @@ pub fn push_write_answer(output: &mut Vec<u8>, answer: WriteAnswer) -> Result<()
 }
 
 /// The answer to a read.
-pub fn push_read_answer(output: &mut Vec<u8>, answer: Lent<'_>) -> Result<(), AllocError>
+pub fn push_read_answer(output: &mut Vec<u8>, answer: PeekAnswer<'_>) -> Result<(), AllocError>
     ensures { OnOk result (output.new.items
         ≡ output.old.items ++ read_text (lent_answer answer.entry) ++ LINE_FEED ∷ []) }
 {
     match answer {
-        Lent::Got(piece) => {
+        PeekAnswer::Got(piece) => {
             output.extend_from_slice(b"got ")?;
             push_hex(output, piece)?;
             output.push(LINE_FEED)?;
             Ok(())
         }
-        Lent::Empty => output.extend_from_slice(b"empty\n"),
-        Lent::End => output.extend_from_slice(b"end\n"),
+        PeekAnswer::Empty => output.extend_from_slice(b"empty\n"),
+        PeekAnswer::End => output.extend_from_slice(b"end\n"),
     }
 }
 

@@ -1,7 +1,7 @@
 mod AskLemmas
 mod Cases
 mod EarlierLemmas
-mod LineLemmas
+mod WaitQueueLemmas
 mod NamedLemmas
 mod NoteLemmas
 mod OwnSemaLemmas

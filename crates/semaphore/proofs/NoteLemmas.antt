@@ -9,9 +9,9 @@ use Rattle.rendez_words.specs.Process.{Process}
 use Rattle.rendez_words.specs.Rule.{ShowsCore}
 use Rattle.sleep_core.specs.declared.answer.Answer.TheVariants as answer
 use Rattle.sleep_core.specs.declared.event.Event.TheVariants.{Note}
-use Rattle.sleep_core.specs.History.{Deed, deed_of, history_of}
-use Rattle.sleep_core.specs.History.Deed.{Began, Passed, Fell, Roused, Withdrew, Left, Raised}
-use Rattle.sleep_core.specs.History.Deed.{Missed, Took, Marked, Noted, Drained}
+use Rattle.sleep_core.specs.History.{Effect, effect_of, history_of}
+use Rattle.sleep_core.specs.History.Effect.{Began, Passed, Fell, Roused, Withdrew, Left, Raised}
+use Rattle.sleep_core.specs.History.Effect.{Missed, Took, Marked, Noted, Drained}
 use Rattle.sleep_core.specs.Promises.{AreNotesRight, pending}
 use Rattle.sleep_core.specs.Runs.{Entry, is_kept, kept, own}
 use Rattle.sync_base.specs.declared.ids.Pid.{Pid}
@@ -29,26 +29,26 @@ use Rattle.waiting.specs.Wakeups.{HasGoneOn}
 -- ---- the note came
 
 -- a note of a tick came to the process
-abbrev HasCome : ℕ → List Deed → Type 0
+abbrev HasCome : ℕ → List Effect → Type 0
 HasCome pid [] = ⊥
 HasCome pid (Noted named notes ∷ past) =
     ((named ≡ pid) × (holds notes Expired ≡ true)) ⊎ HasCome pid past
-HasCome pid (deed ∷ past) = HasCome pid past
+HasCome pid (effect ∷ past) = HasCome pid past
 
-come_cons : (pid : ℕ) (deed : Option Deed) (past : List Deed) → HasCome pid past
-    → HasCome pid (cons_option deed past)
+come_cons : (pid : ℕ) (effect : Option Effect) (past : List Effect) → HasCome pid past
+    → HasCome pid (cons_option effect past)
 come_cons pid None past come = come
 come_cons pid (Some (Noted named notes)) past come = inr come
-come_cons pid (Some deed) past come = come
+come_cons pid (Some effect) past come = come
 
--- of a deed more: it is the note, or that had come before
-come_of : (pid : ℕ) (deed : Option Deed) (some all : List Deed)
-    → HasCome pid (cons_option deed some) → (HasCome pid some → HasCome pid all)
-    → HasCome pid (cons_option deed all)
+-- of an effect more: it is the note, or that had come before
+come_of : (pid : ℕ) (effect : Option Effect) (some all : List Effect)
+    → HasCome pid (cons_option effect some) → (HasCome pid some → HasCome pid all)
+    → HasCome pid (cons_option effect all)
 come_of pid None some all come past = past come
 come_of pid (Some (Noted named notes)) some all (inl it) past = inl it
 come_of pid (Some (Noted named notes)) some all (inr come) past = inr (past come)
-come_of pid (Some deed) some all come past = past come
+come_of pid (Some effect) some all come past = past come
 
 -- in the steps of a process
 abbrev Has : ℕ → List Entry → Type 0
@@ -57,7 +57,7 @@ Has pid trace = HasCome pid (history_of trace)
 has_more : (pid : ℕ) (entry : Entry) (trace : List Entry) → Has pid trace
     → Has pid (entry ∷ trace)
 has_more pid entry trace has =
-    come_cons pid (deed_of entry.answer entry.event) (history_of trace) has
+    come_cons pid (effect_of entry.answer entry.event) (history_of trace) has
 
 has_since : (pid : ℕ) (since trace : List Entry) → Has pid trace → Has pid (since ++ trace)
 has_since pid [] trace has = has
@@ -74,7 +74,7 @@ in_run maker pid (entry ∷ past) has =
         → Has pid (if b then entry ∷ kept (own maker past) else kept (own maker past))
         → Has pid (entry ∷ past)
     keeps true before has =
-        come_of pid (deed_of entry.answer entry.event) (history_of (kept (own maker past)))
+        come_of pid (effect_of entry.answer entry.event) (history_of (kept (own maker past)))
         (history_of past) has before
     keeps false before has = has_more pid entry past (before has)
 
@@ -86,11 +86,11 @@ in_run maker pid (entry ∷ past) has =
 
 -- ---- it is pending, or was taken
 
-abbrev IsThere : ℕ → List Deed → Type 0
+abbrev IsThere : ℕ → List Effect → Type 0
 IsThere pid past = (holds (pending past pid) Expired ≡ true) ⊎ HasTaken past pid
 
 -- a note more
-noted_too : (pid named : ℕ) (notes : NoteSet) (past : List Deed)
+noted_too : (pid named : ℕ) (notes : NoteSet) (past : List Effect)
     → ((named ≡ pid) × (holds notes Expired ≡ true)) ⊎ IsThere pid past
     → IsThere pid (Noted named notes ∷ past)
 noted_too pid named notes past there = by (eqb_tells named pid) there
@@ -121,7 +121,7 @@ noted_too pid named notes past there = by (eqb_tells named pid) there
     by (inr other) (inr (inr taken)) = inr taken
 
 -- somebody took these notes, which were all that were pending
-module _ (pid by : ℕ) (notes : NoteSet) (past : List Deed) (all : notes ≡ pending past by) where
+module _ (pid by : ℕ) (notes : NoteSet) (past : List Effect) (all : notes ≡ pending past by) where
   taken_too : IsThere pid past
       → (holds (if eqb by pid then no_notes else pending past pid) Expired ≡ true)
       ⊎ (((by ≡ pid) × (holds notes Expired ≡ true)) ⊎ HasTaken past pid)
@@ -141,7 +141,7 @@ module _ (pid by : ℕ) (notes : NoteSet) (past : List Deed) (all : notes ≡ pe
           inl (ap (λ b. holds (if b then no_notes else pending past pid) Expired) other.0 ∙ there)
 
 -- a sleep that ends well leaves no note pending
-well_too : (pid by : ℕ) (past : List Deed) → pending past by ≡ no_notes → IsThere pid past
+well_too : (pid by : ℕ) (past : List Effect) → pending past by ≡ no_notes → IsThere pid past
     → IsThere pid (Left by None ∷ past)
 well_too pid by past none (inr taken) = inr taken
 well_too pid by past none (inl there) = test (eqb_tells by pid)
@@ -156,7 +156,7 @@ well_too pid by past none (inl there) = test (eqb_tells by pid)
     test (inr other) =
         inl (ap (λ b. holds (if b then no_notes else pending past pid) Expired) other.0 ∙ there)
 
-is_there : (pid : ℕ) (past : List Deed) → AreNotesRight past → HasCome pid past → IsThere pid past
+is_there : (pid : ℕ) (past : List Effect) → AreNotesRight past → HasCome pid past → IsThere pid past
 is_there pid [] right come = absurd come
 is_there pid (Noted named notes ∷ past) right (inl it) =
     noted_too pid named notes past (inl it)

@@ -15,13 +15,13 @@ use Rattle.semaphore.specs.declared.sema_object.SemaCall.TheVariants.{Acquire, A
 use Rattle.semaphore.specs.declared.sema_object.SemaCall.TheVariants.{NextWake, Collect, Leave}
 use Rattle.semaphore.specs.declared.sema_object.SemaReply.{SemaReply}
 use Rattle.semaphore.specs.declared.sema_object.SemaReply.TheVariants as reply
-use Rattle.semaphore.specs.SeatLine.{first_of}
+use Rattle.semaphore.specs.WaitQueue.{first_of}
 use Rattle.semaphore.specs.Units.{SemaState, IsSound, opening, stage_of, granted, passed, is_idle}
 use Rattle.semaphore.specs.Units.{answer_to, sema_after, seat_named}
 use Rattle.semaphore.specs.SemaHistory.{SemaEntry, sema_meaning}
 use Rattle.semaphore.specs.Seats.{waits_after, is_waiting}
 use Rattle.semaphore.proofs.Cases.{same_or_not}
-use Rattle.semaphore.proofs.LineLemmas.{length_without}
+use Rattle.semaphore.proofs.WaitQueueLemmas.{length_without}
 use Rattle.semaphore.proofs.SemaLemmas.{sound_granted, first_waiter, passed_one, passed_all}
 use Rattle.semaphore.proofs.SemaLawLemmas.{waits_of, collected_of, left_with_of, left_without_of}
 use Rattle.semaphore.proofs.SemaLawLemmas.{released_of, idle_at, history_keeps}

@@ -21,7 +21,7 @@ use Rattle.semaphore.specs.Releasing.{WakesNamed}
 use Rattle.semaphore.specs.SemaHistory.{SemaEntry, sema_meaning}
 use Rattle.semaphore.specs.Seats.{IsSemaSeatOf, rendez_of_seat, waits_after}
 use Rattle.semaphore.specs.Units.{seat_named}
-use Rattle.sleep_wakeup.specs.Deeds.{WakesOne}
+use Rattle.sleep_wakeup.specs.Actions.{WakesOne}
 use Rattle.sleep_wakeup.specs.Kernel.{Running}
 use Rattle.waiting.specs.Waiting.{Point, point}
 use Rattle.semaphore.proofs.AskLemmas.{is_told}

@@ -14,7 +14,7 @@ use Rattle.semaphore.specs.declared.timer_object.TimerReply.{TimerReply}
 use Rattle.semaphore.specs.declared.timers.Timers.{Timers}
 use Rattle.semaphore.specs.declared.timers.TimerSeat.{TimerSeat}
 use Rattle.semaphore.specs.Asking.{Asks, AsksTimers}
-use Rattle.semaphore.specs.Seats.{IsSeatAt, IsSeatAtTimers, HasRow, rendez_at}
+use Rattle.semaphore.specs.Seats.{IsSeatAt, IsSeatAtTimers, OwnsRow, rendez_at}
 
 -- a request that names the number that its seat was told
 pub asks_so : (sema : Sema) (waits : Bool) (call : ℕ → SemaCall) (told : SemaReply) (named : ℕ)
@@ -58,6 +58,6 @@ is_below sema waits seat at =
 
 -- so its Rendez is among those of the kernel
 pub is_in_row : (sema : Sema) (waits : Bool) (seat : SemaSeat) (words : Words)
-    → IsSeatAt sema waits seat → HasRow sema words → (rendez_at sema seat).0 < rendez_of words
+    → IsSeatAt sema waits seat → OwnsRow sema words → (rendez_at sema seat).0 < rendez_of words
 is_in_row sema waits seat words at row =
     let below = is_below sema waits seat at in omega (arith, below, row)

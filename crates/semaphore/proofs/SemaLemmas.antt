@@ -8,15 +8,15 @@ use Rattle.std.proofs.Math.ListN.{length-set}
 use Rattle.semaphore.specs.declared.limits.TheConstants.{LAST_GRANT}
 use Rattle.semaphore.specs.declared.sema_object.Stage.{Stage}
 use Rattle.semaphore.specs.declared.sema_object.Stage.TheVariants.{Idle, Waiting, Granted}
-use Rattle.semaphore.specs.SeatLine.{stands_in, without, with_seat, first_of, AreSeats}
+use Rattle.semaphore.specs.WaitQueue.{stands_in, without, with_seat, first_of, AreSeats}
 use Rattle.semaphore.specs.declared.sema_object.SemaCall.TheVariants.{Leave}
 use Rattle.semaphore.specs.declared.sema_object.SemaReply.TheVariants as reply
 use Rattle.semaphore.specs.Units.{SemaState, IsSound, is_seat, stage_of, grants_of, granted, passed}
 use Rattle.semaphore.specs.Units.{answer_to, answer_leave, after, sema_after}
 use Rattle.semaphore.proofs.Cases.{same_or_not}
-use Rattle.semaphore.proofs.LineLemmas.{head_false, without_here, without_there, left_same}
-use Rattle.semaphore.proofs.LineLemmas.{left_other, joined_same, joined_other, seats_join}
-use Rattle.semaphore.proofs.LineLemmas.{seats_without}
+use Rattle.semaphore.proofs.WaitQueueLemmas.{head_false, without_here, without_there, left_same}
+use Rattle.semaphore.proofs.WaitQueueLemmas.{left_other, joined_same, joined_other, seats_join}
+use Rattle.semaphore.proofs.WaitQueueLemmas.{seats_without}
 
 -- another stage of one seat, and another line that differs in that seat alone
 pub sound_stage : (s : SemaState) (seat : ℕ) (stage : Stage) (waiters : List ℕ) → IsSound s → seat <

@@ -10,7 +10,7 @@ use Rattle.semaphore.specs.declared.sema_object.SemaCall.TheVariants.{NextWake, 
 use Rattle.semaphore.specs.declared.sema_object.SemaReply.{SemaReply}
 use Rattle.semaphore.specs.declared.sema_object.SemaReply.TheVariants as reply
 use Rattle.semaphore.specs.Asking.{IsTold}
-use Rattle.semaphore.specs.SeatLine.{AreSeats}
+use Rattle.semaphore.specs.WaitQueue.{AreSeats}
 use Rattle.semaphore.specs.Units.{SemaState, is_seat, stage_of, grants_of, is_idle, may_acquire}
 use Rattle.semaphore.specs.Units.{answer_acquire, answer_next, answer_collect, answer_leave}
 

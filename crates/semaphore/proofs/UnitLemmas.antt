@@ -4,7 +4,7 @@ use Rattle.std.proofs.Common.{Some, None, Result, Ok, Err, inl, inr, refl, sym, 
 use Rattle.std.proofs.lemmas.Bool.Decides.{nat_tests}
 use Rattle.histories.specs.declared.account.Account.{Account}
 use Rattle.histories.specs.declared.account.Share.{Share}
-use Rattle.kernel_lock.specs.declared.view.Served.{Served}
+use Rattle.kernel_lock.specs.declared.view.Operation.{Operation}
 use Rattle.kernel_lock.specs.Definition.{server}
 use Rattle.kernel_lock.specs.Seats.{number_of, shares_of}
 use Rattle.std.specs.Prelude.{⊤, map}
@@ -29,7 +29,7 @@ use Rattle.semaphore.specs.Timing.{Keeps, IsEndedByNotes, timed_units_of}
 use Rattle.waiting.specs.declared.call.Reply.TheVariants.{Wait}
 use Rattle.waiting.specs.declared.wait.WaitEnd.{WaitEnd}
 use Rattle.waiting.specs.declared.wait.WaitEnd.TheVariants.{Answered, Stopped}
-use Rattle.waiting.specs.Waiting.{Point, Told, SleepsOn, Waited, reply_of, answer_of}
+use Rattle.waiting.specs.Waiting.{Point, WaitPoint, SleepsOn, Waited, reply_of, answer_of}
 use Rattle.waiting.proofs.FoldLemmas.{sleeps_end, wait_ends}
 
 -- ---- one request
@@ -38,8 +38,8 @@ yes : (a : ℕ) → eqb a a ≡ true
 yes a = grind (arith, nat_tests)
 
 -- a seat of one number has one call more of its own
-pub own_more : {Call Reply : Type 0} (entry : Served Call Reply)
-    (shares : List (Share (Served Call Reply))) (mine : List (Served Call Reply))
+pub own_more : {Call Reply : Type 0} (entry : Operation Call Reply)
+    (shares : List (Share (Operation Call Reply))) (mine : List (Operation Call Reply))
     → shares ≡ record { number = entry.by; mine = mine } ∷ []
     → own_of (map (share_after server entry) shares) ≡ entry ∷ own_of shares
 own_more entry shares mine are =
@@ -141,7 +141,7 @@ module _ (sema : Sema) (before : Point SemaSeat) (rest : IsSemaSeatOf sema befor
       waits.waited
 
   -- the sleeps of one with a deadline
-  pub stopped : (Timer : Type 0) (rendez : RendezId) (first : Told SemaSeat)
+  pub stopped : (Timer : Type 0) (rendez : RendezId) (first : WaitPoint SemaSeat)
       (ending : WaitEnd Unit) (after : Point SemaSeat) → Begins sema before (Wait first.number)
       first.at → SleepsOn (acquiring sema Timer) rendez first ending after
       → IsOver before.seat (answer_of ending) after.seat

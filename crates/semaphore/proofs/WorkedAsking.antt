@@ -49,7 +49,7 @@ use Rattle.semaphore.specs.Timing.{AcquiresInTime, AwaitsTick, Awaiting, BegunAt
 use Rattle.semaphore.specs.Timing.{Looks, LooksForTick, IsEndedByNotes, PutsBackAny, TimedPoint}
 use Rattle.semaphore.specs.Timing.{WaitsInTime}
 use Rattle.semaphore.specs.WakeLaws.{HasTaken}
-use Rattle.sleep_core.specs.History.Deed.{Left, Drained}
+use Rattle.sleep_core.specs.History.Effect.{Left, Drained}
 use Rattle.semaphore.specs.Timing.{notes_in, notes_of, without_expired}
 use Rattle.waiting.specs.declared.call.Reply.TheVariants as reply
 use Rattle.waiting.specs.declared.wait.WaitEnd.TheVariants.{Answered, Stopped}

@@ -14,7 +14,7 @@ use Rattle.semaphore.specs.Opening.{WhyNotOpened}
 use Rattle.sleep_core.specs.Limits.{IsProcCount}
 use Rattle.semaphore.specs.SemaHistory.{SemaEntry}
 use Rattle.semaphore.specs.TimerHistory.{TimerEntry}
-use Rattle.semaphore.specs.Seats.{IsNewSema, AreNewTimers, HasRow, IsSemaSeatOf, IsTimerSeatOf}
+use Rattle.semaphore.specs.Seats.{IsNewSema, AreNewTimers, OwnsRow, IsSemaSeatOf, IsTimerSeatOf}
 use Rattle.semaphore.specs.Seats.{opening_value}
 use Rattle.semaphore.specs.Timers.{WhyNoTimers}
 use Rattle.semaphore.specs.Units.{IsSemaRange}
@@ -35,7 +35,7 @@ module _ (roster : Unused) (sema : Sema) (seat : SemaSeat) where
   another_row other new = other new.first_is
 
   -- its row is none of the kernel's
-  a_row_of_no_kernel : (HasRow sema roster.words → ⊥) → IsNewSema roster 1 3 sema seat → ⊥
+  a_row_of_no_kernel : (OwnsRow sema roster.words → ⊥) → IsNewSema roster 1 3 sema seat → ⊥
   a_row_of_no_kernel none new = none new.row
 
   -- its first seat is another's

@@ -24,8 +24,8 @@ use Rattle.semaphore.specs.declared.timers.Timers.{Timers}
 use Rattle.semaphore.specs.declared.timers.TimerSeat.{TimerSeat}
 use Rattle.semaphore.specs.Definitions.{sema_definition, timer_definition}
 use Rattle.semaphore.specs.Opening.{IsSemaLock, IsTimerLock}
-use Rattle.semaphore.specs.SeatLine.{IsRing, IsLinked, AreSeats, stands_in}
-use Rattle.semaphore.specs.Seats.{IsSeatAt, IsSeatAtTimers, IsTimerSet, HasRow, is_waiting}
+use Rattle.semaphore.specs.WaitQueue.{IsRing, IsLinked, AreSeats, stands_in}
+use Rattle.semaphore.specs.Seats.{IsSeatAt, IsSeatAtTimers, IsTimerSet, OwnsRow, is_waiting}
 use Rattle.semaphore.specs.Seats.{own_of}
 use Rattle.semaphore.specs.SemaHistory.{SemaEntry, taken}
 use Rattle.semaphore.specs.TimerHistory.{has_timer}
@@ -76,7 +76,7 @@ module _ (sema : Sema) (waits : Bool) (seat : SemaSeat) where
   who_made_no_call_waits_for_nothing at none = sym (ap is_waiting none) ∙ at.waits_is
 
   a_row_past_the_last_rendez : (words : Words) → rendez_of words < sema.first + sema.procs
-      → ¬ HasRow sema words
+      → ¬ OwnsRow sema words
   a_row_past_the_last_rendez words past row = omega (arith, past, row)
 
 module _ (timers : Timers) (set : Bool) (seat : TimerSeat) where

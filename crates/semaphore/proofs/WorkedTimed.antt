@@ -1,4 +1,4 @@
--- Calls with a deadline that did what none may do: each list of deeds against the order and the
+-- Calls with a deadline that did what none may do: each list of actions against the order and the
 -- counts that the parts of such a call have.
 use Rattle.std.proofs.Common.{◌≡◌, ◌≢◌, ℕ, zero, suc, ◌+◌, Bool, true, false, List, [], ◌∷◌, ◌++◌}
 use Rattle.std.proofs.Common.{length, Some, None, Result, Ok, Err, inl, inr, refl, sym, ap, ◌∙◌}
@@ -13,7 +13,7 @@ use Rattle.sleep_core.specs.declared.event.Event.{Event}
 use Rattle.sleep_core.specs.declared.event.Event.TheVariants.{Post, Look, Withdraw, Drain}
 use Rattle.sleep_core.specs.Runs.{Entry}
 use Rattle.sleep_wakeup.specs.Calls.{IsOfWait, Sleeps}
-use Rattle.sleep_wakeup.specs.Deeds.{FailsAsleep}
+use Rattle.sleep_wakeup.specs.Actions.{FailsAsleep}
 use Rattle.sync_base.specs.declared.fault.Fault.{Fault}
 use Rattle.sync_base.specs.declared.fault.Fault.TheVariants as fault
 use Rattle.sync_base.specs.declared.ids.RendezId.{RendezId}
@@ -40,7 +40,7 @@ use Rattle.semaphore.specs.Timing.{notes_of}
 use Rattle.semaphore.proofs.UnitLemmas.{own_more}
 use Rattle.waiting.specs.declared.wait.WaitEnd.{WaitEnd}
 use Rattle.waiting.specs.declared.wait.WaitEnd.TheVariants.{Answered, Stopped}
-use Rattle.waiting.specs.Waiting.{Point, Told, Rounds, Ends}
+use Rattle.waiting.specs.Waiting.{Point, WaitPoint, Rounds, Ends}
 
 -- ---- what is counted
 
@@ -153,15 +153,15 @@ failed_once before at number after other failed = absurd failed
 
 module _ (sema : Sema) (Timer : Type 0) (rendez : RendezId) where
   -- between any two requests stands one sleep
-  rounds_add : (times : ℕ) (first now : Told SemaSeat) → IsSeatAt sema true first.at.seat
+  rounds_add : (times : ℕ) (first now : WaitPoint SemaSeat) → IsSeatAt sema true first.at.seat
       → Rounds (acquiring sema Timer) rendez times first now
       → IsSeatAt sema true now.at.seat × Adds times times first.at now.at
   rounds_add zero first now at same =
-      let lies = ap (λ (t : Told SemaSeat). lay_down t.at.process) same in
-      let drains = ap (λ (t : Told SemaSeat). drained t.at.process) same in
-      let calls = ap (λ (t : Told SemaSeat). length (own t.at.seat)) same in
-      let begins = ap (λ (t : Told SemaSeat). firsts (own t.at.seat)) same in (
-        subst (λ (t : Told SemaSeat). IsSeatAt sema true t.at.seat) (sym same) at,
+      let lies = ap (λ (t : WaitPoint SemaSeat). lay_down t.at.process) same in
+      let drains = ap (λ (t : WaitPoint SemaSeat). drained t.at.process) same in
+      let calls = ap (λ (t : WaitPoint SemaSeat). length (own t.at.seat)) same in
+      let begins = ap (λ (t : WaitPoint SemaSeat). firsts (own t.at.seat)) same in (
+        subst (λ (t : WaitPoint SemaSeat). IsSeatAt sema true t.at.seat) (sym same) at,
         record {
           lies = omega (arith, lies);
           drains = drains;
@@ -189,7 +189,7 @@ module _ (sema : Sema) (Timer : Type 0) (rendez : RendezId) where
       )
 
   -- and one before the last
-  end_adds : (last : Told SemaSeat) (ending : WaitEnd Unit) (after : Point SemaSeat)
+  end_adds : (last : WaitPoint SemaSeat) (ending : WaitEnd Unit) (after : Point SemaSeat)
       → IsSeatAt sema true last.at.seat → Ends (acquiring sema Timer) rendez last ending after
       → Adds 1 1 last.at after
   end_adds last (Answered (Ok unit)) after at ends =

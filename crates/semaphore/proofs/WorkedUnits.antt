@@ -19,7 +19,7 @@ use Rattle.sync_base.specs.declared.ids.Pid.{Pid}
 use Rattle.semaphore.specs.Units.{SemaState, IsSound, opening, answer_to, after, passed, grants_of}
 use Rattle.semaphore.specs.Units.{stage_of}
 use Rattle.semaphore.specs.Timers as timers
-use Rattle.semaphore.specs.SeatLine.{stands_in, AreSeats}
+use Rattle.semaphore.specs.WaitQueue.{stands_in, AreSeats}
 use Rattle.semaphore.specs.SemaHistory.{SemaEntry, sema_meaning, released, taken, collected}
 use Rattle.semaphore.specs.SemaHistory.{uncollected, last_named}
 use Rattle.semaphore.specs.SemaLaws.{UnitsAddUp, NobodyWaitsForNothing, EachGrantIsNamed}

@@ -4,7 +4,7 @@ pub mod Definitions
 pub mod Due
 pub mod Opening
 pub mod Releasing
-pub mod SeatLine
+pub mod WaitQueue
 pub mod Seats
 pub mod SemaHistory
 pub mod SemaLaws

@@ -1,7 +1,7 @@
 -- What semrelease promises. After semrelease in semacquire(2); that it answers the sum, and wakes
 -- each who was granted a unit with the number of its grants, is own.
 use Rattle.std.specs.Prelude.{◌≡◌, ℕ, false, List, [], ◌∷◌, Result, Ok, Err}
-use Rattle.sleep_wakeup.specs.Deeds.{WakesOne}
+use Rattle.sleep_wakeup.specs.Actions.{WakesOne}
 use Rattle.sync_base.specs.declared.fault.Fault.{Fault}
 use Rattle.sync_base.specs.declared.fault.Fault.TheVariants as fault
 use Rattle.semaphore.specs.declared.sema.Sema.{Sema}

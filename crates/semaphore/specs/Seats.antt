@@ -56,8 +56,8 @@ abbrev pub opening_value : Sema → ℕ
 opening_value sema = (opening_of sema_definition sema.lock).value
 
 -- the Rendez of the semaphore's seats are among these words
-abbrev pub HasRow : Sema → Words → Type 0
-HasRow sema words = sema.first + sema.procs ≤ rendez_of words
+abbrev pub OwnsRow : Sema → Words → Type 0
+OwnsRow sema words = sema.first + sema.procs ≤ rendez_of words
 
 -- the Rendez of the seat with this number
 abbrev pub rendez_of_seat : Sema → ℕ → RendezId
@@ -106,7 +106,7 @@ pub record IsNewSema (roster : Unused) (value procs : ℕ) (sema : Sema) (seat :
   pub value_is : opening_value sema ≡ value
   pub procs_are : sema.procs ≡ procs
   pub first_is : sema.first ≡ roster.rendez
-  pub row : HasRow sema roster.words
+  pub row : OwnsRow sema roster.words
   pub seat_is : IsSemaSeatOf sema seat
   pub first_seat : IsFirstSeat seat.seat
 

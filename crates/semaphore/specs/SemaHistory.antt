@@ -8,14 +8,14 @@ use Rattle.semaphore.specs.declared.sema_object.SemaCall.TheVariants.{Acquire, A
 use Rattle.semaphore.specs.declared.sema_object.SemaCall.TheVariants.{NextWake, Collect, Leave}
 use Rattle.semaphore.specs.declared.sema_object.SemaReply.{SemaReply}
 use Rattle.semaphore.specs.declared.sema_object.SemaReply.TheVariants as reply
-use Rattle.kernel_lock.specs.declared.view.Served.{Served}
+use Rattle.kernel_lock.specs.declared.view.Operation.{Operation}
 use Rattle.kernel_lock.specs.Definition.{meaning_of}
 use Rattle.semaphore.specs.Definitions.{sema_definition}
 use Rattle.semaphore.specs.Units.{SemaState}
 
 -- one call: the number of the seat that made it, and what it was answered
 abbrev pub SemaEntry : Type 0
-SemaEntry = Served SemaCall SemaReply
+SemaEntry = Operation SemaCall SemaReply
 
 abbrev pub sema_meaning : Meaning SemaState SemaEntry
 sema_meaning = meaning_of sema_definition

@@ -2,7 +2,7 @@
 use Rattle.std.specs.Prelude.{◌≡◌, ◌⊎◌, ℕ, ◌+◌, ◌≤◌, ◌<◌, false, List, [], length}
 use Rattle.histories.specs.History.{state_after, IsLegal}
 use Rattle.semaphore.specs.declared.limits.TheConstants.{MAX_VALUE, LAST_GRANT}
-use Rattle.semaphore.specs.SeatLine.{stands_in}
+use Rattle.semaphore.specs.WaitQueue.{stands_in}
 use Rattle.semaphore.specs.Units.{SemaState, IsSound, opening, stage_of, grants_of}
 use Rattle.semaphore.specs.SemaHistory.{SemaEntry, sema_meaning, released, taken, held_in}
 use Rattle.semaphore.specs.SemaHistory.{uncollected, collected, last_named}

@@ -2,7 +2,7 @@
 use Rattle.std.specs.Prelude.{◌≡◌, ◌≢◌, ℕ, ◌≤◌, List, [], ◌∷◌, ◌++◌, Some, Bool, true, false}
 use Rattle.std.specs.List.{AllByRecursion}
 use Rattle.histories.specs.History.{Meaning, state_after}
-use Rattle.kernel_lock.specs.declared.view.Served.{Served}
+use Rattle.kernel_lock.specs.declared.view.Operation.{Operation}
 use Rattle.kernel_lock.specs.Definition.{meaning_of}
 use Rattle.sync_base.specs.declared.ids.Pid.{Pid}
 use Rattle.semaphore.specs.declared.timer_object.Timer.{Timer}
@@ -15,7 +15,7 @@ use Rattle.semaphore.specs.Timers.{first_due}
 
 -- one call: the number of the seat that made it, and what it was answered
 abbrev pub TimerEntry : Type 0
-TimerEntry = Served TimerCall TimerReply
+TimerEntry = Operation TimerCall TimerReply
 
 abbrev pub timer_meaning : Meaning (List Timer) TimerEntry
 timer_meaning = meaning_of timer_definition

@@ -30,7 +30,7 @@ use Rattle.semaphore.specs.TimerHistory.{WasTaken}
 use Rattle.waiting.specs.declared.call.Reply.TheVariants.{Wait}
 use Rattle.waiting.specs.declared.wait.WaitEnd.{WaitEnd}
 use Rattle.waiting.specs.declared.wait.WaitEnd.TheVariants.{Answered, Stopped}
-use Rattle.waiting.specs.Waiting.{Point, Told, SleepsOn, point, reply_of}
+use Rattle.waiting.specs.Waiting.{Point, WaitPoint, SleepsOn, point, reply_of}
 
 -- ---- the note of a tick
 
@@ -147,7 +147,7 @@ module _ (sema : Sema) (timers : Timers) (moment : ℕ) where
   -- timer; it awaited the note of a tick that had taken it; and it kept what came.
   pub record WaitsInTime (before : TimedPoint) (answer : Result Unit Fault) (after : TimedPoint)
       : Type 0 where
-    pub first : Told SemaSeat
+    pub first : WaitPoint SemaSeat
     pub set : TimerSeat
     pub stop : Stop
     pub begun : Begins sema before.at (Wait first.number) first.at

@@ -13,7 +13,7 @@ use Rattle.semaphore.specs.declared.sema_object.SemaCall.TheVariants.{NextWake, 
 use Rattle.semaphore.specs.declared.sema_object.SemaReply.{SemaReply}
 use Rattle.semaphore.specs.declared.sema_object.SemaReply.TheVariants as reply
 use Rattle.sleep_core.specs.Limits.{IsProcCount}
-use Rattle.semaphore.specs.SeatLine.{stands_in, without, with_seat, AreSeats}
+use Rattle.semaphore.specs.WaitQueue.{stands_in, without, with_seat, AreSeats}
 
 pub record SemaState : Type 0 where
   pub value : ℕ  -- the units that nobody has

@@ -5,8 +5,8 @@ use Rattle.std.specs.List.{AllByRecursion}
 use Rattle.histories.specs.History.{IsLegal, state_after}
 use Rattle.rendez_words.specs.declared.view.Sizes.{Sizes}
 use Rattle.rendez_words.specs.Rule.{ShowsCore}
-use Rattle.sleep_core.specs.History.{Deed, history_of}
-use Rattle.sleep_core.specs.History.Deed.{Left, Drained}
+use Rattle.sleep_core.specs.History.{Effect, history_of}
+use Rattle.sleep_core.specs.History.Effect.{Left, Drained}
 use Rattle.sleep_core.specs.Laws.{ReleasesBelow}
 use Rattle.sleep_core.specs.Promises.{pending}
 use Rattle.sleep_core.specs.Runs.{world_of}
@@ -18,7 +18,7 @@ use Rattle.semaphore.specs.declared.sema.SemaSeat.{SemaSeat}
 use Rattle.semaphore.specs.declared.sema_object.SemaReply.TheVariants.{Wait}
 use Rattle.semaphore.specs.declared.sema_object.Stage.TheVariants.{Granted}
 use Rattle.semaphore.specs.Releasing.{HasReleased}
-use Rattle.semaphore.specs.SeatLine.{stands_in}
+use Rattle.semaphore.specs.WaitQueue.{stands_in}
 use Rattle.semaphore.specs.Seats.{rendez_of_seat}
 use Rattle.semaphore.specs.SemaHistory.{SemaEntry, sema_meaning, last_named}
 use Rattle.semaphore.specs.declared.timers.Timers.{Timers}
@@ -55,13 +55,13 @@ WaitersAreNamedAbove =
 -- ---- the note of a tick
 
 -- the process took the note of a tick: with the end of a sleep, or without a sleep
-abbrev pub HasTaken : List Deed → ℕ → Type 0
+abbrev pub HasTaken : List Effect → ℕ → Type 0
 HasTaken [] pid = ⊥
 HasTaken (Left by (Some notes) ∷ past) pid =
     ((by ≡ pid) × (holds notes Expired ≡ true)) ⊎ HasTaken past pid
 HasTaken (Drained by notes ∷ past) pid =
     ((by ≡ pid) × (holds notes Expired ≡ true)) ⊎ HasTaken past pid
-HasTaken (deed ∷ past) pid = HasTaken past pid
+HasTaken (effect ∷ past) pid = HasTaken past pid
 
 -- No note of a tick is lost: once the tick has returned, the note is pending at the process of each
 -- timer that expired, where its kernel has that process, or that process took it since.

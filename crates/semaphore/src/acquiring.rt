@@ -2,7 +2,7 @@
 ghost use Rattle.std.specs.Prelude.{◌≡◌, ⊤, true};
 ghost use Rattle.kernel_lock.specs.Seats.{number_of};
 ghost use Rattle.semaphore.specs.Acquiring.{Semacquires, acquiring};
-ghost use Rattle.semaphore.specs.Seats.{HasRow, IsSeatAt, IsSemaSeatOf, IsTimerSet};
+ghost use Rattle.semaphore.specs.Seats.{OwnsRow, IsSeatAt, IsSemaSeatOf, IsTimerSet};
 ghost use Rattle.waiting.specs.Waiting.{point};
 
 use crate::sema::{Sema, SemaSeat};
@@ -100,7 +100,7 @@ impl Sema {
         block: bool,
     ) -> Result<Semacquired, Fault>
         requires seat { IsSemaSeatOf self.now seat.old }
-        requires row { HasRow self.now proc.old.words }
+        requires row { OwnsRow self.now proc.old.words }
         ensures seat { IsSemaSeatOf self.now seat.new }
         ensures number { number_of seat.new.seat ≡ number_of seat.old.seat }
         ensures words { proc.new.words ≡ proc.old.words }
@@ -121,7 +121,7 @@ impl Sema {
         probe: &mut P,
     ) -> Result<Semacquired, Fault>
         requires seat { IsSemaSeatOf self.now seat.old }
-        requires row { HasRow self.now proc.old.words }
+        requires row { OwnsRow self.now proc.old.words }
         ensures seat { IsSemaSeatOf self.now seat.new }
         ensures number { number_of seat.new.seat ≡ number_of seat.old.seat }
         ensures words { proc.new.words ≡ proc.old.words }
@@ -143,7 +143,7 @@ impl Sema {
         probe: &mut P,
     ) -> Result<Semacquired, Fault>
         requires seat { IsSemaSeatOf self.now seat.old }
-        requires row { HasRow self.now proc.old.words }
+        requires row { OwnsRow self.now proc.old.words }
         ensures seat { IsSemaSeatOf self.now seat.new }
         ensures number { number_of seat.new.seat ≡ number_of seat.old.seat }
         ensures words { proc.new.words ≡ proc.old.words }

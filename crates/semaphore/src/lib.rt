@@ -1,6 +1,6 @@
 //! Semaphores and timers, after semacquire(2): first the two objects that a lock stands round, and
 //! then the calls of processes on threads.
-//! Read `limits`, `seat_line`, `sema_object`; then `due`, `tournament`, `timer_object`, `object`;
+//! Read `limits`, `wait_queue`, `sema_object`; then `due`, `tournament`, `timer_object`, `object`;
 //! then `sema`, `sema_asks`, `acquiring`, `releasing`; then `timers`, `timer_asks`, `timing`,
 //! `ticking`; and `laws`.
 #![tactic(auto)]
@@ -11,7 +11,6 @@ pub mod laws;
 pub mod limits;
 mod object;
 mod releasing;
-mod seat_line;
 pub mod sema;
 mod sema_asks;
 pub mod sema_object;
@@ -21,6 +20,7 @@ pub mod timer_object;
 pub mod timers;
 mod timing;
 mod tournament;
+mod wait_queue;
 
 pub use acquiring::Semacquired;
 pub use due::Due;

@@ -5,7 +5,7 @@ ghost use Rattle.semaphore.specs.declared.sema.SemaSeat.{SemaSeat};
 ghost use Rattle.semaphore.specs.declared.sema_object.SemaCall.TheVariants.{NextWake};
 ghost use Rattle.semaphore.specs.Asking.{Asks, wake_reply};
 ghost use Rattle.semaphore.specs.Releasing.{HasWoken, Releases};
-ghost use Rattle.semaphore.specs.Seats.{HasRow, IsSemaSeatOf};
+ghost use Rattle.semaphore.specs.Seats.{OwnsRow, IsSemaSeatOf};
 ghost use Rattle.waiting.specs.Waiting.{point};
 
 use crate::sema::{Sema, SemaSeat};
@@ -29,7 +29,7 @@ impl Sema {
         count: u32,
     ) -> Result<u32, Fault>
         requires seat { IsSemaSeatOf self.now seat.old }
-        requires row { HasRow self.now proc.old.words }
+        requires row { OwnsRow self.now proc.old.words }
         ensures seat { IsSemaSeatOf self.now seat.new }
         ensures number { number_of seat.new.seat ≡ number_of seat.old.seat }
         ensures words { proc.new.words ≡ proc.old.words }
@@ -54,7 +54,7 @@ impl Sema {
         next: Option<Grant>,
     )
         requires seat { IsSemaSeatOf self.now seat.old }
-        requires row { HasRow self.now proc.old.words }
+        requires row { OwnsRow self.now proc.old.words }
         requires there { IfSome next (λ grant. grant.seat < self.now.procs) }
         ensures seat { IsSemaSeatOf self.now seat.new }
         ensures number { number_of seat.new.seat ≡ number_of seat.old.seat }

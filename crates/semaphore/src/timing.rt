@@ -4,7 +4,7 @@ ghost use Rattle.sync_base.specs.declared.note.Note.TheVariants.{Expired};
 ghost use Rattle.sync_base.specs.NoteSet.{holds};
 ghost use Rattle.kernel_lock.specs.Seats.{number_of};
 ghost use Rattle.rendez_words.specs.Words.{rendez_of};
-ghost use Rattle.semaphore.specs.Seats.{HasRow, IsSemaSeatOf, IsTimerSeatOf};
+ghost use Rattle.semaphore.specs.Seats.{OwnsRow, IsSemaSeatOf, IsTimerSeatOf};
 ghost use Rattle.semaphore.specs.Timers.{deadline_of};
 ghost use Rattle.semaphore.specs.Timing.{
   AcquiresInTime,
@@ -51,7 +51,7 @@ impl Sema {
         ms: u32,
     ) -> Result<(), Fault>
         requires seat { IsSemaSeatOf self.now seat.old }
-        requires row { HasRow self.now proc.old.words }
+        requires row { OwnsRow self.now proc.old.words }
         requires timer { IsTimerSeatOf timers.now timer.old }
         ensures seat { IsSemaSeatOf self.now seat.new }
         ensures number { number_of seat.new.seat ≡ number_of seat.old.seat }
@@ -80,7 +80,7 @@ impl Sema {
         probe: &mut P,
     ) -> Result<(), Fault>
         requires seat { IsSemaSeatOf self.now seat.old }
-        requires row { HasRow self.now proc.old.words }
+        requires row { OwnsRow self.now proc.old.words }
         requires timer { IsTimerSeatOf timers.now timer.old }
         ensures seat { IsSemaSeatOf self.now seat.new }
         ensures number { number_of seat.new.seat ≡ number_of seat.old.seat }

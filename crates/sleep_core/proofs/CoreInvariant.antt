@@ -6,8 +6,8 @@ use Rattle.sleep_core.specs.declared.phase.Phase.TheVariants as phase
 use Rattle.sleep_core.specs.State.{State, IsSound, phase_of, flags_of, posted_of, level_of}
 use Rattle.sleep_core.specs.State.{returned_of}
 use Rattle.sleep_core.specs.Table.{has_notes}
-use Rattle.sleep_core.specs.History.{Deed, begun_wakeup, HasReturned}
-use Rattle.sleep_core.specs.History.Deed.{Began, Withdrew, Left, Took, Marked}
+use Rattle.sleep_core.specs.History.{Effect, begun_wakeup, HasReturned}
+use Rattle.sleep_core.specs.History.Effect.{Began, Withdrew, Left, Took, Marked}
 use Rattle.sleep_core.specs.Promises.{IsStillIn, HasFallen, IsHeld, NoMarkIsStray, pending}
 use Rattle.sleep_core.specs.Promises.{AreNotesRight, IsCaused, EachSleepIsCaused}
 
@@ -18,8 +18,8 @@ pub data Token : Type 0 where
   WithRaiser : ℕ → Token
   InFlags : Token
 
--- where the token of a process is, by the newest deed that moved it
-abbrev pub token : List Deed → ℕ → Token
+-- where the token of a process is, by the newest effect that moved it
+abbrev pub token : List Effect → ℕ → Token
 token [] pid = Nowhere
 token (Began by rendez level ∷ past) pid = if by == pid then InRendez rendez else token past pid
 token (Withdrew by ∷ past) pid = if by == pid then Nowhere else token past pid
@@ -27,7 +27,7 @@ token (Took raiser sleeper ∷ past) pid =
     if sleeper == pid then WithRaiser raiser else token past pid
 token (Marked raiser sleeper ∷ past) pid = if sleeper == pid then InFlags else token past pid
 token (Left by notes ∷ past) pid = if by == pid then Nowhere else token past pid
-token (deed ∷ past) pid = token past pid
+token (effect ∷ past) pid = token past pid
 
 -- a wakeup has the token, or has given it
 abbrev pub IsAway : Token → Type 0
@@ -44,25 +44,25 @@ IsNear rendez (WithRaiser raiser) = Unit {0}
 IsNear rendez InFlags = Unit {0}
 
 -- a process in a Rendez, and what holds as long as it is posted there
-pub record Sleeps (history : List Deed) (pid rendez : ℕ) (Stays : Type 0) : Type 0 where
+pub record Sleeps (history : List Effect) (pid rendez : ℕ) (Stays : Type 0) : Type 0 where
   -- its token is in this Rendez, or away with a wakeup
   pub near : IsNear rendez (token history pid)
   -- and this holds as long as the token is in the Rendez
   pub stays : token history pid ≡ InRendez rendez → Stays
 
 -- a process that leaves has a cause, or notes
-abbrev pub MayLeave : State → List Deed → ℕ → Type 0
+abbrev pub MayLeave : State → List Effect → ℕ → Type 0
 MayLeave s history pid = IsCaused history pid ⊎ (has_notes (flags_of s pid).notes ≡ true)
 
 -- a process that wants to leave, or has withdrawn: where its token is, and why it may leave
-pub record Leaves (s : State) (history : List Deed) (pid : ℕ) (Place : Type 0) : Type 0 where
+pub record Leaves (s : State) (history : List Effect) (pid : ℕ) (Place : Type 0) : Type 0 where
   -- where its token is
   pub place : Place
   -- it has a cause to leave, or notes
   pub may_leave : MayLeave s history pid
 
 -- a process with an unfinished wakeup
-pub record Raises (s : State) (history : List Deed) (pid rendez level : ℕ) : Type 0 where
+pub record Raises (s : State) (history : List Effect) (pid rendez level : ℕ) : Type 0 where
   -- a process in a wakeup is in no sleep of its own
   pub nowhere : token history pid ≡ Nowhere
   -- this is the newest wakeup that it began
@@ -71,7 +71,7 @@ pub record Raises (s : State) (history : List Deed) (pid rendez level : ℕ) : T
   pub low : level ≤ level_of s rendez
 
 -- and one that holds a sleeper: whoever fell asleep in the Rendez since then was above its level
-pub record Holds (s : State) (history : List Deed) (pid sleeper rendez level : ℕ) : Type 0 where
+pub record Holds (s : State) (history : List Effect) (pid sleeper rendez level : ℕ) : Type 0 where
   -- its wakeup is not over
   pub raises : Raises s history pid rendez level
   -- it has the token of the sleeper that it holds
@@ -82,7 +82,7 @@ pub record Holds (s : State) (history : List Deed) (pid sleeper rendez level : �
   pub below : (other above : ℕ) → HasFallen history other rendez above → level ≤ above
 
 -- what the phase of a process says
-abbrev pub Fits : State → List Deed → ℕ → Phase → Type 0
+abbrev pub Fits : State → List Effect → ℕ → Phase → Type 0
 Fits s history pid phase.Idle = token history pid ≡ Nowhere
 Fits s history pid (phase.Posted rendez threshold) =
     Sleeps history pid rendez.0 (IsStillIn history pid rendez.0 threshold)
@@ -111,7 +111,7 @@ pub record IsShown (s : State) (pid rendez threshold : ℕ) : Type 0 where
   pub at_threshold : IsAtThreshold threshold (phase_of s pid)
 
 -- all of it: the words are those of the history, each process fits its phase, and the promises hold
-pub record Core (s : State) (history : List Deed) : Type 0 where
+pub record Core (s : State) (history : List Effect) : Type 0 where
   -- what the words and the phases name is there
   pub sound : IsSound s
   -- each process fits its phase

@@ -11,7 +11,7 @@ use Rattle.sleep_core.specs.State.{State, IsPhaseIn, opening, phase_of, flags_of
 use Rattle.sleep_core.specs.State.{no_flags}
 use Rattle.sleep_core.specs.Step.{world_after}
 use Rattle.sleep_core.specs.Runs.{Entry, IsRun, world_of}
-use Rattle.sleep_core.specs.History.{Deed, deed_of, history_of}
+use Rattle.sleep_core.specs.History.{Effect, effect_of, history_of}
 use Rattle.sleep_core.specs.Promises.{HasFallen}
 use Rattle.sleep_core.proofs.CoreInvariant.{Fits, Core}
 use Rattle.sleep_core.proofs.Moves.{Move}
@@ -73,8 +73,9 @@ core_at_opening procs rendez =
         cc
 
 -- every move keeps it
-core_kept : (s : State) (h : List Deed) {deed : Option Deed} {after : State} → Move s deed after
-    → Core s h → Core after (cons_option deed h)
+core_kept : (s : State) (h : List Effect) {effect : Option Effect} {after : State}
+    → Move s effect after
+    → Core s h → Core after (cons_option effect h)
 core_kept s h stays core = core
 core_kept s h (post_posted {pid = pid} {rendez = rendez} {threshold = threshold} in_range idle there
     free) core =
@@ -118,12 +119,13 @@ pub core_of_run : (procs rendez : ℕ) (past : List Entry) → IsRun procs rende
 core_of_run procs rendez [] run = core_at_opening procs rendez
 core_of_run procs rendez (entry ∷ past) run =
     subst (λ told. Core (world_after (world_of procs rendez past) entry.event)
-    (cons_option (deed_of told entry.event) (history_of past))) (sym run.1.answered)
+    (cons_option (effect_of told entry.event) (history_of past))) (sym run.1.answered)
     (core_kept (world_of procs rendez past) (history_of past)
     (table_moves (world_of procs rendez past) entry.event) (core_of_run procs rendez past run.0))
 
 -- whoever is asleep and posted has fallen asleep in this sleep
-pub fallen_at : (s : State) (h : List Deed) (pid : ℕ) (rendez : RendezId) (threshold : ℕ) → Core s h
+pub fallen_at : (s : State) (h : List Effect) (pid : ℕ) (rendez : RendezId) (threshold : ℕ)
+    → Core s h
     → phase_of s pid ≡ phase.Asleep rendez threshold → posted_of s rendez.0 ≡ pid + 1
     → HasFallen h pid rendez.0 threshold
 fallen_at s h pid rendez threshold core at posted = fit.stays (core.posted rendez.0 pid posted)

@@ -8,9 +8,10 @@ use Rattle.sleep_core.specs.declared.phase.Phase.{Phase}
 use Rattle.sleep_core.specs.declared.phase.Phase.TheVariants as phase
 use Rattle.sleep_core.specs.State.{State, phase_of, flags_of, level_of, no_flags}
 use Rattle.sleep_core.specs.Table.{has_notes}
-use Rattle.sleep_core.specs.History.{Deed, begun_wakeup}
-use Rattle.sleep_core.specs.History.Deed.{Began, Passed, Fell, Roused, Withdrew, Left, Raised, Took}
-use Rattle.sleep_core.specs.History.Deed.{Marked}
+use Rattle.sleep_core.specs.History.{Effect, begun_wakeup}
+use Rattle.sleep_core.specs.History.Effect.{Began, Passed, Fell, Roused, Withdrew, Left, Raised}
+use Rattle.sleep_core.specs.History.Effect.{Took}
+use Rattle.sleep_core.specs.History.Effect.{Marked}
 use Rattle.sleep_core.specs.Promises.{IsStillIn, HasFallen, IsHeld, IsCaused}
 use Rattle.sleep_core.proofs.ListLemmas.{get_or-set_cases}
 use Rattle.sleep_core.proofs.CoreInvariant.{Token, token, IsAway, IsNear, MayLeave, Raises, Fits}
@@ -44,7 +45,7 @@ same_or_not p a = by_test (eqb_tells p a)
     by_test (inr there) = inr there.1
 
 -- processes whose tokens are in different places are different
-pub apart : (h : List Deed) (p q : ℕ) (x y : Token) → token h p ≡ x → token h q ≡ y → (x ≡ y → ⊥)
+pub apart : (h : List Effect) (p q : ℕ) (x y : Token) → token h p ≡ x → token h q ≡ y → (x ≡ y → ⊥)
     → p ≢ q
 apart h p q x y at_p at_q differ same = differ (sym at_p ∙ (ap (token h) same ∙ at_q))
 
@@ -62,12 +63,12 @@ threshold_kept s mover stage pid threshold own old =
     by_place (inr there) = subst (IsAtThreshold threshold) (sym there) old
 
 -- what the phase of a process says, at a phase that is known
-pub fits_at : (s : State) (h : List Deed) (pid : ℕ) (stage : Phase) → Core s h
+pub fits_at : (s : State) (h : List Effect) (pid : ℕ) (stage : Phase) → Core s h
     → phase_of s pid ≡ stage → Fits s h pid stage
 fits_at s h pid stage core at = subst (Fits s h pid) at (core.fits pid)
 
 -- every process fits, once the one that moved does and each other does in the phase that it had
-pub fits_each : (before after : State) (h : List Deed) (mover : ℕ) (stage : Phase)
+pub fits_each : (before after : State) (h : List Effect) (mover : ℕ) (stage : Phase)
     → mover < length before.phases → Fits after h mover stage
     → ((pid : ℕ) → pid ≢ mover → Fits after h pid (phase_of before pid)) → (pid : ℕ)
     → Fits after h pid (get_or (set before.phases mover stage) pid phase.Idle)
@@ -85,7 +86,7 @@ fits_each before after h mover stage in_range own others pid = by_pid (same_or_n
         (others pid differ)
 
 -- what a step leaves true for this process
-pub record Frame (before after : State) (h later : List Deed) (pid : ℕ) : Type 0 where
+pub record Frame (before after : State) (h later : List Effect) (pid : ℕ) : Type 0 where
   -- its token is where it was
   pub same_token : token later pid ≡ token h pid
   -- a sleep that went on goes on
@@ -110,30 +111,30 @@ pub record Frame (before after : State) (h later : List Deed) (pid : ℕ) : Type
   pub newly : (rendez other above : ℕ) → HasFallen later other rendez above
       → HasFallen h other rendez above ⊎ (level_of before rendez ≤ above)
 
--- the deed moves the token of this process
-abbrev pub MovesToken : ℕ → Deed → Type 0
+-- the effect moves the token of this process
+abbrev pub MovesToken : ℕ → Effect → Type 0
 MovesToken pid (Began by rendez threshold) = by ≡ pid
 MovesToken pid (Withdrew by) = by ≡ pid
 MovesToken pid (Left by notes) = by ≡ pid
 MovesToken pid (Took by sleeper) = sleeper ≡ pid
 MovesToken pid (Marked by sleeper) = sleeper ≡ pid
-MovesToken pid deed = ⊥
+MovesToken pid effect = ⊥
 
--- the deed moves its token, or begins a wakeup of it
-abbrev pub IsAbout : ℕ → Deed → Type 0
+-- the effect moves its token, or begins a wakeup of it
+abbrev pub IsAbout : ℕ → Effect → Type 0
 IsAbout pid (Raised by rendez level) = by ≡ pid
-IsAbout pid deed = MovesToken pid deed
+IsAbout pid effect = MovesToken pid effect
 
--- who falls asleep with the deed has a threshold that the level is not above
-abbrev pub FallsAbove : State → List Deed → Deed → Type 0
+-- who falls asleep with the effect has a threshold that the level is not above
+abbrev pub FallsAbove : State → List Effect → Effect → Type 0
 FallsAbove s h (Fell by) = (rendez other threshold : ℕ)
     → (by ≡ other) × IsStillIn h other rendez threshold
     → level_of s rendez ≤ threshold
-FallsAbove s h deed = Unit {0}
+FallsAbove s h effect = Unit {0}
 
--- a token that a deed does not move stays
-same_token_past : (h : List Deed) (deed : Deed) (pid : ℕ) → (MovesToken pid deed → ⊥)
-    → token (deed ∷ h) pid ≡ token h pid
+-- a token that an effect does not move stays
+same_token_past : (h : List Effect) (effect : Effect) (pid : ℕ) → (MovesToken pid effect → ⊥)
+    → token (effect ∷ h) pid ≡ token h pid
 same_token_past h (Began by rendez threshold) pid other =
     if_other by pid (InRendez rendez) (token h pid) (λ same. other (sym same))
 same_token_past h (Withdrew by) pid other =
@@ -144,58 +145,58 @@ same_token_past h (Took by sleeper) pid other =
     if_other sleeper pid (WithRaiser by) (token h pid) (λ same. other (sym same))
 same_token_past h (Marked by sleeper) pid other =
     if_other sleeper pid InFlags (token h pid) (λ same. other (sym same))
-same_token_past h deed pid other = refl
+same_token_past h effect pid other = refl
 
 -- so do its sleep, its fall and its cause
-still_in_past : (h : List Deed) (deed : Deed) (pid rendez threshold : ℕ)
-    → (MovesToken pid deed → ⊥) → IsStillIn h pid rendez threshold
-    → IsStillIn (deed ∷ h) pid rendez threshold
+still_in_past : (h : List Effect) (effect : Effect) (pid rendez threshold : ℕ)
+    → (MovesToken pid effect → ⊥) → IsStillIn h pid rendez threshold
+    → IsStillIn (effect ∷ h) pid rendez threshold
 still_in_past h (Began by at above) pid rendez threshold other still = inr still
 still_in_past h (Withdrew by) pid rendez threshold other still = (other, still)
 still_in_past h (Left by notes) pid rendez threshold other still = (other, still)
 still_in_past h (Took by sleeper) pid rendez threshold other still = (other, still)
-still_in_past h deed pid rendez threshold other still = still
+still_in_past h effect pid rendez threshold other still = still
 
-fallen_past : (h : List Deed) (deed : Deed) (pid rendez threshold : ℕ)
-    → (MovesToken pid deed → ⊥) → HasFallen h pid rendez threshold
-    → HasFallen (deed ∷ h) pid rendez threshold
+fallen_past : (h : List Effect) (effect : Effect) (pid rendez threshold : ℕ)
+    → (MovesToken pid effect → ⊥) → HasFallen h pid rendez threshold
+    → HasFallen (effect ∷ h) pid rendez threshold
 fallen_past h (Fell by) pid rendez threshold other fell = inr fell
 fallen_past h (Withdrew by) pid rendez threshold other fell = (other, fell)
 fallen_past h (Left by notes) pid rendez threshold other fell = (other, fell)
 fallen_past h (Took by sleeper) pid rendez threshold other fell = (other, fell)
-fallen_past h deed pid rendez threshold other fell = fell
+fallen_past h effect pid rendez threshold other fell = fell
 
-caused_past : (h : List Deed) (deed : Deed) (pid : ℕ) → (MovesToken pid deed → ⊥)
-    → IsCaused h pid → IsCaused (deed ∷ h) pid
+caused_past : (h : List Effect) (effect : Effect) (pid : ℕ) → (MovesToken pid effect → ⊥)
+    → IsCaused h pid → IsCaused (effect ∷ h) pid
 caused_past h (Passed by) pid other cause = inr cause
 caused_past h (Roused by) pid other cause = inr cause
 caused_past h (Began by rendez threshold) pid other cause = (other, cause)
-caused_past h deed pid other cause = cause
+caused_past h effect pid other cause = cause
 
 -- and the wakeup that it has begun
-begun_past : (h : List Deed) (deed : Deed) (pid : ℕ) → (IsAbout pid deed → ⊥)
-    → begun_wakeup pid (deed ∷ h) ≡ begun_wakeup pid h
+begun_past : (h : List Effect) (effect : Effect) (pid : ℕ) → (IsAbout pid effect → ⊥)
+    → begun_wakeup pid (effect ∷ h) ≡ begun_wakeup pid h
 begun_past h (Raised by rendez level) pid other =
     if_other by pid (Some (record { rendez = rendez; level = level })) (begun_wakeup pid h)
     (λ same. other (sym same))
-begun_past h deed pid other = refl
+begun_past h effect pid other = refl
 
 -- what is about no process moves no token of it
-not_moved : (deed : Deed) (pid : ℕ) → (IsAbout pid deed → ⊥) → MovesToken pid deed → ⊥
+not_moved : (effect : Effect) (pid : ℕ) → (IsAbout pid effect → ⊥) → MovesToken pid effect → ⊥
 not_moved (Raised by rendez level) pid other moves = moves
-not_moved deed pid other moves = other moves
+not_moved effect pid other moves = other moves
 
 -- whom it holds it holds still
-held_past : (h : List Deed) (deed : Deed) (pid sleeper : ℕ) → (MovesToken sleeper deed → ⊥)
-    → IsHeld h pid sleeper → IsHeld (deed ∷ h) pid sleeper
+held_past : (h : List Effect) (effect : Effect) (pid sleeper : ℕ) → (MovesToken sleeper effect → ⊥)
+    → IsHeld h pid sleeper → IsHeld (effect ∷ h) pid sleeper
 held_past h (Took by taken) pid sleeper other held = inr held
 held_past h (Marked by taken) pid sleeper other held = (other, held)
 held_past h (Left by notes) pid sleeper other held = (other, held)
-held_past h deed pid sleeper other held = held
+held_past h effect pid sleeper other held = held
 
 -- who has fallen asleep had done so before, or falls now
-newly_past : (s : State) (h : List Deed) (deed : Deed) (rendez other threshold : ℕ)
-    → FallsAbove s h deed → HasFallen (deed ∷ h) other rendez threshold
+newly_past : (s : State) (h : List Effect) (effect : Effect) (rendez other threshold : ℕ)
+    → FallsAbove s h effect → HasFallen (effect ∷ h) other rendez threshold
     → HasFallen h other rendez threshold ⊎ (level_of s rendez ≤ threshold)
 newly_past s h (Fell by) rendez other threshold above fell = by_fall fell
   where
@@ -207,39 +208,41 @@ newly_past s h (Fell by) rendez other threshold above fell = by_fall fell
 newly_past s h (Withdrew by) rendez other threshold above fell = inl fell.1
 newly_past s h (Left by notes) rendez other threshold above fell = inl fell.1
 newly_past s h (Took by sleeper) rendez other threshold above fell = inl fell.1
-newly_past s h deed rendez other threshold above fell = inl fell
+newly_past s h effect rendez other threshold above fell = inl fell
 
--- What a deed leaves true of a process that it is not about, and which holds nobody whose token
+-- What an effect leaves true of a process that it is not about, and which holds nobody whose token
 -- moves.
-pub frame_past : (before after : State) (h : List Deed) (deed : Deed) (pid : ℕ)
-    → (IsAbout pid deed → ⊥)
-    → ((sleeper : ℕ) → MovesToken sleeper deed → token h sleeper ≡ WithRaiser pid → ⊥)
-    → FallsAbove before h deed
+pub frame_past : (before after : State) (h : List Effect) (effect : Effect) (pid : ℕ)
+    → (IsAbout pid effect → ⊥)
+    → ((sleeper : ℕ) → MovesToken sleeper effect → token h sleeper ≡ WithRaiser pid → ⊥)
+    → FallsAbove before h effect
     → (has_notes (flags_of before pid).notes ≡ true
     → has_notes (flags_of after pid).notes ≡ true)
     → ((rendez : ℕ) → level_of before rendez ≤ level_of after rendez)
-    → Frame before after h (deed ∷ h) pid
-frame_past before after h deed pid other not_held above noted level =
+    → Frame before after h (effect ∷ h) pid
+frame_past before after h effect pid other not_held above noted level =
     record {
-      same_token = same_token_past h deed pid unmoved;
-      still_in = λ rendez threshold still. still_in_past h deed pid rendez threshold unmoved still;
-      fallen = λ rendez threshold fell. fallen_past h deed pid rendez threshold unmoved fell;
-      caused = caused_past h deed pid unmoved;
+      same_token = same_token_past h effect pid unmoved;
+      still_in = λ rendez threshold still. still_in_past h effect pid rendez threshold unmoved
+          still;
+      fallen = λ rendez threshold fell. fallen_past h effect pid rendez threshold unmoved fell;
+      caused = caused_past h effect pid unmoved;
       noted = noted;
-      begun = begun_past h deed pid other;
+      begun = begun_past h effect pid other;
       level = level;
       held = λ sleeper with_raiser held. (
-        same_token_past h deed sleeper (λ moves. not_held sleeper moves with_raiser) ∙ with_raiser,
-        held_past h deed pid sleeper (λ moves. not_held sleeper moves with_raiser) held,
+        same_token_past h effect sleeper (λ moves. not_held sleeper moves with_raiser)
+            ∙ with_raiser,
+        held_past h effect pid sleeper (λ moves. not_held sleeper moves with_raiser) held,
       );
-      newly = λ rendez x threshold fell. newly_past before h deed rendez x threshold above fell;
+      newly = λ rendez x threshold fell. newly_past before h effect rendez x threshold above fell;
     }
   where
-    unmoved : MovesToken pid deed → ⊥
-    unmoved = not_moved deed pid other
+    unmoved : MovesToken pid effect → ⊥
+    unmoved = not_moved effect pid other
 
--- and what a step without a deed leaves true of each
-pub frame_quiet : (before after : State) (h : List Deed) (pid : ℕ)
+-- and what a step without an effect leaves true of each
+pub frame_quiet : (before after : State) (h : List Effect) (pid : ℕ)
     → after.flags ≡ before.flags → after.levels ≡ before.levels → Frame before after h h pid
 frame_quiet before after h pid same_flags same_levels =
     record {
@@ -254,12 +257,12 @@ frame_quiet before after h pid same_flags same_levels =
       newly = λ rendez x threshold fell. inl fell;
     }
 
-may_leave_kept : (before after : State) (h later : List Deed) (pid : ℕ)
+may_leave_kept : (before after : State) (h later : List Effect) (pid : ℕ)
     → Frame before after h later pid → MayLeave before h pid → MayLeave after later pid
 may_leave_kept before after h later pid frame (inl cause) = inl (frame.caused cause)
 may_leave_kept before after h later pid frame (inr notes) = inr (frame.noted notes)
 
-raises_kept : (before after : State) (h later : List Deed) (pid rendez level : ℕ)
+raises_kept : (before after : State) (h later : List Effect) (pid rendez level : ℕ)
     → Frame before after h later pid → Raises before h pid rendez level
     → Raises after later pid rendez level
 raises_kept before after h later pid rendez level frame raises =
@@ -272,8 +275,8 @@ raises_kept before after h later pid rendez level frame raises =
     at_most : {a b c : ℕ} → a ≤ b → b ≤ c → a ≤ c
     at_most h₁ h₂ = omega arith
 
--- a process that a deed is not about fits its phase as it did
-pub fits_kept : (before after : State) (h later : List Deed) (pid : ℕ)
+-- a process that an effect is not about fits its phase as it did
+pub fits_kept : (before after : State) (h later : List Effect) (pid : ℕ)
     → Frame before after h later pid → (stage : Phase) → Fits before h pid stage
     → Fits after later pid stage
 fits_kept before after h later pid frame phase.Idle fit = frame.same_token ∙ fit
@@ -325,7 +328,7 @@ near_away rendez (WithRaiser raiser) away = tt
 near_away rendez InFlags away = tt
 
 -- so does a sleeper whose token a wakeup has now, in each phase in which it can be
-pub fits_moved : (before after : State) (h later : List Deed) (pid : ℕ) → token h pid ≢ Nowhere
+pub fits_moved : (before after : State) (h later : List Effect) (pid : ℕ) → token h pid ≢ Nowhere
     → token h pid ≢ InFlags → IsAway (token later pid) → (IsCaused h pid → IsCaused later pid)
     → (has_notes (flags_of before pid).notes ≡ true → has_notes (flags_of after pid).notes ≡ true)
     → (stage : Phase) → Fits before h pid stage → Fits after later pid stage

@@ -7,20 +7,21 @@ use Rattle.sleep_core.specs.declared.event.Event.TheVariants.{Check}
 use Rattle.sleep_core.specs.declared.answer.Answer.{Answer}
 use Rattle.sleep_core.specs.declared.answer.Answer.TheVariants as answer
 use Rattle.sleep_core.specs.Runs.{kept, is_kept, own}
-use Rattle.sleep_core.specs.History.{Deed, deed_of, history_of, HasReturned}
+use Rattle.sleep_core.specs.History.{Effect, effect_of, history_of, HasReturned}
 use Rattle.sleep_core.specs.Laws.{HistoryByKeptEvents, ReturnsByKeptEvents}
 use Rattle.sleep_core.proofs.OwnWakeups.{returns_by_own_events}
 
--- what is not kept is no deed
-no_deed : (told : Answer) (event : Event) → is_kept told event ≡ false → deed_of told event ≡ None
-no_deed answer.Posted (Check pid) lost = refl
-no_deed answer.Released event lost = refl
-no_deed answer.Parked event lost = refl
-no_deed answer.NoProc event lost = refl
-no_deed answer.Refused event lost = refl
-no_deed answer.NoRendez event lost = refl
-no_deed answer.BadLevel event lost = refl
-no_deed told event lost = cc
+-- what is not kept is no effect
+no_effect : (told : Answer) (event : Event) → is_kept told event ≡ false → effect_of told event
+    ≡ None
+no_effect answer.Posted (Check pid) lost = refl
+no_effect answer.Released event lost = refl
+no_effect answer.Parked event lost = refl
+no_effect answer.NoProc event lost = refl
+no_effect answer.Refused event lost = refl
+no_effect answer.NoRendez event lost = refl
+no_effect answer.BadLevel event lost = refl
+no_effect told event lost = cc
 
 -- so the history is that of what is kept
 pub history_of-kept : HistoryByKeptEvents
@@ -31,11 +32,11 @@ history_of-kept (entry ∷ past) =
     by_test : history_of (kept past) ≡ history_of past → (b : Bool)
         → is_kept entry.answer entry.event ≡ b
         → history_of (cond b (entry ∷ kept past) (kept past))
-        ≡ cons_option (deed_of entry.answer entry.event) (history_of past)
-    by_test before true is = ap (cons_option (deed_of entry.answer entry.event)) before
+        ≡ cons_option (effect_of entry.answer entry.event) (history_of past)
+    by_test before true is = ap (cons_option (effect_of entry.answer entry.event)) before
     by_test before false is =
-        before ∙ sym (ap (λ (deed : Option Deed). cons_option deed (history_of past))
-        (no_deed entry.answer entry.event is))
+        before ∙ sym (ap (λ (effect : Option Effect). cons_option effect (history_of past))
+        (no_effect entry.answer entry.event is))
 
 -- a receipt in what is kept of a trace is a receipt in the run
 pub returns_by_kept_events : ReturnsByKeptEvents

@@ -13,8 +13,8 @@ use Rattle.sleep_core.specs.declared.phase.ProcFlags.{ProcFlags}
 use Rattle.sleep_core.specs.State.{State, IsPhaseIn, phase_of, flags_of, posted_of, no_flags}
 use Rattle.sleep_core.specs.Table.{has_notes}
 use Rattle.sleep_core.specs.Step.{with_phase, with_flags, with_posted}
-use Rattle.sleep_core.specs.History.{Deed}
-use Rattle.sleep_core.specs.History.Deed.{Withdrew, Left}
+use Rattle.sleep_core.specs.History.{Effect}
+use Rattle.sleep_core.specs.History.Effect.{Withdrew, Left}
 use Rattle.sleep_core.specs.Promises.{IsStillIn, IsCaused, pending, IsRightEnding}
 use Rattle.sleep_core.specs.Promises.{EachSleepIsCaused}
 use Rattle.sleep_core.proofs.Soundness.{IsSound-with_phase, IsSound-with_flags, IsSound-with_posted}
@@ -25,7 +25,7 @@ use Rattle.sleep_core.proofs.Frames.{if_same, if_other, same_or_not, apart, thre
 use Rattle.sleep_core.proofs.Frames.{fits_each, Frame, frame_past, fits_kept}
 
 -- a withdrawal of a process that is still posted
-pub withdraw_out_keeps : (s : State) (h : List Deed) (pid : ℕ) (rendez : RendezId)
+pub withdraw_out_keeps : (s : State) (h : List Effect) (pid : ℕ) (rendez : RendezId)
     → pid < length s.phases → phase_of s pid ≡ phase.Leaving rendez → posted_of s rendez.0 ≡ pid + 1
     → Core s h → Core (with_phase (with_posted s rendez.0 0) pid phase.Out) (Withdrew pid ∷ h)
 withdraw_out_keeps s h pid rendez in_range at mine core =
@@ -53,7 +53,7 @@ withdraw_out_keeps s h pid rendez in_range at mine core =
     after : State
     after = with_phase taken pid phase.Out
 
-    later : List Deed
+    later : List Effect
     later = Withdrew pid ∷ h
 
     has_rendez : rendez.0 < length s.posted
@@ -104,7 +104,7 @@ has_notes-none : (notes : NoteSet) → has_notes notes ≡ false → notes ≡ n
 has_notes-none notes none = grind (arith, nat_tests)
 
 -- the end of a sleep, after a withdrawal or a mark
-pub clear_keeps : (s : State) (h : List Deed) (pid : ℕ) (stage : Phase) → pid < length s.phases
+pub clear_keeps : (s : State) (h : List Effect) (pid : ℕ) (stage : Phase) → pid < length s.phases
     → phase_of s pid ≡ stage → IsOver stage → Core s h
     → Core (with_phase (with_flags s pid no_flags) pid phase.Idle)
     (Left pid (ending_notes (flags_of s pid).notes) ∷ h)
@@ -141,7 +141,7 @@ clear_keeps s h pid stage in_range at over core =
     after : State
     after = with_phase cleared pid phase.Idle
 
-    later : List Deed
+    later : List Effect
     later = Left pid (ending_notes notes) ∷ h
 
     has_flags : pid < length s.flags

@@ -2,8 +2,8 @@ pub mod ListLemmas
 pub mod Soundness
 pub mod ClearLemmas
 pub mod RunSteps
-pub mod LocalLemmas
-pub mod TableRows
+pub mod LocalityLemmas
+pub mod EventTableLemmas
 pub mod OwnEvents
 pub mod CoreInvariant
 pub mod Moves
@@ -22,9 +22,9 @@ mod WorkedLimits
 mod WorkedPlaces
 mod WorkedRuns
 pub mod PlacesKept
-pub mod WhereaboutsLemmas
+pub mod SleepPlaceLemmas
 pub mod KeptHistory
 pub mod OwnWakeups
 pub mod OwnCauses
-pub mod OversleepLemmas
+pub mod LostWakeupLemmas
 pub mod NewestWakeup

@@ -10,9 +10,9 @@ use Rattle.sleep_core.specs.declared.phase.Phase.TheVariants as phase
 use Rattle.sleep_core.specs.State.{State, phase_of, flags_of, posted_of, level_of, no_flags}
 use Rattle.sleep_core.specs.Table.{has_notes}
 use Rattle.sleep_core.specs.Step.{with_phase, with_flags, with_posted, with_level, with_returned}
-use Rattle.sleep_core.specs.History.{Deed}
-use Rattle.sleep_core.specs.History.Deed.{Began, Passed, Fell, Roused, Withdrew, Left, Raised}
-use Rattle.sleep_core.specs.History.Deed.{Missed, Took, Marked, Noted, Drained}
+use Rattle.sleep_core.specs.History.{Effect}
+use Rattle.sleep_core.specs.History.Effect.{Began, Passed, Fell, Roused, Withdrew, Left, Raised}
+use Rattle.sleep_core.specs.History.Effect.{Missed, Took, Marked, Noted, Drained}
 
 -- the phases in which a mark is waited for
 abbrev pub IsWaiting : Phase → Type 0
@@ -30,8 +30,8 @@ IsOver stage = ⊥
 abbrev pub ending_notes : NoteSet → Option NoteSet
 ending_notes notes = if has_notes notes then Some notes else None
 
--- a row of the table that was answered: what held before, the deed that it shows, the world after
-pub data Move (s : State) : Option Deed → State → Type 0 where
+-- a row of the table that was answered: what held before, the effect that it shows, the world after
+pub data Move (s : State) : Option Effect → State → Type 0 where
   stays : Move s None s
   post_posted : {pid : ℕ} {rendez : RendezId} {threshold : ℕ} → pid < length s.phases
       → phase_of s pid ≡ phase.Idle → rendez.0 < length s.posted → posted_of s rendez.0 ≡ 0

@@ -8,9 +8,9 @@ use Rattle.sleep_core.specs.State.{State, opening, phase_of, posted_of}
 use Rattle.sleep_core.specs.Table.{pid_of}
 use Rattle.sleep_core.specs.Runs.{Entry, IsMadeBy, IsRun, world_of, entry_of, run_of}
 use Rattle.sleep_core.specs.Runs.{world_after_all}
-use Rattle.sleep_core.specs.History.{Deed, history_of}
+use Rattle.sleep_core.specs.History.{Effect, history_of}
 use Rattle.sleep_core.specs.Promises.{LosesWakeup, TakesAreRight}
-use Rattle.sleep_core.specs.Oversleep.{Oversleeps}
+use Rattle.sleep_core.specs.LostWakeup.{Oversleeps}
 use Rattle.sleep_core.specs.Laws.{IsKept, NoLostWakeup, NoLostWakeupInEvents, EventsMakeRuns}
 use Rattle.sleep_core.specs.Laws.{ReturnedWakeupReleases, SleepsEndForACause, RunsAreSound}
 use Rattle.sleep_core.proofs.SizeLemmas.{size_of_run}
@@ -19,7 +19,7 @@ use Rattle.sleep_core.proofs.CoreRuns.{core_of_run, fallen_at}
 use Rattle.sleep_core.proofs.TakesKept.{takes_are_right}
 
 -- nobody oversleeps
-nobody_oversleeps_in : (s : State) (h : List Deed) (pid : ℕ) (stage : Phase) → Core s h
+nobody_oversleeps_in : (s : State) (h : List Effect) (pid : ℕ) (stage : Phase) → Core s h
     → phase_of s pid ≡ stage → Oversleeps s pid stage → ⊥
 nobody_oversleeps_in s h pid (phase.Asleep rendez threshold) core at left =
     let low = core.fallen pid rendez.0 threshold (fallen_at s h pid rendez threshold core at left.0)
@@ -27,7 +27,7 @@ nobody_oversleeps_in s h pid (phase.Asleep rendez threshold) core at left =
     omega (arith, left.1)
 nobody_oversleeps_in s h pid stage core at left = absurd left
 
-kept_by_core : (s : State) (h : List Deed) → Core s h → TakesAreRight h → IsKept h s
+kept_by_core : (s : State) (h : List Effect) → Core s h → TakesAreRight h → IsKept h s
 kept_by_core s h core right =
     record {
       none_lost = λ lost. not_lost lost;

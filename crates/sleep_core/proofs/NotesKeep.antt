@@ -10,8 +10,8 @@ use Rattle.sleep_core.specs.declared.phase.ProcFlags.{ProcFlags}
 use Rattle.sleep_core.specs.State.{State, phase_of, flags_of, no_flags}
 use Rattle.sleep_core.specs.Table.{has_notes}
 use Rattle.sleep_core.specs.Step.{with_flags}
-use Rattle.sleep_core.specs.History.{Deed}
-use Rattle.sleep_core.specs.History.Deed.{Noted, Drained}
+use Rattle.sleep_core.specs.History.{Effect}
+use Rattle.sleep_core.specs.History.Effect.{Noted, Drained}
 use Rattle.sleep_core.specs.Promises.{pending}
 use Rattle.sleep_core.proofs.Soundness.{IsSound-with_flags}
 use Rattle.sleep_core.proofs.CoreInvariant.{token, Fits, Core}
@@ -23,7 +23,7 @@ has_notes-joined : (old new : NoteSet) → has_notes old ≡ true → has_notes 
 has_notes-joined old new some = grind (arith, nat_tests)
 
 -- notes that come to a process
-pub note_keeps : (s : State) (h : List Deed) (pid : ℕ) (new : NoteSet) → pid < length s.phases
+pub note_keeps : (s : State) (h : List Effect) (pid : ℕ) (new : NoteSet) → pid < length s.phases
     → Core s h
     → Core (with_flags s pid
     (record { wake = (flags_of s pid).wake; notes = joined (flags_of s pid).notes new }))
@@ -53,7 +53,7 @@ note_keeps s h pid new in_range core =
     after : State
     after = with_flags s pid noted
 
-    later : List Deed
+    later : List Effect
     later = Noted pid new ∷ h
 
     has_flags : pid < length s.flags
@@ -97,7 +97,7 @@ note_keeps s h pid new in_range core =
         (kept p (same_or_not p pid)) (λ r. omega arith)
 
 -- notes that a process takes outside a sleep
-pub drain_keeps : (s : State) (h : List Deed) (pid : ℕ) → pid < length s.phases
+pub drain_keeps : (s : State) (h : List Effect) (pid : ℕ) → pid < length s.phases
     → phase_of s pid ≡ phase.Idle → Core s h
     → Core (with_flags s pid no_flags) (Drained pid (flags_of s pid).notes ∷ h)
 drain_keeps s h pid in_range idle core =
@@ -122,7 +122,7 @@ drain_keeps s h pid in_range idle core =
     after : State
     after = with_flags s pid no_flags
 
-    later : List Deed
+    later : List Effect
     later = Drained pid (flags_of s pid).notes ∷ h
 
     has_flags : pid < length s.flags

@@ -15,7 +15,7 @@ use Rattle.sleep_core.specs.State.{State, phase_of}
 use Rattle.sleep_core.specs.Table.{phase_after}
 use Rattle.sleep_core.specs.Step.{answer_to, world_after}
 use Rattle.sleep_core.specs.Runs.{Entry, IsMadeBy, IsRun, world_of, own, kept, is_kept, phase_by}
-use Rattle.sleep_core.proofs.LocalLemmas.{phase_of-world_after, phase_of-world_after_other}
+use Rattle.sleep_core.proofs.LocalityLemmas.{phase_of-world_after, phase_of-world_after_other}
 
 -- nobody has moved at the opening
 idle_at_opening : (procs pid : ℕ) → phase.Idle ≡ get_or (replicate procs phase.Idle) pid phase.Idle

@@ -16,9 +16,9 @@ use Rattle.sleep_core.specs.declared.phase.ProcFlags.{ProcFlags}
 use Rattle.sleep_core.specs.State.{State, IsPhaseIn, phase_of, flags_of, no_flags}
 use Rattle.sleep_core.specs.Step.{with_phase, with_flags, with_posted, with_returned, world_after}
 use Rattle.sleep_core.specs.Runs.{Entry, IsRun, world_of}
-use Rattle.sleep_core.specs.History.{Deed, deed_of, history_of}
-use Rattle.sleep_core.specs.History.Deed.{Left, Took, Marked, Noted, Drained}
-use Rattle.sleep_core.specs.Whereabouts.{IsHolding}
+use Rattle.sleep_core.specs.History.{Effect, effect_of, history_of}
+use Rattle.sleep_core.specs.History.Effect.{Left, Took, Marked, Noted, Drained}
+use Rattle.sleep_core.specs.SleepPlaces.{IsHolding}
 use Rattle.sleep_core.proofs.CoreInvariant.{Token, token, Core}
 use Rattle.sleep_core.proofs.CoreInvariant.Token.{Nowhere, InRendez, WithRaiser, InFlags}
 use Rattle.sleep_core.proofs.Moves.{Move, IsWaiting, IsOver, ending_notes}
@@ -32,7 +32,7 @@ use Rattle.sleep_core.proofs.TokenLemmas.{token_elsewhere}
 use Rattle.sleep_core.proofs.CoreRuns.{core_of_run}
 
 -- whose token is in its flags has its mark, and whose token a raiser has is held by it
-pub record Placed (s : State) (h : List Deed) : Type 0 where
+pub record Placed (s : State) (h : List Effect) : Type 0 where
   -- a process whose token is in its flags has its mark set
   pub marked : (pid : ℕ) → token h pid ≡ InFlags → (flags_of s pid).wake ≡ true
   -- a process whose token a raiser has is the one that the raiser's phase names
@@ -54,7 +54,7 @@ not_mover s mover stage pid raiser at holds_none holds same =
     holds_none (subst (IsHolding pid) (ap (phase_of s) same ∙ at) holds)
 
 -- a step of a process that holds nobody leaves the others as they were held
-held_by_others : (s : State) (h : List Deed) (mover : ℕ) (from stage : Phase)
+held_by_others : (s : State) (h : List Effect) (mover : ℕ) (from stage : Phase)
     → phase_of s mover ≡ from → ((pid : ℕ) → IsHolding pid from → ⊥) → Placed s h
     → (pid raiser : ℕ) → token h pid ≡ WithRaiser raiser
     → IsHolding pid (get_or (set s.phases mover stage) raiser phase.Idle)
@@ -78,7 +78,7 @@ raiser_of (WithRaiser raiser) = raiser
 raiser_of place = 0
 
 -- the same where one token moves, which no raiser gets
-held_elsewhere : (s : State) (h : List Deed) (mover : ℕ) (from stage : Phase) (subject : ℕ)
+held_elsewhere : (s : State) (h : List Effect) (mover : ℕ) (from stage : Phase) (subject : ℕ)
     (place : Token) (pid raiser : ℕ)
     → phase_of s mover ≡ from → ((p : ℕ) → IsHolding p from → ⊥) → Placed s h
     → (if subject == pid then place else token h pid) ≡ WithRaiser raiser
@@ -89,7 +89,7 @@ held_elsewhere s h mover from stage subject place pid raiser at holds_none place
     (token_elsewhere subject pid place (token h pid) (WithRaiser raiser) is not_there).1
 
 -- the mark of a process whose token did not move stays
-marked_elsewhere : (s : State) (h : List Deed) (subject : ℕ) (place : Token) (pid : ℕ)
+marked_elsewhere : (s : State) (h : List Effect) (subject : ℕ) (place : Token) (pid : ℕ)
     → Placed s h → (if subject == pid then place else token h pid) ≡ InFlags
     → (place ≡ InFlags → ⊥) → (flags_of s pid).wake ≡ true
 marked_elsewhere s h subject place pid placed is not_there =
@@ -102,7 +102,7 @@ wake_other s changed new pid differ wake =
     ap (λ (f : ProcFlags). f.wake)
     (get_or-set_other s.flags changed pid new no_flags (λ same. differ (sym same))) ∙ wake
 
-clear_places : (s : State) (h : List Deed) (pid : ℕ) (stage : Phase) (told : Option NoteSet)
+clear_places : (s : State) (h : List Effect) (pid : ℕ) (stage : Phase) (told : Option NoteSet)
     → phase_of s pid ≡ stage → IsOver stage → Placed s h
     → Placed (with_phase (with_flags s pid no_flags) pid phase.Idle) (Left pid told ∷ h)
 clear_places s h pid stage told at over placed =
@@ -117,7 +117,7 @@ clear_places s h pid stage told at over placed =
         → (get_or (set s.flags pid no_flags) p no_flags).wake ≡ true
     by_token p old = wake_other s pid no_flags p old.0 (placed.marked p old.1)
 
-take_holding_places : (s : State) (h : List Deed) (pid : ℕ) (sleeper : Pid) (rendez : RendezId)
+take_holding_places : (s : State) (h : List Effect) (pid : ℕ) (sleeper : Pid) (rendez : RendezId)
     (level : ℕ)
     → pid < length s.phases → phase_of s pid ≡ phase.Owing rendez level → Placed s h
     → Placed (with_phase (with_posted s rendez.0 0) pid (phase.Holding sleeper rendez level))
@@ -146,7 +146,7 @@ take_holding_places s h pid sleeper rendez level in_range at placed =
         held_by_others s h pid (phase.Owing rendez level) taken at (λ q holds. holds) placed p
         raiser (sym (ap (λ b. if b then WithRaiser pid else token h p) there.0) ∙ is)
 
-mark_places : (s : State) (h : List Deed) (pid : ℕ) (sleeper : Pid) (rendez : RendezId)
+mark_places : (s : State) (h : List Effect) (pid : ℕ) (sleeper : Pid) (rendez : RendezId)
     (level : ℕ)
     → sleeper.0 < length s.flags → phase_of s pid ≡ phase.Holding sleeper rendez level
     → Placed s h
@@ -183,7 +183,7 @@ mark_places s h pid sleeper rendez level has_flags at placed =
         (placed.held p raiser old.1))
         (placed.held p raiser old.1)
 
-note_places : (s : State) (h : List Deed) (pid : ℕ) (new : NoteSet) → pid < length s.flags
+note_places : (s : State) (h : List Effect) (pid : ℕ) (new : NoteSet) → pid < length s.flags
     → Placed s h
     → Placed (with_flags s pid
     (record { wake = (flags_of s pid).wake; notes = joined (flags_of s pid).notes new }))
@@ -206,7 +206,7 @@ note_places s h pid new has_flags placed =
         ∙ (ap (λ q. (flags_of s q).wake) (sym same) ∙ wake))
     by_place p wake (inr differ) = wake_other s pid noted p (λ same. differ (sym same)) wake
 
-drain_places : (s : State) (h : List Deed) (pid : ℕ) (told : NoteSet)
+drain_places : (s : State) (h : List Effect) (pid : ℕ) (told : NoteSet)
     → token h pid ≡ Nowhere → Placed s h
     → Placed (with_flags s pid no_flags) (Drained pid told ∷ h)
 drain_places s h pid told nowhere placed =
@@ -222,8 +222,8 @@ drain_places s h pid told nowhere placed =
         clash e = cc
 
 -- every move keeps the places
-places_kept : (s : State) (h : List Deed) {deed : Option Deed} {after : State}
-    → Move s deed after → Core s h → Placed s h → Placed after (cons_option deed h)
+places_kept : (s : State) (h : List Effect) {effect : Option Effect} {after : State}
+    → Move s effect after → Core s h → Placed s h → Placed after (cons_option effect h)
 places_kept s h stays core placed = placed
 places_kept s h (post_posted {pid = pid} {rendez = rendez} {threshold = threshold} in_range idle
     there free) core
@@ -306,7 +306,7 @@ places_of_run procs rendez [] run =
     record { marked = λ pid is. absurd cc; held = λ pid raiser is. absurd cc }
 places_of_run procs rendez (entry ∷ past) run =
     subst (λ told. Placed (world_after (world_of procs rendez past) entry.event)
-    (cons_option (deed_of told entry.event) (history_of past))) (sym run.1.answered)
+    (cons_option (effect_of told entry.event) (history_of past))) (sym run.1.answered)
     (places_kept (world_of procs rendez past) (history_of past)
     (table_moves (world_of procs rendez past) entry.event)
     (core_of_run procs rendez past run.0) (places_of_run procs rendez past run.0))

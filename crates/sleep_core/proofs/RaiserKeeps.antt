@@ -11,9 +11,9 @@ use Rattle.sleep_core.specs.State.{State, IsPhaseIn, phase_of, flags_of, posted_
 use Rattle.sleep_core.specs.State.{returned_of, no_flags}
 use Rattle.sleep_core.specs.Table.{Wakeup, has_notes}
 use Rattle.sleep_core.specs.Step.{with_phase, with_flags, with_posted, with_level, with_returned}
-use Rattle.sleep_core.specs.History.{Deed, begun_wakeup, HasReturned}
-use Rattle.sleep_core.specs.History.Deed.{Began, Passed, Fell, Roused, Withdrew, Left, Raised}
-use Rattle.sleep_core.specs.History.Deed.{Missed, Took, Marked, Noted, Drained}
+use Rattle.sleep_core.specs.History.{Effect, begun_wakeup, HasReturned}
+use Rattle.sleep_core.specs.History.Effect.{Began, Passed, Fell, Roused, Withdrew, Left, Raised}
+use Rattle.sleep_core.specs.History.Effect.{Missed, Took, Marked, Noted, Drained}
 use Rattle.sleep_core.specs.Promises.{IsStillIn, HasFallen}
 use Rattle.sleep_core.proofs.ListLemmas.{get_or-set_cases}
 use Rattle.sleep_core.proofs.Soundness.{IsSound-with_phase, IsSound-with_flags, IsSound-with_posted}
@@ -24,7 +24,7 @@ use Rattle.sleep_core.proofs.Frames.{if_same, if_other, same_or_not, apart, thre
 use Rattle.sleep_core.proofs.Frames.{fits_each, Frame, frame_past, fits_kept, fits_moved}
 
 -- who has fallen asleep is still in
-pub still_in_from_fallen : (h : List Deed) (pid rendez threshold : ℕ) → HasFallen h pid rendez
+pub still_in_from_fallen : (h : List Effect) (pid rendez threshold : ℕ) → HasFallen h pid rendez
     threshold
     → IsStillIn h pid rendez threshold
 still_in_from_fallen [] pid rendez threshold fell = fell
@@ -60,7 +60,7 @@ still_in_from_fallen (Drained by notes ∷ h) pid rendez threshold fell =
     still_in_from_fallen h pid rendez threshold fell
 
 -- a raise: the level becomes at least this one
-pub raise_keeps : (s : State) (h : List Deed) (pid : ℕ) (rendez : RendezId) (level : ℕ)
+pub raise_keeps : (s : State) (h : List Effect) (pid : ℕ) (rendez : RendezId) (level : ℕ)
     → pid < length s.phases → phase_of s pid ≡ phase.Idle → rendez.0 < length s.levels → Core s h
     → Core (with_phase (with_level s rendez.0 (max (level_of s rendez.0) level)) pid
     (phase.Owing rendez level)) (Raised pid rendez.0 level ∷ h)
@@ -92,7 +92,7 @@ raise_keeps s h pid rendez level in_range idle has_level core =
     after : State
     after = with_phase raised pid (phase.Owing rendez level)
 
-    later : List Deed
+    later : List Effect
     later = Raised pid rendez.0 level ∷ h
 
     grows : (r : ℕ) → level_of s r ≤ level_of after r
@@ -154,7 +154,7 @@ returned_at_most s call r bound old own =
     by_place (inr there) = omega arith
 
 -- the wakeup that returns is counted
-pub returned_counts : (s : State) (h : List Deed) (pid : ℕ) (call : Wakeup)
+pub returned_counts : (s : State) (h : List Effect) (pid : ℕ) (call : Wakeup)
     → call.rendez < length s.returned → begun_wakeup pid h ≡ Some call → (rendez level : ℕ)
     → begun_wakeup pid h ≡ Some (record { rendez = rendez; level = level })
     → level ≤ returned_of (with_returned s (Some call)) rendez
@@ -169,7 +169,7 @@ returned_counts s h pid call has_returned begun rendez level shown =
     omega (arith, ap (returned_of (with_returned s (Some call))) same_rendez, counted, same_level)
 
 -- a take that finds nobody: the wakeup has returned
-pub take_nobody_keeps : (s : State) (h : List Deed) (pid : ℕ) (rendez : RendezId) (level : ℕ)
+pub take_nobody_keeps : (s : State) (h : List Effect) (pid : ℕ) (rendez : RendezId) (level : ℕ)
     → pid < length s.phases → phase_of s pid ≡ phase.Owing rendez level → posted_of s rendez.0 ≡ 0
     → Core s h
     → Core (with_returned (with_phase s pid phase.Idle)
@@ -205,7 +205,7 @@ take_nobody_keeps s h pid rendez level in_range at free core =
     after : State
     after = with_returned idle (Some call)
 
-    later : List Deed
+    later : List Effect
     later = Missed pid ∷ h
 
     fit : Raises s h pid rendez.0 level
@@ -238,7 +238,7 @@ take_nobody_keeps s h pid rendez level in_range at free core =
         omega (arith, ap (posted_of s) same, was.posted, free)
 
 -- a take that finds a sleeper: the raiser has its token now
-pub take_holding_keeps : (s : State) (h : List Deed) (pid : ℕ) (sleeper : Pid) (rendez : RendezId)
+pub take_holding_keeps : (s : State) (h : List Effect) (pid : ℕ) (sleeper : Pid) (rendez : RendezId)
     (level : ℕ)
     → pid < length s.phases → phase_of s pid ≡ phase.Owing rendez level
     → posted_of s rendez.0 ≡ sleeper.0 + 1 → Core s h
@@ -274,7 +274,7 @@ take_holding_keeps s h pid sleeper rendez level in_range at posted core =
     after : State
     after = with_phase taken pid (phase.Holding sleeper rendez level)
 
-    later : List Deed
+    later : List Effect
     later = Took pid sleeper.0 ∷ h
 
     has_rendez : rendez.0 < length s.posted
@@ -353,7 +353,7 @@ take_holding_keeps s h pid sleeper rendez level in_range at posted core =
         }
 
 -- a mark: the sleeper has its token in its flags, and the wakeup has returned
-pub mark_keeps : (s : State) (h : List Deed) (pid : ℕ) (sleeper : Pid) (rendez : RendezId)
+pub mark_keeps : (s : State) (h : List Effect) (pid : ℕ) (sleeper : Pid) (rendez : RendezId)
     (level : ℕ)
     → pid < length s.phases → phase_of s pid ≡ phase.Holding sleeper rendez level → Core s h
     → Core (with_returned (with_phase
@@ -402,7 +402,7 @@ mark_keeps s h pid sleeper rendez level in_range at core =
     after : State
     after = with_returned idle (Some call)
 
-    later : List Deed
+    later : List Effect
     later = Marked pid sleeper.0 ∷ h
 
     fit : Holds s h pid sleeper.0 rendez.0 level

@@ -4,7 +4,7 @@ use Rattle.std.proofs.lemmas.List.{length-set, length-replicate}
 use Rattle.sleep_core.specs.declared.phase.Phase.TheVariants as phase
 use Rattle.sleep_core.specs.State.{State}
 use Rattle.sleep_core.specs.Runs.{Entry, world_of}
-use Rattle.sleep_core.specs.History.{Deed}
+use Rattle.sleep_core.specs.History.{Effect}
 use Rattle.sleep_core.proofs.Moves.{Move}
 use Rattle.sleep_core.proofs.Moves.Move.{stays, post_posted, test_leaving, test_asleep, look_woken}
 use Rattle.sleep_core.proofs.Moves.Move.{look_leaving, withdraw_out, withdraw_awaiting, clear_ended}
@@ -19,7 +19,8 @@ pub record HasSize (procs rendez : ℕ) (s : State) : Type 0 where
   -- it has a word for each Rendez in which a process may be posted
   pub posted : length s.posted ≡ rendez
 
-size_kept : (procs rendez : ℕ) (s : State) {deed : Option Deed} {after : State} → Move s deed after
+size_kept : (procs rendez : ℕ) (s : State) {effect : Option Effect} {after : State}
+    → Move s effect after
     → HasSize procs rendez s → HasSize procs rendez after
 size_kept procs rendez s stays size = size
 size_kept procs rendez s (post_posted {pid = pid} {rendez = at} {threshold = threshold} in_range

@@ -9,8 +9,8 @@ use Rattle.sleep_core.specs.State.{State, IsSound, IsPhaseIn, phase_of, flags_of
 use Rattle.sleep_core.specs.State.{level_of, returned_of}
 use Rattle.sleep_core.specs.Table.{has_notes}
 use Rattle.sleep_core.specs.Step.{with_phase, with_posted}
-use Rattle.sleep_core.specs.History.{Deed}
-use Rattle.sleep_core.specs.History.Deed.{Began, Passed, Fell, Roused}
+use Rattle.sleep_core.specs.History.{Effect}
+use Rattle.sleep_core.specs.History.Effect.{Began, Passed, Fell, Roused}
 use Rattle.sleep_core.specs.Promises.{IsStillIn, HasFallen}
 use Rattle.sleep_core.proofs.ListLemmas.{get_or-set_cases}
 use Rattle.sleep_core.proofs.Soundness.{IsSound-with_phase, IsSound-with_posted}
@@ -28,7 +28,7 @@ has_rendez_at s pid stage sound at =
     subst (IsPhaseIn (length s.phases) (length s.posted)) at (sound.phases pid)
 
 -- a post: the process is in the Rendez
-pub post_keeps : (s : State) (h : List Deed) (pid : ℕ) (rendez : RendezId) (threshold : ℕ)
+pub post_keeps : (s : State) (h : List Effect) (pid : ℕ) (rendez : RendezId) (threshold : ℕ)
     → pid < length s.phases → phase_of s pid ≡ phase.Idle → rendez.0 < length s.posted
     → posted_of s rendez.0 ≡ 0 → Core s h
     → Core (with_phase (with_posted s rendez.0 (pid + 1)) pid (phase.Posted rendez threshold))
@@ -59,7 +59,7 @@ post_keeps s h pid rendez threshold in_range idle has_rendez free core =
     after : State
     after = with_phase posting pid (phase.Posted rendez threshold)
 
-    later : List Deed
+    later : List Effect
     later = Began pid rendez.0 threshold ∷ h
 
     nowhere : token h pid ≡ Nowhere
@@ -123,7 +123,7 @@ post_keeps s h pid rendez threshold in_range idle has_rendez free core =
         }
 
 -- a test that finds the level above the threshold
-pub test_leaving_keeps : (s : State) (h : List Deed) (pid : ℕ) (rendez : RendezId) (threshold : ℕ)
+pub test_leaving_keeps : (s : State) (h : List Effect) (pid : ℕ) (rendez : RendezId) (threshold : ℕ)
     → pid < length s.phases → phase_of s pid ≡ phase.Posted rendez threshold → Core s h
     → Core (with_phase s pid (phase.Leaving rendez)) (Passed pid ∷ h)
 test_leaving_keeps s h pid rendez threshold in_range at core =
@@ -150,7 +150,7 @@ test_leaving_keeps s h pid rendez threshold in_range at core =
     after : State
     after = with_phase s pid (phase.Leaving rendez)
 
-    later : List Deed
+    later : List Effect
     later = Passed pid ∷ h
 
     fit : Fits s h pid (phase.Posted rendez threshold)
@@ -168,7 +168,7 @@ test_leaving_keeps s h pid rendez threshold in_range at core =
             (λ e. e) (λ r. omega arith)
 
 -- a test that does not: the process falls asleep
-pub test_asleep_keeps : (s : State) (h : List Deed) (pid : ℕ) (rendez : RendezId) (threshold : ℕ)
+pub test_asleep_keeps : (s : State) (h : List Effect) (pid : ℕ) (rendez : RendezId) (threshold : ℕ)
     → pid < length s.phases → phase_of s pid ≡ phase.Posted rendez threshold
     → level_of s rendez.0 ≤ threshold → Core s h
     → Core (with_phase s pid (phase.Asleep rendez threshold)) (Fell pid ∷ h)
@@ -197,7 +197,7 @@ test_asleep_keeps s h pid rendez threshold in_range at low core =
     after : State
     after = with_phase s pid (phase.Asleep rendez threshold)
 
-    later : List Deed
+    later : List Effect
     later = Fell pid ∷ h
 
     fit : Fits s h pid (phase.Posted rendez threshold)
@@ -238,7 +238,7 @@ test_asleep_keeps s h pid rendez threshold in_range at low core =
             (λ r x v fell. just_fell x r v fell) (λ e. e) (λ r. omega arith)
 
 -- a look that finds the mark
-pub look_woken_keeps : (s : State) (h : List Deed) (pid : ℕ) → pid < length s.phases
+pub look_woken_keeps : (s : State) (h : List Effect) (pid : ℕ) → pid < length s.phases
     → (flags_of s pid).wake ≡ true → Core s h → Core (with_phase s pid phase.Woken) (Roused pid ∷ h)
 look_woken_keeps s h pid in_range wake core =
     record {
@@ -264,7 +264,7 @@ look_woken_keeps s h pid in_range wake core =
     after : State
     after = with_phase s pid phase.Woken
 
-    later : List Deed
+    later : List Effect
     later = Roused pid ∷ h
 
     others : (p : ℕ) → p ≢ pid → Fits after later p (phase_of s p)
@@ -276,7 +276,7 @@ look_woken_keeps s h pid in_range wake core =
             (λ e. e) (λ r. omega arith)
 
 -- a phase that changes with nothing done
-quietly_keeps : (s : State) (h : List Deed) (pid : ℕ) (stage : Phase) → pid < length s.phases
+quietly_keeps : (s : State) (h : List Effect) (pid : ℕ) (stage : Phase) → pid < length s.phases
     → IsPhaseIn (length s.phases) (length s.posted) stage → Fits s h pid stage
     → ((threshold : ℕ) → IsAtThreshold threshold stage) → Core s h → Core (with_phase s pid stage) h
 quietly_keeps s h pid stage in_range there own no_threshold core =
@@ -311,7 +311,7 @@ quietly_keeps s h pid stage in_range there own no_threshold core =
             frame_quiet s after h p refl refl
 
 -- a look that finds notes
-pub look_leaving_keeps : (s : State) (h : List Deed) (pid : ℕ) (rendez : RendezId) (threshold : ℕ)
+pub look_leaving_keeps : (s : State) (h : List Effect) (pid : ℕ) (rendez : RendezId) (threshold : ℕ)
     → pid < length s.phases → phase_of s pid ≡ phase.Asleep rendez threshold
     → has_notes (flags_of s pid).notes ≡ true → Core s h
     → Core (with_phase s pid (phase.Leaving rendez)) h
@@ -332,7 +332,7 @@ away_unless_posted rendez (WithRaiser raiser) near not_there = tt
 away_unless_posted rendez InFlags near not_there = tt
 
 -- a withdrawal of a process that was taken: its mark will come
-pub withdraw_awaiting_keeps : (s : State) (h : List Deed) (pid : ℕ) (rendez : RendezId)
+pub withdraw_awaiting_keeps : (s : State) (h : List Effect) (pid : ℕ) (rendez : RendezId)
     → pid < length s.phases → phase_of s pid ≡ phase.Leaving rendez
     → posted_of s rendez.0 ≢ pid + 1 → Core s h → Core (with_phase s pid phase.Awaiting) h
 withdraw_awaiting_keeps s h pid rendez in_range at other core =

@@ -21,8 +21,8 @@ use Rattle.sleep_core.specs.Table.Cell.{PostedOf}
 use Rattle.sleep_core.specs.Table.Word.{Number}
 use Rattle.sleep_core.specs.Step.{with_phase, with_flags, with_posted, with_returned, with_word}
 use Rattle.sleep_core.specs.Step.{is_refusal, answer_in, answer_to, world_told, world_after}
-use Rattle.sleep_core.specs.History.{deed_of}
-use Rattle.sleep_core.specs.History.Deed.{Left, Missed, Noted, Drained}
+use Rattle.sleep_core.specs.History.{effect_of}
+use Rattle.sleep_core.specs.History.Effect.{Left, Missed, Noted, Drained}
 use Rattle.sleep_core.proofs.Moves.{Move, IsOver}
 use Rattle.sleep_core.proofs.Moves.Move.{stays, post_posted, test_leaving, test_asleep, look_woken}
 use Rattle.sleep_core.proofs.Moves.Move.{look_leaving, withdraw_out, withdraw_awaiting, clear_ended}
@@ -50,7 +50,7 @@ with_posted-same s rendez word at =
 
 -- the move of an event that is told this in this phase
 abbrev pub MoveTold : State → Phase → Event → Answer → Type 0
-MoveTold s stage event told = Move s (deed_of told event) (world_told s stage event told)
+MoveTold s stage event told = Move s (effect_of told event) (world_told s stage event told)
 
 -- the same of the answer of the row
 abbrev pub MoveIn : State → Phase → Event → Type 0
@@ -191,10 +191,10 @@ withdraw_moves s pid in_range (phase.Leaving rendez) at =
         (phase_after (told mine) (Withdraw pid) stage))
         (returned_by (told mine) (Withdraw pid) stage)
 
-    by_word : Move s (deed_of (told (posted_of s rendez.0 == pid.0 + 1)) (Withdraw pid))
+    by_word : Move s (effect_of (told (posted_of s rendez.0 == pid.0 + 1)) (Withdraw pid))
         (after (posted_of s rendez.0 == pid.0 + 1))
     by_word =
-        choose (λ mine. Move s (deed_of (told mine) (Withdraw pid)) (after mine))
+        choose (λ mine. Move s (effect_of (told mine) (Withdraw pid)) (after mine))
         (posted_of s rendez.0 == pid.0 + 1)
         (λ mine. withdraw_out in_range at (same_from (posted_of s rendez.0) (pid.0 + 1) mine))
         (λ other. withdraw_awaiting in_range at (differ_from (posted_of s rendez.0) (pid.0 + 1)
@@ -341,7 +341,7 @@ row_moves s (Check pid) in_range = check_moves s pid in_range (phase_of s pid.0)
 
 -- every event is a move
 pub table_moves : (s : State) (event : Event)
-    → Move s (deed_of (answer_to s event) event) (world_after s event)
+    → Move s (effect_of (answer_to s event) event) (world_after s event)
 table_moves s event =
     choose (λ exists. MoveTold s (phase_of s (pid_of event).0) event
     (if exists then answer_in s (phase_of s (pid_of event).0) event else answer.NoProc))

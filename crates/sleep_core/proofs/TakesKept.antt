@@ -10,9 +10,9 @@ use Rattle.sleep_core.specs.State.{State, phase_of, flags_of, posted_of, returne
 use Rattle.sleep_core.specs.Table.{Wakeup}
 use Rattle.sleep_core.specs.Step.{with_returned, world_after}
 use Rattle.sleep_core.specs.Runs.{Entry, IsRun, world_of}
-use Rattle.sleep_core.specs.History.{Deed, deed_of, history_of, begun_wakeup, HasReturned}
-use Rattle.sleep_core.specs.History.Deed.{Began, Passed, Fell, Roused, Withdrew, Left, Raised}
-use Rattle.sleep_core.specs.History.Deed.{Missed, Took, Marked, Noted, Drained}
+use Rattle.sleep_core.specs.History.{Effect, effect_of, history_of, begun_wakeup, HasReturned}
+use Rattle.sleep_core.specs.History.Effect.{Began, Passed, Fell, Roused, Withdrew, Left, Raised}
+use Rattle.sleep_core.specs.History.Effect.{Missed, Took, Marked, Noted, Drained}
 use Rattle.sleep_core.specs.Promises.{owed_wakeup, FindsNobody, FindsSleeper, TakesAreRight}
 use Rattle.sleep_core.specs.Laws.{PostedAreStillIn, StillInArePosted, AsleepHaveFallen}
 use Rattle.sleep_core.specs.Laws.{ReturnedIsGreatest}
@@ -29,23 +29,23 @@ use Rattle.sleep_core.proofs.TokenLemmas.{still_in_by_token}
 use Rattle.sleep_core.proofs.CoreRuns.{get_or-replicate_same, core_of_run, fallen_at}
 
 -- whoever owes a take owes it for the wakeup that it has begun
-abbrev IsOwed : List Deed → ℕ → Phase → Type 0
+abbrev IsOwed : List Effect → ℕ → Phase → Type 0
 IsOwed h pid (phase.Owing rendez level) =
     owed_wakeup pid h ≡ Some (record { rendez = rendez.0; level = level })
 IsOwed h pid stage = Unit {0}
 
 -- the wakeups that are owed, as the phases have them
-abbrev Owed : State → List Deed → Type 0
+abbrev Owed : State → List Effect → Type 0
 Owed s h = (pid : ℕ) → IsOwed h pid (phase_of s pid)
 
 -- what another process owes is not changed
-owed_same : (h later : List Deed) (pid : ℕ) (stage : Phase)
+owed_same : (h later : List Effect) (pid : ℕ) (stage : Phase)
     → owed_wakeup pid later ≡ owed_wakeup pid h → IsOwed h pid stage → IsOwed later pid stage
 owed_same h later pid (phase.Owing rendez level) same owed = same ∙ owed
 owed_same h later pid stage same owed = tt
 
 -- one process moves, and each other owes what it owed
-owed_each : (s : State) (h later : List Deed) (mover : ℕ) (stage : Phase)
+owed_each : (s : State) (h later : List Effect) (mover : ℕ) (stage : Phase)
     → mover < length s.phases → IsOwed later mover stage
     → ((p : ℕ) → p ≢ mover → owed_wakeup p later ≡ owed_wakeup p h) → Owed s h → (p : ℕ)
     → IsOwed later p (get_or (set s.phases mover stage) p phase.Idle)
@@ -62,8 +62,9 @@ owed_each s h later mover stage in_range own others owed p = by_pid (same_or_not
         (owed_same h later p (phase_of s p) (others p differ) (owed p))
 
 -- every move keeps what is owed
-owed_kept : (s : State) (h : List Deed) {deed : Option Deed} {after : State} → Move s deed after
-    → Owed s h → Owed after (cons_option deed h)
+owed_kept : (s : State) (h : List Effect) {effect : Option Effect} {after : State}
+    → Move s effect after
+    → Owed s h → Owed after (cons_option effect h)
 owed_kept s h stays owed = owed
 owed_kept s h (post_posted {pid = pid} {rendez = rendez} {threshold = threshold} in_range idle there
     free) owed =
@@ -118,12 +119,12 @@ owed_in_run procs rendez [] run =
     λ pid. subst (IsOwed [] pid) (sym (get_or-replicate_same procs pid phase.Idle)) tt
 owed_in_run procs rendez (entry ∷ past) run =
     subst (λ told. Owed (world_after (world_of procs rendez past) entry.event)
-    (cons_option (deed_of told entry.event) (history_of past))) (sym run.1.answered)
+    (cons_option (effect_of told entry.event) (history_of past))) (sym run.1.answered)
     (owed_kept (world_of procs rendez past) (history_of past)
     (table_moves (world_of procs rendez past) entry.event) (owed_in_run procs rendez past run.0))
 
 -- a wakeup that finds a word empty finds nobody, for nobody's sleep goes on there
-finds_nobody : (s : State) (h : List Deed) (pid : ℕ) (rendez : RendezId) (level : ℕ) → Core s h
+finds_nobody : (s : State) (h : List Effect) (pid : ℕ) (rendez : RendezId) (level : ℕ) → Core s h
     → Owed s h → phase_of s pid ≡ phase.Owing rendez level → posted_of s rendez.0 ≡ 0
     → FindsNobody h pid
 finds_nobody s h pid rendez level core owed at free =
@@ -138,7 +139,7 @@ finds_nobody s h pid rendez level core owed at free =
     not_posted other posted = absurd (omega (arith, posted, free))
 
 -- and one that finds a process finds it in its sleep
-finds_sleeper : (s : State) (h : List Deed) (pid sleeper : ℕ) (rendez : RendezId) (level : ℕ)
+finds_sleeper : (s : State) (h : List Effect) (pid sleeper : ℕ) (rendez : RendezId) (level : ℕ)
     → Core s h → Owed s h → phase_of s pid ≡ phase.Owing rendez level
     → posted_of s rendez.0 ≡ sleeper + 1 → FindsSleeper h pid sleeper
 finds_sleeper s h pid sleeper rendez level core owed at posted =
@@ -151,8 +152,9 @@ finds_sleeper s h pid sleeper rendez level core owed at posted =
     }
 
 -- every move keeps the takes right
-takes_kept : (s : State) (h : List Deed) {deed : Option Deed} {after : State} → Move s deed after
-    → Core s h → Owed s h → TakesAreRight h → TakesAreRight (cons_option deed h)
+takes_kept : (s : State) (h : List Effect) {effect : Option Effect} {after : State}
+    → Move s effect after
+    → Core s h → Owed s h → TakesAreRight h → TakesAreRight (cons_option effect h)
 takes_kept s h stays core owed right = right
 takes_kept s h (post_posted in_range idle there free) core owed right = right
 takes_kept s h (test_leaving in_range at) core owed right = right
@@ -180,18 +182,18 @@ pub takes_are_right : (procs rendez : ℕ) (past : List Entry) → IsRun procs r
     → TakesAreRight (history_of past)
 takes_are_right procs rendez [] run = tt
 takes_are_right procs rendez (entry ∷ past) run =
-    subst (λ told. TakesAreRight (cons_option (deed_of told entry.event) (history_of past)))
+    subst (λ told. TakesAreRight (cons_option (effect_of told entry.event) (history_of past)))
     (sym run.1.answered)
     (takes_kept (world_of procs rendez past) (history_of past)
     (table_moves (world_of procs rendez past) entry.event) (core_of_run procs rendez past run.0)
     (owed_in_run procs rendez past run.0) (takes_are_right procs rendez past run.0))
 
 -- the level that is counted as returned has returned, or none has
-abbrev IsReached : List Deed → ℕ → ℕ → Type 0
+abbrev IsReached : List Effect → ℕ → ℕ → Type 0
 IsReached h rendez level = (level ≡ 0) ⊎ HasReturned h rendez level
 
 -- a wakeup that returns is counted where it is the greatest
-counts_greatest : (s : State) (h : List Deed) (pid at level : ℕ)
+counts_greatest : (s : State) (h : List Effect) (pid at level : ℕ)
     → begun_wakeup pid h ≡ Some (record { rendez = at; level = level })
     → ((r : ℕ) → IsReached h r (returned_of s r)) → (r : ℕ)
     → let found = returned_of (with_returned s (Some (record { rendez = at; level = level }))) r in
@@ -238,10 +240,11 @@ counts_greatest s h pid at level begun reached r =
         by_greater here.0 here.1 (greater (returned_of s at) level)
     by_place (inr there) = old there
 
--- one more deed that ends no wakeup
-reached_kept : (s : State) (h : List Deed) {deed : Option Deed} {after : State} → Move s deed after
+-- one more effect that ends no wakeup
+reached_kept : (s : State) (h : List Effect) {effect : Option Effect} {after : State}
+    → Move s effect after
     → Core s h → ((r : ℕ) → IsReached h r (returned_of s r)) → (r : ℕ)
-    → IsReached (cons_option deed h) r (returned_of after r)
+    → IsReached (cons_option effect h) r (returned_of after r)
 reached_kept s h stays core reached = reached
 reached_kept s h (post_posted in_range idle there free) core reached = reached
 reached_kept s h (test_leaving in_range at) core reached = reached
@@ -273,7 +276,8 @@ reached_in_run : (procs rendez : ℕ) (past : List Entry) → IsRun procs rendez
     → IsReached (history_of past) r (returned_of (world_of procs rendez past) r)
 reached_in_run procs rendez [] run = λ r. inl (get_or-replicate_same rendez r 0)
 reached_in_run procs rendez (entry ∷ past) run =
-    subst (λ told. (r : ℕ) → IsReached (cons_option (deed_of told entry.event) (history_of past)) r
+    subst
+    (λ told. (r : ℕ) → IsReached (cons_option (effect_of told entry.event) (history_of past)) r
     (returned_of (world_after (world_of procs rendez past) entry.event) r)) (sym run.1.answered)
     (reached_kept (world_of procs rendez past) (history_of past)
     (table_moves (world_of procs rendez past) entry.event) (core_of_run procs rendez past run.0)

@@ -3,9 +3,9 @@ use Rattle.std.proofs.Common.{◌≡◌, ◌≢◌, ◌⊎◌, ◌==◌, ◌+◌
 use Rattle.std.proofs.Common.{List, [], ◌∷◌, refl, sym, ◌∙◌, ap}
 use Rattle.std.proofs.lemmas.Bool.Decides.{eqb_tells}
 use Rattle.sleep_core.specs.State.{State, posted_of}
-use Rattle.sleep_core.specs.History.{Deed}
-use Rattle.sleep_core.specs.History.Deed.{Began, Passed, Fell, Roused, Withdrew, Left, Raised}
-use Rattle.sleep_core.specs.History.Deed.{Missed, Took, Marked, Noted, Drained}
+use Rattle.sleep_core.specs.History.{Effect}
+use Rattle.sleep_core.specs.History.Effect.{Began, Passed, Fell, Roused, Withdrew, Left, Raised}
+use Rattle.sleep_core.specs.History.Effect.{Missed, Took, Marked, Noted, Drained}
 use Rattle.sleep_core.specs.Promises.{IsStillIn}
 use Rattle.sleep_core.proofs.CoreInvariant.{Token, token, Core}
 use Rattle.sleep_core.proofs.CoreInvariant.Token.{Nowhere, InRendez, WithRaiser, InFlags}
@@ -23,11 +23,11 @@ token_elsewhere a p here there found is not_here = by_test (eqb_tells a p)
     by_test (inr differ) = (differ.1, sym (ap (λ b. if b then here else there) differ.0) ∙ is)
 
 -- the process is in its sleep on the Rendez
-abbrev pub Slept : List Deed → ℕ → ℕ → Type 0
+abbrev pub Slept : List Effect → ℕ → ℕ → Type 0
 Slept h pid rendez = (threshold : ℕ) × IsStillIn h pid rendez threshold
 
 -- a process whose token is in a Rendez began a sleep there that goes on
-pub still_in_by_token : (h : List Deed) (pid rendez : ℕ) → token h pid ≡ InRendez rendez
+pub still_in_by_token : (h : List Effect) (pid rendez : ℕ) → token h pid ≡ InRendez rendez
     → Slept h pid rendez
 still_in_by_token [] pid rendez is = absurd cc
 still_in_by_token (Began by at threshold ∷ h) pid rendez is =
@@ -71,7 +71,7 @@ still_in_by_token (Noted by notes ∷ h) pid rendez is = still_in_by_token h pid
 still_in_by_token (Drained by notes ∷ h) pid rendez is = still_in_by_token h pid rendez is
 
 -- and so it is posted there
-pub posted_by_token : (s : State) (h : List Deed) (pid rendez : ℕ) → Core s h
+pub posted_by_token : (s : State) (h : List Effect) (pid rendez : ℕ) → Core s h
     → token h pid ≡ InRendez rendez → posted_of s rendez ≡ pid + 1
 posted_by_token s h pid rendez core is =
     let still = still_in_by_token h pid rendez is in

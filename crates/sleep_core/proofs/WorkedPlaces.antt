@@ -3,7 +3,7 @@ use Rattle.std.proofs.Common.{inl, inr, arith, [], ◌∷◌}
 use Rattle.sleep_core.specs.declared.phase.Phase.TheVariants.{Woken}
 use Rattle.sleep_core.specs.History.{Passed}
 use Rattle.sleep_core.specs.Promises.{IsCaused}
-use Rattle.sleep_core.specs.Whereabouts.{MayBePosted}
+use Rattle.sleep_core.specs.SleepPlaces.{MayBePosted}
 
 who_was_marked_is_posted_nowhere : ¬ MayBePosted 0 Woken
 who_was_marked_is_posted_nowhere it = it

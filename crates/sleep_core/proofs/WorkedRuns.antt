@@ -19,9 +19,9 @@ use Rattle.sleep_core.specs.State.{State, opening, no_flags}
 use Rattle.sleep_core.specs.Runs.{Entry, IsMadeBy, IsNext, IsRun, answers_to_all, world_after_all}
 use Rattle.sleep_core.specs.Runs.{world_of, run_of, own, kept, phase_by}
 use Rattle.sleep_core.specs.Step.{answer_to}
-use Rattle.sleep_core.specs.History.{Deed, history_of}
-use Rattle.sleep_core.specs.History.Deed.{Began, Passed, Fell, Roused, Withdrew, Left, Raised}
-use Rattle.sleep_core.specs.History.Deed.{Missed, Took, Marked, Noted, Drained}
+use Rattle.sleep_core.specs.History.{Effect, history_of}
+use Rattle.sleep_core.specs.History.Effect.{Began, Passed, Fell, Roused, Withdrew, Left, Raised}
+use Rattle.sleep_core.specs.History.Effect.{Missed, Took, Marked, Noted, Drained}
 
 abbrev proc : ℕ → Pid
 proc n = record { 0 = n }
@@ -70,7 +70,7 @@ answers events = answers_to_all (opening 3 2) events
 abbrev run : List Event → List Entry
 run events = run_of (opening 3 2) [] events
 
-abbrev history : List Event → List Deed
+abbrev history : List Event → List Effect
 history events = history_of (run events)
 
 abbrev world : List Event → State

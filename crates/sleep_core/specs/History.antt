@@ -15,64 +15,64 @@ use Rattle.sleep_core.specs.Runs.{Entry}
 -- After sleep and wakeup in "Process Sleep and Synchronization on a Shared-Memory Multiprocessor"
 -- (1991): a process announces itself, tests its condition and waits; another makes the condition
 -- true, takes whom it finds and readies it. Notes are after notify(2).
-pub data Deed : Type 0 where
+pub data Effect : Type 0 where
   -- the process began a sleep in the Rendez, until its level is above this threshold
-  Began : (pid rendez threshold : ℕ) → Deed
+  Began : (pid rendez threshold : ℕ) → Effect
   -- its test found the condition true
-  Passed : (pid : ℕ) → Deed
+  Passed : (pid : ℕ) → Effect
   -- its test found the condition false
-  Fell : (pid : ℕ) → Deed
+  Fell : (pid : ℕ) → Effect
   -- its look found the mark
-  Roused : (pid : ℕ) → Deed
+  Roused : (pid : ℕ) → Effect
   -- it took itself out of the Rendez
-  Withdrew : (pid : ℕ) → Deed
+  Withdrew : (pid : ℕ) → Effect
   -- its sleep is over: well, or with these notes
-  Left : (pid : ℕ) (notes : Option NoteSet) → Deed
+  Left : (pid : ℕ) (notes : Option NoteSet) → Effect
   -- it began a wakeup of the Rendez with this level
-  Raised : (pid rendez level : ℕ) → Deed
+  Raised : (pid rendez level : ℕ) → Effect
   -- its wakeup found nobody
-  Missed : (pid : ℕ) → Deed
+  Missed : (pid : ℕ) → Effect
   -- its wakeup took this process out of the Rendez
-  Took : (pid sleeper : ℕ) → Deed
+  Took : (pid sleeper : ℕ) → Effect
   -- its wakeup marked this process
-  Marked : (pid sleeper : ℕ) → Deed
+  Marked : (pid sleeper : ℕ) → Effect
   -- these notes came to the process
-  Noted : (pid : ℕ) (notes : NoteSet) → Deed
+  Noted : (pid : ℕ) (notes : NoteSet) → Effect
   -- it took these notes outside a sleep
-  Drained : (pid : ℕ) (notes : NoteSet) → Deed
+  Drained : (pid : ℕ) (notes : NoteSet) → Effect
 
 -- what the event did with this answer
-abbrev pub deed_of : Answer → Event → Option Deed
-deed_of answer.Posted (Post pid rendez threshold) = Some (Began pid.0 rendez.0 threshold)
-deed_of answer.Leaving (Test pid) = Some (Passed pid.0)
-deed_of answer.Asleep (Test pid) = Some (Fell pid.0)
-deed_of answer.Woken (Look pid) = Some (Roused pid.0)
-deed_of answer.Out (Withdraw pid) = Some (Withdrew pid.0)
-deed_of answer.Cleared (Clear pid) = Some (Left pid.0 None)
-deed_of (answer.Interrupted notes) (Clear pid) = Some (Left pid.0 (Some notes))
-deed_of answer.Owing (Raise pid rendez level) = Some (Raised pid.0 rendez.0 level)
-deed_of answer.Nobody (Take pid) = Some (Missed pid.0)
-deed_of (answer.Holding sleeper) (Take pid) = Some (Took pid.0 sleeper.0)
-deed_of (answer.Marked sleeper) (Mark pid) = Some (Marked pid.0 sleeper.0)
-deed_of answer.Noted (Note pid notes) = Some (Noted pid.0 notes)
-deed_of (answer.Notes notes) (Drain pid) = Some (Drained pid.0 notes)
-deed_of told event = None
+abbrev pub effect_of : Answer → Event → Option Effect
+effect_of answer.Posted (Post pid rendez threshold) = Some (Began pid.0 rendez.0 threshold)
+effect_of answer.Leaving (Test pid) = Some (Passed pid.0)
+effect_of answer.Asleep (Test pid) = Some (Fell pid.0)
+effect_of answer.Woken (Look pid) = Some (Roused pid.0)
+effect_of answer.Out (Withdraw pid) = Some (Withdrew pid.0)
+effect_of answer.Cleared (Clear pid) = Some (Left pid.0 None)
+effect_of (answer.Interrupted notes) (Clear pid) = Some (Left pid.0 (Some notes))
+effect_of answer.Owing (Raise pid rendez level) = Some (Raised pid.0 rendez.0 level)
+effect_of answer.Nobody (Take pid) = Some (Missed pid.0)
+effect_of (answer.Holding sleeper) (Take pid) = Some (Took pid.0 sleeper.0)
+effect_of (answer.Marked sleeper) (Mark pid) = Some (Marked pid.0 sleeper.0)
+effect_of answer.Noted (Note pid notes) = Some (Noted pid.0 notes)
+effect_of (answer.Notes notes) (Drain pid) = Some (Drained pid.0 notes)
+effect_of told event = None
 
 -- the history of a run, newest first as the run
-abbrev pub history_of : List Entry → List Deed
-history_of past = filter_map (λ entry. deed_of entry.answer entry.event) past
+abbrev pub history_of : List Entry → List Effect
+history_of past = filter_map (λ entry. effect_of entry.answer entry.event) past
 
 -- the newest wakeup that the process began
-abbrev pub begun_wakeup : ℕ → List Deed → Option Wakeup
+abbrev pub begun_wakeup : ℕ → List Effect → Option Wakeup
 begun_wakeup pid [] = None
 begun_wakeup pid (Raised raiser rendez level ∷ past) =
     if raiser == pid
     then Some (record { rendez = rendez; level = level })
     else begun_wakeup pid past
-begun_wakeup pid (deed ∷ past) = begun_wakeup pid past
+begun_wakeup pid (effect ∷ past) = begun_wakeup pid past
 
 -- a wakeup of the Rendez with this level has returned: it found nobody, or marked whom it took
-abbrev pub HasReturned : List Deed → ℕ → ℕ → Type 0
+abbrev pub HasReturned : List Effect → ℕ → ℕ → Type 0
 HasReturned [] rendez level = ⊥
 HasReturned (Missed pid ∷ past) rendez level =
     (begun_wakeup pid past ≡ Some (record { rendez = rendez; level = level }))
@@ -80,4 +80,4 @@ HasReturned (Missed pid ∷ past) rendez level =
 HasReturned (Marked raiser sleeper ∷ past) rendez level =
     (begun_wakeup raiser past ≡ Some (record { rendez = rendez; level = level }))
     ⊎ HasReturned past rendez level
-HasReturned (deed ∷ past) rendez level = HasReturned past rendez level
+HasReturned (effect ∷ past) rendez level = HasReturned past rendez level

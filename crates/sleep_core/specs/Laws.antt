@@ -7,10 +7,10 @@ use Rattle.sleep_core.specs.State.{State, IsSound, opening, posted_as}
 use Rattle.sleep_core.specs.State.{phase_of, posted_of, returned_of}
 use Rattle.sleep_core.specs.Runs.{Entry, IsRun, world_of, own, kept, run_of}
 use Rattle.sleep_core.specs.Runs.{world_after_all}
-use Rattle.sleep_core.specs.History.{Deed, history_of, HasReturned}
+use Rattle.sleep_core.specs.History.{Effect, history_of, HasReturned}
 use Rattle.sleep_core.specs.Promises.{LosesWakeup, TakesAreRight, NoMarkIsStray}
 use Rattle.sleep_core.specs.Promises.{IsStillIn, HasFallen, AreNotesRight, EachSleepIsCaused}
-use Rattle.sleep_core.specs.Oversleep.{HasLostWakeup}
+use Rattle.sleep_core.specs.LostWakeup.{HasLostWakeup}
 
 -- every list of events makes a run, which ends in the world after them
 pub record IsRunOf (procs rendez : ℕ) (events : List Event) (past : List Entry) : Type 0 where
@@ -35,7 +35,7 @@ RunsAreSound =
     → IsSoundIn procs rendez (world_of procs rendez past)
 
 -- what is promised of a history and of the world in which it ends
-pub record IsKept (history : List Deed) (state : State) : Type 0 where
+pub record IsKept (history : List Effect) (state : State) : Type 0 where
   pub none_lost : ¬ (LosesWakeup history)
   pub takes_right : TakesAreRight history
   pub none_stray : NoMarkIsStray history
@@ -85,7 +85,7 @@ AsleepHaveFallen =
     → HasFallen (history_of past) pid at.0 threshold
 
 -- the level is the greatest with which a wakeup of the Rendez has returned, or 0 where none has
-pub record IsGreatestReturned (history : List Deed) (rendez level : ℕ) : Type 0 where
+pub record IsGreatestReturned (history : List Effect) (rendez level : ℕ) : Type 0 where
   pub bound : (other : ℕ) → HasReturned history rendez other → other ≤ level
   pub reached : (level ≡ 0) ⊎ HasReturned history rendez level
 

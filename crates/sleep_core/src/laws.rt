@@ -3,9 +3,9 @@
 ghost use Rattle.std.specs.Prelude.{◌≡◌, ◌≢◌, ◌<◌, ◌≤◌, ℕ, List, [], ◌∷◌, ◌++◌, Some, None};
 ghost use Rattle.sync_base.specs.declared.note.NoteSet.{NoteSet};
 ghost use Rattle.sync_base.specs.NoteSet.{no_notes, joined};
-ghost use Rattle.sleep_core.specs.OwnLaws.{OwnSleepsEndForACause};
-ghost use Rattle.sleep_core.specs.History.{Deed};
-ghost use Rattle.sleep_core.specs.History.Deed.{Raised, Missed, Marked, Left, Noted, Drained};
+ghost use Rattle.sleep_core.specs.OwnEventLaws.{OwnSleepsEndForACause};
+ghost use Rattle.sleep_core.specs.History.{Effect};
+ghost use Rattle.sleep_core.specs.History.Effect.{Raised, Missed, Marked, Left, Noted, Drained};
 ghost use Rattle.sleep_core.specs.Broken.{falls_asleep_in, finds_nobody_in, takes_in, is_noted_in};
 ghost use Rattle.sleep_core.specs.Broken.{overlooks_the_sleeper, test_misses_the_level};
 ghost use Rattle.sleep_core.specs.Broken.{posts_over_a_sleeper, overlooks_among_others};
@@ -33,12 +33,13 @@ ghost use Rattle.sleep_core.specs.Laws.{AsleepHaveFallen, ReturnedIsGreatest};
 ghost use Rattle.sleep_core.specs.Laws.{NoLostWakeup, NoLostWakeupInEvents};
 ghost use Rattle.sleep_core.specs.Laws.{ReturnedWakeupReleases, ReturnsByOwnEvents};
 ghost use Rattle.sleep_core.specs.Laws.{HistoryByKeptEvents, ReturnsByKeptEvents};
-ghost use Rattle.sleep_core.specs.Whereabouts.{SleepersAreInOnePlace, OthersAreInNoPlace};
-ghost use Rattle.sleep_core.specs.Whereabouts.{WordsAgreeInRuns};
+ghost use Rattle.sleep_core.specs.SleepPlaces.{SleepersAreInOnePlace, OthersAreInNoPlace};
+ghost use Rattle.sleep_core.specs.SleepPlaces.{WordsAgreeInRuns};
 ghost use Rattle.sleep_core.specs.Laws.{SleepsEndForACause};
-ghost use Rattle.sleep_core.specs.Local.{AnswersByOneWord, KeepsOtherWords, KeepsOtherPhases};
-ghost use Rattle.sleep_core.specs.Local.{KeepsOtherReturned, PhaseByOwnEvents, PhaseByKeptEvents};
-ghost use Rattle.sleep_core.specs.Rows.{EventsFollowRows};
+ghost use Rattle.sleep_core.specs.Locality.{AnswersByOneWord, KeepsOtherWords, KeepsOtherPhases};
+ghost use Rattle.sleep_core.specs.Locality.{KeepsOtherReturned, PhaseByOwnEvents};
+ghost use Rattle.sleep_core.specs.Locality.{PhaseByKeptEvents};
+ghost use Rattle.sleep_core.specs.EventTable.{EventsFollowTable};
 ghost use Rattle.sleep_core.specs.Promises.{LosesWakeup, TakesAreRight, NoMarkIsStray};
 ghost use Rattle.sleep_core.specs.Promises.{AreNotesRight};
 ghost use Rattle.sleep_core.specs.Promises.{EachSleepIsCaused};
@@ -54,8 +55,8 @@ pub fn local_step()
 /// An event that may come is answered by its row of the table, which also says what it leaves in
 /// its
 /// word and in which phase its process is then.
-pub fn events_follow_rows()
-    ensures { EventsFollowRows }
+pub fn events_follow_table()
+    ensures { EventsFollowTable }
 {}
 
 /// After every run the phase of a process is what its own events with their answers give.
@@ -236,7 +237,7 @@ pub fn promises_can_be_broken_by_anybody()
     ensures marks_anothers_sleeper { (sleeper other raiser rendez threshold level : ℕ)
         → other ≢ raiser → ¬ (NoMarkIsStray (Marked raiser sleeper
         ∷ takes_in other sleeper rendez level (falls_asleep_in sleeper rendez threshold))) }
-    ensures marks_twice { (sleeper raiser : ℕ) (past : List Deed)
+    ensures marks_twice { (sleeper raiser : ℕ) (past : List Effect)
         → ¬ (NoMarkIsStray (Marked raiser sleeper ∷ Marked raiser sleeper ∷ past)) }
 
     // A process is told of notes that are not just those that were pending.

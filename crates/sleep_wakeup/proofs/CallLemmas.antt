@@ -9,7 +9,7 @@ use Rattle.sleep_core.specs.declared.answer.Answer.{Answer}
 use Rattle.sleep_core.specs.declared.answer.Answer.TheVariants as answer
 use Rattle.sleep_core.specs.declared.event.Event.{Event}
 use Rattle.sleep_core.specs.declared.event.Event.TheVariants.{Look, Withdraw}
-use Rattle.sleep_core.specs.History.{Deed, deed_of, history_of}
+use Rattle.sleep_core.specs.History.{Effect, effect_of, history_of}
 use Rattle.sleep_core.specs.Promises.{IsCaused, EachSleepIsCaused}
 use Rattle.sleep_core.specs.Runs.{Entry}
 use Rattle.sleep_core.proofs.OwnCauses.{own_sleeps_end_for_a_cause}
@@ -52,8 +52,8 @@ leaves_after before event told between notes after of_wait is leaves =
         }
 
 -- a step of the wait is the cause where it found the mark, and no cause else
-caused_in_step : (told : Answer) (event : Event) (past : List Deed) (pid : ℕ) → IsOfWait event
-    → IsCaused (cons_option (deed_of told event) past) pid
+caused_in_step : (told : Answer) (event : Event) (past : List Effect) (pid : ℕ) → IsOfWait event
+    → IsCaused (cons_option (effect_of told event) past) pid
     → (told ≡ answer.Woken) ⊎ IsCaused past pid
 caused_in_step answer.Woken (Look named) past pid of_wait caused = inl refl
 caused_in_step answer.Out (Withdraw named) past pid of_wait caused = inr caused

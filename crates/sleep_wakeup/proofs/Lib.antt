@@ -3,6 +3,6 @@ pub mod CallLemmas
 pub mod GroupLemmas
 mod GroupMembers
 mod GroupNumbers
-mod WorkedDeeds
+mod WorkedActions
 mod WorkedForks
 mod WorkedRosters

@@ -1,6 +1,6 @@
 pub mod Broken
 pub mod Calls
-pub mod Deeds
+pub mod Actions
 pub mod Forks
 pub mod Groups
 pub mod Kernel

@@ -7,10 +7,10 @@ use Rattle.std.proofs.lemmas.List.{get_or-drop, drop-drop}
 use Rattle.std.proofs.lemmas.Bool.Decides.{nat_tests}
 use Rattle.sync_base.specs.Write.{Write}
 use Rattle.sync_base.specs.Pipe.{PipeState, next_write, after_message, after_piece}
-use Rattle.sync_base.specs.PlainPipe.{Kept, Shows}
+use Rattle.sync_base.specs.PlainPipe.{Contents, Shows}
 
 -- the first write kept is the one that is read next
-pub next_write_kept : (kept : Kept) (s : PipeState) (first : Write) → Shows kept s
+pub next_write_kept : (kept : Contents) (s : PipeState) (first : Write) → Shows kept s
     → 0 < length kept.unread → first ≡ get_or kept.unread 0 first → next_write s ≡ Some first
 next_write_kept kept s first shows some is_first =
     let left : length kept.unread ≡ length s.accepted - s.read_whole =
@@ -29,7 +29,7 @@ pub after_piece_used_up : (s : PipeState) (most : ℕ) (first : Write)
 after_piece_used_up s most first used_up = grind (arith, nat_tests)
 
 -- a write that is used up leaves, and the next read begins behind it
-pub shows_used_up : (kept : Kept) (s : PipeState) (most : ℕ) (first : Write) → Shows kept s
+pub shows_used_up : (kept : Contents) (s : PipeState) (most : ℕ) (first : Write) → Shows kept s
     → 0 < length kept.unread → first ≡ get_or kept.unread 0 first
     → length first.bytes - kept.offset ≤ most
     → Shows (record kept { unread = drop 1 kept.unread; offset = 0 }) (after_message most s)

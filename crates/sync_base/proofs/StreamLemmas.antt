@@ -12,7 +12,7 @@ use Rattle.sync_base.specs.Write.{Write}
 use Rattle.sync_base.specs.Pipe.{PipeState, Reach, reach_of, and_one, stops_at, joined, by_mode}
 use Rattle.sync_base.specs.Pipe.{after_read, after_message, after_stream, after_reach, unread_bytes}
 use Rattle.sync_base.specs.Pipe.{unread_writes}
-use Rattle.sync_base.specs.PlainPipe.{Kept, Shows, kept_bytes, kept_behind, first_bytes}
+use Rattle.sync_base.specs.PlainPipe.{Contents, Shows, kept_bytes, kept_behind, first_bytes}
 
 -- no bytes have no front
 pub take_none : (n : ℕ) (bytes : List ℕ) → bytes ≡ [] → take n bytes ≡ []
@@ -128,20 +128,20 @@ reach_on : (most offset : ℕ) (write : Write) (writes : List Write) → 0 < mos
 reach_on most offset write writes some used_up = grind (arith, nat_tests)
 
 -- what is kept behind a read that has no room
-pub keeps_all : (kept : Kept) (most : ℕ) → most ≡ 0
+pub keeps_all : (kept : Contents) (most : ℕ) → most ≡ 0
     → kept_behind kept (reach_of most kept.offset kept.unread) ≡ kept
 keeps_all kept most none =
     ap (λ m. kept_behind kept (reach_of m kept.offset kept.unread)) none
     ∙ ap (kept_behind kept) (reach_full kept.offset kept.unread)
 
 -- behind a read that finds no write
-pub keeps_none : (kept : Kept) (most : ℕ) → length kept.unread ≡ 0
+pub keeps_none : (kept : Contents) (most : ℕ) → length kept.unread ≡ 0
     → kept_behind kept (reach_of most kept.offset kept.unread) ≡ kept
 keeps_none kept most none =
     ap (λ writes. kept_behind kept (reach_of most kept.offset writes)) (nil_from_length _ none)
 
 -- behind a read that ends in the first write
-pub keeps_first : (kept : Kept) (most : ℕ) (first : Write) → 0 < most → 0 < length kept.unread
+pub keeps_first : (kept : Contents) (most : ℕ) (first : Write) → 0 < most → 0 < length kept.unread
     → first ≡ get_or kept.unread 0 first → most < length first.bytes - kept.offset
     → kept_behind kept (reach_of most kept.offset kept.unread)
     ≡ record kept { offset = kept.offset + most }
@@ -151,7 +151,7 @@ keeps_first kept most first room some is more =
     ∙ reach_in most kept.offset first (drop 1 kept.unread) room more)
 
 -- behind a read that goes on behind the first write
-pub keeps_behind : (kept : Kept) (most : ℕ) (first : Write) → 0 < most → 0 < length kept.unread
+pub keeps_behind : (kept : Contents) (most : ℕ) (first : Write) → 0 < most → 0 < length kept.unread
     → first ≡ get_or kept.unread 0 first → length first.bytes - kept.offset ≤ most
     → kept_behind kept (reach_of most kept.offset kept.unread)
     ≡ kept_behind (record kept { unread = drop 1 kept.unread; offset = 0 })
@@ -298,7 +298,7 @@ reach_loses_nothing most offset (write ∷ writes) begun =
         ∙ drop-drop k (length write.bytes) (joined (write ∷ writes))
 
 -- the pipe keeps what a read in stream mode leaves
-pub shows_behind : (kept : Kept) (s : PipeState) (most : ℕ) → Shows kept s
+pub shows_behind : (kept : Contents) (s : PipeState) (most : ℕ) → Shows kept s
     → kept.mode ≡ Stream
     → Shows (kept_behind kept (reach_of most kept.offset kept.unread)) (after_read most s)
 shows_behind kept s most shows stream =

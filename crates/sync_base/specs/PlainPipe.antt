@@ -7,11 +7,11 @@ use Rattle.sync_base.specs.declared.mode.Mode.{Mode}
 use Rattle.sync_base.specs.declared.limits.TheConstants.{MAX_PIPE_LIMIT}
 use Rattle.sync_base.specs.declared.answers.ReadAnswer.{ReadAnswer}
 use Rattle.sync_base.specs.declared.answers.ReadAnswer.TheVariants.{Got, Empty, End}
-use Rattle.sync_base.specs.declared.answers.Lent.{Lent}
-use Rattle.sync_base.specs.declared.answers.Lent.TheVariants as lent
+use Rattle.sync_base.specs.declared.answers.PeekAnswer.{PeekAnswer}
+use Rattle.sync_base.specs.declared.answers.PeekAnswer.TheVariants as peek
 
 -- what is kept
-pub record Kept : Type 0 where
+pub record Contents : Type 0 where
   pub limit : ℕ
   pub mode : Mode
   pub unread : List Write
@@ -19,7 +19,7 @@ pub record Kept : Type 0 where
   pub hung : Bool
 
 -- it keeps all of this state but the writes that are read whole
-pub record Shows (kept : Kept) (s : PipeState) : Type 0 where
+pub record Shows (kept : Contents) (s : PipeState) : Type 0 where
   pub limit : kept.limit ≡ s.limit
   pub mode : kept.mode ≡ s.mode
   pub unread : kept.unread ≡ drop s.read_whole s.accepted
@@ -33,16 +33,16 @@ first_bytes [] = []
 first_bytes (write ∷ writes) = write.bytes
 
 -- the bytes that are kept and not read
-abbrev pub kept_bytes : Kept → List ℕ
+abbrev pub kept_bytes : Contents → List ℕ
 kept_bytes kept = drop kept.offset (joined kept.unread)
 
 -- what is kept behind a read that goes on and comes so far
-abbrev pub kept_behind : Kept → Reach → Kept
+abbrev pub kept_behind : Contents → Reach → Contents
 kept_behind kept reach =
     record kept { unread = drop reach.whole kept.unread; offset = reach.offset }
 
 -- how many of them no read has begun
-abbrev pub kept_waiting : Kept → ℕ
+abbrev pub kept_waiting : Contents → ℕ
 kept_waiting kept = length kept.unread - (if nat_lt 0 kept.offset then 1 else 0)
 
 -- no direction has this limit
@@ -50,7 +50,7 @@ abbrev pub IsBadLimit : ℕ → Type 0
 IsBadLimit limit = (limit ≡ 0) ⊎ (MAX_PIPE_LIMIT < limit)
 
 -- what a read is answered whose bytes are lent
-abbrev pub lent_answer : Lent → ReadAnswer
-lent_answer (lent.Got bytes) = Got bytes.now
-lent_answer lent.Empty = Empty
-lent_answer lent.End = End
+abbrev pub lent_answer : PeekAnswer → ReadAnswer
+lent_answer (peek.Got bytes) = Got bytes.now
+lent_answer peek.Empty = Empty
+lent_answer peek.End = End

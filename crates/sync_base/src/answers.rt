@@ -25,7 +25,7 @@ pub enum ReadAnswer {
 
 /// What a read is answered where its bytes are lent and not given.
 #[derive(Clone, Copy)]
-pub enum Lent<'a> {
+pub enum PeekAnswer<'a> {
     /// The next bytes of one write. An empty write lends none.
     Got(&'a [u8]),
     /// All that was accepted is read.

@@ -19,7 +19,7 @@ pub mod plain_pipe;
 pub mod probe;
 pub mod threads_opts;
 
-pub use answers::{Lent, ReadAnswer, WriteAnswer};
+pub use answers::{PeekAnswer, ReadAnswer, WriteAnswer};
 pub use fault::Fault;
 pub use flags::Flags;
 pub use ids::{Pid, RendezId, Tag};

@@ -12,7 +12,7 @@ ghost use Rattle.sync_base.specs.PlainPipe.{kept_behind, first_bytes, lent_answe
 ghost use Rattle.sync_base.specs.declared.mode.Mode.TheVariants.{Message, Stream};
 ghost use Rattle.sync_base.specs.declared.limits.TheConstants.{ATOMIC_SIZE};
 
-use crate::answers::{Lent, ReadAnswer, WriteAnswer};
+use crate::answers::{PeekAnswer, ReadAnswer, WriteAnswer};
 use crate::fault::Fault;
 use crate::limits::{ATOMIC_SIZE, MAX_PIPE_LIMIT};
 use crate::mode::Mode;
@@ -52,9 +52,9 @@ pub struct PlainPipe {
 
 impl Model for PlainPipe {
     ghost use Rattle.std.specs.Prelude.{◌<◌, length};
-    ghost use Rattle.sync_base.specs.PlainPipe.{Kept, first_bytes};
+    ghost use Rattle.sync_base.specs.PlainPipe.{Contents, first_bytes};
 
-    ghost Value = { Kept };
+    ghost Value = { Contents };
 
     ghost view = { λ pipe. record {
       limit = pipe.limit;
@@ -177,9 +177,9 @@ impl PlainPipe {
         let alloc = *self.held.allocator();
         let mut room = Vec::new(alloc);
         let answer = match self.peek(most, &mut room)? {
-            Lent::Got(bytes) => ReadAnswer::Got(Piece::of(Vec::from_slice(alloc, bytes)?)),
-            Lent::Empty => ReadAnswer::Empty,
-            Lent::End => ReadAnswer::End,
+            PeekAnswer::Got(bytes) => ReadAnswer::Got(Piece::of(Vec::from_slice(alloc, bytes)?)),
+            PeekAnswer::Empty => ReadAnswer::Empty,
+            PeekAnswer::End => ReadAnswer::End,
         };
         self.pass(most);
         Ok(answer)
@@ -190,7 +190,7 @@ impl PlainPipe {
     /// `room` is not looked at, and no memory is taken.
     ///
     /// BadCount: `most` is 0. Memory: in stream mode, in place of `Got`.
-    pub fn peek<'a>(&'a self, most: u64, room: &'a mut Vec<u8>) -> Result<Lent<'a>, Fault>
+    pub fn peek<'a>(&'a self, most: u64, room: &'a mut Vec<u8>) -> Result<PeekAnswer<'a>, Fault>
         ensures bad_count { IsErrOf result Fault.BadCount ↔ (most ≡ 0) }
         ensures faults { IfErr result (λ fault.
             (fault ≡ Fault.BadCount) ⊎ (fault ≡ Fault.Memory)) }
@@ -227,17 +227,17 @@ impl PlainPipe {
     }
 
     /// The next piece of the next write.
-    fn peek_piece(&self, most: u64) -> Lent<'_>
+    fn peek_piece(&self, most: u64) -> PeekAnswer<'_>
         ensures { (s : PipeState) → Shows self.now s → lent_answer result ≡ message_answer most s }
     {
         let Some(first) = self.held.front() else {
             return self.lend_nothing();
         };
-        Lent::Got(front_of(&first.bytes[self.offset..], most))
+        PeekAnswer::Got(front_of(&first.bytes[self.offset..], most))
     }
 
     /// The next bytes, of however many writes.
-    fn peek_bytes<'a>(&self, most: u64, room: &'a mut Vec<u8>) -> Result<Lent<'a>, AllocError>
+    fn peek_bytes<'a>(&self, most: u64, room: &'a mut Vec<u8>) -> Result<PeekAnswer<'a>, AllocError>
         ensures answer { IfOk result (λ lent.
             lent_answer lent ≡ bytes_read self.now.hung (take most (kept_bytes self.now))) }
         ensures some { IsErr result → take most (kept_bytes self.now) ≢ [] }
@@ -247,14 +247,18 @@ impl PlainPipe {
         if room.is_empty() {
             return Ok(self.lend_nothing());
         }
-        Ok(Lent::Got(room.as_slice()))
+        Ok(PeekAnswer::Got(room.as_slice()))
     }
 
     /// What a read that finds no byte is answered.
-    fn lend_nothing<'a>(&self) -> Lent<'a>
+    fn lend_nothing<'a>(&self) -> PeekAnswer<'a>
         ensures { lent_answer result ≡ nothing_read self.now.hung }
     {
-        if self.hung { Lent::End } else { Lent::Empty }
+        if self.hung {
+            PeekAnswer::End
+        } else {
+            PeekAnswer::Empty
+        }
     }
 
     /// Puts the next bytes behind these, as many as there are and at most so many.

@@ -6,7 +6,7 @@ use Rattle.histories.specs.History.{IsLegal}
 use Rattle.tag_space.specs.declared.calls.GroupCall.{GroupCall}
 use Rattle.tag_space.specs.declared.calls.GroupCall.TheVariants.{Call, Collect, Leave}
 use Rattle.tag_space.specs.declared.calls.GroupReply.TheVariants.{Met, Wait}
-use Rattle.tag_space.specs.Group.{member_of}
+use Rattle.tag_space.specs.GroupObject.{member_of}
 use Rattle.tag_space.specs.Rendezvous.{Entry, Space, Pair, IsAnswered, IsRight, count_of, pairs_of}
 use Rattle.tag_space.specs.Rendezvous.{pair_made, rendezvous}
 use Rattle.tag_space.specs.WakeLaws.{WaitersAreFoundAbove}

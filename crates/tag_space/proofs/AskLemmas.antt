@@ -20,7 +20,7 @@ use Rattle.tag_space.specs.declared.calls.GroupReply.TheVariants.{Busy}
 use Rattle.tag_space.specs.declared.member.Member.{Member}
 use Rattle.tag_space.specs.declared.place.Place.{Place}
 use Rattle.tag_space.specs.declared.space.TagSpace.{TagSpace}
-use Rattle.tag_space.specs.Group.{group, member_of}
+use Rattle.tag_space.specs.GroupObject.{group, member_of}
 use Rattle.tag_space.specs.Members.{space_of, account_of, number_of, seen_of, IsOneOf}
 use Rattle.tag_space.specs.Members.{HasCallUnderWay, IsSameMember}
 use Rattle.tag_space.specs.Rendezvous.{Entry, Space, rendezvous, IsAnswered, IsRight, stage_of}
@@ -30,7 +30,7 @@ use Rattle.tag_space.proofs.OtherLemmas.{NoneBy, none_by, over_still, way_still,
 use Rattle.tag_space.specs.declared.limits.TheConstants.{LAST_MEETING}
 use Rattle.tag_space.proofs.CountLemmas.{fits_counts}
 use Rattle.tag_space.proofs.PromiseLemmas.{state_is_past}
-use Rattle.tag_space.proofs.SpaceLemmas.{groups_are_spaces}
+use Rattle.tag_space.proofs.SpaceLemmas.{objects_are_spaces}
 
 -- what a seat of the lock has seen is a history of the space
 pub knows_space : (space : TagSpace) (seat : LockSeat (List Place) GroupCall GroupReply)
@@ -41,7 +41,7 @@ knows_space space seat sees =
     let seen = seats.seen_of seat in
     record {
       history = record {
-        legal = groups_are_spaces (space_of space) seen
+        legal = objects_are_spaces (space_of space) seen
             (subst (λ s. IsLegal (meaning_of group) s seen)
             space.opened sees.history.legal);
         within = rw (← space.limited) sees.history.within;

@@ -1,6 +1,6 @@
 mod AnswerLemmas
-mod GroupLemmas
-mod LineLemmas
+mod GroupObjectLemmas
+mod EntryLemmas
 mod SearchLemmas
 mod RunLemmas
 mod TableLemmas

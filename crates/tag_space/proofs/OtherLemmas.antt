@@ -15,7 +15,7 @@ use Rattle.tag_space.specs.declared.calls.GroupCall.{GroupCall}
 use Rattle.tag_space.specs.declared.calls.GroupCall.TheVariants.{Call, Collect, Leave}
 use Rattle.tag_space.specs.declared.calls.GroupReply.{GroupReply}
 use Rattle.tag_space.specs.declared.calls.GroupReply.TheVariants.{Met, WasMet, Wait, Gone}
-use Rattle.tag_space.specs.Group.{member_of}
+use Rattle.tag_space.specs.GroupObject.{member_of}
 use Rattle.tag_space.specs.Outcome.{call_made, calls_by, IsOneOfPairs}
 use Rattle.tag_space.specs.Rendezvous.{Entry, Space, Offer, Pair, Stage, stage_of, stage_after}
 use Rattle.tag_space.specs.Rendezvous.{pairs_of, found_by, pair_with, rendezvous, last_wait}

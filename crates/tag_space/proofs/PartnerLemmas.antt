@@ -8,7 +8,7 @@ use Rattle.histories.specs.History.{IsLegal, AreByBelow}
 use Rattle.kernel_lock.specs.Definition.{server}
 use Rattle.tag_space.specs.declared.calls.GroupCall.{GroupCall}
 use Rattle.tag_space.specs.declared.calls.GroupCall.TheVariants.{Call, Collect, Leave}
-use Rattle.tag_space.specs.Group.{member_of}
+use Rattle.tag_space.specs.GroupObject.{member_of}
 use Rattle.tag_space.specs.Laws.{PartnersAreCalls, PairsStay, EachGetsOneValue}
 use Rattle.tag_space.specs.Laws.{CallsAreByMembers, PairedIsNotAlone}
 use Rattle.tag_space.specs.Outcome.{call_made, calls_by, IsOneOfPairs, IsOneOfCalls}

@@ -13,7 +13,7 @@ use Rattle.tag_space.specs.declared.limits.TheConstants.{LAST_MEETING}
 use Rattle.tag_space.specs.declared.member.Member.{Member}
 use Rattle.tag_space.specs.declared.space.TagSpace.{TagSpace}
 use Rattle.tag_space.specs.Asking.{Asks, Requests, IsCalled, IsCollected, IsLeft}
-use Rattle.tag_space.specs.Group.{member_of}
+use Rattle.tag_space.specs.GroupObject.{member_of}
 use Rattle.tag_space.specs.Members.{space_of, account_of, number_of, seen_of}
 use Rattle.tag_space.specs.Members.{IsMemberOf, IsOneOf, IsSameMember, IsWaitingMember}
 use Rattle.tag_space.specs.Rendezvous.{Entry, Offer, stage_of, found_by}

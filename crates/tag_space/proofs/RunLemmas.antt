@@ -1,4 +1,4 @@
--- Lines in one piece with room on both sides: what they are once a line is put in or taken out.
+-- Entries in one piece with room on both sides: what they are once an entry is put in or taken out.
 use Rattle.std.proofs.Common.{◌≡◌, ℕ, ◌+◌, ◌-◌, ◌<◌, ◌≤◌, List, length, take, drop, get_or}
 use Rattle.std.proofs.Common.{sym, ap, ◌∙◌, arith, inl, inr, slice_set}
 use Rattle.std.specs.List.{insert, remove, CopiedTo, SameBelow, SameFrom}
@@ -9,43 +9,46 @@ use Rattle.std.proofs.lemmas.List.Edits.{length-insert, get_or-insert_below}
 use Rattle.std.proofs.lemmas.List.Edits.{get_or-insert_at, get_or-insert_above}
 use Rattle.std.proofs.lemmas.List.Edits.{length-remove, get_or-remove_below, get_or-remove_above}
 use Rattle.std.proofs.lemmas.Grind.{common_steps}
-use Rattle.tag_space.specs.Table.{Line}
+use Rattle.tag_space.specs.Table.{TagEntry}
 
--- the lines of a run: so many, from a place on
-abbrev pub run : List Line → ℕ → ℕ → List Line
+-- the entries of a run: so many, from a place on
+abbrev pub run : List TagEntry → ℕ → ℕ → List TagEntry
 run slots first count = take count (drop first slots)
 
--- a line of a run, by its place among the slots
-read : (slots : List Line) (first count k : ℕ) (d : Line) → k < count →
+-- an entry of a run, by its place among the slots
+read : (slots : List TagEntry) (first count k : ℕ) (d : TagEntry) → k < count →
     get_or (run slots first count) k d ≡ get_or slots (first + k) d
 read slots first count k d below = get_or-take count (drop first slots) k d below ∙
     get_or-drop first slots k d
 
-run_length : (slots : List Line) (first count : ℕ) → first + count ≤ length slots →
+run_length : (slots : List TagEntry) (first count : ℕ) → first + count ≤ length slots →
     length (run slots first count) ≡ count
 run_length slots first count within = grind (arith, common_steps)
 
--- lines that are those before with one more
-is_with : (old new : List Line) (at : ℕ) (line : Line) → at ≤ length old → length new ≡ length old +
-    1 → ((k : ℕ) (d : Line) → k < at → get_or new k d ≡ get_or old k d) →
-    ((d : Line) → get_or new at d ≡ line) → ((k : ℕ) (d : Line) → at < k → k < length new →
-    get_or new k d ≡ get_or old (k - 1) d) → new ≡ insert old at line
-is_with old new at line in_range longer below here above =
-    same_lists new (insert old at line) (omega (arith, longer, length-insert old at line in_range))
+-- entries that are those before with one more
+is_with : (old new : List TagEntry) (at : ℕ) (entry : TagEntry) → at ≤ length old → length new
+    ≡ length old +
+    1 → ((k : ℕ) (d : TagEntry) → k < at → get_or new k d ≡ get_or old k d) →
+    ((d : TagEntry) → get_or new at d ≡ entry) → ((k : ℕ) (d : TagEntry) → at < k → k < length new →
+    get_or new k d ≡ get_or old (k - 1) d) → new ≡ insert old at entry
+is_with old new at entry in_range longer below here above =
+    same_lists new (insert old at entry)
+    (omega (arith, longer, length-insert old at entry in_range))
     (λ k d within. elim (cases_lt k at) [
-      | inl less ↦ below k d less ∙ sym (get_or-insert_below old at line d k less in_range)
+      | inl less ↦ below k d less ∙ sym (get_or-insert_below old at entry d k less in_range)
       | inr not_less ↦ elim (cases_eq k at) [
-        | inl same ↦ rw same (here d ∙ sym (get_or-insert_at old at line d in_range))
+        | inl same ↦ rw same (here d ∙ sym (get_or-insert_at old at entry d in_range))
         | inr differs ↦
             let more : k ≡ k - 1 + 1 = omega arith in
-            above k d (omega arith) within ∙ sym (ap (λ j. get_or (insert old at line) j d) more ∙
-            get_or-insert_above old at line d (k - 1) (omega arith) in_range)
+            above k d (omega arith) within ∙ sym (ap (λ j. get_or (insert old at entry) j d) more ∙
+            get_or-insert_above old at entry d (k - 1) (omega arith) in_range)
       ]
     ])
 
--- lines that are those before without one
-is_without : (old new : List Line) (at : ℕ) → at < length old → length new + 1 ≡ length old →
-    ((k : ℕ) (d : Line) → k < at → get_or new k d ≡ get_or old k d) → ((k : ℕ) (d : Line) → at ≤ k →
+-- entries that are those before without one
+is_without : (old new : List TagEntry) (at : ℕ) → at < length old → length new + 1 ≡ length old →
+    ((k : ℕ) (d : TagEntry) → k < at → get_or new k d ≡ get_or old k d)
+    → ((k : ℕ) (d : TagEntry) → at ≤ k →
     k < length new → get_or new k d ≡ get_or old (k + 1) d) → new ≡ remove old at
 is_without old new at in_range shorter below above =
     same_lists new (remove old at) (omega (arith, shorter, length-remove old at in_range))
@@ -55,64 +58,64 @@ is_without old new at in_range shorter below above =
           sym (get_or-remove_above old at d k (omega arith) in_range)
     ])
 
-module _ (slots moved : List Line) (first count at n : ℕ) (within : first + count ≤
+module _ (slots moved : List TagEntry) (first count at n : ℕ) (within : first + count ≤
     length slots) (as_many : length moved ≡ length slots) where
-  -- a line is put in, and those before it moved down
-  pub put_down : (line : Line) → 0 < first → at ≤ count → n ≡ at →
+  -- an entry is put in, and those before it moved down
+  pub put_down : (entry : TagEntry) → 0 < first → at ≤ count → n ≡ at →
       CopiedTo slots moved first (first - 1) n → SameFrom slots moved (first - 1 + n) →
-      run (slice_set moved (first - 1 + at) line) (first - 1) (count + 1) ≡
-      insert (run slots first count) at line
-  put_down line room in_range many copied same =
-      let new : List Line = slice_set moved (first - 1 + at) line in
+      run (slice_set moved (first - 1 + at) entry) (first - 1) (count + 1) ≡
+      insert (run slots first count) at entry
+  put_down entry room in_range many copied same =
+      let new : List TagEntry = slice_set moved (first - 1 + at) entry in
       let before = run_length slots first count within in
       let after : length (run new (first - 1) (count + 1)) ≡ count + 1 =
       run_length new (first - 1) (count + 1) (rw length-set (omega (arith, as_many))) in
-      is_with (run slots first count) (run new (first - 1) (count + 1)) at line
+      is_with (run slots first count) (run new (first - 1) (count + 1)) at entry
       (omega (arith, before)) (omega (arith, before, after))
       (λ k d less.
       read new (first - 1) (count + 1) k d (omega arith)
-      ∙ get_or-set_other moved (first - 1 + at) (first - 1 + k) line d (λ eq. omega arith)
+      ∙ get_or-set_other moved (first - 1 + at) (first - 1 + k) entry d (λ eq. omega arith)
       ∙ copied (first - 1 + k) d (omega arith) (omega arith)
       ∙ ap (λ j. get_or slots j d) {x = first + (first - 1 + k - (first - 1))} {y = first +
       k} (omega arith)
       ∙ sym (read slots first count k d (omega arith)))
       (λ d. read new (first - 1) (count + 1) at d (omega arith) ∙
-      get_or-set_same moved (first - 1 + at) line d (omega (arith, as_many)))
+      get_or-set_same moved (first - 1 + at) entry d (omega (arith, as_many)))
       (λ k d more below.
       read new (first - 1) (count + 1) k d (omega (arith, after))
-      ∙ get_or-set_other moved (first - 1 + at) (first - 1 + k) line d (λ eq. omega arith)
+      ∙ get_or-set_other moved (first - 1 + at) (first - 1 + k) entry d (λ eq. omega arith)
       ∙ same (first - 1 + k) d (omega arith)
       ∙ ap (λ j. get_or slots j d) {x = first - 1 + k} {y = first + (k - 1)} (omega arith)
       ∙ sym (read slots first count (k - 1) d (omega (arith, after))))
 
-  -- a line is put in, and those behind its place moved up
-  pub put_up : (line : Line) → first + count < length slots → at ≤ count → at + n ≡ count →
+  -- an entry is put in, and those behind its place moved up
+  pub put_up : (entry : TagEntry) → first + count < length slots → at ≤ count → at + n ≡ count →
       CopiedTo slots moved (first + at) (first + at + 1) n →
-      SameBelow slots moved (first + at + 1) → run (slice_set moved (first + at) line) first
-      (count + 1) ≡ insert (run slots first count) at line
-  put_up line room in_range many copied same =
-      let new : List Line = slice_set moved (first + at) line in
+      SameBelow slots moved (first + at + 1) → run (slice_set moved (first + at) entry) first
+      (count + 1) ≡ insert (run slots first count) at entry
+  put_up entry room in_range many copied same =
+      let new : List TagEntry = slice_set moved (first + at) entry in
       let before = run_length slots first count within in
       let after : length (run new first (count + 1)) ≡ count + 1 =
       run_length new first (count + 1) (rw length-set (omega (arith, as_many))) in
-      is_with (run slots first count) (run new first (count + 1)) at line (omega (arith, before))
+      is_with (run slots first count) (run new first (count + 1)) at entry (omega (arith, before))
       (omega (arith, before, after))
       (λ k d less.
       read new first (count + 1) k d (omega arith)
-      ∙ get_or-set_other moved (first + at) (first + k) line d (λ eq. omega arith)
+      ∙ get_or-set_other moved (first + at) (first + k) entry d (λ eq. omega arith)
       ∙ same (first + k) d (omega arith)
       ∙ sym (read slots first count k d (omega arith)))
       (λ d. read new first (count + 1) at d (omega arith) ∙
-      get_or-set_same moved (first + at) line d (omega (arith, as_many)))
+      get_or-set_same moved (first + at) entry d (omega (arith, as_many)))
       (λ k d more below.
       read new first (count + 1) k d (omega (arith, after))
-      ∙ get_or-set_other moved (first + at) (first + k) line d (λ eq. omega arith)
+      ∙ get_or-set_other moved (first + at) (first + k) entry d (λ eq. omega arith)
       ∙ copied (first + k) d (omega arith) (omega (arith, after))
       ∙ ap (λ j. get_or slots j d) {x = first + at + (first + k - (first + at + 1))} {y = first +
       (k - 1)} (omega arith)
       ∙ sym (read slots first count (k - 1) d (omega (arith, after))))
 
-  -- a line is taken out, and those before it moved up
+  -- an entry is taken out, and those before it moved up
   pub take_up : at < count → n ≡ at → CopiedTo slots moved first (first + 1) n →
       SameFrom slots moved (first + 1 + n) → run moved (first + 1) (count - 1) ≡
       remove (run slots first count) at
@@ -134,7 +137,7 @@ module _ (slots moved : List Line) (first count at n : ℕ) (within : first + co
       ∙ ap (λ j. get_or slots j d) {x = first + 1 + k} {y = first + (k + 1)} (omega arith)
       ∙ sym (read slots first count (k + 1) d (omega (arith, after))))
 
-  -- a line is taken out, and those behind it moved down
+  -- an entry is taken out, and those behind it moved down
   pub take_down : at < count → at + 1 + n ≡ count →
       CopiedTo slots moved (first + at + 1) (first + at) n → SameBelow slots moved (first + at) →
       run moved first (count - 1) ≡ remove (run slots first count) at

@@ -1,16 +1,16 @@
--- A step of a search leaves a quarter of the lines.
+-- A step of a search leaves a quarter of the entries.
 use Rattle.std.proofs.Common.{◌≡◌, ℕ, zero, suc, ◌+◌, ◌-◌, ◌*◌, ◌<◌, ◌≤◌, List, length}
 use Rattle.std.proofs.Common.{ap, subst, arith}
-use Rattle.tag_space.specs.Table.{Line, tag_at, IsRising}
+use Rattle.tag_space.specs.Table.{TagEntry, tag_at, IsRising}
 use Rattle.tag_space.specs.Search.{IsNarrowed, AreSmaller}
 
-module _ (table : List Line) (rising : IsRising table) where
-  -- a line further on has no smaller tag
+module _ (table : List TagEntry) (rising : IsRising table) where
+  -- an entry further on has no smaller tag
   rises_weakly : (i j : ℕ) → i ≤ j → j < length table → tag_at table i ≤ tag_at table j
   rises_weakly i j le in_range = grind (arith, rising i j, λ (same : i ≡ j). ap (tag_at table) same)
 
   module _ (tag from left quarter : ℕ) (before : IsNarrowed table tag from left) where
-    -- the first lines have smaller tags if the last of them has, and so on behind them
+    -- the first entries have smaller tags if the last of them has, and so on behind them
     narrowed_by : (gone : ℕ) → 4 * quarter ≤ left + 1 → gone ≤ 3 * quarter
         → (0 < gone → tag_at table (from + gone - 1) < tag)
         → (gone < 3 * quarter → tag ≤ tag_at table (from + gone + quarter - 1))

@@ -11,8 +11,8 @@ use Rattle.histories.specs.History.{IsLegal}
 use Rattle.histories.specs.Image.{IsImage}
 use Rattle.histories.proofs.ImageLemmas.{image_legal}
 use Rattle.kernel_lock.specs.Definition.{meaning_of}
-use Rattle.tag_space.specs.Laws.{GroupsAreSpaces}
-use Rattle.tag_space.specs.Group.{group}
+use Rattle.tag_space.specs.Laws.{ObjectsAreSpaces}
+use Rattle.tag_space.specs.GroupObject.{group}
 use Rattle.std.proofs.lemmas.List.Sums.{sum_by-cons, fails_before_first}
 use Rattle.std.specs.List.{position_or_len}
 use Rattle.std.proofs.lemmas.List.Quantifiers.{position-Some}
@@ -21,14 +21,15 @@ use Rattle.tag_space.specs.declared.calls.GroupCall.{GroupCall}
 use Rattle.tag_space.specs.declared.calls.GroupCall.TheVariants.{Call, Collect, Leave}
 use Rattle.tag_space.specs.declared.calls.GroupReply.{GroupReply}
 use Rattle.tag_space.specs.declared.calls.GroupReply.TheVariants as reply
-use Rattle.tag_space.specs.declared.place.Standing.{Standing}
-use Rattle.tag_space.specs.declared.place.Standing.TheVariants.{Idle, Waiting, Met}
+use Rattle.tag_space.specs.declared.place.CallState.{CallState}
+use Rattle.tag_space.specs.declared.place.CallState.TheVariants.{Idle, Waiting, Met}
 use Rattle.tag_space.specs.declared.place.Place.{Place}
 use Rattle.tag_space.specs.declared.limits.TheConstants.{LAST_MEETING}
-use Rattle.tag_space.specs.Group.{place_of, fresh_place, put, waits_with, waiter_of, may_call}
-use Rattle.tag_space.specs.Group.{is_idle}
-use Rattle.tag_space.specs.Group.{answer_to, places_after, answer_to_call, after_call, value_given}
-use Rattle.tag_space.specs.Group.{opening, answer_to_collect, answer_to_leave, after_collect}
+use Rattle.tag_space.specs.GroupObject.{place_of, fresh_place, put, waits_with, waiter_of, may_call}
+use Rattle.tag_space.specs.GroupObject.{is_idle}
+use Rattle.tag_space.specs.GroupObject.{answer_to, places_after, answer_to_call, after_call}
+use Rattle.tag_space.specs.GroupObject.{value_given}
+use Rattle.tag_space.specs.GroupObject.{opening, answer_to_collect, answer_to_leave, after_collect}
 use Rattle.tag_space.specs.Table.{waits_at}
 use Rattle.tag_space.proofs.TableLemmas.{waiter_in_range}
 use Rattle.tag_space.proofs.WaitLemmas.{waits_last}
@@ -38,18 +39,18 @@ use Rattle.tag_space.specs.Rendezvous.{pairs_of, count_of, MayCall, NobodyWaits}
 use Rattle.tag_space.specs.Rendezvous.{IsAnswered, found_by, pair_with, rendezvous}
 
 -- how a member with this stage stands
-abbrev pub standing_of : Stage → Standing
-standing_of Over = Idle
-standing_of (Waits offer) = Waiting (record { 0 = offer.tag }) offer.value
-standing_of (Paired pair) = Met pair.finding.value
+abbrev pub state_of : Stage → CallState
+state_of Over = Idle
+state_of (Waits offer) = Waiting (record { 0 = offer.tag }) offer.value
+state_of (Paired pair) = Met pair.finding.value
 
 -- the object keeps of each member what the history says
 pub record Shows (space : Space) (places : List Place) (past : List Entry) : Type 0 where
   -- there is a place for each member
   pub members : length places ≡ space.members
   -- each member stands as the history says of its last call that had to wait
-  pub standings : (member : ℕ) → (place_of places member).standing ≡
-      standing_of (stage_of past member)
+  pub states : (member : ℕ) → (place_of places member).state ≡
+      state_of (stage_of past member)
   -- a call by which a member waits is that member's own
   pub owners : (member : ℕ) (offer : Offer) → stage_of past member ≡ Waits offer → offer.member ≡
       member
@@ -58,7 +59,7 @@ pub record Shows (space : Space) (places : List Place) (past : List Entry) : Typ
       count_of space past member
 
 -- who stands idle has no call that isn't over
-over_from_idle : (stage : Stage) → is_idle (standing_of stage) ≡ true → stage ≡ Over
+over_from_idle : (stage : Stage) → is_idle (state_of stage) ≡ true → stage ≡ Over
 over_from_idle Over idle = refl
 over_from_idle (Waits offer) idle = absurd (false≢true idle)
 over_from_idle (Paired pair) idle = absurd (false≢true idle)
@@ -72,14 +73,14 @@ pub record WaitsWith (stage : Stage) (tag : ℕ) : Type 0 where
   -- it has this tag
   pub tag_is : offer.tag ≡ tag
   -- the value that is kept is the one that it gives
-  pub value_is : value_given (standing_of stage) ≡ offer.value
+  pub value_is : value_given (state_of stage) ≡ offer.value
 
-waits_from_standing : (stage : Stage) (tag : ℕ) → waits_with tag (standing_of stage) ≡ true →
+waits_from_state : (stage : Stage) (tag : ℕ) → waits_with tag (state_of stage) ≡ true →
     WaitsWith stage tag
-waits_from_standing Over tag waits = absurd (false≢true waits)
-waits_from_standing (Waits offer) tag waits =
+waits_from_state Over tag waits = absurd (false≢true waits)
+waits_from_state (Waits offer) tag waits =
     record { offer = offer; stage_is = refl; tag_is = grind (arith, nat_tests); value_is = refl }
-waits_from_standing (Paired pair) tag waits = absurd (false≢true waits)
+waits_from_state (Paired pair) tag waits = absurd (false≢true waits)
 
 module _ (space : Space) (places : List Place) (past : List Entry) (shows :
     Shows space places past) where
@@ -88,11 +89,11 @@ module _ (space : Space) (places : List Place) (past : List Entry) (shows :
   may_call_is member may =
       elim (cases_lt member (length places)) [
         | inl below ↦
-            let idle : is_idle (place_of places member).standing ≡ true =
+            let idle : is_idle (place_of places member).state ≡ true =
             grind (arith, nat_tests) in
             record {
               exists = rw (← shows.members) below;
-              is_over = over_from_idle (stage_of past member) (rw (← shows.standings member) idle);
+              is_over = over_from_idle (stage_of past member) (rw (← shows.states member) idle);
             }
         | inr past_last ↦ absurd (false≢true (let no : nat_lt member (length places) ≡ false = grind
             (arith, nat_tests) in rw no at may))
@@ -104,30 +105,30 @@ module _ (space : Space) (places : List Place) (past : List Entry) (shows :
   may_not_call_is member not_may may =
       let below : nat_lt member (length places) ≡ true =
       rw shows.members (grind (arith, nat_tests, may.exists)) in
-      let idle : is_idle (place_of places member).standing ≡ true =
-      rw (shows.standings member) (rw may.is_over refl) in
+      let idle : is_idle (place_of places member).state ≡ true =
+      rw (shows.states member) (rw may.is_over refl) in
       let yes : may_call places member ≡ true = rw below idle in
       false≢true (sym not_may ∙ yes)
 
   -- nobody whom the object doesn't find waits
   pub nobody_waits : (tag : ℕ) → waiter_of places tag ≡ None → NobodyWaits past tag
   nobody_waits tag none member offer waits same =
-      let standing : (place_of places member).standing ≡
-      Waiting (record { 0 = offer.tag }) offer.value = shows.standings member ∙
-      ap standing_of waits in
-      let here : waits_at places tag member ≡ true = rw standing (grind (arith, nat_tests)) in
+      let state : (place_of places member).state ≡
+      Waiting (record { 0 = offer.tag }) offer.value = shows.states member ∙
+      ap state_of waits in
+      let here : waits_at places tag member ≡ true = rw state (grind (arith, nat_tests)) in
       let below = waiter_in_range places tag member here in
-      let p : Place → Bool = λ place. waits_with tag place.standing in
-      elim (cases_lt (position_or_len (λ (place : Place). waits_with tag place.standing) places)
+      let p : Place → Bool = λ place. waits_with tag place.state in
+      elim (cases_lt (position_or_len (λ (place : Place). waits_with tag place.state) places)
       (length places)) [
         | inl found ↦
-            let test : nat_lt (position_or_len (λ (place : Place). waits_with tag place.standing)
+            let test : nat_lt (position_or_len (λ (place : Place). waits_with tag place.state)
             places) (length places) ≡ true = grind (arith, nat_tests) in
-            let some : Some (position_or_len (λ (place : Place). waits_with tag place.standing)
+            let some : Some (position_or_len (λ (place : Place). waits_with tag place.state)
             places) ≡ None = rw test at none in
             cc
         | inr past_last ↦
-            let fails = fails_before_first (λ (place : Place). waits_with tag place.standing) places
+            let fails = fails_before_first (λ (place : Place). waits_with tag place.state) places
             member (fresh_place 0) (omega arith) in
             false≢true (sym fails ∙ here)
       ]
@@ -136,10 +137,10 @@ module _ (space : Space) (places : List Place) (past : List Entry) (shows :
   pub somebody_waits : (tag other : ℕ) → waiter_of places tag ≡ Some other →
       (other < space.members) × WaitsWith (stage_of past other) tag
   somebody_waits tag other found =
-      let first = position-Some (λ (place : Place). waits_with tag place.standing) places other
+      let first = position-Some (λ (place : Place). waits_with tag place.state) places other
       (fresh_place 0) found in (
         rw (← shows.members) first.0,
-        waits_from_standing (stage_of past other) tag (rw (← shows.standings other) first.1),
+        waits_from_state (stage_of past other) tag (rw (← shows.states other) first.1),
       )
 
 -- a history that goes on with an entry that changes no stage and makes no pair is shown as before
@@ -149,43 +150,43 @@ pub shows_still : (space : Space) (places : List Place) (past : List Entry) (ent
     Shows space places (entry ∷ past)
 shows_still space places past entry shows stages pairs = record {
   members = shows.members;
-  standings = λ member. rw (stages member) (shows.standings member);
+  states = λ member. rw (stages member) (shows.states member);
   owners = λ member offer waits. shows.owners member offer (sym (stages member) ∙ waits);
   counts = λ member below. rw pairs (shows.counts member below);
 }
 
 -- so is one that goes on with an entry that changes one member
 pub shows_put : (space : Space) (places : List Place) (past : List Entry) (entry : Entry) (member :
-    ℕ) (standing : Standing) (count : ℕ) → Shows space places past → member < space.members →
-    (place_of (put places member standing count) member).standing ≡
-    standing_of (stage_of (entry ∷ past) member) →
+    ℕ) (state : CallState) (count : ℕ) → Shows space places past → member < space.members →
+    (place_of (put places member state count) member).state ≡
+    state_of (stage_of (entry ∷ past) member) →
     ((offer : Offer) → stage_of (entry ∷ past) member ≡ Waits offer → offer.member ≡ member) →
     ((other : ℕ) → other ≢ member → stage_of (entry ∷ past) other ≡ stage_of past other) → count ≡
     count_of space (entry ∷ past) member → ((other : ℕ) → other ≢ member →
     count_of space (entry ∷ past) other ≡ count_of space past other) →
-    Shows space (put places member standing count) (entry ∷ past)
-shows_put space places past entry member standing count shows below stands owns elsewhere is_count
+    Shows space (put places member state count) (entry ∷ past)
+shows_put space places past entry member state count shows below stands owns elsewhere is_count
     counted = record {
       members = length-set places member _ ∙ shows.members;
-      standings = standings;
+      states = states;
       owners = owners;
       counts = counts;
     }
   where
-    others : (other : ℕ) → other ≢ member → place_of (put places member standing count) other ≡
+    others : (other : ℕ) → other ≢ member → place_of (put places member state count) other ≡
         place_of places other
     others other differs = get_or-set_other places member other _ (fresh_place 0) differs
 
-    mine : place_of (put places member standing count) member ≡
-        record { standing = standing; meetings = count }
+    mine : place_of (put places member state count) member ≡
+        record { state = state; meetings = count }
     mine = get_or-set_same places member _ (fresh_place 0) (rw shows.members below)
 
-    standings : (other : ℕ) → (place_of (put places member standing count) other).standing ≡
-        standing_of (stage_of (entry ∷ past) other)
-    standings other = elim (cases_eq other member) [
-      | inl same ↦ subst (λ m. (place_of (put places member standing count) m).standing ≡
-          standing_of (stage_of (entry ∷ past) m)) (sym same) stands
-      | inr differs ↦ rw (others other differs, elsewhere other differs) (shows.standings other)
+    states : (other : ℕ) → (place_of (put places member state count) other).state ≡
+        state_of (stage_of (entry ∷ past) other)
+    states other = elim (cases_eq other member) [
+      | inl same ↦ subst (λ m. (place_of (put places member state count) m).state ≡
+          state_of (stage_of (entry ∷ past) m)) (sym same) stands
+      | inr differs ↦ rw (others other differs, elsewhere other differs) (shows.states other)
     ]
 
     owners : (other : ℕ) (offer : Offer) → stage_of (entry ∷ past) other ≡ Waits offer →
@@ -197,10 +198,10 @@ shows_put space places past entry member standing count shows below stands owns 
     ]
 
     counts : (other : ℕ) → other < space.members →
-        (place_of (put places member standing count) other).meetings ≡
+        (place_of (put places member state count) other).meetings ≡
         count_of space (entry ∷ past) other
     counts other within = elim (cases_eq other member) [
-      | inl same ↦ subst (λ m. (place_of (put places member standing count) m).meetings ≡
+      | inl same ↦ subst (λ m. (place_of (put places member state count) m).meetings ≡
           count_of space (entry ∷ past) m) (sym same) (ap (λ (place : Place). place.meetings) mine ∙
           is_count)
       | inr differs ↦ ap (λ (place : Place). place.meetings) (others other differs) ∙
@@ -208,10 +209,10 @@ shows_put space places past entry member standing count shows below stands owns 
     ]
 
 -- a member stands as it was put
-stands_put : (places : List Place) (member : ℕ) (standing : Standing) (count : ℕ) → member <
-    length places → (place_of (put places member standing count) member).standing ≡ standing
-stands_put places member standing count below =
-    ap (λ (place : Place). place.standing) (get_or-set_same places member _ (fresh_place 0) below)
+stands_put : (places : List Place) (member : ℕ) (state : CallState) (count : ℕ) → member <
+    length places → (place_of (put places member state count) member).state ≡ state
+stands_put places member state count below =
+    ap (λ (place : Place). place.state) (get_or-set_same places member _ (fresh_place 0) below)
 
 -- a test of two numbers
 yes : (a : ℕ) → eqb a a ≡ true
@@ -238,7 +239,7 @@ module _ (space : Space) (places : List Place) (past : List Entry) (shows :
       rw (yes member) refl in
       shows_put space places past entry member (Waiting tag value) count shows below
       (stands_put places member (Waiting tag value) count (rw shows.members below) ∙
-      sym (ap standing_of here))
+      sym (ap state_of here))
       (λ offer waits. let same = sym here ∙ waits in cc)
       (λ other differs. rw (no member other differs) refl)
       (is_count ∙ shows.counts member below)
@@ -258,7 +259,7 @@ module _ (space : Space) (places : List Place) (past : List Entry) (shows :
       let same_count : (other : ℕ) → count_of space (entry ∷ past) other ≡
       count_of space past other = λ other. rw pairs refl in
       shows_put space places past entry member Idle count shows below
-      (stands_put places member Idle count (rw shows.members below) ∙ sym (ap standing_of here))
+      (stands_put places member Idle count (rw shows.members below) ∙ sym (ap state_of here))
       (λ offer waits. let same = sym here ∙ waits in cc)
       (λ other differs. stages other ∙ rw (no member other differs) refl)
       (is_count ∙ shows.counts member below ∙ sym (same_count member))
@@ -294,7 +295,7 @@ module _ (space : Space) (places : List Place) (past : List Entry) (shows :
       m) 1 0) pair (pairs_of past)) in
       shows_put space places past entry other (Met value) count shows below
       (stands_put places other (Met value) count (rw shows.members below) ∙
-      sym (ap standing_of here))
+      sym (ap state_of here))
       (λ again is. let same = sym here ∙ is in cc)
       (λ third differs. rw (no other third differs) refl)
       (let one : cond {A = ℕ} (eqb offer.member other) 1 0 ≡ 1 = rw mine (rw (yes other) refl) in
@@ -307,11 +308,11 @@ module _ (space : Space) (places : List Place) (past : List Entry) (shows :
       omega arith)
 
 -- a place that is put as it stands
-put_same : (places : List Place) (member : ℕ) (standing : Standing) →
-    (place_of places member).standing ≡ standing →
-    put places member standing (place_of places member).meetings ≡ places
-put_same places member standing stands =
-    ap (λ (s : Standing). put places member s (place_of places member).meetings) (sym stands) ∙
+put_same : (places : List Place) (member : ℕ) (state : CallState) →
+    (place_of places member).state ≡ state →
+    put places member state (place_of places member).meetings ≡ places
+put_same places member state stands =
+    ap (λ (s : CallState). put places member s (place_of places member).meetings) (sym stands) ∙
     set-get_or places member (fresh_place 0)
 
 module _ (space : Space) (places : List Place) (past : List Entry) (shows :
@@ -330,8 +331,8 @@ module _ (space : Space) (places : List Place) (past : List Entry) (shows :
       (after_call places member tag value found)
   call_by_waiter member tag value may (Some other) found =
       let waits = somebody_waits space places past shows tag.0 other found in
-      let value_is : value_given (place_of places other).standing ≡ waits.1.offer.value =
-      ap value_given (shows.standings other) ∙ waits.1.value_is in
+      let value_is : value_given (place_of places other).state ≡ waits.1.offer.value =
+      ap value_given (shows.states other) ∙ waits.1.value_is in
       record {
         answered = (
           may,
@@ -385,14 +386,14 @@ module _ (space : Space) (places : List Place) (past : List Entry) (shows :
   -- a member asks, by what became of its call
   collect_by_stage : (member : ℕ) → member < space.members → (stage : Stage) →
       stage_of past member ≡ stage → IsStepped (Collect member)
-      (answer_to_collect (standing_of stage) (place_of places member).meetings)
-      (put places member (after_collect (standing_of stage)) (place_of places member).meetings)
+      (answer_to_collect (state_of stage) (place_of places member).meetings)
+      (put places member (after_collect (state_of stage)) (place_of places member).meetings)
   collect_by_stage member below Over is = record {
     answered = (
       record { exists = below; none = λ pair paired. let never = sym is ∙ paired in cc },
       shows.counts member below,
     );
-    shown = rw (put_same places member Idle (shows.standings member ∙ ap standing_of is))
+    shown = rw (put_same places member Idle (shows.states member ∙ ap state_of is))
         (shows_still space places past (record {
           by = by;
           request = Collect member;
@@ -406,7 +407,7 @@ module _ (space : Space) (places : List Place) (past : List Entry) (shows :
       shows.counts member below,
     );
     shown = rw (put_same places member (Waiting (record { 0 = offer.tag }) offer.value)
-        (shows.standings member ∙ ap standing_of is))
+        (shows.states member ∙ ap state_of is))
         (shows_still space places past (record {
           by = by;
           request = Collect member;
@@ -425,7 +426,7 @@ module _ (space : Space) (places : List Place) (past : List Entry) (shows :
   step_collect member = elim (cases_lt member (length places)) [
     | inl below ↦
         let test : nat_lt member (length places) ≡ true = grind (arith, nat_tests) in
-        rw (test, shows.standings member) (collect_by_stage member (rw (← shows.members) below)
+        rw (test, shows.states member) (collect_by_stage member (rw (← shows.members) below)
         (stage_of past member) refl)
     | inr past_last ↦
         let test : nat_lt member (length places) ≡ false = grind (arith, nat_tests) in
@@ -437,7 +438,7 @@ module _ (space : Space) (places : List Place) (past : List Entry) (shows :
   ]
 
   leave_by_stage : (member : ℕ) → member < space.members → (stage : Stage) → stage_of past member ≡
-      stage → IsStepped (Leave member) (answer_to_leave (standing_of stage))
+      stage → IsStepped (Leave member) (answer_to_leave (state_of stage))
       (put places member Idle (place_of places member).meetings)
   leave_by_stage member below Over is = record {
     answered = record { exists = below; none = λ pair paired. let never = sym is ∙ paired in cc };
@@ -460,7 +461,7 @@ module _ (space : Space) (places : List Place) (past : List Entry) (shows :
   step_leave member = elim (cases_lt member (length places)) [
     | inl below ↦
         let test : nat_lt member (length places) ≡ true = grind (arith, nat_tests) in
-        rw (test, shows.standings member) (leave_by_stage member (rw (← shows.members) below)
+        rw (test, shows.states member) (leave_by_stage member (rw (← shows.members) below)
         (stage_of past member) refl)
     | inr past_last ↦
         let test : nat_lt member (length places) ≡ false = grind (arith, nat_tests) in
@@ -481,16 +482,16 @@ module _ (space : Space) (places : List Place) (past : List Entry) (shows :
 pub shows_opening : (space : Space) → Shows space (opening space.members space.count) []
 shows_opening space = record {
   members = length-replicate space.members (fresh_place space.count);
-  standings = standings;
+  states = states;
   owners = λ member offer waits. cc;
   counts = counts;
 }
   where
-    standings : (member : ℕ) → (place_of (opening space.members space.count) member).standing ≡ Idle
-    standings member = elim (cases_lt member space.members) [
-      | inl below ↦ ap (λ (place : Place). place.standing)
+    states : (member : ℕ) → (place_of (opening space.members space.count) member).state ≡ Idle
+    states member = elim (cases_lt member space.members) [
+      | inl below ↦ ap (λ (place : Place). place.state)
           (get_or-replicate space.members member (fresh_place space.count) (fresh_place 0) below)
-      | inr past_last ↦ ap (λ (place : Place). place.standing)
+      | inr past_last ↦ ap (λ (place : Place). place.state)
           (get_or_past (opening space.members space.count) member (fresh_place 0)
           (rw (length-replicate space.members (fresh_place space.count)) past_last))
     ]
@@ -523,8 +524,8 @@ map_same [] = refl
 map_same (entry ∷ past) = ap (λ (es : List Entry). entry ∷ es) (map_same past)
 
 -- each history of the object is one of the space
-pub groups_are_spaces : GroupsAreSpaces
-groups_are_spaces space history legal =
+pub objects_are_spaces : ObjectsAreSpaces
+objects_are_spaces space history legal =
     subst (IsLegal (rendezvous space) []) (map_same history)
     (image_legal (Shows space) (λ (entry : Entry). entry) (meaning_of group) (rendezvous space)
     (group_image space) (opening space.members space.count) [] (shows_opening space) history

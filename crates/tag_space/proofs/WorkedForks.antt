@@ -11,12 +11,13 @@ use Rattle.sleep_wakeup.specs.Kernel.{Running, Unused, HasRendez, next_process}
 use Rattle.tag_space.specs.declared.forking.SpentMember.{SpentMember}
 use Rattle.tag_space.specs.declared.member.Member.{Member}
 use Rattle.tag_space.specs.declared.space.TagSpace.{TagSpace}
-use Rattle.tag_space.specs.Members.{HasRow, IsMemberOf, IsSameMember, number_of}
+use Rattle.tag_space.specs.Members.{OwnsRow, IsMemberOf, IsSameMember, number_of}
 use Rattle.tag_space.specs.Spaces.{IsNewSpace, IsFirstMember, IsFurtherMember}
 use Rattle.tag_space.specs.Forks.{AreKnown, asks_child, asks_space, WantsMember, rfork_of}
 use Rattle.tag_space.specs.Forks.{WhyNotForked, JoinsParent, ComesBack, HasSpace, HasChild}
 use Rattle.tag_space.specs.Forks.{MovesCaller, KeepsMember, LeavesMember, IsUntouched, GivesMember}
-use Rattle.tag_space.specs.Forks.{HasSpent, IsFirstThere, IsChild, IsGroup, HasFurther, IsSpent}
+use Rattle.tag_space.specs.Forks.{HasSpent, IsFirstThere, IsChild, IsGroupObject, HasFurther}
+use Rattle.tag_space.specs.Forks.{IsSpent}
 use Rattle.tag_space.specs.Forks.{WhyNotInside, WhyNotOutside}
 
 -- ---- what each flag may do
@@ -221,13 +222,13 @@ module _ (unused : Unused) (old new : TagSpace) (flags : Flags) where
       → ⊥
   a_space_in_a_row_that_was_given other is_new = other is_new.first_is
 
-  a_space_in_no_row : (HasRow new unused.words → ⊥) → IsNewSpace unused old.procs new → ⊥
+  a_space_in_no_row : (OwnsRow new unused.words → ⊥) → IsNewSpace unused old.procs new → ⊥
   a_space_in_no_row none is_new = none is_new.row
 
-  no_group : IsGroup unused old None → ⊥
+  no_group : IsGroupObject unused old None → ⊥
   no_group is = is
 
-  a_group_of_another_size : new.procs ≢ old.procs → IsGroup unused old (Some new) → ⊥
+  a_group_of_another_size : new.procs ≢ old.procs → IsGroupObject unused old (Some new) → ⊥
   a_group_of_another_size other is_new = other is_new.procs_are
 
 -- ---- who is made

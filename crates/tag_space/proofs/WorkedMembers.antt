@@ -8,7 +8,7 @@ use Rattle.rendez_words.specs.declared.words.Words.{Words}
 use Rattle.rendez_words.specs.Words.{rendez_of}
 use Rattle.tag_space.specs.declared.member.Member.{Member}
 use Rattle.tag_space.specs.declared.space.TagSpace.{TagSpace}
-use Rattle.tag_space.specs.Members.{HasRow, IsOneOf, IsSameMember, number_of, account_of}
+use Rattle.tag_space.specs.Members.{OwnsRow, IsOneOf, IsSameMember, number_of, account_of}
 use Rattle.tag_space.specs.Members.{space_of}
 use Rattle.tag_space.specs.Rendezvous.{rendezvous}
 use Rattle.tag_space.specs.Spaces.{JoinsMembers}
@@ -16,7 +16,7 @@ use Rattle.tag_space.specs.Spaces.{JoinsMembers}
 module _ (space : TagSpace) where
   -- the words of a kernel end before the last member's Rendez
   a_row_beyond_the_words : (words : Words) → rendez_of words < space.first.0 + space.procs
-      → HasRow space words → ⊥
+      → OwnsRow space words → ⊥
   a_row_beyond_the_words words fewer row = omega (arith, fewer, row)
 
   each_member_has_its_own_rendez : (member : Member) → IsOneOf space member

@@ -6,9 +6,9 @@ use Rattle.tag_space.specs.declared.calls.GroupCall.TheVariants.{Call, Collect, 
 use Rattle.tag_space.specs.declared.calls.GroupReply.{GroupReply}
 use Rattle.tag_space.specs.declared.calls.GroupReply.TheVariants.{Met, WasMet, Wait, Worn, Gone}
 use Rattle.tag_space.specs.declared.calls.GroupReply.TheVariants.{Busy}
-use Rattle.tag_space.specs.Group.{opening}
+use Rattle.tag_space.specs.GroupObject.{opening}
 use Rattle.kernel_lock.specs.Definition.{meaning_of}
-use Rattle.tag_space.specs.Group.{group, member_of}
+use Rattle.tag_space.specs.GroupObject.{group, member_of}
 use Rattle.tag_space.specs.Rendezvous.{Entry, Space, Offer, Pair, stage_of, pairs_of, count_of}
 use Rattle.tag_space.specs.Rendezvous.Stage.{Over, Waits, Paired}
 use Rattle.tag_space.specs.Rendezvous.{rendezvous, last_wait}
@@ -16,7 +16,7 @@ use Rattle.tag_space.specs.Laws.{IsToldOf}
 use Rattle.tag_space.specs.Outcome.{IsInPair}
 use Rattle.tag_space.specs.Promises.{AreMeetings, IsMeeting, IsMade, MeetsOnce, WaitApart}
 use Rattle.tag_space.specs.Promises.{IsAlone}
-use Rattle.tag_space.proofs.SpaceLemmas.{groups_are_spaces}
+use Rattle.tag_space.proofs.SpaceLemmas.{objects_are_spaces}
 
 -- a member's own call, answered so
 abbrev pub told : GroupCall → GroupReply → Entry
@@ -136,7 +136,7 @@ the_object_runs_so = (
 )
 
 the_space_runs_so : IsLegal (rendezvous two) [] a_run
-the_space_runs_so = groups_are_spaces two a_run the_object_runs_so
+the_space_runs_so = objects_are_spaces two a_run the_object_runs_so
 
 -- the last count: who has it finds others, and waits no more
 abbrev last_but_one : Space

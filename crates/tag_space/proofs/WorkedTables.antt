@@ -2,12 +2,13 @@
 use Rattle.std.proofs.Common.{◌≡◌, ◌<◌, ◌≤◌, ℕ, List, length, true, Some}
 use Rattle.tag_space.specs.declared.limits.TheConstants.{LAST_MEETING}
 use Rattle.tag_space.specs.declared.place.Place.{Place}
-use Rattle.tag_space.specs.Group.{place_of}
-use Rattle.tag_space.specs.Table.{Line, IsAt, IsGapFor, IsRising, IsTable, AreCounts, IsGroup}
+use Rattle.tag_space.specs.GroupObject.{place_of}
+use Rattle.tag_space.specs.Table.{TagEntry, IsAt, IsGapFor, IsRising, IsTable, AreCounts}
+use Rattle.tag_space.specs.Table.{IsGroupObject}
 use Rattle.tag_space.specs.Table.{ListsWaiting, tag_at, member_at, member_with, waits_at, waiters}
 use Rattle.tag_space.specs.Table.{is_waiting}
 
-module _ (table : List Line) (places : List Place) where
+module _ (table : List TagEntry) (places : List Place) where
   tags_rise : IsRising table → (i j : ℕ) → i < j → j < length table
       → tag_at table i < tag_at table j
   tags_rise rising = rising
@@ -27,21 +28,21 @@ module _ (table : List Line) (places : List Place) where
       × ((tag member : ℕ) → waits_at places tag member ≡ true
       → member_with table tag ≡ Some member)
       × (length table ≡ waiters places)
-  a_table_has_a_line_for_each_who_waits is = (is.rising, is.waits, is.has_line, is.as_many)
+  a_table_has_a_line_for_each_who_waits is = (is.rising, is.waits, is.has_entry, is.as_many)
 
   a_list_has_a_line_for_each_who_waits : ListsWaiting table places → IsRising table
       × ((i : ℕ) → i < length table
       → waits_at places (tag_at table i) (member_at table i) ≡ true)
       × ((tag member : ℕ) → waits_at places tag member ≡ true
       → (i : ℕ) × (i < length table) × (tag_at table i ≡ tag) × (member_at table i ≡ member))
-  a_list_has_a_line_for_each_who_waits lists = (lists.rising, lists.waits, lists.has_line)
+  a_list_has_a_line_for_each_who_waits lists = (lists.rising, lists.waits, lists.has_entry)
 
   who_waits_can_be_counted : AreCounts places → (member : ℕ)
       → ((place_of places member).meetings ≤ LAST_MEETING)
-      × (is_waiting (place_of places member).standing ≡ true
+      × (is_waiting (place_of places member).state ≡ true
       → (place_of places member).meetings < LAST_MEETING)
   who_waits_can_be_counted are member = (are.within member, are.waiting member)
 
-  a_space_has_room_for_each : (room : ℕ) → IsGroup table places room
+  a_space_has_room_for_each : (room : ℕ) → IsGroupObject table places room
       → IsTable table places × AreCounts places × (length places ≤ room)
-  a_space_has_room_for_each room is = (is.lines, is.counts, is.enough)
+  a_space_has_room_for_each room is = (is.entries, is.counts, is.enough)

@@ -4,7 +4,7 @@ use Rattle.std.specs.Prelude.{◌≡◌, ◌<◌, ℕ, Option, Some, None, Resul
 use Rattle.histories.specs.Changes.{AddsEntry}
 use Rattle.histories.specs.declared.account.Account.{Account}
 use Rattle.kernel_lock.specs.Definition.{server}
-use Rattle.sleep_wakeup.specs.Deeds.{WakesOne}
+use Rattle.sleep_wakeup.specs.Actions.{WakesOne}
 use Rattle.sync_base.specs.declared.fault.Fault.{Fault}
 use Rattle.sync_base.specs.declared.fault.Fault.TheVariants as fault
 use Rattle.sync_base.specs.declared.limits.TheConstants.{TOP_LEVEL}
@@ -14,7 +14,7 @@ use Rattle.tag_space.specs.declared.calls.GroupReply.{GroupReply}
 use Rattle.tag_space.specs.declared.calls.GroupReply.TheVariants as group
 use Rattle.tag_space.specs.declared.member.Member.{Member}
 use Rattle.tag_space.specs.declared.space.TagSpace.{TagSpace}
-use Rattle.tag_space.specs.Group.{member_of}
+use Rattle.tag_space.specs.GroupObject.{member_of}
 use Rattle.tag_space.specs.Members.{IsMemberOf, IsOneOf, IsSameMember, IsWaitingMember}
 use Rattle.tag_space.specs.Members.{rendez_of_member, account_of, number_of, party_of, seen_of}
 use Rattle.tag_space.specs.Outcome.{Exchange, word_of}

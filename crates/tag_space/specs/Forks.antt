@@ -162,9 +162,9 @@ IsChild unused space (Some (proc, member)) =
     (proc ≡ next_process unused) × IsMemberOf space member
 
 -- a space is there, of the same size as this one, and its row is the next one
-abbrev pub IsGroup : Unused → TagSpace → Option TagSpace → Type 0
-IsGroup unused old None = ⊥
-IsGroup unused old (Some new) = IsNewSpace unused old.procs new
+abbrev pub IsGroupObject : Unused → TagSpace → Option TagSpace → Type 0
+IsGroupObject unused old None = ⊥
+IsGroupObject unused old (Some new) = IsNewSpace unused old.procs new
 
 -- the child has a further member of its parent's space
 abbrev pub HasFurther : TagSpace → Member → Member → Option Child → Type 0

@@ -9,7 +9,7 @@ use Rattle.tag_space.specs.declared.calls.GroupReply.{GroupReply}
 use Rattle.tag_space.specs.declared.calls.GroupReply.TheVariants.{Met, Worn, Gone}
 use Rattle.tag_space.specs.declared.limits.TheConstants.{LAST_MEETING}
 use Rattle.tag_space.specs.declared.meeting.TheConstants.{INTERRUPTED}
-use Rattle.tag_space.specs.Group.{opening, group}
+use Rattle.tag_space.specs.GroupObject.{opening, group}
 use Rattle.tag_space.specs.Outcome.{IsInPair, IsOneOfCalls, HasPartner, calls_by}
 use Rattle.tag_space.specs.Rendezvous.{Entry, Space, rendezvous}
 use Rattle.tag_space.specs.Rendezvous.{Offer, stage_of, IsAnswered, IsMet}
@@ -17,8 +17,8 @@ use Rattle.tag_space.specs.Rendezvous.Stage.{Waits}
 use Rattle.tag_space.specs.Promises.{AreMeetings, MeetsOnce, WaitApart, IsAlone}
 
 -- each history of the object is a history of a tag space
-abbrev pub GroupsAreSpaces : Type 0
-GroupsAreSpaces =
+abbrev pub ObjectsAreSpaces : Type 0
+ObjectsAreSpaces =
     (space : Space) (history : List Entry)
     → IsLegal (meaning_of group) (opening space.members space.count) history
     → IsLegal (rendezvous space) [] history

@@ -1,4 +1,4 @@
-pub mod Group
+pub mod GroupObject
 pub mod Laws
 pub mod Rendezvous
 pub mod Table

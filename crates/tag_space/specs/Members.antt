@@ -36,8 +36,8 @@ abbrev pub rendez_of_member : TagSpace → ℕ → RendezId
 rendez_of_member space number = record { 0 = space.first.0 + number }
 
 -- the Rendez of all members are Rendez of these words
-abbrev pub HasRow : TagSpace → Words → Type 0
-HasRow space words = space.first.0 + space.procs ≤ rendez_of words
+abbrev pub OwnsRow : TagSpace → Words → Type 0
+OwnsRow space words = space.first.0 + space.procs ≤ rendez_of words
 
 -- One of the space's members, at a call or between two: what it has seen is a legal history of
 -- rendezvous in this space, in which its own calls stand once each; and it has its own Rendez.

@@ -5,9 +5,9 @@
 use Rattle.std.specs.Prelude.{◌≡◌, ◌≢◌, ◌==◌, ℕ, ◌+◌, ◌<◌, ◌≤◌, if◌then◌else◌}
 use Rattle.std.specs.Prelude.{Option, Some, None, List, [], ◌∷◌, ◌++◌, length, count_by}
 use Rattle.histories.specs.History.{Meaning}
-use Rattle.kernel_lock.specs.declared.view.Served.{Served}
+use Rattle.kernel_lock.specs.declared.view.Operation.{Operation}
 use Rattle.sync_base.specs.declared.ids.Tag.{Tag}
-use Rattle.tag_space.specs.Group.{member_of}
+use Rattle.tag_space.specs.GroupObject.{member_of}
 use Rattle.tag_space.specs.declared.calls.GroupCall.{GroupCall}
 use Rattle.tag_space.specs.declared.calls.GroupCall.TheVariants.{Call, Collect, Leave}
 use Rattle.tag_space.specs.declared.calls.GroupReply.{GroupReply}
@@ -17,7 +17,7 @@ use Rattle.tag_space.specs.declared.limits.TheConstants.{LAST_MEETING}
 
 -- a call with its reply, and the number of the seat that made it
 abbrev pub Entry : Type 0
-Entry = Served GroupCall GroupReply
+Entry = Operation GroupCall GroupReply
 
 -- a tag space: how many members it has, and the count with which each begins
 pub record Space : Type 0 where

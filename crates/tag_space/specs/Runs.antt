@@ -1,12 +1,12 @@
--- The lines of a table in one piece of memory, with room on both sides.
+-- The entries of a table in one piece of memory, with room on both sides.
 use Rattle.std.specs.Prelude.{ℕ, List, length, take, drop}
-use Rattle.tag_space.specs.declared.lines.Lines.{Lines}
-use Rattle.tag_space.specs.Table.{Line}
+use Rattle.tag_space.specs.declared.tag_table.TagTable.{TagTable}
+use Rattle.tag_space.specs.Table.{TagEntry}
 
--- the lines, in their order
-abbrev pub lines_of : Lines → List Line
-lines_of lines = take lines.count (drop lines.first lines.slots.items)
+-- the entries, in their order
+abbrev pub entries_of : TagTable → List TagEntry
+entries_of entries = take entries.count (drop entries.first entries.slots.items)
 
--- how many lines there is room for
-abbrev pub room_of : Lines → ℕ
-room_of lines = length lines.slots.items
+-- how many entries there is room for
+abbrev pub room_of : TagTable → ℕ
+room_of entries = length entries.slots.items

@@ -8,14 +8,14 @@ use Rattle.sync_base.specs.declared.fault.Fault.{Fault}
 use Rattle.sync_base.specs.declared.fault.Fault.TheVariants as fault
 use Rattle.tag_space.specs.declared.member.Member.{Member}
 use Rattle.tag_space.specs.declared.space.TagSpace.{TagSpace}
-use Rattle.tag_space.specs.Members.{IsMemberOf, HasRow, number_of, seen_of}
+use Rattle.tag_space.specs.Members.{IsMemberOf, OwnsRow, number_of, seen_of}
 use Rattle.tag_space.specs.Outcome.{calls_by}
 
 -- a space of so many members, whose row of Rendez are the next ones
 pub record IsNewSpace (before : Unused) (procs : ℕ) (space : TagSpace) : Type 0 where
   pub procs_are : space.procs ≡ procs
   pub first_is : space.first.0 ≡ before.rendez
-  pub row : HasRow space before.words
+  pub row : OwnsRow space before.words
 
 -- its first member, which has given no other; nobody has called
 pub record IsFirstMember (space : TagSpace) (member : Member) : Type 0 where

@@ -1,86 +1,86 @@
--- The table in which a tag space finds who waits: a line for each call that waits, tags rising.
+-- The table in which a tag space finds who waits: an entry for each call that waits, tags rising.
 use Rattle.std.specs.Prelude.{◌≡◌, ℕ, ◌<◌, ◌≤◌, ◌==◌, Bool, true, false, if◌then◌else◌}
 use Rattle.std.specs.Prelude.{Option, Some, None, List, [], ◌∷◌, length, slice_index_or, count_by}
 use Rattle.sync_base.specs.declared.ids.Tag.{Tag}
-use Rattle.tag_space.specs.declared.place.Standing.{Standing}
-use Rattle.tag_space.specs.declared.place.Standing.TheVariants.{Idle, Waiting, Met}
+use Rattle.tag_space.specs.declared.place.CallState.{CallState}
+use Rattle.tag_space.specs.declared.place.CallState.TheVariants.{Idle, Waiting, Met}
 use Rattle.tag_space.specs.declared.place.Place.{Place}
 use Rattle.tag_space.specs.declared.limits.TheConstants.{LAST_MEETING}
-use Rattle.tag_space.specs.Group.{place_of, waits_with}
+use Rattle.tag_space.specs.GroupObject.{place_of, waits_with}
 
 -- a tag, and the member that waits with it
-abbrev pub Line : Type 0
-Line = Tag × ℕ
+abbrev pub TagEntry : Type 0
+TagEntry = Tag × ℕ
 
-abbrev pub no_line : Line
-no_line = (record { 0 = 0 }, 0)
+abbrev pub no_entry : TagEntry
+no_entry = (record { 0 = 0 }, 0)
 
-abbrev pub tag_at : List Line → ℕ → ℕ
-tag_at table i = let line = slice_index_or table i no_line in line.0.0
+abbrev pub tag_at : List TagEntry → ℕ → ℕ
+tag_at table i = let entry = slice_index_or table i no_entry in entry.0.0
 
-abbrev pub member_at : List Line → ℕ → ℕ
-member_at table i = let line = slice_index_or table i no_line in line.1
+abbrev pub member_at : List TagEntry → ℕ → ℕ
+member_at table i = let entry = slice_index_or table i no_entry in entry.1
 
 -- the tags rise, so no tag comes twice
-abbrev pub IsRising : List Line → Type 0
+abbrev pub IsRising : List TagEntry → Type 0
 IsRising table = (i j : ℕ) → i < j → j < length table → tag_at table i < tag_at table j
 
--- the member in the first line with the tag
-abbrev pub member_with : List Line → ℕ → Option ℕ
+-- the member in the first entry with the tag
+abbrev pub member_with : List TagEntry → ℕ → Option ℕ
 member_with [] tag = None
-member_with ((key, member) ∷ lines) tag =
-    if key.0 == tag then Some member else member_with lines tag
+member_with ((key, member) ∷ entries) tag =
+    if key.0 == tag then Some member else member_with entries tag
 
--- the line at place i has the tag
-pub record IsAt (table : List Line) (tag i : ℕ) : Type 0 where
+-- the entry at place i has the tag
+pub record IsAt (table : List TagEntry) (tag i : ℕ) : Type 0 where
   pub in_range : i < length table
   pub has_tag : tag_at table i ≡ tag
 
 -- the tag would go at place i: smaller tags before it, and greater ones from it on
-pub record IsGapFor (table : List Line) (tag i : ℕ) : Type 0 where
+pub record IsGapFor (table : List TagEntry) (tag i : ℕ) : Type 0 where
   pub in_range : i ≤ length table
   pub smaller_before : (j : ℕ) → j < i → tag_at table j < tag
   pub greater_after : (j : ℕ) → i ≤ j → j < length table → tag < tag_at table j
 
 -- whether this member waits with the tag
 abbrev pub waits_at : List Place → ℕ → ℕ → Bool
-waits_at places tag member = waits_with tag (place_of places member).standing
+waits_at places tag member = waits_with tag (place_of places member).state
 
--- whether a member with this standing waits
-abbrev pub is_waiting : Standing → Bool
+-- whether a member with this state waits
+abbrev pub is_waiting : CallState → Bool
 is_waiting Idle = false
 is_waiting (Waiting tag value) = true
 is_waiting (Met value) = false
 
 -- how many members wait
 abbrev pub waiters : List Place → ℕ
-waiters places = count_by (λ place. is_waiting place.standing) places
+waiters places = count_by (λ place. is_waiting place.state) places
 
--- the lines are the calls that wait
-pub record IsTable (table : List Line) (places : List Place) : Type 0 where
+-- the entries are the calls that wait
+pub record IsTable (table : List TagEntry) (places : List Place) : Type 0 where
   pub rising : IsRising table
   pub waits : (tag member : ℕ) → member_with table tag ≡ Some member
       → waits_at places tag member ≡ true
-  pub has_line : (tag member : ℕ) → waits_at places tag member ≡ true
+  pub has_entry : (tag member : ℕ) → waits_at places tag member ≡ true
       → member_with table tag ≡ Some member
   pub as_many : length table ≡ waiters places
 
 -- no count is above the last, and one that waits can still be counted
 pub record AreCounts (places : List Place) : Type 0 where
   pub within : (member : ℕ) → (place_of places member).meetings ≤ LAST_MEETING
-  pub waiting : (member : ℕ) → is_waiting (place_of places member).standing ≡ true
+  pub waiting : (member : ℕ) → is_waiting (place_of places member).state ≡ true
       → (place_of places member).meetings < LAST_MEETING
 
--- what a space keeps: its members, the table of those who wait, and room for a line of each
-pub record IsGroup (table : List Line) (places : List Place) (room : ℕ) : Type 0 where
-  pub lines : IsTable table places
+-- what a space keeps: its members, the table of those who wait, and room for an entry of each
+pub record IsGroupObject (table : List TagEntry) (places : List Place) (room : ℕ) : Type 0 where
+  pub entries : IsTable table places
   pub counts : AreCounts places
   pub enough : length places ≤ room
 
 -- the list is the calls that wait, each once, tags rising
-pub record ListsWaiting (lines : List Line) (places : List Place) : Type 0 where
-  pub rising : IsRising lines
-  pub waits : (i : ℕ) → i < length lines
-      → waits_at places (tag_at lines i) (member_at lines i) ≡ true
-  pub has_line : (tag member : ℕ) → waits_at places tag member ≡ true
-      → (i : ℕ) × (i < length lines) × (tag_at lines i ≡ tag) × (member_at lines i ≡ member)
+pub record ListsWaiting (entries : List TagEntry) (places : List Place) : Type 0 where
+  pub rising : IsRising entries
+  pub waits : (i : ℕ) → i < length entries
+      → waits_at places (tag_at entries i) (member_at entries i) ≡ true
+  pub has_entry : (tag member : ℕ) → waits_at places tag member ≡ true
+      → (i : ℕ) × (i < length entries) × (tag_at entries i ≡ tag) × (member_at entries i ≡ member)

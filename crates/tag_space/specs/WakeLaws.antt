@@ -11,7 +11,7 @@ use Rattle.tag_space.specs.declared.calls.GroupReply.TheVariants.{Met, Wait}
 use Rattle.tag_space.specs.declared.member.Member.{Member}
 use Rattle.tag_space.specs.declared.space.TagSpace.{TagSpace}
 use Rattle.tag_space.specs.Asking.{Finds}
-use Rattle.tag_space.specs.Group.{member_of}
+use Rattle.tag_space.specs.GroupObject.{member_of}
 use Rattle.tag_space.specs.Members.{rendez_of_member}
 use Rattle.tag_space.specs.Rendezvous.{Entry, Space, rendezvous}
 use Rattle.waiting.specs.Waiting.{Point}

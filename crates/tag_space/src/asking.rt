@@ -1,10 +1,10 @@
 //! What a member asks of its space, one request at a time.
 ghost use Rattle.std.specs.Prelude.{◌≡◌, ◌<◌};
-ghost use Rattle.sleep_wakeup.specs.Deeds.{WakesOne};
+ghost use Rattle.sleep_wakeup.specs.Actions.{WakesOne};
 ghost use Rattle.tag_space.specs.declared.calls.GroupCall.TheVariants.{Call, Collect, Leave};
 ghost use Rattle.tag_space.specs.Asking.{Asks, Requests, IsCalled, IsCollected, IsLeft, meeting};
-ghost use Rattle.tag_space.specs.Group.{member_of};
-ghost use Rattle.tag_space.specs.Members.{HasRow, IsMemberOf, IsOneOf, IsSameMember};
+ghost use Rattle.tag_space.specs.GroupObject.{member_of};
+ghost use Rattle.tag_space.specs.Members.{OwnsRow, IsMemberOf, IsOneOf, IsSameMember};
 ghost use Rattle.tag_space.specs.Members.{IsWaitingMember, account_of, number_of, rendez_of_member};
 
 use crate::calls::{GroupCall, GroupReply};
@@ -77,7 +77,7 @@ impl TagSpace {
     // Wakes the partner that was met so often.
     fn wake(&self, proc: &mut Proc, partner: u64, count: u64)
         requires partner { partner < self.now.procs }
-        requires row { HasRow self.now proc.old.words }
+        requires row { OwnsRow self.now proc.old.words }
         ensures woken { WakesOne proc.old.process (rendez_of_member self.now partner) count
             proc.new.process }
         ensures words { proc.new.words ≡ proc.old.words }
@@ -108,7 +108,7 @@ impl<'s> WaitingCall for Meeting<'s> {
 
     ghost rests = { λ call member. IsMemberOf call.space.now member };
 
-    ghost knows = { λ call words. HasRow call.space.now words };
+    ghost knows = { λ call words. OwnsRow call.space.now words };
 
     ghost promise = { λ call. meeting call.space.now
         (record { tag = call.tag; value = call.value }) };

@@ -1,7 +1,7 @@
 //! What a member asks of a tag space, and what it is answered. Members count from 0. The reader
 //! comes from `lib`.
 ghost use Rattle.std.specs.Prelude.{◌≡◌};
-ghost use Rattle.tag_space.specs.Group.{member_of};
+ghost use Rattle.tag_space.specs.GroupObject.{member_of};
 
 use sync_base::Tag;
 

@@ -16,7 +16,7 @@ ghost use Rattle.tag_space.specs.Forks.{
   others_of,
   IsChild,
   IsFirstThere,
-  IsGroup,
+  IsGroupObject,
   KeepsMember,
   ComesBack,
   IsUntouched,
@@ -207,7 +207,7 @@ fn regroup<'k>(
         WhyNoGroup roster.old space.now.procs refused.fault) }
     ensures back { IfErr result (λ refused. refused.member ≡ member) }
     ensures refused { OnErr result (roster.new ≡ roster.old) }
-    ensures space { IfOk result (λ forked. IsGroup roster.old space.now forked.space) }
+    ensures space { IfOk result (λ forked. IsGroupObject roster.old space.now forked.space) }
     ensures child { IfOk result (λ forked. forked.child ≡ None) }
     ensures member { IfOk result (λ forked.
         IsMemberOf (childs_space space.now forked.space) forked.member) }
@@ -245,7 +245,7 @@ fn fork_outside<'k>(
         WhyNotOutside roster.old space.now refused.fault) }
     ensures back { IfErr result (λ refused. refused.member ≡ member) }
     ensures refused { OnErr result (roster.new ≡ roster.old) }
-    ensures space { IfOk result (λ forked. IsGroup roster.old space.now forked.space) }
+    ensures space { IfOk result (λ forked. IsGroupObject roster.old space.now forked.space) }
     ensures child { IfOk result (λ forked.
         IsChild roster.old (childs_space space.now forked.space) forked.child) }
     ensures member { IfOk result (λ forked. forked.member ≡ member) }

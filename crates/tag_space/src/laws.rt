@@ -1,6 +1,6 @@
 //! What holds of every tag space. Each law is a function that does nothing: its contract is the
 //! law.
-ghost use Rattle.tag_space.specs.Laws.{GroupsAreSpaces, EachCallHasOneAnswer, LastMeetingIs};
+ghost use Rattle.tag_space.specs.Laws.{ObjectsAreSpaces, EachCallHasOneAnswer, LastMeetingIs};
 ghost use Rattle.tag_space.specs.Laws.{PairsAreMeetings, EachCallMeetsOnce, WaitingTagsDiffer};
 ghost use Rattle.tag_space.specs.Laws.{WhoLeftMeetsNobody, WhoIsWornMeetsNobody};
 ghost use Rattle.tag_space.specs.Laws.{FoundIsInPair, ToldIsInPair, InterruptedIs};
@@ -10,8 +10,8 @@ ghost use Rattle.tag_space.specs.WakeLaws.{FindingReleasesThePartner, WaitersAre
 
 /// Each history of a space as an object is a history of rendezvous: calls meet by their tags, each
 /// gets the other's value, and whoever left meets nobody.
-pub fn groups_are_spaces()
-    ensures { GroupsAreSpaces }
+pub fn objects_are_spaces()
+    ensures { ObjectsAreSpaces }
 {}
 
 /// After every history a call has one answer: the history says exactly where each comes.

@@ -1,7 +1,7 @@
 //! Rendezvous in tag spaces, after rendezvous(2): two members of a space that call with one tag
 //! exchange their values. Read `calls`, what a member asks and is answered, `limits`, `place`, what
-//! is kept of a member, `table` and `lines`, how a tag is found, `group_object`, the space as an
-//! object for one thread; then `member`, `space`, `asking`, `meeting` and `forking`, the space
+//! is kept of a member, `table` and `tag_table`, how a tag is found, `group_object`, the space as
+//! an object for one thread; then `member`, `space`, `asking`, `meeting` and `forking`, the space
 //! between threads; and then `laws`.
 #![tactic(auto)]
 
@@ -11,12 +11,12 @@ pub mod forking;
 pub mod group_object;
 pub mod laws;
 pub mod limits;
-mod lines;
 pub mod meeting;
 pub mod member;
 pub mod place;
 pub mod space;
 mod table;
+mod tag_table;
 
 pub use calls::{GroupCall, GroupReply};
 pub use forking::{Forked, NotForked, SpentMember, rfork};

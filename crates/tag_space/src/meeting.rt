@@ -1,7 +1,7 @@
 //! The call of rendezvous(2).
 ghost use Rattle.std.specs.Prelude.{◌≡◌};
 ghost use Rattle.tag_space.specs.Asking.{Meets, RendezvousesInWords};
-ghost use Rattle.tag_space.specs.Members.{IsMemberOf, IsSameMember, HasRow, party_of, seen_of};
+ghost use Rattle.tag_space.specs.Members.{IsMemberOf, IsSameMember, OwnsRow, party_of, seen_of};
 ghost use Rattle.tag_space.specs.Outcome.{Exchange};
 ghost use Rattle.waiting.specs.Waiting.{point};
 
@@ -34,7 +34,7 @@ impl TagSpace {
         value: u64,
     ) -> Result<u64, Fault>
         requires member { IsMemberOf self.now member.old }
-        requires row { HasRow self.now proc.old.words }
+        requires row { OwnsRow self.now proc.old.words }
         ensures member { IsMemberOf self.now member.new }
         ensures same { IsSameMember member.old member.new }
         ensures words { proc.new.words ≡ proc.old.words }
@@ -62,7 +62,7 @@ impl TagSpace {
         probe: &mut P,
     ) -> Result<u64, Fault>
         requires member { IsMemberOf self.now member.old }
-        requires row { HasRow self.now proc.old.words }
+        requires row { OwnsRow self.now proc.old.words }
         ensures member { IsMemberOf self.now member.new }
         ensures same { IsSameMember member.old member.new }
         ensures words { proc.new.words ≡ proc.old.words }
@@ -98,7 +98,7 @@ impl TagSpace {
         value: u64,
     ) -> Result<u64, Fault>
         requires member { IsMemberOf self.now member.old }
-        requires row { HasRow self.now proc.old.words }
+        requires row { OwnsRow self.now proc.old.words }
         ensures member { IsMemberOf self.now member.new }
         ensures same { IsSameMember member.old member.new }
         ensures words { proc.new.words ≡ proc.old.words }

@@ -1,13 +1,13 @@
 //! What a tag space keeps of a member.
 ghost use Rattle.std.specs.Prelude.{◌≡◌, ◌+◌, ◌<◌};
-ghost use Rattle.tag_space.specs.Group.{value_given};
+ghost use Rattle.tag_space.specs.GroupObject.{value_given};
 
 use crate::limits::LAST_MEETING;
 use sync_base::Tag;
 
 /// What became of the member's last call that had to wait.
 #[derive(Clone, Copy, Debug, PartialEq, Eq)]
-pub enum Standing {
+pub enum CallState {
     /// There was none, or it is over.
     Idle,
     /// It waits with this tag, and gives this value.
@@ -19,7 +19,7 @@ pub enum Standing {
 /// A member of a space.
 #[derive(Clone, Copy, Debug, PartialEq, Eq)]
 pub struct Place {
-    pub standing: Standing,
+    pub state: CallState,
     /// How often its waiting calls were met, counted from where the space began.
     pub meetings: u64,
 }
@@ -28,15 +28,15 @@ impl Place {
     // The waiting call is met by one with this value, and gives its own.
     pub(crate) fn meet(&mut self, value: u64) -> u64
         requires { self.old.meetings < LAST_MEETING }
-        ensures given { result ≡ value_given self.old.standing }
+        ensures given { result ≡ value_given self.old.state }
         ensures after { self.new ≡
-            record { standing = Standing.Met value; meetings = self.old.meetings + 1 } }
+            record { state = CallState.Met value; meetings = self.old.meetings + 1 } }
     {
-        let given = match self.standing {
-            Standing::Waiting { tag: _, value } => value,
-            Standing::Idle | Standing::Met { value: _ } => 0,
+        let given = match self.state {
+            CallState::Waiting { tag: _, value } => value,
+            CallState::Idle | CallState::Met { value: _ } => 0,
         };
-        self.standing = Standing::Met { value };
+        self.state = CallState::Met { value };
         self.meetings += 1;
         given
     }

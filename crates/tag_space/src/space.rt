@@ -1,7 +1,7 @@
 //! Tag spaces, and how they are made and joined.
 ghost use Rattle.std.specs.Prelude.{◌≡◌, ◌+◌, ◌<◌, ◌^◌};
 ghost use Rattle.kernel_lock.specs.Seats.{limit_of, opening_of};
-ghost use Rattle.tag_space.specs.Group.{group, opening};
+ghost use Rattle.tag_space.specs.GroupObject.{group, opening};
 
 use crate::group_object::GroupObject;
 use crate::member::Member;

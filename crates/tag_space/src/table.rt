@@ -6,7 +6,7 @@ ghost use Rattle.tag_space.specs.Search.{IsNarrowed, AreSmaller};
 
 use sync_base::Tag;
 
-/// Where the line with the tag is, or where it would go.
+/// Where the entry with the tag is, or where it would go.
 pub(crate) fn search(table: &[(Tag, u64)], tag: Tag) -> Result<usize, usize>
     requires { IsRising table.now }
     ensures found { IfOk result (IsAt table.now tag.0) }
@@ -19,7 +19,7 @@ pub(crate) fn search(table: &[(Tag, u64)], tag: Tag) -> Result<usize, usize>
     }
 }
 
-// How many lines have a smaller tag. The search halves twice at a step, and adds up what it found
+// How many entries have a smaller tag. The search halves twice at a step, and adds up what it found
 // in place of branching on it, since no processor can foretell such a branch.
 fn count_smaller(table: &[(Tag, u64)], tag: Tag) -> usize
     requires { IsRising table.now }
@@ -52,9 +52,9 @@ fn count_quarters(table: &[(Tag, u64)], tag: Tag, from: usize, quarter: usize) -
         + is_smaller(table[first + 2 * quarter], tag)
 }
 
-// 1 where the line's tag is smaller, else 0.
-fn is_smaller(line: (Tag, u64), tag: Tag) -> usize
-    ensures { result ≡ (if ltb line.0.0 tag.0 then 1 else 0) }
+// 1 where the entry's tag is smaller, else 0.
+fn is_smaller(entry: (Tag, u64), tag: Tag) -> usize
+    ensures { result ≡ (if ltb entry.0.0 tag.0 then 1 else 0) }
 {
-    (line.0.0 < tag.0) as usize
+    (entry.0.0 < tag.0) as usize
 }

@@ -1,7 +1,7 @@
 //! Eight processes that acquire and release units, with notes, time-outs and ticks between; pools
 //! of each size, and one whose list of holders is refused memory; and the example of semacquire(2).
 ghost use Rattle.sleep_wakeup.specs.Starts.{IsStartOf};
-ghost use Rattle.semaphore.specs.Seats.{HasRow, IsSemaSeatOf, IsTimerSeatOf};
+ghost use Rattle.semaphore.specs.Seats.{OwnsRow, IsSemaSeatOf, IsTimerSeatOf};
 
 use crate::kernels::{forked, kernel_of, push};
 use plan9::{
@@ -310,7 +310,7 @@ struct Alone<'k> {
 fn open_one<'k>(rt: &impl Abort, alloc: Global, kernel: &'k Kernel, start: Start) -> Alone<'k>
     requires { IsStartOf kernel.now start }
     ensures seat { IsSemaSeatOf result.opened.sema result.opened.seat }
-    ensures row { HasRow result.opened.sema result.proc.words }
+    ensures row { OwnsRow result.opened.sema result.proc.words }
     ensures timer { IsTimerSeatOf result.timed.timers result.timed.seat }
 {
     let Started { mut roster, proc } = kernel.start(start);

@@ -3,7 +3,7 @@
 //! example of rendezvous(2).
 ghost use Rattle.std.specs.Prelude.{◌≡◌, [], IfOk, OnOk, IsOk};
 ghost use Rattle.sleep_wakeup.specs.Starts.{IsStartOf};
-ghost use Rattle.tag_space.specs.Members.{IsMemberOf, IsSameMember, HasRow};
+ghost use Rattle.tag_space.specs.Members.{IsMemberOf, IsSameMember, OwnsRow};
 ghost use Rattle.tag_space.specs.Members.{number_of, party_of, seen_of};
 ghost use Rattle.tag_space.specs.Outcome.{Exchange, calls_by};
 
@@ -52,8 +52,8 @@ fn call_both<'k, R: Wait + Threads + Sync>(
 ) -> Met<'k>
     requires first { IsMemberOf space.now first.member }
     requires second { IsMemberOf space.now second.member }
-    requires first_row { HasRow space.now first.proc.words }
-    requires second_row { HasRow space.now second.proc.words }
+    requires first_row { OwnsRow space.now first.proc.words }
+    requires second_row { OwnsRow space.now second.proc.words }
     ensures first { IsMemberOf space.now result.first.member }
     ensures second { IsMemberOf space.now result.second.member }
     ensures first_same { IsSameMember first.entry.member result.first.member }
@@ -104,8 +104,8 @@ fn meet_once<R: Wait + Threads + Sync>(
 ) -> Answers
     requires first { IsMemberOf space.now first.member }
     requires second { IsMemberOf space.now second.member }
-    requires first_row { HasRow space.now first.proc.words }
-    requires second_row { HasRow space.now second.proc.words }
+    requires first_row { OwnsRow space.now first.proc.words }
+    requires second_row { OwnsRow space.now second.proc.words }
     ensures first { space.now.procs ≡ 2
         → calls_by (number_of second.entry.member) (seen_of second.entry.member) ≡ []
         → IfOk result.first (λ got. got ≡ values.1) }
@@ -145,8 +145,8 @@ pub fn two_of<'k, R: Wait + Abort>(
     requires { IsStartOf kernel.now start }
     ensures first { IsMemberOf result.space result.first.member }
     ensures second { IsMemberOf result.space result.second.member }
-    ensures first_row { HasRow result.space result.first.proc.words }
-    ensures second_row { HasRow result.space result.second.proc.words }
+    ensures first_row { OwnsRow result.space result.first.proc.words }
+    ensures second_row { OwnsRow result.space result.second.proc.words }
 {
     let Started {
         mut roster,

@@ -3,7 +3,7 @@
 use crate::kernels::{forked, kernel_of};
 use plan9::{
     Beat, Clock, Fault, FaultText, Note, NoteSet, OpenedKernel, Pid, Proc, RealTime, Started,
-    Ticker, Time, fork,
+    TickSource, Ticker, fork,
 };
 use std::alloc::Global;
 use std::io::{self, Error, ErrorKind};
@@ -22,7 +22,7 @@ struct Third<'k> {
     moments: u64,
 }
 
-impl<'k> Time for Third<'k> {
+impl<'k> TickSource for Third<'k> {
     fn next(&mut self) -> u64 {
         self.moments = self.moments.saturating_add(1);
         if self.moments == 3 {

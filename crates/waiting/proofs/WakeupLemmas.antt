@@ -5,8 +5,8 @@ use Rattle.std.specs.List.{cons_option, AllByRecursion}
 use Rattle.sync_base.specs.declared.ids.RendezId.{RendezId}
 use Rattle.sleep_core.specs.declared.answer.Answer.TheVariants as answer
 use Rattle.sleep_core.specs.declared.event.Event.TheVariants.{Raise, Take, Mark}
-use Rattle.sleep_core.specs.History.{Deed, HasReturned, deed_of, history_of}
-use Rattle.sleep_core.specs.History.Deed.{Missed, Marked}
+use Rattle.sleep_core.specs.History.{Effect, HasReturned, effect_of, history_of}
+use Rattle.sleep_core.specs.History.Effect.{Missed, Marked}
 use Rattle.sleep_core.specs.Laws.{ReleasesBelow}
 use Rattle.sleep_core.specs.Runs.{Entry, world_of}
 use Rattle.rendez_words.specs.declared.view.Sizes.{Sizes}
@@ -15,16 +15,16 @@ use Rattle.rendez_words.specs.Rule.{ShowsCore}
 use Rattle.rendez_words.specs.Steps.{raises, takes}
 use Rattle.rendez_words.proofs.LawLemmas.{receipts_release}
 use Rattle.sleep_wakeup.specs.Calls.{Ends}
-use Rattle.sleep_wakeup.specs.Deeds.{WakesOne}
+use Rattle.sleep_wakeup.specs.Actions.{WakesOne}
 use Rattle.waiting.specs.Wakeups.{Wakeup, WakesEach, HasGoneOn, ReturnedCallsRelease}
 
 -- what has returned stays so
-returned_cons : (deed : Option Deed) (past : List Deed) (rendez level : ℕ)
-    → HasReturned past rendez level → HasReturned (cons_option deed past) rendez level
+returned_cons : (effect : Option Effect) (past : List Effect) (rendez level : ℕ)
+    → HasReturned past rendez level → HasReturned (cons_option effect past) rendez level
 returned_cons None past rendez level returned = returned
 returned_cons (Some (Missed by)) past rendez level returned = inr returned
 returned_cons (Some (Marked by sleeper)) past rendez level returned = inr returned
-returned_cons (Some deed) past rendez level returned = returned
+returned_cons (Some effect) past rendez level returned = returned
 
 -- in the steps of a process
 abbrev Has : RendezId → ℕ → List Entry → Type 0
@@ -33,7 +33,7 @@ Has rendez level trace = HasReturned (history_of trace) rendez.0 level
 has_more : (entry : Entry) (trace : List Entry) (rendez : RendezId) (level : ℕ)
     → Has rendez level trace → Has rendez level (entry ∷ trace)
 has_more entry trace rendez level returned =
-    returned_cons (deed_of entry.answer entry.event) (history_of trace) rendez.0 level returned
+    returned_cons (effect_of entry.answer entry.event) (history_of trace) rendez.0 level returned
 
 has_since : (since trace : List Entry) (rendez : RendezId) (level : ℕ)
     → Has rendez level trace → Has rendez level (since ++ trace)

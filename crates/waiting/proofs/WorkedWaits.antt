@@ -14,7 +14,7 @@ use Rattle.sleep_wakeup.specs.Broken.{after, rendez, posted_in, passed, cleared,
 use Rattle.sleep_wakeup.specs.Broken.{went_out}
 use Rattle.sleep_wakeup.specs.Broken.{answers_at_once, posts_elsewhere, leaves_with_an_alarm}
 use Rattle.sleep_wakeup.specs.Calls.{Sleeps}
-use Rattle.sleep_wakeup.specs.Deeds.{SleepsWell, FailsAsleep}
+use Rattle.sleep_wakeup.specs.Actions.{SleepsWell, FailsAsleep}
 use Rattle.sleep_wakeup.proofs.BrokenLemmas.{of_sleep, rendez_of}
 use Rattle.sync_base.specs.declared.fault.Fault.{Fault}
 use Rattle.sync_base.specs.declared.fault.Fault.TheVariants as fault
@@ -27,7 +27,8 @@ use Rattle.waiting.specs.declared.call.Reply.{Reply}
 use Rattle.waiting.specs.declared.call.Reply.TheVariants.{Done, Wait, Refused}
 use Rattle.waiting.specs.declared.wait.WaitEnd.{WaitEnd}
 use Rattle.waiting.specs.declared.wait.WaitEnd.TheVariants.{Answered, Stopped}
-use Rattle.waiting.specs.Waiting.{Point, Promise, Told, StandsSo, IsLow, SleepsThenAsks, Rounds}
+use Rattle.waiting.specs.Waiting.{Point, Promise, WaitPoint, StandsSo, IsLow, SleepsThenAsks}
+use Rattle.waiting.specs.Waiting.{Rounds}
 use Rattle.waiting.specs.Waiting.{Ends, Returns, answer_of, reply_of, WaitsOn, Waited}
 
 -- ---- what an answer leaves
@@ -83,7 +84,7 @@ module _ (table : TableId) where
   abbrev at : ℕ → List Entry → Point ℕ
   at requests steps = record { seat = requests; process = after table steps }
 
-  abbrev told : ℕ → Told ℕ
+  abbrev told : ℕ → WaitPoint ℕ
   told number = record { at = at 1 []; number = number }
 
   slept_short : SleepsWell (after table []) (rendez 0) 4 (after table (short 4))
@@ -194,15 +195,15 @@ module _ (table : TableId) where
       answer_is : reply ≡ answer_of (Stopped why late)
 
     -- what is true of a call that was told to wait once is true of its first request
-    moved : (Is : Process → ℕ → Type 0) (first last : Told ℕ) → last ≡ first
+    moved : (Is : Process → ℕ → Type 0) (first last : WaitPoint ℕ) → last ≡ first
         → first.number ≡ number → first.at.process ≡ after table []
         → Is last.at.process last.number → Is (after table []) number
     moved Is first last same told_is idle is =
         subst (λ n. Is (after table []) n) told_is
         (subst (λ p. Is p first.number) idle
-        (subst (λ (t : Told ℕ). Is t.at.process t.number) same is))
+        (subst (λ (t : WaitPoint ℕ). Is t.at.process t.number) same is))
 
-    module _ (first last : Told ℕ) (same : last ≡ first) (told_is : first.number ≡ number)
+    module _ (first last : WaitPoint ℕ) (same : last ≡ first) (told_is : first.number ≡ number)
         (seat_is : first.at.seat ≡ 1) (idle : first.at.process ≡ after table [])
         (process : Process) where
       ends : (end : WaitEnd ℕ)
@@ -216,7 +217,7 @@ module _ (table : TableId) where
                 (moved (λ p n. SleepsWell p (rendez 0) n asked.woken) first last same told_is idle
                 asked.slept);
             seat_is = asked.asked.1.seat_is
-                ∙ ap suc (ap (λ (t : Told ℕ). t.at.seat) same ∙ seat_is);
+                ∙ ap suc (ap (λ (t : WaitPoint ℕ). t.at.seat) same ∙ seat_is);
             answer_is = answer_is ∙ done answer asked.asked.0;
           })
         where
@@ -233,7 +234,7 @@ module _ (table : TableId) where
             process = process;
             failed = moved (λ p n. FailsAsleep p (rendez 0) n process why) first last same told_is
                 idle left.failed;
-            seat_is = left.left.1 ∙ ap suc (ap (λ (t : Told ℕ). t.at.seat) same ∙ seat_is);
+            seat_is = left.left.1 ∙ ap suc (ap (λ (t : WaitPoint ℕ). t.at.seat) same ∙ seat_is);
             returned = subst (λ o. Returns (Stopped why o) process now.process) left.left.0
                 returned;
             answer_is = answer_is ∙ ap (λ o. answer_of (Stopped why o)) left.left.0;
@@ -245,7 +246,7 @@ module _ (table : TableId) where
         let slept = waits.waited.slept in
         by slept.times slept.last slept.rounds slept.ends
       where
-        by : (times : ℕ) (last : Told ℕ)
+        by : (times : ℕ) (last : WaitPoint ℕ)
             → Rounds (device number late) (rendez 0) times waits.first last
             → Ends (device number late) (rendez 0) last waits.waited.ending
             (record { seat = now.seat; process = waits.waited.process })
@@ -439,12 +440,12 @@ failed_long before at number after other failed = absurd failed
 
 module _ (rendez : RendezId) where
   -- between any two requests stands a sleep
-  rounds_are_long : (times : ℕ) (first now : Told ℕ) → Rounds counting rendez times first now
+  rounds_are_long : (times : ℕ) (first now : WaitPoint ℕ) → Rounds counting rendez times first now
       → (now.at.seat ≡ first.at.seat + times)
       × (steps_of first.at.process + times * 3 ≤ steps_of now.at.process)
   rounds_are_long zero first now same =
-      let seats = ap (λ (t : Told ℕ). t.at.seat) same in
-      let steps = ap (λ (t : Told ℕ). steps_of t.at.process) same in
+      let seats = ap (λ (t : WaitPoint ℕ). t.at.seat) same in
+      let steps = ap (λ (t : WaitPoint ℕ). steps_of t.at.process) same in
       (omega (arith, seats), omega (arith, steps))
   rounds_are_long (suc times) first now more =
       let (seats, steps) = rounds_are_long times first more.between more.rounds in
@@ -454,7 +455,7 @@ module _ (rendez : RendezId) where
       let one = more.last.asked.seat_is in
       (omega (arith, seats, one), omega (arith, steps, slept, idle))
 
-  ends_are_long : (last : Told ℕ) (end : WaitEnd ℕ) (after : Point ℕ)
+  ends_are_long : (last : WaitPoint ℕ) (end : WaitEnd ℕ) (after : Point ℕ)
       → Ends counting rendez last end after
       → (after.seat ≡ suc last.at.seat)
       × (steps_of last.at.process + 1 ≤ steps_of after.process)

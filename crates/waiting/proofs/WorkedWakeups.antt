@@ -4,7 +4,7 @@ use Rattle.sync_base.specs.declared.ids.RendezId.{RendezId}
 use Rattle.rendez_words.specs.Process.{Process}
 use Rattle.rendez_words.specs.Steps.{raises, finds_nobody}
 use Rattle.sleep_wakeup.specs.Calls.{Ends}
-use Rattle.sleep_wakeup.specs.Deeds.{WakesOne}
+use Rattle.sleep_wakeup.specs.Actions.{WakesOne}
 use Rattle.waiting.specs.Wakeups.{Wakeup, WakesEach}
 
 -- how many steps the process has made

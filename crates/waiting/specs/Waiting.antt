@@ -6,7 +6,7 @@ use Rattle.sync_base.specs.declared.fault.Fault.{Fault}
 use Rattle.sync_base.specs.declared.ids.RendezId.{RendezId}
 use Rattle.sync_base.specs.declared.limits.TheConstants.{TOP_LEVEL}
 use Rattle.rendez_words.specs.Process.{Process}
-use Rattle.sleep_wakeup.specs.Deeds.{SleepsWell, FailsAsleep, PutsBack}
+use Rattle.sleep_wakeup.specs.Actions.{SleepsWell, FailsAsleep, PutsBack}
 use Rattle.sleep_wakeup.specs.Kernel.{Running}
 use Rattle.waiting.specs.declared.call.Reply.{Reply}
 use Rattle.waiting.specs.declared.call.Reply.TheVariants.{Done, Wait, Refused}
@@ -48,11 +48,11 @@ IsLow (Refused why) = ⊤
 -- ---- the wait
 
 -- where a call stands that was told this number last
-pub record Told (Seat : Type 0) : Type 0 where
+pub record WaitPoint (Seat : Type 0) : Type 0 where
   pub at : Point Seat
   pub number : ℕ
 
-abbrev pub told : {Seat : Type 0} → Seat → Running → ℕ → Told Seat
+abbrev pub told : {Seat : Type 0} → Seat → Running → ℕ → WaitPoint Seat
 told seat proc number = record { at = point seat proc; number = number }
 
 -- the answer to a request that is the call's
@@ -75,45 +75,45 @@ Returns (Stopped why None) before after = after ≡ before
 module _ {Seat Out : Type 0} (promise : Promise Seat Out) (rendez : RendezId) where
   -- it slept on its Rendez with the number that it was told last, the sleep ended well, and then it
   -- asked, and was answered so
-  pub record SleepsThenAsks (old : Told Seat) (reply : Reply Out) (after : Point Seat)
+  pub record SleepsThenAsks (old : WaitPoint Seat) (reply : Reply Out) (after : Point Seat)
       : Type 0 where
     pub woken : Process
     pub slept : SleepsWell old.at.process rendez old.number woken
     pub asked : promise.asked (record { seat = old.at.seat; process = woken }) reply after
 
   -- it slept so, the sleep failed for this, and then it left, and was answered so
-  pub record SleepsThenLeaves (old : Told Seat) (why : Fault) (reply : Option Out)
+  pub record SleepsThenLeaves (old : WaitPoint Seat) (why : Fault) (reply : Option Out)
       (after : Point Seat) : Type 0 where
     pub failed : FailsAsleep old.at.process rendez old.number after.process why
     pub left : promise.left old.at.seat reply after.seat
 
   -- one round more, behind which it was told to wait on
-  pub record OneMore (Before : Told Seat → Type 0) (now : Told Seat) : Type 0 where
-    pub between : Told Seat
+  pub record OneMore (Before : WaitPoint Seat → Type 0) (now : WaitPoint Seat) : Type 0 where
+    pub between : WaitPoint Seat
     pub rounds : Before between
     pub last : SleepsThenAsks between (Wait now.number) now.at
 
   -- so many rounds
-  abbrev pub Rounds : ℕ → Told Seat → Told Seat → Type 0
+  abbrev pub Rounds : ℕ → WaitPoint Seat → WaitPoint Seat → Type 0
   Rounds zero first now = now ≡ first
   Rounds (suc times) first now = OneMore (Rounds times first) now
 
   -- how the last round ends: its request was answered, or its sleep failed
-  abbrev pub Ends : Told Seat → WaitEnd Out → Point Seat → Type 0
+  abbrev pub Ends : WaitPoint Seat → WaitEnd Out → Point Seat → Type 0
   Ends last (Answered answer) after = SleepsThenAsks last (reply_of answer) after
   Ends last (Stopped why reply) after = SleepsThenLeaves last why reply after
 
   -- The sleeps of a call that was told to wait: between any two of its requests stands one, which
   -- ended well, with the number that it was told last.
-  pub record SleepsOn (first : Told Seat) (ending : WaitEnd Out) (after : Point Seat)
+  pub record SleepsOn (first : WaitPoint Seat) (ending : WaitEnd Out) (after : Point Seat)
       : Type 0 where
     pub times : ℕ
-    pub last : Told Seat
+    pub last : WaitPoint Seat
     pub rounds : Rounds times first last
     pub ends : Ends last ending after
 
   -- the wait of a call that was told to wait
-  pub record WaitsOn (first : Told Seat) (answer : Result Out Fault) (after : Point Seat)
+  pub record WaitsOn (first : WaitPoint Seat) (answer : Result Out Fault) (after : Point Seat)
       : Type 0 where
     pub ending : WaitEnd Out
     pub process : Process
@@ -124,7 +124,7 @@ module _ {Seat Out : Type 0} (promise : Promise Seat Out) (rendez : RendezId) wh
   -- its first request told it to wait, and it waited
   pub record BeginsToWait (before : Point Seat) (answer : Result Out Fault) (after : Point Seat)
       : Type 0 where
-    pub first : Told Seat
+    pub first : WaitPoint Seat
     pub begun : promise.begun before (Wait first.number) first.at
     pub waited : WaitsOn first answer after
 

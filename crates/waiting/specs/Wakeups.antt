@@ -13,7 +13,7 @@ use Rattle.rendez_words.specs.declared.view.View.TheVariants as view
 use Rattle.rendez_words.specs.declared.view.Part as seated
 use Rattle.rendez_words.specs.Process.{Process}
 use Rattle.rendez_words.specs.Rule.{ShowsCore}
-use Rattle.sleep_wakeup.specs.Deeds.{WakesOne}
+use Rattle.sleep_wakeup.specs.Actions.{WakesOne}
 
 -- a wakeup that a call owes: of this Rendez, with this level
 pub record Wakeup : Type 0 where

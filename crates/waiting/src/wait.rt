@@ -2,7 +2,7 @@
 ghost use Rattle.std.specs.Prelude.{◌≡◌, ◌<◌, IfErr, OnOk};
 ghost use Rattle.sync_base.specs.declared.limits.TheConstants.{TOP_LEVEL};
 ghost use Rattle.rendez_words.specs.Words.{rendez_of};
-ghost use Rattle.sleep_wakeup.specs.Deeds.{SleepsWell, FailsAsleep, PutsBack};
+ghost use Rattle.sleep_wakeup.specs.Actions.{SleepsWell, FailsAsleep, PutsBack};
 ghost use Rattle.waiting.specs.Waiting.{Waited, WaitsOn, SleepsOn, point, told};
 
 use crate::call::{Reply, WaitingCall};

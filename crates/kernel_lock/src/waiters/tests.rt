@@ -2,7 +2,7 @@
 //! Each test ends by itself, also where a wake is lost, but for two that sleep by hand.
 ghost use Rattle.kernel_lock.specs.Seats.{IsSeatOf};
 
-use super::{Taken, Turn, Waiters};
+use super::{Attempt, Taken, Waiters};
 use crate::tests::{Counter, open};
 use crate::{LockSeat, Locked, Opened};
 use std::hint::spin_loop;
@@ -55,9 +55,9 @@ fn fall_asleep<R: Wait>(rt: &R, waiters: &Waiters, signs: &Signs) -> bool {
     if signs.over.load(SeqCst) > 0 {
         return false;
     }
-    let turn = waiters.sleep(rt, Taken::behind(announced, 1), Turn::new());
+    let attempt = waiters.sleep(rt, Taken::behind(announced, 1), Attempt::new());
     signs.woken.store(1, SeqCst);
-    waiters.pass_on(turn).is_some()
+    waiters.pass_on(attempt).is_some()
 }
 
 // Makes a call once the other thread sleeps, and says whether that woke it. Else it wakes it.
@@ -133,8 +133,8 @@ fn a_release_before_the_mark_is_seen(rt: HostRuntime) {
     let Opened { lock, mut seat } = open(&rt, rt.alloc());
     lock.apply(&rt, &mut seat, 1);
     let mut stepper = seat.stand();
-    let turn = lock.sleep(&rt, &mut stepper, Turn::new());
-    assert!(rt; lock.waiters.pass_on(turn).is_none());
+    let attempt = lock.sleep(&rt, &mut stepper, Attempt::new());
+    assert!(rt; lock.waiters.pass_on(attempt).is_none());
     seat.sit(stepper);
     assert_eq!(rt; lock.close(&rt, seat).sum, 1);
 }
@@ -149,9 +149,11 @@ fn sleeps_twice<R: Wait>(rt: &R, lock: &Locked<Counter>, seat: &mut LockSeat<Cou
     lock.apply(rt, seat, 1);
     // This release was no answer to the next mark.
     let is_another = lock.waiters.announce() != first;
-    let turn = lock.waiters.sleep(rt, Taken::behind(first, 1), Turn::new());
-    let turn = lock.waiters.sleep(rt, Taken::behind(second, 1), turn);
-    lock.waiters.pass_on(turn).is_some() && is_another
+    let attempt = lock
+        .waiters
+        .sleep(rt, Taken::behind(first, 1), Attempt::new());
+    let attempt = lock.waiters.sleep(rt, Taken::behind(second, 1), attempt);
+    lock.waiters.pass_on(attempt).is_some() && is_another
 }
 
 // The lock is given back between the mark and the sleep: a release that left the mark as it was

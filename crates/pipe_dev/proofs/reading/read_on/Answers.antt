@@ -2,21 +2,21 @@
 use Rattle.std.proofs.Common.{None, Ok, suc, refl, sym, ◌∙◌, subst, arith}
 use Rattle.block_queue.specs.Seats.{key_of}
 use Rattle.sleep_wakeup.specs.Calls.{WhyNotSlept}
-use Rattle.sleep_wakeup.specs.Deeds.{SleepsWell}
+use Rattle.sleep_wakeup.specs.Actions.{SleepsWell}
 use Rattle.waiting.specs.declared.wait.WaitEnd.TheVariants.{Answered, Stopped}
 use Rattle.waiting.specs.Waiting.{IsLow}
 use Rattle.waiting.proofs.RoundLemmas.{fails_asleep}
 use Rattle.pipe_dev.specs.declared.answers.ReadAnswer.TheVariants as read
 use Rattle.pipe_dev.specs.ReadCalls.{AsksForBytes, calling, reader_with}
 use Rattle.pipe_dev.specs.ReadSteps.{told_by, told_with}
-use Rattle.pipe_dev.specs.Rendezes.{HasRow, reader_rendez}
+use Rattle.pipe_dev.specs.Rendezes.{OwnsRow, reader_rendez}
 use Rattle.pipe_dev.proofs.reading.read_on.Goals as goal
 
 pub returns-in-Err-clause-waited : goal.returns-in-Err-clause-waited
 returns-in-Err-clause-waited g c =
     let row = c.args.row.now in
     let kept = c.reading.invariant in
-    let has = subst (λ w. HasRow w row) (sym kept.words) c.requires.kernel in
+    let has = subst (λ w. OwnsRow w row) (sym kept.words) c.requires.kernel in
     record {
       ending = Stopped c.in-Err.why None;
       process = c.sleep.new.self.process;

@@ -4,13 +4,13 @@ use Rattle.block_queue.specs.Seats.{key_of}
 use Rattle.waiting.specs.Waiting.{IsLow}
 use Rattle.pipe_dev.specs.ReadCalls.{AsksForBytes, calling, lent_at, reader_with}
 use Rattle.pipe_dev.specs.ReadSteps.{told_by, told_with}
-use Rattle.pipe_dev.specs.Rendezes.{HasRow, reader_rendez}
+use Rattle.pipe_dev.specs.Rendezes.{OwnsRow, reader_rendez}
 use Rattle.pipe_dev.proofs.AskedLemmas.{is_asked_read}
 use Rattle.pipe_dev.proofs.reading.read_with.Goals as goal
 
 pub read_on-requires-clause-kernel : goal.read_on-requires-clause-kernel
 read_on-requires-clause-kernel g c =
-    subst (λ w. HasRow w c.args.row.now) (sym c.ask_for_bytes-cursor.ensures.words)
+    subst (λ w. OwnsRow w c.args.row.now) (sym c.ask_for_bytes-cursor.ensures.words)
     c.requires.kernel
 
 pub read_on-requires-clause-low : goal.read_on-requires-clause-low

@@ -2,7 +2,7 @@
 use Rattle.sleep_core.specs.State.{phase_of}
 use Rattle.sleep_core.specs.Table.{pid_of}
 use Rattle.sleep_core.specs.Step.{answer_to}
-use Rattle.sleep_core.proofs.LocalLemmas.{word_at-world_told}
+use Rattle.sleep_core.proofs.LocalityLemmas.{word_at-world_told}
 use Rattle.sleep_core.proofs.laws.local_step.Goals as goal
 
 pub returns-clause-words : goal.returns-clause-words

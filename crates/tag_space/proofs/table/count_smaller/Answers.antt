@@ -1,4 +1,4 @@
--- each step leaves a quarter of the lines to search, and those passed over are all smaller
+-- each step leaves a quarter of the entries to search, and those passed over are all smaller
 use Rattle.std.proofs.Common.{arith}
 use Rattle.tag_space.proofs.SearchLemmas.{narrowed}
 use Rattle.tag_space.proofs.table.count_smaller.Goals as goal

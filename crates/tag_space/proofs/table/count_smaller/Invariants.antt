@@ -1,4 +1,4 @@
--- the lines before have smaller tags, and those behind what is left have none
+-- the entries before have smaller tags, and those behind what is left have none
 use Rattle.tag_space.specs.Search.{IsNarrowed}
 use Rattle.tag_space.proofs.table.count_smaller.Given as goal
 

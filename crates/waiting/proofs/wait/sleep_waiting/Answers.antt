@@ -1,7 +1,7 @@
 -- The Rendez is there, and the number is low.
 use Rattle.std.proofs.lemmas.Result.{IfErr-weaker}
 use Rattle.sleep_wakeup.specs.Calls.{WhyNotSlept}
-use Rattle.sleep_wakeup.specs.Deeds.{FailsAsleep}
+use Rattle.sleep_wakeup.specs.Actions.{FailsAsleep}
 use Rattle.waiting.proofs.RoundLemmas.{fails_asleep}
 use Rattle.waiting.proofs.wait.sleep_waiting.Goals as goal
 

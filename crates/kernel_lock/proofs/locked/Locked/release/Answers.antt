@@ -1,6 +1,6 @@
 -- The release keeps the rule, and the seat is outside behind it.
 use Rattle.std.proofs.Common.{rules, arith, ◌≡◌, List, Option, Some, None, ap, refl, ◌∙◌}
-use Rattle.kernel_lock.specs.declared.view.Served.{Served}
+use Rattle.kernel_lock.specs.declared.view.Operation.{Operation}
 use Rattle.kernel_lock.specs.declared.view.Stage.TheVariants.{Outside}
 use Rattle.kernel_lock.specs.declared.view.View.{View}
 use Rattle.kernel_lock.specs.View.{outside_view}
@@ -16,8 +16,8 @@ store-requires g c =
     )
 
 -- a seat that has given the lock back is outside, whether a request was served or not
-released_is_outside : {Object Call Reply : Type 0} (history : List (Served Call Reply))
-    (served : Option (Served Call Reply)) (view : View Object Call Reply) →
+released_is_outside : {Object Call Reply : Type 0} (history : List (Operation Call Reply))
+    (served : Option (Operation Call Reply)) (view : View Object Call Reply) →
     (outside_view history served view).stage ≡ Outside
 released_is_outside history None view = refl
 released_is_outside history (Some served) view = refl

@@ -7,6 +7,6 @@ use Rattle.plan9.proofs.ticker.Ticker.run.Given as goal
 abbrev pub invariant-ticking : goal.invariant-ticking
 invariant-ticking g l =
     record {
-      times : (times : ℕ) × Rounds (TicksOnce g.T.Time.tells) times
+      times : (times : ℕ) × Rounds (TicksOnce g.T.TickSource.tells) times
           (timed l.initial.self l.initial.time) (timed l.self l.time);
     }

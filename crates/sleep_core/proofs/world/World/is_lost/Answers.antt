@@ -1,6 +1,6 @@
 -- The first process that is left asleep, or none.
 use Rattle.std.proofs.Common.{false, sym, rules}
-use Rattle.sleep_core.proofs.OversleepLemmas.{found_lost, none_found, lost_fact}
+use Rattle.sleep_core.proofs.LostWakeupLemmas.{found_lost, none_found, lost_fact}
 use Rattle.sleep_core.proofs.world.World.is_lost.Goals as goal
 
 pub returns-then-oversleeps-clause-value : goal.returns-then-oversleeps-clause-value

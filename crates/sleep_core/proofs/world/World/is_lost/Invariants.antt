@@ -1,6 +1,6 @@
 -- The processes below this one were looked at, and none of them is left asleep.
 use Rattle.std.proofs.Common.{◌≡◌, false}
-use Rattle.sleep_core.specs.Oversleep.{oversleeps_below}
+use Rattle.sleep_core.specs.LostWakeup.{oversleeps_below}
 use Rattle.sleep_core.proofs.world.World.is_lost.Given as goal
 
 -- nobody that was looked at is left asleep

@@ -3,7 +3,7 @@ use Rattle.std.proofs.Common.{◌≡◌, ◌≤◌, ◌<◌, ◌++◌, length, t
 use Rattle.std.proofs.Common.{arith, rules, length-append}
 use Rattle.std.proofs.lemmas.List.{take_rest}
 use Rattle.sync_base.specs.Write.{Write}
-use Rattle.sync_base.specs.PlainPipe.{Kept, kept_bytes}
+use Rattle.sync_base.specs.PlainPipe.{Contents, kept_bytes}
 use Rattle.sync_base.proofs.StreamLemmas.{joins_more, offset_within, first_there}
 use Rattle.sync_base.proofs.plain_pipe.PlainPipe.join_onto.Goals as goal
 
@@ -13,7 +13,7 @@ joining-preserved c =
     let kept = c.args.self.now in
     let within : c.joining.at < length kept.unread = search rules in
     let is : write ≡ get_or kept.unread c.joining.at write =
-    c.index.ensures ∙ ap (λ (k : Kept). get_or k.unread c.joining.at write) c.self.view_is in
+    c.index.ensures ∙ ap (λ (k : Contents). get_or k.unread c.joining.at write) c.self.view_is in
     let begun : c.joining.offset ≤ length write.bytes =
     offset_within c.joining.offset (length write.bytes)
     (λ some. subst (λ bytes. c.joining.offset < length bytes)

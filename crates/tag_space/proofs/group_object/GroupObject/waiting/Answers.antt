@@ -1,7 +1,7 @@
--- the lines of the table are the calls that wait, tags rising, so they are what is lent
-use Rattle.tag_space.proofs.GroupLemmas.{lists_waiting}
+-- the entries of the table are the calls that wait, tags rising, so they are what is lent
+use Rattle.tag_space.proofs.GroupObjectLemmas.{lists_waiting}
 use Rattle.tag_space.proofs.group_object.GroupObject.waiting.Goals as goal
 
--- the lines of the table are the calls that wait
+-- the entries of the table are the calls that wait
 pub returns : goal.returns
-returns c = rw (← c.self.view_is, c.as_slice.ensures) (lists_waiting _ _ c.self.invariant.lines)
+returns c = rw (← c.self.view_is, c.as_slice.ensures) (lists_waiting _ _ c.self.invariant.entries)

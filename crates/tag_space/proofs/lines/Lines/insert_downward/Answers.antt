@@ -1,9 +1,0 @@
--- the lines before the place move down by one slot, which leaves room for the new one there
-use Rattle.std.proofs.Common.{arith}
-use Rattle.tag_space.proofs.RunLemmas.{put_down}
-use Rattle.tag_space.proofs.lines.Lines.insert_downward.Goals as goal
-
-pub returns-clause-lines : goal.returns-clause-lines
-returns-clause-lines c = put_down c.args.self.now.slots.items _ c.args.self.now.first
-    c.args.self.now.count c.args.at _ (omega arith) (omega arith) c.args.line c.requires.room
-    c.requires.at (omega arith) c.copy_within.ensures.by_index.0 c.copy_within.ensures.by_index.2
