@@ -10,7 +10,7 @@ work=$top/bench/out/semaphore
 rounds=${1:-5}
 
 . "$top/bench/repo.sh"
-lay_out "sync_base histories sleep_core kernel_lock rendez_words sleep_wakeup waiting semaphore" \
+lay_out "sync_base histories sleep_core kernel_lock rendez_words sleep_wakeup waiting timer_list semaphore" \
     "semaphore_bench: sync_base sleep_wakeup semaphore"
 cp "$here/units.rattle" "$bench/src/main.rt"
 

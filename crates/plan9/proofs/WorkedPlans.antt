@@ -11,9 +11,10 @@ use Rattle.tag_space.specs.declared.space.TagSpace.{TagSpace}
 use Rattle.tag_space.specs.Members.{IsMemberOf, OwnsRow}
 use Rattle.semaphore.specs.declared.sema.Sema.{Sema}
 use Rattle.semaphore.specs.declared.sema.SemaSeat.{SemaSeat}
-use Rattle.semaphore.specs.declared.timers.Timers.{Timers}
-use Rattle.semaphore.specs.declared.timers.TimerSeat.{TimerSeat}
-use Rattle.semaphore.specs.Seats.{IsSemaSeatOf, IsTimerSeatOf}
+use Rattle.timer_list.specs.declared.timers.Timers.{Timers}
+use Rattle.timer_list.specs.declared.timers.TimerSeat.{TimerSeat}
+use Rattle.semaphore.specs.Seats.{IsSemaSeatOf}
+use Rattle.timer_list.specs.Seats.{IsTimerSeatOf}
 use Rattle.plan9.specs.Forkings.{ForksOne}
 use Rattle.plan9.specs.Halls.{IsRowOfSpace, IsSpareMember, IsAdmitted}
 use Rattle.plan9.specs.Plans.{Planned, IsPlan, CountsProcs, CountsProcsAlone, CountsRendez, Seats}

@@ -3,7 +3,7 @@
 use Rattle.std.proofs.Common.{◌≡◌, ◌≢◌, ◌<◌, length, ap, arith, Some, None}
 use Rattle.kernel_lock.specs.Seats.{number_of, account_of, given_of, limit_of}
 use Rattle.sync_base.specs.declared.fault.Fault.TheVariants as fault
-use Rattle.semaphore.specs.declared.timers.TimerSeat.{TimerSeat}
+use Rattle.timer_list.specs.declared.timers.TimerSeat.{TimerSeat}
 use Rattle.plan9.specs.Watches.{Clocked, Watching, IsNewClock, IsTaken, IsFirstWatch}
 use Rattle.plan9.specs.Watches.{IsSameWatch, IsFurtherWatch, WhyNoWatch}
 

@@ -42,15 +42,17 @@ pub use Rattle.pipe_dev.specs.WriteCalls
 -- seats at an object under a lock
 pub use Rattle.kernel_lock.specs.Calls as LockCalls
 pub use Rattle.kernel_lock.specs.Seats as LockSeats
--- semaphores and timers
+-- timers
+pub use Rattle.timer_list.specs.Seats as TimerSeats
+pub use Rattle.timer_list.specs.Ticking
+pub use Rattle.timer_list.specs.TimerLaws
+pub use Rattle.timer_list.specs.Timers
+-- semaphores
 pub use Rattle.semaphore.specs.Acquiring
 pub use Rattle.semaphore.specs.Opening as SemaOpening
 pub use Rattle.semaphore.specs.Releasing
 pub use Rattle.semaphore.specs.Seats as SemaSeats
 pub use Rattle.semaphore.specs.SemaLaws
-pub use Rattle.semaphore.specs.Ticking
-pub use Rattle.semaphore.specs.TimerLaws
-pub use Rattle.semaphore.specs.Timers
 pub use Rattle.semaphore.specs.Timing
 -- how a call waits
 pub use Rattle.waiting.specs.Waiting

@@ -5,7 +5,7 @@ use Rattle.sync_base.specs.NoteSet.{no_notes}
 use Rattle.rendez_words.specs.Steps.{drains}
 use Rattle.rendez_words.specs.Words.{procs_of}
 use Rattle.sleep_wakeup.specs.Kernel.{Running}
-use Rattle.semaphore.specs.Ticking.{Ticks}
+use Rattle.timer_list.specs.Ticking.{Ticks}
 use Rattle.waiting.specs.Waiting.{point}
 use Rattle.pipe_dev.specs.Rounds.{Rounds}
 use Rattle.plan9.specs.declared.ticker.Ticker.{Ticker}

@@ -3,9 +3,9 @@ use Rattle.std.specs.Prelude.{◌≡◌, ⊤, ℕ, Option, Some, None}
 use Rattle.sync_base.specs.declared.fault.Fault.{Fault}
 use Rattle.sync_base.specs.declared.fault.Fault.TheVariants as fault
 use Rattle.kernel_lock.specs.Seats.{number_of, Splits, KnowsAllGiven}
-use Rattle.semaphore.specs.declared.timers.Timers.{Timers}
-use Rattle.semaphore.specs.declared.timers.TimerSeat.{TimerSeat}
-use Rattle.semaphore.specs.Seats.{AreNewTimers, IsTimerSeatOf}
+use Rattle.timer_list.specs.declared.timers.Timers.{Timers}
+use Rattle.timer_list.specs.declared.timers.TimerSeat.{TimerSeat}
+use Rattle.timer_list.specs.Seats.{AreNewTimers, IsTimerSeatOf}
 use Rattle.semaphore.specs.Timing.{TimedPoint, timed_point}
 use Rattle.plan9.specs.Pools.{Holding}
 

@@ -32,7 +32,7 @@ pub struct Watch<'t> {
 }
 
 impl<'t> Model for Watch<'t> {
-    ghost use Rattle.semaphore.specs.Seats.{IsTimerSeatOf};
+    ghost use Rattle.timer_list.specs.Seats.{IsTimerSeatOf};
     ghost use Rattle.plan9.specs.Watches.{Watching};
 
     ghost Value = { Watching };
@@ -45,7 +45,7 @@ impl<'t> Model for Watch<'t> {
 impl Clock {
     ghost use Rattle.std.specs.Prelude.{IfOk, IfErr, OnOk};
     ghost use Rattle.sleep_core.specs.Limits.{IsProcCount};
-    ghost use Rattle.semaphore.specs.Timers.{WhyNoTimers};
+    ghost use Rattle.timer_list.specs.Timers.{WhyNoTimers};
     ghost use Rattle.plan9.specs.Watches.{IsFirstWatch, IsNewClock, IsTaken};
 
     /// A clock for so many processes, the one that ticks among them. Refuses, in this order, as
@@ -84,7 +84,7 @@ impl Clock {
 impl<'t> Watch<'t> {
     ghost use Rattle.std.specs.Prelude.{◌≡◌, IfOk, IfErr};
     ghost use Rattle.rendez_words.specs.Words.{procs_of};
-    ghost use Rattle.semaphore.specs.Ticking.{Ticks};
+    ghost use Rattle.timer_list.specs.Ticking.{Ticks};
     ghost use Rattle.waiting.specs.Waiting.{point};
     ghost use Rattle.plan9.specs.Watches.{IsFurtherWatch, IsSameWatch, WhyNoWatch};
 

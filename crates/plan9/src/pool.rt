@@ -247,7 +247,7 @@ impl<'s, 'k> Holder<'s, 'k> {
     ghost use Rattle.semaphore.specs.Acquiring.{Semacquires};
     ghost use Rattle.semaphore.specs.Releasing.{Releases};
     ghost use Rattle.semaphore.specs.Seats.{rendez_at};
-    ghost use Rattle.semaphore.specs.Timers.{deadline_of};
+    ghost use Rattle.timer_list.specs.Timers.{deadline_of};
     ghost use Rattle.semaphore.specs.Timing.{AcquiresInTime};
     ghost use Rattle.plan9.specs.Watches.{IsSameWatch, watched_point};
     ghost use Rattle.plan9.specs.Refusals.{ComesBack};

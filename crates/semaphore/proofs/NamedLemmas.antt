@@ -17,7 +17,7 @@ use Rattle.semaphore.specs.WaitQueue.{stands_in, with_seat, first_of}
 use Rattle.semaphore.specs.Units.{SemaState, IsSound, opening, grants_of, granted, passed}
 use Rattle.semaphore.specs.Units.{answer_to, answer_next, sema_after}
 use Rattle.semaphore.specs.SemaHistory.{SemaEntry, sema_meaning, named_by, last_named}
-use Rattle.semaphore.proofs.Cases.{same_or_not}
+use Rattle.timer_list.proofs.Cases.{same_or_not}
 use Rattle.semaphore.proofs.WaitQueueLemmas.{joined_same, joined_other, length_without}
 use Rattle.semaphore.proofs.SemaLemmas.{sound_granted, first_waiter, passed_one, passed_all}
 use Rattle.semaphore.proofs.SemaLawLemmas.{released_of, count_is, history_keeps}

@@ -20,7 +20,7 @@ use Rattle.semaphore.specs.Units.{SemaState, IsSound, opening, stage_of, granted
 use Rattle.semaphore.specs.Units.{answer_to, sema_after, seat_named}
 use Rattle.semaphore.specs.SemaHistory.{SemaEntry, sema_meaning}
 use Rattle.semaphore.specs.Seats.{waits_after, is_waiting}
-use Rattle.semaphore.proofs.Cases.{same_or_not}
+use Rattle.timer_list.proofs.Cases.{same_or_not}
 use Rattle.semaphore.proofs.WaitQueueLemmas.{length_without}
 use Rattle.semaphore.proofs.SemaLemmas.{sound_granted, first_waiter, passed_one, passed_all}
 use Rattle.semaphore.proofs.SemaLawLemmas.{waits_of, collected_of, left_with_of, left_without_of}

@@ -9,12 +9,8 @@ use Rattle.semaphore.specs.declared.sema.Sema.{Sema}
 use Rattle.semaphore.specs.declared.sema.SemaSeat.{SemaSeat}
 use Rattle.semaphore.specs.declared.sema_object.SemaCall.{SemaCall}
 use Rattle.semaphore.specs.declared.sema_object.SemaReply.{SemaReply}
-use Rattle.semaphore.specs.declared.timer_object.TimerCall.{TimerCall}
-use Rattle.semaphore.specs.declared.timer_object.TimerReply.{TimerReply}
-use Rattle.semaphore.specs.declared.timers.Timers.{Timers}
-use Rattle.semaphore.specs.declared.timers.TimerSeat.{TimerSeat}
-use Rattle.semaphore.specs.Asking.{Asks, AsksTimers}
-use Rattle.semaphore.specs.Seats.{IsSeatAt, IsSeatAtTimers, OwnsRow, rendez_at}
+use Rattle.semaphore.specs.Asking.{Asks}
+use Rattle.semaphore.specs.Seats.{IsSeatAt, OwnsRow, rendez_at}
 
 -- a request that names the number that its seat was told
 pub asks_so : (sema : Sema) (waits : Bool) (call : ℕ → SemaCall) (told : SemaReply) (named : ℕ)
@@ -24,22 +20,6 @@ pub asks_so : (sema : Sema) (waits : Bool) (call : ℕ → SemaCall) (told : Sem
     → IsSeatAt sema waits after → number_of after.seat ≡ number_of before.seat
     → Asks sema waits (call (number_of before.seat)) told before after
 asks_so sema waits call told named before after own served at same =
-    record {
-      served = subst
-          (λ n. Serves (record { by = number_of before.seat; request = call n; reply = told })
-          (view_of before.seat) (view_of after.seat)) own served;
-      seat = at;
-      number = same;
-    }
-
--- the same at timers
-pub asks_timers_so : (timers : Timers) (set : Bool) (call : ℕ → TimerCall) (told : TimerReply)
-    (named : ℕ) (before after : TimerSeat) → named ≡ number_of before.seat
-    → Serves (record { by = number_of before.seat; request = call named; reply = told })
-    (view_of before.seat) (view_of after.seat)
-    → IsSeatAtTimers timers set after → number_of after.seat ≡ number_of before.seat
-    → AsksTimers timers set (call (number_of before.seat)) told before after
-asks_timers_so timers set call told named before after own served at same =
     record {
       served = subst
           (λ n. Serves (record { by = number_of before.seat; request = call n; reply = told })

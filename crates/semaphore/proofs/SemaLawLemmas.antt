@@ -20,7 +20,7 @@ use Rattle.semaphore.specs.Units.{granted, passed, is_idle, may_acquire, answer_
 use Rattle.semaphore.specs.Units.{answer_collect, answer_leave, answer_to, sema_after}
 use Rattle.semaphore.specs.SemaHistory.{SemaEntry, sema_meaning, added_by, taken_by, released}
 use Rattle.semaphore.specs.SemaHistory.{taken, held_in, uncollected, collected_by, collected}
-use Rattle.semaphore.proofs.Cases.{same_or_not}
+use Rattle.timer_list.proofs.Cases.{same_or_not}
 use Rattle.semaphore.proofs.WaitQueueLemmas.{length_without}
 use Rattle.semaphore.proofs.SemaLemmas.{sound_wait, sound_leave, sound_stage, sound_granted}
 use Rattle.semaphore.proofs.SemaLemmas.{first_waiter, IsFirstWaiter, passed_one, passed_all}

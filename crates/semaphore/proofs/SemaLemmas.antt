@@ -13,7 +13,7 @@ use Rattle.semaphore.specs.declared.sema_object.SemaCall.TheVariants.{Leave}
 use Rattle.semaphore.specs.declared.sema_object.SemaReply.TheVariants as reply
 use Rattle.semaphore.specs.Units.{SemaState, IsSound, is_seat, stage_of, grants_of, granted, passed}
 use Rattle.semaphore.specs.Units.{answer_to, answer_leave, after, sema_after}
-use Rattle.semaphore.proofs.Cases.{same_or_not}
+use Rattle.timer_list.proofs.Cases.{same_or_not}
 use Rattle.semaphore.proofs.WaitQueueLemmas.{head_false, without_here, without_there, left_same}
 use Rattle.semaphore.proofs.WaitQueueLemmas.{left_other, joined_same, joined_other, seats_join}
 use Rattle.semaphore.proofs.WaitQueueLemmas.{seats_without}

@@ -8,7 +8,7 @@ use Rattle.std.proofs.lemmas.List.Sums.{sum_by-set, count_by-le-length}
 use Rattle.std.proofs.Math.ListN.{length-set}
 use Rattle.semaphore.specs.WaitQueue.{Queue, stands_in, without, first_of, walk, IsLinked, AreSeats}
 use Rattle.semaphore.specs.WaitQueue.{IsRing}
-use Rattle.semaphore.proofs.Cases.{same_or_not}
+use Rattle.timer_list.proofs.Cases.{same_or_not}
 
 -- each of these has the property
 abbrev pub EachHas : (ℕ → Type 0) → List ℕ → Type 0

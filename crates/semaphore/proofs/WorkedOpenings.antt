@@ -1,5 +1,5 @@
--- What no new semaphore is, no new timers are and no reason to refuse them: each against one row of
--- what their constructors say.
+-- What no new semaphore is and no reason to refuse one: each against one row of what its
+-- constructor says.
 use Rattle.std.proofs.Common.{◌≡◌, ◌≢◌, ◌≤◌, ◌<◌, ℕ, length, ap, arith}
 use Rattle.histories.specs.declared.account.Account.{Account}
 use Rattle.kernel_lock.specs.Seats.{gave_of}
@@ -8,18 +8,11 @@ use Rattle.sleep_wakeup.specs.Kernel.{Unused, HasRendez}
 use Rattle.semaphore.specs.declared.limits.TheConstants.{MAX_VALUE}
 use Rattle.semaphore.specs.declared.sema.Sema.{Sema}
 use Rattle.semaphore.specs.declared.sema.SemaSeat.{SemaSeat}
-use Rattle.semaphore.specs.declared.timers.Timers.{Timers}
-use Rattle.semaphore.specs.declared.timers.TimerSeat.{TimerSeat}
 use Rattle.semaphore.specs.Opening.{WhyNotOpened}
 use Rattle.sleep_core.specs.Limits.{IsProcCount}
 use Rattle.semaphore.specs.SemaHistory.{SemaEntry}
-use Rattle.semaphore.specs.TimerHistory.{TimerEntry}
-use Rattle.semaphore.specs.Seats.{IsNewSema, AreNewTimers, OwnsRow, IsSemaSeatOf, IsTimerSeatOf}
-use Rattle.semaphore.specs.Seats.{opening_value}
-use Rattle.semaphore.specs.Timers.{WhyNoTimers}
+use Rattle.semaphore.specs.Seats.{IsNewSema, OwnsRow, IsSemaSeatOf, opening_value}
 use Rattle.semaphore.specs.Units.{IsSemaRange}
-
--- ---- a semaphore
 
 module _ (roster : Unused) (sema : Sema) (seat : SemaSeat) where
   -- it has a unit more than it was asked for, or none
@@ -95,33 +88,3 @@ module _ (roster : Unused) (value procs : ℕ) where
 
   processes_out_of_range : (IsProcCount procs → ⊥) → IsSemaRange value procs → ⊥
   processes_out_of_range none range = none range.count
-
--- ---- timers
-
-module _ (timers : Timers) (seat : TimerSeat) (procs : ℕ) where
-  -- they serve a process fewer, or one more
-  timers_for_another_count : timers.procs ≢ 3 → AreNewTimers 3 timers seat → ⊥
-  timers_for_another_count other new = other new.procs_are
-
-  -- their first seat is another's
-  a_timer_of_another : (IsTimerSeatOf timers seat → ⊥) → AreNewTimers 3 timers seat → ⊥
-  a_timer_of_another other new = other new.seat_is
-
-  -- their first seat has given a number
-  a_timer_that_gave_one : length (gave_of seat.seat) ≡ 1 → AreNewTimers 3 timers seat → ⊥
-  a_timer_that_gave_one one new =
-      let gave =
-      ap (λ (account : Account TimerEntry). length account.gave) new.first_seat.account in
-      omega (arith, one, gave)
-
-  -- NoProc for as many processes as there may be
-  timers_in_range : IsProcCount procs → WhyNoTimers procs fault.NoProc → ⊥
-  timers_in_range count none = none count
-
-  -- Memory for as many processes as there may not be
-  timers_memory_first : (IsProcCount procs → ⊥) → WhyNoTimers procs fault.Memory → ⊥
-  timers_memory_first none count = none count
-
-  -- BadFlags, which is no reason
-  timers_for_bad_flags : WhyNoTimers procs fault.BadFlags → ⊥
-  timers_for_bad_flags why = why

@@ -1,36 +1,26 @@
--- What is no lock of a semaphore or of timers, and no seat of them: each against one row.
-use Rattle.std.proofs.Common.{◌≡◌, ◌≢◌, ◌<◌, ◌≤◌, ◌+◌, ◌*◌, ◌^◌, ℕ, Bool, true, false, List}
-use Rattle.std.proofs.Common.{[], ◌∷◌, Option, Some, length, refl, ap, sym, ◌∙◌, arith}
-use Rattle.std.specs.Prelude.{replicate, count_by, slice_index_or}
+-- What is no lock of a semaphore and no seat of one: each against one row.
+use Rattle.std.proofs.Common.{◌≡◌, ◌≢◌, ◌<◌, ◌≤◌, ◌+◌, ◌^◌, ℕ, Bool, true, false, List}
+use Rattle.std.proofs.Common.{[], ◌∷◌, Some, length, refl, ap, sym, ◌∙◌, arith}
+use Rattle.std.specs.Prelude.{count_by, slice_index_or}
 use Rattle.rendez_words.specs.declared.words.Words.{Words}
 use Rattle.rendez_words.specs.Words.{rendez_of}
 use Rattle.kernel_lock.specs.declared.locked.Locked.{Locked}
-use Rattle.kernel_lock.specs.Seats.{IsSeatOf, SeesHistory, shares_of, limit_of}
-use Rattle.kernel_lock.specs.Seats.{opening_of}
+use Rattle.kernel_lock.specs.Seats.{IsSeatOf, SeesHistory, shares_of, limit_of, opening_of}
 use Rattle.semaphore.specs.declared.acquiring.SetTimer.{SetTimer}
-use Rattle.semaphore.specs.declared.due.Due.{Due}
 use Rattle.semaphore.specs.declared.limits.TheConstants.{MAX_VALUE}
 use Rattle.semaphore.specs.declared.sema.Sema.{Sema}
 use Rattle.semaphore.specs.declared.sema.SemaSeat.{SemaSeat}
 use Rattle.semaphore.specs.declared.sema_object.SemaCall.{SemaCall}
-use Rattle.semaphore.specs.declared.sema_object.SemaCall.TheVariants.{Acquire}
+use Rattle.semaphore.specs.declared.sema_object.SemaCall.TheVariants.{Acquire, Collect, Leave}
 use Rattle.semaphore.specs.declared.sema_object.SemaReply.{SemaReply}
-use Rattle.semaphore.specs.declared.sema_object.SemaReply.TheVariants.{Acquired}
-use Rattle.semaphore.specs.declared.timer_object.Timer.{Timer}
-use Rattle.semaphore.specs.declared.timer_object.Timer.TheVariants.{Unset}
-use Rattle.semaphore.specs.declared.timer_object.TimerCall.{TimerCall}
-use Rattle.semaphore.specs.declared.timer_object.TimerReply.{TimerReply}
-use Rattle.semaphore.specs.declared.timers.Timers.{Timers}
-use Rattle.semaphore.specs.declared.timers.TimerSeat.{TimerSeat}
-use Rattle.semaphore.specs.Definitions.{sema_definition, timer_definition}
-use Rattle.semaphore.specs.Opening.{IsSemaLock, IsTimerLock}
+use Rattle.semaphore.specs.declared.sema_object.SemaReply.TheVariants as reply
+use Rattle.semaphore.specs.Definitions.{sema_definition}
+use Rattle.semaphore.specs.Opening.{IsSemaLock}
 use Rattle.semaphore.specs.WaitQueue.{IsRing, IsLinked, AreSeats, stands_in}
-use Rattle.semaphore.specs.Seats.{IsSeatAt, IsSeatAtTimers, IsTimerSet, OwnsRow, is_waiting}
-use Rattle.semaphore.specs.Seats.{own_of}
+use Rattle.semaphore.specs.Seats.{IsSeatAt, IsTimerSet, OwnsRow, is_waiting, own_of}
 use Rattle.semaphore.specs.SemaHistory.{SemaEntry, taken}
-use Rattle.semaphore.specs.TimerHistory.{has_timer}
-use Rattle.semaphore.specs.Tournament.{IsTournament, IsWon}
 use Rattle.semaphore.specs.Units.{SemaState}
+use Rattle.timer_list.specs.Seats.{IsSeatAtTimers}
 use Rattle.semaphore.proofs.Broken.{entry}
 
 -- ---- locks
@@ -45,14 +35,6 @@ module _ (lock : Locked SemaState SemaCall SemaReply) where
 
     it_opens_with_its_value : (opening_of sema_definition lock).value ≡ of_it.value
     it_opens_with_its_value = ap (λ (state : SemaState). state.value) of_it.opening_is
-
-module _ (lock : Locked (List Timer) TimerCall TimerReply) where
-  a_lock_of_fewer_timers : limit_of lock ≢ 3 → ¬ IsTimerLock lock 3
-  a_lock_of_fewer_timers other of_it = other of_it.limit
-
-  a_lock_of_a_timer_that_is_set : opening_of timer_definition lock ≢ replicate 3 Unset
-      → ¬ IsTimerLock lock 3
-  a_lock_of_a_timer_that_is_set other of_it = other of_it.opening_is
 
 -- ---- seats
 
@@ -79,24 +61,16 @@ module _ (sema : Sema) (waits : Bool) (seat : SemaSeat) where
       → ¬ OwnsRow sema words
   a_row_past_the_last_rendez words past row = omega (arith, past, row)
 
-module _ (timers : Timers) (set : Bool) (seat : TimerSeat) where
-  a_timer_of_no_timers : ¬ IsTimerLock timers.lock timers.procs → ¬ IsSeatAtTimers timers set seat
-  a_timer_of_no_timers none at = none at.opened
-
-  a_timer_of_another_lock : ¬ IsSeatOf timers.lock seat.seat → ¬ IsSeatAtTimers timers set seat
-  a_timer_of_another_lock other at = other at.seat_is
-
-  a_timer_that_saw_no_history : ¬ SeesHistory timer_definition timers.lock seat.seat
-      → ¬ IsSeatAtTimers timers set seat
-  a_timer_that_saw_no_history none at = none at.history
-
-  a_timer_without_a_number : shares_of seat.seat ≡ [] → ¬ IsSeatAtTimers timers set seat
-  a_timer_without_a_number none at =
-      let one = ap (λ shares. length shares) (sym none ∙ at.shares_are) in omega (arith, one)
-
-  who_made_no_call_has_no_timer : (at : IsSeatAtTimers timers set seat) → at.mine ≡ []
-      → false ≡ set
-  who_made_no_call_has_no_timer at none = sym (ap has_timer none) ∙ at.set_is
+-- whether a seat waits, by its own calls
+own_calls_tell : (is_waiting (entry 0 (Acquire 0) (reply.Wait 0) ∷ []) ≡ true)
+    × (is_waiting (entry 0 (Collect 0) reply.Granted ∷ entry 0 (Acquire 0) (reply.Wait 0) ∷ []) ≡
+    false)
+    × (is_waiting (entry 0 (Leave 0) reply.Granted ∷ entry 0 (Acquire 0) (reply.Wait 0) ∷ []) ≡
+    false)
+    × (is_waiting (entry 0 (Leave 0) reply.Gone ∷ entry 0 (Acquire 0) (reply.Wait 0) ∷ []) ≡ false)
+    × (is_waiting (entry 0 (Collect 0) (reply.Wait 0) ∷ entry 0 (Acquire 0) (reply.Wait 0) ∷ []) ≡
+    true)
+own_calls_tell = (refl, refl, refl, refl, refl)
 
 -- a call whose timer is to be set has set it
 a_timer_that_is_not_set : (timer : SetTimer)
@@ -105,7 +79,8 @@ a_timer_that_is_not_set timer unset set = unset set
 
 -- a seat without a call was given nothing, and one with a call what that brought
 the_units_of_a_seat : (taken (own_of {Entry = SemaEntry} []) ≡ 0)
-    × (taken (own_of (record { number = 3; mine = entry 3 (Acquire 3) Acquired ∷ [] } ∷ [])) ≡ 1)
+    × (taken (own_of (record { number = 3; mine = entry 3 (Acquire 3) reply.Acquired ∷ [] } ∷ []))
+    ≡ 1)
 the_units_of_a_seat = (refl, refl)
 
 -- ---- sizes
@@ -127,9 +102,3 @@ module _ (next prev : List ℕ) (stands : List Bool) (ring : IsRing next prev st
       × ((seat : ℕ) → seat < length stands
       → slice_index_or stands seat false ≡ stands_in ring.order seat)
   a_ring_holds_who_stands = (ring.many, ring.counted, ring.linked, ring.told)
-
-a_tournament_has_two_nodes_for_each : (entrants : ℕ) (nodes : List (Option Due))
-    → IsTournament entrants nodes → (1 ≤ entrants) × (entrants < 2 ^ 32)
-    × (length nodes ≡ 2 * entrants)
-    × ((place : ℕ) → 1 ≤ place → place < entrants → IsWon nodes place)
-a_tournament_has_two_nodes_for_each entrants nodes is = (is.some, is.few, is.size, is.won)

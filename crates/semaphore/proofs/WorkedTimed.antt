@@ -24,17 +24,19 @@ use Rattle.semaphore.specs.declared.sema.SemaSeat.{SemaSeat}
 use Rattle.semaphore.specs.declared.sema_object.SemaCall.{SemaCall}
 use Rattle.semaphore.specs.declared.sema_object.SemaCall.TheVariants.{Acquire}
 use Rattle.semaphore.specs.declared.sema_object.SemaReply.{SemaReply}
-use Rattle.semaphore.specs.declared.timer_object.TimerCall.{TimerCall}
-use Rattle.semaphore.specs.declared.timer_object.TimerReply.{TimerReply}
-use Rattle.semaphore.specs.declared.timers.Timers.{Timers}
-use Rattle.semaphore.specs.declared.timers.TimerSeat.{TimerSeat}
+use Rattle.timer_list.specs.declared.timer_object.TimerCall.{TimerCall}
+use Rattle.timer_list.specs.declared.timer_object.TimerReply.{TimerReply}
+use Rattle.timer_list.specs.declared.timers.Timers.{Timers}
+use Rattle.timer_list.specs.declared.timers.TimerSeat.{TimerSeat}
 use Rattle.semaphore.specs.Acquiring.{acquiring}
-use Rattle.semaphore.specs.Asking.{Asks, AsksTimers}
-use Rattle.semaphore.specs.Seats.{IsSeatAt, IsSemaSeatOf, IsSeatAtTimers, IsTimerSeatOf, own_of}
+use Rattle.semaphore.specs.Asking.{Asks}
+use Rattle.timer_list.specs.Asking.{AsksTimers}
+use Rattle.semaphore.specs.Seats.{IsSeatAt, IsSemaSeatOf, own_of}
+use Rattle.timer_list.specs.Seats.{IsSeatAtTimers, IsTimerSeatOf}
 use Rattle.semaphore.specs.Seats.{rendez_at}
 use Rattle.semaphore.specs.SemaHistory.{SemaEntry}
-use Rattle.semaphore.specs.Ticking.{Ticks}
-use Rattle.semaphore.specs.TimerHistory.{TimerEntry}
+use Rattle.timer_list.specs.Ticking.{Ticks}
+use Rattle.timer_list.specs.TimerHistory.{TimerEntry}
 use Rattle.semaphore.specs.Timing.{Awaiting, Keeps, Looks, PutsBackAny, TimedPoint, WaitsInTime}
 use Rattle.semaphore.specs.Timing.{notes_of}
 use Rattle.semaphore.proofs.UnitLemmas.{own_more}

@@ -1,4 +1,4 @@
--- Runs of semaphores and timers, computed from the definitions alone, and histories that are none.
+-- Runs of semaphores, computed from the definitions alone, and histories that are none.
 use Rattle.std.proofs.Common.{◌≡◌, ◌⊎◌, ◌<◌, ◌≤◌, ◌+◌, ℕ, true, false, List, [], ◌∷◌, length}
 use Rattle.std.proofs.Common.{inl, inr, refl, arith}
 use Rattle.histories.specs.History.{state_after, IsLegal}
@@ -9,16 +9,8 @@ use Rattle.semaphore.specs.declared.sema_object.SemaCall.TheVariants.{Acquire, A
 use Rattle.semaphore.specs.declared.sema_object.SemaCall.TheVariants.{NextWake, Collect, Leave}
 use Rattle.semaphore.specs.declared.sema_object.SemaReply.{SemaReply}
 use Rattle.semaphore.specs.declared.sema_object.SemaReply.TheVariants as reply
-use Rattle.semaphore.specs.declared.timer_object.Timer.{Timer}
-use Rattle.semaphore.specs.declared.timer_object.Timer.TheVariants.{Unset}
-use Rattle.semaphore.specs.declared.timer_object.TimerCall.{TimerCall}
-use Rattle.semaphore.specs.declared.timer_object.TimerCall.TheVariants.{Add, Expire, Cancel}
-use Rattle.semaphore.specs.declared.timer_object.TimerReply.{TimerReply}
-use Rattle.semaphore.specs.declared.timer_object.TimerReply.TheVariants as told
-use Rattle.sync_base.specs.declared.ids.Pid.{Pid}
 use Rattle.semaphore.specs.Units.{SemaState, IsSound, opening, answer_to, after, passed, grants_of}
 use Rattle.semaphore.specs.Units.{stage_of}
-use Rattle.semaphore.specs.Timers as timers
 use Rattle.semaphore.specs.WaitQueue.{stands_in, AreSeats}
 use Rattle.semaphore.specs.SemaHistory.{SemaEntry, sema_meaning, released, taken, collected}
 use Rattle.semaphore.specs.SemaHistory.{uncollected, last_named}
@@ -155,29 +147,3 @@ module _ (past : List SemaEntry) (legal : IsLegal sema_meaning (opening 1 3 0) p
       → stands_in left.unnamed 1 ≡ false → grants_of left 1 ≡ last_named 0 1 past
   seat_1_is_named_with_its_latest_count law =
       law 1 3 0 past (omega arith) (omega arith) legal 1
-
--- timers
-pid : ℕ → Pid
-pid n = record { 0 = n }
-
-told_by : List Timer → List TimerCall → List TimerReply
-told_by s [] = []
-told_by s (call ∷ calls) = timers.answer_to s call ∷ told_by (timers.after s call) calls
-
-a_timer_expires_once : told_by (Unset ∷ Unset ∷ []) (Add 0 (pid 4) 150 ∷ Expire 149 ∷ Expire 150 ∷
-    Expire 150 ∷ Cancel 0 ∷ Cancel 0 ∷ []) ≡ told.Added ∷ told.NoneDue ∷ told.Ended (pid 4) ∷
-    told.NoneDue ∷ told.Expired ∷ told.Absent ∷ []
-unfolding told_by
-a_timer_expires_once = refl
-
-timers_expire_by_deadline_and_then_by_seat : told_by (Unset ∷ Unset ∷ Unset ∷
-    []) (Add 2 (pid 12) 7 ∷ Add 0 (pid 10) 8 ∷ Add 1 (pid 11) 7 ∷ Add 1 (pid 13) 1 ∷ Expire 9 ∷
-    Add 1 (pid 13) 1 ∷ Cancel 0 ∷ Expire 9 ∷ Expire 9 ∷ Cancel 3 ∷ Add 3 (pid 9) 1 ∷ []) ≡
-    told.Added ∷ told.Added ∷ told.Added ∷ told.Busy ∷ told.Ended (pid 11) ∷ told.Busy ∷
-    told.Removed ∷ told.Ended (pid 12) ∷ told.NoneDue ∷ told.Busy ∷ told.Busy ∷ []
-unfolding told_by
-timers_expire_by_deadline_and_then_by_seat = refl
-
-a_deadline_never_wraps : (timers.deadline_of 100 50 ≡ 150) ×
-    (timers.deadline_of 18446744073709551614 50 ≡ 18446744073709551615)
-a_deadline_never_wraps = (refl, refl)

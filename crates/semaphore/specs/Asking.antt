@@ -1,9 +1,7 @@
--- What a seat asks of its semaphore or of its timers, one request at a time, and what the typed
--- answers stand for.
-use Rattle.std.specs.Prelude.{◌≡◌, ℕ, ◌<◌, Bool, true, false, List, length, not, Option, Some, None}
+-- What a seat asks of its semaphore, one request at a time, and what the typed answers stand for.
+use Rattle.std.specs.Prelude.{◌≡◌, ℕ, ◌<◌, Bool, false, length, not, Option, Some, None}
 use Rattle.kernel_lock.specs.Calls.{Serves}
 use Rattle.kernel_lock.specs.Seats.{number_of, view_of}
-use Rattle.sync_base.specs.declared.ids.Pid.{Pid}
 use Rattle.semaphore.specs.declared.acquiring.Semacquired.{Semacquired}
 use Rattle.semaphore.specs.declared.acquiring.Semacquired.TheVariants as got
 use Rattle.semaphore.specs.declared.sema.Sema.{Sema}
@@ -13,15 +11,7 @@ use Rattle.semaphore.specs.declared.sema_object.SemaCall.{SemaCall}
 use Rattle.semaphore.specs.declared.sema_object.SemaCall.TheVariants.{Release, NextWake}
 use Rattle.semaphore.specs.declared.sema_object.SemaReply.{SemaReply}
 use Rattle.semaphore.specs.declared.sema_object.SemaReply.TheVariants as reply
-use Rattle.semaphore.specs.declared.timer_object.Timer.{Timer}
-use Rattle.semaphore.specs.declared.timer_object.TimerCall.{TimerCall}
-use Rattle.semaphore.specs.declared.timer_object.TimerReply.{TimerReply}
-use Rattle.semaphore.specs.declared.timer_object.TimerReply.TheVariants as told
-use Rattle.semaphore.specs.declared.timers.Timers.{Timers}
-use Rattle.semaphore.specs.declared.timers.TimerSeat.{TimerSeat}
-use Rattle.semaphore.specs.Seats.{IsSeatAt, IsSeatAtTimers}
-use Rattle.semaphore.specs.Timers.{may_add, timer_of}
-use Rattle.semaphore.specs.Timers as timing
+use Rattle.semaphore.specs.Seats.{IsSeatAt}
 use Rattle.semaphore.specs.Units.{SemaState, IsSound, is_idle, stage_of, answer_to}
 use Rattle.waiting.specs.Waiting.{Point}
 
@@ -50,15 +40,6 @@ module _ (sema : Sema) where
     pub asked_first : Asks sema false call first before between
     pub asked_second : Asks sema false NextWake second between after
 
-module _ (timers : Timers) (set : Bool) (call : TimerCall) (answer : TimerReply) where
-  -- the same of a seat at timers; this says whether its timer is set now, or expired and not
-  -- cancelled
-  pub record AsksTimers (before after : TimerSeat) : Type 0 where
-    pub served : Serves (record { by = number_of before.seat; request = call; reply = answer })
-        (view_of before.seat) (view_of after.seat)
-    pub seat : IsSeatAtTimers timers set after
-    pub number : number_of after.seat ≡ number_of before.seat
-
 -- ---- answers
 
 -- whether a unit was taken at once
@@ -71,16 +52,6 @@ abbrev pub wake_reply : Option Grant → SemaReply
 wake_reply (Some grant) = reply.Wake grant.seat grant.grants
 wake_reply None = reply.NoWake
 
--- whether the timer had expired
-abbrev pub cancel_reply : Bool → TimerReply
-cancel_reply true = told.Expired
-cancel_reply false = told.Removed
-
--- the process of a timer that expired now, where one did
-abbrev pub expire_reply : Option Pid → TimerReply
-expire_reply (Some pid) = told.Ended pid
-expire_reply None = told.NoneDue
-
 -- What a request of a seat finds: a state that the semaphore can be in, in which the seat is as its
 -- own calls say, and of which the reply is the answer.
 pub record IsTold (procs number : ℕ) (waits : Bool) (call : SemaCall) (answer : SemaReply) :
@@ -91,15 +62,6 @@ pub record IsTold (procs number : ℕ) (waits : Bool) (call : SemaCall) (answer 
   pub within : number < procs
   pub idle : is_idle (stage_of state number) ≡ not waits
   pub answer_is : answer ≡ answer_to state call
-
--- the same of timers
-pub record IsTimed (procs number : ℕ) (set : Bool) (call : TimerCall) (answer : TimerReply) :
-    Type 0 where
-  pub state : List Timer
-  pub size : length state ≡ procs
-  pub within : number < procs
-  pub free : may_add (timer_of state number) ≡ not set
-  pub answer_is : answer ≡ timing.answer_to state call
 
 -- ---- a release in one hold of the lock
 

@@ -1,5 +1,5 @@
--- What a semaphore and timers are under their locks.
-use Rattle.std.specs.Prelude.{◌≡◌, ◌<◌, ◌≤◌, ℕ, List, replicate}
+-- What a semaphore is under its lock.
+use Rattle.std.specs.Prelude.{◌≡◌, ◌<◌, ◌≤◌, ℕ}
 use Rattle.sync_base.specs.declared.fault.Fault.{Fault}
 use Rattle.sync_base.specs.declared.fault.Fault.TheVariants as fault
 use Rattle.sleep_wakeup.specs.Kernel.{Unused, HasRendez}
@@ -8,12 +8,8 @@ use Rattle.kernel_lock.specs.Seats.{limit_of, opening_of}
 use Rattle.semaphore.specs.declared.limits.TheConstants.{MAX_VALUE}
 use Rattle.semaphore.specs.declared.sema_object.SemaCall.{SemaCall}
 use Rattle.semaphore.specs.declared.sema_object.SemaReply.{SemaReply}
-use Rattle.semaphore.specs.declared.timer_object.Timer.{Timer}
-use Rattle.semaphore.specs.declared.timer_object.Timer.TheVariants.{Unset}
-use Rattle.semaphore.specs.declared.timer_object.TimerCall.{TimerCall}
-use Rattle.semaphore.specs.declared.timer_object.TimerReply.{TimerReply}
 use Rattle.sleep_core.specs.Limits.{IsProcCount}
-use Rattle.semaphore.specs.Definitions.{sema_definition, timer_definition}
+use Rattle.semaphore.specs.Definitions.{sema_definition}
 use Rattle.semaphore.specs.Units.{SemaState, opening}
 
 -- the lock stands round a semaphore for so many processes, each with a seat
@@ -21,11 +17,6 @@ pub record IsSemaLock (lock : Locked SemaState SemaCall SemaReply) (procs : ℕ)
   pub value : ℕ
   pub fits : value ≤ MAX_VALUE
   pub opening_is : opening_of sema_definition lock ≡ opening value procs 0
-  pub limit : limit_of lock ≡ procs
-
--- the lock stands round timers for so many processes, each with a seat
-pub record IsTimerLock (lock : Locked (List Timer) TimerCall TimerReply) (procs : ℕ) : Type 0 where
-  pub opening_is : opening_of timer_definition lock ≡ replicate procs Unset
   pub limit : limit_of lock ≡ procs
 
 -- Own: why there is no semaphore of this value for so many processes. The value is tested first.

@@ -1,4 +1,4 @@
--- What clauses see of a semaphore, of timers, and of their seats.
+-- What clauses see of a semaphore and of its seats.
 use Rattle.std.specs.Prelude.{◌≡◌, ◌≤◌, ◌+◌, ⊤, ℕ, Bool, true, false, List, [], ◌∷◌}
 use Rattle.std.specs.Prelude.{Option, Some, None}
 use Rattle.histories.specs.declared.account.Share.{Share}
@@ -11,16 +11,14 @@ use Rattle.kernel_lock.specs.Seats.{IsFirstSeat}
 use Rattle.semaphore.specs.declared.acquiring.SetTimer.{SetTimer}
 use Rattle.semaphore.specs.declared.sema.Sema.{Sema}
 use Rattle.semaphore.specs.declared.sema.SemaSeat.{SemaSeat}
-use Rattle.semaphore.specs.declared.timers.Timers.{Timers}
-use Rattle.semaphore.specs.declared.timers.TimerSeat.{TimerSeat}
 use Rattle.semaphore.specs.declared.sema_object.SemaCall.{SemaCall}
 use Rattle.semaphore.specs.declared.sema_object.SemaCall.TheVariants.{Acquire, Collect, Leave}
 use Rattle.semaphore.specs.declared.sema_object.SemaReply.{SemaReply}
 use Rattle.semaphore.specs.declared.sema_object.SemaReply.TheVariants as reply
-use Rattle.semaphore.specs.Definitions.{sema_definition, timer_definition}
-use Rattle.semaphore.specs.Opening.{IsSemaLock, IsTimerLock}
+use Rattle.semaphore.specs.Definitions.{sema_definition}
+use Rattle.semaphore.specs.Opening.{IsSemaLock}
 use Rattle.semaphore.specs.SemaHistory.{SemaEntry, taken}
-use Rattle.semaphore.specs.TimerHistory.{TimerEntry, has_timer}
+use Rattle.timer_list.specs.Seats.{IsSeatAtTimers}
 
 -- ---- semaphores
 
@@ -78,20 +76,6 @@ units_given seat = taken (own_of (shares_of seat.seat))
 
 -- ---- timers
 
--- the seat is one of the timers' and has one number; it has seen a legal history, with its own
--- calls in it once each; and this says whether its timer is set, or expired and not cancelled
-pub record IsSeatAtTimers (timers : Timers) (set : Bool) (seat : TimerSeat) : Type 0 where
-  pub opened : IsTimerLock timers.lock timers.procs
-  pub seat_is : IsSeatOf timers.lock seat.seat
-  pub history : SeesHistory timer_definition timers.lock seat.seat
-  pub mine : List TimerEntry
-  pub shares_are : shares_of seat.seat ≡ record { number = number_of seat.seat; mine = mine } ∷ []
-  pub set_is : has_timer mine ≡ set
-
--- between two calls of a process its timer is cancelled
-abbrev pub IsTimerSeatOf : Timers → TimerSeat → Type 0
-IsTimerSeatOf timers seat = IsSeatAtTimers timers false seat
-
 -- a call that has a timer has set it
 abbrev pub IsTimerSet : Option SetTimer → Type 0
 IsTimerSet None = ⊤
@@ -108,10 +92,4 @@ pub record IsNewSema (roster : Unused) (value procs : ℕ) (sema : Sema) (seat :
   pub first_is : sema.first ≡ roster.rendez
   pub row : OwnsRow sema roster.words
   pub seat_is : IsSemaSeatOf sema seat
-  pub first_seat : IsFirstSeat seat.seat
-
--- new timers for so many processes, none of which is set, and their first seat
-pub record AreNewTimers (procs : ℕ) (timers : Timers) (seat : TimerSeat) : Type 0 where
-  pub procs_are : timers.procs ≡ procs
-  pub seat_is : IsTimerSeatOf timers seat
   pub first_seat : IsFirstSeat seat.seat

@@ -18,15 +18,16 @@ use Rattle.sync_base.specs.NoteSet.{no_notes, joined, holds}
 use Rattle.semaphore.specs.declared.limits.TheConstants.{LAST_GRANT}
 use Rattle.semaphore.specs.declared.sema.Sema.{Sema}
 use Rattle.semaphore.specs.declared.sema.SemaSeat.{SemaSeat}
-use Rattle.semaphore.specs.declared.timer_object.TimerCall.TheVariants.{Add, Cancel}
-use Rattle.semaphore.specs.declared.timer_object.TimerReply.TheVariants as told
-use Rattle.semaphore.specs.declared.timers.Timers.{Timers}
-use Rattle.semaphore.specs.declared.timers.TimerSeat.{TimerSeat}
+use Rattle.timer_list.specs.declared.timer_object.TimerCall.TheVariants.{Add, Cancel}
+use Rattle.timer_list.specs.declared.timer_object.TimerReply.TheVariants as told
+use Rattle.timer_list.specs.declared.timers.Timers.{Timers}
+use Rattle.timer_list.specs.declared.timers.TimerSeat.{TimerSeat}
 use Rattle.semaphore.specs.Acquiring.{Begins, acquiring}
-use Rattle.semaphore.specs.Asking.{AsksTimers, cancel_reply}
-use Rattle.semaphore.specs.Definitions.{timer_definition}
-use Rattle.semaphore.specs.Seats.{IsSeatAtTimers, rendez_at, units_given}
-use Rattle.semaphore.specs.TimerHistory.{WasTaken}
+use Rattle.timer_list.specs.Asking.{AsksTimers, cancel_reply}
+use Rattle.timer_list.specs.Definitions.{timer_definition}
+use Rattle.semaphore.specs.Seats.{rendez_at, units_given}
+use Rattle.timer_list.specs.Seats.{IsSeatAtTimers}
+use Rattle.timer_list.specs.TimerHistory.{WasTaken}
 use Rattle.waiting.specs.declared.call.Reply.TheVariants.{Wait}
 use Rattle.waiting.specs.declared.wait.WaitEnd.{WaitEnd}
 use Rattle.waiting.specs.declared.wait.WaitEnd.TheVariants.{Answered, Stopped}

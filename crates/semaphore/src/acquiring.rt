@@ -6,11 +6,11 @@ ghost use Rattle.semaphore.specs.Seats.{OwnsRow, IsSeatAt, IsSemaSeatOf, IsTimer
 ghost use Rattle.waiting.specs.Waiting.{point};
 
 use crate::sema::{Sema, SemaSeat};
-use crate::timers::{TimerSeat, Timers};
 use crate::{SemaCall, SemaReply};
 use sleep_wakeup::Proc;
 use std::sync::Wait;
 use sync_base::{Fault, NoProbe, Probe};
+use timer_list::{TimerSeat, Timers};
 use waiting::{Reply, WaitingCall, wait_for};
 
 /// What `semacquire` answers.

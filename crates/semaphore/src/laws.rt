@@ -1,5 +1,5 @@
-//! What holds of a semaphore and of timers after every legal history. Each law is a function that
-//! does nothing: its contract is the law.
+//! What holds of a semaphore after every legal history. Each law is a function that does nothing:
+//! its contract is the law.
 ghost use Rattle.semaphore.specs.SemaLaws.{
   UnitsAddUp,
   CountsAreGrants,
@@ -7,12 +7,7 @@ ghost use Rattle.semaphore.specs.SemaLaws.{
   StatesAreSound,
   EachGrantIsNamed,
 };
-ghost use Rattle.semaphore.specs.TimerLaws.{ExpiredWasTaken};
-ghost use Rattle.semaphore.specs.WakeLaws.{
-  ReleasingReleasesTheNamed,
-  TickingTellsEach,
-  WaitersAreNamedAbove,
-};
+ghost use Rattle.semaphore.specs.WakeLaws.{ReleasingReleasesTheNamed, WaitersAreNamedAbove};
 
 /// No unit is lost and none is given twice.
 pub fn units_add_up()
@@ -40,21 +35,10 @@ pub fn each_grant_is_named()
     ensures { EachGrantIsNamed }
 {}
 
-/// A timer that expired was taken by a tick at its deadline or later.
-pub fn an_expired_timer_was_taken()
-    ensures { ExpiredWasTaken }
-{}
-
 /// No call that waits stays posted once the semrelease that was named its seat has returned:
 /// whoever sleeps below the number of the seat's grants is released; and a seat that was granted a
 /// unit is still to be named, or was named above each number that it was told before.
 pub fn who_is_granted_is_released()
     ensures released { ReleasingReleasesTheNamed }
     ensures above { WaitersAreNamedAbove }
-{}
-
-/// No note of a tick is lost: once the tick has returned, it is pending at the process of each
-/// timer that expired, where its kernel has that process, or that process took it since.
-pub fn who_expired_is_told()
-    ensures { TickingTellsEach }
 {}

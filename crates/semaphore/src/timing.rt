@@ -4,8 +4,9 @@ ghost use Rattle.sync_base.specs.declared.note.Note.TheVariants.{Expired};
 ghost use Rattle.sync_base.specs.NoteSet.{holds};
 ghost use Rattle.kernel_lock.specs.Seats.{number_of};
 ghost use Rattle.rendez_words.specs.Words.{rendez_of};
-ghost use Rattle.semaphore.specs.Seats.{OwnsRow, IsSemaSeatOf, IsTimerSeatOf};
-ghost use Rattle.semaphore.specs.Timers.{deadline_of};
+ghost use Rattle.semaphore.specs.Seats.{OwnsRow, IsSemaSeatOf};
+ghost use Rattle.timer_list.specs.Seats.{IsTimerSeatOf};
+ghost use Rattle.timer_list.specs.Timers.{deadline_of};
 ghost use Rattle.semaphore.specs.Timing.{
   AcquiresInTime,
   Keeps,
@@ -22,12 +23,12 @@ ghost use Rattle.semaphore.specs.Timing.{
 use crate::acquiring::{Acquiring, SetTimer};
 use crate::limits::LAST_GRANT;
 use crate::sema::{Sema, SemaSeat};
-use crate::timer_object::deadline;
-use crate::timers::{TimerSeat, Timers};
 use sleep_wakeup::Proc;
 use std::sync::Wait;
 use std::thread::yield_now;
 use sync_base::{Fault, NoProbe, Note, NoteSet, Probe, RendezId};
+use timer_list::timer_object::deadline;
+use timer_list::{TimerSeat, Timers};
 use waiting::{Reply, WaitEnd, WaitingCall, sleep_for};
 
 impl Sema {

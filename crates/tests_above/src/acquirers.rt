@@ -1,7 +1,8 @@
 //! Eight processes that acquire and release units, with notes, time-outs and ticks between; pools
 //! of each size, and one whose list of holders is refused memory; and the example of semacquire(2).
 ghost use Rattle.sleep_wakeup.specs.Starts.{IsStartOf};
-ghost use Rattle.semaphore.specs.Seats.{OwnsRow, IsSemaSeatOf, IsTimerSeatOf};
+ghost use Rattle.semaphore.specs.Seats.{OwnsRow, IsSemaSeatOf};
+ghost use Rattle.timer_list.specs.Seats.{IsTimerSeatOf};
 
 use crate::kernels::{forked, kernel_of, push};
 use plan9::{

@@ -7,7 +7,8 @@ use Rattle.kernel_lock.specs.Seats.{account_of, number_of, opening_of, shares_of
 use Rattle.semaphore.specs.Definitions.{sema_definition}
 use Rattle.semaphore.specs.Units.{seat_named}
 use Rattle.semaphore.specs.SemaHistory.{sema_meaning}
-use Rattle.semaphore.proofs.AskLemmas.{is_told, names_it}
+use Rattle.semaphore.proofs.AskLemmas.{is_told}
+use Rattle.timer_list.proofs.AskLemmas.{names_it}
 use Rattle.semaphore.proofs.sema.Sema.ask.Goals as goal
 
 pub returns-clause-told : goal.returns-clause-told

@@ -5,15 +5,15 @@ use Rattle.std.proofs.Common.{arith}
 use Rattle.kernel_lock.specs.Seats.{number_of}
 use Rattle.rendez_words.specs.Words.{rendez_of}
 use Rattle.sync_base.specs.declared.ids.Pid.{Pid}
-use Rattle.semaphore.specs.declared.timer_object.TimerCall.TheVariants.{Add, Cancel}
-use Rattle.semaphore.specs.declared.timer_object.TimerReply.TheVariants.{Added}
+use Rattle.timer_list.specs.declared.timer_object.TimerCall.TheVariants.{Add, Cancel}
+use Rattle.timer_list.specs.declared.timer_object.TimerReply.TheVariants.{Added}
 use Rattle.semaphore.specs.Acquiring.{acquiring}
-use Rattle.semaphore.specs.Asking.{AsksTimers, cancel_reply}
-use Rattle.semaphore.specs.Seats.{IsSeatAtTimers}
-use Rattle.semaphore.specs.Timers.{deadline_of}
+use Rattle.timer_list.specs.Asking.{AsksTimers, cancel_reply}
+use Rattle.timer_list.specs.Seats.{IsSeatAtTimers}
+use Rattle.timer_list.specs.Timers.{deadline_of}
 use Rattle.semaphore.specs.Timing.{Looks, awaiting, notes_of}
 use Rattle.semaphore.proofs.RequestLemmas.{is_in_row}
-use Rattle.semaphore.proofs.TickLemmas.{took_it}
+use Rattle.timer_list.proofs.TickLemmas.{took_it}
 use Rattle.semaphore.proofs.UnitLemmas.{at_once, stopped, kept_units}
 use Rattle.waiting.specs.Waiting.{SleepsOn, point, told}
 use Rattle.semaphore.proofs.sema.Sema.tsemacquire_probed.Goals as goal

@@ -1,6 +1,0 @@
--- The note came, and whoever is told of notes is told of all that are pending.
-use Rattle.semaphore.proofs.NoteLemmas.{ticking_tells}
-use Rattle.semaphore.proofs.laws.who_expired_is_told.Goals as goal
-
-pub returns : goal.returns
-returns c = ticking_tells

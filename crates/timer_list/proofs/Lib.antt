@@ -1,0 +1,14 @@
+pub mod AskLemmas
+pub mod Cases
+mod EarlierLemmas
+mod NoteLemmas
+mod OwnTimerLemmas
+mod RequestLemmas
+pub mod TickLemmas
+mod TimerLemmas
+mod TournamentLemmas
+mod WorkedAsking
+mod WorkedCalls
+mod WorkedOpenings
+mod WorkedSeats
+pub mod BrokenTimers

@@ -1,0 +1,45 @@
+-- What a seat asks of its timers, one request at a time, and what the typed answers stand for.
+use Rattle.std.specs.Prelude.{◌≡◌, ℕ, ◌<◌, Bool, true, false, List, length, not, Option, Some, None}
+use Rattle.kernel_lock.specs.Calls.{Serves}
+use Rattle.kernel_lock.specs.Seats.{number_of, view_of}
+use Rattle.sync_base.specs.declared.ids.Pid.{Pid}
+use Rattle.timer_list.specs.declared.timer_object.Timer.{Timer}
+use Rattle.timer_list.specs.declared.timer_object.TimerCall.{TimerCall}
+use Rattle.timer_list.specs.declared.timer_object.TimerReply.{TimerReply}
+use Rattle.timer_list.specs.declared.timer_object.TimerReply.TheVariants as told
+use Rattle.timer_list.specs.declared.timers.Timers.{Timers}
+use Rattle.timer_list.specs.declared.timers.TimerSeat.{TimerSeat}
+use Rattle.timer_list.specs.Seats.{IsSeatAtTimers}
+use Rattle.timer_list.specs.Timers.{may_add, timer_of}
+use Rattle.timer_list.specs.Timers as timing
+
+module _ (timers : Timers) (set : Bool) (call : TimerCall) (answer : TimerReply) where
+  -- The seat asked this under its own number and was told so, which stands in one legal history;
+  -- and this says whether its timer is set now, or expired and not cancelled.
+  pub record AsksTimers (before after : TimerSeat) : Type 0 where
+    pub served : Serves (record { by = number_of before.seat; request = call; reply = answer })
+        (view_of before.seat) (view_of after.seat)
+    pub seat : IsSeatAtTimers timers set after
+    pub number : number_of after.seat ≡ number_of before.seat
+
+-- ---- answers
+
+-- whether the timer had expired
+abbrev pub cancel_reply : Bool → TimerReply
+cancel_reply true = told.Expired
+cancel_reply false = told.Removed
+
+-- the process of a timer that expired now, where one did
+abbrev pub expire_reply : Option Pid → TimerReply
+expire_reply (Some pid) = told.Ended pid
+expire_reply None = told.NoneDue
+
+-- What a request of a seat finds: a state that the timers can be in, in which that of the seat is
+-- as its own calls say, and of which the reply is the answer.
+pub record IsTimed (procs number : ℕ) (set : Bool) (call : TimerCall) (answer : TimerReply) :
+    Type 0 where
+  pub state : List Timer
+  pub size : length state ≡ procs
+  pub within : number < procs
+  pub free : may_add (timer_of state number) ≡ not set
+  pub answer_is : answer ≡ timing.answer_to state call

@@ -1,0 +1,11 @@
+pub mod Asking
+pub mod Definitions
+pub mod Due
+pub mod Opening
+pub mod Seats
+pub mod Ticking
+pub mod TimerHistory
+pub mod TimerLaws
+pub mod Timers
+pub mod Tournament
+pub mod WakeLaws

@@ -1,0 +1,18 @@
+//! Timers: a seat sets one to a moment, and a tick that tells that this moment is come posts the
+//! note `expired` to the process of the seat. A call with a deadline sleeps while its timer is set.
+//! Read `due`, `tournament`, `timer_object`, `object`, the timers as an object that a lock stands
+//! round; then `timers`, `timer_asks`, `ticking`, the calls of processes on threads; and `laws`.
+#![tactic(auto)]
+
+pub mod due;
+pub mod laws;
+mod object;
+mod ticking;
+mod timer_asks;
+pub mod timer_object;
+pub mod timers;
+mod tournament;
+
+pub use due::Due;
+pub use timer_object::{Timer, TimerCall, TimerObject, TimerReply};
+pub use timers::{OpenedTimers, TimerSeat, Timers};

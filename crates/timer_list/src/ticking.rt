@@ -1,0 +1,51 @@
+//! How a moment is told, and timers expire.
+ghost use Rattle.std.specs.Prelude.{◌≡◌, false, nat_lt, IsTrue};
+ghost use Rattle.sync_base.specs.declared.note.Note.TheVariants.{Expired};
+ghost use Rattle.sync_base.specs.NoteSet.{only};
+ghost use Rattle.rendez_words.specs.Steps.{notes};
+ghost use Rattle.rendez_words.specs.Words.{procs_of};
+ghost use Rattle.kernel_lock.specs.Seats.{number_of};
+ghost use Rattle.timer_list.specs.Seats.{IsTimerSeatOf};
+ghost use Rattle.timer_list.specs.Ticking.{Ticks};
+ghost use Rattle.waiting.specs.Waiting.{point};
+
+use crate::timers::{TimerSeat, Timers};
+use sleep_wakeup::Proc;
+use std::sync::Wait;
+use sync_base::{Note, NoteSet, Pid};
+
+impl Timers {
+    /// Tells that it is now this moment: each timer whose deadline is come expires, and its process
+    /// is posted the note `expired`. Answers how many expired: at most as many as there are
+    /// processes. Own; tsemacquire in semacquire(2) has a clock of its own.
+    /// It waits for the timers' lock. Takes no memory.
+    pub fn tick<R: Wait>(&self, rt: &R, proc: &mut Proc<'_>, timer: &mut TimerSeat, now: u64) -> u64
+        requires { IsTimerSeatOf self.now timer.old }
+        ensures seat { IsTimerSeatOf self.now timer.new }
+        ensures number { number_of timer.new.seat ≡ number_of timer.old.seat }
+        ensures words { proc.new.words ≡ proc.old.words }
+        ensures called { Ticks self.now (procs_of proc.old.words) now result
+            (point timer.old proc.old) (point timer.new proc.new) }
+    {
+        for expired in 0..self.procs {
+            match self.expire(rt, timer, now) {
+                None => return expired,
+                Some(pid) => tell(proc, pid),
+            }
+        }
+        self.procs
+    }
+}
+
+// Posts the note of a tick. A process of another kernel is not told.
+fn tell(proc: &mut Proc<'_>, pid: Pid)
+    ensures words { proc.new.words ≡ proc.old.words }
+    ensures told { IsTrue (nat_lt pid.0 (procs_of proc.old.words)) →
+        proc.new.process ≡ notes proc.old.process pid (only Expired) }
+    ensures other { nat_lt pid.0 (procs_of proc.old.words) ≡ false →
+        proc.new.process ≡ proc.old.process }
+{
+    match proc.postnote(pid, NoteSet::of(Note::Expired)) {
+        Ok(()) | Err(_) => {}
+    }
+}
