@@ -7,7 +7,6 @@ mod RequestLemmas
 mod SemaLawLemmas
 mod SemaLemmas
 mod TellLemmas
-mod TimedLemmas
 mod UnitLemmas
 mod WokenLemmas
 mod WorkedAsking

@@ -7,13 +7,11 @@ use Rattle.histories.specs.declared.account.Share.{Share}
 use Rattle.kernel_lock.specs.declared.view.Operation.{Operation}
 use Rattle.kernel_lock.specs.Definition.{server}
 use Rattle.kernel_lock.specs.Seats.{number_of, shares_of}
-use Rattle.std.specs.Prelude.{⊤, map}
+use Rattle.std.specs.Prelude.{map}
 use Rattle.histories.specs.Account.{share_after}
 use Rattle.sync_base.specs.declared.fault.Fault.{Fault}
 use Rattle.sync_base.specs.declared.fault.Fault.TheVariants as fault
 use Rattle.sync_base.specs.declared.ids.RendezId.{RendezId}
-use Rattle.sync_base.specs.declared.note.NoteSet.{NoteSet}
-use Rattle.rendez_words.specs.Process.{Process}
 use Rattle.semaphore.specs.declared.acquiring.Semacquired.{Semacquired}
 use Rattle.semaphore.specs.declared.acquiring.Semacquired.TheVariants as got
 use Rattle.semaphore.specs.declared.sema.Sema.{Sema}
@@ -25,12 +23,11 @@ use Rattle.semaphore.specs.Acquiring.{Begins, acquiring, units_of}
 use Rattle.semaphore.specs.Asking.{Asks, now_reply}
 use Rattle.semaphore.specs.Seats.{IsSeatAt, IsSemaSeatOf, own_of, units_given}
 use Rattle.semaphore.specs.SemaHistory.{SemaEntry, taken, taken_by}
-use Rattle.semaphore.specs.Timing.{Keeps, IsEndedByNotes, timed_units_of}
+use Rattle.semaphore.specs.Timing.{timed_units_of}
+use Rattle.timer_list.specs.Timing.{ComesToSame}
 use Rattle.waiting.specs.declared.call.Reply.TheVariants.{Wait}
-use Rattle.waiting.specs.declared.wait.WaitEnd.{WaitEnd}
-use Rattle.waiting.specs.declared.wait.WaitEnd.TheVariants.{Answered, Stopped}
-use Rattle.waiting.specs.Waiting.{Point, WaitPoint, SleepsOn, Waited, reply_of, answer_of}
-use Rattle.waiting.proofs.FoldLemmas.{sleeps_end, wait_ends}
+use Rattle.waiting.specs.Waiting.{Point, Waited, reply_of}
+use Rattle.waiting.proofs.FoldLemmas.{wait_ends}
 
 -- ---- one request
 
@@ -72,11 +69,11 @@ pub record IsOver (first : SemaSeat) (answer : Result Unit Fault) (now : SemaSea
   -- an answer Ok is one unit, and any other is none
   pub units : units_given now ≡ units_given first + timed_units_of answer
 
-module _ (sema : Sema) (Timer : Type 0) (first : SemaSeat) where
+module _ (sema : Sema) (first : SemaSeat) where
   goes_on : (old new : Point SemaSeat) (count : ℕ) → IsOn sema first old.seat
-      → (acquiring sema Timer).asked old (Wait count) new → IsOn sema first new.seat
+      → (acquiring sema).asked old (Wait count) new → IsOn sema first new.seat
   goes_on old new count on asked =
-      let asks = asked.1.asks in
+      let asks = asked.asks in
       let more = given_more sema true true _ _ old.seat new.seat on.at asks in
       record {
         at = asks.seat;
@@ -85,26 +82,24 @@ module _ (sema : Sema) (Timer : Type 0) (first : SemaSeat) where
       }
 
   told_so : (old new : Point SemaSeat) (answer : Result Unit Fault) → IsOn sema first old.seat
-      → (acquiring sema Timer).asked old (reply_of answer) new → IsOver first answer new.seat
+      → (acquiring sema).asked old (reply_of answer) new → IsOver first answer new.seat
   told_so old new (Ok unit) on asked =
-      let asks = asked.1.asks in
+      let asks = asked.asks in
       let more = given_more sema true false _ _ old.seat new.seat on.at asks in
       record { number = asks.number ∙ on.number; units = omega (arith, more, on.units) }
-  told_so old new (Err why) on asked = absurd asked.1
+  told_so old new (Err why) on asked = absurd asked
 
   late_so : (old new : SemaSeat) (out : Unit) → IsOn sema first old
-      → (acquiring sema Timer).left old (Some out) new → IsOver first (Ok out) new
+      → (acquiring sema).left old (Some out) new → IsOver first (Ok out) new
   late_so old new out on left =
-      let asks = left.1 in
-      let more = given_more sema true false _ _ old new on.at asks in
-      record { number = asks.number ∙ on.number; units = omega (arith, more, on.units) }
+      let more = given_more sema true false _ _ old new on.at left in
+      record { number = left.number ∙ on.number; units = omega (arith, more, on.units) }
 
   gone_so : (old new : SemaSeat) (why : Fault) → IsOn sema first old
-      → (acquiring sema Timer).left old None new → IsOver first (Err why) new
+      → (acquiring sema).left old None new → IsOver first (Err why) new
   gone_so old new why on left =
-      let asks = left.1 in
-      let more = given_more sema true false _ _ old new on.at asks in
-      record { number = asks.number ∙ on.number; units = omega (arith, more, on.units) }
+      let more = given_more sema true false _ _ old new on.at left in
+      record { number = left.number ∙ on.number; units = omega (arith, more, on.units) }
 
 module _ (sema : Sema) (before : Point SemaSeat) (rest : IsSemaSeatOf sema before.seat) where
   -- a call that was answered at once
@@ -131,46 +126,22 @@ module _ (sema : Sema) (before : Point SemaSeat) (rest : IsSemaSeatOf sema befor
 
   -- any call
   pub came : (rendez : RendezId) (after : Point SemaSeat) (answer : Result Unit Fault)
-      → Waited (acquiring sema ⊤) rendez before answer after → IsOver before.seat answer after.seat
+      → Waited (acquiring sema) rendez before answer after → IsOver before.seat answer after.seat
   came rendez after answer (inl begun) = at_once after answer begun
   came rendez after answer (inr waits) =
-      wait_ends (acquiring sema ⊤) rendez (IsOn sema before.seat) (IsOver before.seat)
-      (goes_on sema ⊤ before.seat) (told_so sema ⊤ before.seat)
-      (late_so sema ⊤ before.seat) (gone_so sema ⊤ before.seat)
+      wait_ends (acquiring sema) rendez (IsOn sema before.seat) (IsOver before.seat)
+      (goes_on sema before.seat) (told_so sema before.seat)
+      (late_so sema before.seat) (gone_so sema before.seat)
       waits.first answer after (begins_on waits.first.at waits.first.number waits.begun)
       waits.waited
 
-  -- the sleeps of one with a deadline
-  pub stopped : (Timer : Type 0) (rendez : RendezId) (first : WaitPoint SemaSeat)
-      (ending : WaitEnd Unit) (after : Point SemaSeat) → Begins sema before (Wait first.number)
-      first.at → SleepsOn (acquiring sema Timer) rendez first ending after
-      → IsOver before.seat (answer_of ending) after.seat
-  stopped Timer rendez first ending after begun slept =
-      sleeps_end (acquiring sema Timer) rendez (IsOn sema before.seat) (IsOver before.seat)
-      (goes_on sema Timer before.seat) (told_so sema Timer before.seat)
-      (late_so sema Timer before.seat) (gone_so sema Timer before.seat)
-      first ending after (begins_on first.at first.number begun) slept
-
--- ---- the answer
-
--- what a call with a deadline answers is a unit where its sleeps came to one
-pub kept_units : (ending : WaitEnd Unit) (expired : Bool) (others : NoteSet)
-    (answer : Result Unit Fault) (before after : Process)
-    → Keeps expired others ending answer before after
-    → timed_units_of (answer_of ending) ≡ timed_units_of answer
-kept_units (Answered told) expired others answer before after kept =
-    sym (ap timed_units_of kept.0)
-kept_units (Stopped why (Some out)) expired others answer before after kept =
-    sym (ap timed_units_of kept.0)
-kept_units (Stopped (fault.Interrupted set) None) expired others answer before after kept =
-    by answer kept.0
-  where
-    by : (answer : Result Unit Fault) → IsEndedByNotes expired others answer
-        → 0 ≡ timed_units_of answer
-    by (Ok unit) ended = absurd ended
-    by (Err why) ended = refl
-kept_units (Stopped why None) expired others answer before after kept =
-    sym (ap timed_units_of kept.0)
+-- what comes to the same is so many units
+pub same_units : (told answer : Result Unit Fault) → ComesToSame told answer
+    → timed_units_of told ≡ timed_units_of answer
+same_units (Ok one) (Ok other) same = refl
+same_units (Err why) (Err other) same = refl
+same_units (Ok one) (Err other) same = absurd same
+same_units (Err why) (Ok other) same = absurd same
 
 -- what one that does not wait answers is a unit where it took one
 pub now_units : (got : Semacquired) (number : ℕ)

@@ -1,18 +1,15 @@
 -- What is no request of a seat, no answer to one, and no call of a semaphore: each against one row.
-use Rattle.std.proofs.Common.{◌≡◌, ◌≢◌, ◌⊎◌, ◌<◌, ◌+◌, ℕ, Bool, true, false, List, [], length}
-use Rattle.std.proofs.Common.{Some, None, Result, Ok, Err, inl, inr, refl, sym, ap, ◌∙◌, arith, not}
+use Rattle.std.proofs.Common.{◌≡◌, ◌≢◌, ◌<◌, ◌+◌, ℕ, Bool, true, false, List, [], length}
+use Rattle.std.proofs.Common.{Some, None, Result, Ok, Err, inl, inr, refl, ap, arith, not}
 use Rattle.std.proofs.lemmas.List.{length-append}
 use Rattle.histories.specs.declared.account.Account.{Account}
-use Rattle.kernel_lock.specs.Seats.{number_of, seen_of, opening_of}
+use Rattle.kernel_lock.specs.Seats.{number_of, seen_of}
 use Rattle.rendez_words.specs.Process.{Process}
-use Rattle.rendez_words.specs.Steps.{notes, raises}
+use Rattle.rendez_words.specs.Steps.{raises}
 use Rattle.sleep_wakeup.specs.Calls.{Ends}
 use Rattle.sync_base.specs.declared.fault.Fault.{Fault}
 use Rattle.sync_base.specs.declared.fault.Fault.TheVariants as fault
-use Rattle.sync_base.specs.declared.ids.RendezId.{RendezId}
-use Rattle.sync_base.specs.declared.note.Note.TheVariants.{Alarm, Expired}
-use Rattle.sync_base.specs.declared.note.NoteSet.{NoteSet}
-use Rattle.sync_base.specs.NoteSet.{no_notes, joined, only, holds}
+use Rattle.sync_base.specs.NoteSet.{holds}
 use Rattle.semaphore.specs.declared.acquiring.Semacquired.TheVariants as got
 use Rattle.semaphore.specs.declared.sema.Sema.{Sema}
 use Rattle.semaphore.specs.declared.sema.SemaSeat.{SemaSeat}
@@ -26,18 +23,14 @@ use Rattle.semaphore.specs.Acquiring.{Begins, Collects, Leaves, Waits, AsksNow, 
 use Rattle.semaphore.specs.Acquiring.{acquiring}
 use Rattle.semaphore.specs.Asking.{Asks, OnlyAsks, AsksBoth, AsksRelease, now_reply}
 use Rattle.semaphore.specs.Asking.{wake_next, wake_reply, IsTold}
-use Rattle.timer_list.specs.Definitions.{timer_definition}
 use Rattle.semaphore.specs.Releasing.{HasReleased, HasWoken, Releases, WakesOneMore}
-use Rattle.semaphore.specs.Seats.{IsSeatAt, rendez_of_seat, units_given}
+use Rattle.semaphore.specs.Seats.{IsSeatAt, rendez_at, rendez_of_seat, units_given}
 use Rattle.semaphore.specs.SemaHistory.{SemaEntry}
 use Rattle.semaphore.specs.SemaLaws.{AlwaysHolds}
-use Rattle.timer_list.specs.TimerHistory.{WasTaken}
 use Rattle.semaphore.specs.Units.{IsSound, is_idle, stage_of, answer_to}
-use Rattle.semaphore.specs.Timing.{AcquiresInTime, AwaitsTick, Awaiting, BegunAtOnce, Keeps}
-use Rattle.semaphore.specs.Timing.{Looks, LooksForTick, IsEndedByNotes, PutsBackAny, TimedPoint}
-use Rattle.semaphore.specs.Timing.{WaitsInTime, notes_in, notes_of, without_expired}
+use Rattle.semaphore.specs.Timing.{AcquiresInTime}
+use Rattle.timer_list.specs.Timing.{TimedPoint, WaitedInTime}
 use Rattle.waiting.specs.declared.call.Reply.TheVariants as reply
-use Rattle.waiting.specs.declared.wait.WaitEnd.TheVariants.{Answered, Stopped}
 use Rattle.waiting.specs.Waiting.{Point}
 
 -- ---- each request is one entry more
@@ -114,15 +107,6 @@ module _ (sema : Sema) (before after : Point SemaSeat) where
 
   who_waits_is_not_worn_out : ¬ Collects sema before (reply.Refused fault.Worn) after
   who_waits_is_not_worn_out collects = collects
-
-  -- a call sleeps, and leaves, only while its timer is set
-  slept_without_its_timer : (Timer : Type 0) → ¬ Timer
-      → ¬ ((acquiring sema Timer).asked before (reply.Done tt) after)
-  slept_without_its_timer Timer none asked = none asked.0
-
-  left_without_its_timer : (Timer : Type 0) → ¬ Timer
-      → ¬ ((acquiring sema Timer).left before.seat None after.seat)
-  left_without_its_timer Timer none left = none left.0
 
   -- ---- a semacquire
 
@@ -233,90 +217,9 @@ the_answers_are : (now_reply got.Acquired ≡ told.Acquired) × (now_reply got.N
     × (wake_reply None ≡ told.NoWake)
 the_answers_are = (refl, refl, refl, refl, refl, refl)
 
--- ---- the note of a tick
-
-the_notes_are : (notes_in (fault.Interrupted (only Alarm)) ≡ only Alarm)
-    × (notes_in fault.DoubleSleep ≡ no_notes)
-    × (notes_of (Stopped (fault.Interrupted (only Alarm)) None) ≡ only Alarm)
-    × (notes_of (Answered (Ok tt)) ≡ no_notes)
-    × (without_expired (only Expired) ≡ no_notes) × (without_expired (only Alarm) ≡ only Alarm)
-the_notes_are = (refl, refl, refl, refl, refl, refl)
-
-module _ (rendez : RendezId) (first last : Awaiting) where
-  -- a tick took its timer, and it does not wait for the note of that tick
-  leaves_a_note_behind : holds last.notes Expired ≡ false → ¬ AwaitsTick rendez true first last
-  leaves_a_note_behind to_come awaits =
-      let clash : false ≡ true = sym to_come ∙ awaits.came refl in cc
-
-  -- it looks again, though the note of the tick has come
-  looks_behind_the_tick : (looks : Looks rendez true 1 first last)
-      → holds first.notes Expired ≡ true → ⊥
-  looks_behind_the_tick looks came =
-      let same = ap (λ (a : Awaiting). holds a.notes Expired) looks.looks in
-      let clash : true ≡ false = sym came ∙ (sym same ∙ looks.to_come) in
-      cc
-
-  looks_for_no_tick : ¬ Looks rendez false 1 first last
-  looks_for_no_tick looks = let clash : false ≡ true = looks.took in cc
-
-  -- notes that come are kept with those that had come
-  what_comes_is_kept : (looks : Looks rendez true 1 first last)
-      → last.notes ≡ joined looks.between.notes looks.set
-  what_comes_is_kept looks = looks.notes_are
-
-  it_looks_in_its_rendez : (looks : Looks rendez true 1 first last)
-      → LooksForTick rendez looks.between.process looks.set last.process
-  it_looks_in_its_rendez looks = looks.looked
-
--- ---- the answer
-
-module _ (before : Process) where
-  drops_its_notes : ¬ Keeps false (only Alarm) (Answered (Ok tt)) (Ok tt) before before
-  drops_its_notes kept = by kept.1
-    where
-      by : ¬ PutsBackAny (only Alarm) before before
-      by (inl none) = let clash : true ≡ false = ap (λ s. holds s Alarm) none.0 in cc
-      by (inr back) = let steps = ap steps_of back in omega (arith, steps)
-
-  answers_another_end : ¬ Keeps false no_notes (Answered (Ok tt)) (Err fault.Worn) before before
-  answers_another_end kept = let clash : Err fault.Worn ≡ Ok tt = kept.0 in cc
-
-  late_and_refused :
-      ¬ Keeps false no_notes (Stopped fault.DoubleSleep (Some tt)) (Err fault.DoubleSleep)
-      before before
-  late_and_refused kept = let clash : Err fault.DoubleSleep ≡ Ok tt = kept.0 in cc
-
-  refused_and_timed_out :
-      ¬ Keeps true no_notes (Stopped fault.DoubleSleep None) (Err fault.TimedOut) before before
-  refused_and_timed_out kept =
-      let clash : Err fault.TimedOut ≡ Err fault.DoubleSleep = kept.0 in cc
-
-  interrupted_and_puts_back :
-      ¬ Keeps false (only Alarm) (Stopped (fault.Interrupted (only Alarm)) None)
-      (Err (fault.Interrupted (only Alarm))) before
-      (notes before (record { 0 = before.pid }) (only Alarm))
-  interrupted_and_puts_back kept = let steps = ap steps_of kept.1 in omega (arith, steps)
-
-times_out_without_a_tick : ¬ IsEndedByNotes false no_notes (Err fault.TimedOut)
-times_out_without_a_tick ended = let clash : false ≡ true = ended.0 in cc
-
-times_out_with_an_alarm : ¬ IsEndedByNotes true (only Alarm) (Err fault.TimedOut)
-times_out_with_an_alarm ended =
-    let clash : true ≡ false = ap (λ s. holds s Alarm) ended.1 in cc
-
-a_tick_alone_interrupts : ¬ IsEndedByNotes true no_notes (Err (fault.Interrupted no_notes))
-a_tick_alone_interrupts ended = ended.1 refl refl
-
-answers_other_notes : ¬ IsEndedByNotes false (only Alarm) (Err (fault.Interrupted no_notes))
-answers_other_notes ended =
-    let clash : false ≡ true = ap (λ s. holds s Alarm) ended.0 in cc
-
-notes_are_no_unit : (others : NoteSet) → ¬ IsEndedByNotes true others (Ok tt)
-notes_are_no_unit others ended = ended
-
 -- ---- a tsemacquire
 
-module _ (sema : Sema) (watch : Timers) (moment : ℕ) (before after : TimedPoint) where
+module _ (sema : Sema) (watch : Timers) (moment : ℕ) (before after : TimedPoint SemaSeat) where
   in_time_without_a_unit : units_given after.at.seat ≡ units_given before.at.seat
       → ¬ AcquiresInTime sema watch moment before (Ok tt) after
   in_time_without_a_unit none acquires =
@@ -327,31 +230,11 @@ module _ (sema : Sema) (watch : Timers) (moment : ℕ) (before after : TimedPoin
   timed_out_with_a_unit one acquires =
       let units = acquires.units in omega (arith, one, units)
 
-  at_once_and_sets_its_timer : (answer : Result Unit Fault) → after.timer ≢ before.timer
-      → ¬ BegunAtOnce sema before answer after
-  at_once_and_sets_its_timer answer other begun = other begun.timer
-
-  at_once_for_no_reason : ¬ BegunAtOnce sema before (Err fault.TimedOut) after
-  at_once_for_no_reason begun = begun.begun
-
-  neither_at_once_nor_in_time : (answer : Result Unit Fault)
-      → ¬ BegunAtOnce sema before answer after
-      → ¬ WaitsInTime sema watch moment before answer after
+  in_time_without_a_wait : (answer : Result Unit Fault)
+      → ¬ WaitedInTime (acquiring sema) (rendez_at sema before.at.seat) watch moment before answer
+      after
       → ¬ AcquiresInTime sema watch moment before answer after
-  neither_at_once_nor_in_time answer begun waits acquires = by acquires.takes
-    where
-      by : ¬ (BegunAtOnce sema before answer after
-          ⊎ WaitsInTime sema watch moment before answer after)
-      by (inl at_once) = begun at_once
-      by (inr waited) = waits waited
-
-  module _ (answer : Result Unit Fault) (waits : WaitsInTime sema watch moment before answer after)
-    where
-      -- a tick took its timer before the deadline
-      times_out_too_early : waits.stop.expired ≡ true
-          → ¬ WasTaken (opening_of timer_definition watch.lock) (number_of before.timer.seat)
-          moment (seen_of after.timer.seat) → ⊥
-      times_out_too_early is none = none (waits.taken is)
+  in_time_without_a_wait answer none acquires = none acquires.takes
 
 -- ---- a law of no state
 

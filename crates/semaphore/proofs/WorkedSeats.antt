@@ -1,12 +1,11 @@
 -- What is no lock of a semaphore and no seat of one: each against one row.
 use Rattle.std.proofs.Common.{◌≡◌, ◌≢◌, ◌<◌, ◌≤◌, ◌+◌, ◌^◌, ℕ, Bool, true, false, List}
-use Rattle.std.proofs.Common.{[], ◌∷◌, Some, length, refl, ap, sym, ◌∙◌, arith}
+use Rattle.std.proofs.Common.{[], ◌∷◌, length, refl, ap, sym, ◌∙◌, arith}
 use Rattle.std.specs.Prelude.{count_by, slice_index_or}
 use Rattle.rendez_words.specs.declared.words.Words.{Words}
 use Rattle.rendez_words.specs.Words.{rendez_of}
 use Rattle.kernel_lock.specs.declared.locked.Locked.{Locked}
 use Rattle.kernel_lock.specs.Seats.{IsSeatOf, SeesHistory, shares_of, limit_of, opening_of}
-use Rattle.semaphore.specs.declared.acquiring.SetTimer.{SetTimer}
 use Rattle.semaphore.specs.declared.limits.TheConstants.{MAX_VALUE}
 use Rattle.semaphore.specs.declared.sema.Sema.{Sema}
 use Rattle.semaphore.specs.declared.sema.SemaSeat.{SemaSeat}
@@ -17,10 +16,9 @@ use Rattle.semaphore.specs.declared.sema_object.SemaReply.TheVariants as reply
 use Rattle.semaphore.specs.Definitions.{sema_definition}
 use Rattle.semaphore.specs.Opening.{IsSemaLock}
 use Rattle.semaphore.specs.WaitQueue.{IsRing, IsLinked, AreSeats, stands_in}
-use Rattle.semaphore.specs.Seats.{IsSeatAt, IsTimerSet, OwnsRow, is_waiting, own_of}
+use Rattle.semaphore.specs.Seats.{IsSeatAt, OwnsRow, is_waiting, own_of}
 use Rattle.semaphore.specs.SemaHistory.{SemaEntry, taken}
 use Rattle.semaphore.specs.Units.{SemaState}
-use Rattle.timer_list.specs.Seats.{IsSeatAtTimers}
 use Rattle.semaphore.proofs.Broken.{entry}
 
 -- ---- locks
@@ -71,11 +69,6 @@ own_calls_tell : (is_waiting (entry 0 (Acquire 0) (reply.Wait 0) ∷ []) ≡ tru
     × (is_waiting (entry 0 (Collect 0) (reply.Wait 0) ∷ entry 0 (Acquire 0) (reply.Wait 0) ∷ []) ≡
     true)
 own_calls_tell = (refl, refl, refl, refl, refl)
-
--- a call whose timer is to be set has set it
-a_timer_that_is_not_set : (timer : SetTimer)
-    → ¬ IsSeatAtTimers timer.timers.now true timer.seat.now → ¬ IsTimerSet (Some timer)
-a_timer_that_is_not_set timer unset set = unset set
 
 -- a seat without a call was given nothing, and one with a call what that brought
 the_units_of_a_seat : (taken (own_of {Entry = SemaEntry} []) ≡ 0)

@@ -37,8 +37,8 @@ use Rattle.semaphore.specs.Seats.{rendez_at}
 use Rattle.semaphore.specs.SemaHistory.{SemaEntry}
 use Rattle.timer_list.specs.Ticking.{Ticks}
 use Rattle.timer_list.specs.TimerHistory.{TimerEntry}
-use Rattle.semaphore.specs.Timing.{Awaiting, Keeps, Looks, PutsBackAny, TimedPoint, WaitsInTime}
-use Rattle.semaphore.specs.Timing.{notes_of}
+use Rattle.timer_list.specs.Timing.{Awaiting, Keeps, Looks, PutsBackAny, TimedPoint, WaitsInTime}
+use Rattle.timer_list.specs.Timing.{notes_of, while_set}
 use Rattle.semaphore.proofs.UnitLemmas.{own_more}
 use Rattle.waiting.specs.declared.wait.WaitEnd.{WaitEnd}
 use Rattle.waiting.specs.declared.wait.WaitEnd.TheVariants.{Answered, Stopped}
@@ -156,7 +156,7 @@ failed_once before at number after other failed = absurd failed
 module _ (sema : Sema) (Timer : Type 0) (rendez : RendezId) where
   -- between any two requests stands one sleep
   rounds_add : (times : ℕ) (first now : WaitPoint SemaSeat) → IsSeatAt sema true first.at.seat
-      → Rounds (acquiring sema Timer) rendez times first now
+      → Rounds (while_set Timer (acquiring sema)) rendez times first now
       → IsSeatAt sema true now.at.seat × Adds times times first.at now.at
   rounds_add zero first now at same =
       let lies = ap (λ (t : WaitPoint SemaSeat). lay_down t.at.process) same in
@@ -192,7 +192,8 @@ module _ (sema : Sema) (Timer : Type 0) (rendez : RendezId) where
 
   -- and one before the last
   end_adds : (last : WaitPoint SemaSeat) (ending : WaitEnd Unit) (after : Point SemaSeat)
-      → IsSeatAt sema true last.at.seat → Ends (acquiring sema Timer) rendez last ending after
+      → IsSeatAt sema true last.at.seat
+      → Ends (while_set Timer (acquiring sema)) rendez last ending after
       → Adds 1 1 last.at after
   end_adds last (Answered (Ok unit)) after at ends =
       let slept = slept_once last.at.process rendez last.number no_notes ends.woken ends.slept in
@@ -262,11 +263,15 @@ keeps_adds (Stopped why None) expired others answer before after kept =
 
 -- ---- the call
 
-module _ (sema : Sema) (timers : Timers) (moment : ℕ) (before after : TimedPoint)
+module _ (sema : Sema) (timers : Timers) (moment : ℕ) (before after : TimedPoint SemaSeat)
     (told : Result Unit Fault) (rest : IsSemaSeatOf sema before.at.seat)
     (free : IsTimerSeatOf timers before.timer) where
+  abbrev InTime : Type 0
+  InTime =
+      WaitsInTime (acquiring sema) (rendez_at sema before.at.seat) timers moment before told after
+
   -- such a call asks its timers twice: it sets its timer once, and cancels it once
-  asks_its_timers_twice : WaitsInTime sema timers moment before told after
+  asks_its_timers_twice : InTime
       → timed after.timer ≡ timed before.timer + 2
   asks_its_timers_twice waits =
       let set = timed_more timers false true _ _ before.timer waits.set free waits.added in
@@ -276,15 +281,15 @@ module _ (sema : Sema) (timers : Timers) (moment : ℕ) (before after : TimedPoi
 
   -- a timer is set twice, so that the note of the other one may be left
   sets_two_timers : timed after.timer ≡ timed before.timer + 4
-      → ¬ WaitsInTime sema timers moment before told after
+      → ¬ InTime
   sets_two_timers four waits =
       let two = asks_its_timers_twice waits in omega (arith, four, two)
 
   sets_no_timer : timed after.timer ≡ timed before.timer
-      → ¬ WaitsInTime sema timers moment before told after
+      → ¬ InTime
   sets_no_timer none waits = let two = asks_its_timers_twice waits in omega (arith, none, two)
 
-  module _ (waits : WaitsInTime sema timers moment before told after)
+  module _ (waits : InTime)
       (in_time : waits.stop.expired ≡ false) where
     -- without a tick: so many sleeps, with a request behind each, and one before
     record HasSlept : Type 0 where

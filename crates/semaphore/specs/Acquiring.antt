@@ -1,6 +1,6 @@
 -- What semacquire promises. From semacquire(2); the order of waiters, and that notes that came with
 -- a unit are put back, are own. How a call sleeps is the wait of all devices.
-use Rattle.std.specs.Prelude.{◌≡◌, ⊤, ℕ, ◌+◌, Bool, true, false, Option, Some, None}
+use Rattle.std.specs.Prelude.{◌≡◌, ℕ, ◌+◌, Bool, true, false, Option, Some, None}
 use Rattle.std.specs.Prelude.{Result, Ok, Err}
 use Rattle.kernel_lock.specs.Seats as lock
 use Rattle.sync_base.specs.declared.fault.Fault.{Fault}
@@ -50,15 +50,9 @@ Leaves sema before (Some unit) after =
 Leaves sema before None after =
     Asks sema false (Leave (number_of before)) told.Gone before after
 
--- A call that takes a unit, as its wait asks the semaphore. This holds of its timer, if it has one,
--- at each sleep.
-abbrev pub acquiring : Sema → Type 0 → Promise SemaSeat Unit
-acquiring sema Timer =
-    record {
-      begun = Begins sema;
-      asked = λ before said after. Timer × Collects sema before said after;
-      left = λ before said after. Timer × Leaves sema before said after;
-    }
+-- a call that takes a unit, as its wait asks the semaphore
+abbrev pub acquiring : Sema → Promise SemaSeat Unit
+acquiring sema = record { begun = Begins sema; asked = Collects sema; left = Leaves sema }
 
 -- ---- the call
 
@@ -71,10 +65,10 @@ units_of (Err why) = 0
 -- a call that waits never answers that it got none now
 abbrev pub Waits : Sema → Point SemaSeat → Result Semacquired Fault → Point SemaSeat → Type 0
 Waits sema before (Ok got.Acquired) after =
-    Waited (acquiring sema ⊤) (rendez_at sema before.seat) before (Ok tt) after
+    Waited (acquiring sema) (rendez_at sema before.seat) before (Ok tt) after
 Waits sema before (Ok got.NotNow) after = ⊥
 Waits sema before (Err why) after =
-    Waited (acquiring sema ⊤) (rendez_at sema before.seat) before (Err why) after
+    Waited (acquiring sema) (rendez_at sema before.seat) before (Err why) after
 
 -- one that does not wait asks once, and answers what it was told
 abbrev pub AsksNow : Sema → Point SemaSeat → Result Semacquired Fault → Point SemaSeat → Type 0

@@ -1,6 +1,5 @@
 -- What clauses see of a semaphore and of its seats.
-use Rattle.std.specs.Prelude.{◌≡◌, ◌≤◌, ◌+◌, ⊤, ℕ, Bool, true, false, List, [], ◌∷◌}
-use Rattle.std.specs.Prelude.{Option, Some, None}
+use Rattle.std.specs.Prelude.{◌≡◌, ◌≤◌, ◌+◌, ℕ, Bool, true, false, List, [], ◌∷◌}
 use Rattle.histories.specs.declared.account.Share.{Share}
 use Rattle.sync_base.specs.declared.ids.RendezId.{RendezId}
 use Rattle.rendez_words.specs.declared.words.Words.{Words}
@@ -8,7 +7,6 @@ use Rattle.rendez_words.specs.Words.{rendez_of}
 use Rattle.sleep_wakeup.specs.Kernel.{Unused}
 use Rattle.kernel_lock.specs.Seats.{IsSeatOf, SeesHistory, shares_of, number_of, opening_of}
 use Rattle.kernel_lock.specs.Seats.{IsFirstSeat}
-use Rattle.semaphore.specs.declared.acquiring.SetTimer.{SetTimer}
 use Rattle.semaphore.specs.declared.sema.Sema.{Sema}
 use Rattle.semaphore.specs.declared.sema.SemaSeat.{SemaSeat}
 use Rattle.semaphore.specs.declared.sema_object.SemaCall.{SemaCall}
@@ -18,7 +16,6 @@ use Rattle.semaphore.specs.declared.sema_object.SemaReply.TheVariants as reply
 use Rattle.semaphore.specs.Definitions.{sema_definition}
 use Rattle.semaphore.specs.Opening.{IsSemaLock}
 use Rattle.semaphore.specs.SemaHistory.{SemaEntry, taken}
-use Rattle.timer_list.specs.Seats.{IsSeatAtTimers}
 
 -- ---- semaphores
 
@@ -73,13 +70,6 @@ own_of (share ∷ shares) = share.mine
 -- the units that its calls brought a seat
 abbrev pub units_given : SemaSeat → ℕ
 units_given seat = taken (own_of (shares_of seat.seat))
-
--- ---- timers
-
--- a call that has a timer has set it
-abbrev pub IsTimerSet : Option SetTimer → Type 0
-IsTimerSet None = ⊤
-IsTimerSet (Some timer) = IsSeatAtTimers timer.timers.now true timer.seat.now
 
 -- ---- how they are made
 

@@ -2,7 +2,7 @@
 ghost use Rattle.std.specs.Prelude.{◌≡◌, ⊤, true};
 ghost use Rattle.kernel_lock.specs.Seats.{number_of};
 ghost use Rattle.semaphore.specs.Acquiring.{Semacquires, acquiring};
-ghost use Rattle.semaphore.specs.Seats.{OwnsRow, IsSeatAt, IsSemaSeatOf, IsTimerSet};
+ghost use Rattle.semaphore.specs.Seats.{OwnsRow, IsSeatAt, IsSemaSeatOf};
 ghost use Rattle.waiting.specs.Waiting.{point};
 
 use crate::sema::{Sema, SemaSeat};
@@ -10,7 +10,6 @@ use crate::{SemaCall, SemaReply};
 use sleep_wakeup::Proc;
 use std::sync::Wait;
 use sync_base::{Fault, NoProbe, Probe};
-use timer_list::{TimerSeat, Timers};
 use waiting::{Reply, WaitingCall, wait_for};
 
 /// What `semacquire` answers.
@@ -22,36 +21,28 @@ pub enum Semacquired {
     NotNow,
 }
 
-/// A timer that is set.
+/// A call that takes a unit: what it asks of its semaphore.
 #[derive(Drop)]
-pub(crate) struct SetTimer<'t> {
-    pub(crate) timers: &'t Timers,
-    pub(crate) seat: &'t TimerSeat,
-}
-
-/// A call that takes a unit. Where it has a deadline it sleeps with its timer set.
-#[derive(Drop)]
-pub(crate) struct Acquiring<'s, 't> {
+pub(crate) struct Acquiring<'s> {
     pub(crate) sema: &'s Sema,
-    pub(crate) timer: Option<SetTimer<'t>>,
 }
 
-impl<'s, 't> WaitingCall for Acquiring<'s, 't> {
+impl<'s> WaitingCall for Acquiring<'s> {
     type Seat = SemaSeat;
 
     type Out = ();
 
-    ghost ready = { λ call seat. IsSemaSeatOf call.sema.now seat × IsTimerSet call.timer };
+    ghost ready = { λ call seat. IsSemaSeatOf call.sema.now seat };
 
-    // Whoever grants a unit finds the seat in the line; and a tick finds the timer.
-    ghost waits = { λ call seat. IsSeatAt call.sema.now true seat × IsTimerSet call.timer };
+    // Whoever grants a unit finds the seat in the line.
+    ghost waits = { λ call seat. IsSeatAt call.sema.now true seat };
 
     ghost rests = { λ call seat. IsSemaSeatOf call.sema.now seat };
 
     // It wakes nobody.
     ghost knows = { λ call words. ⊤ };
 
-    ghost promise = { λ call. acquiring call.sema.now (IsTimerSet call.timer) };
+    ghost promise = { λ call. acquiring call.sema.now };
 
     fn begin<R: Wait>(&self, rt: &R, _proc: &mut Proc<'_>, seat: &mut SemaSeat) -> Reply<()> {
         let number = seat.seat.number();
@@ -154,10 +145,7 @@ impl Sema {
             return Ok(self.acquire_now(rt, seat));
         }
         let rendez = self.rendez(seat);
-        let call = Acquiring {
-            sema: self,
-            timer: None,
-        };
+        let call = Acquiring { sema: self };
         match wait_for(rt, proc, rendez, &call, seat, probe) {
             Ok(()) => Ok(Semacquired::Acquired),
             Err(why) => Err(why),

@@ -11,4 +11,7 @@ mod WorkedAsking
 mod WorkedCalls
 mod WorkedOpenings
 mod WorkedSeats
+mod WorkedTimes
 pub mod BrokenTimers
+mod TimedLemmas
+mod UntimedLemmas

@@ -7,5 +7,6 @@ pub mod Ticking
 pub mod TimerHistory
 pub mod TimerLaws
 pub mod Timers
+pub mod Timing
 pub mod Tournament
 pub mod WakeLaws

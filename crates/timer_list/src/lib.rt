@@ -6,13 +6,17 @@
 
 pub mod due;
 pub mod laws;
+pub mod limits;
 mod object;
 mod ticking;
+mod timed;
 mod timer_asks;
 pub mod timer_object;
 pub mod timers;
 mod tournament;
+mod within;
 
 pub use due::Due;
 pub use timer_object::{Timer, TimerCall, TimerObject, TimerReply};
 pub use timers::{OpenedTimers, TimerSeat, Timers};
+pub use within::wait_within;

@@ -8,38 +8,34 @@ use Rattle.semaphore.proofs.acquiring.AcquiringWaitingCall.ask.Goals as goal
 
 pub unreachable-requires : goal.unreachable-requires
 unreachable-requires g c =
-    collect_never _ _ _ _ _ (c.ask.ensures.told _ c.requires.waits.0) c.number-number.ensures
+    collect_never _ _ _ _ _ (c.ask.ensures.told _ c.requires.waits) c.number-number.ensures
     c.in_default.not-Granted c.in_default.not-Wait
 
 pub returns-in-Granted-clause-asked : goal.returns-in-Granted-clause-asked
-returns-in-Granted-clause-asked g c = (
-  c.requires.waits.1,
-  record {
-    asks = asks_so c.args.self.now.sema.now false Collect reply.Granted c.number-number.result
-        c.args.seat.now c.ask.new.seat c.number-number.ensures c.in-Granted.ensures.served
-        (c.in-Granted.ensures.seat true c.requires.waits.0) c.in-Granted.ensures.number;
-    idle = refl;
-  },
-)
+returns-in-Granted-clause-asked g c =
+    record {
+      asks = asks_so c.args.self.now.sema.now false Collect reply.Granted c.number-number.result
+          c.args.seat.now c.ask.new.seat c.number-number.ensures c.in-Granted.ensures.served
+          (c.in-Granted.ensures.seat true c.requires.waits) c.in-Granted.ensures.number;
+      idle = refl;
+    }
 
 pub returns-in-Wait-clause-stands : goal.returns-in-Wait-clause-stands
 returns-in-Wait-clause-stands g c =
-    (c.in-Wait.ensures.seat true c.requires.waits.0, c.requires.waits.1)
+    c.in-Wait.ensures.seat true c.requires.waits
 
 pub returns-in-Wait-clause-low : goal.returns-in-Wait-clause-low
 returns-in-Wait-clause-low g c =
     let fits =
-    collect_fits _ _ _ _ _ (c.in-Wait.ensures.told _ c.requires.waits.0) c.number-number.ensures in
+    collect_fits _ _ _ _ _ (c.in-Wait.ensures.told _ c.requires.waits) c.number-number.ensures in
     omega (arith, fits)
 
 pub returns-in-Wait-clause-asked : goal.returns-in-Wait-clause-asked
-returns-in-Wait-clause-asked g c = (
-  c.requires.waits.1,
-  record {
-    asks = asks_so c.args.self.now.sema.now true Collect (reply.Wait c.in-Wait.again)
-        c.number-number.result c.args.seat.now c.ask.new.seat c.number-number.ensures
-        c.in-Wait.ensures.served (c.in-Wait.ensures.seat true c.requires.waits.0)
-        c.in-Wait.ensures.number;
-    idle = refl;
-  },
-)
+returns-in-Wait-clause-asked g c =
+    record {
+      asks = asks_so c.args.self.now.sema.now true Collect (reply.Wait c.in-Wait.again)
+          c.number-number.result c.args.seat.now c.ask.new.seat c.number-number.ensures
+          c.in-Wait.ensures.served (c.in-Wait.ensures.seat true c.requires.waits)
+          c.in-Wait.ensures.number;
+      idle = refl;
+    }

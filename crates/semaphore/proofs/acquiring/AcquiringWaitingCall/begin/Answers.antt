@@ -8,7 +8,7 @@ use Rattle.semaphore.proofs.acquiring.AcquiringWaitingCall.begin.Goals as goal
 
 pub unreachable-requires : goal.unreachable-requires
 unreachable-requires g c =
-    acquire_never _ _ _ _ (c.ask.ensures.told _ c.requires.ready.0) c.number-number.ensures
+    acquire_never _ _ _ _ (c.ask.ensures.told _ c.requires.ready) c.number-number.ensures
     c.in_default.not-Acquired c.in_default.not-Wait c.in_default.not-Worn
 
 pub returns-in-Acquired-clause-asked : goal.returns-in-Acquired-clause-asked
@@ -16,18 +16,18 @@ returns-in-Acquired-clause-asked g c =
     record {
       asks = asks_so c.args.self.now.sema.now false Acquire reply.Acquired c.number-number.result
           c.args.seat.now c.ask.new.seat c.number-number.ensures c.in-Acquired.ensures.served
-          (c.in-Acquired.ensures.seat false c.requires.ready.0) c.in-Acquired.ensures.number;
+          (c.in-Acquired.ensures.seat false c.requires.ready) c.in-Acquired.ensures.number;
       idle = refl;
     }
 
 pub returns-in-Wait-clause-stands : goal.returns-in-Wait-clause-stands
 returns-in-Wait-clause-stands g c =
-    (c.in-Wait.ensures.seat false c.requires.ready.0, c.requires.ready.1)
+    c.in-Wait.ensures.seat false c.requires.ready
 
 pub returns-in-Wait-clause-low : goal.returns-in-Wait-clause-low
 returns-in-Wait-clause-low g c =
     let fits =
-    acquire_fits _ _ _ _ (c.in-Wait.ensures.told _ c.requires.ready.0) c.number-number.ensures in
+    acquire_fits _ _ _ _ (c.in-Wait.ensures.told _ c.requires.ready) c.number-number.ensures in
     omega (arith, fits)
 
 pub returns-in-Wait-clause-asked : goal.returns-in-Wait-clause-asked
@@ -35,7 +35,7 @@ returns-in-Wait-clause-asked g c =
     record {
       asks = asks_so c.args.self.now.sema.now true Acquire (reply.Wait c.in-Wait.count)
           c.number-number.result c.args.seat.now c.ask.new.seat c.number-number.ensures
-          c.in-Wait.ensures.served (c.in-Wait.ensures.seat false c.requires.ready.0)
+          c.in-Wait.ensures.served (c.in-Wait.ensures.seat false c.requires.ready)
           c.in-Wait.ensures.number;
       idle = refl;
     }
@@ -45,6 +45,6 @@ returns-in-Worn-clause-asked g c =
     record {
       asks = asks_so c.args.self.now.sema.now false Acquire reply.Worn c.number-number.result
           c.args.seat.now c.ask.new.seat c.number-number.ensures c.in-Worn.ensures.served
-          (c.in-Worn.ensures.seat false c.requires.ready.0) c.in-Worn.ensures.number;
+          (c.in-Worn.ensures.seat false c.requires.ready) c.in-Worn.ensures.number;
       idle = refl;
     }

@@ -1,8 +1,8 @@
 -- a set is its kinds of note, and what is left has each that was there but the tick's
 use Rattle.std.proofs.Common.{◌&&◌, not, ap, ◌∙◌}
 use Rattle.sync_base.specs.NoteSet.{holds}
-use Rattle.semaphore.proofs.TimedLemmas.{others_are}
-use Rattle.semaphore.proofs.timing.others.Goals as goal
+use Rattle.timer_list.proofs.TimedLemmas.{others_are}
+use Rattle.timer_list.proofs.within.others.Goals as goal
 
 pub returns : goal.returns
 returns c =

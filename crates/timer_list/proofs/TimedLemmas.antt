@@ -14,8 +14,8 @@ use Rattle.rendez_words.specs.Process.{Process}
 use Rattle.rendez_words.specs.Steps.{drains}
 use Rattle.rendez_words.specs.Words.{rendez_of}
 use Rattle.sleep_wakeup.specs.Calls.{WhyNotSlept}
-use Rattle.semaphore.specs.declared.limits.TheConstants.{LAST_GRANT}
-use Rattle.semaphore.specs.Timing.{Keeps, LooksForTick, PutsBackAny, notes_in, without_expired}
+use Rattle.timer_list.specs.declared.limits.TheConstants.{LAST_THRESHOLD}
+use Rattle.timer_list.specs.Timing.{Keeps, LooksForTick, PutsBackAny, notes_in, without_expired}
 use Rattle.waiting.specs.declared.wait.WaitEnd.{WaitEnd}
 use Rattle.waiting.specs.declared.wait.WaitEnd.TheVariants.{Answered, Stopped}
 
@@ -58,7 +58,7 @@ others_are set notes kinds =
 -- of the refusals of such a sleep only one can come, and then it takes notes without a sleep
 pub refused_so : (words : Words) (before : Process) (rendez : RendezId) (between : Process)
     (why : Fault) (set : NoteSet) (after : Process) → rendez.0 < rendez_of words
-    → WhyNotSlept words before rendez LAST_GRANT between why
+    → WhyNotSlept words before rendez LAST_THRESHOLD between why
     → ((set : NoteSet) → why ≢ fault.Interrupted set) → after ≡ drains between set
     → LooksForTick rendez before set after
 refused_so words before rendez between (fault.Interrupted notes) set after within is apart took =
@@ -73,23 +73,23 @@ refused_so words before rendez between why set after within is apart took = absu
 
 -- ---- the answer
 
-module _ (ending : WaitEnd Unit) (expired : Bool) (came others : NoteSet) (before after : Process)
-    (others_is : others ≡ without_expired came) where
-  abbrev Kept : Result Unit Fault → Type 0
+module _ {Out : Type 0} (ending : WaitEnd Out) (expired : Bool) (came others : NoteSet)
+    (before after : Process) (others_is : others ≡ without_expired came) where
+  abbrev Kept : Result Out Fault → Type 0
   Kept answer = Keeps expired (without_expired came) ending answer before after
 
   back : PutsBackAny others before after → PutsBackAny (without_expired came) before after
   back kept = subst (λ set. PutsBackAny set before after) others_is kept
 
   -- its last request was answered
-  pub keeps_answered : (answer : Result Unit Fault) → ending ≡ Answered answer
+  pub keeps_answered : (answer : Result Out Fault) → ending ≡ Answered answer
       → PutsBackAny others before after → Kept answer
   keeps_answered answer is kept =
       subst (λ e. Keeps expired (without_expired came) e answer before after) (sym is)
       (refl, back kept)
 
   -- it left with a unit
-  pub keeps_late : (why : Fault) (out : Unit) → ending ≡ Stopped why (Some out)
+  pub keeps_late : (why : Fault) (out : Out) → ending ≡ Stopped why (Some out)
       → PutsBackAny others before after → Kept (Ok out)
   keeps_late why out is kept =
       subst (λ e. Keeps expired (without_expired came) e (Ok out) before after) (sym is)
@@ -121,6 +121,7 @@ module _ (ending : WaitEnd Unit) (expired : Bool) (came others : NoteSet) (befor
       (by why apart)
     where
       by : (why : Fault) → ((set : NoteSet) → why ≢ fault.Interrupted set)
-          → Keeps expired (without_expired came) (Stopped why None) (Err why) before after
+          → Keeps {Out = Out} expired (without_expired came) (Stopped why None) (Err why) before
+          after
       by (fault.Interrupted set) apart = absurd (apart set refl)
       by other apart = (refl, back kept)

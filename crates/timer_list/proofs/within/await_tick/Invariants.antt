@@ -1,7 +1,7 @@
 -- it did nothing but look since it began
 use Rattle.std.proofs.Common.{◌≡◌, ℕ}
-use Rattle.semaphore.specs.Timing.{Looks, awaiting}
-use Rattle.semaphore.proofs.timing.await_tick.Given as goal
+use Rattle.timer_list.specs.Timing.{Looks, awaiting}
+use Rattle.timer_list.proofs.within.await_tick.Given as goal
 
 abbrev pub invariant-loop : goal.invariant-loop
 invariant-loop g l =

@@ -1,7 +1,7 @@
 -- Each round is a look, and the last one brings the note.
 use Rattle.std.proofs.Common.{suc, sym, ◌∙◌}
-use Rattle.semaphore.specs.Timing.{awaiting}
-use Rattle.semaphore.proofs.timing.await_tick.Goals as goal
+use Rattle.timer_list.specs.Timing.{awaiting}
+use Rattle.timer_list.proofs.within.await_tick.Goals as goal
 
 pub loop-preserved : goal.loop-preserved
 loop-preserved g c =

@@ -1,0 +1,132 @@
+-- What a call with a deadline did to its seat, a call without one does.
+use Rattle.std.proofs.Common.{ℕ, zero, suc, Bool, Some, None, Result, Ok, Err}
+use Rattle.std.proofs.Common.{inl, inr, refl, sym, subst}
+use Rattle.rendez_words.specs.Process.{Process, pid_in}
+use Rattle.rendez_words.specs.Steps.{notes}
+use Rattle.sync_base.specs.declared.fault.Fault.{Fault}
+use Rattle.sync_base.specs.declared.fault.Fault.TheVariants as fault
+use Rattle.sync_base.specs.declared.ids.RendezId.{RendezId}
+use Rattle.sync_base.specs.declared.note.NoteSet.{NoteSet}
+use Rattle.timer_list.specs.declared.timers.Timers.{Timers}
+use Rattle.timer_list.specs.Timing.{ComesToSame, IsACall, IsEndedByNotes, Keeps, TimedPoint}
+use Rattle.timer_list.specs.Timing.{WaitedInTime, while_set}
+use Rattle.waiting.specs.declared.wait.WaitEnd.{WaitEnd}
+use Rattle.waiting.specs.declared.wait.WaitEnd.TheVariants.{Answered, Stopped}
+use Rattle.waiting.specs.Waiting.{Promise, Point, WaitPoint, Rounds, Ends, SleepsOn, Returns}
+use Rattle.waiting.specs.Waiting.{answer_of}
+
+module _ {Seat Out : Type 0} (Timer : Type 0) (promise : Promise Seat Out) (rendez : RendezId)
+  where
+    -- rounds with a timer are rounds
+    rounds : (times : ℕ) (first now : WaitPoint Seat)
+        → Rounds (while_set Timer promise) rendez times first now
+        → Rounds promise rendez times first now
+    rounds zero first now same = same
+    rounds (suc times) first now more =
+        record {
+          between = more.between;
+          rounds = rounds times first more.between more.rounds;
+          last = record {
+            woken = more.last.woken;
+            slept = more.last.slept;
+            asked = more.last.asked.1;
+          };
+        }
+
+    ends : (last : WaitPoint Seat) (ending : WaitEnd Out) (after : Point Seat)
+        → Ends (while_set Timer promise) rendez last ending after
+        → Ends promise rendez last ending after
+    ends last (Answered answer) after asked =
+        record { woken = asked.woken; slept = asked.slept; asked = asked.asked.1 }
+    ends last (Stopped why reply) after left =
+        record { failed = left.failed; left = left.left.1 }
+
+    -- and so are its sleeps
+    pub sleeps : (first : WaitPoint Seat) (ending : WaitEnd Out) (after : Point Seat)
+        → SleepsOn (while_set Timer promise) rendez first ending after
+        → SleepsOn promise rendez first ending after
+    sleeps first ending after slept =
+        record {
+          times = slept.times;
+          last = slept.last;
+          rounds = rounds slept.times first slept.last slept.rounds;
+          ends = ends slept.last ending after slept.ends;
+        }
+
+-- where a process is that has put back the notes that ended a sleep
+abbrev put_back : Fault → Process → Process
+put_back (fault.Interrupted set) before = notes before (pid_in before) set
+put_back other before = before
+
+module _ {Out : Type 0} where
+  -- where a process is whose sleeps ended so
+  abbrev returned : WaitEnd Out → Process → Process
+  returned (Answered answer) before = before
+  returned (Stopped why (Some out)) before = put_back why before
+  returned (Stopped why None) before = before
+
+  late : (why : Fault) (out : Out) (before : Process)
+      → Returns (Stopped why (Some out)) before (put_back why before)
+  late (fault.Interrupted set) out before = refl
+  late other out before = refl
+
+  returns : (ending : WaitEnd Out) (before : Process)
+      → Returns ending before (returned ending before)
+  returns (Answered answer) before = refl
+  returns (Stopped why (Some out)) before = late why out before
+  returns (Stopped why None) before = refl
+
+  same_answer : (answer : Result Out Fault) → ComesToSame answer answer
+  same_answer (Ok out) = refl
+  same_answer (Err why) = tt
+
+  -- notes that ended a call are no answer
+  ended : (why : Fault) (expired : Bool) (others : NoteSet) (answer : Result Out Fault)
+      → IsEndedByNotes expired others answer → ComesToSame (Err why) answer
+  ended why expired others (Ok out) is = absurd is
+  ended why expired others (Err other) is = tt
+
+  -- what it answers is what its sleeps came to
+  same : (ending : WaitEnd Out) (expired : Bool) (others : NoteSet) (answer : Result Out Fault)
+      (before after : Process) → Keeps expired others ending answer before after
+      → ComesToSame (answer_of ending) answer
+  same (Answered told) expired others answer before after kept =
+      subst (ComesToSame told) (sym kept.0) (same_answer told)
+  same (Stopped why (Some out)) expired others answer before after kept =
+      subst (ComesToSame (Ok out)) (sym kept.0) (same_answer (Ok out))
+  same (Stopped (fault.Interrupted set) None) expired others answer before after kept =
+      ended (fault.Interrupted set) expired others answer kept.0
+  same (Stopped why None) expired others answer before after kept =
+      subst (ComesToSame (Err why)) (sym kept.0) (same_answer (Err why))
+
+-- a call with a deadline is a call
+pub untimed : {Seat Out : Type 0} (promise : Promise Seat Out) (rendez : RendezId)
+    (timers : Timers) (moment : ℕ) (before : TimedPoint Seat) (answer : Result Out Fault)
+    (after : TimedPoint Seat)
+    → WaitedInTime promise rendez timers moment before answer after
+    → IsACall promise rendez before.at answer after.at.seat
+untimed promise rendez timers moment before answer after (inl at_once) =
+    record {
+      told = answer;
+      process = after.at.process;
+      waited = inl at_once.begun;
+      same = same_answer answer;
+    }
+untimed promise rendez timers moment before answer after (inr waits) =
+    record {
+      told = answer_of waits.stop.ending;
+      process = returned waits.stop.ending waits.stop.process;
+      waited = inr (record {
+        first = waits.first;
+        begun = waits.begun;
+        waited = record {
+          ending = waits.stop.ending;
+          process = waits.stop.process;
+          slept = sleeps _ promise rendez waits.first waits.stop.ending
+              (record { seat = after.at.seat; process = waits.stop.process }) waits.slept;
+          returned = returns waits.stop.ending waits.stop.process;
+          answer_is = refl;
+        };
+      });
+      same = same waits.stop.ending waits.stop.expired _ answer _ _ waits.kept;
+    }

@@ -1,0 +1,185 @@
+-- Calls with a deadline that did what none may do, each against one row.
+use Rattle.std.proofs.Common.{◌≡◌, ◌≢◌, ℕ, Bool, true, false, Some, None, Result, Ok, Err, inl}
+use Rattle.std.proofs.Common.{inr, refl, sym, ap, ◌∙◌, arith, length}
+use Rattle.kernel_lock.specs.Seats.{number_of, opening_of, seen_of}
+use Rattle.rendez_words.specs.Process.{Process}
+use Rattle.rendez_words.specs.Steps.{notes}
+use Rattle.sync_base.specs.declared.fault.Fault.{Fault}
+use Rattle.sync_base.specs.declared.fault.Fault.TheVariants as fault
+use Rattle.sync_base.specs.declared.ids.RendezId.{RendezId}
+use Rattle.sync_base.specs.declared.note.Note.TheVariants.{Alarm, Expired}
+use Rattle.sync_base.specs.declared.note.NoteSet.{NoteSet}
+use Rattle.sync_base.specs.NoteSet.{no_notes, joined, only, holds}
+use Rattle.timer_list.specs.declared.limits.TheConstants.{LAST_THRESHOLD}
+use Rattle.timer_list.specs.declared.timers.Timers.{Timers}
+use Rattle.timer_list.specs.Definitions.{timer_definition}
+use Rattle.timer_list.specs.TimerHistory.{WasTaken}
+use Rattle.timer_list.specs.Timing.{AwaitsTick, Awaiting, BegunAtOnce, ComesToSame, IsACall}
+use Rattle.timer_list.specs.Timing.{IsEndedByNotes, Keeps, Looks, LooksForTick, PutsBackAny}
+use Rattle.timer_list.specs.Timing.{TimedPoint, WaitedInTime, WaitsInTime, notes_in, notes_of}
+use Rattle.timer_list.specs.Timing.{while_set, without_expired}
+use Rattle.waiting.specs.declared.call.Reply.TheVariants.{Wait}
+use Rattle.waiting.specs.declared.wait.WaitEnd.{WaitEnd}
+use Rattle.waiting.specs.declared.wait.WaitEnd.TheVariants.{Answered, Stopped}
+use Rattle.waiting.specs.Waiting.{Point, Promise, Waited, reply_of}
+
+-- the steps of a process, counted
+abbrev steps_of : Process → ℕ
+steps_of process = length process.trace
+
+-- no level but that of a hangup is above it
+the_last_threshold_is : LAST_THRESHOLD ≡ 18446744073709551614
+the_last_threshold_is = refl
+
+-- ---- the note of a tick
+
+the_notes_are : (notes_in (fault.Interrupted (only Alarm)) ≡ only Alarm)
+    × (notes_in fault.DoubleSleep ≡ no_notes)
+    × (notes_of {Out = Unit} (Stopped (fault.Interrupted (only Alarm)) None) ≡ only Alarm)
+    × (notes_of {Out = Unit} (Answered (Ok tt)) ≡ no_notes)
+    × (without_expired (only Expired) ≡ no_notes) × (without_expired (only Alarm) ≡ only Alarm)
+the_notes_are = (refl, refl, refl, refl, refl, refl)
+
+module _ (rendez : RendezId) (first last : Awaiting) where
+  -- a tick took its timer, and it does not wait for the note of that tick
+  leaves_a_note_behind : holds last.notes Expired ≡ false → ¬ AwaitsTick rendez true first last
+  leaves_a_note_behind to_come awaits =
+      let clash : false ≡ true = sym to_come ∙ awaits.came refl in cc
+
+  -- it looks again, though the note of the tick has come
+  looks_behind_the_tick : (looks : Looks rendez true 1 first last)
+      → holds first.notes Expired ≡ true → ⊥
+  looks_behind_the_tick looks came =
+      let same = ap (λ (a : Awaiting). holds a.notes Expired) looks.looks in
+      let clash : true ≡ false = sym came ∙ (sym same ∙ looks.to_come) in
+      cc
+
+  looks_for_no_tick : ¬ Looks rendez false 1 first last
+  looks_for_no_tick looks = let clash : false ≡ true = looks.took in cc
+
+  -- notes that come are kept with those that had come
+  what_comes_is_kept : (looks : Looks rendez true 1 first last)
+      → last.notes ≡ joined looks.between.notes looks.set
+  what_comes_is_kept looks = looks.notes_are
+
+  it_looks_in_its_rendez : (looks : Looks rendez true 1 first last)
+      → LooksForTick rendez looks.between.process looks.set last.process
+  it_looks_in_its_rendez looks = looks.looked
+
+-- ---- the answer
+
+-- of a call that comes to a unit
+abbrev Kept : Bool → NoteSet → WaitEnd Unit → Result Unit Fault → Process → Process → Type 0
+Kept = Keeps
+
+abbrev Ended : Bool → NoteSet → Result Unit Fault → Type 0
+Ended = IsEndedByNotes
+
+module _ (before : Process) where
+  drops_its_notes : ¬ Kept false (only Alarm) (Answered (Ok tt)) (Ok tt) before before
+  drops_its_notes kept = by kept.1
+    where
+      by : ¬ PutsBackAny (only Alarm) before before
+      by (inl none) = let clash : true ≡ false = ap (λ s. holds s Alarm) none.0 in cc
+      by (inr back) = let steps = ap steps_of back in omega (arith, steps)
+
+  answers_another_end : ¬ Kept false no_notes (Answered (Ok tt)) (Err fault.Worn) before before
+  answers_another_end kept = let clash : Err fault.Worn ≡ Ok tt = kept.0 in cc
+
+  late_and_refused :
+      ¬ Kept false no_notes (Stopped fault.DoubleSleep (Some tt)) (Err fault.DoubleSleep)
+      before before
+  late_and_refused kept = let clash : Err fault.DoubleSleep ≡ Ok tt = kept.0 in cc
+
+  refused_and_timed_out :
+      ¬ Kept true no_notes (Stopped fault.DoubleSleep None) (Err fault.TimedOut) before before
+  refused_and_timed_out kept =
+      let clash : Err fault.TimedOut ≡ Err fault.DoubleSleep = kept.0 in cc
+
+  interrupted_and_puts_back :
+      ¬ Kept false (only Alarm) (Stopped (fault.Interrupted (only Alarm)) None)
+      (Err (fault.Interrupted (only Alarm))) before
+      (notes before (record { 0 = before.pid }) (only Alarm))
+  interrupted_and_puts_back kept = let steps = ap steps_of kept.1 in omega (arith, steps)
+
+times_out_without_a_tick : ¬ Ended false no_notes (Err fault.TimedOut)
+times_out_without_a_tick ended = let clash : false ≡ true = ended.0 in cc
+
+times_out_with_an_alarm : ¬ Ended true (only Alarm) (Err fault.TimedOut)
+times_out_with_an_alarm ended =
+    let clash : true ≡ false = ap (λ s. holds s Alarm) ended.1 in cc
+
+a_tick_alone_interrupts : ¬ Ended true no_notes (Err (fault.Interrupted no_notes))
+a_tick_alone_interrupts ended = ended.1 refl refl
+
+answers_other_notes : ¬ Ended false (only Alarm) (Err (fault.Interrupted no_notes))
+answers_other_notes ended =
+    let clash : false ≡ true = ap (λ s. holds s Alarm) ended.0 in cc
+
+notes_are_no_unit : (others : NoteSet) → ¬ Ended true others (Ok tt)
+notes_are_no_unit others ended = ended
+
+-- ---- the call
+
+module _ {Seat : Type 0} (promise : Promise Seat Unit) (rendez : RendezId) (watch : Timers)
+    (moment : ℕ) (before after : TimedPoint Seat) (answer : Result Unit Fault) where
+  at_once_and_sets_its_timer : after.timer ≢ before.timer
+      → ¬ BegunAtOnce promise rendez watch moment before answer after
+  at_once_and_sets_its_timer other begun = other begun.timer
+
+  at_once_without_asking : ¬ promise.begun before.at (reply_of answer) after.at
+      → ¬ BegunAtOnce promise rendez watch moment before answer after
+  at_once_without_asking none begun = none begun.begun
+
+  neither_at_once_nor_in_time : ¬ BegunAtOnce promise rendez watch moment before answer after
+      → ¬ WaitsInTime promise rendez watch moment before answer after
+      → ¬ WaitedInTime promise rendez watch moment before answer after
+  neither_at_once_nor_in_time begun waits (inl at_once) = begun at_once
+  neither_at_once_nor_in_time begun waits (inr waited) = waits waited
+
+  -- a tick took its timer before the deadline
+  times_out_too_early : (waits : WaitsInTime promise rendez watch moment before answer after)
+      → waits.stop.expired ≡ true
+      → ¬ WasTaken (opening_of timer_definition watch.lock) (number_of before.timer.seat)
+      moment (seen_of after.timer.seat) → ⊥
+  times_out_too_early waits is none = none (waits.taken is)
+
+-- ---- as a call without a deadline
+
+module _ {Seat Out : Type 0} (promise : Promise Seat Out) where
+  asks_without_its_timer : (old new : Point Seat) (number : ℕ)
+      → ¬ (while_set ⊥ promise).asked old (Wait number) new
+  asks_without_its_timer old new number asked = asked.0
+
+  leaves_without_its_timer : (old new : Seat) → ¬ (while_set ⊥ promise).left old None new
+  leaves_without_its_timer old new left = left.0
+
+  -- such a call begins before its timer is set
+  begins_without_its_timer : (old new : Point Seat) (number : ℕ)
+      → promise.begun old (Wait number) new → (while_set ⊥ promise).begun old (Wait number) new
+  begins_without_its_timer old new number begun = begun
+
+the_same_comes : ComesToSame {Out = ℕ} (Ok 7) (Ok 7)
+    × ComesToSame {Out = ℕ} (Err fault.TimedOut) (Err fault.Worn)
+the_same_comes = (refl, tt)
+
+another_comes : ¬ ComesToSame {Out = ℕ} (Ok 7) (Ok 8)
+another_comes same = omega (arith, same)
+
+nothing_comes : ¬ ComesToSame {Out = ℕ} (Ok 7) (Err fault.TimedOut)
+nothing_comes same = same
+
+something_comes : ¬ ComesToSame {Out = ℕ} (Err fault.TimedOut) (Ok 7)
+something_comes same = same
+
+module _ {Seat Out : Type 0} (promise : Promise Seat Out) (rendez : RendezId) (before : Point Seat)
+    (answer : Result Out Fault) (after : Seat) where
+  -- what no call did is no call
+  is_no_call : ((told : Result Out Fault) (process : Process)
+      → ¬ Waited promise rendez before told (record { seat = after; process = process }))
+      → ¬ IsACall promise rendez before answer after
+  is_no_call none is = none is.told is.process is.waited
+
+  comes_to_another : ((told : Result Out Fault) → ¬ ComesToSame told answer)
+      → ¬ IsACall promise rendez before answer after
+  comes_to_another none is = none is.told is.same

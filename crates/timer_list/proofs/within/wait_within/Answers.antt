@@ -1,0 +1,116 @@
+-- It is answered at once; or it sets its timer, sleeps, cancels its timer, awaits the note of a
+-- tick that has taken it, and keeps what came.
+use Rattle.std.proofs.Common.{◌<◌, Ok, Err, false, true, inl, inr, refl, sym, ap, ◌∙◌, subst}
+use Rattle.kernel_lock.specs.Seats.{number_of}
+use Rattle.rendez_words.specs.Words.{rendez_of}
+use Rattle.sync_base.specs.declared.ids.Pid.{Pid}
+use Rattle.timer_list.specs.declared.timer_object.TimerCall.TheVariants.{Add, Cancel}
+use Rattle.timer_list.specs.declared.timer_object.TimerReply.TheVariants.{Added}
+use Rattle.timer_list.specs.Asking.{AsksTimers, cancel_reply}
+use Rattle.timer_list.specs.Timing.{Looks, awaiting, timed_point}
+use Rattle.timer_list.proofs.TickLemmas.{took_it}
+use Rattle.timer_list.proofs.UntimedLemmas.{untimed}
+use Rattle.waiting.specs.Waiting.{told}
+use Rattle.timer_list.proofs.within.wait_within.Goals as goal
+
+pub returns-in-Done-clause-waited : goal.returns-in-Done-clause-waited
+returns-in-Done-clause-waited g c =
+    inl (record { begun = c.in-Done.ensures.asked; timer = refl })
+
+pub returns-in-Refused-clause-waited : goal.returns-in-Refused-clause-waited
+returns-in-Refused-clause-waited g c =
+    inl (record { begun = c.in-Refused.ensures.asked; timer = refl })
+
+pub sleep_for-ending-requires-clause-waits : goal.sleep_for-ending-requires-clause-waits
+sleep_for-ending-requires-clause-waits g c =
+    (c.in-Wait.ensures.stands, c.add.ensures.asks.seat)
+
+pub sleep_for-ending-requires-clause-row : goal.sleep_for-ending-requires-clause-row
+sleep_for-ending-requires-clause-row g c =
+    subst (g.C.WaitingCall.knows c.args.call.now) (sym c.in-Wait.ensures.words) c.requires.row
+
+pub sleep_for-ending-requires-clause-rendez : goal.sleep_for-ending-requires-clause-rendez
+sleep_for-ending-requires-clause-rendez g c =
+    subst (λ words. c.args.rendez.0 < rendez_of words) (sym c.in-Wait.ensures.words)
+    c.requires.rendez
+
+pub cancel-expired-requires : goal.cancel-expired-requires
+cancel-expired-requires g c = c.add.ensures.asks.seat
+
+pub await_tick-came-requires : goal.await_tick-came-requires
+await_tick-came-requires g c =
+    subst (λ words. c.args.rendez.0 < rendez_of words)
+    (sym (c.sleep_for-ending.ensures.words ∙ c.in-Wait.ensures.words)) c.requires.rendez
+
+pub returns-in-Wait-clause-timer : goal.returns-in-Wait-clause-timer
+returns-in-Wait-clause-timer g c = c.cancel-expired.ensures.asks.seat
+
+pub returns-in-Wait-clause-timer_number : goal.returns-in-Wait-clause-timer_number
+returns-in-Wait-clause-timer_number g c =
+    c.cancel-expired.ensures.asks.number ∙ c.add.ensures.asks.number
+
+pub returns-in-Wait-clause-waited : goal.returns-in-Wait-clause-waited
+returns-in-Wait-clause-waited g c =
+    let timers = c.args.timers.now in
+    let set = c.add.new.seat in
+    let ending = c.sleep_for-ending.result in
+    let expired = c.cancel-expired.result in
+    let last = c.sleep_for-ending.new.proc.process in
+    let pid : Pid = record { 0 = c.args.proc.now.process.pid } in
+    let added : AsksTimers timers true (Add (number_of c.args.timer.now.seat) pid c.args.moment)
+    Added c.args.timer.now set =
+    subst
+    (λ p. AsksTimers timers true (Add (number_of c.args.timer.now.seat) p c.args.moment) Added
+    c.args.timer.now set)
+    (ap (λ n. record { 0 = n }) c.pid-pid.ensures) c.add.ensures.asks in
+    inr (record {
+      first = told c.begin.new.seat c.begin.new.proc c.in-Wait.number;
+      set = set;
+      stop = record {
+        ending = ending;
+        process = last;
+        expired = expired;
+        awaited = awaiting c.await_tick-came.new.proc c.await_tick-came.result;
+      };
+      begun = c.in-Wait.ensures.asked;
+      added = added;
+      slept = c.sleep_for-ending.ensures.slept;
+      cancelled = c.cancel-expired.ensures.asks;
+      awaited = record {
+        times = c.await_tick-came.ensures.looks.0;
+        looks = subst
+            (λ notes. Looks c.args.rendez expired c.await_tick-came.ensures.looks.0
+            (record { process = last; notes = notes })
+            (awaiting c.await_tick-came.new.proc c.await_tick-came.result))
+            c.taken_by.ensures c.await_tick-came.ensures.looks.1;
+        came = c.await_tick-came.ensures.came;
+      };
+      kept = c.answer_timed.ensures.kept;
+      taken = λ is. took_it timers c.args.moment pid c.args.timer.now set
+          c.cancel-expired.new.seat c.requires.timer.opened added
+          (subst
+          (λ b. AsksTimers timers false (Cancel (number_of set.seat)) (cancel_reply b) set
+          c.cancel-expired.new.seat) is c.cancel-expired.ensures.asks);
+    })
+
+pub returns-in-Done-clause-is_call : goal.returns-in-Done-clause-is_call
+returns-in-Done-clause-is_call g c =
+    untimed (g.C.WaitingCall.promise c.args.call.now) c.args.rendez c.args.timers.now
+    c.args.moment (timed_point c.args.seat.now c.args.timer.now c.args.proc.now)
+    (Ok c.in-Done.out) (timed_point c.begin.new.seat c.args.timer.now c.begin.new.proc)
+    (returns-in-Done-clause-waited g c)
+
+pub returns-in-Refused-clause-is_call : goal.returns-in-Refused-clause-is_call
+returns-in-Refused-clause-is_call g c =
+    untimed (g.C.WaitingCall.promise c.args.call.now) c.args.rendez c.args.timers.now
+    c.args.moment (timed_point c.args.seat.now c.args.timer.now c.args.proc.now)
+    (Err c.in-Refused.why) (timed_point c.begin.new.seat c.args.timer.now c.begin.new.proc)
+    (returns-in-Refused-clause-waited g c)
+
+pub returns-in-Wait-clause-is_call : goal.returns-in-Wait-clause-is_call
+returns-in-Wait-clause-is_call g c =
+    untimed (g.C.WaitingCall.promise c.args.call.now) c.args.rendez c.args.timers.now
+    c.args.moment (timed_point c.args.seat.now c.args.timer.now c.args.proc.now)
+    c.answer_timed.result
+    (timed_point c.sleep_for-ending.new.seat c.cancel-expired.new.seat c.answer_timed.new.proc)
+    (returns-in-Wait-clause-waited g c)

@@ -1,0 +1,193 @@
+-- What a call with a deadline does: the wait of all devices, while a timer is set. After
+-- tsemacquire in semacquire(2) and tsleep of the kernel; the ticks, that a call waits for the note
+-- of a tick that took its timer, and which notes are put back, are own.
+use Rattle.std.specs.Prelude.{◌≡◌, ◌≢◌, ◌⊎◌, ⊤, ℕ, zero, suc, Bool, true, false, Some, None}
+use Rattle.std.specs.Prelude.{Result, Ok, Err}
+use Rattle.kernel_lock.specs.Seats.{number_of, opening_of, seen_of}
+use Rattle.rendez_words.specs.Process.{Process, pid_in}
+use Rattle.rendez_words.specs.Steps.{posts, drains, notes}
+use Rattle.sleep_core.specs.declared.answer.Answer.TheVariants as answer
+use Rattle.sleep_wakeup.specs.Calls.{Sleeps}
+use Rattle.sleep_wakeup.specs.Kernel.{Running}
+use Rattle.sync_base.specs.declared.fault.Fault.{Fault}
+use Rattle.sync_base.specs.declared.fault.Fault.TheVariants as fault
+use Rattle.sync_base.specs.declared.ids.RendezId.{RendezId}
+use Rattle.sync_base.specs.declared.note.Note.TheVariants.{Expired}
+use Rattle.sync_base.specs.declared.note.NoteSet.{NoteSet}
+use Rattle.sync_base.specs.NoteSet.{no_notes, joined, holds}
+use Rattle.timer_list.specs.declared.limits.TheConstants.{LAST_THRESHOLD}
+use Rattle.timer_list.specs.declared.timer_object.TimerCall.TheVariants.{Add, Cancel}
+use Rattle.timer_list.specs.declared.timer_object.TimerReply.TheVariants as told
+use Rattle.timer_list.specs.declared.timers.Timers.{Timers}
+use Rattle.timer_list.specs.declared.timers.TimerSeat.{TimerSeat}
+use Rattle.timer_list.specs.Asking.{AsksTimers, cancel_reply}
+use Rattle.timer_list.specs.Definitions.{timer_definition}
+use Rattle.timer_list.specs.Seats.{IsSeatAtTimers}
+use Rattle.timer_list.specs.TimerHistory.{WasTaken}
+use Rattle.waiting.specs.declared.call.Reply.TheVariants.{Wait}
+use Rattle.waiting.specs.declared.wait.WaitEnd.{WaitEnd}
+use Rattle.waiting.specs.declared.wait.WaitEnd.TheVariants.{Answered, Stopped}
+use Rattle.waiting.specs.Waiting.{Promise, Point, WaitPoint, SleepsOn, Waited, point, reply_of}
+
+-- ---- the note of a tick
+
+-- the notes that ended a sleep
+abbrev pub notes_in : Fault → NoteSet
+notes_in (fault.Interrupted set) = set
+notes_in other = no_notes
+
+-- the notes that ended the sleeps of a call
+abbrev pub notes_of : {Out : Type 0} → WaitEnd Out → NoteSet
+notes_of (Answered answer) = no_notes
+notes_of (Stopped why out) = notes_in why
+
+-- these notes came: it slept with the last threshold, which a hangup alone passes; or another
+-- process sleeps there, and it took them without a sleep
+abbrev pub LooksForTick : RendezId → Process → NoteSet → Process → Type 0
+LooksForTick rendez before set after =
+    Sleeps before rendez LAST_THRESHOLD set after
+    ⊎ (after ≡ drains (posts before rendez LAST_THRESHOLD answer.DoubleSleep) set)
+
+-- a process, and the notes that have come to its call
+pub record Awaiting : Type 0 where
+  pub process : Process
+  pub notes : NoteSet
+
+abbrev pub awaiting : Running → NoteSet → Awaiting
+awaiting proc set = record { process = proc.process; notes = set }
+
+-- it looked once more: a tick took its timer, and the note of that tick was to come
+pub record LooksAgain (rendez : RendezId) (expired : Bool) (Before : Awaiting → Type 0)
+    (now : Awaiting) : Type 0 where
+  pub between : Awaiting
+  pub looks : Before between
+  pub took : expired ≡ true
+  pub to_come : holds between.notes Expired ≡ false
+  pub set : NoteSet
+  pub looked : LooksForTick rendez between.process set now.process
+  pub notes_are : now.notes ≡ joined between.notes set
+
+abbrev pub Looks : RendezId → Bool → ℕ → Awaiting → Awaiting → Type 0
+Looks rendez expired zero first now = now ≡ first
+Looks rendez expired (suc times) first now =
+    LooksAgain rendez expired (Looks rendez expired times first) now
+
+-- where a tick took its timer, it looked until the note of that tick had come
+pub record AwaitsTick (rendez : RendezId) (expired : Bool) (first last : Awaiting) : Type 0 where
+  pub times : ℕ
+  pub looks : Looks rendez expired times first last
+  pub came : expired ≡ true → holds last.notes Expired ≡ true
+
+-- ---- the answer
+
+-- all of these notes but the one that a tick posts
+abbrev pub without_expired : NoteSet → NoteSet
+without_expired set = record set { expired = false }
+
+-- the notes are pending again, all at once, or there are none
+abbrev pub PutsBackAny : NoteSet → Process → Process → Type 0
+PutsBackAny set before after =
+    ((set ≡ no_notes) × (after ≡ before)) ⊎ (after ≡ notes before (pid_in before) set)
+
+module _ {Out : Type 0} (expired : Bool) (others : NoteSet) where
+  -- notes ended it: it timed out where a tick took its timer and no other note came, and else these
+  -- others are its answer
+  abbrev pub IsEndedByNotes : Result Out Fault → Type 0
+  IsEndedByNotes (Err fault.TimedOut) = (expired ≡ true) × (others ≡ no_notes)
+  IsEndedByNotes (Err (fault.Interrupted set)) =
+      (set ≡ others) × (expired ≡ true → set ≢ no_notes)
+  IsEndedByNotes answer = ⊥
+
+  -- what it answers, and what becomes of the other notes that came: they are its answer, or else
+  -- they are put back
+  abbrev pub Keeps : WaitEnd Out → Result Out Fault → Process → Process → Type 0
+  Keeps (Answered told) answer before after =
+      (answer ≡ told) × PutsBackAny others before after
+  Keeps (Stopped why (Some out)) answer before after =
+      (answer ≡ Ok out) × PutsBackAny others before after
+  Keeps (Stopped (fault.Interrupted set) None) answer before after =
+      IsEndedByNotes answer × (after ≡ before)
+  Keeps (Stopped why None) answer before after =
+      (answer ≡ Err why) × PutsBackAny others before after
+
+-- ---- the call
+
+-- this holds of a timer at each request behind a sleep, and else these are a call's requests
+abbrev pub while_set : {Seat Out : Type 0} → Type 0 → Promise Seat Out → Promise Seat Out
+while_set Timer promise =
+    record {
+      begun = promise.begun;
+      asked = λ before reply after. Timer × promise.asked before reply after;
+      left = λ before reply after. Timer × promise.left before reply after;
+    }
+
+-- where a call with a deadline stands: its seats, and the steps of its process
+pub record TimedPoint (Seat : Type 0) : Type 0 where
+  pub at : Point Seat
+  pub timer : TimerSeat
+
+abbrev pub timed_point : {Seat : Type 0} → Seat → TimerSeat → Running → TimedPoint Seat
+timed_point seat timer proc = record { at = point seat proc; timer = timer }
+
+-- how its sleeps ended, whether a tick had taken its timer then, and where that tick's note had
+-- come
+pub record Stop (Out : Type 0) : Type 0 where
+  pub ending : WaitEnd Out
+  pub process : Process
+  pub expired : Bool
+  pub awaited : Awaiting
+
+module _ {Seat Out : Type 0} (promise : Promise Seat Out) (rendez : RendezId) (timers : Timers)
+    (moment : ℕ) where
+  -- it was answered at once, and set no timer
+  pub record BegunAtOnce (before : TimedPoint Seat) (answer : Result Out Fault)
+      (after : TimedPoint Seat) : Type 0 where
+    pub begun : promise.begun before.at (reply_of answer) after.at
+    pub timer : after.timer ≡ before.timer
+
+  -- It was told to wait, and then: it set its timer; it slept while that was set; it cancelled its
+  -- timer; it awaited the note of a tick that had taken it; and it kept what came.
+  pub record WaitsInTime (before : TimedPoint Seat) (answer : Result Out Fault)
+      (after : TimedPoint Seat) : Type 0 where
+    pub first : WaitPoint Seat
+    pub set : TimerSeat
+    pub stop : Stop Out
+    pub begun : promise.begun before.at (Wait first.number) first.at
+    pub added : AsksTimers timers true
+        (Add (number_of before.timer.seat) (pid_in before.at.process) moment) told.Added
+        before.timer set
+    pub slept : SleepsOn (while_set (IsSeatAtTimers timers true set) promise) rendez first
+        stop.ending (record { seat = after.at.seat; process = stop.process })
+    pub cancelled : AsksTimers timers false (Cancel (number_of set.seat))
+        (cancel_reply stop.expired) set after.timer
+    pub awaited : AwaitsTick rendez stop.expired
+        (record { process = stop.process; notes = notes_of stop.ending }) stop.awaited
+    pub kept : Keeps stop.expired (without_expired stop.awaited.notes) stop.ending answer
+        stop.awaited.process after.at.process
+    -- where a tick took its timer, that was at its deadline or later
+    pub taken : stop.expired ≡ true
+        → WasTaken (opening_of timer_definition timers.lock) (number_of before.timer.seat)
+        moment (seen_of after.timer.seat)
+
+  -- A call until this moment: it asked, and was answered at once, or was told to wait, and waited
+  -- with its timer set.
+  abbrev pub WaitedInTime : TimedPoint Seat → Result Out Fault → TimedPoint Seat → Type 0
+  WaitedInTime before answer after =
+      BegunAtOnce before answer after ⊎ WaitsInTime before answer after
+
+-- ---- as a call without a deadline
+
+-- the two answers came to the same, or both to nothing
+abbrev pub ComesToSame : {Out : Type 0} → Result Out Fault → Result Out Fault → Type 0
+ComesToSame (Ok one) (Ok other) = other ≡ one
+ComesToSame (Err why) (Err other) = ⊤
+ComesToSame one other = ⊥
+
+-- What it did to its seat, a call without a deadline does, and comes to the same: so the laws of a
+-- device's calls hold of it.
+pub record IsACall {Seat Out : Type 0} (promise : Promise Seat Out) (rendez : RendezId)
+    (before : Point Seat) (answer : Result Out Fault) (after : Seat) : Type 0 where
+  pub told : Result Out Fault
+  pub process : Process
+  pub waited : Waited promise rendez before told (record { seat = after; process = process })
+  pub same : ComesToSame told answer

@@ -1,0 +1,205 @@
+//! How a call waits until a moment.
+ghost use Rattle.std.specs.Prelude.{◌≡◌, ◌<◌, ℕ, true};
+ghost use Rattle.sync_base.specs.declared.note.Note.TheVariants.{Expired};
+ghost use Rattle.sync_base.specs.NoteSet.{holds};
+ghost use Rattle.kernel_lock.specs.Seats.{number_of};
+ghost use Rattle.rendez_words.specs.Words.{rendez_of};
+ghost use Rattle.timer_list.specs.Seats.{IsTimerSeatOf};
+ghost use Rattle.timer_list.specs.Timing.{
+  IsACall,
+  Keeps,
+  Looks,
+  LooksForTick,
+  PutsBackAny,
+  WaitedInTime,
+  awaiting,
+  notes_in,
+  notes_of,
+  timed_point,
+  without_expired,
+};
+ghost use Rattle.waiting.specs.Waiting.{point};
+
+use crate::limits::LAST_THRESHOLD;
+use crate::timed::Timed;
+use crate::timers::{TimerSeat, Timers};
+use sleep_wakeup::Proc;
+use std::sync::Wait;
+use std::thread::yield_now;
+use sync_base::{Fault, Note, NoteSet, Probe, RendezId};
+use waiting::{Reply, WaitEnd, WaitingCall, sleep_for};
+
+/// Makes a call, as `wait_for` of `waiting` does, which waits until a tick at this moment or later.
+/// After tsemacquire in semacquire(2) and tsleep of the kernel; the tick is the library's own.
+///
+/// A call that is told to wait sets its timer first. Where notes end its wait, and it has come to
+/// nothing by then, it is refused as `TimedOut` where a tick took its timer and no other note came,
+/// and else as `Interrupted` with the other notes. With any other answer other notes that came are
+/// pending again. Where a tick has taken its timer, it waits for that tick's note before it
+/// answers, so that no late expiry reaches a later sleep. The probe is told 2 before each sleep of
+/// the call and 3 after it. It waits for the timers' lock. Takes no memory of its own.
+pub fn wait_within<R: Wait, C: WaitingCall, P: Probe>(
+    rt: &R,
+    proc: &mut Proc<'_>,
+    rendez: RendezId,
+    call: &C,
+    seat: &mut C::Seat,
+    timers: &Timers,
+    timer: &mut TimerSeat,
+    moment: u64,
+    probe: &mut P,
+) -> Result<C::Out, Fault>
+    requires ready { C.ready call.now seat.old }
+    requires row { C.knows call.now proc.old.words }
+    requires rendez { rendez.0 < rendez_of proc.old.words }
+    requires timer { IsTimerSeatOf timers.now timer.old }
+    ensures rests { C.rests call.now seat.new }
+    ensures words { proc.new.words ≡ proc.old.words }
+
+    // When it returns, its timer is cancelled.
+    ensures timer { IsTimerSeatOf timers.now timer.new }
+    ensures timer_number { number_of timer.new.seat ≡ number_of timer.old.seat }
+    ensures waited { WaitedInTime (C.promise call.now) rendez timers.now moment
+        (timed_point seat.old timer.old proc.old) result
+        (timed_point seat.new timer.new proc.new) }
+
+    // So what holds of a call without a deadline holds of it.
+    ensures is_call { IsACall (C.promise call.now) rendez (point seat.old proc.old) result
+        seat.new }
+{
+    let pid = proc.pid();
+    match call.begin(rt, proc, seat) {
+        Reply::Done(out) => Ok(out),
+        Reply::Refused(why) => Err(why),
+        Reply::Wait(number) => {
+            timers.add(rt, timer, pid, moment);
+            let timed = Timed {
+                call,
+                timers,
+                timer,
+            };
+            let ending = sleep_for(rt, proc, rendez, &timed, seat, number, probe);
+            let expired = timers.cancel(rt, timer);
+            let came = await_tick(rt, proc, rendez, expired, taken_by(&ending));
+            answer_timed(proc, ending, expired, came)
+        }
+    }
+}
+
+// The notes that ended the sleeps.
+fn taken_by<T>(ending: &WaitEnd<T>) -> NoteSet
+    ensures { result ≡ notes_of ending.now }
+{
+    match ending {
+        WaitEnd::Answered(_) => NoteSet::empty(),
+        WaitEnd::Stopped(why, _) => taken(*why),
+    }
+}
+
+fn taken(why: Fault) -> NoteSet
+    ensures { result ≡ notes_in why }
+{
+    match why {
+        Fault::Interrupted(notes) => notes,
+        _ => NoteSet::empty(),
+    }
+}
+
+// Where a tick has taken the timer, looks until the note of that tick has come. Answers which notes
+// came in all.
+fn await_tick<R: Wait>(
+    rt: &R,
+    proc: &mut Proc<'_>,
+    rendez: RendezId,
+    expired: bool,
+    taken: NoteSet,
+) -> NoteSet
+    requires { rendez.0 < rendez_of proc.old.words }
+    ensures words { proc.new.words ≡ proc.old.words }
+    ensures looks { (times : ℕ) ×
+        Looks rendez expired times (awaiting proc.old taken) (awaiting proc.new result) }
+    ensures came { expired ≡ true → holds result Expired ≡ true }
+{
+    let mut notes = taken;
+    for _ in rt.forever() {
+        if !expired || notes.has(Note::Expired) {
+            return notes;
+        }
+        let set = look_for_tick(rt, proc, rendez);
+        notes = notes.join(set);
+    }
+    unreachable!()
+}
+
+// Sleeps with the last threshold, so that notes end it. Where a hangup has passed that, or another
+// process sleeps in the Rendez, it takes notes as they come and lets others go on meanwhile.
+fn look_for_tick<R: Wait>(rt: &R, proc: &mut Proc<'_>, rendez: RendezId) -> NoteSet
+    requires { rendez.0 < rendez_of proc.old.words }
+    ensures words { proc.new.words ≡ proc.old.words }
+    ensures looked { LooksForTick rendez proc.old.process result proc.new.process }
+{
+    match proc.sleep(rt, rendez, LAST_THRESHOLD) {
+        Ok(()) => {
+            yield_now();
+            NoteSet::empty()
+        }
+        Err(Fault::Interrupted(set)) => set,
+        Err(_) => {
+            let set = proc.notes();
+            yield_now();
+            set
+        }
+    }
+}
+
+// Puts notes back, if there are any.
+fn keep(proc: &mut Proc<'_>, set: NoteSet)
+    ensures words { proc.new.words ≡ proc.old.words }
+    ensures kept { PutsBackAny set proc.old.process proc.new.process }
+{
+    if !set.is_empty() {
+        proc.put_back(set);
+    }
+}
+
+// All of these notes but the one that a tick posts.
+fn others(notes: NoteSet) -> NoteSet
+    ensures { result ≡ without_expired notes }
+{
+    notes.without(NoteSet::of(Note::Expired))
+}
+
+// What the call answers: how its sleeps ended, whether a tick took its timer, and which notes came.
+fn answer_timed<T: Drop>(
+    proc: &mut Proc<'_>,
+    ending: WaitEnd<T>,
+    expired: bool,
+    came: NoteSet,
+) -> Result<T, Fault>
+    ensures words { proc.new.words ≡ proc.old.words }
+    ensures kept { Keeps expired (without_expired came) ending result
+        proc.old.process proc.new.process }
+{
+    let others = others(came);
+    match ending {
+        WaitEnd::Answered(answer) => {
+            keep(proc, others);
+            answer
+        }
+        WaitEnd::Stopped(_, Some(out)) => {
+            keep(proc, others);
+            Ok(out)
+        }
+        WaitEnd::Stopped(Fault::Interrupted(_), None) => {
+            if expired && others.is_empty() {
+                Err(Fault::TimedOut)
+            } else {
+                Err(Fault::Interrupted(others))
+            }
+        }
+        WaitEnd::Stopped(why, None) => {
+            keep(proc, others);
+            Err(why)
+        }
+    }
+}
