@@ -12,7 +12,6 @@ use crate::sema::{Sema, SemaSeat};
 use sleep_wakeup::Proc;
 use std::sync::Wait;
 use sync_base::{Fault, NoProbe, Probe};
-use timer_list::timer_object::deadline;
 use timer_list::{TimerSeat, Timers, wait_within};
 
 impl Sema {
@@ -79,8 +78,7 @@ impl Sema {
             (timed_point seat.new timer.new proc.new) }
     {
         let rendez = self.rendez(seat);
-        let moment = deadline(now, ms);
         let call = Acquiring { sema: self };
-        wait_within(rt, proc, rendez, &call, seat, timers, timer, moment, probe)
+        wait_within(rt, proc, rendez, &call, seat, timers, timer, now, ms, probe)
     }
 }

@@ -1,6 +1,6 @@
 -- The whole of a call: from what its wait asked to what came of it.
 use Rattle.std.proofs.Common.{◌≡◌, ℕ, List, length, Result, Ok, Err, inl, inr}
-use Rattle.std.proofs.Common.{refl, ◌∙◌, subst}
+use Rattle.std.proofs.Common.{refl, sym, ◌∙◌, subst}
 use Rattle.rendez_words.specs.Process.{Process}
 use Rattle.sync_base.specs.declared.fault.Fault.{Fault}
 use Rattle.sync_base.specs.declared.fault.Fault.TheVariants as fault
@@ -13,12 +13,13 @@ use Rattle.tag_space.specs.declared.member.Member.{Member}
 use Rattle.tag_space.specs.declared.space.TagSpace.{TagSpace}
 use Rattle.tag_space.specs.Members.{space_of, account_of, number_of, party_of, seen_of}
 use Rattle.tag_space.specs.Members.{IsMemberOf, IsSameMember}
-use Rattle.tag_space.specs.Outcome.{Exchange, calls_by}
-use Rattle.tag_space.specs.Rendezvous.{Entry, Offer, Offered}
+use Rattle.tag_space.specs.Outcome.{ComesOf, Exchange, IsInPair, calls_by}
+use Rattle.tag_space.specs.Rendezvous.{Entry, Offer, Offered, Party}
 use Rattle.tag_space.specs.Asking.{Asks, Requests, Begins, Collects, meeting}
 use Rattle.tag_space.proofs.OtherLemmas.{newest_is_own}
 use Rattle.tag_space.proofs.OutcomeLemmas.{IsUnderWay, HasEnded, begins, finds, worn, waits_on}
 use Rattle.tag_space.proofs.OutcomeLemmas.{is_told, is_told_late, gone}
+use Rattle.timer_list.specs.Timing.{ComesToSame}
 use Rattle.waiting.specs.Waiting.{Point, Waited, reply_of}
 use Rattle.waiting.proofs.FoldLemmas.{wait_ends}
 
@@ -198,3 +199,25 @@ module _ (space : TagSpace) (offered : Offered) (first : Member) (rest : IsMembe
           value_is = is.value_is;
           outcome = is.over.ended.outcome;
         }
+
+-- two answers that come to the same are those of one exchange
+pub same_exchange : (party : Party) (offered : Offered) (before after : List Entry)
+    (told answer : Result ℕ Fault) → ComesToSame told answer
+    → Exchange party offered before after told → Exchange party offered before after answer
+same_exchange party offered before after told answer same is =
+    record {
+      offer = is.offer;
+      one = is.one;
+      member_is = is.member_is;
+      tag_is = is.tag_is;
+      value_is = is.value_is;
+      outcome = by told answer same is.outcome;
+    }
+  where
+    by : (told answer : Result ℕ Fault) → ComesToSame told answer
+        → ComesOf party.space after is.offer told → ComesOf party.space after is.offer answer
+    by (Ok one) (Ok other) same of_it =
+        subst (λ given. IsInPair after is.offer given) (sym same) of_it
+    by (Err why) (Err other) same of_it = of_it
+    by (Ok one) (Err other) same of_it = absurd same
+    by (Err why) (Ok other) same of_it = absurd same

@@ -19,6 +19,8 @@ use Rattle.tag_space.specs.Members.{IsMemberOf, IsOneOf, IsSameMember, IsWaiting
 use Rattle.tag_space.specs.Members.{rendez_of_member, account_of, number_of, party_of, seen_of}
 use Rattle.tag_space.specs.Outcome.{Exchange, word_of}
 use Rattle.tag_space.specs.Rendezvous.{Entry, Offered}
+use Rattle.timer_list.specs.declared.timers.Timers.{Timers}
+use Rattle.timer_list.specs.Timing.{TimedPoint, WaitedInTime}
 use Rattle.waiting.specs.declared.call.Reply.{Reply}
 use Rattle.waiting.specs.declared.call.Reply.TheVariants as reply
 use Rattle.waiting.specs.Waiting.{Promise, Point, Waited}
@@ -113,6 +115,12 @@ meeting space offered =
 abbrev pub Meets : TagSpace → Offered → Point Member → Result ℕ Fault → Point Member → Type 0
 Meets space offered before answer after =
     Waited (meeting space offered) before.seat.rendez before answer after
+
+-- Own: the same call until this moment.
+abbrev pub MeetsInTime : TagSpace → Timers → ℕ → Offered → TimedPoint Member → Result ℕ Fault
+    → TimedPoint Member → Type 0
+MeetsInTime space timers moment offered before answer after =
+    WaitedInTime (meeting space offered) before.at.seat.rendez timers moment before answer after
 
 -- the same call, and the word for its answer
 pub record RendezvousesInWords (space : TagSpace) (offered : Offered) (before : Point Member)

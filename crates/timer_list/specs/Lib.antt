@@ -3,6 +3,7 @@ pub mod Definitions
 pub mod Due
 pub mod Opening
 pub mod Seats
+pub mod Sleeping
 pub mod Ticking
 pub mod TimerHistory
 pub mod TimerLaws

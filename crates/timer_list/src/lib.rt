@@ -1,13 +1,15 @@
 //! Timers: a seat sets one to a moment, and a tick that tells that this moment is come posts the
 //! note `expired` to the process of the seat. A call with a deadline sleeps while its timer is set.
 //! Read `due`, `tournament`, `timer_object`, `object`, the timers as an object that a lock stands
-//! round; then `timers`, `timer_asks`, `ticking`, the calls of processes on threads; and `laws`.
+//! round; then `timers`, `timer_asks`, `ticking`, the calls of processes on threads; `limits`,
+//! `timed`, `within`, `sleeping`, how a call waits until a moment; and `laws`.
 #![tactic(auto)]
 
 pub mod due;
 pub mod laws;
 pub mod limits;
 mod object;
+mod sleeping;
 mod ticking;
 mod timed;
 mod timer_asks;

@@ -5,6 +5,7 @@ ghost use Rattle.sync_base.specs.NoteSet.{holds};
 ghost use Rattle.kernel_lock.specs.Seats.{number_of};
 ghost use Rattle.rendez_words.specs.Words.{rendez_of};
 ghost use Rattle.timer_list.specs.Seats.{IsTimerSeatOf};
+ghost use Rattle.timer_list.specs.Timers.{deadline_of};
 ghost use Rattle.timer_list.specs.Timing.{
   IsACall,
   Keeps,
@@ -22,6 +23,7 @@ ghost use Rattle.waiting.specs.Waiting.{point};
 
 use crate::limits::LAST_THRESHOLD;
 use crate::timed::Timed;
+use crate::timer_object::deadline;
 use crate::timers::{TimerSeat, Timers};
 use sleep_wakeup::Proc;
 use std::sync::Wait;
@@ -29,8 +31,9 @@ use std::thread::yield_now;
 use sync_base::{Fault, Note, NoteSet, Probe, RendezId};
 use waiting::{Reply, WaitEnd, WaitingCall, sleep_for};
 
-/// Makes a call, as `wait_for` of `waiting` does, which waits until a tick at this moment or later.
-/// After tsemacquire in semacquire(2) and tsleep of the kernel; the tick is the library's own.
+/// Makes a call, as `wait_for` of `waiting` does, which waits until a tick at the moment `now` +
+/// `ms` or later; that moment is at most `u64::MAX`. After tsemacquire in semacquire(2) and tsleep
+/// of the kernel; the tick is the library's own.
 ///
 /// A call that is told to wait sets its timer first. Where notes end its wait, and it has come to
 /// nothing by then, it is refused as `TimedOut` where a tick took its timer and no other note came,
@@ -46,7 +49,8 @@ pub fn wait_within<R: Wait, C: WaitingCall, P: Probe>(
     seat: &mut C::Seat,
     timers: &Timers,
     timer: &mut TimerSeat,
-    moment: u64,
+    now: u64,
+    ms: u32,
     probe: &mut P,
 ) -> Result<C::Out, Fault>
     requires ready { C.ready call.now seat.old }
@@ -59,7 +63,7 @@ pub fn wait_within<R: Wait, C: WaitingCall, P: Probe>(
     // When it returns, its timer is cancelled.
     ensures timer { IsTimerSeatOf timers.now timer.new }
     ensures timer_number { number_of timer.new.seat ≡ number_of timer.old.seat }
-    ensures waited { WaitedInTime (C.promise call.now) rendez timers.now moment
+    ensures waited { WaitedInTime (C.promise call.now) rendez timers.now (deadline_of now ms)
         (timed_point seat.old timer.old proc.old) result
         (timed_point seat.new timer.new proc.new) }
 
@@ -72,7 +76,7 @@ pub fn wait_within<R: Wait, C: WaitingCall, P: Probe>(
         Reply::Done(out) => Ok(out),
         Reply::Refused(why) => Err(why),
         Reply::Wait(number) => {
-            timers.add(rt, timer, pid, moment);
+            timers.add(rt, timer, pid, deadline(now, ms));
             let timed = Timed {
                 call,
                 timers,

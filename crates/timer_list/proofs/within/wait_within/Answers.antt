@@ -7,6 +7,7 @@ use Rattle.sync_base.specs.declared.ids.Pid.{Pid}
 use Rattle.timer_list.specs.declared.timer_object.TimerCall.TheVariants.{Add, Cancel}
 use Rattle.timer_list.specs.declared.timer_object.TimerReply.TheVariants.{Added}
 use Rattle.timer_list.specs.Asking.{AsksTimers, cancel_reply}
+use Rattle.timer_list.specs.Timers.{deadline_of}
 use Rattle.timer_list.specs.Timing.{Looks, awaiting, timed_point}
 use Rattle.timer_list.proofs.TickLemmas.{took_it}
 use Rattle.timer_list.proofs.UntimedLemmas.{untimed}
@@ -57,12 +58,17 @@ returns-in-Wait-clause-waited g c =
     let expired = c.cancel-expired.result in
     let last = c.sleep_for-ending.new.proc.process in
     let pid : Pid = record { 0 = c.args.proc.now.process.pid } in
-    let added : AsksTimers timers true (Add (number_of c.args.timer.now.seat) pid c.args.moment)
-    Added c.args.timer.now set =
+    let moment = deadline_of c.args.now c.args.ms in
+    let added : AsksTimers timers true (Add (number_of c.args.timer.now.seat) pid moment) Added
+    c.args.timer.now set =
     subst
-    (λ p. AsksTimers timers true (Add (number_of c.args.timer.now.seat) p c.args.moment) Added
+    (λ p. AsksTimers timers true (Add (number_of c.args.timer.now.seat) p moment) Added
     c.args.timer.now set)
-    (ap (λ n. record { 0 = n }) c.pid-pid.ensures) c.add.ensures.asks in
+    (ap (λ n. record { 0 = n }) c.pid-pid.ensures)
+    (subst
+    (λ d. AsksTimers timers true (Add (number_of c.args.timer.now.seat) c.pid-pid.result d) Added
+    c.args.timer.now set)
+    c.deadline.ensures c.add.ensures.asks) in
     inr (record {
       first = told c.begin.new.seat c.begin.new.proc c.in-Wait.number;
       set = set;
@@ -86,7 +92,7 @@ returns-in-Wait-clause-waited g c =
         came = c.await_tick-came.ensures.came;
       };
       kept = c.answer_timed.ensures.kept;
-      taken = λ is. took_it timers c.args.moment pid c.args.timer.now set
+      taken = λ is. took_it timers moment pid c.args.timer.now set
           c.cancel-expired.new.seat c.requires.timer.opened added
           (subst
           (λ b. AsksTimers timers false (Cancel (number_of set.seat)) (cancel_reply b) set
@@ -96,21 +102,24 @@ returns-in-Wait-clause-waited g c =
 pub returns-in-Done-clause-is_call : goal.returns-in-Done-clause-is_call
 returns-in-Done-clause-is_call g c =
     untimed (g.C.WaitingCall.promise c.args.call.now) c.args.rendez c.args.timers.now
-    c.args.moment (timed_point c.args.seat.now c.args.timer.now c.args.proc.now)
+    (deadline_of c.args.now c.args.ms)
+    (timed_point c.args.seat.now c.args.timer.now c.args.proc.now)
     (Ok c.in-Done.out) (timed_point c.begin.new.seat c.args.timer.now c.begin.new.proc)
     (returns-in-Done-clause-waited g c)
 
 pub returns-in-Refused-clause-is_call : goal.returns-in-Refused-clause-is_call
 returns-in-Refused-clause-is_call g c =
     untimed (g.C.WaitingCall.promise c.args.call.now) c.args.rendez c.args.timers.now
-    c.args.moment (timed_point c.args.seat.now c.args.timer.now c.args.proc.now)
+    (deadline_of c.args.now c.args.ms)
+    (timed_point c.args.seat.now c.args.timer.now c.args.proc.now)
     (Err c.in-Refused.why) (timed_point c.begin.new.seat c.args.timer.now c.begin.new.proc)
     (returns-in-Refused-clause-waited g c)
 
 pub returns-in-Wait-clause-is_call : goal.returns-in-Wait-clause-is_call
 returns-in-Wait-clause-is_call g c =
     untimed (g.C.WaitingCall.promise c.args.call.now) c.args.rendez c.args.timers.now
-    c.args.moment (timed_point c.args.seat.now c.args.timer.now c.args.proc.now)
+    (deadline_of c.args.now c.args.ms)
+    (timed_point c.args.seat.now c.args.timer.now c.args.proc.now)
     c.answer_timed.result
     (timed_point c.sleep_for-ending.new.seat c.cancel-expired.new.seat c.answer_timed.new.proc)
     (returns-in-Wait-clause-waited g c)

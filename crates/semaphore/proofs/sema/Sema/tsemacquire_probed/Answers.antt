@@ -1,7 +1,6 @@
 -- It waits on its own Rendez, and is given what it answers.
-use Rattle.std.proofs.Common.{◌<◌, ℕ, false, sym, subst, arith}
+use Rattle.std.proofs.Common.{◌<◌, false, sym, subst, arith}
 use Rattle.rendez_words.specs.Words.{rendez_of}
-use Rattle.sync_base.specs.declared.ids.RendezId.{RendezId}
 use Rattle.semaphore.proofs.RequestLemmas.{is_in_row}
 use Rattle.semaphore.proofs.UnitLemmas.{came, same_units}
 use Rattle.timer_list.specs.Timers.{deadline_of}
@@ -33,13 +32,12 @@ returns-clause-called g c =
     c.rendez-rendez.result (record { seat = c.wait_within.new.seat; process = is.process })
     is.told is.waited).units in
     let same = same_units is.told c.wait_within.result is.same in
-    let Waits : ℕ → RendezId → Type 0 =
-    λ moment rendez. WaitedInTime (acquiring c.args.self.now) rendez c.args.timers.now moment
-    (timed_point c.args.seat.now c.args.timer.now c.args.proc.now) c.wait_within.result
-    (timed_point c.wait_within.new.seat c.wait_within.new.timer c.wait_within.new.proc) in
     record {
       units = omega (arith, units, same);
-      takes = subst (Waits (deadline_of c.args.now c.args.ms)) c.rendez-rendez.ensures
-          (subst (λ moment. Waits moment c.rendez-rendez.result) c.deadline-moment.ensures
-          c.wait_within.ensures.waited);
+      takes = subst
+          (λ rendez. WaitedInTime (acquiring c.args.self.now) rendez c.args.timers.now
+          (deadline_of c.args.now c.args.ms)
+          (timed_point c.args.seat.now c.args.timer.now c.args.proc.now) c.wait_within.result
+          (timed_point c.wait_within.new.seat c.wait_within.new.timer c.wait_within.new.proc))
+          c.rendez-rendez.ensures c.wait_within.ensures.waited;
     }
