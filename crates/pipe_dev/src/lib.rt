@@ -1,6 +1,6 @@
 //! Two-way pipes between processes, after pipe(2) and pipe(3).
 //! Read `row`, `waking`; `remainder`, `cursor`, `answers`; `read_end`, `filling`, `reading`,
-//! `block_reading`; `write_end`, `writing`, `write_long`; `hanging`; `pipe`, `end`; `closing`; and
+//! `block_reading`; `write_end`, `writing`, `write_long`, `writing_within`; `hanging`; `pipe`, `end`; `closing`; and
 //! then `laws`, the headline, and `side_laws`.
 #![tactic(auto)]
 
@@ -22,6 +22,7 @@ mod waking;
 pub mod write_end;
 mod write_long;
 mod writing;
+mod writing_within;
 
 pub use answers::{Long, ReadAnswer, TryAnswer};
 pub use block_queue::StoredBlock;
