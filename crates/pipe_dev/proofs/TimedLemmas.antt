@@ -9,9 +9,11 @@ use Rattle.timer_list.specs.declared.timers.Timers.{Timers}
 use Rattle.timer_list.specs.Timing.{ComesToSame, TimedPoint, WaitedInTime, while_set}
 use Rattle.timer_list.proofs.UntimedLemmas.{untimed}
 use Rattle.waiting.specs.Waiting.{Promise}
-use Rattle.pipe_dev.specs.Rendezes.{writer_rendez}
+use Rattle.pipe_dev.specs.ReadCalls.{ReadsInTimeAreReads, calling_at, reading}
+use Rattle.pipe_dev.specs.Rendezes.{reader_rendez, writer_rendez}
 use Rattle.pipe_dev.specs.WriteCalls.{WritesInTimeAreWrites, writing}
 use Rattle.pipe_dev.specs.WriteSteps.{seen_at, seen_by}
+use Rattle.pipe_dev.proofs.AskedLemmas.{reads_so}
 use Rattle.pipe_dev.proofs.CallLemmas.{writes_so}
 use Rattle.pipe_dev.proofs.SightLemmas.{slept_seen, told_at}
 
@@ -31,14 +33,13 @@ module _ {Seat Seen Out : Type 0} (see : Seat → Seen) (promise : Promise Seen 
       inr (record {
         first = told_at see promise rendez waits.first;
         set = waits.set;
-        stop = waits.stop;
+        ending = waits.ending;
+        process = waits.process;
         begun = waits.begun;
         added = waits.added;
-        slept = slept_seen see (while_set _ promise) rendez waits.first waits.stop.ending
-            (record { seat = after.at.seat; process = waits.stop.process }) waits.slept;
-        cancelled = waits.cancelled;
-        awaited = waits.awaited;
-        kept = waits.kept;
+        slept = slept_seen see (while_set _ promise) rendez waits.first waits.ending
+            (record { seat = after.at.seat; process = waits.process }) waits.slept;
+        ended = waits.ended;
         taken = waits.taken;
       })
 
@@ -59,5 +60,17 @@ timed_write call timers moment old new answer (inr waited) =
       process = is.process;
       wrote = writes_so call old.at is.told
           (record { seat = new.at.seat; process = is.process }) is.waited;
+      same = is.same;
+    }
+
+-- and a read is a read
+pub timed_read : ReadsInTimeAreReads
+timed_read key row timers moment old new answer waited =
+    let is = untimed (reading key row) (reader_rendez row) timers moment old answer new waited in
+    record {
+      told = is.told;
+      process = is.process;
+      read = reads_so key row (calling_at old.at) is.told
+          (calling_at (record { seat = new.at.seat; process = is.process })) is.waited;
       same = is.same;
     }

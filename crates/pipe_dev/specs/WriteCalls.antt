@@ -116,16 +116,18 @@ Writes call old answer new =
 abbrev pub timed_writer : WriteSide → TimerSeat → Running → TimedPoint (Account Entry)
 timed_writer side timer proc = timed_point side.account timer proc
 
--- there was no memory for its block, and it did nothing
-pub record WantsMemory {At : Type 0} (old : At) (answer : Result ℕ Fault) (new : At) : Type 0 where
-  pub answer_is : answer ≡ Err fault.Memory
+-- it was refused for this before its first request, and did nothing
+pub record IsRefusedAs {Out At : Type 0} (why : Fault) (old : At) (answer : Result Out Fault)
+    (new : At) : Type 0 where
+  pub answer_is : answer ≡ Err why
   pub same : new ≡ old
 
--- what one that is not refused at once did
+-- what one that is neither too big nor by a process of another kernel did: there was no memory for
+-- its block, or it waited so
 abbrev pub WritesInTime : WriteCall → Timers → ℕ → TimedPoint (Account Entry) → Result ℕ Fault
     → TimedPoint (Account Entry) → Type 0
 WritesInTime call timers moment old answer new =
-    WantsMemory old answer new
+    IsRefusedAs fault.Memory old answer new
     ⊎ WaitedInTime (writing call) (writer_rendez call.row call.writer) timers moment old answer new
 
 -- Of its direction it did what a write does that waits as long as it takes, and it comes to the

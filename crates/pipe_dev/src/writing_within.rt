@@ -21,13 +21,13 @@ use sync_base::{Fault, NoProbe, Piece};
 use timer_list::{TimerSeat, Timers, wait_within};
 
 impl<'p> WriteEnd<'p> {
-    ghost use Rattle.std.specs.Prelude.{◌≡◌, ◌<◌, ◌≤◌, Err, length};
+    ghost use Rattle.std.specs.Prelude.{◌≡◌, ◌<◌, ◌≤◌, length};
     ghost use Rattle.sync_base.specs.declared.fault.Fault.TheVariants.{TooBig, NoRendez};
     ghost use Rattle.sync_base.specs.declared.limits.TheConstants.{ATOMIC_SIZE};
     ghost use Rattle.kernel_lock.specs.Seats.{number_of};
     ghost use Rattle.pipe_dev.specs.Ends.{IsSameWriteEnd};
     ghost use Rattle.pipe_dev.specs.Rendezes.{OwnsRow};
-    ghost use Rattle.pipe_dev.specs.WriteCalls.{WritesInTime, call_of, timed_writer};
+    ghost use Rattle.pipe_dev.specs.WriteCalls.{IsRefusedAs, WritesInTime, call_of, timed_writer};
     ghost use Rattle.timer_list.specs.Seats.{IsTimerSeatOf};
     ghost use Rattle.timer_list.specs.Timers.{deadline_of};
 
@@ -55,9 +55,12 @@ impl<'p> WriteEnd<'p> {
 
         // A write above the atomic size is refused first, and then a process of a kernel that does
         // not own all the Rendez of the direction.
-        ensures too_big { ATOMIC_SIZE < length bytes.now → result ≡ Err TooBig }
+        ensures too_big { ATOMIC_SIZE < length bytes.now
+            → IsRefusedAs TooBig (timed_writer self.old timer.old proc.old) result
+            (timed_writer self.new timer.new proc.new) }
         ensures no_rendez { length bytes.now ≤ ATOMIC_SIZE → ¬ OwnsRow proc.old.words self.old.row
-            → result ≡ Err NoRendez }
+            → IsRefusedAs NoRendez (timed_writer self.old timer.old proc.old) result
+            (timed_writer self.new timer.new proc.new) }
 
         // Else it wrote, slept and woke so, and asked its timers so, or wanted memory.
         ensures wrote { length bytes.now ≤ ATOMIC_SIZE → OwnsRow proc.old.words self.old.row
@@ -137,7 +140,16 @@ fn write_in_time<R: Wait>(
         block: Some(block),
     };
     let answer = wait_within(
-        rt, proc, rendez, &call, &mut putting, timers, timer, now, ms, &mut NoProbe,
+        rt,
+        proc,
+        rendez,
+        &call,
+        &mut putting,
+        timers,
+        timer,
+        now,
+        ms,
+        &mut NoProbe,
     );
     let Putting { seat, block: _ } = putting;
     Done { seat, answer }

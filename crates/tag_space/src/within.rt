@@ -66,6 +66,17 @@ impl TagSpace {
             tag,
             value,
         };
-        wait_within(rt, proc, rendez, &call, member, timers, timer, now, ms, &mut NoProbe)
+        wait_within(
+            rt,
+            proc,
+            rendez,
+            &call,
+            member,
+            timers,
+            timer,
+            now,
+            ms,
+            &mut NoProbe,
+        )
     }
 }
