@@ -252,7 +252,36 @@ impl<'s, 'k> Guest<'s, 'k> {
             (record { tag = tag; value = value }) (watched_guest self.old watch.old) result
             (watched_guest self.new watch.new) }
     {
-        self.space.rendezvous_within(
+        self.rendezvous_within_probed(rt, watch, now, ms, tag, value, &mut NoProbe)
+    }
+
+    /// A `rendezvous_within` that tells a probe of its points, as
+    /// `TagSpace::rendezvous_within_probed` does: 2 before and 3 after each sleep for a partner.
+    pub fn rendezvous_within_probed<R: Wait, P: Probe>(
+        &mut self,
+        rt: &R,
+        watch: &mut Watch<'_>,
+        now: u64,
+        ms: u32,
+        tag: Tag,
+        value: u64,
+        probe: &mut P,
+    ) -> Result<u64, Fault>
+        ensures same { IsSameGuest self.old self.new }
+        ensures watch { IsSameWatch watch.old watch.new }
+
+        // The member made one call, which is in a pair exactly where a value is answered.
+        ensures exchange { Exchange (party_of self.old.space self.old.member)
+            (record { tag = tag; value = value }) (seen_of self.old.member)
+            (seen_of self.new.member) result }
+
+        // What the member asked, how its process slept and woke its partner, and what it asked its
+        // timers.
+        ensures waited { MeetsInTime self.old.space watch.old.timers (deadline_of now ms)
+            (record { tag = tag; value = value }) (watched_guest self.old watch.old) result
+            (watched_guest self.new watch.new) }
+    {
+        self.space.rendezvous_within_probed(
             rt,
             &mut self.proc,
             &mut self.member,
@@ -262,6 +291,7 @@ impl<'s, 'k> Guest<'s, 'k> {
             ms,
             tag,
             value,
+            probe,
         )
     }
 
