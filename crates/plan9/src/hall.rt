@@ -221,8 +221,8 @@ impl<'s, 'k> Guest<'s, 'k> {
             .rendezvous_word(rt, &mut self.proc, &mut self.member, tag, value)
     }
 
-    /// A `rendezvous` that waits until a tick of the clock at the moment `now` + `ms` or later; that
-    /// moment is at most `u64::MAX`. Own; rendezvous(2) waits as long as it takes.
+    /// A `rendezvous` that waits until a tick of the clock at the moment `now` + `ms` or later;
+    /// that moment is at most `u64::MAX`. Own; rendezvous(2) waits as long as it takes.
     ///
     /// Refuses, in this order, as `Worn` and `DoubleSleep` as `rendezvous` does, `Interrupted` with
     /// the notes that ended the wait, and `TimedOut` where a tick did so and no other note came; a
