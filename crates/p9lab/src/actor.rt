@@ -85,7 +85,7 @@ fn make_call<R: Wait>(rt: &R, alloc: Global, actor: &mut Actor, call: Call) -> A
         Role::Reader(reader) => call_reader(rt, reader, bytes, watch, call),
         Role::Writer(writer) => call_writer(rt, alloc, writer, bytes, watch, call),
         Role::Holder(holder) => call_holder(rt, holder, watch, call),
-        Role::Guest(guest) => call_guest(rt, guest, call),
+        Role::Guest(guest) => call_guest(rt, guest, watch, call),
         Role::Beside(beside) => call_beside(rt, alloc, beside, bytes, call),
     }
 }
@@ -134,7 +134,7 @@ fn make_probed<R: Wait>(
         Role::Reader(reader) => call_proc_probed(rt, &mut reader.proc, call, &mut probe),
         Role::Writer(writer) => call_proc_probed(rt, &mut writer.proc, call, &mut probe),
         Role::Holder(holder) => call_holder_probed(rt, holder, watch, call, &mut probe),
-        Role::Guest(guest) => call_guest_probed(rt, guest, call, &mut probe),
+        Role::Guest(guest) => call_guest_probed(rt, guest, watch, call, &mut probe),
         Role::Beside(beside) => probe_beside(rt, alloc, beside, bytes, call, &mut probe),
     }
 }

@@ -8,6 +8,7 @@ use plan9::{Flags, Note, NoteSet};
 pub enum Verb {
     // sleep(2), postnote(2)
     Sleep,
+    SleepWithin,
     Wakeup,
     Note,
     Notes,
@@ -38,12 +39,13 @@ pub enum Verb {
     Tick,
     // rendezvous(2)
     Rendezvous,
+    RendezvousWithin,
     RendezvousWord,
     // the Rendez in which it waits for a unit, or for a partner
     Rendez,
 }
 
-/// What stands behind a verb.
+/// What stands behind a verb, or behind the deadline that it has.
 #[derive(Clone, Copy, PartialEq, Eq)]
 pub enum Shape {
     Bare,
@@ -51,7 +53,6 @@ pub enum Shape {
     /// A number of 32 bits.
     Count,
     TwoNumbers,
-    NumberCount,
     Kinds,
     NumberKinds,
     Text,
@@ -60,16 +61,31 @@ pub enum Shape {
 #[derive(Clone, Copy)]
 pub struct Entry {
     pub verb: Verb,
+    /// Whether a deadline stands behind the verb: a moment, and milliseconds.
+    pub timed: bool,
     pub shape: Shape,
 }
 
 fn row(verb: Verb, shape: Shape) -> Option<Entry> {
-    Some(Entry { verb, shape })
+    Some(Entry {
+        verb,
+        timed: false,
+        shape,
+    })
+}
+
+fn row_within(verb: Verb, shape: Shape) -> Option<Entry> {
+    Some(Entry {
+        verb,
+        timed: true,
+        shape,
+    })
 }
 
 fn entry_of(word: &str) -> Option<Entry> {
     match word {
         "sleep" => row(Verb::Sleep, Shape::TwoNumbers),
+        "sleep_within" => row_within(Verb::SleepWithin, Shape::TwoNumbers),
         "wakeup" => row(Verb::Wakeup, Shape::TwoNumbers),
         "note" => row(Verb::Note, Shape::NumberKinds),
         "notes" => row(Verb::Notes, Shape::Bare),
@@ -98,20 +114,29 @@ fn entry_of_object(word: &str) -> Option<Entry> {
         "gather" => row(Verb::Gather, Shape::Bare),
         "acquire" => row(Verb::Acquire, Shape::Bare),
         "try_acquire" => row(Verb::TryAcquire, Shape::Bare),
-        "acquire_within" => row(Verb::AcquireWithin, Shape::NumberCount),
+        "acquire_within" => row_within(Verb::AcquireWithin, Shape::Bare),
         "release" => row(Verb::Release, Shape::Count),
         "tick" => row(Verb::Tick, Shape::Number),
         "rendezvous" => row(Verb::Rendezvous, Shape::TwoNumbers),
+        "rendezvous_within" => row_within(Verb::RendezvousWithin, Shape::TwoNumbers),
         "rendezvous_word" => row(Verb::RendezvousWord, Shape::TwoNumbers),
         "rendez" => row(Verb::Rendez, Shape::Bare),
         _ => None,
     }
 }
 
+/// By when a call with a deadline ends: so many milliseconds from this moment on.
+#[derive(Clone, Copy)]
+pub struct Deadline {
+    pub now: u64,
+    pub ms: u32,
+}
+
 /// A call.
 #[derive(Clone, Copy)]
 pub struct Call {
     pub verb: Verb,
+    pub deadline: Deadline,
     pub first: u64,
     pub second: u64,
     pub notes: NoteSet,
@@ -119,50 +144,56 @@ pub struct Call {
 
 /// The call that a line has behind its process. No other operands may stand there.
 pub fn call_of(words: &Words<'_>) -> Option<Call> {
-    let Entry { verb, shape } = entry_of(words.list[1])?;
-    if words.count < 2 || words.count - 2 != operands_of(shape) {
+    let Entry { verb, timed, shape } = entry_of(words.list[1])?;
+    let before = if timed { 4 } else { 2 };
+    if words.count < before || words.count - before != operands_of(shape) {
         return None;
     }
     let mut call = Call {
         verb,
+        deadline: Deadline { now: 0, ms: 0 },
         first: 0,
         second: 0,
         notes: NoteSet::empty(),
     };
+    if timed {
+        call.deadline = deadline_of(words.list[2], words.list[3])?;
+    }
+    let first = words.list[before];
+    let second = words.list[before + 1];
     match shape {
         Shape::Bare | Shape::Text => {}
-        Shape::Number => call.first = number_of(words.list[2])?,
-        Shape::Count => call.first = count_of(words.list[2])?,
-        Shape::NumberCount => {
-            call.first = number_of(words.list[2])?;
-            call.second = count_of(words.list[3])?;
-        }
+        Shape::Number => call.first = number_of(first)?,
+        Shape::Count => call.first = u64::from(count_of(first)?),
         Shape::TwoNumbers => {
-            call.first = number_of(words.list[2])?;
-            call.second = number_of(words.list[3])?;
+            call.first = number_of(first)?;
+            call.second = number_of(second)?;
         }
-        Shape::Kinds => call.notes = kinds_of(words.list[2])?,
+        Shape::Kinds => call.notes = kinds_of(first)?,
         Shape::NumberKinds => {
-            call.first = number_of(words.list[2])?;
-            call.notes = kinds_of(words.list[3])?;
+            call.first = number_of(first)?;
+            call.notes = kinds_of(second)?;
         }
     }
     Some(call)
 }
 
-fn count_of(word: &str) -> Option<u64> {
-    let count = number_of(word)?;
-    if count > u64::from(u32::MAX) {
-        return None;
-    }
-    Some(count)
+fn deadline_of(now: &str, ms: &str) -> Option<Deadline> {
+    Some(Deadline {
+        now: number_of(now)?,
+        ms: count_of(ms)?,
+    })
+}
+
+fn count_of(word: &str) -> Option<u32> {
+    u32::try_from(number_of(word)?).ok()
 }
 
 fn operands_of(shape: Shape) -> usize {
     match shape {
         Shape::Bare => 0,
         Shape::Number | Shape::Count | Shape::Kinds | Shape::Text => 1,
-        Shape::TwoNumbers | Shape::NumberCount | Shape::NumberKinds => 2,
+        Shape::TwoNumbers | Shape::NumberKinds => 2,
     }
 }
 

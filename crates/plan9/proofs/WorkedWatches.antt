@@ -1,11 +1,15 @@
 -- What is no clock, no watch and no reason to refuse one: each against one row of what the calls of
--- a clock say.
-use Rattle.std.proofs.Common.{◌≡◌, ◌≢◌, ◌<◌, length, ap, arith, Some, None}
+-- a clock say. And where a call with a watch stands.
+use Rattle.std.proofs.Common.{◌≡◌, ◌≢◌, ◌<◌, length, ap, arith, Some, None, refl}
 use Rattle.kernel_lock.specs.Seats.{number_of, account_of, given_of, limit_of}
 use Rattle.sync_base.specs.declared.fault.Fault.TheVariants as fault
+use Rattle.sleep_wakeup.specs.Kernel.{Running}
 use Rattle.timer_list.specs.declared.timers.TimerSeat.{TimerSeat}
+use Rattle.plan9.specs.Halls.{Visiting}
+use Rattle.plan9.specs.Pools.{Holding}
 use Rattle.plan9.specs.Watches.{Clocked, Watching, IsNewClock, IsTaken, IsFirstWatch}
 use Rattle.plan9.specs.Watches.{IsSameWatch, IsFurtherWatch, WhyNoWatch}
+use Rattle.plan9.specs.Watches.{watched_point, watched_guest, watched_sleeper}
 
 module _ (clock : Clocked) (watch : Watching) where
   -- somebody has the first seat of a new clock
@@ -55,3 +59,23 @@ module _ (old new child : Watching) where
 
   refused_for_memory : WhyNoWatch old new fault.Memory → ⊥
   refused_for_memory why = why
+
+-- the timer of a call is that of its watch, and its process and its seat are those of who calls
+module _ (watch : Watching) where
+  holder_stands : (holder : Holding) → watched_point holder watch
+      ≡ record {
+        at = record { seat = holder.seat; process = holder.running.process };
+        timer = watch.seat;
+      }
+  holder_stands holder = refl
+
+  guest_stands : (guest : Visiting) → watched_guest guest watch
+      ≡ record {
+        at = record { seat = guest.member; process = guest.running.process };
+        timer = watch.seat;
+      }
+  guest_stands guest = refl
+
+  sleeper_stands : (proc : Running) → watched_sleeper proc watch
+      ≡ record { at = record { seat = tt; process = proc.process }; timer = watch.seat }
+  sleeper_stands proc = refl

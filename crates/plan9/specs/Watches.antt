@@ -6,7 +6,11 @@ use Rattle.kernel_lock.specs.Seats.{number_of, Splits, KnowsAllGiven}
 use Rattle.timer_list.specs.declared.timers.Timers.{Timers}
 use Rattle.timer_list.specs.declared.timers.TimerSeat.{TimerSeat}
 use Rattle.timer_list.specs.Seats.{AreNewTimers, IsTimerSeatOf}
-use Rattle.semaphore.specs.Timing.{TimedPoint, timed_point}
+use Rattle.timer_list.specs.Timing.{TimedPoint, timed_point}
+use Rattle.semaphore.specs.declared.sema.SemaSeat.{SemaSeat}
+use Rattle.sleep_wakeup.specs.Kernel.{Running}
+use Rattle.tag_space.specs.declared.member.Member.{Member}
+use Rattle.plan9.specs.Halls.{Visiting}
 use Rattle.plan9.specs.Pools.{Holding}
 
 -- a clock: its timers, and the first seat as long as nobody has it
@@ -54,6 +58,16 @@ abbrev pub WhyNoWatch : Watching → Watching → Fault → Type 0
 WhyNoWatch old new fault.NoProc = KnowsAllGiven old.timers.lock old.seat.seat new.seat.seat
 WhyNoWatch old new other = ⊥
 
--- where the call of a holder with a watch stands
-abbrev pub watched_point : Holding → Watching → TimedPoint
+-- ---- where a call with a watch stands
+
+-- that of a holder
+abbrev pub watched_point : Holding → Watching → TimedPoint SemaSeat
 watched_point holding watch = timed_point holding.seat watch.seat holding.running
+
+-- that of a guest
+abbrev pub watched_guest : Visiting → Watching → TimedPoint Member
+watched_guest guest watch = timed_point guest.member watch.seat guest.running
+
+-- that of a process alone, which sleeps
+abbrev pub watched_sleeper : Running → Watching → TimedPoint Unit
+watched_sleeper proc watch = timed_point tt watch.seat proc

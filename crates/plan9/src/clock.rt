@@ -4,7 +4,7 @@ use sleep_wakeup::Proc;
 use std::alloc::Global;
 use std::marker::Model;
 use std::sync::Wait;
-use sync_base::Fault;
+use sync_base::{Fault, RendezId};
 
 /// A clock: timers, and their first seat as long as nobody has it.
 #[derive(Drop)]
@@ -82,11 +82,21 @@ impl Clock {
 }
 
 impl<'t> Watch<'t> {
-    ghost use Rattle.std.specs.Prelude.{◌≡◌, IfOk, IfErr};
-    ghost use Rattle.rendez_words.specs.Words.{procs_of};
+    ghost use Rattle.std.specs.Prelude.{◌≡◌, ◌<◌, ◌≤◌, IfOk, IfErr, Err};
+    ghost use Rattle.sync_base.specs.declared.fault.Fault.TheVariants.{BadLevel, NoRendez};
+    ghost use Rattle.sync_base.specs.declared.limits.TheConstants.{TOP_LEVEL};
+    ghost use Rattle.rendez_words.specs.Words.{procs_of, rendez_of};
+    ghost use Rattle.timer_list.specs.Sleeping.{sleeping};
     ghost use Rattle.timer_list.specs.Ticking.{Ticks};
+    ghost use Rattle.timer_list.specs.Timers.{deadline_of};
+    ghost use Rattle.timer_list.specs.Timing.{WaitedInTime};
     ghost use Rattle.waiting.specs.Waiting.{point};
-    ghost use Rattle.plan9.specs.Watches.{IsFurtherWatch, IsSameWatch, WhyNoWatch};
+    ghost use Rattle.plan9.specs.Watches.{
+      IsFurtherWatch,
+      IsSameWatch,
+      WhyNoWatch,
+      watched_sleeper,
+    };
 
     /// A further seat, for another process. Refuses as `NoProc` where the clock has had all its
     /// processes. It waits for the timers' lock. Takes no memory.
@@ -113,5 +123,45 @@ impl<'t> Watch<'t> {
             (point self.old.seat proc.old) (point self.new.seat proc.new) }
     {
         self.timers.tick(rt, proc, &mut self.seat, now)
+    }
+
+    /// Puts its process to sleep until the level of the Rendez is above the threshold, a wakeup
+    /// takes it, notes come, or a tick comes at the moment `now` + `ms` or later; that moment is at
+    /// most `u64::MAX`. After tsleep of the kernel; the tick is the library's own. As a sleep that
+    /// ends well it says that the condition held or a wakeup came, so a caller tests again.
+    ///
+    /// Refuses, in this order, as `NoRendez`, as `BadLevel` where no level is above the threshold,
+    /// as `DoubleSleep` where another process sleeps there, as `Interrupted` with the notes that
+    /// ended it, which are no longer pending, and as `TimedOut` where a tick did so and no other
+    /// note came. With any other answer other notes that came are pending again. Where a tick has
+    /// taken its timer, it waits for that tick's note before it answers, so that no late expiry
+    /// reaches a later sleep. It waits for the timers' lock. Takes no memory.
+    pub fn sleep_within<R: Wait>(
+        &mut self,
+        rt: &R,
+        proc: &mut Proc<'_>,
+        rendez: RendezId,
+        threshold: u64,
+        now: u64,
+        ms: u32,
+    ) -> Result<(), Fault>
+        ensures same { IsSameWatch self.old self.new }
+        ensures words { proc.new.words ≡ proc.old.words }
+
+        // A Rendez that is not there is refused first, and then a threshold that no level is above;
+        // its process does nothing then.
+        ensures no_rendez { rendez_of proc.old.words ≤ rendez.0 → result ≡ Err NoRendez }
+        ensures bad_level { rendez.0 < rendez_of proc.old.words → TOP_LEVEL ≤ threshold
+            → result ≡ Err BadLevel }
+        ensures refused_there { rendez_of proc.old.words ≤ rendez.0 → proc.new ≡ proc.old }
+        ensures refused_level { TOP_LEVEL ≤ threshold → proc.new ≡ proc.old }
+
+        // Else it slept, with its timer set.
+        ensures slept { rendez.0 < rendez_of proc.old.words → threshold < TOP_LEVEL
+            → WaitedInTime (sleeping threshold) rendez self.old.timers (deadline_of now ms)
+            (watched_sleeper proc.old self.old) result (watched_sleeper proc.new self.new) }
+    {
+        self.timers
+            .sleep_within(rt, proc, &mut self.seat, rendez, threshold, now, ms)
     }
 }

@@ -1,5 +1,6 @@
 //! A hall in which processes meet by tags: each guest has its process, its member and the tag space
 //! together.
+use crate::clock::Watch;
 use crate::pool::has_row;
 use crate::refusals::Refused;
 use sleep_wakeup::{Proc, Roster};
@@ -148,7 +149,9 @@ impl<'s, 'k> Guest<'s, 'k> {
     ghost use Rattle.rendez_words.specs.Words.{procs_of};
     ghost use Rattle.tag_space.specs.Members.{number_of, party_of, rendez_of_member, seen_of};
     ghost use Rattle.tag_space.specs.Outcome.{Exchange};
-    ghost use Rattle.tag_space.specs.Asking.{Meets, RendezvousesInWords};
+    ghost use Rattle.tag_space.specs.Asking.{Meets, MeetsInTime, RendezvousesInWords};
+    ghost use Rattle.timer_list.specs.Timers.{deadline_of};
+    ghost use Rattle.plan9.specs.Watches.{IsSameWatch, watched_guest};
     ghost use Rattle.plan9.specs.Refusals.{ComesBack};
     ghost use Rattle.plan9.specs.Halls.{
       IsAdmittedGuest,
@@ -216,6 +219,80 @@ impl<'s, 'k> Guest<'s, 'k> {
     {
         self.space
             .rendezvous_word(rt, &mut self.proc, &mut self.member, tag, value)
+    }
+
+    /// A `rendezvous` that waits until a tick of the clock at the moment `now` + `ms` or later;
+    /// that moment is at most `u64::MAX`. Own; rendezvous(2) waits as long as it takes.
+    ///
+    /// Refuses, in this order, as `Worn` and `DoubleSleep` as `rendezvous` does, `Interrupted` with
+    /// the notes that ended the wait, and `TimedOut` where a tick did so and no other note came; a
+    /// refused call is in no exchange, and nobody meets it later. With any other answer other notes
+    /// that came are pending again. Where a tick has taken its timer, it waits for that tick's note
+    /// before it answers, so that no late expiry reaches a later sleep. Takes no memory.
+    pub fn rendezvous_within<R: Wait>(
+        &mut self,
+        rt: &R,
+        watch: &mut Watch<'_>,
+        now: u64,
+        ms: u32,
+        tag: Tag,
+        value: u64,
+    ) -> Result<u64, Fault>
+        ensures same { IsSameGuest self.old self.new }
+        ensures watch { IsSameWatch watch.old watch.new }
+
+        // The member made one call, which is in a pair exactly where a value is answered.
+        ensures exchange { Exchange (party_of self.old.space self.old.member)
+            (record { tag = tag; value = value }) (seen_of self.old.member)
+            (seen_of self.new.member) result }
+
+        // What the member asked, how its process slept and woke its partner, and what it asked its
+        // timers.
+        ensures waited { MeetsInTime self.old.space watch.old.timers (deadline_of now ms)
+            (record { tag = tag; value = value }) (watched_guest self.old watch.old) result
+            (watched_guest self.new watch.new) }
+    {
+        self.rendezvous_within_probed(rt, watch, now, ms, tag, value, &mut NoProbe)
+    }
+
+    /// A `rendezvous_within` that tells a probe of its points, as
+    /// `TagSpace::rendezvous_within_probed` does: 2 before and 3 after each sleep for a partner.
+    pub fn rendezvous_within_probed<R: Wait, P: Probe>(
+        &mut self,
+        rt: &R,
+        watch: &mut Watch<'_>,
+        now: u64,
+        ms: u32,
+        tag: Tag,
+        value: u64,
+        probe: &mut P,
+    ) -> Result<u64, Fault>
+        ensures same { IsSameGuest self.old self.new }
+        ensures watch { IsSameWatch watch.old watch.new }
+
+        // The member made one call, which is in a pair exactly where a value is answered.
+        ensures exchange { Exchange (party_of self.old.space self.old.member)
+            (record { tag = tag; value = value }) (seen_of self.old.member)
+            (seen_of self.new.member) result }
+
+        // What the member asked, how its process slept and woke its partner, and what it asked its
+        // timers.
+        ensures waited { MeetsInTime self.old.space watch.old.timers (deadline_of now ms)
+            (record { tag = tag; value = value }) (watched_guest self.old watch.old) result
+            (watched_guest self.new watch.new) }
+    {
+        self.space.rendezvous_within_probed(
+            rt,
+            &mut self.proc,
+            &mut self.member,
+            watch.timers,
+            &mut watch.seat,
+            now,
+            ms,
+            tag,
+            value,
+            probe,
+        )
     }
 
     /// Another process that is a guest as well.

@@ -1,7 +1,7 @@
 //! The examples of the manual pages, line for line. `tests/pages` compares them with the pages.
 use crate::kernels::{forked, kernel_of};
 use plan9::{
-    Fault, Flags, Kernel, Note, NoteSet, OpenedKernel as Opened, Pid, Proc, RendezId, Roster,
+    Clock, Fault, Flags, Kernel, Note, NoteSet, OpenedKernel as Opened, Pid, Proc, RendezId, Roster,
     Started,
 };
 use std::process::Abort;
@@ -21,6 +21,22 @@ fn sleep_page(rt: HostRuntime) {
         || driver.sleep(&rt, READY, 0).is_ok(),
     );
     assert!(rt; woken && slept);
+}
+
+#[test]
+fn sleep_page_until_a_moment(rt: HostRuntime) {
+    let Opened { kernel, start } = kernel_of(&rt, rt.alloc(), 1, 1);
+    let started = kernel.start(start);
+    let mut proc = started.proc;
+    let Ok(mut clock) = Clock::new(rt.alloc(), 1) else {
+        panic!(rt; "no clock")
+    };
+    let Ok(mut watch) = clock.first() else {
+        panic!(rt; "nobody has its first seat")
+    };
+    assert!(rt; proc.wakeup(READY, 1).is_ok());
+    assert_eq!(rt; watch.sleep_within(&rt, &mut proc, READY, 0, 100, 50), Ok(()));
+    assert_eq!(rt; watch.tick(&rt, &mut proc, 150), 0);
 }
 
 #[test]

@@ -1,13 +1,19 @@
 //! A process that is a member of a tag space.
 use crate::answer::{Answer, done, numbered};
 use crate::desk::Visitor;
-use crate::verbs::{Call, Verb};
-use plan9::{Guest, Pid, Tag};
+use crate::verbs::{Call, Deadline, Verb};
+use plan9::{Guest, NoProbe, Pid, Probe, Tag, Watch};
 use std::sync::Wait;
 
-pub fn call_guest<R: Wait>(rt: &R, guest: &mut Guest<'_, '_>, call: Call) -> Answer {
+pub fn call_guest<R: Wait>(
+    rt: &R,
+    guest: &mut Guest<'_, '_>,
+    watch: &mut Option<Watch<'_>>,
+    call: Call,
+) -> Answer {
     match call.verb {
         Verb::Rendezvous => numbered("met", guest.rendezvous(rt, Tag(call.first), call.second)),
+        Verb::RendezvousWithin => meet_within(rt, guest, watch, call, &mut NoProbe),
         Verb::RendezvousWord => {
             numbered(
                 "met",
@@ -24,12 +30,34 @@ pub fn call_guest<R: Wait>(rt: &R, guest: &mut Guest<'_, '_>, call: Call) -> Ans
 pub fn call_guest_probed<R: Wait>(
     rt: &R,
     guest: &mut Guest<'_, '_>,
+    watch: &mut Option<Watch<'_>>,
     call: Call,
     probe: &mut Visitor<'_>,
 ) -> Answer {
-    if call.verb != Verb::Rendezvous {
-        return Answer::of("not probed");
+    match call.verb {
+        Verb::Rendezvous => {
+            let answer = guest.rendezvous_probed(rt, Tag(call.first), call.second, probe);
+            numbered("met", answer)
+        }
+        Verb::RendezvousWithin => meet_within(rt, guest, watch, call, probe),
+        _ => Answer::of("not probed"),
     }
-    let answer = guest.rendezvous_probed(rt, Tag(call.first), call.second, probe);
-    numbered("met", answer)
+}
+
+fn meet_within<R: Wait, P: Probe>(
+    rt: &R,
+    guest: &mut Guest<'_, '_>,
+    watch: &mut Option<Watch<'_>>,
+    call: Call,
+    probe: &mut P,
+) -> Answer {
+    let Deadline { now, ms } = call.deadline;
+    let (tag, value) = (Tag(call.first), call.second);
+    match watch {
+        Some(watch) => {
+            let answer = guest.rendezvous_within_probed(rt, watch, now, ms, tag, value, probe);
+            numbered("met", answer)
+        }
+        None => Answer::of("no clock"),
+    }
 }

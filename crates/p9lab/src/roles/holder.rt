@@ -1,7 +1,7 @@
 //! A process with a seat at a semaphore.
 use crate::answer::{Answer, done, refused, taken};
 use crate::desk::Visitor;
-use crate::verbs::{Call, Verb};
+use crate::verbs::{Call, Deadline, Verb};
 use plan9::{Fault, Holder, Pid, Watch};
 use std::sync::Wait;
 
@@ -39,11 +39,9 @@ fn acquire_within<R: Wait>(
     watch: &mut Option<Watch<'_>>,
     call: Call,
 ) -> Answer {
-    let Ok(ms) = u32::try_from(call.second) else {
-        return refused(Fault::BadArg);
-    };
+    let Deadline { now, ms } = call.deadline;
     match watch {
-        Some(watch) => done("acquired", holder.acquire_within(rt, watch, call.first, ms)),
+        Some(watch) => done("acquired", holder.acquire_within(rt, watch, now, ms)),
         None => Answer::of("no clock"),
     }
 }
@@ -70,13 +68,11 @@ fn acquire_within_probed<R: Wait>(
     call: Call,
     probe: &mut Visitor<'_>,
 ) -> Answer {
-    let Ok(ms) = u32::try_from(call.second) else {
-        return refused(Fault::BadArg);
-    };
+    let Deadline { now, ms } = call.deadline;
     match watch {
         Some(watch) => done(
             "acquired",
-            holder.acquire_within_probed(rt, watch, call.first, ms, probe),
+            holder.acquire_within_probed(rt, watch, now, ms, probe),
         ),
         None => Answer::of("no clock"),
     }

@@ -1,7 +1,7 @@
 //! A process alone: sleep(2) and postnote(2).
 use crate::answer::{Answer, done, have_woken};
 use crate::desk::Visitor;
-use crate::verbs::{Call, Verb};
+use crate::verbs::{Call, Deadline, Verb};
 use plan9::{Pid, Proc, RendezId, Watch};
 use std::sync::Wait;
 
@@ -14,6 +14,7 @@ pub fn call_plain<R: Wait>(
     match call.verb {
         Verb::Tick => tick(rt, proc, watch, call.first),
         Verb::Sleep => done("woken", proc.sleep(rt, RendezId(call.first), call.second)),
+        Verb::SleepWithin => sleep_within(rt, proc, watch, call),
         _ => call_at_once(proc, call),
     }
 }
@@ -21,6 +22,23 @@ pub fn call_plain<R: Wait>(
 fn tick<R: Wait>(rt: &R, proc: &mut Proc<'_>, watch: &mut Option<Watch<'_>>, now: u64) -> Answer {
     match watch {
         Some(watch) => Answer::counted("expired", watch.tick(rt, proc, now)),
+        None => Answer::of("no clock"),
+    }
+}
+
+fn sleep_within<R: Wait>(
+    rt: &R,
+    proc: &mut Proc<'_>,
+    watch: &mut Option<Watch<'_>>,
+    call: Call,
+) -> Answer {
+    let Deadline { now, ms } = call.deadline;
+    let rendez = RendezId(call.first);
+    match watch {
+        Some(watch) => done(
+            "woken",
+            watch.sleep_within(rt, proc, rendez, call.second, now, ms),
+        ),
         None => Answer::of("no clock"),
     }
 }

@@ -4,7 +4,7 @@ use Rattle.tag_space.specs.Members.{party_of, seen_of}
 use Rattle.tag_space.proofs.AskLemmas.{is_below}
 use Rattle.tag_space.proofs.EndLemmas.{came, exchanged, same_exchange}
 use Rattle.tag_space.specs.Rendezvous.{Offered}
-use Rattle.tag_space.proofs.space.TagSpace.rendezvous_within.Goals as goal
+use Rattle.tag_space.proofs.space.TagSpace.rendezvous_within_probed.Goals as goal
 
 pub wait_within-requires-clause-rendez : goal.wait_within-requires-clause-rendez
 wait_within-requires-clause-rendez g c =
