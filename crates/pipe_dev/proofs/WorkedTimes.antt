@@ -22,11 +22,15 @@ use Rattle.timer_list.specs.Timing.{ComesToSame, TimedPoint, WaitedInTime}
 
 -- ---- at once
 
+-- a write that is refused for this
+abbrev refusal : Fault → Result ℕ Fault
+refusal why = Err why
+
 module _ {At : Type 0} (old new : At) where
   refused_for_another_reason :
       ¬ IsRefusedAs {Out = ℕ} fault.TooBig old (Err fault.NoRendez) new
   refused_for_another_reason is =
-      let clash : Err {T = ℕ} fault.NoRendez ≡ Err fault.TooBig = is.answer_is in cc
+      let clash : refusal fault.NoRendez ≡ refusal fault.TooBig = is.answer_is in cc
 
   refused_and_does_it : new ≢ old → ¬ IsRefusedAs {Out = ℕ} fault.TooBig old (Err fault.TooBig) new
   refused_and_does_it other is = other is.same
