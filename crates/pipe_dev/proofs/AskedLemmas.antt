@@ -8,7 +8,11 @@ use Rattle.sync_base.specs.declared.fault.Fault.TheVariants as fault
 use Rattle.sync_base.specs.declared.ids.RendezId.{RendezId}
 use Rattle.pipe_dev.specs.declared.answers.ReadAnswer.{ReadAnswer}
 use Rattle.pipe_dev.specs.Filling.{Lending}
-use Rattle.pipe_dev.specs.ReadCalls.{Calling, GivesUp, IsAskedRead, calling_at, lent_at, waits_by}
+use Rattle.block_queue.specs.declared.view.Key.{Key}
+use Rattle.pipe_dev.specs.declared.row.Row.{Row}
+use Rattle.pipe_dev.specs.ReadCalls.{AsksForBytes, Calling, GivesUp, IsAskedRead, Reads, calling_at}
+use Rattle.pipe_dev.specs.ReadCalls.{lent_at, reading, waits_by}
+use Rattle.pipe_dev.specs.Rendezes.{reader_rendez}
 use Rattle.waiting.specs.declared.call.Reply.{Reply}
 use Rattle.waiting.specs.declared.call.Reply.TheVariants.{Done, Refused}
 use Rattle.waiting.specs.Waiting.{Point, Waited, reply_of}
@@ -64,3 +68,17 @@ module _ (Asks : Calling → Reply ReadAnswer → Calling → Type 0) (rendez : 
       (λ old new answer on asks. over old new answer asks)
       (λ old new out on gives. absurd gives) (λ old new why on same. tt)
       (lent_at old) (Ok answer) (lent_at new) tt waited
+
+-- a wait of a read is a read
+pub reads_so : (key : Key) (row : Row) (old : Calling) (answer : Result ReadAnswer Fault)
+    (new : Calling)
+    → Waited (reading key row) (reader_rendez row) (lent_at old) answer (lent_at new)
+    → Reads key row old answer new
+reads_so key row old (Ok answer) new waited = waited
+reads_so key row old (Err fault.BadCount) new waited =
+    absurd (is_asked_read (AsksForBytes key row) (reader_rendez row) (λ old new why asks. asks)
+    (lent_at old) (Err fault.BadCount) (lent_at new) waited)
+reads_so key row old (Err fault.NoRendez) new waited =
+    absurd (is_asked_read (AsksForBytes key row) (reader_rendez row) (λ old new why asks. asks)
+    (lent_at old) (Err fault.NoRendez) (lent_at new) waited)
+reads_so key row old (Err other) new waited = waited

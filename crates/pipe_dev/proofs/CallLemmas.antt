@@ -11,7 +11,8 @@ use Rattle.block_queue.specs.declared.seats.PutSeat.{PutSeat}
 use Rattle.block_queue.specs.Seats.{key_of}
 use Rattle.pipe_dev.specs.declared.row.Row.{Row}
 use Rattle.pipe_dev.specs.WriteCalls.{WriteCall, Writer, AsksForRoom, GivesUp, IsAsked}
-use Rattle.pipe_dev.specs.WriteCalls.{writing, call_with}
+use Rattle.pipe_dev.specs.Rendezes.{writer_rendez}
+use Rattle.pipe_dev.specs.WriteCalls.{Writes, writing, call_with}
 use Rattle.waiting.specs.declared.call.Reply.TheVariants.{Refused}
 use Rattle.waiting.specs.Waiting.{Waited}
 use Rattle.pipe_dev.proofs.SightLemmas.{refused_for}
@@ -39,6 +40,16 @@ is_asked call rendez old (Err why) new waited =
     (λ old new why asks. refused call old why new asks)
     (λ before after number why fails. failed before rendez number after why fails)
     old why new waited
+
+-- so it is a write
+pub writes_so : (call : WriteCall) (old : Writer) (answer : Result ℕ Fault) (new : Writer)
+    → Waited (writing call) (writer_rendez call.row call.writer) old answer new
+    → Writes call old answer new
+writes_so call old (Ok number) new waited = waited
+writes_so call old (Err fault.TooBig) new waited = absurd (is_asked call _ old _ new waited)
+writes_so call old (Err fault.NoRendez) new waited = absurd (is_asked call _ old _ new waited)
+writes_so call old (Err fault.Memory) new waited = absurd (is_asked call _ old _ new waited)
+writes_so call old (Err other) new waited = waited
 
 -- what was asked for this call was asked for the same one
 pub same_call : (queue : Queue) (row : Row) (seat : PutSeat) (block bytes : List ℕ) (writer : ℕ)

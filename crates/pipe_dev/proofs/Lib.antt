@@ -1,5 +1,6 @@
 pub mod PartLemmas
 pub mod SightLemmas
+mod TimedLemmas
 pub mod AskedLemmas
 pub mod LawLemmas
 pub mod RoundLemmas

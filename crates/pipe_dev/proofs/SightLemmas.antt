@@ -11,7 +11,7 @@ use Rattle.waiting.specs.declared.call.Reply.TheVariants.{Wait, Refused}
 use Rattle.waiting.specs.declared.wait.WaitEnd.{WaitEnd}
 use Rattle.waiting.specs.declared.wait.WaitEnd.TheVariants.{Answered, Stopped}
 use Rattle.waiting.specs.Waiting.{Promise, Point, WaitPoint, SleepsThenAsks, Rounds, Ends, Waited}
-use Rattle.waiting.specs.Waiting.{reply_of, answer_of}
+use Rattle.waiting.specs.Waiting.{SleepsOn, reply_of, answer_of}
 use Rattle.waiting.proofs.FoldLemmas.{wait_ends}
 use Rattle.pipe_dev.specs.WriteSteps.{seen_at, seen_by}
 
@@ -20,7 +20,7 @@ module _ {Seat Seen Out : Type 0} (see : Seat → Seen) (promise : Promise Seen 
   abbrev Seeing : Promise Seat Out
   Seeing = seen_by see promise
 
-  abbrev told_at : WaitPoint Seat → WaitPoint Seen
+  abbrev pub told_at : WaitPoint Seat → WaitPoint Seen
   told_at told = record { at = seen_at see told.at; number = told.number }
 
   asks : (old : WaitPoint Seat) (reply : Reply Out) (after : Point Seat)
@@ -45,6 +45,18 @@ module _ {Seat Seen Out : Type 0} (see : Seat → Seen) (promise : Promise Seen 
   ends last (Answered answer) after asked = asks last (reply_of answer) after asked
   ends last (Stopped why reply) after left = record { failed = left.failed; left = left.left }
 
+  -- so of all its sleeps
+  pub slept_seen : (first : WaitPoint Seat) (ending : WaitEnd Out) (after : Point Seat)
+      → SleepsOn Seeing rendez first ending after
+      → SleepsOn promise rendez (told_at first) ending (seen_at see after)
+  slept_seen first ending after slept =
+      record {
+        times = slept.times;
+        last = told_at slept.last;
+        rounds = rounds slept.times first slept.last slept.rounds;
+        ends = ends slept.last ending after slept.ends;
+      }
+
   -- so of a whole call
   pub waited_seen : (before : Point Seat) (answer : Result Out Fault) (after : Point Seat)
       → Waited Seeing rendez before answer after
@@ -52,20 +64,14 @@ module _ {Seat Seen Out : Type 0} (see : Seat → Seen) (promise : Promise Seen 
   waited_seen before answer after (inl begun) = inl begun
   waited_seen before answer after (inr waits) =
       let waited = waits.waited in
-      let slept = waited.slept in
       inr (record {
         first = told_at waits.first;
         begun = waits.begun;
         waited = record {
           ending = waited.ending;
           process = waited.process;
-          slept = record {
-            times = slept.times;
-            last = told_at slept.last;
-            rounds = rounds slept.times waits.first slept.last slept.rounds;
-            ends = ends slept.last waited.ending
-                (record { seat = after.seat; process = waited.process }) slept.ends;
-          };
+          slept = slept_seen waits.first waited.ending
+              (record { seat = after.seat; process = waited.process }) waited.slept;
           returned = waited.returned;
           answer_is = waited.answer_is;
         };

@@ -29,6 +29,9 @@ use Rattle.pipe_dev.specs.Ends.{ReadSide}
 use Rattle.pipe_dev.specs.Filling.{Lending, FillsUp, last_number}
 use Rattle.pipe_dev.specs.Parts.{Part, part_of, rest_of}
 use Rattle.pipe_dev.specs.Rendezes.{reader_rendez, WakesWriters, WakesWith}
+use Rattle.timer_list.specs.declared.timers.Timers.{Timers}
+use Rattle.timer_list.specs.declared.timers.TimerSeat.{TimerSeat}
+use Rattle.timer_list.specs.Timing.{ComesToSame, TimedPoint, WaitedInTime}
 use Rattle.waiting.specs.declared.call.Reply.{Reply}
 use Rattle.waiting.specs.declared.call.Reply.TheVariants as reply
 use Rattle.waiting.specs.Waiting.{Promise, Point, Waited}
@@ -231,6 +234,35 @@ Reads key row old (Err fault.NoRendez) new =
     IsUntouchedRead old.reader old.buffer new.reader new.buffer
 Reads key row old answer new =
     Waited (reading key row) (reader_rendez row) (lent_at old) answer (lent_at new)
+
+-- ---- a read until a moment
+
+-- where a read with a deadline stands
+abbrev pub timed_call : Calling → TimerSeat → TimedPoint Lending
+timed_call call timer = record { at = lent_at call; timer = timer }
+
+-- what one that is not refused at once did
+abbrev pub ReadsInTime : Key → Row → Timers → ℕ → TimedPoint Lending → Result ReadAnswer Fault
+    → TimedPoint Lending → Type 0
+ReadsInTime key row timers moment = WaitedInTime (reading key row) (reader_rendez row) timers moment
+
+-- Of its direction it did what a read does that waits as long as it takes, and it comes to the
+-- same.
+pub record IsARead (key : Key) (row : Row) (old : Calling) (answer : Result ReadAnswer Fault)
+    (new : Lending) : Type 0 where
+  pub told : Result ReadAnswer Fault
+  pub process : Process
+  pub read : Reads key row old told (calling_at (record { seat = new; process = process }))
+  pub same : ComesToSame told answer
+
+abbrev pub ReadsInTimeAreReads : Type 0
+ReadsInTimeAreReads =
+    (key : Key) (row : Row) (timers : Timers) (moment : ℕ) (old new : TimedPoint Lending)
+    (answer : Result ReadAnswer Fault)
+    → ReadsInTime key row timers moment old answer new
+    → IsARead key row (calling_at old.at) answer new.at.seat
+
+-- ---- what comes from the wait
 
 -- an answer that comes only from a request or a sleep
 abbrev pub IsAskedRead : Result ReadAnswer Fault → Type 0

@@ -1,5 +1,5 @@
 -- What the calls of a write end do, after pipe(2), pipe(3) and write(2).
-use Rattle.std.specs.Prelude.{◌≡◌, ◌+◌, ◌++◌, ℕ, zero, suc, nat_le, false, ⊤}
+use Rattle.std.specs.Prelude.{◌≡◌, ◌⊎◌, ◌+◌, ◌++◌, ℕ, zero, suc, nat_le, false, ⊤}
 use Rattle.std.specs.Prelude.{List, [], ◌∷◌, length, take, drop, reverse}
 use Rattle.std.specs.Prelude.{Option, Some, None, Result, Ok, Err, if◌then◌else◌}
 use Rattle.histories.specs.declared.account.Account.{Account}
@@ -8,7 +8,7 @@ use Rattle.sync_base.specs.declared.fault.Fault.TheVariants as fault
 use Rattle.sync_base.specs.declared.limits.TheConstants.{ATOMIC_SIZE}
 use Rattle.sync_base.specs.declared.note.Note.TheVariants.{ClosedPipe}
 use Rattle.sync_base.specs.NoteSet.{only}
-use Rattle.rendez_words.specs.Process.{pid_in}
+use Rattle.rendez_words.specs.Process.{Process, pid_in}
 use Rattle.rendez_words.specs.Steps.{notes}
 use Rattle.sleep_wakeup.specs.Actions.{WakesOne}
 use Rattle.sleep_wakeup.specs.Kernel.{Running}
@@ -25,6 +25,9 @@ use Rattle.pipe_dev.specs.declared.answers.Long.{Long}
 use Rattle.pipe_dev.specs.declared.row.Row.{Row}
 use Rattle.pipe_dev.specs.Ends.{WriteSide}
 use Rattle.pipe_dev.specs.Rendezes.{reader_rendez, writer_rendez}
+use Rattle.timer_list.specs.declared.timers.Timers.{Timers}
+use Rattle.timer_list.specs.declared.timers.TimerSeat.{TimerSeat}
+use Rattle.timer_list.specs.Timing.{ComesToSame, TimedPoint, WaitedInTime, timed_point}
 use Rattle.waiting.specs.declared.call.Reply.{Reply}
 use Rattle.waiting.specs.declared.call.Reply.TheVariants as reply
 use Rattle.waiting.specs.Waiting.{Promise, Point, Waited, point}
@@ -106,6 +109,41 @@ Writes call old (Err fault.NoRendez) new = new ≡ old
 Writes call old (Err fault.Memory) new = new ≡ old
 Writes call old answer new =
     Waited (writing call) (writer_rendez call.row call.writer) old answer new
+
+-- ---- a write until a moment
+
+-- where the write of an end with a deadline stands
+abbrev pub timed_writer : WriteSide → TimerSeat → Running → TimedPoint (Account Entry)
+timed_writer side timer proc = timed_point side.account timer proc
+
+-- it was refused for this before its first request, and did nothing
+pub record IsRefusedAs {Out At : Type 0} (why : Fault) (old : At) (answer : Result Out Fault)
+    (new : At) : Type 0 where
+  pub answer_is : answer ≡ Err why
+  pub same : new ≡ old
+
+-- what one that is neither too big nor by a process of another kernel did: there was no memory for
+-- its block, or it waited so
+abbrev pub WritesInTime : WriteCall → Timers → ℕ → TimedPoint (Account Entry) → Result ℕ Fault
+    → TimedPoint (Account Entry) → Type 0
+WritesInTime call timers moment old answer new =
+    IsRefusedAs fault.Memory old answer new
+    ⊎ WaitedInTime (writing call) (writer_rendez call.row call.writer) timers moment old answer new
+
+-- Of its direction it did what a write does that waits as long as it takes, and it comes to the
+-- same.
+pub record IsAWrite (call : WriteCall) (old : Writer) (answer : Result ℕ Fault)
+    (new : Account Entry) : Type 0 where
+  pub told : Result ℕ Fault
+  pub process : Process
+  pub wrote : Writes call old told (record { seat = new; process = process })
+  pub same : ComesToSame told answer
+
+abbrev pub WritesInTimeAreWrites : Type 0
+WritesInTimeAreWrites =
+    (call : WriteCall) (timers : Timers) (moment : ℕ) (old new : TimedPoint (Account Entry))
+    (answer : Result ℕ Fault)
+    → WritesInTime call timers moment old answer new → IsAWrite call old.at answer new.at.seat
 
 -- ---- a long write
 

@@ -22,6 +22,8 @@ ghost use Rattle.pipe_dev.specs.WaitLaws.{
   TriesWakeEachWriter,
   HangupsWakeAll,
 };
+ghost use Rattle.pipe_dev.specs.ReadCalls.{ReadsInTimeAreReads};
+ghost use Rattle.pipe_dev.specs.WriteCalls.{WritesInTimeAreWrites};
 
 /// A process of the kernel whose roster made a pipe is never answered `NoRendez` at its ends.
 pub fn own_processes_are_never_refused()
@@ -59,4 +61,11 @@ pub fn each_write_is_read_whole_and_once()
     ensures writers_woken { ReadsWakeEachWriter }
     ensures tries_woken { TriesWakeEachWriter }
     ensures all_woken { HangupsWakeAll }
+{}
+
+/// A call with a deadline does to its direction what one without does, and comes to the same or to
+/// nothing: so the laws of writes and reads hold of it.
+pub fn calls_in_time_are_calls()
+    ensures writes { WritesInTimeAreWrites }
+    ensures reads { ReadsInTimeAreReads }
 {}

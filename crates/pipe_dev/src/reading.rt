@@ -7,7 +7,8 @@ ghost use Rattle.pipe_dev.specs.ReadCalls.{AsksForBytes, IsAskedRead, Tries, rea
 ghost use Rattle.pipe_dev.specs.ReadCalls.{calling, lent_at, reader_with};
 ghost use Rattle.pipe_dev.specs.ReadSteps.{answer_of, found_of, told_by, told_with};
 ghost use Rattle.pipe_dev.specs.Rendezes.{OwnsRow, reader_rendez};
-ghost use Rattle.waiting.specs.Waiting.{IsLow, Waited, WaitsOn};
+ghost use Rattle.timer_list.specs.Timing.{IsSetIfAny, while_set};
+ghost use Rattle.waiting.specs.Waiting.{IsLow, SleepsOn, Waited};
 
 use crate::answers::{ReadAnswer, TryAnswer};
 use crate::cursor::ReadCursor;
@@ -19,6 +20,8 @@ use block_queue::Queue;
 use sleep_wakeup::Proc;
 use std::sync::Wait;
 use sync_base::Fault;
+use timer_list::SetTimer;
+use waiting::{WaitEnd, end_wait};
 
 impl<'p> ReadEnd<'p> {
     ghost use Rattle.std.specs.Prelude.{◌≡◌, ◌≢◌, ◌↔◌, ◌⊎◌, [], IsErrOf, IfOk, IfErr, OnErr};
@@ -132,9 +135,9 @@ struct Answered {
 
 // What a request of a read found.
 #[derive(Drop)]
-struct Asked {
-    cursor: ReadCursor,
-    found: Found,
+pub(crate) struct Asked {
+    pub(crate) cursor: ReadCursor,
+    pub(crate) found: Found,
 }
 
 // Tries until it is answered.
@@ -166,13 +169,26 @@ fn read_with<R: Wait>(
             cursor,
             answer: Ok(ReadAnswer::End),
         },
-        Found::NotYet(number) => read_on(queue, row, rt, cursor, proc, buffer, number),
+        Found::NotYet(number) => {
+            let Slept { cursor, ending } = sleep_for_bytes(
+                queue, row, rt, cursor, proc, buffer, number, None,
+            );
+            let answer = end_wait(proc, ending);
+            Done { cursor, answer }
+        }
     }
 }
 
-// The rest of a read that was told to wait with this number: the loop of `waiting`, with the buffer
-// that is lent.
-fn read_on<R: Wait>(
+// How the sleeps of a read ended, and what its end holds then.
+#[derive(Drop)]
+pub(crate) struct Slept {
+    pub(crate) cursor: ReadCursor,
+    pub(crate) ending: WaitEnd<ReadAnswer>,
+}
+
+// The sleeps of a read that was told to wait with this number, and its requests after them: the
+// loop of `waiting`, with the buffer that is lent. A read that has a deadline has set its timer.
+pub(crate) fn sleep_for_bytes<R: Wait>(
     queue: &Queue,
     row: &Row,
     rt: &R,
@@ -180,42 +196,40 @@ fn read_on<R: Wait>(
     proc: &mut Proc<'_>,
     buffer: &mut [u8],
     number: u64,
-) -> Done
+    set: Option<SetTimer<'_, '_>>,
+) -> Slept
     requires cursor { IsReadCursor queue.now row.now cursor }
     requires kernel { OwnsRow proc.old.words row.now }
     requires room { buffer.old ≢ [] }
     requires low { number < TOP_LEVEL }
+    requires set { IsSetIfAny set }
     ensures cursor { IsReadCursor queue.now row.now result.cursor }
     ensures words { proc.new.words ≡ proc.old.words }
-    ensures waited { WaitsOn (reading (key_of queue.now) row.now) (reader_rendez row.now)
-        (told_with cursor proc.old buffer.old number) result.answer
+    ensures slept { SleepsOn
+        (while_set (IsSetIfAny set.entry) (reading (key_of queue.now) row.now))
+        (reader_rendez row.now) (told_with cursor proc.old buffer.old number) result.ending
         (lent_at (calling (reader_with result.cursor proc.new) buffer.new)) }
 {
+    let _ = set;
     let mut cursor = cursor;
     let mut number = number;
     'reading: for _ in rt.forever() {
         match proc.sleep(rt, row.reader(), number) {
             Err(why) => {
-                return Done {
-                    cursor,
-                    answer: Err(why),
-                };
+                let ending = WaitEnd::Stopped(why, None);
+                return Slept { cursor, ending };
             }
             Ok(()) => {
                 let Asked { cursor: now, found } = ask_for_bytes(queue, row, cursor, proc, buffer);
                 cursor = now;
                 match found {
                     Found::Got(count) => {
-                        return Done {
-                            cursor,
-                            answer: Ok(ReadAnswer::Got(count)),
-                        };
+                        let ending = WaitEnd::Answered(Ok(ReadAnswer::Got(count)));
+                        return Slept { cursor, ending };
                     }
                     Found::End => {
-                        return Done {
-                            cursor,
-                            answer: Ok(ReadAnswer::End),
-                        };
+                        let ending = WaitEnd::Answered(Ok(ReadAnswer::End));
+                        return Slept { cursor, ending };
                     }
                     Found::NotYet(again) => number = again,
                 }
@@ -228,7 +242,7 @@ fn read_on<R: Wait>(
 // One request, a try: what is left of a write that was begun, or else the next write, and so on as
 // far as it goes. Then it wakes each writer with the number of the last write that it took out.
 #[inline(always)]
-fn ask_for_bytes(
+pub(crate) fn ask_for_bytes(
     queue: &Queue,
     row: &Row,
     cursor: ReadCursor,

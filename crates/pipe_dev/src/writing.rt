@@ -82,9 +82,9 @@ impl<'p> WriteEnd<'p> {
 
 // A write is over: its end's seat, and the answer.
 #[derive(Drop)]
-struct Done {
-    seat: PutSeat,
-    answer: Result<u64, Fault>,
+pub(crate) struct Done {
+    pub(crate) seat: PutSeat,
+    pub(crate) answer: Result<u64, Fault>,
 }
 
 // Asks and sleeps until it is answered.

@@ -276,7 +276,7 @@ module _ (sema : Sema) (timers : Timers) (moment : ℕ) (before after : TimedPoi
   asks_its_timers_twice waits =
       let set = timed_more timers false true _ _ before.timer waits.set free waits.added in
       let gone = timed_more timers true false _ _ waits.set after.timer waits.added.seat
-      waits.cancelled in
+      waits.ended.cancelled in
       omega (arith, set, gone)
 
   -- a timer is set twice, so that the note of the other one may be left
@@ -290,7 +290,7 @@ module _ (sema : Sema) (timers : Timers) (moment : ℕ) (before after : TimedPoi
   sets_no_timer none waits = let two = asks_its_timers_twice waits in omega (arith, none, two)
 
   module _ (waits : InTime)
-      (in_time : waits.stop.expired ≡ false) where
+      (in_time : waits.ended.expired ≡ false) where
     -- without a tick: so many sleeps, with a request behind each, and one before
     record HasSlept : Type 0 where
       times : ℕ
@@ -311,18 +311,18 @@ module _ (sema : Sema) (timers : Timers) (moment : ℕ) (before after : TimedPoi
         let slept = waits.slept in
         let (at, rounds) = rounds_add sema _ _ slept.times waits.first slept.last begun.asks.seat
         slept.rounds in
-        let end = end_adds sema _ _ slept.last waits.stop.ending _ at slept.ends in
+        let end = end_adds sema _ _ slept.last waits.ending _ at slept.ends in
         let begins : Awaiting =
-        record { process = waits.stop.process; notes = notes_of waits.stop.ending } in
+        record { process = waits.process; notes = notes_of waits.ending } in
         let rendez = rendez_at sema before.at.seat in
         let looks = subst
-        (λ b. Looks rendez b waits.awaited.times begins waits.stop.awaited) in_time
-        waits.awaited.looks in
-        let none = not_looked rendez waits.awaited.times begins waits.stop.awaited looks in
+        (λ b. Looks rendez b waits.ended.awaits.times begins waits.ended.awaited) in_time
+        waits.ended.awaits.looks in
+        let none = not_looked rendez waits.ended.awaits.times begins waits.ended.awaited looks in
         let none_lies = ap (λ a. lay_down a.process) none in
         let none_drains = ap (λ a. drained a.process) none in
-        let kept = keeps_adds waits.stop.ending waits.stop.expired _ told _ after.at.process
-        waits.kept in
+        let kept = keeps_adds waits.ending waits.ended.expired _ told _ after.at.process
+        waits.ended.kept in
         record {
           times = slept.times + 1;
           lies = omega (arith, lies, rounds.lies, end.lies, none_lies, kept.0);

@@ -117,6 +117,8 @@ impl TagSpace {
             tag,
             value,
         };
-        wait_within(rt, proc, rendez, &call, member, timers, timer, now, ms, probe)
+        wait_within(
+            rt, proc, rendez, &call, member, timers, timer, now, ms, probe,
+        )
     }
 }

@@ -14,4 +14,4 @@ mod WorkedSeats
 mod WorkedTimes
 pub mod BrokenTimers
 mod TimedLemmas
-mod UntimedLemmas
+pub mod UntimedLemmas

@@ -114,19 +114,19 @@ untimed promise rendez timers moment before answer after (inl at_once) =
     }
 untimed promise rendez timers moment before answer after (inr waits) =
     record {
-      told = answer_of waits.stop.ending;
-      process = returned waits.stop.ending waits.stop.process;
+      told = answer_of waits.ending;
+      process = returned waits.ending waits.process;
       waited = inr (record {
         first = waits.first;
         begun = waits.begun;
         waited = record {
-          ending = waits.stop.ending;
-          process = waits.stop.process;
-          slept = sleeps _ promise rendez waits.first waits.stop.ending
-              (record { seat = after.at.seat; process = waits.stop.process }) waits.slept;
-          returned = returns waits.stop.ending waits.stop.process;
+          ending = waits.ending;
+          process = waits.process;
+          slept = sleeps _ promise rendez waits.first waits.ending
+              (record { seat = after.at.seat; process = waits.process }) waits.slept;
+          returned = returns waits.ending waits.process;
           answer_is = refl;
         };
       });
-      same = same waits.stop.ending waits.stop.expired _ answer _ _ waits.kept;
+      same = same waits.ending waits.ended.expired _ answer _ _ waits.ended.kept;
     }

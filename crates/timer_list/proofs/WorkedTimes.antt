@@ -11,13 +11,15 @@ use Rattle.sync_base.specs.declared.note.Note.TheVariants.{Alarm, Expired}
 use Rattle.sync_base.specs.declared.note.NoteSet.{NoteSet}
 use Rattle.sync_base.specs.NoteSet.{no_notes, joined, only, holds}
 use Rattle.timer_list.specs.declared.limits.TheConstants.{LAST_THRESHOLD}
+use Rattle.timer_list.specs.declared.timed.SetTimer.{SetTimer}
 use Rattle.timer_list.specs.declared.timers.Timers.{Timers}
+use Rattle.timer_list.specs.Seats.{IsSeatAtTimers}
 use Rattle.timer_list.specs.Definitions.{timer_definition}
 use Rattle.timer_list.specs.TimerHistory.{WasTaken}
 use Rattle.timer_list.specs.Timing.{AwaitsTick, Awaiting, BegunAtOnce, ComesToSame, IsACall}
 use Rattle.timer_list.specs.Timing.{IsEndedByNotes, Keeps, Looks, LooksForTick, PutsBackAny}
 use Rattle.timer_list.specs.Timing.{TimedPoint, WaitedInTime, WaitsInTime, notes_in, notes_of}
-use Rattle.timer_list.specs.Timing.{while_set, without_expired}
+use Rattle.timer_list.specs.Timing.{IsSetIfAny, while_set, without_expired}
 use Rattle.waiting.specs.declared.call.Reply.TheVariants.{Wait}
 use Rattle.waiting.specs.declared.wait.WaitEnd.{WaitEnd}
 use Rattle.waiting.specs.declared.wait.WaitEnd.TheVariants.{Answered, Stopped}
@@ -139,7 +141,7 @@ module _ {Seat : Type 0} (promise : Promise Seat Unit) (rendez : RendezId) (watc
 
   -- a tick took its timer before the deadline
   times_out_too_early : (waits : WaitsInTime promise rendez watch moment before answer after)
-      → waits.stop.expired ≡ true
+      → waits.ended.expired ≡ true
       → ¬ WasTaken (opening_of timer_definition watch.lock) (number_of before.timer.seat)
       moment (seen_of after.timer.seat) → ⊥
   times_out_too_early waits is none = none (waits.taken is)
@@ -158,6 +160,14 @@ module _ {Seat Out : Type 0} (promise : Promise Seat Out) where
   begins_without_its_timer : (old new : Point Seat) (number : ℕ)
       → promise.begun old (Wait number) new → (while_set ⊥ promise).begun old (Wait number) new
   begins_without_its_timer old new number begun = begun
+
+-- a call that has a timer has set it
+a_timer_that_is_not_set : (set : SetTimer) → ¬ IsSeatAtTimers set.timers.now true set.seat.now
+    → ¬ IsSetIfAny (Some set)
+a_timer_that_is_not_set set unset is = unset is
+
+no_timer_is_set : IsSetIfAny None
+no_timer_is_set = tt
 
 the_same_comes : ComesToSame {Out = ℕ} (Ok 7) (Ok 7)
     × ComesToSame {Out = ℕ} (Err fault.TimedOut) (Err fault.Worn)

@@ -1,7 +1,7 @@
 -- What a call with a deadline does: the wait of all devices, while a timer is set. After
 -- tsemacquire in semacquire(2) and tsleep of the kernel; the ticks, that a call waits for the note
 -- of a tick that took its timer, and which notes are put back, are own.
-use Rattle.std.specs.Prelude.{◌≡◌, ◌≢◌, ◌⊎◌, ⊤, ℕ, zero, suc, Bool, true, false, Some, None}
+use Rattle.std.specs.Prelude.{◌≡◌, ◌≢◌, ◌⊎◌, ⊤, ℕ, zero, suc, Bool, true, false, Option, Some, None}
 use Rattle.std.specs.Prelude.{Result, Ok, Err}
 use Rattle.kernel_lock.specs.Seats.{number_of, opening_of, seen_of}
 use Rattle.rendez_words.specs.Process.{Process, pid_in}
@@ -16,6 +16,7 @@ use Rattle.sync_base.specs.declared.note.Note.TheVariants.{Expired}
 use Rattle.sync_base.specs.declared.note.NoteSet.{NoteSet}
 use Rattle.sync_base.specs.NoteSet.{no_notes, joined, holds}
 use Rattle.timer_list.specs.declared.limits.TheConstants.{LAST_THRESHOLD}
+use Rattle.timer_list.specs.declared.timed.SetTimer.{SetTimer}
 use Rattle.timer_list.specs.declared.timer_object.TimerCall.TheVariants.{Add, Cancel}
 use Rattle.timer_list.specs.declared.timer_object.TimerReply.TheVariants as told
 use Rattle.timer_list.specs.declared.timers.Timers.{Timers}
@@ -112,6 +113,15 @@ module _ {Out : Type 0} (expired : Bool) (others : NoteSet) where
 
 -- ---- the call
 
+-- a timer is set
+abbrev pub IsSet : SetTimer → Type 0
+IsSet set = IsSeatAtTimers set.timers.now true set.seat.now
+
+-- so is the one that a call has, if it has one
+abbrev pub IsSetIfAny : Option SetTimer → Type 0
+IsSetIfAny None = ⊤
+IsSetIfAny (Some set) = IsSet set
+
 -- this holds of a timer at each request behind a sleep, and else these are a call's requests
 abbrev pub while_set : {Seat Out : Type 0} → Type 0 → Promise Seat Out → Promise Seat Out
 while_set Timer promise =
@@ -129,13 +139,20 @@ pub record TimedPoint (Seat : Type 0) : Type 0 where
 abbrev pub timed_point : {Seat : Type 0} → Seat → TimerSeat → Running → TimedPoint Seat
 timed_point seat timer proc = record { at = point seat proc; timer = timer }
 
--- how its sleeps ended, whether a tick had taken its timer then, and where that tick's note had
--- come
-pub record Stop (Out : Type 0) : Type 0 where
-  pub ending : WaitEnd Out
-  pub process : Process
+-- Behind its sleeps a call cancelled its timer, awaited the note of a tick that had taken it, and
+-- kept what came.
+pub record EndsInTime {Out : Type 0} (rendez : RendezId) (timers : Timers) (set : TimerSeat)
+    (ending : WaitEnd Out) (slept : Process) (answer : Result Out Fault) (timer : TimerSeat)
+    (after : Process) : Type 0 where
+  -- whether a tick had taken its timer
   pub expired : Bool
+  pub cancelled : AsksTimers timers false (Cancel (number_of set.seat)) (cancel_reply expired)
+      set timer
+  -- where that tick's note had come
   pub awaited : Awaiting
+  pub awaits : AwaitsTick rendez expired (record { process = slept; notes = notes_of ending })
+      awaited
+  pub kept : Keeps expired (without_expired awaited.notes) ending answer awaited.process after
 
 module _ {Seat Out : Type 0} (promise : Promise Seat Out) (rendez : RendezId) (timers : Timers)
     (moment : ℕ) where
@@ -145,27 +162,22 @@ module _ {Seat Out : Type 0} (promise : Promise Seat Out) (rendez : RendezId) (t
     pub begun : promise.begun before.at (reply_of answer) after.at
     pub timer : after.timer ≡ before.timer
 
-  -- It was told to wait, and then: it set its timer; it slept while that was set; it cancelled its
-  -- timer; it awaited the note of a tick that had taken it; and it kept what came.
+  -- It was told to wait, and then: it set its timer; it slept while that was set; and it ended so.
   pub record WaitsInTime (before : TimedPoint Seat) (answer : Result Out Fault)
       (after : TimedPoint Seat) : Type 0 where
     pub first : WaitPoint Seat
     pub set : TimerSeat
-    pub stop : Stop Out
+    pub ending : WaitEnd Out
+    pub process : Process
     pub begun : promise.begun before.at (Wait first.number) first.at
     pub added : AsksTimers timers true
         (Add (number_of before.timer.seat) (pid_in before.at.process) moment) told.Added
         before.timer set
     pub slept : SleepsOn (while_set (IsSeatAtTimers timers true set) promise) rendez first
-        stop.ending (record { seat = after.at.seat; process = stop.process })
-    pub cancelled : AsksTimers timers false (Cancel (number_of set.seat))
-        (cancel_reply stop.expired) set after.timer
-    pub awaited : AwaitsTick rendez stop.expired
-        (record { process = stop.process; notes = notes_of stop.ending }) stop.awaited
-    pub kept : Keeps stop.expired (without_expired stop.awaited.notes) stop.ending answer
-        stop.awaited.process after.at.process
+        ending (record { seat = after.at.seat; process = process })
+    pub ended : EndsInTime rendez timers set ending process answer after.timer after.at.process
     -- where a tick took its timer, that was at its deadline or later
-    pub taken : stop.expired ≡ true
+    pub taken : ended.expired ≡ true
         → WasTaken (opening_of timer_definition timers.lock) (number_of before.timer.seat)
         moment (seen_of after.timer.seat)
 

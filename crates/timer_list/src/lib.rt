@@ -19,6 +19,7 @@ mod tournament;
 mod within;
 
 pub use due::Due;
+pub use timed::SetTimer;
 pub use timer_object::{Timer, TimerCall, TimerObject, TimerReply};
 pub use timers::{OpenedTimers, TimerSeat, Timers};
-pub use within::wait_within;
+pub use within::{end_within, wait_within};

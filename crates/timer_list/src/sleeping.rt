@@ -66,7 +66,18 @@ impl Timers {
             return Err(Fault::BadLevel);
         }
         let call = Sleeping { threshold };
-        wait_within(rt, proc, rendez, &call, &mut (), self, timer, now, ms, &mut NoProbe)
+        wait_within(
+            rt,
+            proc,
+            rendez,
+            &call,
+            &mut (),
+            self,
+            timer,
+            now,
+            ms,
+            &mut NoProbe,
+        )
     }
 }
 

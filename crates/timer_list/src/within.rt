@@ -4,9 +4,10 @@ ghost use Rattle.sync_base.specs.declared.note.Note.TheVariants.{Expired};
 ghost use Rattle.sync_base.specs.NoteSet.{holds};
 ghost use Rattle.kernel_lock.specs.Seats.{number_of};
 ghost use Rattle.rendez_words.specs.Words.{rendez_of};
-ghost use Rattle.timer_list.specs.Seats.{IsTimerSeatOf};
+ghost use Rattle.timer_list.specs.Seats.{IsSeatAtTimers, IsTimerSeatOf};
 ghost use Rattle.timer_list.specs.Timers.{deadline_of};
 ghost use Rattle.timer_list.specs.Timing.{
+  EndsInTime,
   IsACall,
   Keeps,
   Looks,
@@ -22,7 +23,7 @@ ghost use Rattle.timer_list.specs.Timing.{
 ghost use Rattle.waiting.specs.Waiting.{point};
 
 use crate::limits::LAST_THRESHOLD;
-use crate::timed::Timed;
+use crate::timed::{SetTimer, Timed};
 use crate::timer_object::deadline;
 use crate::timers::{TimerSeat, Timers};
 use sleep_wakeup::Proc;
@@ -77,17 +78,38 @@ pub fn wait_within<R: Wait, C: WaitingCall, P: Probe>(
         Reply::Refused(why) => Err(why),
         Reply::Wait(number) => {
             timers.add(rt, timer, pid, deadline(now, ms));
-            let timed = Timed {
-                call,
+            let set = SetTimer {
                 timers,
-                timer,
+                seat: timer,
             };
+            let timed = Timed { call, set };
             let ending = sleep_for(rt, proc, rendez, &timed, seat, number, probe);
-            let expired = timers.cancel(rt, timer);
-            let came = await_tick(rt, proc, rendez, expired, taken_by(&ending));
-            answer_timed(proc, ending, expired, came)
+            end_within(rt, proc, rendez, timers, timer, ending)
         }
     }
+}
+
+/// The rest of a call with a deadline, behind its sleeps: it cancels its timer, awaits the note of
+/// a tick that has taken it, and answers. It waits for the timers' lock. Takes no memory.
+pub fn end_within<R: Wait, T: Drop>(
+    rt: &R,
+    proc: &mut Proc<'_>,
+    rendez: RendezId,
+    timers: &Timers,
+    timer: &mut TimerSeat,
+    ending: WaitEnd<T>,
+) -> Result<T, Fault>
+    requires rendez { rendez.0 < rendez_of proc.old.words }
+    requires set { IsSeatAtTimers timers.now true timer.old }
+    ensures words { proc.new.words ≡ proc.old.words }
+    ensures timer { IsTimerSeatOf timers.now timer.new }
+    ensures timer_number { number_of timer.new.seat ≡ number_of timer.old.seat }
+    ensures ended { EndsInTime rendez timers.now timer.old ending proc.old.process result
+        timer.new proc.new.process }
+{
+    let expired = timers.cancel(rt, timer);
+    let came = await_tick(rt, proc, rendez, expired, taken_by(&ending));
+    answer_timed(proc, ending, expired, came)
 }
 
 // The notes that ended the sleeps.

@@ -3,7 +3,7 @@ ghost use Rattle.std.specs.Prelude.{◌≡◌, ◌<◌, IfErr, OnOk};
 ghost use Rattle.sync_base.specs.declared.limits.TheConstants.{TOP_LEVEL};
 ghost use Rattle.rendez_words.specs.Words.{rendez_of};
 ghost use Rattle.sleep_wakeup.specs.Actions.{SleepsWell, FailsAsleep, PutsBack};
-ghost use Rattle.waiting.specs.Waiting.{Waited, WaitsOn, SleepsOn, point, told};
+ghost use Rattle.waiting.specs.Waiting.{Returns, SleepsOn, Waited, WaitsOn, answer_of, point, told};
 
 use crate::call::{Reply, WaitingCall};
 use sleep_wakeup::Proc;
@@ -57,7 +57,18 @@ pub fn wait_on<R: Wait, C: WaitingCall, P: Probe>(
     ensures waited { WaitsOn (C.promise call.now) rendez (told seat.old proc.old number) result
         (point seat.new proc.new) }
 {
-    match sleep_for(rt, proc, rendez, call, seat, number, probe) {
+    let ending = sleep_for(rt, proc, rendez, call, seat, number, probe);
+    end_wait(proc, ending)
+}
+
+/// What a call answers whose sleeps ended so. Where it had come to something by then, the notes
+/// that ended its last sleep are pending again. Takes no memory and doesn't wait.
+pub fn end_wait<T: Drop>(proc: &mut Proc<'_>, ending: WaitEnd<T>) -> Result<T, Fault>
+    ensures answer { result ≡ answer_of ending }
+    ensures returned { Returns ending proc.old.process proc.new.process }
+    ensures words { proc.new.words ≡ proc.old.words }
+{
+    match ending {
         WaitEnd::Answered(answer) => answer,
         WaitEnd::Stopped(why, Some(out)) => {
             put_back(proc, why);

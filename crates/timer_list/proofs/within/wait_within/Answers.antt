@@ -1,5 +1,4 @@
--- It is answered at once; or it sets its timer, sleeps, cancels its timer, awaits the note of a
--- tick that has taken it, and keeps what came.
+-- It is answered at once; or it sets its timer, sleeps, and ends its wait.
 use Rattle.std.proofs.Common.{◌<◌, Ok, Err, false, true, inl, inr, refl, sym, ap, ◌∙◌, subst}
 use Rattle.kernel_lock.specs.Seats.{number_of}
 use Rattle.rendez_words.specs.Words.{rendez_of}
@@ -35,28 +34,23 @@ sleep_for-ending-requires-clause-rendez g c =
     subst (λ words. c.args.rendez.0 < rendez_of words) (sym c.in-Wait.ensures.words)
     c.requires.rendez
 
-pub cancel-expired-requires : goal.cancel-expired-requires
-cancel-expired-requires g c = c.add.ensures.asks.seat
-
-pub await_tick-came-requires : goal.await_tick-came-requires
-await_tick-came-requires g c =
+pub end_within-requires-clause-rendez : goal.end_within-requires-clause-rendez
+end_within-requires-clause-rendez g c =
     subst (λ words. c.args.rendez.0 < rendez_of words)
     (sym (c.sleep_for-ending.ensures.words ∙ c.in-Wait.ensures.words)) c.requires.rendez
 
-pub returns-in-Wait-clause-timer : goal.returns-in-Wait-clause-timer
-returns-in-Wait-clause-timer g c = c.cancel-expired.ensures.asks.seat
+pub end_within-requires-clause-set : goal.end_within-requires-clause-set
+end_within-requires-clause-set g c = c.add.ensures.asks.seat
 
 pub returns-in-Wait-clause-timer_number : goal.returns-in-Wait-clause-timer_number
 returns-in-Wait-clause-timer_number g c =
-    c.cancel-expired.ensures.asks.number ∙ c.add.ensures.asks.number
+    c.end_within.ensures.timer_number ∙ c.add.ensures.asks.number
 
 pub returns-in-Wait-clause-waited : goal.returns-in-Wait-clause-waited
 returns-in-Wait-clause-waited g c =
     let timers = c.args.timers.now in
     let set = c.add.new.seat in
-    let ending = c.sleep_for-ending.result in
-    let expired = c.cancel-expired.result in
-    let last = c.sleep_for-ending.new.proc.process in
+    let ended = c.end_within.ensures.ended in
     let pid : Pid = record { 0 = c.args.proc.now.process.pid } in
     let moment = deadline_of c.args.now c.args.ms in
     let added : AsksTimers timers true (Add (number_of c.args.timer.now.seat) pid moment) Added
@@ -72,31 +66,17 @@ returns-in-Wait-clause-waited g c =
     inr (record {
       first = told c.begin.new.seat c.begin.new.proc c.in-Wait.number;
       set = set;
-      stop = record {
-        ending = ending;
-        process = last;
-        expired = expired;
-        awaited = awaiting c.await_tick-came.new.proc c.await_tick-came.result;
-      };
+      ending = c.sleep_for-ending.result;
+      process = c.sleep_for-ending.new.proc.process;
       begun = c.in-Wait.ensures.asked;
       added = added;
       slept = c.sleep_for-ending.ensures.slept;
-      cancelled = c.cancel-expired.ensures.asks;
-      awaited = record {
-        times = c.await_tick-came.ensures.looks.0;
-        looks = subst
-            (λ notes. Looks c.args.rendez expired c.await_tick-came.ensures.looks.0
-            (record { process = last; notes = notes })
-            (awaiting c.await_tick-came.new.proc c.await_tick-came.result))
-            c.taken_by.ensures c.await_tick-came.ensures.looks.1;
-        came = c.await_tick-came.ensures.came;
-      };
-      kept = c.answer_timed.ensures.kept;
-      taken = λ is. took_it timers moment pid c.args.timer.now set
-          c.cancel-expired.new.seat c.requires.timer.opened added
+      ended = ended;
+      taken = λ is. took_it timers moment pid c.args.timer.now set c.end_within.new.timer
+          c.requires.timer.opened added
           (subst
           (λ b. AsksTimers timers false (Cancel (number_of set.seat)) (cancel_reply b) set
-          c.cancel-expired.new.seat) is c.cancel-expired.ensures.asks);
+          c.end_within.new.timer) is ended.cancelled);
     })
 
 pub returns-in-Done-clause-is_call : goal.returns-in-Done-clause-is_call
@@ -120,6 +100,6 @@ returns-in-Wait-clause-is_call g c =
     untimed (g.C.WaitingCall.promise c.args.call.now) c.args.rendez c.args.timers.now
     (deadline_of c.args.now c.args.ms)
     (timed_point c.args.seat.now c.args.timer.now c.args.proc.now)
-    c.answer_timed.result
-    (timed_point c.sleep_for-ending.new.seat c.cancel-expired.new.seat c.answer_timed.new.proc)
+    c.end_within.result
+    (timed_point c.sleep_for-ending.new.seat c.end_within.new.timer c.end_within.new.proc)
     (returns-in-Wait-clause-waited g c)

@@ -2,12 +2,13 @@
 use Rattle.std.proofs.Common.{◌≡◌, ◌≢◌, ◌<◌, [], ℕ}
 use Rattle.sync_base.specs.declared.limits.TheConstants.{TOP_LEVEL}
 use Rattle.block_queue.specs.Seats.{key_of}
+use Rattle.timer_list.specs.Timing.{IsSetIfAny, while_set}
 use Rattle.waiting.specs.Waiting.{Rounds}
 use Rattle.pipe_dev.specs.Ends.{IsReadCursor}
 use Rattle.pipe_dev.specs.ReadCalls.{reading}
 use Rattle.pipe_dev.specs.ReadSteps.{told_with}
 use Rattle.pipe_dev.specs.Rendezes.{reader_rendez}
-use Rattle.pipe_dev.proofs.reading.read_on.Given as goal
+use Rattle.pipe_dev.proofs.reading.sleep_for_bytes.Given as goal
 
 abbrev pub invariant-reading : goal.invariant-reading
 invariant-reading g l =
@@ -17,7 +18,8 @@ invariant-reading g l =
       room : l.buffer ≢ [];
       low : l.number < TOP_LEVEL;
       times : ℕ;
-      rounds : Rounds (reading (key_of l.queue) l.row) (reader_rendez l.row) times
+      rounds : Rounds (while_set (IsSetIfAny l.initial.set) (reading (key_of l.queue) l.row))
+          (reader_rendez l.row) times
           (told_with l.initial.cursor l.initial.proc l.initial.buffer l.initial.number)
           (told_with l.cursor l.proc l.buffer l.number);
     }

@@ -1,0 +1,109 @@
+-- Each way out of the wait, from the rounds before it.
+use Rattle.std.proofs.Common.{suc, refl, sym, ◌∙◌, subst, arith}
+use Rattle.block_queue.specs.Seats.{key_of}
+use Rattle.sleep_wakeup.specs.Calls.{WhyNotSlept}
+use Rattle.sleep_wakeup.specs.Actions.{SleepsWell}
+use Rattle.waiting.specs.Waiting.{IsLow}
+use Rattle.waiting.proofs.RoundLemmas.{fails_asleep}
+use Rattle.pipe_dev.specs.ReadCalls.{AsksForBytes, calling, reader_with}
+use Rattle.pipe_dev.specs.ReadSteps.{told_by, told_with}
+use Rattle.pipe_dev.specs.Rendezes.{OwnsRow, reader_rendez}
+use Rattle.pipe_dev.proofs.reading.sleep_for_bytes.Goals as goal
+
+pub returns-in-Err-clause-slept : goal.returns-in-Err-clause-slept
+returns-in-Err-clause-slept g c =
+    let row = c.args.row.now in
+    let kept = c.reading.invariant in
+    let has = subst (λ w. OwnsRow w row) (sym kept.words) c.requires.kernel in
+    record {
+      times = kept.times;
+      last = told_with c.reading.cursor c.reading.proc c.reading.buffer c.reading.number;
+      rounds = kept.rounds;
+      ends = record {
+        failed = fails_asleep c.reading.proc.words c.reading.proc.process (reader_rendez row)
+            c.reading.number c.sleep.new.self.process c.in-Err.why (omega (arith, has)) kept.low
+            (subst (λ r. WhyNotSlept c.reading.proc.words c.reading.proc.process r
+            c.reading.number c.sleep.new.self.process c.in-Err.why) c.reader.ensures
+            c.in-Err.ensures.fault);
+        left = (c.requires.set, refl);
+      };
+    }
+
+pub returns-in-Got-clause-slept : goal.returns-in-Got-clause-slept
+returns-in-Got-clause-slept g c =
+    let key = key_of c.args.queue.now in
+    let row = c.args.row.now in
+    record {
+      times = c.reading.invariant.times;
+      last = told_with c.reading.cursor c.reading.proc c.reading.buffer c.reading.number;
+      rounds = c.reading.invariant.rounds;
+      ends = record {
+        woken = c.sleep.new.self.process;
+        slept = subst (λ r. SleepsWell c.reading.proc.process r c.reading.number
+            c.sleep.new.self.process) c.reader.ensures c.in-Ok.ensures.slept;
+        asked = (
+          c.requires.set,
+          subst (λ f. AsksForBytes key row
+              (calling (reader_with c.reading.cursor c.sleep.new.self) c.reading.buffer)
+              (told_by f)
+              (calling (reader_with c.ask_for_bytes-now.result.cursor c.ask_for_bytes-now.new.proc)
+              c.ask_for_bytes-now.new.buffer))
+              c.in-Got.is c.ask_for_bytes-now.ensures.asked,
+        );
+      };
+    }
+
+pub returns-in-End-clause-slept : goal.returns-in-End-clause-slept
+returns-in-End-clause-slept g c =
+    let key = key_of c.args.queue.now in
+    let row = c.args.row.now in
+    record {
+      times = c.reading.invariant.times;
+      last = told_with c.reading.cursor c.reading.proc c.reading.buffer c.reading.number;
+      rounds = c.reading.invariant.rounds;
+      ends = record {
+        woken = c.sleep.new.self.process;
+        slept = subst (λ r. SleepsWell c.reading.proc.process r c.reading.number
+            c.sleep.new.self.process) c.reader.ensures c.in-Ok.ensures.slept;
+        asked = (
+          c.requires.set,
+          subst (λ f. AsksForBytes key row
+              (calling (reader_with c.reading.cursor c.sleep.new.self) c.reading.buffer)
+              (told_by f)
+              (calling (reader_with c.ask_for_bytes-now.result.cursor c.ask_for_bytes-now.new.proc)
+              c.ask_for_bytes-now.new.buffer))
+              c.in-End.is c.ask_for_bytes-now.ensures.asked,
+        );
+      };
+    }
+
+pub reading-preserved : goal.reading-preserved
+reading-preserved g c =
+    let key = key_of c.args.queue.now in
+    let row = c.args.row.now in
+    let kept = c.reading.invariant in
+    record {
+      cursor = c.ask_for_bytes-now.ensures.cursor;
+      words = c.ask_for_bytes-now.ensures.words ∙ (c.sleep.ensures.words ∙ kept.words);
+      room = c.ask_for_bytes-now.ensures.room;
+      low = subst (λ f. IsLow (told_by f)) c.in-NotYet.is c.ask_for_bytes-now.ensures.low;
+      times = suc kept.times;
+      rounds = record {
+        between = told_with c.reading.cursor c.reading.proc c.reading.buffer c.reading.number;
+        rounds = kept.rounds;
+        last = record {
+          woken = c.sleep.new.self.process;
+          slept = subst (λ r. SleepsWell c.reading.proc.process r c.reading.number
+              c.sleep.new.self.process) c.reader.ensures c.in-Ok.ensures.slept;
+          asked = (
+            c.requires.set,
+            subst (λ f. AsksForBytes key row
+                (calling (reader_with c.reading.cursor c.sleep.new.self) c.reading.buffer)
+                (told_by f)
+                (calling (reader_with c.ask_for_bytes-now.result.cursor c.ask_for_bytes-now.new.proc)
+                c.ask_for_bytes-now.new.buffer))
+                c.in-NotYet.is c.ask_for_bytes-now.ensures.asked,
+          );
+        };
+      };
+    }
