@@ -88,8 +88,7 @@ module _ (watch : Watching) where
       ≡ record {
         at = record {
           seat = record {
-            account = reader.end.account;
-            rest = reader.end.rest;
+            taker = record { account = reader.end.account; rest = reader.end.rest };
             buffer = 1 ∷ 2 ∷ [];
           };
           process = reader.proc.process;

@@ -16,11 +16,7 @@ pub fn call_reader<R: Wait>(
     call: Call,
 ) -> Answer {
     match call.verb {
-        Verb::Read
-        | Verb::ReadWithin
-        | Verb::TryRead
-        | Verb::NextPiece
-        | Verb::ReadExact
+        Verb::Read | Verb::ReadWithin | Verb::TryRead | Verb::NextPiece | Verb::ReadExact
             if !make_room(bytes, call.first) => { refused(Fault::Memory) }
         Verb::Read => have_read(reader.read(rt, bytes.as_mut_slice())),
         Verb::ReadWithin => read_within(rt, reader, bytes, watch, call.deadline),

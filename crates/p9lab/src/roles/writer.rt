@@ -39,7 +39,10 @@ fn write_within<R: Wait>(
 ) -> Answer {
     let Deadline { now, ms } = deadline;
     match watch {
-        Some(watch) => numbered("taken", writer.write_within(alloc, rt, watch, now, ms, bytes)),
+        Some(watch) => numbered(
+            "taken",
+            writer.write_within(alloc, rt, watch, now, ms, bytes),
+        ),
         None => Answer::of("no clock"),
     }
 }
