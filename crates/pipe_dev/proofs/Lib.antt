@@ -26,3 +26,4 @@ pub mod BlockLemmas
 pub mod WorkedOpenings
 pub mod WorkedEnds
 mod WorkedDirections
+mod WorkedTimes

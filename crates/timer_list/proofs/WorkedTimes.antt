@@ -20,7 +20,8 @@ use Rattle.timer_list.specs.Timing.{AwaitsTick, Awaiting, BegunAtOnce, ComesToSa
 use Rattle.timer_list.specs.Timing.{IsEndedByNotes, Keeps, Looks, LooksForTick, PutsBackAny}
 use Rattle.timer_list.specs.Timing.{TimedPoint, WaitedInTime, WaitsInTime, notes_in, notes_of}
 use Rattle.timer_list.specs.Timing.{IsSetIfAny, while_set, without_expired}
-use Rattle.waiting.specs.declared.call.Reply.TheVariants.{Wait}
+use Rattle.timer_list.specs.Sleeping.{sleeping}
+use Rattle.waiting.specs.declared.call.Reply.TheVariants.{Done, Wait}
 use Rattle.waiting.specs.declared.wait.WaitEnd.{WaitEnd}
 use Rattle.waiting.specs.declared.wait.WaitEnd.TheVariants.{Answered, Stopped}
 use Rattle.waiting.specs.Waiting.{Point, Promise, Waited, reply_of}
@@ -193,3 +194,27 @@ module _ {Seat Out : Type 0} (promise : Promise Seat Out) (rendez : RendezId) (b
   comes_to_another : ((told : Result Out Fault) → ¬ ComesToSame told answer)
       → ¬ IsACall promise rendez before answer after
   comes_to_another none is = none is.told is.same
+
+-- ---- a sleep as a call
+
+module _ (before after : Point Unit) where
+  sleeps_with_another_threshold : ¬ (sleeping 4).begun before (Wait 3) after
+  sleeps_with_another_threshold begun = omega (arith, begun.0)
+
+  is_over_before_it_sleeps : ¬ (sleeping 4).begun before (Done tt) after
+  is_over_before_it_sleeps begun = begun
+
+  does_more_as_it_begins : after ≢ before → ¬ (sleeping 4).begun before (Wait 4) after
+  does_more_as_it_begins other begun = other begun.1
+
+  sleeps_once_more : ¬ (sleeping 4).asked before (Wait 4) after
+  sleeps_once_more asked = asked
+
+  does_more_as_it_ends : after ≢ before → ¬ (sleeping 4).asked before (Done tt) after
+  does_more_as_it_ends other asked = other asked
+
+comes_to_something_late : ¬ (sleeping 4).left tt (Some tt) tt
+comes_to_something_late left = left
+
+comes_to_nothing : (sleeping 4).left tt None tt
+comes_to_nothing = tt

@@ -1,0 +1,84 @@
+-- Calls of the ends with a deadline that did what none may do, each against one row.
+use Rattle.std.proofs.Common.{◌≡◌, ◌≢◌, ◌⊎◌, ℕ, List, [], ◌∷◌, Result, Ok, Err, inl, inr, refl, sym}
+use Rattle.std.proofs.Common.{ap, ◌∙◌}
+use Rattle.histories.specs.declared.account.Account.{Account}
+use Rattle.sync_base.specs.declared.fault.Fault.{Fault}
+use Rattle.sync_base.specs.declared.fault.Fault.TheVariants as fault
+use Rattle.rendez_words.specs.Process.{Process}
+use Rattle.block_queue.specs.declared.entry.Entry.{Entry}
+use Rattle.block_queue.specs.declared.view.Key.{Key}
+use Rattle.pipe_dev.specs.declared.answers.ReadAnswer.{ReadAnswer}
+use Rattle.pipe_dev.specs.declared.answers.ReadAnswer.TheVariants as read
+use Rattle.pipe_dev.specs.declared.row.Row.{Row}
+use Rattle.pipe_dev.specs.Filling.{Lending}
+use Rattle.pipe_dev.specs.ReadCalls.{Calling, IsARead, Reads, ReadsInTime, calling_at, lent_at}
+use Rattle.pipe_dev.specs.ReadCalls.{reading, timed_call}
+use Rattle.pipe_dev.specs.Rendezes.{reader_rendez, writer_rendez}
+use Rattle.pipe_dev.specs.WriteCalls.{IsAWrite, IsRefusedAs, WriteCall, Writer, Writes, WritesInTime}
+use Rattle.pipe_dev.specs.WriteCalls.{writing}
+use Rattle.timer_list.specs.declared.timers.Timers.{Timers}
+use Rattle.timer_list.specs.declared.timers.TimerSeat.{TimerSeat}
+use Rattle.timer_list.specs.Timing.{ComesToSame, TimedPoint, WaitedInTime}
+
+-- ---- at once
+
+-- a write that is refused for this
+abbrev refusal : Fault → Result ℕ Fault
+refusal why = Err why
+
+module _ {At : Type 0} (old new : At) where
+  refused_for_another_reason :
+      ¬ IsRefusedAs {Out = ℕ} fault.TooBig old (Err fault.NoRendez) new
+  refused_for_another_reason is =
+      let clash : refusal fault.NoRendez ≡ refusal fault.TooBig = is.answer_is in cc
+
+  refused_and_does_it : new ≢ old → ¬ IsRefusedAs {Out = ℕ} fault.TooBig old (Err fault.TooBig) new
+  refused_and_does_it other is = other is.same
+
+-- ---- until a moment
+
+module _ (call : WriteCall) (timers : Timers) (moment : ℕ) (old new : TimedPoint (Account Entry))
+    (answer : Result ℕ Fault) where
+  -- it neither wanted memory nor waited
+  writes_in_no_way : ¬ IsRefusedAs fault.Memory old answer new
+      → ¬ WaitedInTime (writing call) (writer_rendez call.row call.writer) timers moment old answer
+      new → ¬ WritesInTime call timers moment old answer new
+  writes_in_no_way none waited (inl wants) = none wants
+  writes_in_no_way none waited (inr waits) = waited waits
+
+-- where a read stands with a timer is where it stands, and the timer
+the_timer_goes_along : (call : Calling) (timer : TimerSeat)
+    → ((timed_call call timer).at ≡ lent_at call) × ((timed_call call timer).timer ≡ timer)
+the_timer_goes_along call timer = (refl, refl)
+
+module _ (key : Key) (row : Row) (timers : Timers) (moment : ℕ) (old new : TimedPoint Lending)
+    (answer : Result ReadAnswer Fault) where
+  -- it did not wait on the reader's Rendez
+  reads_in_no_way :
+      ¬ WaitedInTime (reading key row) (reader_rendez row) timers moment old answer new
+      → ¬ ReadsInTime key row timers moment old answer new
+  reads_in_no_way waited reads = waited reads
+
+-- ---- as a call without a deadline
+
+module _ (call : WriteCall) (old : Writer) (new : Account Entry) where
+  accepted_as_another : ((told : Result ℕ Fault) → ¬ ComesToSame told (Ok 7))
+      → ¬ IsAWrite call old (Ok 7) new
+  accepted_as_another none is = none is.told is.same
+
+  is_no_write : (answer : Result ℕ Fault)
+      → ((told : Result ℕ Fault) (process : Process)
+      → ¬ Writes call old told (record { seat = new; process = process }))
+      → ¬ IsAWrite call old answer new
+  is_no_write answer none is = none is.told is.process is.wrote
+
+module _ (key : Key) (row : Row) (old : Calling) (new : Lending) (answer : Result ReadAnswer Fault)
+  where
+    reads_another : ((told : Result ReadAnswer Fault) → ¬ ComesToSame told answer)
+        → ¬ IsARead key row old answer new
+    reads_another none is = none is.told is.same
+
+    is_no_read : ((told : Result ReadAnswer Fault) (process : Process)
+        → ¬ Reads key row old told (calling_at (record { seat = new; process = process })))
+        → ¬ IsARead key row old answer new
+    is_no_read none is = none is.told is.process is.read
