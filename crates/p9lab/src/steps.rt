@@ -434,6 +434,7 @@ pub fn begin<R: Threads + Wait + Copy + Send + 'static>(
 fn prepare(actor: &mut Actor, call: Call, words: &Words<'_>) -> bool {
     match call.verb {
         Verb::Write | Verb::WriteLong | Verb::Put => fill(&mut actor.bytes, words.list[2]),
+        Verb::WriteWithin => fill(&mut actor.bytes, words.list[4]),
         _ => true,
     }
 }

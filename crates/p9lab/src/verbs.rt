@@ -15,8 +15,10 @@ pub enum Verb {
     PutBack,
     // pipe(2)
     Write,
+    WriteWithin,
     WriteLong,
     Read,
+    ReadWithin,
     TryRead,
     ReadBlock,
     NextPiece,
@@ -97,8 +99,10 @@ fn entry_of(word: &str) -> Option<Entry> {
 fn entry_of_object(word: &str) -> Option<Entry> {
     match word {
         "write" => row(Verb::Write, Shape::Text),
+        "write_within" => row_within(Verb::WriteWithin, Shape::Text),
         "write_long" => row(Verb::WriteLong, Shape::Text),
         "read" => row(Verb::Read, Shape::Number),
+        "read_within" => row_within(Verb::ReadWithin, Shape::Number),
         "try_read" => row(Verb::TryRead, Shape::Number),
         "read_block" => row(Verb::ReadBlock, Shape::Bare),
         "next_piece" => row(Verb::NextPiece, Shape::Number),

@@ -1,15 +1,19 @@
 -- What is no clock, no watch and no reason to refuse one: each against one row of what the calls of
 -- a clock say. And where a call with a watch stands.
-use Rattle.std.proofs.Common.{◌≡◌, ◌≢◌, ◌<◌, length, ap, arith, Some, None, refl}
+use Rattle.std.proofs.Common.{◌≡◌, ◌≢◌, ◌<◌, [], ◌∷◌, length, ap, arith, Some}
+use Rattle.std.proofs.Common.{None, refl}
 use Rattle.kernel_lock.specs.Seats.{number_of, account_of, given_of, limit_of}
 use Rattle.sync_base.specs.declared.fault.Fault.TheVariants as fault
 use Rattle.sleep_wakeup.specs.Kernel.{Running}
 use Rattle.timer_list.specs.declared.timers.TimerSeat.{TimerSeat}
+use Rattle.plan9.specs.declared.pipes.Reader.{Reader}
+use Rattle.plan9.specs.declared.pipes.Writer.{Writer}
 use Rattle.plan9.specs.Halls.{Visiting}
 use Rattle.plan9.specs.Pools.{Holding}
 use Rattle.plan9.specs.Watches.{Clocked, Watching, IsNewClock, IsTaken, IsFirstWatch}
 use Rattle.plan9.specs.Watches.{IsSameWatch, IsFurtherWatch, WhyNoWatch}
 use Rattle.plan9.specs.Watches.{watched_point, watched_guest, watched_sleeper}
+use Rattle.plan9.specs.Watches.{watched_read, watched_write}
 
 module _ (clock : Clocked) (watch : Watching) where
   -- somebody has the first seat of a new clock
@@ -79,3 +83,23 @@ module _ (watch : Watching) where
   sleeper_stands : (proc : Running) → watched_sleeper proc watch
       ≡ record { at = record { seat = tt; process = proc.process }; timer = watch.seat }
   sleeper_stands proc = refl
+
+  reader_stands : (reader : Reader) → watched_read reader watch (1 ∷ 2 ∷ [])
+      ≡ record {
+        at = record {
+          seat = record {
+            taker = record { account = reader.end.account; rest = reader.end.rest };
+            buffer = 1 ∷ 2 ∷ [];
+          };
+          process = reader.proc.process;
+        };
+        timer = watch.seat;
+      }
+  reader_stands reader = refl
+
+  writer_stands : (writer : Writer) → watched_write writer watch
+      ≡ record {
+        at = record { seat = writer.end.account; process = writer.proc.process };
+        timer = watch.seat;
+      }
+  writer_stands writer = refl

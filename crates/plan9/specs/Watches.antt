@@ -1,15 +1,22 @@
 -- What clauses see of a clock, and of a seat at its timers.
-use Rattle.std.specs.Prelude.{◌≡◌, ⊤, ℕ, Option, Some, None}
+use Rattle.std.specs.Prelude.{◌≡◌, ⊤, ℕ, List, Option, Some, None}
 use Rattle.sync_base.specs.declared.fault.Fault.{Fault}
 use Rattle.sync_base.specs.declared.fault.Fault.TheVariants as fault
+use Rattle.histories.specs.declared.account.Account.{Account}
 use Rattle.kernel_lock.specs.Seats.{number_of, Splits, KnowsAllGiven}
+use Rattle.sleep_wakeup.specs.Kernel.{Running}
 use Rattle.timer_list.specs.declared.timers.Timers.{Timers}
 use Rattle.timer_list.specs.declared.timers.TimerSeat.{TimerSeat}
 use Rattle.timer_list.specs.Seats.{AreNewTimers, IsTimerSeatOf}
 use Rattle.timer_list.specs.Timing.{TimedPoint, timed_point}
 use Rattle.semaphore.specs.declared.sema.SemaSeat.{SemaSeat}
-use Rattle.sleep_wakeup.specs.Kernel.{Running}
 use Rattle.tag_space.specs.declared.member.Member.{Member}
+use Rattle.block_queue.specs.declared.entry.Entry.{Entry}
+use Rattle.pipe_dev.specs.Filling.{Lending}
+use Rattle.pipe_dev.specs.ReadCalls.{calling, reader_of, timed_call}
+use Rattle.pipe_dev.specs.WriteCalls.{timed_writer}
+use Rattle.plan9.specs.declared.pipes.Reader.{Reader}
+use Rattle.plan9.specs.declared.pipes.Writer.{Writer}
 use Rattle.plan9.specs.Halls.{Visiting}
 use Rattle.plan9.specs.Pools.{Holding}
 
@@ -71,3 +78,12 @@ watched_guest guest watch = timed_point guest.member watch.seat guest.running
 -- that of a process alone, which sleeps
 abbrev pub watched_sleeper : Running → Watching → TimedPoint Unit
 watched_sleeper proc watch = timed_point tt watch.seat proc
+
+-- that of a reader, with what its buffer holds
+abbrev pub watched_read : Reader → Watching → List ℕ → TimedPoint Lending
+watched_read reader watch buffer =
+    timed_call (calling (reader_of reader.end reader.proc) buffer) watch.seat
+
+-- that of a writer
+abbrev pub watched_write : Writer → Watching → TimedPoint (Account Entry)
+watched_write writer watch = timed_writer writer.end watch.seat writer.proc

@@ -3,6 +3,7 @@ ghost use Rattle.std.specs.Prelude.{◌≡◌, length, IfOk, IfErr, OnErr};
 ghost use Rattle.plan9.specs.Pipes.{HaveEnds, WhyNoWriters};
 ghost use Rattle.plan9.specs.Refusals.{ComeBack};
 
+use crate::clock::Watch;
 use crate::refusals::Unforked;
 use pipe_dev::{Long, ReadAnswer, ReadEnd, TryAnswer, WriteEnd};
 use sleep_wakeup::{Proc, Roster};
@@ -33,7 +34,11 @@ impl<'p, 'k> Reader<'p, 'k> {
     ghost use Rattle.pipe_dev.specs.BlockReads.{ReadsBlock};
     ghost use Rattle.pipe_dev.specs.Ends.{IsSameReadEnd};
     ghost use Rattle.pipe_dev.specs.ReadCalls.{Reads, Tries, IsUntouchedRead, calling, reader_of};
+    ghost use Rattle.pipe_dev.specs.ReadCalls.{ReadsInTime};
     ghost use Rattle.pipe_dev.specs.Rendezes.{OwnsRow, WakesIfKnown};
+    ghost use Rattle.pipe_dev.specs.WriteCalls.{IsRefusedAs};
+    ghost use Rattle.timer_list.specs.Timers.{deadline_of};
+    ghost use Rattle.plan9.specs.Watches.{IsSameWatch, watched_read};
 
     /// A process with a read end. Takes no memory and doesn't wait.
     pub fn new(end: ReadEnd<'p>, proc: Proc<'k>) -> Reader<'p, 'k>
@@ -67,6 +72,52 @@ impl<'p, 'k> Reader<'p, 'k> {
         ensures words { self.new.proc.words ≡ self.old.proc.words }
     {
         self.end.read(rt, &mut self.proc, buffer)
+    }
+
+    /// A `read` that waits until a tick of the clock at the moment `now` + `ms` or later; that
+    /// moment is at most `u64::MAX`. Own; read(2) waits as long as it takes.
+    ///
+    /// Refuses, in this order, as `BadCount`, `NoRendez` and `DoubleSleep` as `read` does, as
+    /// `Interrupted` with the notes that ended the wait, and as `TimedOut` where a tick did so and
+    /// no other note came; a refused read got nothing. With any other answer other notes that came
+    /// are pending again. Where a tick has taken its timer, it waits for that tick's note before it
+    /// answers, so that no late expiry reaches a later sleep. Takes no memory.
+    pub fn read_within<R: Wait>(
+        &mut self,
+        rt: &R,
+        watch: &mut Watch<'_>,
+        now: u64,
+        ms: u32,
+        buffer: &mut [u8],
+    ) -> Result<ReadAnswer, Fault>
+        // A buffer of no bytes is refused first, and then a process of a kernel that does not own
+        // all the Rendez of the direction.
+        ensures bad_count { buffer.old ≡ [] → IsRefusedAs BadCount
+            (watched_read self.old watch.old buffer.old) result
+            (watched_read self.new watch.new buffer.new) }
+        ensures no_rendez { buffer.old ≢ [] → ¬ OwnsRow self.old.proc.words self.old.end.row
+            → IsRefusedAs NoRendez
+            (watched_read self.old watch.old buffer.old) result
+            (watched_read self.new watch.new buffer.new) }
+
+        // Else it read, slept and woke so, and asked its timers so.
+        ensures read { buffer.old ≢ [] → OwnsRow self.old.proc.words self.old.end.row
+            → ReadsInTime (key_of self.old.end.queue) self.old.end.row watch.old.timers
+            (deadline_of now ms) (watched_read self.old watch.old buffer.old) result
+            (watched_read self.new watch.new buffer.new) }
+        ensures end { IsSameReadEnd self.old.end self.new.end }
+        ensures words { self.new.proc.words ≡ self.old.proc.words }
+        ensures watch { IsSameWatch watch.old watch.new }
+    {
+        self.end.read_within(
+            rt,
+            &mut self.proc,
+            watch.timers,
+            &mut watch.seat,
+            now,
+            ms,
+            buffer,
+        )
     }
 
     /// A `read` that does not wait: `NotYet` where nothing is there yet. Takes no memory.
@@ -145,7 +196,10 @@ impl<'p, 'k> Writer<'p, 'k> {
     ghost use Rattle.block_queue.specs.Seats.{key_of};
     ghost use Rattle.pipe_dev.specs.Ends.{IsSameWriteEnd};
     ghost use Rattle.pipe_dev.specs.Rendezes.{OwnsRow, WakesIfKnown};
-    ghost use Rattle.pipe_dev.specs.WriteCalls.{Writes, WritesLong, call_of, writer_of};
+    ghost use Rattle.pipe_dev.specs.WriteCalls.{IsRefusedAs, Writes, WritesInTime, WritesLong};
+    ghost use Rattle.pipe_dev.specs.WriteCalls.{call_of, writer_of};
+    ghost use Rattle.timer_list.specs.Timers.{deadline_of};
+    ghost use Rattle.plan9.specs.Watches.{IsSameWatch, watched_write};
 
     /// A process with a write end. Takes no memory and doesn't wait.
     pub fn new(end: WriteEnd<'p>, proc: Proc<'k>) -> Writer<'p, 'k>
@@ -179,6 +233,56 @@ impl<'p, 'k> Writer<'p, 'k> {
         ensures words { self.new.proc.words ≡ self.old.proc.words }
     {
         self.end.write(alloc, rt, &mut self.proc, bytes)
+    }
+
+    /// A `write` that waits until a tick of the clock at the moment `now` + `ms` or later; that
+    /// moment is at most `u64::MAX`. Memory is taken for the bytes. Own; write(2) waits as long as
+    /// it takes.
+    ///
+    /// Refuses, in this order, as `TooBig`, `NoRendez`, `Memory`, `Hungup`, `Worn` and
+    /// `DoubleSleep` as `write` does, as `Interrupted` with the notes that ended the wait, and as
+    /// `TimedOut` where a tick did so and no other note came; a refused write took nothing. With
+    /// any other answer other notes that came are pending again. Where a tick has taken its timer,
+    /// it waits for that tick's note before it answers, so that no late expiry reaches a later
+    /// sleep.
+    pub fn write_within<R: Wait>(
+        &mut self,
+        alloc: Global,
+        rt: &R,
+        watch: &mut Watch<'_>,
+        now: u64,
+        ms: u32,
+        bytes: &[u8],
+    ) -> Result<u64, Fault>
+        // A write above the atomic size is refused first, and then a process of a kernel that does
+        // not own all the Rendez of the direction.
+        ensures too_big { ATOMIC_SIZE < length bytes.now
+            → IsRefusedAs TooBig (watched_write self.old watch.old) result
+            (watched_write self.new watch.new) }
+        ensures no_rendez { length bytes.now ≤ ATOMIC_SIZE
+            → ¬ OwnsRow self.old.proc.words self.old.end.row
+            → IsRefusedAs NoRendez (watched_write self.old watch.old) result
+            (watched_write self.new watch.new) }
+
+        // Else it wrote, slept and woke so, and asked its timers so, or wanted memory.
+        ensures wrote { length bytes.now ≤ ATOMIC_SIZE
+            → OwnsRow self.old.proc.words self.old.end.row
+            → WritesInTime (call_of self.old.end bytes.now) watch.old.timers (deadline_of now ms)
+            (watched_write self.old watch.old) result (watched_write self.new watch.new) }
+        ensures end { IsSameWriteEnd self.old.end self.new.end }
+        ensures words { self.new.proc.words ≡ self.old.proc.words }
+        ensures watch { IsSameWatch watch.old watch.new }
+    {
+        self.end.write_within(
+            alloc,
+            rt,
+            &mut self.proc,
+            watch.timers,
+            &mut watch.seat,
+            now,
+            ms,
+            bytes,
+        )
     }
 
     /// Writes these bytes as writes of the atomic size, and one of the rest; no bytes are one empty

@@ -1,8 +1,8 @@
 //! The examples of the manual pages, line for line. `tests/pages` compares them with the pages.
 use crate::kernels::{forked, kernel_of};
 use plan9::{
-    Clock, Fault, Flags, Kernel, Note, NoteSet, OpenedKernel as Opened, Pid, Proc, RendezId, Roster,
-    Started,
+    Clock, Fault, Flags, Kernel, Note, NoteSet, OpenedKernel as Opened, Pid, Proc, RendezId,
+    Roster, Started,
 };
 use std::process::Abort;
 use std::thread::join;
@@ -35,7 +35,10 @@ fn sleep_page_until_a_moment(rt: HostRuntime) {
         panic!(rt; "nobody has its first seat")
     };
     assert!(rt; proc.wakeup(READY, 1).is_ok());
-    assert_eq!(rt; watch.sleep_within(&rt, &mut proc, READY, 0, 100, 50), Ok(()));
+    assert_eq!(rt;
+        watch.sleep_within(&rt, &mut proc, READY, 0, 100, 50),
+        Ok(())
+    );
     assert_eq!(rt; watch.tick(&rt, &mut proc, 150), 0);
 }
 

@@ -1,7 +1,7 @@
 //! A process that reads a direction of a pipe or a stream.
 use crate::answer::{Answer, have_filled, have_piece, have_read, have_tried, refused};
 use crate::roles::plain::call_plain;
-use crate::verbs::{Call, Verb};
+use crate::verbs::{Call, Deadline, Verb};
 use plan9::{Fault, Reader, Watch};
 use std::sync::Wait;
 
@@ -16,9 +16,10 @@ pub fn call_reader<R: Wait>(
     call: Call,
 ) -> Answer {
     match call.verb {
-        Verb::Read | Verb::TryRead | Verb::NextPiece | Verb::ReadExact
+        Verb::Read | Verb::ReadWithin | Verb::TryRead | Verb::NextPiece | Verb::ReadExact
             if !make_room(bytes, call.first) => { refused(Fault::Memory) }
         Verb::Read => have_read(reader.read(rt, bytes.as_mut_slice())),
+        Verb::ReadWithin => read_within(rt, reader, bytes, watch, call.deadline),
         Verb::TryRead => have_tried(reader.try_read(bytes.as_mut_slice())),
         Verb::ReadBlock => have_read(reader.read_block(rt, bytes)),
         Verb::NextPiece => have_piece(reader.next_piece(rt, bytes.as_mut_slice())),
@@ -31,6 +32,20 @@ pub fn call_reader<R: Wait>(
             Answer::of("ok")
         }
         _ => call_plain(rt, &mut reader.proc, watch, call),
+    }
+}
+
+fn read_within<R: Wait>(
+    rt: &R,
+    reader: &mut Reader<'_, '_>,
+    bytes: &mut Vec<u8>,
+    watch: &mut Option<Watch<'_>>,
+    deadline: Deadline,
+) -> Answer {
+    let Deadline { now, ms } = deadline;
+    match watch {
+        Some(watch) => have_read(reader.read_within(rt, watch, now, ms, bytes.as_mut_slice())),
+        None => Answer::of("no clock"),
     }
 }
 

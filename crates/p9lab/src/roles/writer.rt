@@ -2,7 +2,7 @@
 use crate::answer::{Answer, have_written, numbered};
 use crate::lines::number_of;
 use crate::roles::plain::call_plain;
-use crate::verbs::{Call, Verb};
+use crate::verbs::{Call, Deadline, Verb};
 use plan9::{Watch, Writer};
 use std::alloc::Global;
 use std::sync::Wait;
@@ -17,12 +17,33 @@ pub fn call_writer<R: Wait>(
 ) -> Answer {
     match call.verb {
         Verb::Write => numbered("taken", writer.write(alloc, rt, bytes.as_slice())),
+        Verb::WriteWithin => {
+            write_within(rt, alloc, writer, bytes.as_slice(), watch, call.deadline)
+        }
         Verb::WriteLong => have_written(writer.write_long(alloc, rt, bytes.as_slice())),
         Verb::Hangup => {
             writer.hangup();
             Answer::of("ok")
         }
         _ => call_plain(rt, &mut writer.proc, watch, call),
+    }
+}
+
+fn write_within<R: Wait>(
+    rt: &R,
+    alloc: Global,
+    writer: &mut Writer<'_, '_>,
+    bytes: &[u8],
+    watch: &mut Option<Watch<'_>>,
+    deadline: Deadline,
+) -> Answer {
+    let Deadline { now, ms } = deadline;
+    match watch {
+        Some(watch) => numbered(
+            "taken",
+            writer.write_within(alloc, rt, watch, now, ms, bytes),
+        ),
+        None => Answer::of("no clock"),
     }
 }
 
