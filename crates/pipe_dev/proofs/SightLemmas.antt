@@ -20,6 +20,7 @@ module _ {Seat Seen Out : Type 0} (see : Seat → Seen) (promise : Promise Seen 
   abbrev Seeing : Promise Seat Out
   Seeing = seen_by see promise
 
+  -- where a call stands, as it sees it
   abbrev pub told_at : WaitPoint Seat → WaitPoint Seen
   told_at told = record { at = seen_at see told.at; number = told.number }
 

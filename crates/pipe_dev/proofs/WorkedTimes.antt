@@ -14,8 +14,8 @@ use Rattle.pipe_dev.specs.Filling.{Lending}
 use Rattle.pipe_dev.specs.ReadCalls.{Calling, IsARead, Reads, ReadsInTime, calling_at, lent_at}
 use Rattle.pipe_dev.specs.ReadCalls.{reading, timed_call}
 use Rattle.pipe_dev.specs.Rendezes.{reader_rendez, writer_rendez}
-use Rattle.pipe_dev.specs.WriteCalls.{IsAWrite, IsRefusedAs, WriteCall, Writer, Writes, WritesInTime}
-use Rattle.pipe_dev.specs.WriteCalls.{writing}
+use Rattle.pipe_dev.specs.WriteCalls.{IsAWrite, IsRefusedAs, WriteCall, Writer, Writes}
+use Rattle.pipe_dev.specs.WriteCalls.{WritesInTime, writing}
 use Rattle.timer_list.specs.declared.timers.Timers.{Timers}
 use Rattle.timer_list.specs.declared.timers.TimerSeat.{TimerSeat}
 use Rattle.timer_list.specs.Timing.{ComesToSame, TimedPoint, WaitedInTime}

@@ -100,8 +100,8 @@ reading-preserved g c =
             subst (λ f. AsksForBytes key row
                 (calling (reader_with c.reading.cursor c.sleep.new.self) c.reading.buffer)
                 (told_by f)
-                (calling (reader_with c.ask_for_bytes-now.result.cursor c.ask_for_bytes-now.new.proc)
-                c.ask_for_bytes-now.new.buffer))
+                (calling (reader_with c.ask_for_bytes-now.result.cursor
+                c.ask_for_bytes-now.new.proc) c.ask_for_bytes-now.new.buffer))
                 c.in-NotYet.is c.ask_for_bytes-now.ensures.asked,
           );
         };
