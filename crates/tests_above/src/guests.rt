@@ -1,7 +1,10 @@
-//! Eight processes that meet at random tags, while a ninth posts notes at random. Each exchange is
-//! told by both sides, each once, with the other's value.
+//! Eight processes that meet at random tags, every other time until a moment, while a ninth ticks
+//! and posts notes at random. Each exchange is told by both sides, each once, with the other's
+//! value.
 use crate::kernels::{forked, kernel_of, push};
-use plan9::{Fault, Guest, Hall, Note, NoteSet, OpenedKernel, Pid, Proc, Started, Tag};
+use plan9::{
+    Clock, Fault, Guest, Hall, Note, NoteSet, OpenedKernel, Pid, Proc, Started, Tag, Watch,
+};
 use std::alloc::Global;
 use std::process::Abort;
 use std::sync::Wait;
@@ -17,9 +20,14 @@ const TAGS: u64 = 4;
 /// How many meetings there are, at least.
 const MEETINGS: u64 = 2_000;
 
+/// How many moments a call with a deadline waits.
+const MOMENTS: u32 = 8;
+
 /// What the callers and the poster tell each other, outside the hall.
 #[derive(Drop)]
 struct Board {
+    /// The moment of the last tick.
+    now: AtomicU64,
     /// How many calls were answered with a value.
     told: AtomicU64,
     /// How many callers have ended.
@@ -49,18 +57,21 @@ struct Exchange {
     got: u64,
 }
 
-/// What came of a caller: its exchanges, and how many calls were ended by notes, and refused.
+/// What came of a caller: its exchanges, and how many calls were ended by notes, by ticks, and
+/// refused.
 #[derive(Drop)]
 struct Work {
     exchanges: Vec<Exchange>,
     interrupted: u64,
+    timed_out: u64,
     refused: u64,
 }
 
 /// A caller of the crowd.
 #[derive(Drop)]
-struct Job<'s, 'k> {
+struct Job<'s, 't, 'k> {
     guest: Guest<'s, 'k>,
+    watch: Watch<'t>,
     number: u64,
 }
 
@@ -72,9 +83,20 @@ fn value_of(number: u64, call: u64, tag: u64) -> u64 {
         .wrapping_add(tag)
 }
 
-// Calls once with this tag.
+// Calls once under the tag of this value, with a deadline or without.
+fn rendezvous<R: Wait>(rt: &R, job: &mut Job, board: &Board, given: u64) -> Result<u64, Fault> {
+    let tag = Tag(given % 256);
+    if given % 512 < 256 {
+        return job.guest.rendezvous(rt, tag, given);
+    }
+    let now = board.now.load(SeqCst);
+    job.guest
+        .rendezvous_within(rt, &mut job.watch, now, MOMENTS, tag, given)
+}
+
+// The same, and what comes of it.
 fn calls<R: Wait + Abort>(rt: &R, job: &mut Job, board: &Board, work: &mut Work, given: u64) {
-    match job.guest.rendezvous(rt, Tag(given % 256), given) {
+    match rendezvous(rt, job, board, given) {
         Ok(got) => {
             board.told.fetch_add(1, SeqCst);
             if work.exchanges.push(Exchange { given, got }).is_err() {
@@ -82,6 +104,7 @@ fn calls<R: Wait + Abort>(rt: &R, job: &mut Job, board: &Board, work: &mut Work,
             }
         }
         Err(Fault::Interrupted(_)) => work.interrupted = work.interrupted.saturating_add(1),
+        Err(Fault::TimedOut) => work.timed_out = work.timed_out.saturating_add(1),
         Err(_) => work.refused = work.refused.saturating_add(1),
     }
 }
@@ -91,6 +114,7 @@ fn works<R: Wait + Abort>(rt: &R, alloc: Global, mut job: Job, board: &Board) ->
     let mut work = Work {
         exchanges: Vec::new(alloc),
         interrupted: 0,
+        timed_out: 0,
         refused: 0,
     };
     let number = job.number;
@@ -106,8 +130,9 @@ fn works<R: Wait + Abort>(rt: &R, alloc: Global, mut job: Job, board: &Board) ->
     work
 }
 
-// Posts notes at random until all callers have ended. Says whether none was refused.
-fn posts<R: Wait>(rt: &R, mut proc: Proc, board: &Board) -> bool {
+// Posts notes at random and ticks until all callers have ended. Says whether no note was refused,
+// and no tick ended more waits than there may be.
+fn posts<R: Wait>(rt: &R, mut proc: Proc, mut watch: Watch, board: &Board) -> bool {
     let mut good = true;
     let mut dice = Dice { state: CALLERS };
     for _ in rt.forever() {
@@ -116,6 +141,8 @@ fn posts<R: Wait>(rt: &R, mut proc: Proc, board: &Board) -> bool {
         }
         let to = Pid(dice.roll(CALLERS).wrapping_add(1));
         good = proc.postnote(to, NoteSet::of(Note::Alarm)).is_ok() && good;
+        let now = board.now.fetch_add(1, SeqCst).wrapping_add(1);
+        good = watch.tick(rt, &mut proc, now) <= CALLERS && good;
         yield_now();
     }
     good
@@ -133,29 +160,40 @@ fn joined<'s, 'k, R: Wait + Abort>(
     }
 }
 
-// The crowd's callers, each with its number.
-fn jobs_of<'s, 'k, R: Wait + Abort>(
+// The seat at the clock of a caller.
+fn watch_of<'t, R: Wait + Abort>(rt: &R, watch: &mut Watch<'t>) -> Watch<'t> {
+    match watch.split(rt) {
+        Ok(watch) => watch,
+        Err(_) => panic!(rt; "no seat at the clock"),
+    }
+}
+
+// The crowd's callers, each with its number and its seat at the clock.
+fn jobs_of<'s, 't, 'k, R: Wait + Abort>(
     rt: &R,
     alloc: Global,
     started: &mut Started<'k>,
     hall: &'s mut Hall,
-) -> Vec<Job<'s, 'k>> {
+    watch: &mut Watch<'t>,
+) -> Vec<Job<'s, 't, 'k>> {
     let Ok(mut first) = hall.first(forked(rt, started)) else {
         panic!(rt; "no place in the hall")
     };
     let mut jobs = Vec::new(alloc);
     for number in 1..CALLERS {
-        let guest = joined(rt, &mut first, forked(rt, started));
-        push(rt, &mut jobs, Job { guest, number });
+        let job = Job {
+            guest: joined(rt, &mut first, forked(rt, started)),
+            watch: watch_of(rt, watch),
+            number,
+        };
+        push(rt, &mut jobs, job);
     }
-    push(
-        rt,
-        &mut jobs,
-        Job {
-            guest: first,
-            number: 0,
-        },
-    );
+    let job = Job {
+        guest: first,
+        watch: watch_of(rt, watch),
+        number: 0,
+    };
+    push(rt, &mut jobs, job);
     jobs
 }
 
@@ -177,31 +215,37 @@ fn are_halves(rt: &impl Abort, all: &[Exchange]) {
     }
 }
 
-// Nothing was refused, some notes ended a wait, and each exchange has its other half.
+// Nothing was refused, some notes and some ticks ended a wait, and each exchange has its other
+// half.
 fn meet_in_pairs(rt: &impl Abort, alloc: Global, done: &[Work]) {
     let mut all = Vec::new(alloc);
     let mut interrupted = 0u64;
+    let mut timed_out = 0u64;
     for work in done.iter() {
         assert_eq!(rt; work.refused, 0);
         interrupted = interrupted.saturating_add(work.interrupted);
+        timed_out = timed_out.saturating_add(work.timed_out);
         if all.extend_from_slice(work.exchanges.as_slice()).is_err() {
             panic!(rt; "no memory for the exchanges");
         }
     }
     assert!(rt; all.len() as u64 >= 2 * MEETINGS);
     assert!(rt; interrupted > 0, "some notes came in time");
+    assert!(rt; timed_out > 0, "some ticks came in time");
     all.sort_unstable();
     are_halves(rt, all.as_slice());
 }
 
-// Runs the crowd, beside one that posts notes.
-fn run_crowd<'s, 'k, R: Threads + Wait + Abort + Sync>(
+// Runs the crowd, beside one that posts notes and ticks.
+fn run_crowd<'s, 't, 'k, R: Threads + Wait + Abort + Sync>(
     rt: &R,
     alloc: Global,
-    jobs: Vec<Job<'s, 'k>>,
+    jobs: Vec<Job<'s, 't, 'k>>,
     poster: Proc<'k>,
+    watch: Watch<'t>,
 ) -> Vec<Work> {
     let board = Board {
+        now: AtomicU64::new(0),
         told: AtomicU64::new(0),
         ended: AtomicU64::new(0),
     };
@@ -212,7 +256,7 @@ fn run_crowd<'s, 'k, R: Threads + Wait + Abort + Sync>(
             jobs,
             &|job: Job| -> Work { works(rt, alloc, job, &board) },
         ),
-        || posts(rt, poster, &board),
+        || posts(rt, poster, watch, &board),
     );
     assert!(rt; good);
     match done {
@@ -225,11 +269,15 @@ fn meet<'k, R: Threads + Wait + Abort + Sync>(
     rt: &R,
     alloc: Global,
     hall: &mut Hall,
+    clock: &mut Clock,
     started: Started<'k>,
 ) {
     let mut started = started;
-    let jobs = jobs_of(rt, alloc, &mut started, hall);
-    let done = run_crowd(rt, alloc, jobs, started.proc);
+    let Ok(mut watch) = clock.first() else {
+        panic!(rt; "no seat at the clock")
+    };
+    let jobs = jobs_of(rt, alloc, &mut started, hall, &mut watch);
+    let done = run_crowd(rt, alloc, jobs, started.proc, watch);
     meet_in_pairs(rt, alloc, done.as_slice());
 }
 
@@ -237,8 +285,9 @@ fn meet<'k, R: Threads + Wait + Abort + Sync>(
 fn a_crowd_meets_in_pairs(rt: HostRuntime) {
     let OpenedKernel { kernel, start } = kernel_of(&rt, rt.alloc(), CALLERS + 1, CALLERS);
     let mut started = kernel.start(start);
-    match Hall::new(rt.alloc(), &mut started.roster, CALLERS) {
-        Ok(mut hall) => meet(&rt, rt.alloc(), &mut hall, started),
-        Err(_) => panic!(rt; "no hall"),
+    let hall = Hall::new(rt.alloc(), &mut started.roster, CALLERS);
+    match (hall, Clock::new(rt.alloc(), CALLERS + 1)) {
+        (Ok(mut hall), Ok(mut clock)) => meet(&rt, rt.alloc(), &mut hall, &mut clock, started),
+        _ => panic!(rt; "no hall"),
     }
 }
