@@ -48,6 +48,8 @@ impl Timers {
             → result ≡ Err BadLevel }
         ensures refused_there { rendez_of proc.old.words ≤ rendez.0 → proc.new ≡ proc.old }
         ensures refused_level { TOP_LEVEL ≤ threshold → proc.new ≡ proc.old }
+        ensures timer_there { rendez_of proc.old.words ≤ rendez.0 → timer.new ≡ timer.old }
+        ensures timer_level { TOP_LEVEL ≤ threshold → timer.new ≡ timer.old }
 
         // Else it slept, with its timer set.
         ensures slept { rendez.0 < rendez_of proc.old.words → threshold < TOP_LEVEL
