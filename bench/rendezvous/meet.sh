@@ -9,7 +9,7 @@ work=$top/bench/out/meet
 rounds=${1:-5}
 
 . "$top/bench/repo.sh"
-lay_out "sync_base histories kernel_lock sleep_core rendez_words sleep_wakeup waiting tag_space" \
+lay_out "sync_base histories kernel_lock sleep_core rendez_words sleep_wakeup waiting timer_list tag_space" \
     "meet_bench: sync_base sleep_wakeup tag_space"
 mkdir -p "$bench/proofs/exchange" "$bench/proofs/jobs_of"
 cp "$here/exchange.invariants" "$bench/proofs/exchange/Invariants.antt"

@@ -10,7 +10,7 @@ work=$top/bench/out/rendezvous
 rounds=${1:-5}
 
 . "$top/bench/repo.sh"
-lay_out "sync_base histories kernel_lock sleep_core rendez_words sleep_wakeup waiting tag_space" "object_bench: sync_base tag_space"
+lay_out "sync_base histories kernel_lock sleep_core rendez_words sleep_wakeup waiting timer_list tag_space" "object_bench: sync_base tag_space"
 cp "$here/object.rattle" "$bench/src/main.rt"
 
 build

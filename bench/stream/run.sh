@@ -9,7 +9,7 @@ top=$here/../..
 work=$top/bench/out/stream
 
 . "$top/bench/repo.sh"
-lay_out "sync_base histories sleep_core kernel_lock rendez_words sleep_wakeup waiting block_queue pipe_dev" \
+lay_out "sync_base histories sleep_core kernel_lock rendez_words sleep_wakeup waiting timer_list block_queue pipe_dev" \
     "stream_bench: sync_base sleep_wakeup pipe_dev"
 cp "$here/stream.rattle" "$bench/src/main.rt"
 
