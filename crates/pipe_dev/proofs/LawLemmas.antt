@@ -1,10 +1,10 @@
 -- The headline: what was read and is held is what was accepted.
-use Rattle.std.proofs.Common.{◌≡◌, ◌≢◌, ◌⊎◌, ◌==◌, ◌+◌, ◌≤◌, inl, inr, ℕ, Bool, true, false, eqb}
+use Rattle.std.proofs.Common.{◌≡◌, ◌==◌, ◌+◌, ◌≤◌, ℕ, Bool, true, false, eqb}
 use Rattle.std.proofs.Common.{if◌then◌else◌, List, [], ◌∷◌, ◌++◌, length, take, drop, refl, sym}
 use Rattle.std.proofs.Common.{◌∙◌, ap, subst, arith}
 use Rattle.std.specs.Prelude.{map}
 use Rattle.std.specs.List.{AllByRecursion}
-use Rattle.std.proofs.lemmas.Bool.Decides.{eqb_tells}
+use Rattle.std.proofs.lemmas.Bool.Decides.{nat_tests}
 use Rattle.std.proofs.lemmas.List.{append_assoc, append-nil, length-append, length-take-le}
 use Rattle.std.proofs.lemmas.List.{take-append-le, take-append-drop}
 use Rattle.std.proofs.lemmas.List.Elements.{filter-append}
@@ -15,8 +15,8 @@ use Rattle.histories.specs.History.{IsLegal, entries_by}
 use Rattle.sync_base.specs.Pipe.{PipeState}
 use Rattle.sync_base.specs.Write.{Write}
 use Rattle.block_queue.specs.declared.entry.Entry.{Entry}
-use Rattle.block_queue.specs.declared.entry.Entry.TheVariants.{Taken, Stood, Full, Hungup, Worn}
-use Rattle.block_queue.specs.declared.entry.Entry.TheVariants.{Block, NotYet, End, Hung}
+use Rattle.block_queue.specs.declared.entry.Entry.TheVariants.{Taken}
+use Rattle.block_queue.specs.declared.entry.Entry.TheVariants.{Block, Hung}
 use Rattle.block_queue.specs.declared.view.Key.{Key}
 use Rattle.block_queue.specs.History.{seat_of, opening_state}
 use Rattle.block_queue.specs.Meaning.{queue_meaning}
@@ -39,17 +39,11 @@ read_within key (Taken writer block number ∷ past) legal =
     let longer = length-append (left_state key past).accepted
     (record { writer = writer; bytes = block } ∷ []) in
     omega (arith, before, longer)
-read_within key (Stood writer number ∷ past) legal = read_within key past legal.1
-read_within key (Full writer block number ∷ past) legal = read_within key past legal.1
-read_within key (Hungup writer block ∷ past) legal = read_within key past legal.1
-read_within key (Worn writer block ∷ past) legal = read_within key past legal.1
 read_within key (Block writer block number ∷ past) legal =
     let there = slice_get_within (left_state key past).accepted (left_state key past).read_whole
     (record { writer = writer; bytes = block }) legal.0.may.next in
     omega (arith, there)
-read_within key (NotYet number ∷ past) legal = read_within key past legal.1
-read_within key (End ∷ past) legal = read_within key past legal.1
-read_within key (Hung seat ∷ past) legal = read_within key past legal.1
+read_within key (entry ∷ past) legal = read_within key past legal.1
 
 -- what others did since: they read nothing, and accepted writes came behind the others
 pub record OnlyAccepts (before after : PipeState) : Type 0 where
@@ -86,20 +80,8 @@ only_accepts key (Taken writer block number ∷ since) seen none =
           ∙ append_assoc (left_state key seen).accepted before.more (write ∷ []);
     }
 only_accepts key (Block writer block number ∷ since) seen none = cc
-only_accepts key (Stood writer number ∷ since) seen none =
-    only_accepts key since seen (none_older 0 (Stood writer number) since none)
-only_accepts key (Full writer block number ∷ since) seen none =
-    only_accepts key since seen (none_older 0 (Full writer block number) since none)
-only_accepts key (Hungup writer block ∷ since) seen none =
-    only_accepts key since seen (none_older 0 (Hungup writer block) since none)
-only_accepts key (Worn writer block ∷ since) seen none =
-    only_accepts key since seen (none_older 0 (Worn writer block) since none)
-only_accepts key (NotYet number ∷ since) seen none =
-    only_accepts key since seen (none_older 0 (NotYet number) since none)
-only_accepts key (End ∷ since) seen none =
-    only_accepts key since seen (none_older 0 End since none)
-only_accepts key (Hung seat ∷ since) seen none =
-    let before = only_accepts key since seen (none_older 0 (Hung seat) since none) in
+only_accepts key (entry ∷ since) seen none =
+    let before = only_accepts key since seen (none_older 0 entry since none) in
     record { read = before.read; more = before.more; accepted = before.accepted }
 
 -- what stands in front of a past by whom nothing is missing is not by it
@@ -120,16 +102,7 @@ none_since number since seen same =
 
 -- two numbers of writers differ where those of their seats do
 same_writer : (a b : ℕ) → eqb (a + 1) (b + 1) ≡ eqb a b
-same_writer a b = by (eqb_tells (a + 1) (b + 1)) (eqb_tells a b)
-  where
-    by : ((eqb (a + 1) (b + 1) ≡ true) × (a + 1 ≡ b + 1))
-        ⊎ ((eqb (a + 1) (b + 1) ≡ false) × (a + 1 ≢ b + 1))
-        → ((eqb a b ≡ true) × (a ≡ b)) ⊎ ((eqb a b ≡ false) × (a ≢ b))
-        → eqb (a + 1) (b + 1) ≡ eqb a b
-    by (inl x) (inl y) = x.0 ∙ sym y.0
-    by (inr x) (inr y) = x.0 ∙ sym y.0
-    by (inl x) (inr y) = absurd (y.1 (let e = x.1 in omega (arith, e)))
-    by (inr x) (inl y) = absurd (x.1 (let e = y.1 in omega (arith, e)))
+same_writer a b = grind (arith, nat_tests)
 
 -- an entry that is no acceptance adds none
 not_accepted : (number : ℕ) (entry : Entry) (past : List Entry)
@@ -172,30 +145,8 @@ bytes_by_writer key writer (Taken by block number ∷ past) =
         ≡ accepted_in (if b then Taken by block number ∷ mine else mine)
     one true = refl
     one false = append-nil (accepted_in mine)
-bytes_by_writer key writer (Stood by number ∷ past) =
-    bytes_by_writer key writer past
-    ∙ sym (not_accepted (writer + 1) (Stood by number) past (λ xs. refl))
-bytes_by_writer key writer (Full by block number ∷ past) =
-    bytes_by_writer key writer past
-    ∙ sym (not_accepted (writer + 1) (Full by block number) past (λ xs. refl))
-bytes_by_writer key writer (Hungup by block ∷ past) =
-    bytes_by_writer key writer past
-    ∙ sym (not_accepted (writer + 1) (Hungup by block) past (λ xs. refl))
-bytes_by_writer key writer (Worn by block ∷ past) =
-    bytes_by_writer key writer past
-    ∙ sym (not_accepted (writer + 1) (Worn by block) past (λ xs. refl))
-bytes_by_writer key writer (Block by block number ∷ past) =
-    bytes_by_writer key writer past
-    ∙ sym (not_accepted (writer + 1) (Block by block number) past (λ xs. refl))
-bytes_by_writer key writer (NotYet number ∷ past) =
-    bytes_by_writer key writer past
-    ∙ sym (not_accepted (writer + 1) (NotYet number) past (λ xs. refl))
-bytes_by_writer key writer (End ∷ past) =
-    bytes_by_writer key writer past
-    ∙ sym (not_accepted (writer + 1) End past (λ xs. refl))
-bytes_by_writer key writer (Hung seat ∷ past) =
-    bytes_by_writer key writer past
-    ∙ sym (not_accepted (writer + 1) (Hung seat) past (λ xs. refl))
+bytes_by_writer key writer (entry ∷ past) =
+    bytes_by_writer key writer past ∙ sym (not_accepted (writer + 1) entry past (λ xs. refl))
 
 -- the writes that were taken out and the writes behind them are all that were accepted
 whole_from-cut : (count : ℕ) (writes : List Write) → count ≤ length writes
@@ -272,28 +223,14 @@ each_share_is_read_whole_and_once key reading writers held right finishes =
 never_hung : (key : Key) (history : List Entry) → (left_state key history).hung ≡ false
     → IsNeverHung history
 never_hung key [] not_hung = tt
-never_hung key (Taken writer block number ∷ past) not_hung = never_hung key past not_hung
-never_hung key (Stood writer number ∷ past) not_hung = never_hung key past not_hung
-never_hung key (Full writer block number ∷ past) not_hung = never_hung key past not_hung
-never_hung key (Hungup writer block ∷ past) not_hung = never_hung key past not_hung
-never_hung key (Worn writer block ∷ past) not_hung = never_hung key past not_hung
-never_hung key (Block writer block number ∷ past) not_hung = never_hung key past not_hung
-never_hung key (NotYet number ∷ past) not_hung = never_hung key past not_hung
-never_hung key (End ∷ past) not_hung = never_hung key past not_hung
 never_hung key (Hung seat ∷ past) not_hung = cc
+never_hung key (entry ∷ past) not_hung = never_hung key past not_hung
 
 none_after : (key : Key) (history : List Entry) → LegalFor key history → NoWriteAfterHangup history
 none_after key [] legal = tt
 none_after key (Taken writer block number ∷ past) legal =
     (never_hung key past legal.0.may.may.0, none_after key past legal.1)
-none_after key (Stood writer number ∷ past) legal = none_after key past legal.1
-none_after key (Full writer block number ∷ past) legal = none_after key past legal.1
-none_after key (Hungup writer block ∷ past) legal = none_after key past legal.1
-none_after key (Worn writer block ∷ past) legal = none_after key past legal.1
-none_after key (Block writer block number ∷ past) legal = none_after key past legal.1
-none_after key (NotYet number ∷ past) legal = none_after key past legal.1
-none_after key (End ∷ past) legal = none_after key past legal.1
-none_after key (Hung seat ∷ past) legal = none_after key past legal.1
+none_after key (entry ∷ past) legal = none_after key past legal.1
 
 -- in no legal history of a direction a write was accepted after a hangup
 pub none_is_accepted_after_hangup : NoneIsAcceptedAfterHangup

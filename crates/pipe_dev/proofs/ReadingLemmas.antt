@@ -13,8 +13,8 @@ use Rattle.histories.specs.History.{entries_by}
 use Rattle.sync_base.specs.Pipe.{PipeState}
 use Rattle.sync_base.specs.Write.{Write}
 use Rattle.block_queue.specs.declared.entry.Entry.{Entry}
-use Rattle.block_queue.specs.declared.entry.Entry.TheVariants.{Taken, Stood, Full, Hungup, Worn}
-use Rattle.block_queue.specs.declared.entry.Entry.TheVariants.{Block, NotYet, End, Hung}
+use Rattle.block_queue.specs.declared.entry.Entry.TheVariants.{Taken}
+use Rattle.block_queue.specs.declared.entry.Entry.TheVariants.{Block}
 use Rattle.block_queue.specs.declared.view.Key.{Key}
 use Rattle.block_queue.specs.History.{seat_of}
 use Rattle.block_queue.specs.Meaning.{Enters, KnowsQueue, queue_after}
@@ -119,19 +119,7 @@ no_block_accepts : (key : Key) (past : List Entry) (entry : Entry) → IsNoBlock
 no_block_accepts key past (Taken writer block number) none =
     record { read = refl; more = record { writer = writer; bytes = block } ∷ []; accepted = refl }
 no_block_accepts key past (Block writer block number) none = absurd none
-no_block_accepts key past (Stood writer number) none =
-    record { read = refl; more = []; accepted = sym (append-nil (left_state key past).accepted) }
-no_block_accepts key past (Full writer block number) none =
-    record { read = refl; more = []; accepted = sym (append-nil (left_state key past).accepted) }
-no_block_accepts key past (Hungup writer block) none =
-    record { read = refl; more = []; accepted = sym (append-nil (left_state key past).accepted) }
-no_block_accepts key past (Worn writer block) none =
-    record { read = refl; more = []; accepted = sym (append-nil (left_state key past).accepted) }
-no_block_accepts key past (NotYet number) none =
-    record { read = refl; more = []; accepted = sym (append-nil (left_state key past).accepted) }
-no_block_accepts key past End none =
-    record { read = refl; more = []; accepted = sym (append-nil (left_state key past).accepted) }
-no_block_accepts key past (Hung seat) none =
+no_block_accepts key past entry none =
     record { read = refl; more = []; accepted = sym (append-nil (left_state key past).accepted) }
 
 -- what was read stays right where nothing is read

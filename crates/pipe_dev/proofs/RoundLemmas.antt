@@ -65,15 +65,8 @@ full_low key writer block number old new first enters =
 has_hang : (key : Key) (history : List Entry) → (queue_after key history).pipe.hung ≡ true
     → HasHang history
 has_hang key [] hung = cc
-has_hang key (Taken writer block number ∷ past) hung = has_hang key past hung
-has_hang key (Stood writer number ∷ past) hung = has_hang key past hung
-has_hang key (Full writer block number ∷ past) hung = has_hang key past hung
-has_hang key (Hungup writer block ∷ past) hung = has_hang key past hung
-has_hang key (Worn writer block ∷ past) hung = has_hang key past hung
-has_hang key (Block writer block number ∷ past) hung = has_hang key past hung
-has_hang key (NotYet number ∷ past) hung = has_hang key past hung
-has_hang key (End ∷ past) hung = has_hang key past hung
 has_hang key (Hung seat ∷ past) hung = tt
+has_hang key (entry ∷ past) hung = has_hang key past hung
 
 -- a writer that is answered Hungup has seen who hung the direction up
 pub hungup_knew : (key : Key) (writer : ℕ) (block : List ℕ) (old new : Account Entry)

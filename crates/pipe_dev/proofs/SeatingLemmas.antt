@@ -1,9 +1,9 @@
 -- Seats and the write ends that hold them.
-use Rattle.std.proofs.Common.{◌≡◌, ◌≢◌, ◌⊎◌, inl, inr, eqb, ℕ, zero, suc, ◌+◌, ◌<◌, ◌≤◌, Bool, true}
-use Rattle.std.proofs.Common.{false, List, [], ◌∷◌, length, map, refl, sym, ◌∙◌, ap, subst, arith}
+use Rattle.std.proofs.Common.{◌≡◌, eqb, ℕ, zero, suc, ◌+◌, ◌<◌, ◌≤◌, Bool, true, List, [], ◌∷◌}
+use Rattle.std.proofs.Common.{length, map, refl, sym, ◌∙◌, ap, subst, arith}
 use Rattle.std.specs.Prelude.{◌||◌, slice_get, Some}
 use Rattle.std.specs.List.{AllByRecursion}
-use Rattle.std.proofs.lemmas.Bool.Decides.{eqb_tells}
+use Rattle.std.proofs.lemmas.Bool.Decides.{nat_tests}
 use Rattle.histories.specs.declared.account.Account.{Account}
 use Rattle.histories.specs.declared.account.Share.{Share}
 use Rattle.histories.specs.Account.{numbers_from, has_number, HasItsEntries}
@@ -213,6 +213,11 @@ shares_back history (write ∷ writes) (seat ∷ seats) are theirs =
     are.0.account theirs.0)
     (shares_back history writes seats are.1 theirs.1)
 
+-- the number is that of the first share, or of one of the others
+pub either : {P : Type 0} (number own : ℕ) (others : Bool) → (number ≡ own → P)
+    → (others ≡ true → P) → (eqb number own || others) ≡ true → P
+either number own others first rest told = grind (arith, nat_tests)
+
 -- a number that has the same entries in both histories
 pub same_entries : (older history : List Entry) (number : ℕ) (shares : List (Share Entry))
     → AllByRecursion (HasItsEntries seat_of older) shares
@@ -221,20 +226,7 @@ pub same_entries : (older history : List Entry) (number : ℕ) (shares : List (S
     → entries_by seat_of number history ≡ entries_by seat_of number older
 same_entries older history number [] own own' has = cc
 same_entries older history number (share ∷ shares) own own' has =
-    by (eqb_tells share.number number)
-    (λ rest. same_entries older history number shares own.1 own'.1 rest)
-  where
-    either : (b : Bool) → b ≡ false → (b || has_number shares number) ≡ true
-        → has_number shares number ≡ true
-    either true is told = cc
-    either false is told = told
-
-    by : ((eqb share.number number ≡ true) × (share.number ≡ number))
-        ⊎ ((eqb share.number number ≡ false) × (share.number ≢ number))
-        → (has_number shares number ≡ true → entries_by seat_of number history
-        ≡ entries_by seat_of number older)
-        → entries_by seat_of number history ≡ entries_by seat_of number older
-    by (inl same) rest =
-        subst (λ (n : ℕ). entries_by seat_of n history ≡ entries_by seat_of n older) same.1
-        (own'.0.entries ∙ sym own.0.entries)
-    by (inr differ) rest = rest (either (eqb share.number number) differ.0 has)
+    either share.number number (has_number shares number)
+    (λ same. subst (λ (n : ℕ). entries_by seat_of n history ≡ entries_by seat_of n older) same
+    (own'.0.entries ∙ sym own.0.entries))
+    (same_entries older history number shares own.1 own'.1) has

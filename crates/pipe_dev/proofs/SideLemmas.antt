@@ -1,5 +1,5 @@
 -- What the calls of an end make of what it has read or written, and what a finish finds.
-use Rattle.std.proofs.Common.{◌≡◌, ◌+◌, ◌<◌, ◌++◌, ℕ, zero, suc, List, [], ◌∷◌, map, refl, sym}
+use Rattle.std.proofs.Common.{◌≡◌, ◌+◌, ◌<◌, ◌++◌, ℕ, List, [], ◌∷◌, map, refl, sym}
 use Rattle.std.proofs.Common.{◌∙◌, ap, subst, arith, Option, inr}
 use Rattle.std.proofs.lemmas.List.{append-nil}
 use Rattle.std.specs.List.{AllByRecursion}
@@ -9,8 +9,8 @@ use Rattle.histories.specs.History.{AreByBelow}
 use Rattle.histories.proofs.ListLemmas.{all_append}
 use Rattle.sync_base.specs.Write.{Write}
 use Rattle.block_queue.specs.declared.entry.Entry.{Entry}
-use Rattle.block_queue.specs.declared.entry.Entry.TheVariants.{Taken, Stood, Full, Hungup, Worn}
-use Rattle.block_queue.specs.declared.entry.Entry.TheVariants.{Block, NotYet, End, Hung}
+use Rattle.block_queue.specs.declared.entry.Entry.TheVariants.{Taken}
+use Rattle.block_queue.specs.declared.entry.Entry.TheVariants.{Hung}
 use Rattle.block_queue.specs.declared.queue.Queue.{Queue}
 use Rattle.block_queue.specs.declared.view.Key.{Key}
 use Rattle.block_queue.specs.History.{seat_of}
@@ -25,14 +25,14 @@ use Rattle.pipe_dev.specs.Finishing.{left_state, holdings_of, shares_of}
 use Rattle.pipe_dev.specs.Openings.{IsNewWriteEnd}
 use Rattle.pipe_dev.specs.Parts.{Part}
 use Rattle.pipe_dev.specs.ReadCalls.{calling, reader_of}
-use Rattle.pipe_dev.specs.Reading.{Reading, first_reading}
+use Rattle.pipe_dev.specs.Reading.{first_reading}
 use Rattle.pipe_dev.specs.Rounds.{Rounds}
 use Rattle.pipe_dev.specs.Sides.{HasReadJust, HasWrittenJust, AddsToRead, AreSameWriteEnds}
 use Rattle.pipe_dev.specs.SideLaws.{NewEndsAreUnused, ReadsAddToTheirEnd, TriesAddToTheirEnd}
 use Rattle.pipe_dev.specs.SideLaws.{ReadEndsHangUp, WritesAddToTheirEnd, WriteEndsHangUp}
 use Rattle.pipe_dev.specs.SideLaws.{CallsKeepAllEnds, FinishesFindAccepted}
 use Rattle.pipe_dev.specs.WriteCalls.{call_of, writer_of}
-use Rattle.pipe_dev.proofs.ChainLemmas.{reads_are_steps, tries_are_steps}
+use Rattle.pipe_dev.proofs.ChainLemmas.{reads_are_steps, tries_are_steps, rounds_then}
 use Rattle.pipe_dev.proofs.ChainLemmas.{each_write_is_read_whole_and_once}
 use Rattle.pipe_dev.proofs.LawLemmas.{all_accepted}
 use Rattle.pipe_dev.proofs.ReadingLemmas.{what_is_read_is_right}
@@ -40,38 +40,6 @@ use Rattle.pipe_dev.proofs.WrittenLemmas.{new_ends_have_written_nothing}
 use Rattle.pipe_dev.proofs.WrittenLemmas.{writes_add_what_was_accepted, hangups_write_nothing}
 
 -- ---- a read end
-
--- some steps of calls, one after the other
-pub record Steps (key : Key) (old new : Reading) : Type 0 where
-  -- how many steps they are
-  pub times : ℕ
-  -- each is a step of a call, and together they lead from the old to the new
-  pub steps : Rounds (ReadStep key) times old new
-
--- steps behind steps
-then : (key : Key) (old between new : Reading) (times : ℕ) → Steps key old between
-    → Rounds (ReadStep key) times between new → Steps key old new
-then key old between new zero first rounds =
-    record {
-      times = first.times;
-      steps = subst (Rounds (ReadStep key) first.times old) (sym rounds) first.steps;
-    }
-then key old between new (suc times) first rounds =
-    let before = then key old between rounds.between times first rounds.rounds in
-    record {
-      times = suc before.times;
-      steps = record {
-        between = rounds.between;
-        rounds = before.steps;
-        last = rounds.last;
-      };
-    }
-
--- an end that stays where it is has read what it has read
-stays_read : (old new : ReadSide) (parts : List Part) → IsSameReadEnd old new
-    → IsMade (key_of old.queue) (reading_of new parts) → HasReadJust new parts
-stays_read old new parts same made =
-    subst (λ (q : Queue). IsMade (key_of q) (reading_of new parts)) (sym same.queue) made
 
 -- steps add what they add
 pub steps_add : (Adds : List Part → List Part → Type 0) (old new : ReadSide)
@@ -81,17 +49,15 @@ pub steps_add : (Adds : List Part → List Part → Type 0) (old new : ReadSide)
     (reading_of new parts')
     → AddsToRead Adds old parts new
 steps_add Adds old new parts parts' times made same adds rounds =
-    let all =
-    then (key_of old.queue)
+    let all = rounds_then (ReadStep (key_of old.queue)) made.times times
     (first_reading (reader_account (key_of old.queue).writers)) (reading_of old parts)
-    (reading_of new parts') times
-    (record { times = made.times; steps = made.steps }) rounds in
+    (reading_of new parts') made.steps rounds in
     record {
       same = same;
       parts' = parts';
       added = adds;
-      just = stays_read old new parts' same
-          (record { first = made.first; times = all.times; steps = all.steps });
+      just = subst (λ (q : Queue). IsMade (key_of q) (reading_of new parts')) (sym same.queue)
+          (record { first = made.first; times = all.0; steps = all.1 });
     }
 
 -- a read adds to what its end has read just what it answers, and the end stays where it is
@@ -229,14 +195,7 @@ accepted_known key (Taken writer block number ∷ past) within =
     all_append (λ (write : Write). write.writer < key.writers) (left_state key past).accepted
     (record { writer = writer; bytes = block } ∷ []) (accepted_known key past within.1)
     (omega (arith, within.0), tt)
-accepted_known key (Stood writer number ∷ past) within = accepted_known key past within.1
-accepted_known key (Full writer block number ∷ past) within = accepted_known key past within.1
-accepted_known key (Hungup writer block ∷ past) within = accepted_known key past within.1
-accepted_known key (Worn writer block ∷ past) within = accepted_known key past within.1
-accepted_known key (Block writer block number ∷ past) within = accepted_known key past within.1
-accepted_known key (NotYet number ∷ past) within = accepted_known key past within.1
-accepted_known key (End ∷ past) within = accepted_known key past within.1
-accepted_known key (Hung seat ∷ past) within = accepted_known key past within.1
+accepted_known key (entry ∷ past) within = accepted_known key past within.1
 
 -- a finish of all ends finds each accepted write, whole and once and in the order of acceptance
 pub finishes_find_accepted : FinishesFindAccepted

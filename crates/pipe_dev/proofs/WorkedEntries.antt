@@ -1,12 +1,15 @@
 -- A direction that holds one write, entry by entry, and what a process does: the worked calls are
 -- made of these.
 use Rattle.std.proofs.Common.{◌≡◌, ◌≢◌, ℕ, false, true, List, [], ◌∷◌, ◌++◌, refl, inl, inr, ap}
-use Rattle.std.proofs.Common.{arith}
+use Rattle.std.proofs.Common.{arith, None, Result, Err}
 use Rattle.histories.specs.declared.account.Account.{Account}
 use Rattle.histories.specs.Account.{AreByOthers}
 use Rattle.histories.specs.Changes.{entered_account}
 use Rattle.histories.specs.History.{IsHistory, entries_by}
+use Rattle.sync_base.specs.declared.fault.Fault.{Fault}
+use Rattle.sync_base.specs.declared.fault.Fault.TheVariants as fault
 use Rattle.sync_base.specs.declared.ids.RendezId.{RendezId}
+use Rattle.sync_base.specs.declared.mode.Mode.{Mode}
 use Rattle.sync_base.specs.declared.mode.Mode.TheVariants.{Message}
 use Rattle.sync_base.specs.declared.note.Note.TheVariants.{Interrupt}
 use Rattle.sync_base.specs.declared.note.NoteSet.{NoteSet}
@@ -14,6 +17,7 @@ use Rattle.sync_base.specs.NoteSet.{no_notes, only}
 use Rattle.sleep_core.specs.declared.answer.Answer.TheVariants as answer
 use Rattle.rendez_words.specs.Process.{Process, TableId}
 use Rattle.rendez_words.specs.Steps.{posts, tests, clears, raises, finds_nobody}
+use Rattle.sleep_wakeup.specs.Actions.{WakesOne}
 use Rattle.sleep_wakeup.specs.Calls.{Ends, Sleeps}
 use Rattle.block_queue.specs.declared.entry.Entry.{Entry}
 use Rattle.block_queue.specs.declared.entry.Entry.TheVariants as entry
@@ -21,6 +25,10 @@ use Rattle.block_queue.specs.declared.view.Key.{Key}
 use Rattle.block_queue.specs.History.{seat_of, opening_state}
 use Rattle.block_queue.specs.Meaning.{Enters, queue_meaning}
 use Rattle.pipe_dev.specs.declared.row.Row.{Row}
+use Rattle.pipe_dev.specs.Rendezes.{WakesWriters}
+use Rattle.waiting.specs.declared.call.Reply.TheVariants.{Wait}
+use Rattle.waiting.specs.declared.wait.WaitEnd.TheVariants.{Answered, Stopped}
+use Rattle.waiting.specs.Waiting.{Promise, Point, WaitPoint, Waited, reply_of}
 
 -- the bytes of a write
 abbrev pub a : List ℕ
@@ -36,7 +44,7 @@ b = 99 ∷ []
 abbrev pub tight : Key
 tight = record { limit = 1; first = 0; writers = 1 }
 
--- these entries are a history of its two seats
+-- these entries are a history of its two seats; a search finds that they are
 abbrev pub IsRun : Key → List Entry → Type 0
 IsRun key history = IsHistory (queue_meaning key.first) (opening_state key.limit) 2 history
 
@@ -59,78 +67,6 @@ seen_5 = entry.Block 0 a 1 ∷ seen_4
 -- the other was put
 abbrev pub seen_6 : List Entry
 seen_6 = entry.Taken 0 b 2 ∷ seen_5
-
--- these are runs: nothing was there
-pub run_1 : IsRun tight seen_1
-run_1 =
-    record {
-      legal = (record { may = record { none = inl refl; number_is = refl }; in_turn = refl }, tt);
-      within = (omega arith, tt);
-    }
-
-run_2 : IsRun tight (entry.Taken 0 a 1 ∷ seen_1)
-run_2 =
-    record {
-      legal = (
-        record {
-          may = record { may = (refl, omega arith); number_is = refl; given = omega arith };
-          in_turn = refl;
-        },
-        run_1.legal,
-      );
-      within = (omega arith, run_1.within);
-    }
-
-run_3 : IsRun tight seen_3
-run_3 =
-    record {
-      legal = (record { may = tt; in_turn = refl }, run_2.legal);
-      within = (omega arith, run_2.within);
-    }
-
--- another write found no room
-pub run_4 : IsRun tight seen_4
-run_4 =
-    record {
-      legal = (
-        record { may = record { may = refl; number_is = refl }; in_turn = refl },
-        run_3.legal,
-      );
-      within = (omega arith, run_3.within);
-    }
-
--- the first was taken out
-pub run_5 : IsRun tight seen_5
-run_5 =
-    record {
-      legal = (
-        record { may = record { next = refl; number_is = refl }; in_turn = refl },
-        run_4.legal,
-      );
-      within = (omega arith, run_4.within);
-    }
-
--- the other was put
-pub run_6 : IsRun tight seen_6
-run_6 =
-    record {
-      legal = (
-        record {
-          may = record { may = (refl, omega arith); number_is = refl; given = omega arith };
-          in_turn = refl;
-        },
-        run_5.legal,
-      );
-      within = (omega arith, run_5.within);
-    }
-
--- and stood
-pub run_7 : IsRun tight (entry.Stood 0 2 ∷ seen_6)
-run_7 =
-    record {
-      legal = (record { may = tt; in_turn = refl }, run_6.legal);
-      within = (omega arith, run_6.within);
-    }
 
 -- ---- what the reader's seat knows
 
@@ -187,12 +123,36 @@ abbrev pub at_rendez : ℕ → RendezId
 at_rendez number = record { 0 = number }
 
 -- the reader sleeps on the Rendez 3, and the writer on 4
+abbrev pub row_in : Mode → Row
+row_in mode = record { first = 3; writers = 1; mode = mode; small = omega arith }
+
 abbrev pub rendez_row : Row
-rendez_row = record { first = 3; writers = 1; mode = Message; small = omega arith }
+rendez_row = row_in Message
 
 -- it made a wakeup on a Rendez, on which nobody slept
 abbrev pub woke : Process → ℕ → ℕ → Process
 woke before number level = finds_nobody (raises before (at_rendez number) level)
+
+-- this is that wakeup, by the process 0
+pub wakes_one : (before : Process) (number level : ℕ)
+    → WakesOne (record before { pid = 0 }) (at_rendez number) level
+    (woke (record before { pid = 0 }) number level)
+wakes_one before number level =
+    record {
+      receipt = record { rendez = at_rendez number; level = level };
+      woken = record { ends = inl refl; rendez_is = refl; level_is = refl; receipt = inl refl };
+    }
+
+-- and so it wakes the one writer
+pub wakes_writer : (mode : Mode) (before : Process) (level : ℕ)
+    → WakesWriters (row_in mode) 1 level (record before { pid = 0 })
+    (woke (record before { pid = 0 }) 4 level)
+wakes_writer mode before level =
+    record {
+      between = record before { pid = 0 };
+      others = refl;
+      last = wakes_one before 4 level;
+    }
 
 -- it slept: its test found the condition true, and these notes were pending as it cleared its flags
 abbrev pub slept : Process → ℕ → ℕ → NoteSet → Process
@@ -209,9 +169,68 @@ sleeps before number threshold set =
       cause = λ none. inl refl;
     }
 
--- a set of one note is not empty
-pub has_notes : only Interrupt ≢ no_notes
-has_notes none = let held = ap (λ (set : NoteSet). set.interrupt) none in cc
+-- a call that was told to wait with this number
+abbrev pub told_to_wait : {Seat : Type 0} → Seat → Process → ℕ → WaitPoint Seat
+told_to_wait seat process number =
+    record { at = record { seat = seat; process = process }; number = number }
+
+module _ {Seat Out : Type 0} (promise : Promise Seat Out) (rendez : ℕ) (old : Point Seat)
+    (told new : Seat) (before : Process) (number : ℕ)
+    (begun : promise.begun old (Wait number) (record { seat = told; process = before })) where
+  -- it slept once, and then asked and was answered
+  pub slept_once : (answer : Result Out Fault) (after : Process)
+      → promise.asked (record { seat = told; process = slept before rendez number no_notes })
+      (reply_of answer) (record { seat = new; process = after })
+      → Waited promise (at_rendez rendez) old answer (record { seat = new; process = after })
+  slept_once answer after asked =
+      inr (record {
+        first = told_to_wait told before number;
+        begun = begun;
+        waited = record {
+          ending = Answered answer;
+          process = after;
+          slept = record {
+            times = 0;
+            last = told_to_wait told before number;
+            rounds = refl;
+            ends = record {
+              woken = slept before rendez number no_notes;
+              slept = sleeps before rendez number no_notes;
+              asked = asked;
+            };
+          };
+          returned = refl;
+          answer_is = refl;
+        };
+      })
+
+  -- it slept once, and a note ended its sleep
+  pub interrupted : promise.left told None new
+      → Waited promise (at_rendez rendez) old (Err (fault.Interrupted (only Interrupt)))
+      (record { seat = new; process = slept before rendez number (only Interrupt) })
+  interrupted left =
+      inr (record {
+        first = told_to_wait told before number;
+        begun = begun;
+        waited = record {
+          ending = Stopped (fault.Interrupted (only Interrupt)) None;
+          process = slept before rendez number (only Interrupt);
+          slept = record {
+            times = 0;
+            last = told_to_wait told before number;
+            rounds = refl;
+            ends = record {
+              failed = (sleeps before rendez number (only Interrupt), has_notes);
+              left = left;
+            };
+          };
+          returned = refl;
+          answer_is = refl;
+        };
+      })
+    where
+      has_notes : only Interrupt ≢ no_notes
+      has_notes none = let held = ap (λ (set : NoteSet). set.interrupt) none in cc
 
 -- a process that has woken somebody did something
 pub is_not_idle : (table : TableId) (before : Process) (level : ℕ)

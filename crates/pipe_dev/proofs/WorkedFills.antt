@@ -1,7 +1,7 @@
 -- What a read in stream mode takes, worked out by the definitions alone: where it goes on, where it
 -- stops, and whom it wakes.
-use Rattle.std.proofs.Common.{◌≡◌, ℕ, false, true, List, [], ◌∷◌, ◌++◌, Some, None, refl, inl, inr}
-use Rattle.std.proofs.Common.{ap, arith}
+use Rattle.std.proofs.Common.{◌≡◌, ℕ, false, true, List, [], ◌∷◌, ◌++◌, Some, None, refl, inr}
+use Rattle.std.proofs.Common.{ap, rules, ◌+◌, ◌-◌, length}
 use Rattle.std.specs.Prelude.{Ok, Err}
 use Rattle.histories.specs.declared.account.Account.{Account}
 use Rattle.sync_base.specs.declared.fault.Fault.TheVariants as fault
@@ -14,11 +14,12 @@ use Rattle.pipe_dev.specs.declared.answers.ReadAnswer.TheVariants as read
 use Rattle.pipe_dev.specs.declared.answers.TryAnswer.TheVariants as try
 use Rattle.pipe_dev.specs.declared.filling.Stop.TheVariants as stop
 use Rattle.pipe_dev.specs.Chain.{AddsRead, AddsTry}
-use Rattle.pipe_dev.specs.Parts.{Part, bytes_of, rest_of}
+use Rattle.pipe_dev.specs.Parts.{Part, bytes_of, part_of, rest_of}
 use Rattle.pipe_dev.specs.ReadCalls.{came_to, is_got}
 use Rattle.pipe_dev.specs.Filling.{Taker, TakesMore, Extent, Filling, StopsAt, begins, IsFilledBy}
 use Rattle.pipe_dev.specs.Filling.{goes_further, last_number}
-use Rattle.pipe_dev.proofs.WorkedEntries.{a, b, tight, IsRun, taker, taker_enters, unread}
+use Rattle.pipe_dev.specs.Rounds.{Rounds}
+use Rattle.pipe_dev.proofs.WorkedEntries.{a, b, tight, taker, taker_enters, unread}
 
 -- these bytes of the write at this place
 abbrev pub part : ℕ → List ℕ → Part
@@ -137,84 +138,6 @@ third_out = entry.Block 0 b 3 ∷ second_out
 abbrev none_there : List Entry
 none_there = entry.NotYet 3 ∷ third_out
 
-run_written : IsRun loose written
-run_written =
-    record {
-      legal = (
-        record { may = tt; in_turn = refl },
-        (
-          record {
-            may = record { may = (refl, omega arith); number_is = refl; given = omega arith };
-            in_turn = refl;
-          },
-          (
-            record { may = tt; in_turn = refl },
-            (
-              record {
-                may = record { may = (refl, omega arith); number_is = refl; given = omega arith };
-                in_turn = refl;
-              },
-              (
-                record { may = tt; in_turn = refl },
-                (
-                  record {
-                    may =
-                        record { may = (refl, omega arith); number_is = refl; given = omega arith };
-                    in_turn = refl;
-                  },
-                  tt,
-                ),
-              ),
-            ),
-          ),
-        ),
-      );
-      within = (
-        omega arith,
-        (omega arith, (omega arith, (omega arith, (omega arith, (omega arith, tt))))),
-      );
-    }
-
-run_first : IsRun loose first_out
-run_first =
-    record {
-      legal = (
-        record { may = record { next = refl; number_is = refl }; in_turn = refl },
-        run_written.legal,
-      );
-      within = (omega arith, run_written.within);
-    }
-
-run_second : IsRun loose second_out
-run_second =
-    record {
-      legal = (
-        record { may = record { next = refl; number_is = refl }; in_turn = refl },
-        run_first.legal,
-      );
-      within = (omega arith, run_first.within);
-    }
-
-run_third : IsRun loose third_out
-run_third =
-    record {
-      legal = (
-        record { may = record { next = refl; number_is = refl }; in_turn = refl },
-        run_second.legal,
-      );
-      within = (omega arith, run_second.within);
-    }
-
-run_none : IsRun loose none_there
-run_none =
-    record {
-      legal = (
-        record { may = record { none = inl refl; number_is = refl }; in_turn = refl },
-        run_third.legal,
-      );
-      within = (omega arith, run_third.within);
-    }
-
 -- the seat that took the first write out
 abbrev pub one_out : Account Entry
 one_out = taker (entry.Block 0 a 1 ∷ []) first_out
@@ -237,24 +160,24 @@ told =
 pub takes_first : Enters loose (entry.Block 0 a 1) unread one_out
 takes_first =
     taker_enters 4 (entry.Block 0 a 1) written [] []
-    (refl, (refl, (refl, (refl, (refl, (refl, tt)))))) refl refl refl run_first
+    (search rules) refl refl refl (search rules)
 
 takes_second : Enters loose (entry.Block 0 [] 2) one_out two_out
 takes_second =
     taker_enters 4 (entry.Block 0 [] 2) [] (entry.Block 0 a 1 ∷ []) first_out tt refl refl refl
-    run_second
+    (search rules)
 
 takes_third : Enters loose (entry.Block 0 b 3) two_out all_out
 takes_third =
     taker_enters 4 (entry.Block 0 b 3) [] (entry.Block 0 [] 2 ∷ entry.Block 0 a 1 ∷ []) second_out
-    tt refl refl refl run_third
+    tt refl refl refl (search rules)
 
 -- and behind all three it finds none
 pub finds_none : Enters loose (entry.NotYet 3) all_out told
 finds_none =
     taker_enters 4 (entry.NotYet 3) []
     (entry.Block 0 b 3 ∷ entry.Block 0 [] 2 ∷ entry.Block 0 a 1 ∷ []) third_out tt refl refl refl
-    run_none
+    (search rules)
 
 -- a read end with nothing left of a write
 abbrev pub free : Account Entry → Taker
@@ -264,52 +187,43 @@ free account = record { account = account; rest = None }
 abbrev pub filling : Account Entry → List Part → Filling
 filling account parts = record { taker = free account; parts = parts }
 
--- the first write, with room for all of it
-pub fills_first : TakesMore loose (stream 4) (begins (free unread))
-    (filling one_out (part 0 a ∷ []))
-fills_first =
+-- behind some parts a whole write more is taken out, with room for all of it
+takes_whole : (old new : Account Entry) (parts : List Part) (left : Part)
+    → goes_further (stream 4) parts ≡ true
+    → Enters loose (entry.Block left.writer left.bytes (left.place + 1)) old new
+    → left ≡ part_of (4 - length (bytes_of parts)) left
+    → None ≡ rest_of (4 - length (bytes_of parts)) left
+    → TakesMore loose (stream 4) (filling old parts) (filling new (left ∷ parts))
+takes_whole old new parts left further enters part_is rest =
     record {
-      further = refl;
-      part = part 0 a;
+      further = further;
+      part = left;
       taken = record {
-        left = part 0 a;
-        next = inr record { none_left = refl; taken = takes_first };
-        part_is = refl;
-        rest = refl;
+        left = left;
+        next = inr record { none_left = refl; taken = enters };
+        part_is = part_is;
+        rest = rest;
       };
       parts = refl;
     }
 
--- then the empty one, which is passed
-pub fills_second : TakesMore loose (stream 4) (filling one_out (part 0 a ∷ []))
-    (filling two_out (part 1 [] ∷ part 0 a ∷ []))
-fills_second =
-    record {
-      further = refl;
-      part = part 1 [];
-      taken = record {
-        left = part 1 [];
-        next = inr record { none_left = refl; taken = takes_second };
-        part_is = refl;
-        rest = refl;
-      };
-      parts = refl;
-    }
-
--- and then the last
-pub fills_third : TakesMore loose (stream 4) (filling two_out (part 1 [] ∷ part 0 a ∷ []))
+-- all three writes of it, the empty one too, by a read with room for four bytes
+pub fills_all : Rounds (TakesMore loose (stream 4)) 3 (begins (free unread))
     (filling all_out (part 2 b ∷ part 1 [] ∷ part 0 a ∷ []))
-fills_third =
+fills_all =
     record {
-      further = refl;
-      part = part 2 b;
-      taken = record {
-        left = part 2 b;
-        next = inr record { none_left = refl; taken = takes_third };
-        part_is = refl;
-        rest = refl;
+      between = filling two_out (part 1 [] ∷ part 0 a ∷ []);
+      rounds = record {
+        between = filling one_out (part 0 a ∷ []);
+        rounds = record {
+          between = begins (free unread);
+          rounds = refl;
+          last = takes_whole unread one_out [] (part 0 a) refl takes_first refl refl;
+        };
+        last = takes_whole one_out two_out (part 0 a ∷ []) (part 1 []) refl takes_second refl refl;
       };
-      parts = refl;
+      last = takes_whole two_out all_out (part 1 [] ∷ part 0 a ∷ []) (part 2 b) refl takes_third
+          refl refl;
     }
 
 -- a read of two bytes is full behind the first write, and passes no empty one

@@ -1,16 +1,13 @@
 -- Directions of a pipe worked out by the definitions alone, and what they refuse.
-use Rattle.std.proofs.Common.{◌≡◌, ℕ, false, List, [], ◌∷◌, Option, Some, None, refl, inl, inr, sym}
-use Rattle.std.proofs.Common.{ap, arith, length, ◌⊎◌}
+use Rattle.std.proofs.Common.{◌≡◌, ℕ, false, List, [], ◌∷◌, Option, Some, None, refl, inl, inr}
+use Rattle.std.proofs.Common.{ap, arith, rules, length, ◌⊎◌}
 use Rattle.std.specs.Prelude.{Err, reverse}
 use Rattle.histories.specs.declared.account.Account.{Account}
-use Rattle.sync_base.specs.declared.ids.RendezId.{RendezId}
 use Rattle.sync_base.specs.declared.fault.Fault.TheVariants as fault
 use Rattle.sync_base.specs.declared.mode.Mode.TheVariants.{Message}
 use Rattle.sync_base.specs.Pipe.{PipeState}
 use Rattle.sync_base.specs.Write.{Write}
 use Rattle.rendez_words.specs.Process.{Process}
-use Rattle.rendez_words.specs.Steps.{raises, finds_nobody}
-use Rattle.sleep_wakeup.specs.Actions.{WakesOne}
 use Rattle.block_queue.specs.declared.entry.Entry.{Entry}
 use Rattle.block_queue.specs.declared.entry.Entry.TheVariants.{Taken, Stood, Block, Hung}
 use Rattle.block_queue.specs.declared.view.Key.{Key}
@@ -21,9 +18,10 @@ use Rattle.pipe_dev.specs.Finishing.{Finishes, Holdings}
 use Rattle.pipe_dev.specs.Laws.{NoWriteAfterHangup, read_and_held}
 use Rattle.pipe_dev.specs.Parts.{Part, pieces_of, bytes_by, part_of, rest_of}
 use Rattle.pipe_dev.specs.ReadCalls.{Reader, Gets, GoesOn, TakesOut, IsFilled, calling}
-use Rattle.pipe_dev.specs.Reading.{IsRight}
-use Rattle.pipe_dev.specs.Rendezes.{WakesWriters, reader_rendez}
+use Rattle.pipe_dev.specs.Reading.{Reading, IsRight}
+use Rattle.pipe_dev.specs.Rendezes.{WakesWriters}
 use Rattle.pipe_dev.specs.WriteCalls.{HasHang, atomic_writes, bytes_in}
+use Rattle.pipe_dev.proofs.WorkedEntries.{woke, wakes_one}
 
 abbrev part : ℕ → ℕ → List ℕ → Part
 part place writer bytes = record { place = place; writer = writer; bytes = bytes }
@@ -129,40 +127,19 @@ module _ (process : Process) (account : Account Entry) (key : Key) (row : Row) w
   abbrev reader : Option Part → Reader
   reader rest = record { account = account; rest = rest; process = process }
 
-  goes_on : Gets key row (calling (reader (Some abc)) (0 ∷ 0 ∷ [])) 2
-      (calling (reader (Some (part 0 0 (99 ∷ [])))) (97 ∷ 98 ∷ []))
-  goes_on =
-      record {
-        left = abc;
-        next = inl record { left_is = refl; account = refl; process = refl };
-        filled = record { count_is = refl; bytes = refl };
-        rest = refl;
-      }
-
   -- a write that was begun is read to its end and no further, however much room there is
   joins_the_next : (new : Reader) (buffer' : List ℕ)
       → Gets key row (calling (reader (Some (part 0 0 (97 ∷ [])))) (0 ∷ 0 ∷ [])) 2
       (calling new buffer') → ⊥
   joins_the_next new buffer' gets = by gets.next
     where
-      left_in : Option Part → Part
-      left_in None = part 0 0 (97 ∷ [])
-      left_in (Some left) = left
-
-      count : (left : Part) → left ≡ part 0 0 (97 ∷ [])
-          → IsFilled (part_of 2 left) (0 ∷ 0 ∷ []) buffer' 2 → ⊥
-      count left is filled =
-          let counted = filled.count_is in
-          let bytes = ap (λ (p : Part). length (part_of 2 p).bytes) is in
-          absurd (omega (arith, counted, bytes))
-
       by : GoesOn (reader (Some (part 0 0 (97 ∷ [])))) gets.left new
           ⊎ TakesOut key row (reader (Some (part 0 0 (97 ∷ [])))) gets.left new → ⊥
-      by (inl goes) = count gets.left (some_part gets.left goes.left_is) gets.filled
-        where
-          some_part : (left : Part) → Some (part 0 0 (97 ∷ [])) ≡ Some left → left
-              ≡ part 0 0 (97 ∷ [])
-          some_part left is = sym (ap left_in is)
+      by (inl goes) =
+          let is : gets.left ≡ part 0 0 (97 ∷ []) = let same = goes.left_is in cc in
+          let counted = gets.filled.count_is in
+          let bytes = ap (λ (p : Part). length (part_of 2 p).bytes) is in
+          absurd (omega (arith, counted, bytes))
       by (inr takes) = let none = takes.none_left in cc
 
 one_part_more : AddsOne 2 (97 ∷ 98 ∷ 0 ∷ []) [] (part 0 0 (97 ∷ 98 ∷ []) ∷ [])
@@ -173,66 +150,38 @@ block_is_read none = none
 
 -- ---- who is woken
 
-module _ (before_all : Process) where
+abbrev two_writers : Row
+two_writers = record { first = 3; writers = 2; mode = Message; small = omega arith }
+
+module _ (before : Process) where
   abbrev idle : Process
-  idle = record before_all { pid = 0; trace = [] }
-
-  abbrev woke : Process → RendezId → ℕ → Process
-  woke before rendez level = finds_nobody (raises before rendez level)
-
-  abbrev two_writers : Row
-  two_writers = record { first = 3; writers = 2; mode = Message; small = omega arith }
-
-  wakes_one : WakesOne idle (reader_rendez two_writers) 5 (woke idle (record { 0 = 3 }) 5)
-  wakes_one =
-      record {
-        receipt = record { rendez = record { 0 = 3 }; level = 5 };
-        woken = record { ends = inl refl; rendez_is = refl; level_is = refl; receipt = inl refl };
-      }
+  idle = record before { pid = 0 }
 
   -- the first writer at the Rendez behind the reader's, and then the second
-  wakes_both : WakesWriters two_writers 2 5 idle
-      (woke (woke idle (record { 0 = 4 }) 5) (record { 0 = 5 }) 5)
+  wakes_both : WakesWriters two_writers 2 5 idle (woke (woke idle 4 5) 5 5)
   wakes_both =
       record {
-        between = woke idle (record { 0 = 4 }) 5;
-        others = record {
-          between = idle;
-          others = refl;
-          last = record {
-            receipt = record { rendez = record { 0 = 4 }; level = 5 };
-            woken = record
-                { ends = inl refl; rendez_is = refl; level_is = refl; receipt = inl refl };
-          };
-        };
-        last = record {
-          receipt = record { rendez = record { 0 = 5 }; level = 5 };
-          woken = record { ends = inl refl; rendez_is = refl; level_is = refl; receipt = inl refl };
-        };
+        between = woke idle 4 5;
+        others = record { between = idle; others = refl; last = wakes_one idle 4 5 };
+        last = wakes_one (woke idle 4 5) 5 5;
       }
 
 -- ---- what was written
 
-written : HasWritten
-    (record {
+-- a writer that has written one write
+abbrev wrote_one : Account Entry
+wrote_one =
+    record {
       number = 1;
-      shares =
-          record { number = 1; mine = Stood 0 1 ∷ Taken 0 (97 ∷ []) 1 ∷ [] } ∷ [];
+      shares = record { number = 1; mine = Stood 0 1 ∷ Taken 0 (97 ∷ []) 1 ∷ [] } ∷ [];
       seen = [];
       gave = [];
-    })
-    0 ((97 ∷ []) ∷ [])
+    }
+
+written : HasWritten wrote_one 0 ((97 ∷ []) ∷ [])
 written = record { own = refl; are = (λ number. refl, tt) }
 
-forgets_a_write : HasWritten
-    (record {
-      number = 1;
-      shares =
-          record { number = 1; mine = Stood 0 1 ∷ Taken 0 (97 ∷ []) 1 ∷ [] } ∷ [];
-      seen = [];
-      gave = [];
-    })
-    0 [] → ⊥
+forgets_a_write : HasWritten wrote_one 0 [] → ⊥
 forgets_a_write written = let are = written.are.0 refl in cc
 
 is_another_writers : HasWritten (new_account 1) 1 [] → ⊥
@@ -286,48 +235,23 @@ reader_of_both =
 abbrev held : Holdings
 held = record { rest = 98 ∷ []; writes = write 0 (99 ∷ []) ∷ []; hung = false }
 
-finished : Finishes small
-    (record {
+abbrev read_half : Reading
+read_half =
+    record {
       account = reader_of_both;
       parts = part 0 0 (97 ∷ []) ∷ [];
-      rest =
-          Some (part 0 0 (98 ∷ []));
-    })
+      rest = Some (part 0 0 (98 ∷ []));
+    }
+
+finished : Finishes small read_half
     (record {
       number = 1;
-      mine =
-          Stood 0 2 ∷ Taken 0 (99 ∷ []) 2 ∷ Stood 0 1 ∷ Taken 0 (97 ∷ 98 ∷ []) 1 ∷ [];
+      mine = Stood 0 2 ∷ Taken 0 (99 ∷ []) 2 ∷ Stood 0 1 ∷ Taken 0 (97 ∷ 98 ∷ []) 1 ∷ [];
     } ∷ []) held
 finished =
     record {
       history = both;
-      legal = record {
-        legal = (
-          record { may = record { next = refl; number_is = refl }; in_turn = refl },
-          (
-            record { may = tt; in_turn = refl },
-            (
-              record {
-                may =
-                    record { may = (refl, omega arith); number_is = refl; given = omega arith };
-                in_turn = refl;
-              },
-              (
-                record { may = tt; in_turn = refl },
-                (
-                  record {
-                    may =
-                        record { may = (refl, omega arith); number_is = refl; given = omega arith };
-                    in_turn = refl;
-                  },
-                  tt,
-                ),
-              ),
-            ),
-          ),
-        );
-        within = (omega arith, (omega arith, (omega arith, (omega arith, (omega arith, tt)))));
-      };
+      legal = search rules;
       seen = record { since = []; new_is = refl };
       no_more_read = refl;
       shares = (record { entries = refl }, tt);
@@ -337,13 +261,5 @@ finished =
     }
 
 -- what was read and is held is both writes
-found : bytes_by 0
-    (read_and_held small
-    (record {
-      account = reader_of_both;
-      parts = part 0 0 (97 ∷ []) ∷ [];
-      rest =
-          Some (part 0 0 (98 ∷ []));
-    }) held)
-    ≡ (97 ∷ 98 ∷ []) ∷ (99 ∷ []) ∷ []
+found : bytes_by 0 (read_and_held small read_half held) ≡ (97 ∷ 98 ∷ []) ∷ (99 ∷ []) ∷ []
 found = refl

@@ -1,8 +1,10 @@
 -- Reads of messages worked out by the definitions alone, and short reads that they refuse.
 use Rattle.std.proofs.Common.{◌≡◌, ◌⊎◌, ◌+◌, [], ◌∷◌, Some, None, refl, inl, inr, ap, subst, arith}
+use Rattle.std.proofs.Common.{rules}
 use Rattle.std.specs.Prelude.{Ok, Err}
 use Rattle.histories.specs.declared.account.Account.{Account}
 use Rattle.sync_base.specs.declared.fault.Fault.TheVariants as fault
+use Rattle.sync_base.specs.declared.mode.Mode.TheVariants.{Message}
 use Rattle.sync_base.specs.NoteSet.{no_notes}
 use Rattle.rendez_words.specs.Process.{Process, TableId}
 use Rattle.block_queue.specs.declared.entry.Entry.{Entry}
@@ -12,38 +14,22 @@ use Rattle.pipe_dev.specs.declared.answers.ReadAnswer.{ReadAnswer}
 use Rattle.pipe_dev.specs.declared.answers.ReadAnswer.TheVariants as read
 use Rattle.pipe_dev.specs.declared.answers.TryAnswer.TheVariants as try
 use Rattle.pipe_dev.specs.BlockReads.{ReadsBlock, AsksForBlock}
-use Rattle.pipe_dev.specs.Chain.{IsMade, IsNoBlock, AddsNothing}
+use Rattle.pipe_dev.specs.Chain.{IsMade, IsNoBlock, AddsNothing, ReadStep}
 use Rattle.pipe_dev.specs.Parts.{Part}
 use Rattle.pipe_dev.specs.ReadCalls.{Reader, Reads, Tries, GoesOn, TakesOut, FindsNotYet}
 use Rattle.pipe_dev.specs.Filling.{Lending}
 use Rattle.pipe_dev.specs.ReadCalls.{AsksForBytes, Calling, GivesUp, calling, lending_of, lent_at}
+use Rattle.pipe_dev.specs.ReadCalls.{reading, waits_by}
 use Rattle.waiting.specs.declared.call.Reply.{Reply}
 use Rattle.waiting.specs.declared.call.Reply.TheVariants.{Done, Wait, Refused}
-use Rattle.waiting.specs.declared.wait.WaitEnd.TheVariants.{Answered}
-use Rattle.waiting.specs.Waiting.{WaitPoint}
 use Rattle.pipe_dev.specs.Reading.{Reading}
-use Rattle.pipe_dev.specs.Rendezes.{WakesWriters}
+use Rattle.pipe_dev.specs.Rounds.{Rounds}
 use Rattle.pipe_dev.proofs.ReadingLemmas.{what_is_read_is_right}
-use Rattle.pipe_dev.proofs.WorkedEntries.{a, b, tight, IsRun, seen_1, seen_5, run_1, run_5, taker}
-use Rattle.pipe_dev.proofs.WorkedEntries.{taker_enters, unread, at_rendez, rendez_row, woke, slept}
-use Rattle.pipe_dev.proofs.WorkedEntries.{sleeps, is_not_idle}
+use Rattle.pipe_dev.proofs.WorkedEntries.{a, b, tight, seen_1, seen_5, taker, taker_enters, unread}
+use Rattle.pipe_dev.proofs.WorkedEntries.{rendez_row, woke, slept, wakes_writer, slept_once}
+use Rattle.pipe_dev.proofs.WorkedEntries.{is_not_idle}
 
 -- ---- what the reader's seat knows
-
--- a writer's hangup, and the end behind it; and the reader's
-run_end : IsRun tight (entry.End ∷ entry.Hung 1 ∷ [])
-run_end =
-    record {
-      legal = (
-        record { may = (refl, refl); in_turn = refl },
-        (record { may = tt; in_turn = refl }, tt),
-      );
-      within = (omega arith, (omega arith, tt));
-    }
-
-run_hung : IsRun tight (entry.Hung 0 ∷ [])
-run_hung =
-    record { legal = (record { may = tt; in_turn = refl }, tt); within = (omega arith, tt) }
 
 abbrev told : Account Entry
 told = taker (entry.NotYet 0 ∷ []) seen_1
@@ -58,19 +44,19 @@ abbrev has_hung : Account Entry
 has_hung = taker (entry.Hung 0 ∷ []) (entry.Hung 0 ∷ [])
 
 finds_nothing : Enters tight (entry.NotYet 0) unread told
-finds_nothing = taker_enters 1 (entry.NotYet 0) [] [] [] tt refl refl refl run_1
+finds_nothing = taker_enters 1 (entry.NotYet 0) [] [] [] tt refl refl refl (search rules)
 
 takes_out : Enters tight (entry.Block 0 a 1) told has_taken
 takes_out =
     taker_enters 1 (entry.Block 0 a 1) (entry.Full 0 b 0 ∷ entry.Stood 0 1 ∷ entry.Taken 0 a 1 ∷ [])
-    (entry.NotYet 0 ∷ []) seen_1 (refl, (refl, (refl, tt))) refl refl refl run_5
+    (entry.NotYet 0 ∷ []) seen_1 (refl, (refl, (refl, tt))) refl refl refl (search rules)
 
 finds_the_end : Enters tight entry.End unread has_ended
 finds_the_end =
-    taker_enters 1 entry.End (entry.Hung 1 ∷ []) [] [] (refl, tt) refl refl refl run_end
+    taker_enters 1 entry.End (entry.Hung 1 ∷ []) [] [] (refl, tt) refl refl refl (search rules)
 
 hangs_up : Enters tight (entry.Hung 0) unread has_hung
-hangs_up = taker_enters 1 (entry.Hung 0) [] [] [] tt refl refl refl run_hung
+hangs_up = taker_enters 1 (entry.Hung 0) [] [] [] tt refl refl refl (search rules)
 
 module _ (table : TableId) where
   abbrev idle : Process
@@ -80,6 +66,9 @@ module _ (table : TableId) where
 
   abbrev reader : Account Entry → Process → Reader
   reader account process = record { account = account; rest = None; process = process }
+
+  abbrev first_write : Part
+  first_write = record { place = 0; writer = 0; bytes = a }
 
   abbrev reader_woken : Process
   reader_woken = slept idle 3 0 no_notes
@@ -91,53 +80,24 @@ module _ (table : TableId) where
         fresh = λ knew. cc;
       }
 
-  wakes_the_writer : WakesWriters rendez_row 1 1 reader_woken (woke reader_woken 4 1)
-  wakes_the_writer =
-      record {
-        between = reader_woken;
-        others = refl;
-        last = record {
-          receipt = record { rendez = at_rendez 4; level = 1 };
-          woken = record { ends = inl refl; rendez_is = refl; level_is = refl; receipt = inl refl };
-        };
-      }
-
   -- it slept once, and then got the write whole and woke its writer with the number 1
   waits_and_reads : Reads tight rendez_row (calling (reader unread idle) (0 ∷ 0 ∷ 0 ∷ []))
       (Ok (read.Got 2)) (calling (reader has_taken (woke reader_woken 4 1)) (97 ∷ 98 ∷ 0 ∷ []))
   waits_and_reads =
-      inr (record {
-        first = read_told;
-        begun = (finds_not_yet, refl);
-        waited = record {
-          ending = Answered (Ok (read.Got 2));
-          process = woke reader_woken 4 1;
-          slept = record {
-            times = 0;
-            last = read_told;
-            rounds = refl;
-            ends = record {
-              woken = reader_woken;
-              slept = sleeps idle 3 0 no_notes;
-              asked = record {
-                left = record { place = 0; writer = 0; bytes = a };
-                next = inr record {
-                  none_left = refl;
-                  taken = takes_out;
-                  woken = wakes_the_writer;
-                };
-                filled = record { count_is = refl; bytes = refl };
-                rest = refl;
-              };
-            };
-          };
-          returned = refl;
-          answer_is = refl;
+      slept_once (reading tight rendez_row) 3 (lent_at (calling (reader unread idle) (0 ∷ 0 ∷ 0 ∷ [])))
+      (lending_of (calling (reader told idle) (0 ∷ 0 ∷ 0 ∷ [])))
+      (lending_of (calling (reader has_taken idle) (97 ∷ 98 ∷ 0 ∷ []))) idle 0 (finds_not_yet, refl)
+      (Ok (read.Got 2)) (woke reader_woken 4 1)
+      (record {
+        left = first_write;
+        next = inr record {
+          none_left = refl;
+          taken = takes_out;
+          woken = wakes_writer Message reader_woken 1;
         };
+        filled = record { count_is = refl; bytes = refl };
+        rest = refl;
       })
-    where
-      read_told : WaitPoint Lending
-      read_told = record { at = lent_at (calling (reader told idle) (0 ∷ 0 ∷ 0 ∷ [])); number = 0 }
 
   reads_to_the_end : Reads tight rendez_row (calling (reader unread idle) b) (Ok read.End)
       (calling (reader has_ended idle) b)
@@ -181,11 +141,11 @@ module _ (table : TableId) where
       (try.Got 1) (calling (begun (woke reader_woken 4 1)) (97 ∷ []))
   tries_and_begins =
       record {
-        left = record { place = 0; writer = 0; bytes = a };
+        left = first_write;
         next = inr record {
           none_left = refl;
           taken = takes_out;
-          woken = wakes_the_writer;
+          woken = wakes_writer Message reader_woken 1;
         };
         filled = record { count_is = refl; bytes = refl };
         rest = refl;
@@ -237,41 +197,21 @@ module _ (table : TableId) where
   waits_and_reads_a_block : ReadsBlock tight rendez_row (calling (reader unread idle) b)
       (Ok (read.Got 2)) (calling (reader has_taken (woke reader_woken 4 1)) a)
   waits_and_reads_a_block =
-      inr (record {
-        first = block_told;
-        begun = (finds_not_yet, refl);
-        waited = record {
-          ending = Answered (Ok (read.Got 2));
-          process = woke reader_woken 4 1;
-          slept = record {
-            times = 0;
-            last = block_told;
-            rounds = refl;
-            ends = record {
-              woken = reader_woken;
-              slept = sleeps idle 3 0 no_notes;
-              asked = (
-                record {
-                  left = record { place = 0; writer = 0; bytes = a };
-                  next = inr record {
-                    none_left = refl;
-                    taken = takes_out;
-                    woken = wakes_the_writer;
-                  };
-                  block_is = refl;
-                  rest = refl;
-                },
-                refl,
-              );
-            };
+      slept_once (waits_by asks_for_block) 3 (lent_at (calling (reader unread idle) b))
+      (lending_of (calling (reader told idle) b)) (lending_of (calling (reader has_taken idle) a)) idle 0
+      (finds_not_yet, refl) (Ok (read.Got 2)) (woke reader_woken 4 1) (
+        record {
+          left = first_write;
+          next = inr record {
+            none_left = refl;
+            taken = takes_out;
+            woken = wakes_writer Message reader_woken 1;
           };
-          returned = refl;
-          answer_is = refl;
-        };
-      })
-    where
-      block_told : WaitPoint Lending
-      block_told = record { at = lent_at (calling (reader told idle) b); number = 0 }
+          block_is = refl;
+          rest = refl;
+        },
+        refl,
+      )
 
   -- of a write that was begun it reads what is left, and wakes nobody
   reads_a_begun_block : ReadsBlock tight rendez_row (calling (begun idle) a) (Ok (read.Got 1))
@@ -334,36 +274,40 @@ module _ (table : TableId) where
 
   -- ---- what calls make of a read end
 
+  abbrev nothing_read : Account Entry → Reading
+  nothing_read account = record { account = account; parts = []; rest = None }
+
+  -- one call, which found nothing and read nothing
+  one_call : (entry : Entry) (new : Account Entry) → IsNoBlock entry → Enters tight entry unread new
+      → Rounds (ReadStep tight) 1 (nothing_read unread) (nothing_read new)
+  one_call entry new none enters =
+      record {
+        between = nothing_read unread;
+        rounds = refl;
+        last = inr
+            (record { entry = entry; entered = enters; no_block = none; rest = refl; parts = refl });
+      }
+
   -- two calls: nothing was there; and then one byte of two was read
   made_by_two_calls : IsMade tight
       (record {
         account = has_taken;
         parts = record { place = 0; writer = 0; bytes = 97 ∷ [] } ∷ [];
-        rest = Some (record { place = 0; writer = 0; bytes = 98 ∷ [] });
+        rest = Some second_byte;
       })
   made_by_two_calls =
       record {
         first = refl;
         times = 2;
         steps = record {
-          between = record { account = told; parts = []; rest = None };
-          rounds = record {
-            between = record { account = unread; parts = []; rest = None };
-            rounds = refl;
-            last = inr record {
-              entry = entry.NotYet 0;
-              entered = finds_nothing;
-              no_block = tt;
-              rest = refl;
-              parts = refl;
-            };
-          };
+          between = nothing_read told;
+          rounds = one_call (entry.NotYet 0) told tt finds_nothing;
           last = inl record {
             room = 1;
             some_room = omega arith;
             part = record { place = 0; writer = 0; bytes = 97 ∷ [] };
             taken = record {
-              left = record { place = 0; writer = 0; bytes = a };
+              left = first_write;
               next = inr record { none_left = refl; taken = takes_out };
               part_is = refl;
               rest = refl;
@@ -374,60 +318,17 @@ module _ (table : TableId) where
       }
 
   made_of_nothing : IsMade tight
-      (record {
-        account = unread;
-        parts = record { place = 0; writer = 0; bytes = a } ∷ [];
-        rest = None;
-      }) → ⊥
+      (record { account = unread; parts = first_write ∷ []; rest = None }) → ⊥
   made_of_nothing made = let whole = (what_is_read_is_right tight _ made).right.whole in cc
-
-  abbrev nothing_read : Account Entry → Reading
-  nothing_read account = record { account = account; parts = []; rest = None }
-
-  abbrev first_write : Part
-  first_write = record { place = 0; writer = 0; bytes = a }
-
-  -- a call found the end
-  ends_unread : AddsNothing tight (nothing_read unread) (nothing_read has_ended)
-  ends_unread =
-      record {
-        entry = entry.End;
-        entered = finds_the_end;
-        no_block = tt;
-        rest = refl;
-        parts = refl;
-      }
 
   made_by_an_end : IsMade tight (nothing_read has_ended)
   made_by_an_end =
-      record {
-        first = refl;
-        times = 1;
-        steps = record {
-          between = nothing_read unread;
-          rounds = refl;
-          last = inr ends_unread;
-        };
-      }
+      record { first = refl; times = 1; steps = one_call entry.End has_ended tt finds_the_end }
 
   -- a call hung the direction up
   made_by_a_hangup : IsMade tight (nothing_read has_hung)
   made_by_a_hangup =
-      record {
-        first = refl;
-        times = 1;
-        steps = record {
-          between = nothing_read unread;
-          rounds = refl;
-          last = inr record {
-            entry = entry.Hung 0;
-            entered = hangs_up;
-            no_block = tt;
-            rest = refl;
-            parts = refl;
-          };
-        };
-      }
+      record { first = refl; times = 1; steps = one_call (entry.Hung 0) has_hung tt hangs_up }
 
   end_adds_a_part : AddsNothing tight (nothing_read unread)
       (record { account = has_ended; parts = first_write ∷ []; rest = None }) → ⊥

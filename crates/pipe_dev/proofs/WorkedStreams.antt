@@ -1,6 +1,6 @@
 -- Reads in stream mode worked out by the definitions alone, and the shortest ones that are refused.
 use Rattle.std.proofs.Common.{◌≡◌, ℕ, List, [], ◌∷◌, Some, None, refl, sym, ◌∙◌, inl, inr, ap}
-use Rattle.std.proofs.Common.{arith, length, map, length-append}
+use Rattle.std.proofs.Common.{arith, rules, length, map, length-append}
 use Rattle.std.specs.Prelude.{Ok, Err}
 use Rattle.histories.specs.declared.account.Account.{Account}
 use Rattle.sync_base.specs.declared.fault.Fault.TheVariants as fault
@@ -19,20 +19,18 @@ use Rattle.pipe_dev.specs.declared.filling.Stop.TheVariants as stop
 use Rattle.pipe_dev.specs.declared.row.Row.{Row}
 use Rattle.pipe_dev.specs.Parts.{Part, bytes_of}
 use Rattle.pipe_dev.specs.ReadCalls.{Reader, Reads, Tries, calling, TriesOn, came_to, lent_at}
+use Rattle.pipe_dev.specs.ReadCalls.{lending_of, reading}
 use Rattle.pipe_dev.specs.Rendezes.{WakesWriters, WakesWith}
-use Rattle.pipe_dev.specs.Filling.{Lending, begins, last_number}
-use Rattle.waiting.specs.declared.wait.WaitEnd.TheVariants.{Stopped}
-use Rattle.waiting.specs.Waiting.{WaitPoint}
-use Rattle.pipe_dev.proofs.WorkedEntries.{a, b, IsRun, taker, taker_enters, unread, at_rendez, woke}
-use Rattle.pipe_dev.proofs.WorkedEntries.{slept, sleeps, has_notes, is_not_idle}
-use Rattle.pipe_dev.proofs.WorkedFills.{part, loose, one_out, two_out, all_out, told, takes_first}
-use Rattle.pipe_dev.proofs.WorkedFills.{finds_none, free, filling, fills_first, fills_second}
-use Rattle.pipe_dev.proofs.WorkedFills.{fills_third}
+use Rattle.pipe_dev.specs.Filling.{begins, last_number}
+use Rattle.pipe_dev.proofs.WorkedEntries.{a, b, taker, taker_enters, unread, at_rendez, row_in}
+use Rattle.pipe_dev.proofs.WorkedEntries.{woke, slept, wakes_writer, interrupted, is_not_idle}
+use Rattle.pipe_dev.proofs.WorkedFills.{part, loose, one_out, all_out, told, takes_first, finds_none}
+use Rattle.pipe_dev.proofs.WorkedFills.{free, filling, fills_all}
 
 -- ---- a try, and a read, of that direction and of two more
 
 abbrev row : Row
-row = record { first = 3; writers = 1; mode = Stream; small = omega arith }
+row = row_in Stream
 
 -- a direction with an empty write alone, and one that is hung up
 abbrev empty_written : List Entry
@@ -40,45 +38,6 @@ empty_written = entry.Stood 0 1 ∷ entry.Taken 0 [] 1 ∷ []
 
 abbrev empty_out : List Entry
 empty_out = entry.Block 0 [] 1 ∷ empty_written
-
-run_empty_out : IsRun loose empty_out
-run_empty_out =
-    record {
-      legal = (
-        record { may = record { next = refl; number_is = refl }; in_turn = refl },
-        (
-          record { may = tt; in_turn = refl },
-          (
-            record {
-              may = record { may = (refl, omega arith); number_is = refl; given = omega arith };
-              in_turn = refl;
-            },
-            tt,
-          ),
-        ),
-      );
-      within = (omega arith, (omega arith, (omega arith, tt)));
-    }
-
-run_nothing : IsRun loose (entry.NotYet 1 ∷ empty_out)
-run_nothing =
-    record {
-      legal = (
-        record { may = record { none = inl refl; number_is = refl }; in_turn = refl },
-        run_empty_out.legal,
-      );
-      within = (omega arith, run_empty_out.within);
-    }
-
-run_ended : IsRun loose (entry.End ∷ entry.Hung 1 ∷ [])
-run_ended =
-    record {
-      legal = (
-        record { may = (refl, refl); in_turn = refl },
-        (record { may = tt; in_turn = refl }, tt),
-      );
-      within = (omega arith, (omega arith, tt));
-    }
 
 abbrev passed : Account Entry
 passed = taker (entry.Block 0 [] 1 ∷ []) empty_out
@@ -92,16 +51,16 @@ has_ended = taker (entry.End ∷ []) (entry.End ∷ entry.Hung 1 ∷ [])
 takes_empty : Enters loose (entry.Block 0 [] 1) unread passed
 takes_empty =
     taker_enters 4 (entry.Block 0 [] 1) empty_written [] [] (refl, (refl, tt)) refl refl refl
-    run_empty_out
+    (search rules)
 
 finds_nothing : Enters loose (entry.NotYet 1) passed told_empty
 finds_nothing =
     taker_enters 4 (entry.NotYet 1) [] (entry.Block 0 [] 1 ∷ []) empty_out tt refl refl refl
-    run_nothing
+    (search rules)
 
 finds_the_end : Enters loose entry.End unread has_ended
 finds_the_end =
-    taker_enters 4 entry.End (entry.Hung 1 ∷ []) [] [] (refl, tt) refl refl refl run_ended
+    taker_enters 4 entry.End (entry.Hung 1 ∷ []) [] [] (refl, tt) refl refl refl (search rules)
 
 module _ (table : TableId) where
   abbrev idle : Process
@@ -113,17 +72,6 @@ module _ (table : TableId) where
   abbrev zeros : List ℕ
   zeros = 0 ∷ 0 ∷ 0 ∷ 0 ∷ []
 
-  wakes_with_three : WakesWriters row 1 3 idle (woke idle 4 3)
-  wakes_with_three =
-      record {
-        between = idle;
-        others = refl;
-        last = record {
-          receipt = record { rendez = at_rendez 4; level = 3 };
-          woken = record { ends = inl refl; rendez_is = refl; level_is = refl; receipt = inl refl };
-        };
-      }
-
   -- it joined all three writes, was told that no more are there, and then woke its writer once
   joins_all : TriesOn loose row (calling (reader unread idle) zeros)
       (came_to 3 (stop.NotYet 3))
@@ -133,19 +81,7 @@ module _ (table : TableId) where
         fills = record {
           times = 3;
           filling = filling all_out (part 2 b ∷ part 1 [] ∷ part 0 a ∷ []);
-          taken = record {
-            between = filling two_out (part 1 [] ∷ part 0 a ∷ []);
-            rounds = record {
-              between = filling one_out (part 0 a ∷ []);
-              rounds = record {
-                between = begins (free unread);
-                rounds = refl;
-                last = fills_first;
-              };
-              last = fills_second;
-            };
-            last = fills_third;
-          };
+          taken = fills_all;
           stopped = (
             refl,
             record {
@@ -155,7 +91,7 @@ module _ (table : TableId) where
           );
           filled = record { count_is = refl; bytes_are = refl };
         };
-        woken = wakes_with_three;
+        woken = wakes_writer Stream idle 3;
       }
 
   -- so it is answered
@@ -193,17 +129,6 @@ module _ (table : TableId) where
 
   -- ---- a write that is begun, and what is left of it
 
-  wakes_with_one : WakesWriters row 1 1 idle (woke idle 4 1)
-  wakes_with_one =
-      record {
-        between = idle;
-        others = refl;
-        last = record {
-          receipt = record { rendez = at_rendez 4; level = 1 };
-          woken = record { ends = inl refl; rendez_is = refl; level_is = refl; receipt = inl refl };
-        };
-      }
-
   abbrev second_byte : Part
   second_byte = part 0 (98 ∷ [])
 
@@ -239,7 +164,7 @@ module _ (table : TableId) where
           stopped = (refl, refl);
           filled = record { count_is = refl; bytes_are = refl };
         };
-        woken = wakes_with_one;
+        woken = wakes_writer Stream idle 1;
       }
 
   -- the other is read next, and nobody is woken for it
@@ -309,7 +234,7 @@ module _ (table : TableId) where
           );
           filled = record { count_is = refl; bytes_are = refl };
         };
-        woken = wakes_with_one;
+        woken = wakes_writer Stream idle 1;
       }
 
   tries_too_early : Tries loose row (calling (reader unread idle) b) try.NotYet
@@ -321,29 +246,9 @@ module _ (table : TableId) where
       (Err (fault.Interrupted (only Interrupt)))
       (calling (reader told_empty (slept (woke idle 4 1) 3 1 (only Interrupt))) b)
   read_is_interrupted =
-      inr (record {
-        first = read_told;
-        begun = passes_an_empty_write;
-        waited = record {
-          ending = Stopped (fault.Interrupted (only Interrupt)) None;
-          process = slept (woke idle 4 1) 3 1 (only Interrupt);
-          slept = record {
-            times = 0;
-            last = read_told;
-            rounds = refl;
-            ends = record {
-              failed = (sleeps (woke idle 4 1) 3 1 (only Interrupt), has_notes);
-              left = refl;
-            };
-          };
-          returned = refl;
-          answer_is = refl;
-        };
-      })
-    where
-      read_told : WaitPoint Lending
-      read_told =
-          record { at = lent_at (calling (reader told_empty (woke idle 4 1)) b); number = 1 }
+      interrupted (reading loose row) 3 (lent_at (calling (reader unread idle) b))
+      (lending_of (calling (reader told_empty idle) b)) (lending_of (calling (reader told_empty idle) b))
+      (woke idle 4 1) 1 passes_an_empty_write refl
 
   finds_an_end : TriesOn loose row (calling (reader unread idle) b) (came_to 0 stop.End)
       (calling (reader has_ended idle) b)

@@ -1,6 +1,5 @@
 -- Calls of the ends with a deadline that did what none may do, each against one row.
-use Rattle.std.proofs.Common.{◌≡◌, ◌≢◌, ◌⊎◌, ℕ, List, [], ◌∷◌, Result, Ok, Err, inl, inr, refl, sym}
-use Rattle.std.proofs.Common.{ap, ◌∙◌}
+use Rattle.std.proofs.Common.{◌≡◌, ◌≢◌, ℕ, Result, Ok, Err, inl, inr, refl}
 use Rattle.histories.specs.declared.account.Account.{Account}
 use Rattle.sync_base.specs.declared.fault.Fault.{Fault}
 use Rattle.sync_base.specs.declared.fault.Fault.TheVariants as fault
@@ -8,7 +7,6 @@ use Rattle.rendez_words.specs.Process.{Process}
 use Rattle.block_queue.specs.declared.entry.Entry.{Entry}
 use Rattle.block_queue.specs.declared.view.Key.{Key}
 use Rattle.pipe_dev.specs.declared.answers.ReadAnswer.{ReadAnswer}
-use Rattle.pipe_dev.specs.declared.answers.ReadAnswer.TheVariants as read
 use Rattle.pipe_dev.specs.declared.row.Row.{Row}
 use Rattle.pipe_dev.specs.Filling.{Lending}
 use Rattle.pipe_dev.specs.ReadCalls.{Calling, IsARead, Reads, ReadsInTime, calling_at, lent_at}

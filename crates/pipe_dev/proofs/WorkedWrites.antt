@@ -1,7 +1,7 @@
 -- Writes and hangups worked out by the definitions alone, short writes that they refuse, and which
 -- ends of a direction are all.
 use Rattle.std.proofs.Common.{◌≡◌, ℕ, false, true, List, [], ◌∷◌, ◌++◌, Some, None, refl, sym, ◌∙◌}
-use Rattle.std.proofs.Common.{inl, inr, ap, arith, length, reverse}
+use Rattle.std.proofs.Common.{inl, ap, arith, rules, length, reverse}
 use Rattle.std.specs.Prelude.{Ok, Err}
 use Rattle.std.proofs.lemmas.List.{reverse-reverse}
 use Rattle.histories.specs.declared.account.Account.{Account}
@@ -25,13 +25,11 @@ use Rattle.pipe_dev.specs.declared.row.Row.{Row}
 use Rattle.pipe_dev.specs.Ends.{ReadSide, WriteSide, AreAllEnds}
 use Rattle.pipe_dev.specs.Rendezes.{OwnsRow, WakesAll, WakesIfKnown}
 use Rattle.pipe_dev.specs.WriteCalls.{WriteCall, Writer, Writes, WritesLong, atomic_writes}
-use Rattle.pipe_dev.specs.WriteCalls.{AsksForRoom, GivesUp, bytes_in}
+use Rattle.pipe_dev.specs.WriteCalls.{AsksForRoom, GivesUp, bytes_in, writing}
 use Rattle.waiting.specs.declared.call.Reply.TheVariants.{Wait, Refused}
-use Rattle.waiting.specs.declared.wait.WaitEnd.TheVariants.{Answered, Stopped}
-use Rattle.waiting.specs.Waiting.{WaitPoint}
-use Rattle.pipe_dev.proofs.WorkedEntries.{a, b, tight, IsRun, seen_3, seen_4, seen_6, run_4, run_6}
-use Rattle.pipe_dev.proofs.WorkedEntries.{run_7, at_rendez, rendez_row, woke, slept, sleeps}
-use Rattle.pipe_dev.proofs.WorkedEntries.{has_notes, is_not_idle}
+use Rattle.pipe_dev.proofs.WorkedEntries.{a, b, tight, IsRun, seen_3, seen_4, seen_6, rendez_row}
+use Rattle.pipe_dev.proofs.WorkedEntries.{woke, slept, wakes_one, wakes_writer, slept_once}
+use Rattle.pipe_dev.proofs.WorkedEntries.{interrupted, is_not_idle}
 
 -- ---- what the writer's seat knows
 
@@ -77,24 +75,6 @@ putter_enters first made since mine seen others before after is run =
       };
     }
 
--- a write behind a hangup, and one for which no number is left
-run_late : IsRun tight (entry.Hungup 0 b ∷ entry.Hung 0 ∷ [])
-run_late =
-    record {
-      legal = (
-        record { may = refl; in_turn = refl },
-        (record { may = tt; in_turn = refl }, tt),
-      );
-      within = (omega arith, (omega arith, tt));
-    }
-
-run_worn : IsRun (record tight { first = LAST_WRITE }) (entry.Worn 0 b ∷ [])
-run_worn =
-    record {
-      legal = (record { may = record { not_hung = refl; last = refl }; in_turn = refl }, tt);
-      within = (omega arith, tt);
-    }
-
 abbrev put_one : List Entry
 put_one = entry.Stood 0 1 ∷ entry.Taken 0 a 1 ∷ []
 
@@ -122,24 +102,24 @@ abbrev is_worn : Account Entry
 is_worn = putter (entry.Worn 0 b ∷ []) (entry.Worn 0 b ∷ [])
 
 finds_no_room : Enters tight (entry.Full 0 b 0) has_put was_full
-finds_no_room = putter_enters 0 (entry.Full 0 b 0) [] put_one seen_3 tt refl refl refl run_4
+finds_no_room = putter_enters 0 (entry.Full 0 b 0) [] put_one seen_3 tt refl refl refl (search rules)
 
 is_accepted : Enters tight (entry.Taken 0 b 2) was_full is_taken
 is_accepted =
     putter_enters 0 (entry.Taken 0 b 2) (entry.Block 0 a 1 ∷ []) (entry.Full 0 b 0 ∷ put_one) seen_4
-    (refl, tt) refl refl refl run_6
+    (refl, tt) refl refl refl (search rules)
 
 then_stands : Enters tight (entry.Stood 0 2) is_taken has_put_both
 then_stands =
     putter_enters 0 (entry.Stood 0 2) [] (entry.Taken 0 b 2 ∷ entry.Full 0 b 0 ∷ put_one) seen_6
-    tt refl refl refl run_7
+    tt refl refl refl (search rules)
 
 finds_the_hangup : Enters tight (entry.Hungup 0 b) unwritten is_late
 finds_the_hangup =
-    putter_enters 0 (entry.Hungup 0 b) (entry.Hung 0 ∷ []) [] [] (refl, tt) refl refl refl run_late
+    putter_enters 0 (entry.Hungup 0 b) (entry.Hung 0 ∷ []) [] [] (refl, tt) refl refl refl (search rules)
 
 finds_no_number : Enters (record tight { first = LAST_WRITE }) (entry.Worn 0 b) unwritten is_worn
-finds_no_number = putter_enters LAST_WRITE (entry.Worn 0 b) [] [] [] tt refl refl refl run_worn
+finds_no_number = putter_enters LAST_WRITE (entry.Worn 0 b) [] [] [] tt refl refl refl (search rules)
 
 module _ (table : TableId) where
   abbrev idle : Process
@@ -160,46 +140,17 @@ module _ (table : TableId) where
   abbrev call : List ℕ → WriteCall
   call bytes = record { key = tight; row = rendez_row; writer = 0; bytes = bytes }
 
-  -- it found no room
-  abbrev first_told : WaitPoint (Account Entry)
-  first_told = record { at = writer was_full idle; number = 0 }
-
   finds_full : AsksForRoom (call b) (writer has_put idle) (Wait 0) (writer was_full idle)
   finds_full = record { entered = finds_no_room; fresh = refl; process = refl }
 
   -- it slept once, and then was accepted and woke the reader with the number 2
   waits_and_writes : Writes (call b) (writer has_put idle) (Ok 2) second_written
   waits_and_writes =
-      inr (record {
-        first = first_told;
-        begun = finds_full;
-        waited = record {
-          ending = Answered (Ok 2);
-          process = second_written.process;
-          slept = record {
-            times = 0;
-            last = first_told;
-            rounds = refl;
-            ends = record {
-              woken = writer_woken;
-              slept = sleeps idle 4 0 no_notes;
-              asked = record {
-                stands = record { between = is_taken; taken = is_accepted; stood = then_stands };
-                woken = record {
-                  receipt = record { rendez = at_rendez 3; level = 2 };
-                  woken = record {
-                    ends = inl refl;
-                    rendez_is = refl;
-                    level_is = refl;
-                    receipt = inl refl;
-                  };
-                };
-              };
-            };
-          };
-          returned = refl;
-          answer_is = refl;
-        };
+      slept_once (writing (call b)) 4 (writer has_put idle) was_full has_put_both idle 0 finds_full (Ok 2)
+      second_written.process
+      (record {
+        stands = record { between = is_taken; taken = is_accepted; stood = then_stands };
+        woken = wakes_one writer_woken 3 2;
       })
 
   write_comes_too_late : Writes (call b) (writer unwritten idle) (Err fault.Hungup)
@@ -214,25 +165,7 @@ module _ (table : TableId) where
   write_is_interrupted : Writes (call b) (writer has_put idle)
       (Err (fault.Interrupted (only Interrupt))) (writer was_full (slept idle 4 0 (only Interrupt)))
   write_is_interrupted =
-      inr (record {
-        first = first_told;
-        begun = finds_full;
-        waited = record {
-          ending = Stopped (fault.Interrupted (only Interrupt)) None;
-          process = slept idle 4 0 (only Interrupt);
-          slept = record {
-            times = 0;
-            last = first_told;
-            rounds = refl;
-            ends = record {
-              failed = (sleeps idle 4 0 (only Interrupt), has_notes);
-              left = refl;
-            };
-          };
-          returned = refl;
-          answer_is = refl;
-        };
-      })
+      interrupted (writing (call b)) 4 (writer has_put idle) was_full was_full idle 0 finds_full refl
 
   -- what the queue answers no write, and what no write that gave up comes to
   queue_refuses_for_memory : (new : Writer)
@@ -328,23 +261,8 @@ module _ (table : TableId) where
   wakes_all =
       record {
         between = woke idle 3 TOP_LEVEL;
-        reader = record {
-          receipt = record { rendez = at_rendez 3; level = TOP_LEVEL };
-          woken = record { ends = inl refl; rendez_is = refl; level_is = refl; receipt = inl refl };
-        };
-        writers = record {
-          between = woke idle 3 TOP_LEVEL;
-          others = refl;
-          last = record {
-            receipt = record { rendez = at_rendez 4; level = TOP_LEVEL };
-            woken = record {
-              ends = inl refl;
-              rendez_is = refl;
-              level_is = refl;
-              receipt = inl refl;
-            };
-          };
-        };
+        reader = wakes_one idle 3 TOP_LEVEL;
+        writers = wakes_writer Message (woke idle 3 TOP_LEVEL) TOP_LEVEL;
       }
 
   module _ (words : Words) where

@@ -1,9 +1,9 @@
 -- What the calls of a write end add to what its seat knows as accepted.
-use Rattle.std.proofs.Common.{◌≡◌, ◌≢◌, ◌⊎◌, inl, inr, eqb, ℕ, ◌+◌, true, false}
-use Rattle.std.proofs.Common.{if◌then◌else◌, List, [], ◌∷◌, ◌++◌, map, refl, sym, ◌∙◌, ap, subst}
-use Rattle.std.specs.Prelude.{IsTrue, ◌||◌, Result, Ok, Err}
+use Rattle.std.proofs.Common.{◌≡◌, eqb, ℕ, ◌+◌, arith, if◌then◌else◌}
+use Rattle.std.proofs.Common.{List, [], ◌∷◌, ◌++◌, map, refl, sym, ◌∙◌, ap, subst}
+use Rattle.std.specs.Prelude.{IsTrue, Result, Ok, Err}
 use Rattle.std.specs.List.{AllByRecursion}
-use Rattle.std.proofs.lemmas.Bool.Decides.{eqb_tells}
+use Rattle.std.proofs.lemmas.Bool.Decides.{nat_tests}
 use Rattle.std.proofs.lemmas.List.{append-nil}
 use Rattle.histories.specs.declared.account.Account.{Account}
 use Rattle.histories.specs.declared.account.Share.{Share}
@@ -42,19 +42,16 @@ are_after : (writer : ℕ) (entry : Entry) (blocks more : List (List ℕ)) (shar
     → Are writer (blocks ++ more) (map (share_after seat_of entry) shares)
 are_after writer entry blocks more [] by_it says are = tt
 are_after writer entry blocks more (share ∷ shares) by_it says are = (
-  λ number. one (eqb_tells (seat_of entry) share.number) number (are.0 number),
+  λ number. one (seat_of entry) share.number (by_it ∙ sym number) (says share.mine)
+      (are.0 number),
   are_after writer entry blocks more shares by_it says are.1,
 )
   where
-    one : ((eqb (seat_of entry) share.number ≡ true) × (seat_of entry ≡ share.number))
-        ⊎ ((eqb (seat_of entry) share.number ≡ false) × (seat_of entry ≢ share.number))
-        → share.number ≡ writer + 1 → accepted_in share.mine ≡ blocks
-        → accepted_in (if eqb (seat_of entry) share.number then entry ∷ share.mine else share.mine)
-        ≡ blocks ++ more
-    one (inl same) number known =
-        ap (λ b. accepted_in (if b then entry ∷ share.mine else share.mine)) same.0
-        ∙ (says share.mine ∙ ap (λ bs. bs ++ more) known)
-    one (inr differ) number known = absurd (differ.1 (by_it ∙ sym number))
+    one : (seat number : ℕ) → seat ≡ number
+        → accepted_in (entry ∷ share.mine) ≡ accepted_in share.mine ++ more
+        → accepted_in share.mine ≡ blocks
+        → accepted_in (if eqb seat number then entry ∷ share.mine else share.mine) ≡ blocks ++ more
+    one seat number same says known = grind (arith, nat_tests, same, says, known)
 
 entered : (key : Key) (entry : Entry) (old new : Account Entry) (writer : ℕ)
     (blocks more : List (List ℕ))
@@ -136,13 +133,10 @@ module _ (call : WriteCall) (blocks : List (List ℕ)) where
 -- the account of a new write end knows of no accepted write
 pub new_ends_have_written_nothing : NewEndsHaveWrittenNothing
 new_ends_have_written_nothing writer =
-    record { own = itself (eqb_tells (writer + 1) (writer + 1)); are = (λ _. refl, tt) }
+    record { own = itself (writer + 1); are = (λ _. refl, tt) }
   where
-    itself : ((eqb (writer + 1) (writer + 1) ≡ true) × (writer + 1 ≡ writer + 1))
-        ⊎ ((eqb (writer + 1) (writer + 1) ≡ false) × (writer + 1 ≢ writer + 1))
-        → IsTrue (has_number (new_account (writer + 1)).shares (writer + 1))
-    itself (inl same) = ap (λ b. b || false) same.0
-    itself (inr differ) = absurd (differ.1 refl)
+    itself : (number : ℕ) → IsTrue (has_number (new_account number).shares number)
+    itself number = grind (arith, nat_tests)
 
 -- a write's bytes come behind what was written exactly where it is answered a number
 pub writes_add_what_was_accepted : WritesAddWhatWasAccepted
