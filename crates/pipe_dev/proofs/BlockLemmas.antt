@@ -32,7 +32,8 @@ no_rest left = grind (arith, nat_tests)
 
 -- each request of a read of a block
 module _ (key : Key) (row : Row) where
-  waits : (old : Calling) (number : ℕ) (new : Calling) → ⊤ → AsksForBlock key row old (Wait number) new
+  waits : (old : Calling) (number : ℕ) (new : Calling) → ⊤
+      → AsksForBlock key row old (Wait number) new
       → ⊤ × ((parts : List Part) → IsOfSteps key AddsNone old.reader parts new.reader)
   waits old number new room asks = (
     tt,

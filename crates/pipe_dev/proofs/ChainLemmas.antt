@@ -35,8 +35,8 @@ use Rattle.pipe_dev.specs.Finishing.{accepted_in, shares_of, holdings_of}
 use Rattle.pipe_dev.specs.Laws.{EachWriteIsReadWholeAndOnce, IsAllOfWriter, IsAllWritten, found_at}
 use Rattle.pipe_dev.specs.Parts.{Part, bytes_by, bytes_of, part_of, rest_of}
 use Rattle.pipe_dev.specs.ReadCalls.{AsksForBytes, Calling, FindsNone, GivesUp, GoesOn, Reader}
-use Rattle.pipe_dev.specs.ReadCalls.{TakesOut, Tries, TriesOn, calling_at, came_to, lent_at, reading}
-use Rattle.pipe_dev.specs.ReadCalls.{waits_by}
+use Rattle.pipe_dev.specs.ReadCalls.{TakesOut, Tries, TriesOn, calling_at, came_to, lent_at}
+use Rattle.pipe_dev.specs.ReadCalls.{reading, waits_by}
 use Rattle.pipe_dev.specs.Reading.{Reading}
 use Rattle.pipe_dev.specs.Rendezes.{reader_rendez}
 use Rattle.pipe_dev.specs.Rounds.{Rounds}
@@ -115,7 +115,8 @@ part_step {key} {row} {old} {new} {left} room parts some next rest =
     }
   where
     by : GoesOn old left new ⊎ TakesOut key row old left new
-        → IsLeft (taker_of old) left (taker_of new) ⊎ IsTakenOut key (taker_of old) left (taker_of new)
+        → IsLeft (taker_of old) left (taker_of new)
+        ⊎ IsTakenOut key (taker_of old) left (taker_of new)
     by (inl goes) = inl record { left_is = goes.left_is; account = goes.account }
     by (inr out) = inr record { none_left = out.none_left; taken = out.taken }
 
@@ -336,7 +337,8 @@ module _ (key : Key) (mode : Mode) (Asks : Calling → Reply ReadAnswer → Call
     × ((parts : List Part) → IsOfSteps key (AddsNoByte mode) old.reader parts new.reader))
     (ends : (old : Calling) (answer : Result ReadAnswer Fault) (new : Calling) → Room old.buffer
     → Asks old (reply_of answer) new
-    → (parts : List Part) → IsOfSteps key (AddsRead mode answer new.buffer) old.reader parts new.reader)
+    → (parts : List Part)
+    → IsOfSteps key (AddsRead mode answer new.buffer) old.reader parts new.reader)
     (first : Calling) (parts : List Part) where
   -- the reader of this seat
   abbrev reader_at : Lending → Reader

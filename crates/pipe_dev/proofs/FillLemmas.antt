@@ -4,7 +4,7 @@ use Rattle.std.proofs.Common.{false, nat_lt, List, [], ◌∷◌, ◌++◌, leng
 use Rattle.std.proofs.Common.{Some, refl, sym, ◌∙◌, ap, subst, arith, length-append, length-drop}
 use Rattle.std.proofs.Common.{drop-drop}
 use borrow.Rule.Slice.PartMut.{mid_of, put_mid, put_same, same_len_mid}
-use Rattle.std.specs.Prelude.{IsTrue, nat_le, if◌then◌else◌}
+use Rattle.std.specs.Prelude.{IsTrue}
 use Rattle.std.proofs.lemmas.Bool.Decides.{nat_tests}
 use Rattle.std.proofs.lemmas.List.{append_assoc, take_at, drop_at, length-take-le, length-take}
 use Rattle.std.proofs.lemmas.List.{take_all, drop_all, append-nil}
@@ -38,40 +38,30 @@ use Rattle.pipe_dev.proofs.RoundLemmas.{entered_right}
 
 -- ---- one part
 
--- what was taken out is a write at the place below its number
-pub taken_whole : (key : Key) (old new : Account Entry) (writer : ℕ) (block : List ℕ) (number : ℕ)
-    (whole : Part) → whole ≡ record { place = number - 1; writer = writer; bytes = block }
-    → Enters key (entry.Block writer block number) old new
-    → Enters key (entry.Block whole.writer whole.bytes (whole.place + 1)) old new
-taken_whole key old new writer block number whole is enters =
-    let right =
-    (entered_right key (entry.Block writer block number) old new enters).may.number_is in
-    let same : number ≡ number - 1 + 1 = omega (arith, right) in
-    subst (λ (w : Part). Enters key (entry.Block w.writer w.bytes (w.place + 1)) old new) (sym is)
-    (subst (λ (n : ℕ). Enters key (entry.Block writer block n) old new) same enters)
+-- a write that was taken out, by its entry
+module _ (key : Key) (old new : Account Entry) (writer : ℕ) (block : List ℕ) (number : ℕ)
+    (whole : Part) (is : whole ≡ record { place = number - 1; writer = writer; bytes = block })
+    (enters : Enters key (entry.Block writer block number) old new) where
+  -- its number is the next one
+  pub whole_number : number ≡ whole.place + 1
+  whole_number =
+      let right =
+      (entered_right key (entry.Block writer block number) old new enters).may.number_is in
+      let place : whole.place ≡ number - 1 = ap (λ (w : Part). w.place) is in
+      omega (arith, right, place)
 
--- and its number is the next one
-pub whole_number : (key : Key) (old new : Account Entry) (writer : ℕ) (block : List ℕ) (number : ℕ)
-    (whole : Part) → whole ≡ record { place = number - 1; writer = writer; bytes = block }
-    → Enters key (entry.Block writer block number) old new → number ≡ whole.place + 1
-whole_number key old new writer block number whole is enters =
-    let right =
-    (entered_right key (entry.Block writer block number) old new enters).may.number_is in
-    let place : whole.place ≡ number - 1 = ap (λ (w : Part). w.place) is in
-    omega (arith, right, place)
+  -- and it stands at the place below its number
+  pub taken_whole : Enters key (entry.Block whole.writer whole.bytes (whole.place + 1)) old new
+  taken_whole =
+      subst (λ (n : ℕ). Enters key (entry.Block whole.writer whole.bytes n) old new) whole_number
+      (subst (λ (w : Part). Enters key (entry.Block w.writer w.bytes number) old new) (sym is)
+      enters)
 
 -- a part of which something is left fills its room
 rest_or_full : (room : ℕ) (left : Part)
     → (rest_of room left ≡ None) ⊎ (length (part_of room left).bytes ≡ room)
-rest_or_full room left = by (nat_le (length left.bytes) room) refl
-  where
-    by : (b : Bool) → nat_le (length left.bytes) room ≡ b
-        → ((if b then None else Some (record left { bytes = drop room left.bytes })) ≡ None)
-        ⊎ (length (part_of room left).bytes ≡ room)
-    by true is = inl refl
-    by false is =
-        let above : room < length left.bytes = grind (arith, nat_tests) in
-        inr (length-take-le room left.bytes (omega (arith, above)))
+rest_or_full room left =
+    let full = length-take-le room left.bytes in grind (arith, nat_tests, full)
 
 -- ---- so many parts
 
@@ -164,131 +154,10 @@ filled_more bytes part first now now' room count more before filled is =
 abbrev pub goes_on_behind : Mode → ℕ → List ℕ → Bool
 goes_on_behind mode count buffer = by_mode mode false (nat_lt count (length buffer))
 
--- where it goes on behind a part, nothing of the part's write is left
-pub none_behind : (key : Key) (mode : Mode) (first now new : Lending) (room : List ℕ)
-    (took number : Option ℕ) (count more : ℕ) (further : Bool)
-    → SoFar key mode first now took count true
-    → GivesPart key (record { taker = now.taker; buffer = drop count now.buffer }) more number
-    (record { taker = new.taker; buffer = room })
-    → length new.buffer ≡ length now.buffer
-    → further ≡ goes_on_behind mode (count + more) new.buffer
-    → further ≡ true → new.taker.rest ≡ None
-none_behind key mode first now new room took number count more further so_far gives size on goes =
-    by (rest_or_full (length (drop count now.buffer)) gives.taken.left)
-  where
-    by : (rest_of (length (drop count now.buffer)) gives.taken.left ≡ None)
-        ⊎ (length (part_of (length (drop count now.buffer)) gives.taken.left).bytes
-        ≡ length (drop count now.buffer))
-        → new.taker.rest ≡ None
-    by (inl none) = gives.taken.rest ∙ none
-    by (inr full) = absurd (never mode (sym goes ∙ on))
-      where
-        never : (m : Mode) → true ≡ goes_on_behind m (count + more) new.buffer → ⊥
-        never Message says = cc
-        never Stream says =
-            let is = ap (λ (p : Part). length p.bytes) gives.taken.part_is in
-            let more_is = gives.filled.count_is in
-            let fits_first = so_far.fits in
-            let size_first = so_far.size in
-            let dropped = length-drop count now.buffer in
-            let f = full in
-            let same = size in
-            let says_more : count + more < length new.buffer = grind (arith, nat_tests) in
-            omega (arith, f, is, more_is, fits_first, size_first, dropped, same, says_more)
-
--- it has read a part more
-pub more_so_far : (key : Key) (mode : Mode) (first now new : Lending) (room : List ℕ)
-    (took number : Option ℕ) (count more : ℕ) (further : Bool)
-    → SoFar key mode first now took count true
-    → GivesPart key (record { taker = now.taker; buffer = drop count now.buffer }) more number
-    (record { taker = new.taker; buffer = room })
-    → new.buffer ≡ take count now.buffer ++ room
-    → length new.buffer ≡ length now.buffer
-    → further ≡ goes_on_behind mode (count + more) new.buffer
-    → SoFar key mode first new number (count + more) further
-more_so_far key mode first now new room took number count more further so_far gives buffer size on =
-    record {
-      times = suc so_far.times;
-      filling = after;
-      taken = record {
-        between = so_far.filling;
-        rounds = so_far.taken;
-        last = record {
-          further = sym so_far.further_is;
-          part = part;
-          taken = subst (λ (t : Taker). TakesPart key left_room t part new.taker) so_far.taker_is
-              (subst (λ (n : ℕ). TakesPart key n now.taker part new.taker) room_is gives.taken);
-          parts = refl;
-        };
-      };
-      taker_is = refl;
-      took_is = gives.number_is ∙ number_at so_far.rest_none;
-      filled = filled;
-      size = size ∙ so_far.size;
-      fits = omega (arith, so_far.fits, so_far.size, fits, gives.filled.count_is, dropped);
-      further_is = on ∙ on_is mode;
-      rest_none = inr (
-        refl,
-        none_behind key mode first now new room took number count more further so_far gives size
-            on,
-      );
-    }
-  where
-    part : Part
-    part = gives.part
-
-    after : Filling
-    after = record { taker = new.taker; parts = part ∷ so_far.filling.parts }
-
-    before : List ℕ
-    before = bytes_of so_far.filling.parts
-
-    left_room : ℕ
-    left_room = length first.buffer - length before
-
-    dropped : length (drop count now.buffer) ≡ length now.buffer - count
-    dropped = length-drop count now.buffer
-
-    room_is : length (drop count now.buffer) ≡ left_room
-    room_is =
-        let count_is = so_far.filled.count_is in
-        let size_is = so_far.size in
-        let d = dropped in
-        omega (arith, d, count_is, size_is)
-
-    fits : length part.bytes ≤ length (drop count now.buffer)
-    fits =
-        let is = ap (λ (p : Part). length p.bytes) gives.taken.part_is in
-        let taken = length-take (length (drop count now.buffer)) gives.taken.left.bytes in
-        omega (arith, is, taken)
-
-    filled : IsFilledBy (bytes_of after.parts) first.buffer new.buffer (count + more)
-    filled =
-        filled_more before part.bytes first.buffer now.buffer new.buffer room count more
-        so_far.filled gives.filled buffer
-
-    number_at : (so_far.filling ≡ begins first.taker)
-        ⊎ ((has_none so_far.filling.parts ≡ false) × (true ≡ true → now.taker.rest ≡ None))
-        → number_of now.taker.rest part ≡ last_number first.taker.rest after.parts
-    number_at (inl begun) =
-        ap (λ (t : Taker). number_of t.rest part)
-        (so_far.taker_is ∙ ap (λ (f : Filling). f.taker) begun)
-        ∙ sym (ap (λ (f : Filling). last_number first.taker.rest (part ∷ f.parts)) begun)
-    number_at (inr some) =
-        ap (λ (r : Option Part). number_of r part) (some.1 refl)
-        ∙ sym (last_more first.taker.rest part so_far.filling.parts some.0)
-
-    on_is : (m : Mode) → goes_on_behind m (count + more) new.buffer
-        ≡ goes_further (record { mode = m; room = length first.buffer }) after.parts
-    on_is Message = refl
-    on_is Stream =
-        ap (λ (n : ℕ). nat_lt n (length new.buffer)) filled.count_is
-        ∙ ap (nat_lt (length (bytes_of after.parts))) (size ∙ so_far.size)
-
 -- ---- it comes to an end
 
 -- one where a write is begun
-pub rests : Option Part → ℕ
+abbrev pub rests : Option Part → ℕ
 rests None = 0
 rests (Some left) = 1
 
@@ -321,14 +190,6 @@ one_more_whole key writer block number old new first own knows enters =
     let given = fits.given in
     (omega (arith, whole, read), omega (arith, within, given))
 
-none_is : (rest : Option Part) → rest ≡ None → rests rest ≡ 0
-unfolding rests
-none_is rest none = ap rests none
-
-one_is : (rest : Option Part) (left : Part) → rest ≡ Some left → rests rest ≡ 1
-unfolding rests
-one_is rest left some = ap rests some
-
 -- a read that has no part begun behind it has fewer writes to take out
 pub takes_fewer : (key : Key) (room : ℕ) (old new : Taker) (part : Part) → key.first ≡ 0
     → IsTrue (has_number old.account.shares 0) → KnowsQueue key old.account
@@ -337,12 +198,12 @@ unfolding writes_left
 takes_fewer key room old new part first own knows takes none = by takes.next
   where
     none_now : rests new.rest ≡ 0
-    none_now = none_is new.rest none
+    none_now = ap rests none
 
     by : IsLeft old takes.left new ⊎ IsTakenOut key old takes.left new
         → writes_left key new < writes_left key old
     by (inl goes) =
-        let one : rests old.rest ≡ 1 = one_is old.rest takes.left goes.left_is in
+        let one : rests old.rest ≡ 1 = ap rests goes.left_is in
         let same = ap (λ (a : Account Entry). (left_state key a.seen).read_whole) goes.account in
         let now = none_now in
         omega (arith, one, same, now)
@@ -355,16 +216,6 @@ takes_fewer key room old new part first own knows takes none = by takes.next
         let low = whole.1 in
         let now = none_now in
         omega (arith, one, low, now)
-
--- where it goes on behind a part, nothing of the part's write is left
-pub comes_nearer : (key : Key) (room : ℕ) (old new : Taker) (part : Part) (further : Bool)
-    → key.first ≡ 0 → IsTrue (has_number old.account.shares 0) → KnowsQueue key old.account
-    → TakesPart key room old part new → (further ≡ true → new.rest ≡ None)
-    → left_to_take key new further < left_to_take key old true
-comes_nearer key room old new part true first own knows takes none =
-    let fewer = takes_fewer key room old new part first own knows takes (none refl) in
-    omega (arith, fewer)
-comes_nearer key room old new part false first own knows takes none = omega arith
 
 -- ---- what the code's steps make of it
 
@@ -397,56 +248,14 @@ abbrev pub back_of : Lending → ℕ → Taker → List ℕ → Lending
 back_of now count new room =
     record { taker = new; buffer = put_mid count (length now.buffer - count) now.buffer room }
 
--- a step that gave a part
-pub given_part : (key : Key) (old new : Lending) (given : Next) (more : ℕ) (number : Option ℕ)
-    → given ≡ next.Part more number → GivesNext key old given new
-    → GivesPart key old more number new
-given_part key old new given more number is gives =
-    subst (λ (n : Next). GivesNext key old n new) is gives
-
--- a part more
-pub next_so_far : (key : Key) (mode : Mode) (first now : Lending) (new : Taker) (room : List ℕ)
-    (took number : Option ℕ) (count more : ℕ) (further : Bool)
-    → SoFar key mode first now took count true
-    → GivesPart key (room_of now count) more number (record { taker = new; buffer = room })
-    → length room ≡ length (mid_of count (length now.buffer - count) now.buffer)
-    → further ≡ goes_on_behind mode (count + more) (back_of now count new room).buffer
-    → SoFar key mode first (back_of now count new room) number (count + more) further
-next_so_far key mode first now new room took number count more further so_far gives size on =
-    more_so_far key mode first now (back_of now count new room) room took number count more further
-    so_far
-    (subst (λ (xs : List ℕ). GivesPart key (record { taker = now.taker; buffer = xs }) more number
-    (record { taker = new; buffer = room })) (room_all count now.buffer) gives)
-    (back_all count now.buffer room)
-    (same_len_mid count (length now.buffer - count) now.buffer room size) on
-
--- so it comes to an end
-pub next_is_nearer : (key : Key) (mode : Mode) (first now : Lending) (new : Taker) (room : List ℕ)
-    (took number : Option ℕ) (count more : ℕ) (further : Bool) → key.first ≡ 0
-    → IsTrue (has_number now.taker.account.shares 0) → KnowsQueue key now.taker.account
-    → SoFar key mode first now took count true
-    → GivesPart key (room_of now count) more number (record { taker = new; buffer = room })
-    → length room ≡ length (mid_of count (length now.buffer - count) now.buffer)
-    → further ≡ goes_on_behind mode (count + more) (back_of now count new room).buffer
-    → left_to_take key new further < left_to_take key now.taker true
-next_is_nearer key mode first now new room took number count more further numbered own knows so_far
-    gives size on =
-    let given = subst (λ (xs : List ℕ). GivesPart key (record { taker = now.taker; buffer = xs })
-    more number (record { taker = new; buffer = room })) (room_all count now.buffer) gives in
-    comes_nearer key (length (drop count now.buffer)) now.taker new given.part further numbered own
-    knows given.taken
-    (none_behind key mode first now (back_of now count new room) room took number count more
-    further so_far given (same_len_mid count (length now.buffer - count) now.buffer room size) on)
-
--- and no more
-ends_so_far : (key : Key) (mode : Mode) (first now new : Lending) (took : Option ℕ) (count : ℕ)
-    (further : Bool) (cursor : ReadCursor) (why : Stop)
-    → (so_far : SoFar key mode first now took count further)
-    → new.buffer ≡ now.buffer
+-- it goes no further
+ends_so_far : {key : Key} {mode : Mode} {first now : Lending} {took : Option ℕ} {count : ℕ}
+    {further : Bool} (so_far : SoFar key mode first now took count further) (cursor : ReadCursor)
+    (why : Stop) (new : Lending) → new.buffer ≡ now.buffer
     → StopsAt key (record { mode = mode; room = length first.buffer }) why so_far.filling new.taker
     → HasFilled key mode first
     (record { cursor = cursor; took = took; came = record { count = count; stop = why } }) new
-ends_so_far key mode first now new took count further cursor why so_far buffer stops =
+ends_so_far so_far cursor why new buffer stops =
     record {
       fills = record {
         times = so_far.times;
@@ -462,8 +271,8 @@ ends_so_far key mode first now new took count further cursor why so_far buffer s
     }
 
 -- it has enough
-pub enough_so_far : (key : Key) (mode : Mode) (first now : Lending) (took : Option ℕ) (count : ℕ)
-    (further : Bool) (cursor : ReadCursor) → SoFar key mode first now took count further
+pub enough_so_far : {key : Key} {mode : Mode} {first now : Lending} {took : Option ℕ} {count : ℕ}
+    {further : Bool} → SoFar key mode first now took count further → (cursor : ReadCursor)
     → further ≡ false
     → HasFilled key mode first
     (record {
@@ -471,47 +280,189 @@ pub enough_so_far : (key : Key) (mode : Mode) (first now : Lending) (took : Opti
       took = took;
       came = record { count = count; stop = stop.Enough };
     }) now
-enough_so_far key mode first now took count further cursor so_far enough =
-    ends_so_far key mode first now now took count further cursor stop.Enough so_far refl
+enough_so_far {now = now} so_far cursor enough =
+    ends_so_far so_far cursor stop.Enough now refl
     (sym so_far.further_is ∙ enough, so_far.taker_is)
 
--- the next write is not there yet
-pub not_yet_so_far : (key : Key) (mode : Mode) (first now : Lending) (new : Taker)
-    (room : List ℕ) (took : Option ℕ) (count number : ℕ) (cursor : ReadCursor) (given : Next)
-    → SoFar key mode first now took count true → given ≡ next.NotYet number
-    → GivesNext key (room_of now count) given (record { taker = new; buffer = room })
-    → HasFilled key mode first
-    (record {
-      cursor = cursor;
-      took = took;
-      came = record { count = count; stop = stop.NotYet number };
-    }) (back_of now count new room)
-not_yet_so_far key mode first now new room took count number cursor given so_far is gives =
-    let found = subst (λ (n : Next). GivesNext key (room_of now count) n
-    (record { taker = new; buffer = room })) is gives in
-    ends_so_far key mode first now (back_of now count new room) took count true cursor
-    (stop.NotYet number) so_far
-    (ap (put_mid count (length now.buffer - count) now.buffer) found.1
-    ∙ put_same count (length now.buffer - count) now.buffer) (
-      sym so_far.further_is,
-      subst (λ (t : Taker). FindsNotThere key number t new) so_far.taker_is found.0,
-    )
+-- behind the parts so far it goes on
+module _ {key : Key} {mode : Mode} {first now : Lending} {took : Option ℕ} {count : ℕ} {on : Bool}
+    (so_far : SoFar key mode first now took count on) (goes : on ≡ true) where
+  goes_so : goes_further (record { mode = mode; room = length first.buffer })
+      so_far.filling.parts ≡ true
+  goes_so = sym so_far.further_is ∙ goes
 
--- or no more will come
-pub end_so_far : (key : Key) (mode : Mode) (first now : Lending) (new : Taker)
-    (room : List ℕ) (took : Option ℕ) (count : ℕ) (cursor : ReadCursor) (given : Next)
-    → SoFar key mode first now took count true → given ≡ next.End
-    → GivesNext key (room_of now count) given (record { taker = new; buffer = room })
-    → HasFilled key mode first
-    (record { cursor = cursor; took = took; came = record { count = count; stop = stop.End } })
-    (back_of now count new room)
-end_so_far key mode first now new room took count cursor given so_far is gives =
-    let found = subst (λ (n : Next). GivesNext key (room_of now count) n
-    (record { taker = new; buffer = room })) is gives in
-    ends_so_far key mode first now (back_of now count new room) took count true cursor
-    stop.End so_far
-    (ap (put_mid count (length now.buffer - count) now.buffer) found.1
-    ∙ put_same count (length now.buffer - count) now.buffer) (
-      sym so_far.further_is,
-      subst (λ (t : Taker). FindsNothing key entry.End t new) so_far.taker_is found.0,
-    )
+  -- and reads a part more into the room that is left
+  module _ (new : Taker) (room : List ℕ) (more : ℕ) (number : Option ℕ) (given : Next)
+      (is : given ≡ next.Part more number)
+      (gives : GivesNext key (room_of now count) given (record { taker = new; buffer = room }))
+      (size : length room ≡ length (room_of now count).buffer) (further : Bool)
+      (on_behind : further ≡ goes_on_behind mode (count + more) (back_of now count new room).buffer)
+    where
+      given_part : GivesPart key (record { taker = now.taker; buffer = drop count now.buffer }) more
+          number (record { taker = new; buffer = room })
+      given_part =
+          subst (λ (xs : List ℕ). GivesPart key (record { taker = now.taker; buffer = xs }) more
+          number (record { taker = new; buffer = room })) (room_all count now.buffer)
+          (subst (λ (n : Next). GivesNext key (room_of now count) n
+          (record { taker = new; buffer = room })) is gives)
+
+      dropped : length (drop count now.buffer) ≡ length now.buffer - count
+      dropped = length-drop count now.buffer
+
+      back_size : length (back_of now count new room).buffer ≡ length now.buffer
+      back_size = same_len_mid count (length now.buffer - count) now.buffer room size
+
+      -- where it goes on behind the part, nothing of the part's write is left
+      none_behind : further ≡ true → new.rest ≡ None
+      none_behind further_is =
+          by (rest_or_full (length (drop count now.buffer)) given_part.taken.left)
+        where
+          by : (rest_of (length (drop count now.buffer)) given_part.taken.left ≡ None)
+              ⊎ (length (part_of (length (drop count now.buffer)) given_part.taken.left).bytes
+              ≡ length (drop count now.buffer))
+              → new.rest ≡ None
+          by (inl none) = given_part.taken.rest ∙ none
+          by (inr full) = absurd (never mode (sym further_is ∙ on_behind))
+            where
+              never : (m : Mode)
+                  → true ≡ goes_on_behind m (count + more) (back_of now count new room).buffer → ⊥
+              never Message says = cc
+              never Stream says =
+                  let part_is = ap (λ (p : Part). length p.bytes) given_part.taken.part_is in
+                  let more_is = given_part.filled.count_is in
+                  let fits = so_far.fits in
+                  let first_size = so_far.size in
+                  let f = full in
+                  let d = dropped in
+                  let b = back_size in
+                  let low : count + more < length (back_of now count new room).buffer =
+                  grind (arith, nat_tests) in
+                  omega (arith, f, part_is, more_is, fits, first_size, d, b, low)
+
+      -- so it has a part more
+      pub next_so_far : SoFar key mode first (back_of now count new room) number (count + more)
+          further
+      next_so_far =
+          record {
+            times = suc so_far.times;
+            filling = record { taker = new; parts = given_part.part ∷ so_far.filling.parts };
+            taken = record {
+              between = so_far.filling;
+              rounds = so_far.taken;
+              last = record {
+                further = goes_so;
+                part = given_part.part;
+                taken = subst (λ (t : Taker). TakesPart key
+                    (length first.buffer - length (bytes_of so_far.filling.parts)) t given_part.part
+                    new) so_far.taker_is
+                    (subst (λ (n : ℕ). TakesPart key n now.taker given_part.part new) room_is
+                    given_part.taken);
+                parts = refl;
+              };
+            };
+            taker_is = refl;
+            took_is = given_part.number_is ∙ number_at so_far.rest_none;
+            filled = filled;
+            size = back_size ∙ so_far.size;
+            fits =
+                let part_is = ap (λ (p : Part). length p.bytes) given_part.taken.part_is in
+                let taken =
+                length-take (length (drop count now.buffer)) given_part.taken.left.bytes in
+                let d = dropped in
+                omega (
+                  arith,
+                  so_far.fits,
+                  so_far.size,
+                  part_is,
+                  taken,
+                  given_part.filled.count_is,
+                  d,
+                );
+            further_is = on_behind ∙ on_is mode;
+            rest_none = inr (refl, none_behind);
+          }
+        where
+          room_is : length (drop count now.buffer)
+              ≡ length first.buffer - length (bytes_of so_far.filling.parts)
+          room_is =
+              let count_is = so_far.filled.count_is in
+              let size_is = so_far.size in
+              let d = dropped in
+              omega (arith, d, count_is, size_is)
+
+          filled : IsFilledBy (bytes_of so_far.filling.parts ++ given_part.part.bytes) first.buffer
+              (back_of now count new room).buffer (count + more)
+          filled =
+              filled_more (bytes_of so_far.filling.parts) given_part.part.bytes first.buffer
+              now.buffer (back_of now count new room).buffer room count more so_far.filled given_part.filled
+              (back_all count now.buffer room)
+
+          number_at : (so_far.filling ≡ begins first.taker)
+              ⊎ ((has_none so_far.filling.parts ≡ false) × (on ≡ true → now.taker.rest ≡ None))
+              → number_of now.taker.rest given_part.part
+              ≡ last_number first.taker.rest (given_part.part ∷ so_far.filling.parts)
+          number_at (inl begun) =
+              ap (λ (t : Taker). number_of t.rest given_part.part)
+              (so_far.taker_is ∙ ap (λ (f : Filling). f.taker) begun)
+              ∙ sym (ap (λ (f : Filling). last_number first.taker.rest (given_part.part ∷ f.parts))
+              begun)
+          number_at (inr some) =
+              ap (λ (r : Option Part). number_of r given_part.part) (some.1 goes)
+              ∙ sym (last_more first.taker.rest given_part.part so_far.filling.parts some.0)
+
+          on_is : (m : Mode)
+              → goes_on_behind m (count + more) (back_of now count new room).buffer
+              ≡ goes_further (record { mode = m; room = length first.buffer })
+              (given_part.part ∷ so_far.filling.parts)
+          on_is Message = refl
+          on_is Stream =
+              ap (λ (n : ℕ). nat_lt n (length (back_of now count new room).buffer)) filled.count_is
+              ∙ ap (nat_lt (length (bytes_of so_far.filling.parts ++ given_part.part.bytes)))
+              (back_size ∙ so_far.size)
+
+      -- and comes to an end
+      pub next_is_nearer : key.first ≡ 0 → IsTrue (has_number now.taker.account.shares 0)
+          → KnowsQueue key now.taker.account
+          → left_to_take key new further < left_to_take key now.taker true
+      next_is_nearer first own knows = by further none_behind
+        where
+          by : (b : Bool) → (b ≡ true → new.rest ≡ None)
+              → left_to_take key new b < left_to_take key now.taker true
+          by true none =
+              let fewer = takes_fewer key (length (drop count now.buffer)) now.taker new
+              given_part.part first own knows given_part.taken (none refl) in
+              omega (arith, fewer)
+          by false none = omega arith
+
+  -- or finds no part
+  module _ (new : Taker) (room : List ℕ) (given : Next)
+      (gives : GivesNext key (room_of now count) given (record { taker = new; buffer = room }))
+      (cursor : ReadCursor) where
+    -- the next write is not there yet
+    pub not_yet_so_far : (number : ℕ) → given ≡ next.NotYet number
+        → HasFilled key mode first
+        (record {
+          cursor = cursor;
+          took = took;
+          came = record { count = count; stop = stop.NotYet number };
+        }) (back_of now count new room)
+    not_yet_so_far number is =
+        let found = subst (λ (n : Next). GivesNext key (room_of now count) n
+        (record { taker = new; buffer = room })) is gives in
+        ends_so_far so_far cursor (stop.NotYet number) (back_of now count new room)
+        (ap (put_mid count (length now.buffer - count) now.buffer) found.1
+        ∙ put_same count (length now.buffer - count) now.buffer)
+        (goes_so, subst (λ (t : Taker). FindsNotThere key number t new) so_far.taker_is found.0)
+
+    -- or no more will come
+    pub end_so_far : given ≡ next.End
+        → HasFilled key mode first
+        (record { cursor = cursor; took = took; came = record { count = count; stop = stop.End } })
+        (back_of now count new room)
+    end_so_far is =
+        let found = subst (λ (n : Next). GivesNext key (room_of now count) n
+        (record { taker = new; buffer = room })) is gives in
+        ends_so_far so_far cursor stop.End (back_of now count new room)
+        (ap (put_mid count (length now.buffer - count) now.buffer) found.1
+        ∙ put_same count (length now.buffer - count) now.buffer)
+        (goes_so, subst (λ (t : Taker). FindsNothing key entry.End t new) so_far.taker_is found.0)

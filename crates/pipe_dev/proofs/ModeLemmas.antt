@@ -1,7 +1,7 @@
 -- What a read that goes on as its mode says comes to in message mode: one part, or nothing.
-use Rattle.std.proofs.Common.{◌≡◌, ◌≢◌, ◌⊎◌, inl, inr, ℕ, zero, suc, ◌+◌, Bool, true, false, nat_lt}
-use Rattle.std.proofs.Common.{List, [], ◌∷◌, length, Option, refl, sym, ◌∙◌, ap, subst}
-use Rattle.std.proofs.Common.{arith, if◌then◌else◌, ◌-◌, drop}
+use Rattle.std.proofs.Common.{◌≡◌, ◌≢◌, ◌⊎◌, inl, inr, ℕ, zero, suc, ◌+◌, ◌-◌, Bool, true, false}
+use Rattle.std.proofs.Common.{nat_lt, if◌then◌else◌, List, [], ◌∷◌, length, drop, Option, refl, sym}
+use Rattle.std.proofs.Common.{◌∙◌, ap, subst, arith}
 use Rattle.std.proofs.lemmas.Bool.Decides.{nat_tests}
 use Rattle.histories.specs.declared.account.Account.{Account}
 use Rattle.sync_base.specs.declared.mode.Mode.{Mode}
@@ -10,7 +10,7 @@ use Rattle.block_queue.specs.declared.entry.Entry.{Entry}
 use Rattle.block_queue.specs.declared.entry.Entry.TheVariants as entry
 use Rattle.block_queue.specs.declared.view.Key.{Key}
 use Rattle.block_queue.specs.Meaning.{Enters}
-use Rattle.pipe_dev.specs.declared.answers.TryAnswer.{TryAnswer}
+use Rattle.pipe_dev.specs.declared.answers.ReadAnswer.TheVariants as read
 use Rattle.pipe_dev.specs.declared.filling.ReadOutcome.{ReadOutcome}
 use Rattle.pipe_dev.specs.declared.filling.Stop.{Stop}
 use Rattle.pipe_dev.specs.declared.filling.Stop.TheVariants as stop
@@ -18,395 +18,263 @@ use Rattle.pipe_dev.specs.declared.reading.Found.{Found}
 use Rattle.pipe_dev.specs.declared.reading.Found.TheVariants as found
 use Rattle.pipe_dev.specs.declared.row.Row.{Row}
 use Rattle.pipe_dev.specs.Filling.{Taker, TakesPart, TakesMore, Filling, Lending, begins}
-use Rattle.pipe_dev.specs.Filling.{IsLeft, IsTakenOut, FindsNothing, FindsNotThere}
-use Rattle.pipe_dev.specs.Filling.{has_none, goes_further, number_of, last_number, IsFilledBy}
-use Rattle.pipe_dev.specs.Parts.{Part, part_of, bytes_of}
-use Rattle.pipe_dev.specs.ReadCalls.{GoesOn, TakesOut, Gets, FindsNone, FindsNotYet}
-use Rattle.pipe_dev.specs.ReadCalls.{FindsEnd}
-use Rattle.pipe_dev.specs.ReadCalls.{AsksForBytes, Tries, IsNotYet, IsNotYetOn, InMode}
-use Rattle.pipe_dev.specs.ReadCalls.{Calling, came_to, TriesOn, GivesBytes}
-use Rattle.pipe_dev.specs.ReadCalls.{lending_of, is_got}
-use Rattle.pipe_dev.specs.ReadSteps.{found_at, found_of, answer_of, told_by}
-use Rattle.pipe_dev.specs.Rendezes.{WakesWith, WakesWriters}
+use Rattle.pipe_dev.specs.Filling.{IsFilledBy, IsLeft, IsTakenOut, StopsAt, has_none, last_number}
+use Rattle.pipe_dev.specs.Filling.{number_of}
+use Rattle.pipe_dev.specs.Parts.{Part, bytes_of, part_of, rest_of}
+use Rattle.pipe_dev.specs.ReadCalls.{AsksForBytes, Calling, FindsEnd, FindsNotYet, Gets, GoesOn}
+use Rattle.pipe_dev.specs.ReadCalls.{TakesOut, Tries, TriesOn, came_to, lending_of}
+use Rattle.pipe_dev.specs.ReadSteps.{answer_of, found_at, found_of, told_by}
+use Rattle.pipe_dev.specs.Rendezes.{WakesWith}
 use Rattle.pipe_dev.specs.Rounds.{Rounds}
 use Rattle.waiting.specs.Waiting.{IsLow}
 use Rattle.pipe_dev.proofs.RoundLemmas.{not_yet_low}
 
--- ---- by what a try is answered
-
--- bytes are told where it gave some or had enough
-pub got_at : (count : ℕ) (why : Stop) (got : ℕ) → found_at count why ≡ found.Got got
-    → (count ≡ got) × (is_got (came_to count why) ≡ true)
-got_at count stop.Enough got is = (let same : count ≡ got = cc in same, refl)
-got_at count (stop.NotYet number) got is = by (nat_lt 0 count) is
-  where
-    by : (b : Bool) → (if b then found.Got count else found.NotYet number) ≡ found.Got got
-        → (count ≡ got) × (b ≡ true)
-    by true told = (let same : count ≡ got = cc in same, refl)
-    by false told = cc
-got_at count stop.End got is = by (nat_lt 0 count) is
-  where
-    by : (b : Bool) → (if b then found.Got count else found.End) ≡ found.Got got
-        → (count ≡ got) × (b ≡ true)
-    by true told = (let same : count ≡ got = cc in same, refl)
-    by false told = cc
-
-no_count : (count : ℕ) → nat_lt 0 count ≡ false → count ≡ 0
-no_count count none = grind (arith, nat_tests)
-
--- and else why there are none
-pub not_yet_at : (count : ℕ) (why : Stop) (number : ℕ) → found_at count why ≡ found.NotYet number
-    → came_to count why ≡ came_to 0 (stop.NotYet number)
-not_yet_at count stop.Enough number is = cc
-not_yet_at count (stop.NotYet other) number is = by (nat_lt 0 count) refl is
-  where
-    by : (b : Bool) → nat_lt 0 count ≡ b
-        → (if b then found.Got count else found.NotYet other) ≡ found.NotYet number
-        → came_to count (stop.NotYet other) ≡ came_to 0 (stop.NotYet number)
-    by true some told = cc
-    by false some told =
-        let same : other ≡ number = cc in
-        ap (λ n. came_to n (stop.NotYet other)) (no_count count some)
-        ∙ ap (λ n. came_to 0 (stop.NotYet n)) same
-not_yet_at count stop.End number is = by (nat_lt 0 count) is
-  where
-    by : (b : Bool) → (if b then found.Got count else found.End) ≡ found.NotYet number
-        → came_to count stop.End ≡ came_to 0 (stop.NotYet number)
-    by true told = cc
-    by false told = cc
-
--- the end is told where nothing was read
-pub end_at : (count : ℕ) (why : Stop) → found_at count why ≡ found.End
-    → came_to count why ≡ came_to 0 stop.End
-end_at count stop.Enough is = cc
-end_at count (stop.NotYet number) is = by (nat_lt 0 count) is
-  where
-    by : (b : Bool) → (if b then found.Got count else found.NotYet number) ≡ found.End
-        → came_to count (stop.NotYet number) ≡ came_to 0 stop.End
-    by true told = cc
-    by false told = cc
-end_at count stop.End is = by (nat_lt 0 count) refl is
-  where
-    by : (b : Bool) → nat_lt 0 count ≡ b
-        → (if b then found.Got count else found.End) ≡ found.End
-        → came_to count stop.End ≡ came_to 0 stop.End
-    by true some told = cc
-    by false some told = ap (λ n. came_to n stop.End) (no_count count some)
-
--- ---- in message mode
-
 -- one part was read
-pub record ReadsOne (key : Key) (old : Lending) (filling : Filling) : Type 0 where
-  part : Part
-  taken : TakesPart key (length old.buffer) old.taker part filling.taker
-  parts : filling.parts ≡ part ∷ []
-
-in_message : (mode : Mode) (room : ℕ) (parts : List Part) → mode ≡ Message
-    → goes_further (record { mode = mode; room = room }) parts ≡ has_none parts
-in_message mode room parts is =
-    ap (λ (m : Mode). goes_further (record { mode = m; room = room }) parts) is
+record ReadsOne (key : Key) (old : Lending) (filling : Filling) : Type 0 where
+  left : Part
+  next : IsLeft old.taker left filling.taker ⊎ IsTakenOut key old.taker left filling.taker
+  parts : filling.parts ≡ part_of (length old.buffer) left ∷ []
+  rest : filling.taker.rest ≡ rest_of (length old.buffer) left
 
 all_room : (room : ℕ) → room - 0 ≡ room
 all_room room = omega arith
 
--- so many parts are one or none
-one_or_none : (key : Key) (mode : Mode) (old : Lending) → mode ≡ Message → (times : ℕ)
-    (filling : Filling)
-    → Rounds (TakesMore key (record { mode = mode; room = length old.buffer })) times
+-- so many parts of messages are one or none
+one_or_none : (key : Key) (old : Lending) (times : ℕ) (filling : Filling)
+    → Rounds (TakesMore key (record { mode = Message; room = length old.buffer })) times
     (begins old.taker) filling
     → (filling ≡ begins old.taker) ⊎ ReadsOne key old filling
-one_or_none key mode old is zero filling taken = inl taken
-one_or_none key mode old is (suc zero) filling taken =
+one_or_none key old zero filling taken = inl taken
+one_or_none key old (suc zero) filling taken =
+    let part = taken.last.part in
+    let one : TakesPart key (length old.buffer) old.taker part filling.taker =
+    subst (λ (n : ℕ). TakesPart key n old.taker part filling.taker) (all_room (length old.buffer))
+    (subst (λ (f : Filling). TakesPart key (length old.buffer - length (bytes_of f.parts))
+    f.taker part filling.taker) taken.rounds taken.last.taken) in
     inr record {
-      part = taken.last.part;
-      taken = subst (λ (n : ℕ). TakesPart key n old.taker taken.last.part filling.taker)
-          (all_room (length old.buffer))
-          (subst (λ (f : Filling). TakesPart key (length old.buffer - length (bytes_of f.parts))
-          f.taker taken.last.part filling.taker) taken.rounds taken.last.taken);
-      parts = taken.last.parts ∙ ap (λ (f : Filling). taken.last.part ∷ f.parts) taken.rounds;
+      left = one.left;
+      next = one.next;
+      parts = taken.last.parts
+          ∙ (ap (λ (f : Filling). part ∷ f.parts) taken.rounds
+          ∙ ap (λ (p : Part). p ∷ []) one.part_is);
+      rest = one.rest;
     }
-one_or_none key mode old is (suc (suc times)) filling taken =
+one_or_none key old (suc (suc times)) filling taken =
     let has = ap has_none taken.rounds.last.parts in
-    let goes = sym (in_message mode (length old.buffer) taken.between.parts is) in
-    let further = taken.last.further in
-    let no : false ≡ true = sym has ∙ (goes ∙ further) in
+    let further : has_none taken.between.parts ≡ true = taken.last.further in
+    let no : false ≡ true = sym has ∙ further in
     cc
 
--- a try that had enough has one part, and wakes with its number where it was taken out
-one_got : (key : Key) (row : Row) (old : Calling) (count : ℕ) (new : Calling) (filling : Filling)
-    → ReadsOne key (lending_of old) filling → (lending_of new).taker ≡ filling.taker
-    → IsFilledBy (bytes_of filling.parts) old.buffer new.buffer count
-    → WakesWith row (last_number old.reader.rest filling.parts) old.reader.process
-    new.reader.process → Gets key row old count new
-one_got key row old count new filling one taker filled woken =
-    record {
-      left = left;
-      next = by one.taken.next;
-      filled = record { count_is = got.count_is; bytes = got.bytes_are };
-      rest = ap (λ (t : Taker). t.rest) taker ∙ one.taken.rest;
-    }
-  where
-    left : Part
-    left = one.taken.left
+module _ (key : Key) (row : Row) (old new : Calling) where
+  -- a try that read these parts came to this
+  record CameTo (mode : Mode) (count : ℕ) (why : Stop) (filling : Filling) : Type 0 where
+    stopped : StopsAt key (record { mode = mode; room = length old.buffer }) why filling
+        (lending_of new).taker
+    filled : IsFilledBy (bytes_of filling.parts) old.buffer new.buffer count
+    woken : WakesWith (record row { mode = mode }) (last_number old.reader.rest filling.parts)
+        old.reader.process new.reader.process
 
-    account : new.reader.account ≡ filling.taker.account
-    account = ap (λ (t : Taker). t.account) taker
+  -- a try of messages that had enough has one part, and wakes with its number where it was taken
+  -- out
+  got_one : (count : ℕ) (filling : Filling) → ReadsOne key (lending_of old) filling
+      → CameTo Message count stop.Enough filling
+      → Gets key (record row { mode = Message }) old count new
+  got_one count filling one came =
+      record {
+        left = left;
+        next = by one.next;
+        filled = record { count_is = now.filled.count_is; bytes = now.filled.bytes_are };
+        rest = ap (λ (t : Taker). t.rest) now.stopped.1 ∙ one.rest;
+      }
+    where
+      left : Part
+      left = one.left
 
-    got : IsFilledBy (part_of (length old.buffer) left).bytes old.buffer new.buffer count
-    got =
-        subst (λ (p : Part). IsFilledBy p.bytes old.buffer new.buffer count) one.taken.part_is
-        (subst (λ (ps : List Part). IsFilledBy (bytes_of ps) old.buffer new.buffer count) one.parts
-        filled)
+      part : Part
+      part = part_of (length old.buffer) one.left
 
-    woken_one : WakesWith row (number_of old.reader.rest one.part) old.reader.process
-        new.reader.process
-    woken_one =
-        subst (λ (ps : List Part). WakesWith row (last_number old.reader.rest ps)
-        old.reader.process new.reader.process) one.parts woken
+      now : CameTo Message count stop.Enough
+          (record {
+            taker = filling.taker;
+            parts = part_of (length old.buffer) one.left ∷ [];
+          })
+      now =
+          subst (CameTo Message count stop.Enough)
+          (ap (λ (ps : List Part). record { taker = filling.taker; parts = ps }) one.parts) came
 
-    by : IsLeft (lending_of old).taker left filling.taker
-        ⊎ IsTakenOut key (lending_of old).taker left filling.taker
-        → GoesOn old.reader left new.reader ⊎ TakesOut key row old.reader left new.reader
-    by (inl goes) =
-        inl record {
-          left_is = goes.left_is;
-          account = account ∙ goes.account;
-          process = subst (λ (r : Option Part). WakesWith row (number_of r one.part)
-              old.reader.process new.reader.process) goes.left_is woken_one;
-        }
-    by (inr out) =
-        inr record {
-          none_left = out.none_left;
-          taken = subst (λ (a : Account Entry). Enters key
-              (entry.Block left.writer left.bytes (left.place + 1)) old.reader.account a)
-              (sym account) out.taken;
-          woken = subst (λ (p : Part). WakesWriters row row.writers (p.place + 1)
-              old.reader.process new.reader.process) one.taken.part_is
-              (subst (λ (r : Option Part). WakesWith row (number_of r one.part)
-              old.reader.process new.reader.process) out.none_left woken_one);
-        }
+      account : new.reader.account ≡ filling.taker.account
+      account = ap (λ (t : Taker). t.account) now.stopped.1
 
--- so a try of messages that had enough gets one
-pub message_gets : (key : Key) (row : Row) (old : Calling) (count : ℕ) (new : Calling)
-    → row.mode ≡ Message → TriesOn key row old (came_to count stop.Enough) new
-    → Gets key row old count new
-message_gets key row old count new is tries =
-    by
-    (one_or_none key row.mode (lending_of old) is tries.fills.times tries.fills.filling
-    tries.fills.taken)
-  where
-    by : (tries.fills.filling ≡ begins (lending_of old).taker)
-        ⊎ ReadsOne key (lending_of old) tries.fills.filling
-        → Gets key row old count new
-    by (inl none) =
-        let has = ap (λ (f : Filling). has_none f.parts) none in
-        let goes = in_message row.mode (length old.buffer) tries.fills.filling.parts is in
-        let stopped = tries.fills.stopped.0 in
-        let no : true ≡ false = sym has ∙ (sym goes ∙ stopped) in
-        cc
-    by (inr one) =
-        one_got key row old count new tries.fills.filling one tries.fills.stopped.1
-        tries.fills.filled tries.woken
+      woken : (rest : Option Part) → old.reader.rest ≡ rest
+          → WakesWith (record row { mode = Message })
+          (number_of rest (part_of (length old.buffer) one.left)) old.reader.process
+          new.reader.process
+      woken rest is =
+          subst (λ (r : Option Part). WakesWith (record row { mode = Message })
+          (number_of r (part_of (length old.buffer) one.left)) old.reader.process
+          new.reader.process) is now.woken
 
--- a try that went on and found nothing has no part
-nothing_before : (key : Key) (row : Row) (old : Calling) (filling : Filling) (times : ℕ)
-    → row.mode ≡ Message
-    → Rounds (TakesMore key (record { mode = row.mode; room = length old.buffer })) times
-    (begins (lending_of old).taker) filling
-    → goes_further (record { mode = row.mode; room = length old.buffer }) filling.parts ≡ true
-    → filling ≡ begins (lending_of old).taker
-nothing_before key row old filling times is taken further =
-    by (one_or_none key row.mode (lending_of old) is times filling taken)
-  where
-    by : (filling ≡ begins (lending_of old).taker) ⊎ ReadsOne key (lending_of old) filling
-        → filling ≡ begins (lending_of old).taker
-    by (inl none) = none
-    by (inr one) =
-        let has = ap has_none one.parts in
-        let goes = in_message row.mode (length old.buffer) filling.parts is in
-        let no : false ≡ true = sym has ∙ (sym goes ∙ further) in
-        cc
+      by : IsLeft (lending_of old).taker one.left filling.taker
+          ⊎ IsTakenOut key (lending_of old).taker one.left filling.taker
+          → GoesOn old.reader one.left new.reader
+          ⊎ TakesOut key (record row { mode = Message }) old.reader one.left new.reader
+      by (inl goes) =
+          inl record {
+            left_is = goes.left_is;
+            account = account ∙ goes.account;
+            process = woken _ goes.left_is;
+          }
+      by (inr out) =
+          inr record {
+            none_left = out.none_left;
+            taken = subst (λ (a : Account Entry). Enters key
+                (entry.Block one.left.writer one.left.bytes (one.left.place + 1)) old.reader.account
+                a) (sym account) out.taken;
+            woken = woken _ out.none_left;
+          }
 
--- so its buffer is as it was, and nobody was woken
-record DidNothing (old : Calling) (count : ℕ) (new : Calling) : Type 0 where
-  count_is : count ≡ 0
-  buffer : new.buffer ≡ old.buffer
-  process : new.reader.process ≡ old.reader.process
+  -- what a try of messages did, by why it stopped
+  Said : ℕ → Stop → Type 0
+  Said count stop.Enough = Gets key (record row { mode = Message }) old count new
+  Said count (stop.NotYet number) =
+      FindsNotYet key number old.reader new.reader × (new.buffer ≡ old.buffer) × (count ≡ 0)
+  Said count stop.End =
+      FindsEnd key old.reader new.reader × (new.buffer ≡ old.buffer) × (count ≡ 0)
 
-did_nothing : (row : Row) (old : Calling) (count : ℕ) (new : Calling) (filling : Filling)
-    → filling ≡ begins (lending_of old).taker
-    → IsFilledBy (bytes_of filling.parts) old.buffer new.buffer count
-    → WakesWith row (last_number old.reader.rest filling.parts) old.reader.process
-    new.reader.process
-    → DidNothing old count new
-did_nothing row old count new filling none filled woken =
-    let empty = subst (λ (f : Filling). IsFilledBy (bytes_of f.parts) old.buffer new.buffer count)
-    none filled in
-    record {
-      count_is = empty.count_is;
-      buffer = empty.bytes_are ∙ ap (λ n. drop n old.buffer) empty.count_is;
-      process = subst (λ (f : Filling). WakesWith row (last_number old.reader.rest f.parts)
-          old.reader.process new.reader.process) none woken;
-    }
+  said : (count : ℕ) (why : Stop) (filling : Filling)
+      → (filling ≡ begins (lending_of old).taker) ⊎ ReadsOne key (lending_of old) filling
+      → CameTo Message count why filling → Said count why
+  unfolding Said
+  said count stop.Enough filling (inl none) came =
+      let has = ap (λ (f : Filling). has_none f.parts) none in
+      let no : true ≡ false = sym has ∙ came.stopped.0 in
+      cc
+  said count stop.Enough filling (inr one) came = got_one count filling one came
+  said count (stop.NotYet number) filling (inl none) came =
+      let now = subst (CameTo Message count (stop.NotYet number)) none came in
+      let nothing = now.stopped.1.nothing in (
+        record {
+          none = record {
+            none_left = nothing.none_left;
+            entered = nothing.entered;
+            rest = nothing.rest;
+            process = now.woken;
+          };
+          fresh = now.stopped.1.fresh;
+        },
+        now.filled.bytes_are ∙ ap (λ n. drop n old.buffer) now.filled.count_is,
+        now.filled.count_is,
+      )
+  said count stop.End filling (inl none) came =
+      let now = subst (CameTo Message count stop.End) none came in
+      let nothing = now.stopped.1 in (
+        record {
+          none_left = nothing.none_left;
+          entered = nothing.entered;
+          rest = nothing.rest;
+          process = now.woken;
+        },
+        now.filled.bytes_are ∙ ap (λ n. drop n old.buffer) now.filled.count_is,
+        now.filled.count_is,
+      )
+  said count (stop.NotYet number) filling (inr one) came =
+      let no : false ≡ true = sym (ap has_none one.parts) ∙ came.stopped.0 in cc
+  said count stop.End filling (inr one) came =
+      let no : false ≡ true = sym (ap has_none one.parts) ∙ came.stopped.0 in cc
 
-finds_none : (key : Key) (made : Entry) (old new : Calling) (filling : Filling)
-    → filling ≡ begins (lending_of old).taker
-    → FindsNothing key made filling.taker (lending_of new).taker
-    → new.reader.process ≡ old.reader.process → FindsNone key made old.reader new.reader
-finds_none key made old new filling none finds process =
-    let here = subst (λ (f : Filling). FindsNothing key made f.taker (lending_of new).taker) none
-    finds in
-    record {
-      none_left = here.none_left;
-      entered = here.entered;
-      rest = here.rest;
-      process = process;
-    }
+  -- so a try of messages gets one, or finds nothing
+  of_messages : (count : ℕ) (why : Stop)
+      → TriesOn key (record row { mode = Message }) old (came_to count why) new → Said count why
+  of_messages count why tried =
+      let fills = tried.fills in
+      said count why fills.filling
+      (one_or_none key (lending_of old) fills.times fills.filling fills.taken)
+      (record { stopped = fills.stopped; filled = fills.filled; woken = tried.woken })
 
--- a try that was told why
-pub record MessageNotYet (key : Key) (number : ℕ) (old : Calling) (count : ℕ) (new : Calling) :
-    Type 0 where
-  found : FindsNotYet key number old.reader new.reader
-  buffer : new.buffer ≡ old.buffer
-  count_is : count ≡ 0
+  -- ---- by what a try is answered
 
--- one that was told of no write did nothing else
-pub message_not_yet : (key : Key) (row : Row) (old : Calling) (count number : ℕ) (new : Calling)
-    → row.mode ≡ Message → TriesOn key row old (came_to count (stop.NotYet number)) new
-    → MessageNotYet key number old count new
-message_not_yet key row old count number new is tries =
-    let fills = tries.fills in
-    let none = nothing_before key row old fills.filling fills.times is fills.taken
-    fills.stopped.0 in
-    let did = did_nothing row old count new fills.filling none fills.filled tries.woken in
-    record {
-      found = record {
-        none = finds_none key (entry.NotYet number) old new fills.filling none
-            fills.stopped.1.nothing did.process;
-        fresh = (subst (λ (f : Filling). FindsNotThere key number f.taker (lending_of new).taker)
-            none fills.stopped.1).fresh;
-      };
-      buffer = did.buffer;
-      count_is = did.count_is;
-    }
+  -- it gave bytes, or else this is told
+  some_or_none : (P : Found → Type 0) (count : ℕ) (none : Found)
+      → (nat_lt 0 count ≡ true → P (found.Answered (read.Got count))) → (count ≡ 0 → P none)
+      → P (if nat_lt 0 count then found.Answered (read.Got count) else none)
+  some_or_none P count none some zero_so = by (nat_lt 0 count) refl
+    where
+      no_count : (n : ℕ) → nat_lt 0 n ≡ false → n ≡ 0
+      no_count n is = grind (arith, nat_tests)
 
--- a try that was told of the end
-pub record MessageEnd (key : Key) (old : Calling) (count : ℕ) (new : Calling) : Type 0 where
-  found : FindsEnd key old.reader new.reader
-  buffer : new.buffer ≡ old.buffer
-  count_is : count ≡ 0
+      by : (b : Bool) → nat_lt 0 count ≡ b
+          → P (if b then found.Answered (read.Got count) else none)
+      by true is = some is
+      by false is = zero_so (no_count count is)
 
--- nor did one that was told of the end
-pub message_end : (key : Key) (row : Row) (old : Calling) (count : ℕ) (new : Calling)
-    → row.mode ≡ Message → TriesOn key row old (came_to count stop.End) new
-    → MessageEnd key old count new
-message_end key row old count new is tries =
-    let fills = tries.fills in
-    let none = nothing_before key row old fills.filling fills.times is fills.taken
-    fills.stopped.0 in
-    let did = did_nothing row old count new fills.filling none fills.filled tries.woken in
-    record {
-      found = finds_none key entry.End old new fills.filling none fills.stopped.1 did.process;
-      buffer = did.buffer;
-      count_is = did.count_is;
-    }
+  -- what a try tells a read
+  asks : (mode : Mode) (count : ℕ) (why : Stop)
+      → TriesOn key (record row { mode = mode }) old (came_to count why) new
+      → AsksForBytes key (record row { mode = mode }) old (told_by (found_at count why)) new
+  unfolding Said
+  asks Message count stop.Enough tried = of_messages count stop.Enough tried
+  asks Message count (stop.NotYet number) tried =
+      let told = of_messages count (stop.NotYet number) tried in
+      some_or_none (λ f. AsksForBytes key (record row { mode = Message }) old (told_by f) new) count
+      (found.NotYet number)
+      (λ some. let no : false ≡ true = ap (nat_lt 0) (sym told.2) ∙ some in cc)
+      (λ zero. (told.0, told.1))
+  asks Message count stop.End tried =
+      let told = of_messages count stop.End tried in
+      some_or_none (λ f. AsksForBytes key (record row { mode = Message }) old (told_by f) new) count
+      (found.Answered read.End)
+      (λ some. let no : false ≡ true = ap (nat_lt 0) (sym told.2) ∙ some in cc)
+      (λ zero. (told.0, told.1))
+  asks Stream count stop.Enough tried =
+      record { why = stop.Enough; tried = tried; got = refl }
+  asks Stream count (stop.NotYet number) tried =
+      some_or_none (λ f. AsksForBytes key (record row { mode = Stream }) old (told_by f) new) count
+      (found.NotYet number)
+      (λ some. record { why = stop.NotYet number; tried = tried; got = some })
+      (λ zero. subst (λ n. TriesOn key (record row { mode = Stream }) old
+      (came_to n (stop.NotYet number)) new) zero tried)
+  asks Stream count stop.End tried =
+      some_or_none (λ f. AsksForBytes key (record row { mode = Stream }) old (told_by f) new) count
+      (found.Answered read.End)
+      (λ some. record { why = stop.End; tried = tried; got = some })
+      (λ zero. subst (λ n. TriesOn key (record row { mode = Stream }) old (came_to n stop.End) new)
+      zero tried)
 
--- bytes that are told of a message are those of one
-pub message_bytes : (key : Key) (row : Row) (old : Calling) (count : ℕ) (new : Calling)
-    → row.mode ≡ Message → GivesBytes key row old count new → Gets key row old count new
-message_bytes key row old count new is gives = by gives.why gives.tried gives.got
-  where
-    by : (why : Stop) → TriesOn key row old (came_to count why) new
-        → is_got (came_to count why) ≡ true → Gets key row old count new
-    by stop.Enough tried got = message_gets key row old count new is tried
-    by (stop.NotYet number) tried got =
-        let none = (message_not_yet key row old count number new is tried).count_is in
-        let no : false ≡ true = ap (nat_lt 0) (sym none) ∙ got in
-        cc
-    by stop.End tried got =
-        let none = (message_end key row old count new is tried).count_is in
-        let no : false ≡ true = ap (nat_lt 0) (sym none) ∙ got in
-        cc
+  -- one request of a read
+  pub asks_by_mode : (came : ReadOutcome) (told : Found) → TriesOn key row old came new
+      → told ≡ found_of came → AsksForBytes key row old (told_by told) new
+  asks_by_mode came told tried is =
+      subst (λ f. AsksForBytes key row old (told_by f) new) (sym is)
+      (asks row.mode came.count came.stop tried)
 
--- ---- in either mode
+  -- a read that does not wait is answered what its request is told
+  pub tries_as_asked : (told : Found) → AsksForBytes key row old (told_by told) new
+      → Tries key row old (answer_of told) new
+  tries_as_asked told asked = by row.mode told asked
+    where
+      by : (mode : Mode) (told : Found)
+          → AsksForBytes key (record row { mode = mode }) old (told_by told) new
+          → Tries key (record row { mode = mode }) old (answer_of told) new
+      by mode (found.Answered (read.Got count)) asked = asked
+      by mode (found.Answered read.End) asked = asked
+      by Message (found.NotYet number) asked =
+          (record { number = number; found = asked.0 }, asked.1)
+      by Stream (found.NotYet number) asked = record { number = number; tried = asked }
 
--- what is so in each mode
-in_mode : (mode : Mode) (OfMessages OfStream : Type 0) → (mode ≡ Message → OfMessages) → OfStream
-    → InMode mode OfMessages OfStream
-in_mode Message OfMessages OfStream of_messages of_stream = of_messages refl
-in_mode Stream OfMessages OfStream of_messages of_stream = of_stream
-
--- what a try tells a read
-asks_in_mode : (key : Key) (row : Row) (old : Calling) (count : ℕ) (why : Stop) (told : Found)
-    (new : Calling) → found_at count why ≡ told → TriesOn key row old (came_to count why) new
-    → AsksForBytes key row old (told_by told) new
-asks_in_mode key row old count why (found.Got got) new is tried =
-    let said = got_at count why got is in
-    let gives : GivesBytes key row old got new = record {
-      why = why;
-      tried = subst (λ (n : ℕ). TriesOn key row old (came_to n why) new) said.0 tried;
-      got = subst (λ (n : ℕ). is_got (came_to n why) ≡ true) said.0 said.1;
-    } in
-    in_mode row.mode (Gets key row old got new) (GivesBytes key row old got new)
-    (λ mode. message_bytes key row old got new mode gives) gives
-asks_in_mode key row old count why found.End new is tried =
-    let none = subst (λ (c : ReadOutcome). TriesOn key row old c new)
-    (end_at count why is) tried in
-    in_mode row.mode (FindsEnd key old.reader new.reader × (new.buffer ≡ old.buffer))
-    (TriesOn key row old (came_to 0 stop.End) new)
-    (λ mode. let said = message_end key row old 0 new mode none in (said.found, said.buffer)) none
-asks_in_mode key row old count why (found.NotYet number) new is tried =
-    let none = subst (λ (c : ReadOutcome). TriesOn key row old c new)
-    (not_yet_at count why number is) tried in
-    in_mode row.mode (FindsNotYet key number old.reader new.reader × (new.buffer ≡ old.buffer))
-    (TriesOn key row old (came_to 0 (stop.NotYet number)) new)
-    (λ mode. let said = message_not_yet key row old 0 number new mode none in
-    (said.found, said.buffer)) none
-
--- one request of a read
-pub asks_by_mode : (key : Key) (row : Row) (old : Calling) (came : ReadOutcome) (told : Found)
-    (new : Calling) → TriesOn key row old came new → told ≡ found_of came
-    → AsksForBytes key row old (told_by told) new
-asks_by_mode key row old came told new tried is =
-    asks_in_mode key row old came.count came.stop told new (sym is) tried
-
--- a read that does not wait is answered what its request is told
-pub tries_as_asked : (key : Key) (row : Row) (old : Calling) (told : Found) (answer : TryAnswer)
-    (new : Calling) → AsksForBytes key row old (told_by told) new → answer ≡ answer_of told
-    → Tries key row old answer new
-tries_as_asked key row old told answer new asked is =
-    subst (λ (a : TryAnswer). Tries key row old a new) (sym is) (by told asked)
-  where
-    of_none : (number : ℕ) (mode : Mode)
-        → InMode mode (FindsNotYet key number old.reader new.reader × (new.buffer ≡ old.buffer))
-        (TriesOn key row old (came_to 0 (stop.NotYet number)) new)
-        → InMode mode (IsNotYet key old.reader new.reader × (new.buffer ≡ old.buffer))
-        (IsNotYetOn key row old new)
-    of_none number Message said = (record { number = number; found = said.0 }, said.1)
-    of_none number Stream tried = record { number = number; tried = tried }
-
-    by : (told : Found) → AsksForBytes key row old (told_by told) new
-        → Tries key row old (answer_of told) new
-    by (found.Got count) asked = asked
-    by (found.NotYet number) asked = of_none number row.mode asked
-    by found.End asked = asked
-
--- the number that it is told is low
-pub told_low : (key : Key) (row : Row) (old : Calling) (told : Found) (new : Calling)
-    → key.first ≡ 0 → AsksForBytes key row old (told_by told) new → IsLow (told_by told)
-told_low key row old (found.Got count) new first asked = tt
-told_low key row old found.End new first asked = tt
-told_low key row old (found.NotYet number) new first asked = by row.mode asked
-  where
-    by : (mode : Mode)
-        → InMode mode (FindsNotYet key number old.reader new.reader × (new.buffer ≡ old.buffer))
-        (TriesOn key row old (came_to 0 (stop.NotYet number)) new)
-        → IsLow (told_by (found.NotYet number))
-    by Message said =
-        not_yet_low key number old.reader.account new.reader.account first said.0.none.entered
-    by Stream tried =
-        not_yet_low key number tried.fills.filling.taker.account new.reader.account first
-        tried.fills.stopped.1.nothing.entered
+  -- the number that it is told is low
+  pub told_low : (told : Found) → key.first ≡ 0 → AsksForBytes key row old (told_by told) new
+      → IsLow (told_by told)
+  told_low told first asked = by row.mode told asked
+    where
+      by : (mode : Mode) (told : Found)
+          → AsksForBytes key (record row { mode = mode }) old (told_by told) new
+          → IsLow (told_by told)
+      by mode (found.Answered answer) asked = tt
+      by Message (found.NotYet number) asked =
+          not_yet_low key number old.reader.account new.reader.account first asked.0.none.entered
+      by Stream (found.NotYet number) asked =
+          not_yet_low key number asked.fills.filling.taker.account new.reader.account first
+          asked.fills.stopped.1.nothing.entered
 
 -- a buffer with room stays one
 pub still_some : (xs ys : List ℕ) → length ys ≡ length xs → xs ≢ [] → ys ≢ []

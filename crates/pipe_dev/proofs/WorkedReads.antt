@@ -84,7 +84,8 @@ module _ (table : TableId) where
   waits_and_reads : Reads tight rendez_row (calling (reader unread idle) (0 ∷ 0 ∷ 0 ∷ []))
       (Ok (read.Got 2)) (calling (reader has_taken (woke reader_woken 4 1)) (97 ∷ 98 ∷ 0 ∷ []))
   waits_and_reads =
-      slept_once (reading tight rendez_row) 3 (lent_at (calling (reader unread idle) (0 ∷ 0 ∷ 0 ∷ [])))
+      slept_once (reading tight rendez_row) 3
+      (lent_at (calling (reader unread idle) (0 ∷ 0 ∷ 0 ∷ [])))
       (lending_of (calling (reader told idle) (0 ∷ 0 ∷ 0 ∷ [])))
       (lending_of (calling (reader has_taken idle) (97 ∷ 98 ∷ 0 ∷ []))) idle 0 (finds_not_yet, refl)
       (Ok (read.Got 2)) (woke reader_woken 4 1)
@@ -198,7 +199,8 @@ module _ (table : TableId) where
       (Ok (read.Got 2)) (calling (reader has_taken (woke reader_woken 4 1)) a)
   waits_and_reads_a_block =
       slept_once (waits_by asks_for_block) 3 (lent_at (calling (reader unread idle) b))
-      (lending_of (calling (reader told idle) b)) (lending_of (calling (reader has_taken idle) a)) idle 0
+      (lending_of (calling (reader told idle) b)) (lending_of (calling (reader has_taken idle) a))
+      idle 0
       (finds_not_yet, refl) (Ok (read.Got 2)) (woke reader_woken 4 1) (
         record {
           left = first_write;
@@ -284,8 +286,13 @@ module _ (table : TableId) where
       record {
         between = nothing_read unread;
         rounds = refl;
-        last = inr
-            (record { entry = entry; entered = enters; no_block = none; rest = refl; parts = refl });
+        last = inr record {
+          entry = entry;
+          entered = enters;
+          no_block = none;
+          rest = refl;
+          parts = refl;
+        };
       }
 
   -- two calls: nothing was there; and then one byte of two was read

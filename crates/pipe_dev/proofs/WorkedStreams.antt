@@ -24,8 +24,8 @@ use Rattle.pipe_dev.specs.Rendezes.{WakesWriters, WakesWith}
 use Rattle.pipe_dev.specs.Filling.{begins, last_number}
 use Rattle.pipe_dev.proofs.WorkedEntries.{a, b, taker, taker_enters, unread, at_rendez, row_in}
 use Rattle.pipe_dev.proofs.WorkedEntries.{woke, slept, wakes_writer, interrupted, is_not_idle}
-use Rattle.pipe_dev.proofs.WorkedFills.{part, loose, one_out, all_out, told, takes_first, finds_none}
-use Rattle.pipe_dev.proofs.WorkedFills.{free, filling, fills_all}
+use Rattle.pipe_dev.proofs.WorkedFills.{part, loose, one_out, all_out, told, takes_first}
+use Rattle.pipe_dev.proofs.WorkedFills.{finds_none, free, filling, fills_all}
 
 -- ---- a try, and a read, of that direction and of two more
 
@@ -247,7 +247,8 @@ module _ (table : TableId) where
       (calling (reader told_empty (slept (woke idle 4 1) 3 1 (only Interrupt))) b)
   read_is_interrupted =
       interrupted (reading loose row) 3 (lent_at (calling (reader unread idle) b))
-      (lending_of (calling (reader told_empty idle) b)) (lending_of (calling (reader told_empty idle) b))
+      (lending_of (calling (reader told_empty idle) b))
+      (lending_of (calling (reader told_empty idle) b))
       (woke idle 4 1) 1 passes_an_empty_write refl
 
   finds_an_end : TriesOn loose row (calling (reader unread idle) b) (came_to 0 stop.End)

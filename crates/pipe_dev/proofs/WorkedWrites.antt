@@ -102,7 +102,8 @@ abbrev is_worn : Account Entry
 is_worn = putter (entry.Worn 0 b ∷ []) (entry.Worn 0 b ∷ [])
 
 finds_no_room : Enters tight (entry.Full 0 b 0) has_put was_full
-finds_no_room = putter_enters 0 (entry.Full 0 b 0) [] put_one seen_3 tt refl refl refl (search rules)
+finds_no_room =
+    putter_enters 0 (entry.Full 0 b 0) [] put_one seen_3 tt refl refl refl (search rules)
 
 is_accepted : Enters tight (entry.Taken 0 b 2) was_full is_taken
 is_accepted =
@@ -116,10 +117,12 @@ then_stands =
 
 finds_the_hangup : Enters tight (entry.Hungup 0 b) unwritten is_late
 finds_the_hangup =
-    putter_enters 0 (entry.Hungup 0 b) (entry.Hung 0 ∷ []) [] [] (refl, tt) refl refl refl (search rules)
+    putter_enters 0 (entry.Hungup 0 b) (entry.Hung 0 ∷ []) [] [] (refl, tt) refl refl refl
+    (search rules)
 
 finds_no_number : Enters (record tight { first = LAST_WRITE }) (entry.Worn 0 b) unwritten is_worn
-finds_no_number = putter_enters LAST_WRITE (entry.Worn 0 b) [] [] [] tt refl refl refl (search rules)
+finds_no_number =
+    putter_enters LAST_WRITE (entry.Worn 0 b) [] [] [] tt refl refl refl (search rules)
 
 module _ (table : TableId) where
   abbrev idle : Process
@@ -146,7 +149,8 @@ module _ (table : TableId) where
   -- it slept once, and then was accepted and woke the reader with the number 2
   waits_and_writes : Writes (call b) (writer has_put idle) (Ok 2) second_written
   waits_and_writes =
-      slept_once (writing (call b)) 4 (writer has_put idle) was_full has_put_both idle 0 finds_full (Ok 2)
+      slept_once (writing (call b)) 4 (writer has_put idle) was_full has_put_both idle 0 finds_full
+      (Ok 2)
       second_written.process
       (record {
         stands = record { between = is_taken; taken = is_accepted; stood = then_stands };
@@ -165,7 +169,8 @@ module _ (table : TableId) where
   write_is_interrupted : Writes (call b) (writer has_put idle)
       (Err (fault.Interrupted (only Interrupt))) (writer was_full (slept idle 4 0 (only Interrupt)))
   write_is_interrupted =
-      interrupted (writing (call b)) 4 (writer has_put idle) was_full was_full idle 0 finds_full refl
+      interrupted (writing (call b)) 4 (writer has_put idle) was_full was_full idle 0 finds_full
+      refl
 
   -- what the queue answers no write, and what no write that gave up comes to
   queue_refuses_for_memory : (new : Writer)

@@ -21,25 +21,25 @@ use Rattle.waiting.specs.Waiting.{WaitPoint}
 
 -- what a try is answered: bytes, or why there are none
 abbrev pub found_at : ℕ → Stop → Found
-found_at count stop.Enough = found.Got count
+found_at count stop.Enough = found.Answered (read.Got count)
 found_at count (stop.NotYet number) =
-    if nat_lt 0 count then found.Got count else found.NotYet number
-found_at count stop.End = if nat_lt 0 count then found.Got count else found.End
+    if nat_lt 0 count then found.Answered (read.Got count) else found.NotYet number
+found_at count stop.End =
+    if nat_lt 0 count then found.Answered (read.Got count) else found.Answered read.End
 
 abbrev pub found_of : ReadOutcome → Found
 found_of came = found_at came.count came.stop
 
 -- what a read that does not wait is answered of it
 abbrev pub answer_of : Found → TryAnswer
-answer_of (found.Got count) = try.Got count
+answer_of (found.Answered (read.Got count)) = try.Got count
+answer_of (found.Answered read.End) = try.End
 answer_of (found.NotYet number) = try.NotYet
-answer_of found.End = try.End
 
 -- what a try tells a read that waits
 abbrev pub told_by : Found → Reply ReadAnswer
-told_by (found.Got count) = Done (read.Got count)
+told_by (found.Answered answer) = Done answer
 told_by (found.NotYet number) = Wait number
-told_by found.End = Done read.End
 
 -- where a read stands that was told this number last
 abbrev pub told_with : ReadCursor → Running → List ℕ → ℕ → WaitPoint Lending

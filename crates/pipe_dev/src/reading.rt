@@ -121,9 +121,8 @@ pub(crate) struct Done {
 // What one try found. `NotYet` has the number with which to sleep.
 #[derive(Drop)]
 pub(crate) enum Found {
-    Got(usize),
+    Answered(ReadAnswer),
     NotYet(u64),
-    End,
 }
 
 // A read that does not wait is over.
@@ -161,13 +160,9 @@ fn read_with<R: Wait>(
 {
     let Asked { cursor, found } = ask_for_bytes(queue, row, cursor, proc, buffer);
     match found {
-        Found::Got(count) => Done {
+        Found::Answered(answer) => Done {
             cursor,
-            answer: Ok(ReadAnswer::Got(count)),
-        },
-        Found::End => Done {
-            cursor,
-            answer: Ok(ReadAnswer::End),
+            answer: Ok(answer),
         },
         Found::NotYet(number) => {
             let Slept { cursor, ending } = sleep_for_bytes(
@@ -223,12 +218,8 @@ pub(crate) fn sleep_for_bytes<R: Wait>(
                 let Asked { cursor: now, found } = ask_for_bytes(queue, row, cursor, proc, buffer);
                 cursor = now;
                 match found {
-                    Found::Got(count) => {
-                        let ending = WaitEnd::Answered(Ok(ReadAnswer::Got(count)));
-                        return Slept { cursor, ending };
-                    }
-                    Found::End => {
-                        let ending = WaitEnd::Answered(Ok(ReadAnswer::End));
+                    Found::Answered(answer) => {
+                        let ending = WaitEnd::Answered(Ok(answer));
                         return Slept { cursor, ending };
                     }
                     Found::NotYet(again) => number = again,
@@ -273,23 +264,10 @@ pub(crate) fn ask_for_bytes(
 fn found_by(came: ReadOutcome) -> Found
     ensures { result ≡ found_of came }
 {
-    let ReadOutcome { count, stop } = came;
-    match stop {
-        Stop::Enough => Found::Got(count),
-        Stop::NotYet(number) => {
-            if count > 0 {
-                Found::Got(count)
-            } else {
-                Found::NotYet(number)
-            }
-        }
-        Stop::End => {
-            if count > 0 {
-                Found::Got(count)
-            } else {
-                Found::End
-            }
-        }
+    match came.stop {
+        Stop::NotYet(number) if came.count == 0 => Found::NotYet(number),
+        Stop::End if came.count == 0 => Found::Answered(ReadAnswer::End),
+        _ => Found::Answered(ReadAnswer::Got(came.count)),
     }
 }
 
@@ -320,8 +298,8 @@ fn answer_to(found: Found) -> TryAnswer
     ensures { result ≡ answer_of found }
 {
     match found {
-        Found::Got(count) => TryAnswer::Got(count),
+        Found::Answered(ReadAnswer::Got(count)) => TryAnswer::Got(count),
+        Found::Answered(ReadAnswer::End) => TryAnswer::End,
         Found::NotYet(_) => TryAnswer::NotYet,
-        Found::End => TryAnswer::End,
     }
 }

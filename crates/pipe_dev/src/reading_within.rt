@@ -119,13 +119,9 @@ fn read_in_time<R: Wait>(
     let pid = proc.pid();
     let Asked { cursor, found } = ask_for_bytes(queue, row, cursor, proc, buffer);
     match found {
-        Found::Got(count) => Done {
+        Found::Answered(answer) => Done {
             cursor,
-            answer: Ok(ReadAnswer::Got(count)),
-        },
-        Found::End => Done {
-            cursor,
-            answer: Ok(ReadAnswer::End),
+            answer: Ok(answer),
         },
         Found::NotYet(number) => {
             timers.add(rt, timer, pid, deadline(now, ms));

@@ -22,8 +22,8 @@ returns-clause-asked c =
     let last = last_number c.args.cursor.rest filled.fills.filling.parts in
     asks_by_mode (key_of c.args.queue.now) row
     (calling (reader_with c.args.cursor c.args.proc.now) c.args.buffer.now)
-    c.fill-cursor.result.came c.found_by-found.result
     (calling (reader_with c.fill-cursor.result.cursor c.match-took.proc) c.fill-cursor.new.buffer)
+    c.fill-cursor.result.came c.found_by-found.result
     (record {
       fills = filled.fills;
       woken = elim c.match-took.branch [
@@ -42,6 +42,5 @@ pub returns-clause-low : goal.returns-clause-low
 returns-clause-low c =
     told_low (key_of c.args.queue.now) c.args.row.now
     (calling (reader_with c.args.cursor c.args.proc.now) c.args.buffer.now)
-    c.found_by-found.result
     (calling (reader_with c.fill-cursor.result.cursor c.match-took.proc) c.fill-cursor.new.buffer)
-    c.requires.cursor.row_is.first (returns-clause-asked c)
+    c.found_by-found.result c.requires.cursor.row_is.first (returns-clause-asked c)

@@ -29,8 +29,8 @@ returns-in-Err-clause-slept g c =
       };
     }
 
-pub returns-in-Got-clause-slept : goal.returns-in-Got-clause-slept
-returns-in-Got-clause-slept g c =
+pub returns-in-Answered-clause-slept : goal.returns-in-Answered-clause-slept
+returns-in-Answered-clause-slept g c =
     let key = key_of c.args.queue.now in
     let row = c.args.row.now in
     record {
@@ -48,31 +48,7 @@ returns-in-Got-clause-slept g c =
               (told_by f)
               (calling (reader_with c.ask_for_bytes-now.result.cursor c.ask_for_bytes-now.new.proc)
               c.ask_for_bytes-now.new.buffer))
-              c.in-Got.is c.ask_for_bytes-now.ensures.asked,
-        );
-      };
-    }
-
-pub returns-in-End-clause-slept : goal.returns-in-End-clause-slept
-returns-in-End-clause-slept g c =
-    let key = key_of c.args.queue.now in
-    let row = c.args.row.now in
-    record {
-      times = c.reading.invariant.times;
-      last = told_with c.reading.cursor c.reading.proc c.reading.buffer c.reading.number;
-      rounds = c.reading.invariant.rounds;
-      ends = record {
-        woken = c.sleep.new.self.process;
-        slept = subst (λ r. SleepsWell c.reading.proc.process r c.reading.number
-            c.sleep.new.self.process) c.reader.ensures c.in-Ok.ensures.slept;
-        asked = (
-          c.requires.set,
-          subst (λ f. AsksForBytes key row
-              (calling (reader_with c.reading.cursor c.sleep.new.self) c.reading.buffer)
-              (told_by f)
-              (calling (reader_with c.ask_for_bytes-now.result.cursor c.ask_for_bytes-now.new.proc)
-              c.ask_for_bytes-now.new.buffer))
-              c.in-End.is c.ask_for_bytes-now.ensures.asked,
+              c.in-Answered.is c.ask_for_bytes-now.ensures.asked,
         );
       };
     }

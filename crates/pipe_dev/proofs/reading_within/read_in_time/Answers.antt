@@ -1,5 +1,5 @@
 -- It is answered at once; or it sets its timer, sleeps, and ends its wait.
-use Rattle.std.proofs.Common.{◌<◌, inl, inr, true, false, refl, sym, ap, ◌∙◌, subst, arith}
+use Rattle.std.proofs.Common.{◌<◌, inr, true, false, sym, ap, ◌∙◌, subst, arith}
 use Rattle.block_queue.specs.Seats.{key_of}
 use Rattle.kernel_lock.specs.Seats.{number_of}
 use Rattle.rendez_words.specs.Words.{rendez_of}
