@@ -25,11 +25,9 @@ use Rattle.pipe_dev.specs.Filling.{IsLeft, IsTakenOut}
 use Rattle.pipe_dev.specs.Filling.{IsFilledBy, has_none, goes_further, number_of, last_number}
 use Rattle.pipe_dev.specs.Filling.{StopsAt, FindsNotThere, FindsNothing}
 use Rattle.pipe_dev.specs.FillSteps.{GivesPart, GivesNext, HasFilled}
-use Rattle.pipe_dev.specs.declared.filling.Next.{Next}
 use Rattle.pipe_dev.specs.declared.filling.Next.TheVariants as next
 use Rattle.pipe_dev.specs.declared.filling.Stop.{Stop}
 use Rattle.pipe_dev.specs.declared.filling.Stop.TheVariants as stop
-use Rattle.pipe_dev.specs.declared.cursor.ReadCursor.{ReadCursor}
 use Rattle.pipe_dev.specs.Finishing.{left_state}
 use Rattle.pipe_dev.specs.Parts.{Part, part_of, rest_of, bytes_of}
 use Rattle.pipe_dev.specs.Rounds.{Rounds}
@@ -250,12 +248,12 @@ back_of now count new room =
 
 -- it goes no further
 ends_so_far : {key : Key} {mode : Mode} {first now : Lending} {took : Option ℕ} {count : ℕ}
-    {further : Bool} (so_far : SoFar key mode first now took count further) (cursor : ReadCursor)
-    (why : Stop) (new : Lending) → new.buffer ≡ now.buffer
+    {further : Bool} (so_far : SoFar key mode first now took count further) (why : Stop)
+    (new : Lending) → new.buffer ≡ now.buffer
     → StopsAt key (record { mode = mode; room = length first.buffer }) why so_far.filling new.taker
     → HasFilled key mode first
-    (record { cursor = cursor; took = took; came = record { count = count; stop = why } }) new
-ends_so_far so_far cursor why new buffer stops =
+    (record { took = took; came = record { count = count; stop = why } }) new
+ends_so_far so_far why new buffer stops =
     record {
       fills = record {
         times = so_far.times;
@@ -272,17 +270,11 @@ ends_so_far so_far cursor why new buffer stops =
 
 -- it has enough
 pub enough_so_far : {key : Key} {mode : Mode} {first now : Lending} {took : Option ℕ} {count : ℕ}
-    {further : Bool} → SoFar key mode first now took count further → (cursor : ReadCursor)
-    → further ≡ false
+    {further : Bool} → SoFar key mode first now took count further → further ≡ false
     → HasFilled key mode first
-    (record {
-      cursor = cursor;
-      took = took;
-      came = record { count = count; stop = stop.Enough };
-    }) now
-enough_so_far {now = now} so_far cursor enough =
-    ends_so_far so_far cursor stop.Enough now refl
-    (sym so_far.further_is ∙ enough, so_far.taker_is)
+    (record { took = took; came = record { count = count; stop = stop.Enough } }) now
+enough_so_far {now = now} so_far enough =
+    ends_so_far so_far stop.Enough now refl (sym so_far.further_is ∙ enough, so_far.taker_is)
 
 -- behind the parts so far it goes on
 module _ {key : Key} {mode : Mode} {first now : Lending} {took : Option ℕ} {count : ℕ} {on : Bool}
@@ -292,9 +284,9 @@ module _ {key : Key} {mode : Mode} {first now : Lending} {took : Option ℕ} {co
   goes_so = sym so_far.further_is ∙ goes
 
   -- and reads a part more into the room that is left
-  module _ (new : Taker) (room : List ℕ) (more : ℕ) (number : Option ℕ) (given : Next)
-      (is : given ≡ next.Part more number)
-      (gives : GivesNext key (room_of now count) given (record { taker = new; buffer = room }))
+  module _ (new : Taker) (room : List ℕ) {more : ℕ} {number : Option ℕ}
+      (gives : GivesPart key (room_of now count) more number
+      (record { taker = new; buffer = room }))
       (size : length room ≡ length (room_of now count).buffer) (further : Bool)
       (on_behind : further ≡ goes_on_behind mode (count + more) (back_of now count new room).buffer)
     where
@@ -302,9 +294,7 @@ module _ {key : Key} {mode : Mode} {first now : Lending} {took : Option ℕ} {co
           number (record { taker = new; buffer = room })
       given_part =
           subst (λ (xs : List ℕ). GivesPart key (record { taker = now.taker; buffer = xs }) more
-          number (record { taker = new; buffer = room })) (room_all count now.buffer)
-          (subst (λ (n : Next). GivesNext key (room_of now count) n
-          (record { taker = new; buffer = room })) is gives)
+          number (record { taker = new; buffer = room })) (room_all count now.buffer) gives
 
       dropped : length (drop count now.buffer) ≡ length now.buffer - count
       dropped = length-drop count now.buffer
@@ -435,34 +425,28 @@ module _ {key : Key} {mode : Mode} {first now : Lending} {took : Option ℕ} {co
           by false none = omega arith
 
   -- or finds no part
-  module _ (new : Taker) (room : List ℕ) (given : Next)
-      (gives : GivesNext key (room_of now count) given (record { taker = new; buffer = room }))
-      (cursor : ReadCursor) where
+  module _ (new : Taker) (room : List ℕ) where
     -- the next write is not there yet
-    pub not_yet_so_far : (number : ℕ) → given ≡ next.NotYet number
+    pub not_yet_so_far : (number : ℕ)
+        → GivesNext key (room_of now count) (next.NotYet number)
+        (record { taker = new; buffer = room })
         → HasFilled key mode first
-        (record {
-          cursor = cursor;
-          took = took;
-          came = record { count = count; stop = stop.NotYet number };
-        }) (back_of now count new room)
-    not_yet_so_far number is =
-        let found = subst (λ (n : Next). GivesNext key (room_of now count) n
-        (record { taker = new; buffer = room })) is gives in
-        ends_so_far so_far cursor (stop.NotYet number) (back_of now count new room)
+        (record { took = took; came = record { count = count; stop = stop.NotYet number } })
+        (back_of now count new room)
+    not_yet_so_far number found =
+        ends_so_far so_far (stop.NotYet number) (back_of now count new room)
         (ap (put_mid count (length now.buffer - count) now.buffer) found.1
         ∙ put_same count (length now.buffer - count) now.buffer)
         (goes_so, subst (λ (t : Taker). FindsNotThere key number t new) so_far.taker_is found.0)
 
     -- or no more will come
-    pub end_so_far : given ≡ next.End
+    pub end_so_far : GivesNext key (room_of now count) next.End
+        (record { taker = new; buffer = room })
         → HasFilled key mode first
-        (record { cursor = cursor; took = took; came = record { count = count; stop = stop.End } })
+        (record { took = took; came = record { count = count; stop = stop.End } })
         (back_of now count new room)
-    end_so_far is =
-        let found = subst (λ (n : Next). GivesNext key (room_of now count) n
-        (record { taker = new; buffer = room })) is gives in
-        ends_so_far so_far cursor stop.End (back_of now count new room)
+    end_so_far found =
+        ends_so_far so_far stop.End (back_of now count new room)
         (ap (put_mid count (length now.buffer - count) now.buffer) found.1
         ∙ put_same count (length now.buffer - count) now.buffer)
         (goes_so, subst (λ (t : Taker). FindsNothing key entry.End t new) so_far.taker_is found.0)

@@ -11,6 +11,7 @@ use Rattle.block_queue.specs.declared.entry.Entry.TheVariants as entry
 use Rattle.block_queue.specs.declared.view.Key.{Key}
 use Rattle.block_queue.specs.Meaning.{Enters}
 use Rattle.pipe_dev.specs.declared.answers.ReadAnswer.TheVariants as read
+use Rattle.pipe_dev.specs.declared.answers.TryAnswer.TheVariants as try
 use Rattle.pipe_dev.specs.declared.filling.ReadOutcome.{ReadOutcome}
 use Rattle.pipe_dev.specs.declared.filling.Stop.{Stop}
 use Rattle.pipe_dev.specs.declared.filling.Stop.TheVariants as stop
@@ -23,9 +24,10 @@ use Rattle.pipe_dev.specs.Filling.{number_of}
 use Rattle.pipe_dev.specs.Parts.{Part, bytes_of, part_of, rest_of}
 use Rattle.pipe_dev.specs.ReadCalls.{AsksForBytes, Calling, FindsEnd, FindsNotYet, Gets, GoesOn}
 use Rattle.pipe_dev.specs.ReadCalls.{TakesOut, Tries, TriesOn, came_to, lending_of}
-use Rattle.pipe_dev.specs.ReadSteps.{answer_of, found_at, found_of, told_by}
+use Rattle.pipe_dev.specs.ReadSteps.{found_at, found_of, told_by}
 use Rattle.pipe_dev.specs.Rendezes.{WakesWith}
 use Rattle.pipe_dev.specs.Rounds.{Rounds}
+use Rattle.waiting.specs.declared.call.Reply.TheVariants.{Wait}
 use Rattle.waiting.specs.Waiting.{IsLow}
 use Rattle.pipe_dev.proofs.RoundLemmas.{not_yet_low}
 
@@ -247,19 +249,15 @@ module _ (key : Key) (row : Row) (old new : Calling) where
       subst (λ f. AsksForBytes key row old (told_by f) new) (sym is)
       (asks row.mode came.count came.stop tried)
 
-  -- a read that does not wait is answered what its request is told
-  pub tries_as_asked : (told : Found) → AsksForBytes key row old (told_by told) new
-      → Tries key row old (answer_of told) new
-  tries_as_asked told asked = by row.mode told asked
+  -- a read that does not wait is answered NotYet where it would wait
+  pub tries_as_asked : (number : ℕ) → AsksForBytes key row old (Wait number) new
+      → Tries key row old try.NotYet new
+  tries_as_asked number asked = by row.mode asked
     where
-      by : (mode : Mode) (told : Found)
-          → AsksForBytes key (record row { mode = mode }) old (told_by told) new
-          → Tries key (record row { mode = mode }) old (answer_of told) new
-      by mode (found.Answered (read.Got count)) asked = asked
-      by mode (found.Answered read.End) asked = asked
-      by Message (found.NotYet number) asked =
-          (record { number = number; found = asked.0 }, asked.1)
-      by Stream (found.NotYet number) asked = record { number = number; tried = asked }
+      by : (mode : Mode) → AsksForBytes key (record row { mode = mode }) old (Wait number) new
+          → Tries key (record row { mode = mode }) old try.NotYet new
+      by Message asked = (record { number = number; found = asked.0 }, asked.1)
+      by Stream asked = record { number = number; tried = asked }
 
   -- the number that it is told is low
   pub told_low : (told : Found) → key.first ≡ 0 → AsksForBytes key row old (told_by told) new

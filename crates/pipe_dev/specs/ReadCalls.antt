@@ -15,7 +15,6 @@ use Rattle.block_queue.specs.declared.entry.Entry.TheVariants as entry
 use Rattle.block_queue.specs.declared.view.Key.{Key}
 use Rattle.block_queue.specs.Calls.{IsFreshTake}
 use Rattle.block_queue.specs.Meaning.{Enters}
-use Rattle.block_queue.specs.Seats.{take_account}
 use Rattle.pipe_dev.specs.declared.answers.ReadAnswer.{ReadAnswer}
 use Rattle.pipe_dev.specs.declared.answers.ReadAnswer.TheVariants as read
 use Rattle.pipe_dev.specs.declared.answers.TryAnswer.{TryAnswer}
@@ -23,7 +22,6 @@ use Rattle.pipe_dev.specs.declared.answers.TryAnswer.TheVariants as try
 use Rattle.pipe_dev.specs.declared.filling.ReadOutcome.{ReadOutcome}
 use Rattle.pipe_dev.specs.declared.filling.Stop.{Stop}
 use Rattle.pipe_dev.specs.declared.filling.Stop.TheVariants as stop
-use Rattle.pipe_dev.specs.declared.cursor.ReadCursor.{ReadCursor}
 use Rattle.pipe_dev.specs.declared.row.Row.{Row}
 use Rattle.pipe_dev.specs.Ends.{ReadSide}
 use Rattle.pipe_dev.specs.Filling.{Lending, FillsUp, last_number}
@@ -153,11 +151,6 @@ pub record IsUntouchedRead (old : Reader) (buffer : List ℕ) (new : Reader) (bu
     Type 0 where
   pub same : new ≡ old
   pub buffer_same : buffer' ≡ buffer
-
--- the reader that has this cursor
-abbrev pub reader_with : ReadCursor → Running → Reader
-reader_with cursor proc =
-    record { account = take_account cursor.seat; rest = cursor.rest; process = proc.process }
 
 -- ---- in either mode
 

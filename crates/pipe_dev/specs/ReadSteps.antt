@@ -1,12 +1,8 @@
 -- What the steps of a read come to.
-use Rattle.std.specs.Prelude.{ℕ, nat_lt, if◌then◌else◌, List}
-use Rattle.sleep_wakeup.specs.Kernel.{Running}
+use Rattle.std.specs.Prelude.{ℕ, nat_lt, if◌then◌else◌}
 use Rattle.pipe_dev.specs.declared.answers.ReadAnswer.{ReadAnswer}
 use Rattle.pipe_dev.specs.declared.answers.ReadAnswer.TheVariants as read
-use Rattle.pipe_dev.specs.declared.answers.TryAnswer.{TryAnswer}
-use Rattle.pipe_dev.specs.declared.answers.TryAnswer.TheVariants as try
 use Rattle.pipe_dev.specs.declared.block_reading.Lending as block_reading
-use Rattle.pipe_dev.specs.declared.cursor.ReadCursor.{ReadCursor}
 use Rattle.pipe_dev.specs.declared.filling.ReadOutcome.{ReadOutcome}
 use Rattle.pipe_dev.specs.declared.filling.Stop.{Stop}
 use Rattle.pipe_dev.specs.declared.filling.Stop.TheVariants as stop
@@ -14,10 +10,8 @@ use Rattle.pipe_dev.specs.declared.reading.Found.{Found}
 use Rattle.pipe_dev.specs.declared.reading.Found.TheVariants as found
 use Rattle.pipe_dev.specs.Filling.{Lending}
 use Rattle.pipe_dev.specs.FillSteps.{taker_with}
-use Rattle.pipe_dev.specs.ReadCalls.{calling, lent_at, reader_with}
 use Rattle.waiting.specs.declared.call.Reply.{Reply}
 use Rattle.waiting.specs.declared.call.Reply.TheVariants.{Done, Wait}
-use Rattle.waiting.specs.Waiting.{WaitPoint}
 
 -- what a try is answered: bytes, or why there are none
 abbrev pub found_at : ℕ → Stop → Found
@@ -30,21 +24,10 @@ found_at count stop.End =
 abbrev pub found_of : ReadOutcome → Found
 found_of came = found_at came.count came.stop
 
--- what a read that does not wait is answered of it
-abbrev pub answer_of : Found → TryAnswer
-answer_of (found.Answered (read.Got count)) = try.Got count
-answer_of (found.Answered read.End) = try.End
-answer_of (found.NotYet number) = try.NotYet
-
 -- what a try tells a read that waits
 abbrev pub told_by : Found → Reply ReadAnswer
 told_by (found.Answered answer) = Done answer
 told_by (found.NotYet number) = Wait number
-
--- where a read stands that was told this number last
-abbrev pub told_with : ReadCursor → Running → List ℕ → ℕ → WaitPoint Lending
-told_with cursor proc buffer number =
-    record { at = lent_at (calling (reader_with cursor proc) buffer); number = number }
 
 -- what a read of a block has with it, as its contract sees it
 abbrev pub lending_in : block_reading.Lending → Lending

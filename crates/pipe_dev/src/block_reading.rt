@@ -3,16 +3,16 @@ ghost use Rattle.std.specs.Prelude.{◌≡◌};
 ghost use Rattle.block_queue.specs.Seats.{key_of};
 ghost use Rattle.pipe_dev.specs.BlockReads.{AsksForBlock};
 ghost use Rattle.pipe_dev.specs.Ends.{IsReadCursor};
-ghost use Rattle.pipe_dev.specs.ReadCalls.{IsAskedRead, calling, lent_at, reader_with, waits_by};
+ghost use Rattle.pipe_dev.specs.FillSteps.{lending_with};
+ghost use Rattle.pipe_dev.specs.ReadCalls.{IsAskedRead, waits_by};
 ghost use Rattle.pipe_dev.specs.ReadSteps.{lending_in};
 ghost use Rattle.pipe_dev.specs.Rendezes.{OwnsRow, reader_rendez};
 ghost use Rattle.pipe_dev.specs.WriteSteps.{seen_by};
-ghost use Rattle.waiting.specs.Waiting.{Waited};
+ghost use Rattle.waiting.specs.Waiting.{Waited, point};
 
 use crate::answers::ReadAnswer;
 use crate::cursor::ReadCursor;
 use crate::read_end::ReadEnd;
-use crate::reading::Done;
 use crate::remainder::Remainder;
 use crate::row::Row;
 use crate::waking::wake_writers;
@@ -72,6 +72,13 @@ impl<'p> ReadEnd<'p> {
     }
 }
 
+// A read is over: what its end holds, and the answer.
+#[derive(Drop)]
+struct Done {
+    cursor: ReadCursor,
+    answer: Result<ReadAnswer, Fault>,
+}
+
 // Asks and sleeps until it is answered. The block of the caller goes along, and comes back.
 fn block_with<R: Wait>(
     queue: &Queue,
@@ -86,8 +93,8 @@ fn block_with<R: Wait>(
     ensures cursor { IsReadCursor queue.now row.now result.cursor }
     ensures words { proc.new.words ≡ proc.old.words }
     ensures asked { Waited (waits_by (AsksForBlock (key_of queue.now) row.now))
-        (reader_rendez row.now) (lent_at (calling (reader_with cursor proc.old) block.old.items))
-        result.answer (lent_at (calling (reader_with result.cursor proc.new) block.new.items)) }
+        (reader_rendez row.now) (point (lending_with cursor block.old.items) proc.old)
+        result.answer (point (lending_with result.cursor block.new.items) proc.new) }
     ensures answer { IsAskedRead result.answer }
 {
     let none = Vec::new(*block.allocator());

@@ -28,10 +28,9 @@ pub struct ReadOutcome {
     pub(crate) stop: Stop,
 }
 
-/// What a read made of its end and its buffer, and the number of the last write that it took out.
-#[derive(Drop)]
+/// How far a read came, and the number of the last write that it took out.
+#[derive(Clone, Copy, Drop)]
 pub(crate) struct FillResult {
-    pub(crate) cursor: ReadCursor,
     pub(crate) took: Option<u64>,
     pub(crate) came: ReadOutcome,
 }
@@ -44,29 +43,25 @@ pub(crate) enum Next {
     End,
 }
 
-#[derive(Drop)]
-pub(crate) struct Step {
-    cursor: ReadCursor,
-    next: Next,
-}
-
 /// Reads part by part: in message mode one, and in stream mode as far as the buffer has room.
 #[inline(always)]
-pub(crate) fn fill(queue: &Queue, row: &Row, cursor: ReadCursor, buffer: &mut [u8]) -> FillResult
-    requires cursor { IsReadCursor queue.now row.now cursor }
+pub(crate) fn fill(
+    queue: &Queue,
+    row: &Row,
+    cursor: &mut ReadCursor,
+    buffer: &mut [u8],
+) -> FillResult
+    requires cursor { IsReadCursor queue.now row.now cursor.old }
     requires room { buffer.old ≢ [] }
-    ensures cursor { IsReadCursor queue.now row.now result.cursor }
-    ensures filled { HasFilled (key_of queue.now) row.now.mode (lending_with cursor buffer.old)
-        result (lending_with result.cursor buffer.new) }
+    ensures cursor { IsReadCursor queue.now row.now cursor.new }
+    ensures filled { HasFilled (key_of queue.now) row.now.mode
+        (lending_with cursor.old buffer.old) result (lending_with cursor.new buffer.new) }
 {
-    let mut cursor = cursor;
     let mut count: usize = 0;
     let mut took = None;
     let mut further = true;
     'filling: while further {
-        let Step { cursor: now, next } = take_part(queue, row, cursor, &mut buffer[count..]);
-        cursor = now;
-        match next {
+        match take_part(queue, row, cursor, &mut buffer[count..]) {
             Next::Part(more, number) => {
                 count += more;
                 took = number;
@@ -77,62 +72,44 @@ pub(crate) fn fill(queue: &Queue, row: &Row, cursor: ReadCursor, buffer: &mut [u
             }
             Next::NotYet(number) => {
                 let stop = Stop::NotYet(number);
-                return FillResult {
-                    cursor,
-                    took,
-                    came: ReadOutcome { count, stop },
-                };
+                let came = ReadOutcome { count, stop };
+                return FillResult { took, came };
             }
             Next::End => {
                 let stop = Stop::End;
-                return FillResult {
-                    cursor,
-                    took,
-                    came: ReadOutcome { count, stop },
-                };
+                let came = ReadOutcome { count, stop };
+                return FillResult { took, came };
             }
         }
     }
     let stop = Stop::Enough;
-    FillResult {
-        cursor,
-        took,
-        came: ReadOutcome { count, stop },
-    }
+    let came = ReadOutcome { count, stop };
+    FillResult { took, came }
 }
 
 // One part: of what is left of a write that was begun, or else of the next write.
 #[inline(always)]
-fn take_part(queue: &Queue, row: &Row, cursor: ReadCursor, room: &mut [u8]) -> Step
-    requires cursor { IsReadCursor queue.now row.now cursor }
-    ensures cursor { IsReadCursor queue.now row.now result.cursor }
-    ensures next { GivesNext (key_of queue.now) (lending_with cursor room.old) result.next
-        (lending_with result.cursor room.new) }
+fn take_part(queue: &Queue, row: &Row, cursor: &mut ReadCursor, room: &mut [u8]) -> Next
+    requires cursor { IsReadCursor queue.now row.now cursor.old }
+    ensures cursor { IsReadCursor queue.now row.now cursor.new }
+    ensures next { GivesNext (key_of queue.now) (lending_with cursor.old room.old) result
+        (lending_with cursor.new room.new) }
 {
-    let ReadCursor { mut seat, rest } = cursor;
-    if let Some(begun) = rest {
+    if let Some(begun) = cursor.rest.take() {
         let Delivery { count, left, spare } = begun.give(room);
-        seat.spare.keep(spare);
-        return Step {
-            cursor: ReadCursor { seat, rest: left },
-            next: Next::Part(count, None),
-        };
+        cursor.seat.spare.keep(spare);
+        cursor.rest = left;
+        return Next::Part(count, None);
     }
-    let next = match queue.take(&mut seat) {
+    match queue.take(&mut cursor.seat) {
         TakeAnswer::Block(block, writer, number) => {
             let whole = Remainder::whole(block, writer, number - 1);
             let Delivery { count, left, spare } = whole.give(room);
-            seat.spare.keep(spare);
-            return Step {
-                cursor: ReadCursor { seat, rest: left },
-                next: Next::Part(count, Some(number)),
-            };
+            cursor.seat.spare.keep(spare);
+            cursor.rest = left;
+            Next::Part(count, Some(number))
         }
         TakeAnswer::NotYet(number) => Next::NotYet(number),
         TakeAnswer::End => Next::End,
-    };
-    Step {
-        cursor: ReadCursor { seat, rest: None },
-        next,
     }
 }

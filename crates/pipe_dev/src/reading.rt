@@ -3,12 +3,13 @@ ghost use Rattle.std.specs.Prelude.{◌≡◌, ◌≢◌, ◌<◌, []};
 ghost use Rattle.sync_base.specs.declared.limits.TheConstants.{TOP_LEVEL};
 ghost use Rattle.block_queue.specs.Seats.{key_of};
 ghost use Rattle.pipe_dev.specs.Ends.{IsReadCursor};
+ghost use Rattle.pipe_dev.specs.FillSteps.{lending_with};
 ghost use Rattle.pipe_dev.specs.ReadCalls.{AsksForBytes, IsAskedRead, Tries, reading};
-ghost use Rattle.pipe_dev.specs.ReadCalls.{calling, lent_at, reader_with};
-ghost use Rattle.pipe_dev.specs.ReadSteps.{answer_of, found_of, told_by, told_with};
+ghost use Rattle.pipe_dev.specs.ReadCalls.{calling_at};
+ghost use Rattle.pipe_dev.specs.ReadSteps.{found_of, told_by};
 ghost use Rattle.pipe_dev.specs.Rendezes.{OwnsRow, reader_rendez};
 ghost use Rattle.timer_list.specs.Timing.{IsSetIfAny, while_set};
-ghost use Rattle.waiting.specs.Waiting.{IsLow, SleepsOn, Waited};
+ghost use Rattle.waiting.specs.Waiting.{IsLow, SleepsOn, Waited, point, told};
 
 use crate::answers::{ReadAnswer, TryAnswer};
 use crate::cursor::ReadCursor;
@@ -66,10 +67,10 @@ impl<'p> ReadEnd<'p> {
         if !self.row.is_known_to(proc) {
             return Err(Fault::NoRendez);
         }
-        let Some(cursor) = self.cursor.take() else {
+        let Some(mut cursor) = self.cursor.take() else {
             unreachable!()
         };
-        let Done { cursor, answer } = read_with(self.queue, &self.row, rt, cursor, proc, buffer);
+        let answer = read_with(self.queue, &self.row, rt, &mut cursor, proc, buffer);
         self.cursor = Some(cursor);
         answer
     }
@@ -102,20 +103,13 @@ impl<'p> ReadEnd<'p> {
         if !self.row.is_known_to(proc) {
             return Err(Fault::NoRendez);
         }
-        let Some(cursor) = self.cursor.take() else {
+        let Some(mut cursor) = self.cursor.take() else {
             unreachable!()
         };
-        let Answered { cursor, answer } = try_once(self.queue, &self.row, cursor, proc, buffer);
+        let answer = try_once(self.queue, &self.row, &mut cursor, proc, buffer);
         self.cursor = Some(cursor);
         Ok(answer)
     }
-}
-
-// A read is over: what its end holds, and the answer.
-#[derive(Drop)]
-pub(crate) struct Done {
-    pub(crate) cursor: ReadCursor,
-    pub(crate) answer: Result<ReadAnswer, Fault>,
 }
 
 // What one try found. `NotYet` has the number with which to sleep.
@@ -125,60 +119,32 @@ pub(crate) enum Found {
     NotYet(u64),
 }
 
-// A read that does not wait is over.
-#[derive(Drop)]
-struct Answered {
-    cursor: ReadCursor,
-    answer: TryAnswer,
-}
-
-// What a request of a read found.
-#[derive(Drop)]
-pub(crate) struct Asked {
-    pub(crate) cursor: ReadCursor,
-    pub(crate) found: Found,
-}
-
 // Tries until it is answered.
 fn read_with<R: Wait>(
     queue: &Queue,
     row: &Row,
     rt: &R,
-    cursor: ReadCursor,
+    cursor: &mut ReadCursor,
     proc: &mut Proc<'_>,
     buffer: &mut [u8],
-) -> Done
-    requires cursor { IsReadCursor queue.now row.now cursor }
+) -> Result<ReadAnswer, Fault>
+    requires cursor { IsReadCursor queue.now row.now cursor.old }
     requires kernel { OwnsRow proc.old.words row.now }
     requires room { buffer.old ≢ [] }
-    ensures cursor { IsReadCursor queue.now row.now result.cursor }
+    ensures cursor { IsReadCursor queue.now row.now cursor.new }
     ensures words { proc.new.words ≡ proc.old.words }
     ensures asked { Waited (reading (key_of queue.now) row.now) (reader_rendez row.now)
-        (lent_at (calling (reader_with cursor proc.old) buffer.old)) result.answer
-        (lent_at (calling (reader_with result.cursor proc.new) buffer.new)) }
-    ensures answer { IsAskedRead result.answer }
+        (point (lending_with cursor.old buffer.old) proc.old) result
+        (point (lending_with cursor.new buffer.new) proc.new) }
+    ensures answer { IsAskedRead result }
 {
-    let Asked { cursor, found } = ask_for_bytes(queue, row, cursor, proc, buffer);
-    match found {
-        Found::Answered(answer) => Done {
-            cursor,
-            answer: Ok(answer),
-        },
+    match ask_for_bytes(queue, row, cursor, proc, buffer) {
+        Found::Answered(answer) => Ok(answer),
         Found::NotYet(number) => {
-            let Slept { cursor, ending } = sleep_for_bytes(
-                queue, row, rt, cursor, proc, buffer, number, None,
-            );
-            let answer = end_wait(proc, ending);
-            Done { cursor, answer }
+            let ending = sleep_for_bytes(queue, row, rt, cursor, proc, buffer, number, None);
+            end_wait(proc, ending)
         }
     }
-}
-
-// How the sleeps of a read ended, and what its end holds then.
-#[derive(Drop)]
-pub(crate) struct Slept {
-    pub(crate) cursor: ReadCursor,
-    pub(crate) ending: WaitEnd<ReadAnswer>,
 }
 
 // The sleeps of a read that was told to wait with this number, and its requests after them: the
@@ -187,44 +153,33 @@ pub(crate) fn sleep_for_bytes<R: Wait>(
     queue: &Queue,
     row: &Row,
     rt: &R,
-    cursor: ReadCursor,
+    cursor: &mut ReadCursor,
     proc: &mut Proc<'_>,
     buffer: &mut [u8],
     number: u64,
     set: Option<SetTimer<'_, '_>>,
-) -> Slept
-    requires cursor { IsReadCursor queue.now row.now cursor }
+) -> WaitEnd<ReadAnswer>
+    requires cursor { IsReadCursor queue.now row.now cursor.old }
     requires kernel { OwnsRow proc.old.words row.now }
     requires room { buffer.old ≢ [] }
     requires low { number < TOP_LEVEL }
     requires set { IsSetIfAny set }
-    ensures cursor { IsReadCursor queue.now row.now result.cursor }
+    ensures cursor { IsReadCursor queue.now row.now cursor.new }
     ensures words { proc.new.words ≡ proc.old.words }
     ensures slept { SleepsOn
         (while_set (IsSetIfAny set.entry) (reading (key_of queue.now) row.now))
-        (reader_rendez row.now) (told_with cursor proc.old buffer.old number) result.ending
-        (lent_at (calling (reader_with result.cursor proc.new) buffer.new)) }
+        (reader_rendez row.now) (told (lending_with cursor.old buffer.old) proc.old number) result
+        (point (lending_with cursor.new buffer.new) proc.new) }
 {
     let _ = set;
-    let mut cursor = cursor;
     let mut number = number;
     'reading: for _ in rt.forever() {
         match proc.sleep(rt, row.reader(), number) {
-            Err(why) => {
-                let ending = WaitEnd::Stopped(why, None);
-                return Slept { cursor, ending };
-            }
-            Ok(()) => {
-                let Asked { cursor: now, found } = ask_for_bytes(queue, row, cursor, proc, buffer);
-                cursor = now;
-                match found {
-                    Found::Answered(answer) => {
-                        let ending = WaitEnd::Answered(Ok(answer));
-                        return Slept { cursor, ending };
-                    }
-                    Found::NotYet(again) => number = again,
-                }
-            }
+            Err(why) => return WaitEnd::Stopped(why, None),
+            Ok(()) => match ask_for_bytes(queue, row, cursor, proc, buffer) {
+                Found::Answered(answer) => return WaitEnd::Answered(Ok(answer)),
+                Found::NotYet(again) => number = again,
+            },
         }
     }
     unreachable!()
@@ -236,27 +191,26 @@ pub(crate) fn sleep_for_bytes<R: Wait>(
 pub(crate) fn ask_for_bytes(
     queue: &Queue,
     row: &Row,
-    cursor: ReadCursor,
+    cursor: &mut ReadCursor,
     proc: &mut Proc<'_>,
     buffer: &mut [u8],
-) -> Asked
-    requires cursor { IsReadCursor queue.now row.now cursor }
+) -> Found
+    requires cursor { IsReadCursor queue.now row.now cursor.old }
     requires kernel { OwnsRow proc.old.words row.now }
     requires room { buffer.old ≢ [] }
-    ensures cursor { IsReadCursor queue.now row.now result.cursor }
+    ensures cursor { IsReadCursor queue.now row.now cursor.new }
     ensures words { proc.new.words ≡ proc.old.words }
     ensures room { buffer.new ≢ [] }
-    ensures low { IsLow (told_by result.found) }
+    ensures low { IsLow (told_by result) }
     ensures asked { AsksForBytes (key_of queue.now) row.now
-        (calling (reader_with cursor proc.old) buffer.old) (told_by result.found)
-        (calling (reader_with result.cursor proc.new) buffer.new) }
+        (calling_at (point (lending_with cursor.old buffer.old) proc.old)) (told_by result)
+        (calling_at (point (lending_with cursor.new buffer.new) proc.new)) }
 {
-    let FillResult { cursor, took, came } = fill(queue, row, cursor, buffer);
+    let FillResult { took, came } = fill(queue, row, cursor, buffer);
     if let Some(number) = took {
         wake_writers(proc, row, number);
     }
-    let found = found_by(came);
-    Asked { cursor, found }
+    found_by(came)
 }
 
 // What a try that came so far found: it got what it has read, and if that is nothing it is told why
@@ -275,29 +229,20 @@ fn found_by(came: ReadOutcome) -> Found
 fn try_once(
     queue: &Queue,
     row: &Row,
-    cursor: ReadCursor,
+    cursor: &mut ReadCursor,
     proc: &mut Proc<'_>,
     buffer: &mut [u8],
-) -> Answered
-    requires cursor { IsReadCursor queue.now row.now cursor }
+) -> TryAnswer
+    requires cursor { IsReadCursor queue.now row.now cursor.old }
     requires kernel { OwnsRow proc.old.words row.now }
     requires room { buffer.old ≢ [] }
-    ensures cursor { IsReadCursor queue.now row.now result.cursor }
+    ensures cursor { IsReadCursor queue.now row.now cursor.new }
     ensures words { proc.new.words ≡ proc.old.words }
     ensures tried { Tries (key_of queue.now) row.now
-        (calling (reader_with cursor proc.old) buffer.old) result.answer
-        (calling (reader_with result.cursor proc.new) buffer.new) }
+        (calling_at (point (lending_with cursor.old buffer.old) proc.old)) result
+        (calling_at (point (lending_with cursor.new buffer.new) proc.new)) }
 {
-    let Asked { cursor, found } = ask_for_bytes(queue, row, cursor, proc, buffer);
-    let answer = answer_to(found);
-    Answered { cursor, answer }
-}
-
-// What a read that does not wait is answered.
-fn answer_to(found: Found) -> TryAnswer
-    ensures { result ≡ answer_of found }
-{
-    match found {
+    match ask_for_bytes(queue, row, cursor, proc, buffer) {
         Found::Answered(ReadAnswer::Got(count)) => TryAnswer::Got(count),
         Found::Answered(ReadAnswer::End) => TryAnswer::End,
         Found::NotYet(_) => TryAnswer::NotYet,

@@ -3,15 +3,17 @@ ghost use Rattle.std.specs.Prelude.{◌≡◌, ◌≢◌, []};
 ghost use Rattle.block_queue.specs.Seats.{key_of};
 ghost use Rattle.kernel_lock.specs.Seats.{number_of};
 ghost use Rattle.pipe_dev.specs.Ends.{IsReadCursor};
-ghost use Rattle.pipe_dev.specs.ReadCalls.{ReadsInTime, calling, reader_with, timed_call};
+ghost use Rattle.pipe_dev.specs.FillSteps.{lending_with};
+ghost use Rattle.pipe_dev.specs.ReadCalls.{ReadsInTime};
 ghost use Rattle.pipe_dev.specs.Rendezes.{OwnsRow};
 ghost use Rattle.timer_list.specs.Seats.{IsTimerSeatOf};
 ghost use Rattle.timer_list.specs.Timers.{deadline_of};
+ghost use Rattle.timer_list.specs.Timing.{timed_point};
 
 use crate::answers::ReadAnswer;
 use crate::cursor::ReadCursor;
 use crate::read_end::ReadEnd;
-use crate::reading::{Asked, Done, Found, Slept, ask_for_bytes, sleep_for_bytes};
+use crate::reading::{Found, ask_for_bytes, sleep_for_bytes};
 use crate::row::Row;
 use block_queue::Queue;
 use sleep_wakeup::Proc;
@@ -80,11 +82,20 @@ impl<'p> ReadEnd<'p> {
         if !self.row.is_known_to(proc) {
             return Err(Fault::NoRendez);
         }
-        let Some(cursor) = self.cursor.take() else {
+        let Some(mut cursor) = self.cursor.take() else {
             unreachable!()
         };
-        let Done { cursor, answer } = read_in_time(
-            self.queue, &self.row, rt, cursor, proc, buffer, timers, timer, now, ms,
+        let answer = read_in_time(
+            self.queue,
+            &self.row,
+            rt,
+            &mut cursor,
+            proc,
+            buffer,
+            timers,
+            timer,
+            now,
+            ms,
         );
         self.cursor = Some(cursor);
         answer
@@ -96,51 +107,37 @@ fn read_in_time<R: Wait>(
     queue: &Queue,
     row: &Row,
     rt: &R,
-    cursor: ReadCursor,
+    cursor: &mut ReadCursor,
     proc: &mut Proc<'_>,
     buffer: &mut [u8],
     timers: &Timers,
     timer: &mut TimerSeat,
     now: u64,
     ms: u32,
-) -> Done
-    requires cursor { IsReadCursor queue.now row.now cursor }
+) -> Result<ReadAnswer, Fault>
+    requires cursor { IsReadCursor queue.now row.now cursor.old }
     requires kernel { OwnsRow proc.old.words row.now }
     requires room { buffer.old ≢ [] }
     requires timer { IsTimerSeatOf timers.now timer.old }
-    ensures cursor { IsReadCursor queue.now row.now result.cursor }
+    ensures cursor { IsReadCursor queue.now row.now cursor.new }
     ensures words { proc.new.words ≡ proc.old.words }
     ensures waited { ReadsInTime (key_of queue.now) row.now timers.now (deadline_of now ms)
-        (timed_call (calling (reader_with cursor proc.old) buffer.old) timer.old) result.answer
-        (timed_call (calling (reader_with result.cursor proc.new) buffer.new) timer.new) }
+        (timed_point (lending_with cursor.old buffer.old) timer.old proc.old) result
+        (timed_point (lending_with cursor.new buffer.new) timer.new proc.new) }
     ensures timer { IsTimerSeatOf timers.now timer.new }
     ensures timer_number { number_of timer.new.seat ≡ number_of timer.old.seat }
 {
     let pid = proc.pid();
-    let Asked { cursor, found } = ask_for_bytes(queue, row, cursor, proc, buffer);
-    match found {
-        Found::Answered(answer) => Done {
-            cursor,
-            answer: Ok(answer),
-        },
+    match ask_for_bytes(queue, row, cursor, proc, buffer) {
+        Found::Answered(answer) => Ok(answer),
         Found::NotYet(number) => {
             timers.add(rt, timer, pid, deadline(now, ms));
             let set = SetTimer {
                 timers,
                 seat: timer,
             };
-            let Slept { cursor, ending } = sleep_for_bytes(
-                queue,
-                row,
-                rt,
-                cursor,
-                proc,
-                buffer,
-                number,
-                Some(set),
-            );
-            let answer = end_within(rt, proc, row.reader(), timers, timer, ending);
-            Done { cursor, answer }
+            let ending = sleep_for_bytes(queue, row, rt, cursor, proc, buffer, number, Some(set));
+            end_within(rt, proc, row.reader(), timers, timer, ending)
         }
     }
 }

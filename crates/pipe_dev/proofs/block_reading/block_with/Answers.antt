@@ -3,9 +3,10 @@ use Rattle.std.proofs.Common.{List, ℕ, sym, subst}
 use Rattle.sync_base.specs.declared.ids.RendezId.{RendezId}
 use Rattle.block_queue.specs.Seats.{key_of}
 use Rattle.pipe_dev.specs.BlockReads.{AsksForBlock}
-use Rattle.pipe_dev.specs.ReadCalls.{calling, lent_at, reader_with, waits_by}
+use Rattle.pipe_dev.specs.FillSteps.{lending_with}
+use Rattle.pipe_dev.specs.ReadCalls.{waits_by}
 use Rattle.pipe_dev.specs.ReadSteps.{lending_in}
-use Rattle.waiting.specs.Waiting.{Waited}
+use Rattle.waiting.specs.Waiting.{Waited, point}
 use Rattle.pipe_dev.proofs.SightLemmas.{waited_seen}
 use Rattle.pipe_dev.proofs.block_reading.block_with.Goals as goal
 
@@ -15,10 +16,8 @@ returns-clause-asked g c =
     let row = c.args.row.now in
     let W : RendezId → List ℕ → List ℕ → Type 0 =
     λ rendez old new. Waited (waits_by (AsksForBlock key row)) rendez
-    (lent_at (calling (reader_with c.args.cursor c.args.proc.now) old))
-    c.wait_for-answer.result
-    (lent_at (calling (reader_with c.wait_for-answer.new.seat.cursor c.wait_for-answer.new.proc)
-    new)) in
+    (point (lending_with c.args.cursor old) c.args.proc.now) c.wait_for-answer.result
+    (point (lending_with c.wait_for-answer.new.seat.cursor new) c.wait_for-answer.new.proc) in
     subst (λ rendez. W rendez c.args.block.now.items c.replace-none.new.dest.items)
     c.reader-rendez.ensures
     (subst (λ block. W c.reader-rendez.result block.items c.replace-none.new.dest.items)

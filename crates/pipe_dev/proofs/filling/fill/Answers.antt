@@ -8,32 +8,28 @@ use Rattle.pipe_dev.proofs.filling.fill.Goals as goal
 
 pub filling-preserved-in-Message : goal.filling-preserved-in-Message
 filling-preserved-in-Message c =
-    let step = c.take_part-now in
-    let new = taker_with step.result.cursor in
+    let step = c.take_part.new in
     let buffer =
-    (back_of (lending_with c.filling.cursor c.filling.buffer) c.filling.count new
-    step.new.room).buffer in
+    (back_of (lending_with c.filling.cursor c.filling.buffer) c.filling.count
+    (taker_with step.cursor) step.room).buffer in
     record {
-      cursor = step.ensures.cursor;
-      so_far = next_so_far c.filling.invariant.so_far c.filling-test.true new step.new.room
-          c.in-Part.more c.in-Part.number step.result.next c.in-Part.is step.ensures.next
-          step.auto.room _
+      cursor = c.take_part.ensures.cursor;
+      so_far = next_so_far c.filling.invariant.so_far c.filling-test.true (taker_with step.cursor)
+          step.room c.in-Part.ensures.next c.take_part.auto.room _
           (sym (ap (λ m. goes_on_behind m (c.filling.count + c.in-Part.more) buffer)
           c.in-Message.is));
     }
 
 pub filling-preserved : goal.filling-preserved
 filling-preserved c =
-    let step = c.take_part-now in
-    let new = taker_with step.result.cursor in
+    let step = c.take_part.new in
     let buffer =
-    (back_of (lending_with c.filling.cursor c.filling.buffer) c.filling.count new
-    step.new.room).buffer in
+    (back_of (lending_with c.filling.cursor c.filling.buffer) c.filling.count
+    (taker_with step.cursor) step.room).buffer in
     record {
-      cursor = step.ensures.cursor;
-      so_far = next_so_far c.filling.invariant.so_far c.filling-test.true new step.new.room
-          c.in-Part.more c.in-Part.number step.result.next c.in-Part.is step.ensures.next
-          step.auto.room _
+      cursor = c.take_part.ensures.cursor;
+      so_far = next_so_far c.filling.invariant.so_far c.filling-test.true (taker_with step.cursor)
+          step.room c.in-Part.ensures.next c.take_part.auto.room _
           (sym (ap (λ m. goes_on_behind m (c.filling.count + c.in-Part.more) buffer)
           c.in-Stream.is));
     }
@@ -41,31 +37,28 @@ filling-preserved c =
 pub filling-smaller : goal.filling-smaller
 filling-smaller c =
     let key = key_of c.args.queue.now in
-    let step = c.take_part-now in
     let now = lending_with c.filling.cursor c.filling.buffer in
-    let new = taker_with step.result.cursor in
-    let buffer = (back_of now c.filling.count new step.new.room).buffer in
+    let new = taker_with c.take_part.new.cursor in
+    let room = c.take_part.new.room in
+    let buffer = (back_of now c.filling.count new room).buffer in
     let cursor = c.filling.invariant.cursor in
     let on = nat_lt (c.filling.count + c.in-Part.more) (length buffer) in
     subst (λ b. left_to_take key new on < left_to_take key now.taker b) (sym c.filling-test.true)
-    (next_is_nearer c.filling.invariant.so_far c.filling-test.true new step.new.room c.in-Part.more
-    c.in-Part.number step.result.next c.in-Part.is step.ensures.next step.auto.room on
+    (next_is_nearer c.filling.invariant.so_far c.filling-test.true new room c.in-Part.ensures.next
+    c.take_part.auto.room on
     (sym (ap (λ m. goes_on_behind m (c.filling.count + c.in-Part.more) buffer) c.in-Stream.is))
     cursor.row_is.first cursor.seat.own cursor.knows)
 
 pub returns-in-NotYet-clause-filled : goal.returns-in-NotYet-clause-filled
 returns-in-NotYet-clause-filled c =
-    let step = c.take_part-now in
-    not_yet_so_far c.filling.invariant.so_far c.filling-test.true (taker_with step.result.cursor)
-    step.new.room step.result.next step.ensures.next step.result.cursor c.in-NotYet.number
-    c.in-NotYet.is
+    not_yet_so_far c.filling.invariant.so_far c.filling-test.true
+    (taker_with c.take_part.new.cursor) c.take_part.new.room c.in-NotYet.number
+    c.in-NotYet.ensures.next
 
 pub returns-in-End-clause-filled : goal.returns-in-End-clause-filled
 returns-in-End-clause-filled c =
-    let step = c.take_part-now in
-    end_so_far c.filling.invariant.so_far c.filling-test.true (taker_with step.result.cursor)
-    step.new.room step.result.next step.ensures.next step.result.cursor c.in-End.is
+    end_so_far c.filling.invariant.so_far c.filling-test.true (taker_with c.take_part.new.cursor)
+    c.take_part.new.room c.in-End.ensures.next
 
 pub returns-clause-filled : goal.returns-clause-filled
-returns-clause-filled c =
-    enough_so_far c.filling.invariant.so_far c.filling.cursor c.filling-test.false
+returns-clause-filled c = enough_so_far c.filling.invariant.so_far c.filling-test.false

@@ -13,7 +13,7 @@ returns-in-Some-clause-next c =
       part = part;
       taken = record {
         left = c.in-Some.begun;
-        next = inl record { left_is = c.in-Some.is; account = refl };
+        next = inl record { left_is = sym c.in-Some.ensures.value; account = refl };
         part_is = refl;
         rest = c.give-count.ensures.left;
       };
@@ -21,7 +21,7 @@ returns-in-Some-clause-next c =
         count_is = c.give-count.ensures.filled.count_is;
         bytes_are = c.give-count.ensures.filled.bytes;
       };
-      number_is = sym (ap (λ (r : Option Part). number_of r part) c.in-Some.is);
+      number_is = ap (λ (r : Option Part). number_of r part) c.in-Some.ensures.value;
     }
 
 pub returns-in-Block-clause-next : goal.returns-in-Block-clause-next
@@ -29,14 +29,14 @@ returns-in-Block-clause-next c =
     let whole = c.whole-whole.result in
     let part = part_of (length c.args.room.now) whole in
     let key = key_of c.args.queue.now in
-    let old = take_account c.args.cursor.seat in
-    let new = take_account c.take.new.seat in
+    let old = take_account c.args.cursor.now.seat in
+    let new = take_account c.take-2.new.seat in
     record {
       part = part;
       taken = record {
         left = whole;
         next = inr record {
-          none_left = c.in_default.is;
+          none_left = sym c.in_default.ensures.value;
           taken =
               taken_whole key old new c.in-Block.writer c.in-Block.block c.in-Block.number whole
               c.whole-whole.ensures c.in-Block.ensures.answer;
@@ -52,5 +52,5 @@ returns-in-Block-clause-next c =
           ap Some
           (whole_number key old new c.in-Block.writer c.in-Block.block c.in-Block.number whole
           c.whole-whole.ensures c.in-Block.ensures.answer)
-          ∙ sym (ap (λ (r : Option Part). number_of r part) c.in_default.is);
+          ∙ ap (λ (r : Option Part). number_of r part) c.in_default.ensures.value;
     }

@@ -2,8 +2,10 @@
 -- that was taken out.
 use Rattle.std.proofs.Common.{sym, ◌∙◌, subst}
 use Rattle.block_queue.specs.Seats.{key_of}
+use Rattle.waiting.specs.Waiting.{point}
 use Rattle.pipe_dev.specs.Filling.{last_number}
-use Rattle.pipe_dev.specs.ReadCalls.{calling, reader_with}
+use Rattle.pipe_dev.specs.FillSteps.{lending_with}
+use Rattle.pipe_dev.specs.ReadCalls.{calling_at}
 use Rattle.pipe_dev.specs.Rendezes.{WakesWith}
 use Rattle.pipe_dev.proofs.ModeLemmas.{asks_by_mode, still_some, told_low}
 use Rattle.pipe_dev.proofs.reading.ask_for_bytes.Goals as goal
@@ -11,19 +13,19 @@ use Rattle.pipe_dev.proofs.reading.ask_for_bytes.Goals.{in-Some, in_default}
 
 pub returns-clause-room : goal.returns-clause-room
 returns-clause-room c =
-    still_some c.args.buffer.now c.fill-cursor.new.buffer c.fill-cursor.auto.buffer
-    c.requires.room
+    still_some c.args.buffer.now c.fill-took.new.buffer c.fill-took.auto.buffer c.requires.room
 
 pub returns-clause-asked : goal.returns-clause-asked
 returns-clause-asked c =
-    let filled = c.fill-cursor.ensures.filled in
+    let filled = c.fill-took.ensures.filled in
     let row = c.args.row.now in
     let before = c.args.proc.now.process in
-    let last = last_number c.args.cursor.rest filled.fills.filling.parts in
+    let last = last_number c.args.cursor.now.rest filled.fills.filling.parts in
     asks_by_mode (key_of c.args.queue.now) row
-    (calling (reader_with c.args.cursor c.args.proc.now) c.args.buffer.now)
-    (calling (reader_with c.fill-cursor.result.cursor c.match-took.proc) c.fill-cursor.new.buffer)
-    c.fill-cursor.result.came c.found_by-found.result
+    (calling_at (point (lending_with c.args.cursor.now c.args.buffer.now) c.args.proc.now))
+    (calling_at (point (lending_with c.fill-took.new.cursor c.fill-took.new.buffer)
+    c.match-took.proc))
+    c.fill-took.result.came c.found_by.result
     (record {
       fills = filled.fills;
       woken = elim c.match-took.branch [
@@ -36,11 +38,12 @@ returns-clause-asked c =
             (λ i. before))
       ];
     })
-    c.found_by-found.ensures
+    c.found_by.ensures
 
 pub returns-clause-low : goal.returns-clause-low
 returns-clause-low c =
     told_low (key_of c.args.queue.now) c.args.row.now
-    (calling (reader_with c.args.cursor c.args.proc.now) c.args.buffer.now)
-    (calling (reader_with c.fill-cursor.result.cursor c.match-took.proc) c.fill-cursor.new.buffer)
-    c.found_by-found.result c.requires.cursor.row_is.first (returns-clause-asked c)
+    (calling_at (point (lending_with c.args.cursor.now c.args.buffer.now) c.args.proc.now))
+    (calling_at (point (lending_with c.fill-took.new.cursor c.fill-took.new.buffer)
+    c.match-took.proc))
+    c.found_by.result c.requires.cursor.row_is.first (returns-clause-asked c)

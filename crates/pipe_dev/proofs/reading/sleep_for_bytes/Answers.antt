@@ -1,12 +1,10 @@
 -- Each way out of the wait, from the rounds before it.
 use Rattle.std.proofs.Common.{suc, refl, sym, ◌∙◌, subst, arith}
-use Rattle.block_queue.specs.Seats.{key_of}
 use Rattle.sleep_wakeup.specs.Calls.{WhyNotSlept}
 use Rattle.sleep_wakeup.specs.Actions.{SleepsWell}
-use Rattle.waiting.specs.Waiting.{IsLow}
+use Rattle.waiting.specs.Waiting.{told}
 use Rattle.waiting.proofs.RoundLemmas.{fails_asleep}
-use Rattle.pipe_dev.specs.ReadCalls.{AsksForBytes, calling, reader_with}
-use Rattle.pipe_dev.specs.ReadSteps.{told_by, told_with}
+use Rattle.pipe_dev.specs.FillSteps.{lending_with}
 use Rattle.pipe_dev.specs.Rendezes.{OwnsRow, reader_rendez}
 use Rattle.pipe_dev.proofs.reading.sleep_for_bytes.Goals as goal
 
@@ -17,7 +15,7 @@ returns-in-Err-clause-slept g c =
     let has = subst (λ w. OwnsRow w row) (sym kept.words) c.requires.kernel in
     record {
       times = kept.times;
-      last = told_with c.reading.cursor c.reading.proc c.reading.buffer c.reading.number;
+      last = told (lending_with c.reading.cursor c.reading.buffer) c.reading.proc c.reading.number;
       rounds = kept.rounds;
       ends = record {
         failed = fails_asleep c.reading.proc.words c.reading.proc.process (reader_rendez row)
@@ -31,55 +29,36 @@ returns-in-Err-clause-slept g c =
 
 pub returns-in-Answered-clause-slept : goal.returns-in-Answered-clause-slept
 returns-in-Answered-clause-slept g c =
-    let key = key_of c.args.queue.now in
-    let row = c.args.row.now in
     record {
       times = c.reading.invariant.times;
-      last = told_with c.reading.cursor c.reading.proc c.reading.buffer c.reading.number;
+      last = told (lending_with c.reading.cursor c.reading.buffer) c.reading.proc c.reading.number;
       rounds = c.reading.invariant.rounds;
       ends = record {
         woken = c.sleep.new.self.process;
         slept = subst (λ r. SleepsWell c.reading.proc.process r c.reading.number
             c.sleep.new.self.process) c.reader.ensures c.in-Ok.ensures.slept;
-        asked = (
-          c.requires.set,
-          subst (λ f. AsksForBytes key row
-              (calling (reader_with c.reading.cursor c.sleep.new.self) c.reading.buffer)
-              (told_by f)
-              (calling (reader_with c.ask_for_bytes-now.result.cursor c.ask_for_bytes-now.new.proc)
-              c.ask_for_bytes-now.new.buffer))
-              c.in-Answered.is c.ask_for_bytes-now.ensures.asked,
-        );
+        asked = (c.requires.set, c.in-Answered.ensures.asked);
       };
     }
 
 pub reading-preserved : goal.reading-preserved
 reading-preserved g c =
-    let key = key_of c.args.queue.now in
-    let row = c.args.row.now in
     let kept = c.reading.invariant in
     record {
-      cursor = c.ask_for_bytes-now.ensures.cursor;
-      words = c.ask_for_bytes-now.ensures.words ∙ (c.sleep.ensures.words ∙ kept.words);
-      room = c.ask_for_bytes-now.ensures.room;
-      low = subst (λ f. IsLow (told_by f)) c.in-NotYet.is c.ask_for_bytes-now.ensures.low;
+      cursor = c.ask_for_bytes.ensures.cursor;
+      words = c.ask_for_bytes.ensures.words ∙ (c.sleep.ensures.words ∙ kept.words);
+      room = c.ask_for_bytes.ensures.room;
+      low = c.in-NotYet.ensures.low;
       times = suc kept.times;
       rounds = record {
-        between = told_with c.reading.cursor c.reading.proc c.reading.buffer c.reading.number;
+        between = told (lending_with c.reading.cursor c.reading.buffer) c.reading.proc
+            c.reading.number;
         rounds = kept.rounds;
         last = record {
           woken = c.sleep.new.self.process;
           slept = subst (λ r. SleepsWell c.reading.proc.process r c.reading.number
               c.sleep.new.self.process) c.reader.ensures c.in-Ok.ensures.slept;
-          asked = (
-            c.requires.set,
-            subst (λ f. AsksForBytes key row
-                (calling (reader_with c.reading.cursor c.sleep.new.self) c.reading.buffer)
-                (told_by f)
-                (calling (reader_with c.ask_for_bytes-now.result.cursor
-                c.ask_for_bytes-now.new.proc) c.ask_for_bytes-now.new.buffer))
-                c.in-NotYet.is c.ask_for_bytes-now.ensures.asked,
-          );
+          asked = (c.requires.set, c.in-NotYet.ensures.asked);
         };
       };
     }

@@ -3,10 +3,10 @@ use Rattle.std.proofs.Common.{◌≡◌, ◌≢◌, ◌<◌, [], ℕ}
 use Rattle.sync_base.specs.declared.limits.TheConstants.{TOP_LEVEL}
 use Rattle.block_queue.specs.Seats.{key_of}
 use Rattle.timer_list.specs.Timing.{IsSetIfAny, while_set}
-use Rattle.waiting.specs.Waiting.{Rounds}
+use Rattle.waiting.specs.Waiting.{Rounds, told}
 use Rattle.pipe_dev.specs.Ends.{IsReadCursor}
+use Rattle.pipe_dev.specs.FillSteps.{lending_with}
 use Rattle.pipe_dev.specs.ReadCalls.{reading}
-use Rattle.pipe_dev.specs.ReadSteps.{told_with}
 use Rattle.pipe_dev.specs.Rendezes.{reader_rendez}
 use Rattle.pipe_dev.proofs.reading.sleep_for_bytes.Given as goal
 
@@ -20,6 +20,6 @@ invariant-reading g l =
       times : ℕ;
       rounds : Rounds (while_set (IsSetIfAny l.initial.set) (reading (key_of l.queue) l.row))
           (reader_rendez l.row) times
-          (told_with l.initial.cursor l.initial.proc l.initial.buffer l.initial.number)
-          (told_with l.cursor l.proc l.buffer l.number);
+          (told (lending_with l.initial.cursor l.initial.buffer) l.initial.proc l.initial.number)
+          (told (lending_with l.cursor l.buffer) l.proc l.number);
     }
