@@ -384,7 +384,8 @@ module _ {key : Key} {mode : Mode} {first now : Lending} {took : Option ℕ} {co
               (back_of now count new room).buffer (count + more)
           filled =
               filled_more (bytes_of so_far.filling.parts) given_part.part.bytes first.buffer
-              now.buffer (back_of now count new room).buffer room count more so_far.filled given_part.filled
+              now.buffer (back_of now count new room).buffer room count more so_far.filled
+              given_part.filled
               (back_all count now.buffer room)
 
           number_at : (so_far.filling ≡ begins first.taker)

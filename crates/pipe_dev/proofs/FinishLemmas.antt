@@ -21,44 +21,40 @@ use Rattle.pipe_dev.proofs.SeatingLemmas.{seats_back, write_seats_put, write_sea
 use Rattle.pipe_dev.proofs.SeatingLemmas.{numbers_back, shares_back, same_entries}
 
 -- the read end of this cursor
-abbrev pub read_side : Queue → Row → ReadCursor → ReadSide
+abbrev read_side : Queue → Row → ReadCursor → ReadSide
 read_side queue row cursor =
     record { queue = queue; row = row; account = take_account cursor.seat; rest = cursor.rest }
 
--- an end that was taken apart
-pub record IsApart (queue : Queue) (row : Row) (cursor : ReadCursor) (read : ReadSide) :
-    Type 0 where
-  -- the read end is the one that this cursor makes with its queue and its Rendez
-  pub side : read ≡ read_side queue row cursor
-  -- the cursor holds a seat of this queue, and has what a cursor of its reader has
-  pub holds : IsReadCursor queue row cursor
-
--- a read end whose cursor is there is made of its queue, its Rendez and that cursor
-pub taken_apart : (queue : Queue) (row : Row) (held : Option ReadCursor) (cursor : ReadCursor)
-    (read : ReadSide)
-    → record { queue = queue; row = row; account = account_in held; rest = rest_in held } ≡ read
-    → HasReadCursor queue row held → held ≡ Some cursor → IsApart queue row cursor read
-taken_apart queue row held cursor read view holds some =
-    record {
-      side = sym view ∙ ap (λ (h : Option ReadCursor).
-          record { queue = queue; row = row; account = account_in h; rest = rest_in h }) some;
-      holds = subst (HasReadCursor queue row) some holds;
-    }
+-- an end that was taken apart: it is made of its queue, its Rendez and the cursor that it held
+record IsApart (queue : Queue) (row : Row) (cursor : ReadCursor) (read : ReadSide) : Type 0 where
+  side : read ≡ read_side queue row cursor
+  holds : IsReadCursor queue row cursor
 
 -- what the seats have seen is what their ends have seen
 pasts_back : (history : List Entry) (writes : List WriteSide) (seats : List PutSeat)
     → AreSeatsOf writes seats → AreTheirPasts history seats → HaveSeen history writes
 pasts_back history [] [] are pasts = tt
-pasts_back history [] (seat ∷ seats) are pasts = absurd are
-pasts_back history (write ∷ writes) [] are pasts = absurd are
 pasts_back history (write ∷ writes) (seat ∷ seats) are pasts = (
   subst (λ (a : Account Entry). IsPast a.seen history) are.0.account pasts.0,
   pasts_back history writes seats are.1 pasts.1,
 )
+pasts_back history writes seats are pasts = absurd are
 
-module _ (queue : Queue) (row : Row) (cursor : ReadCursor) (read : ReadSide)
-    (apart : IsApart queue row cursor read) (writes : List WriteSide) (all : AreAllEnds read writes)
+module _ (queue : Queue) (row : Row) (held : Option ReadCursor) (cursor : ReadCursor)
+    (read : ReadSide)
+    (view : record { queue = queue; row = row; account = account_in held; rest = rest_in held }
+    ≡ read)
+    (has : HasReadCursor queue row held) (some : held ≡ Some cursor)
+    (writes : List WriteSide) (all : AreAllEnds read writes)
     (seats : List PutSeat) (are : AreSeatsOf writes seats) where
+  apart : IsApart queue row cursor read
+  apart =
+      record {
+        side = sym view ∙ ap (λ (h : Option ReadCursor).
+            record { queue = queue; row = row; account = account_in h; rest = rest_in h }) some;
+        holds = subst (HasReadCursor queue row) some has;
+      }
+
   all_of_cursor : AreAllEnds (read_side queue row cursor) writes
   all_of_cursor = subst (λ (r : ReadSide). AreAllEnds r writes) apart.side all
 
@@ -91,7 +87,7 @@ module _ (queue : Queue) (row : Row) (cursor : ReadCursor) (read : ReadSide)
       → GivesHeld read writes
       (record { rest = rest; writes = gathered.blocks; hung = gathered.hung })
   gives_held gathered rest gathers rest_is =
-      subst (λ (r : ReadSide). GivesHeld r writes held) (sym apart.side) (λ parts. record {
+      subst (λ (r : ReadSide). GivesHeld r writes found) (sym apart.side) (λ parts. record {
         finishes = record {
           history = gathers.history;
           legal = gathers.legal;
@@ -107,14 +103,13 @@ module _ (queue : Queue) (row : Row) (cursor : ReadCursor) (read : ReadSide)
         writers_seen = pasts_back gathers.history writes seats are gathers.puts_past;
       })
     where
-      held : Held
-      held = record { rest = rest; writes = gathered.blocks; hung = gathered.hung }
+      found : Held
+      found = record { rest = rest; writes = gathered.blocks; hung = gathered.hung }
 
 -- there are as many seats as write ends that held them
 pub as_many : (writes : List WriteSide) (seats : List PutSeat) → AreSeatsOf writes seats
     → length seats ≡ length writes
 as_many [] [] are = refl
-as_many [] (seat ∷ seats) are = absurd are
-as_many (write ∷ writes) [] are = absurd are
-as_many (write ∷ writes) (seat ∷ seats) are = let rest = as_many writes seats are.1 in
-    omega (arith, rest)
+as_many (write ∷ writes) (seat ∷ seats) are =
+    let rest = as_many writes seats are.1 in omega (arith, rest)
+as_many writes seats are = absurd are

@@ -1,9 +1,9 @@
 -- How a long write is cut into writes.
-use Rattle.std.proofs.Common.{◌≡◌, ℕ, zero, suc, ◌<◌, ◌≤◌, Bool, true, false, if◌then◌else◌, List}
+use Rattle.std.proofs.Common.{◌≡◌, ◌⊎◌, inl, inr, ℕ, zero, suc, ◌<◌, ◌≤◌, true, false, List}
 use Rattle.std.proofs.Common.{[], ◌∷◌, ◌++◌, length, take, drop, reverse, refl, sym, ◌∙◌, ap, subst}
 use Rattle.std.proofs.Common.{arith}
 use Rattle.std.specs.Prelude.{◌↔◌, nat_le, Option, Some, None, Result, Ok, Err, IsErrOf}
-use Rattle.std.proofs.lemmas.Bool.Decides.{nat_tests}
+use Rattle.std.proofs.lemmas.Bool.Decides.{leb_tells, nat_tests}
 use Rattle.std.proofs.lemmas.List.{append_assoc, append-nil, reverse-append, length-drop}
 use Rattle.sync_base.specs.declared.fault.Fault.{Fault}
 use Rattle.sync_base.specs.declared.fault.Fault.TheVariants.{TooBig, NoRendez}
@@ -16,23 +16,21 @@ use Rattle.pipe_dev.specs.Ends.{WriteSide, IsSameWriteEnd}
 use Rattle.pipe_dev.specs.Rendezes.{OwnsRow}
 use Rattle.pipe_dev.specs.WriteCalls.{Writer, Writes, atomic_writes, atomic_writes_in, call_of}
 
-le-true : (a b : ℕ) → a ≤ b → nat_le a b ≡ true
-le-true a b low = grind (arith, nat_tests)
-
-le-false : (a b : ℕ) → b < a → nat_le a b ≡ false
-le-false a b high = grind (arith, nat_tests)
-
-le-said : (a b : ℕ) → nat_le a b ≡ false → b < a
-le-said a b said = grind (arith, nat_tests)
-
 -- bytes that fit are one write, whatever the fuel
 one_write : (fuel : ℕ) (bytes : List ℕ) → length bytes ≤ ATOMIC_SIZE
     → atomic_writes_in fuel bytes ≡ bytes ∷ []
 one_write zero bytes fits = refl
-one_write (suc fuel) bytes fits =
-    ap (λ b. if b then bytes ∷ [] else take ATOMIC_SIZE bytes ∷ atomic_writes_in fuel
-    (drop ATOMIC_SIZE bytes))
-    (le-true (length bytes) ATOMIC_SIZE fits)
+one_write (suc fuel) bytes fits = at_once fuel bytes fits
+  where
+    at_once : (fuel : ℕ) (bytes : List ℕ) → length bytes ≤ ATOMIC_SIZE
+        → atomic_writes_in (suc fuel) bytes ≡ bytes ∷ []
+    at_once fuel bytes fits = grind (arith, nat_tests)
+
+-- of more bytes the first is cut off
+one_more : (fuel : ℕ) (bytes : List ℕ) → ATOMIC_SIZE < length bytes
+    → atomic_writes_in (suc fuel) bytes
+    ≡ take ATOMIC_SIZE bytes ∷ atomic_writes_in fuel (drop ATOMIC_SIZE bytes)
+one_more fuel bytes long = grind (arith, nat_tests)
 
 -- enough fuel is enough
 enough_fuel : (fuel more : ℕ) (bytes : List ℕ) → length bytes ≤ fuel → length bytes ≤ more
@@ -40,23 +38,21 @@ enough_fuel : (fuel more : ℕ) (bytes : List ℕ) → length bytes ≤ fuel →
 enough_fuel zero more bytes low low' = sym (one_write more bytes (omega (arith, low)))
 enough_fuel (suc fuel) zero bytes low low' = one_write (suc fuel) bytes (omega (arith, low'))
 enough_fuel (suc fuel) (suc more) bytes low low' =
-    by (nat_le (length bytes) ATOMIC_SIZE) refl
-    (λ short short'. enough_fuel fuel more (drop ATOMIC_SIZE bytes) short short')
+    let dropped = length-drop ATOMIC_SIZE bytes in
+    by (leb_tells (length bytes) ATOMIC_SIZE)
+    (λ long. enough_fuel fuel more (drop ATOMIC_SIZE bytes) (omega (arith, low, long, dropped))
+    (omega (arith, low', long, dropped)))
   where
-    by : (b : Bool) → nat_le (length bytes) ATOMIC_SIZE ≡ b
-        → (length (drop ATOMIC_SIZE bytes) ≤ fuel → length (drop ATOMIC_SIZE bytes) ≤ more
-        → atomic_writes_in fuel (drop ATOMIC_SIZE bytes)
+    by : ((nat_le (length bytes) ATOMIC_SIZE ≡ true) × (length bytes ≤ ATOMIC_SIZE))
+        ⊎ ((nat_le (length bytes) ATOMIC_SIZE ≡ false) × (ATOMIC_SIZE < length bytes))
+        → (ATOMIC_SIZE < length bytes → atomic_writes_in fuel (drop ATOMIC_SIZE bytes)
         ≡ atomic_writes_in more (drop ATOMIC_SIZE bytes))
-        → (if b then bytes ∷ [] else take ATOMIC_SIZE bytes ∷ atomic_writes_in fuel
-        (drop ATOMIC_SIZE bytes))
-        ≡ (if b then bytes ∷ [] else take ATOMIC_SIZE bytes ∷ atomic_writes_in more
-        (drop ATOMIC_SIZE bytes))
-    by true is rest = refl
-    by false is rest =
-        let long = le-said (length bytes) ATOMIC_SIZE is in
-        let dropped = length-drop ATOMIC_SIZE bytes in
-        ap (λ blocks. take ATOMIC_SIZE bytes ∷ blocks)
-        (rest (omega (arith, low, long, dropped)) (omega (arith, low', long, dropped)))
+        → atomic_writes_in (suc fuel) bytes ≡ atomic_writes_in (suc more) bytes
+    by (inl fits) rest = one_write (suc fuel) bytes fits.1 ∙ sym (one_write (suc more) bytes fits.1)
+    by (inr long) rest =
+        one_more fuel bytes long.1
+        ∙ (ap (λ blocks. take ATOMIC_SIZE bytes ∷ blocks) (rest long.1)
+        ∙ sym (one_more more bytes long.1))
 
 -- bytes of no more than the atomic size are one write
 pub last_write : (bytes : List ℕ) → length bytes ≤ ATOMIC_SIZE → atomic_writes bytes ≡ bytes ∷ []
@@ -72,9 +68,7 @@ next_atomic bytes long = by (length bytes) refl
     by zero is = absurd (omega (arith, long, is))
     by (suc n) is =
         let dropped = length-drop ATOMIC_SIZE bytes in
-        ap (λ b. if b then bytes ∷ [] else take ATOMIC_SIZE bytes ∷ atomic_writes_in n
-        (drop ATOMIC_SIZE bytes))
-        (le-false (length bytes) ATOMIC_SIZE long)
+        one_more n bytes long
         ∙ ap (λ blocks. take ATOMIC_SIZE bytes ∷ blocks)
         (enough_fuel n (length (drop ATOMIC_SIZE bytes)) (drop ATOMIC_SIZE bytes)
         (omega (arith, long, is, dropped)) (omega arith))
@@ -123,30 +117,17 @@ all_done bytes left done fits cut =
     sym (one_done done left [] (atomic_writes bytes) (cut_last bytes left done fits cut)
     ∙ append-nil (reverse (left ∷ done)))
 
--- the answer of the write at which a long write ended
-abbrev answer_at : Option Fault → Result ℕ Fault
-answer_at None = Ok 0
-answer_at (Some why) = Err why
-
-abbrev fault_at : Result ℕ Fault → Option Fault
-fault_at (Ok number) = None
-fault_at (Err why) = Some why
-
-abbrev done_with : ℕ → Result ℕ Fault
-done_with number = Ok number
-
-ok_is_no_err : (number : ℕ) (why : Fault) → ¬ (Ok number ≡ Err why)
-ok_is_no_err number why is = cc
-
-none_is_not_some : {P : Type 0} (why : Fault) → None ≡ Some why → P
-none_is_not_some why is = cc
+-- the answer of a write that was refused
+abbrev refused : Fault → Result ℕ Fault
+refused why = Err why
 
 -- a piece is not too big
 pub not_too_big : (size : ℕ) (why : Fault)
-    → (IsErrOf (answer_at (Some why)) TooBig ↔ (ATOMIC_SIZE < size)) → size ≤ ATOMIC_SIZE
+    → (IsErrOf (refused why) TooBig ↔ (ATOMIC_SIZE < size)) → size ≤ ATOMIC_SIZE
     → ¬ (Some why ≡ Some TooBig)
 not_too_big size why tells fits is =
-    let big = tells.0 (ap answer_at is) in absurd (omega (arith, big, fits))
+    let same : refused why ≡ refused TooBig = cc in
+    let big = tells.0 same in absurd (omega (arith, big, fits))
 
 module _ (words now : Words) (row row' : Row) (same : now ≡ words) (same_row : row' ≡ row) where
   moved : (answer : Result ℕ Fault) → (IsErrOf answer NoRendez ↔ ¬ OwnsRow now row')
@@ -156,17 +137,17 @@ module _ (words now : Words) (row row' : Row) (same : now ≡ words) (same_row :
       (subst (λ (r : Row). IsErrOf answer NoRendez ↔ ¬ OwnsRow now r) same_row tells)
 
   -- the long write is refused so where the piece was
-  pub told_alike : (why : Fault) → (IsErrOf (answer_at (Some why)) NoRendez ↔ ¬ OwnsRow now row')
+  pub told_alike : (why : Fault) → (IsErrOf (refused why) NoRendez ↔ ¬ OwnsRow now row')
       → ((Some why ≡ Some NoRendez) ↔ ¬ OwnsRow words row)
   told_alike why tells =
-      let at = moved (Err why) tells in
-      (λ is. at.0 (ap answer_at is), λ none. ap fault_at (at.1 none))
+      let at = moved (refused why) tells in (
+        λ is. let same : refused why ≡ refused NoRendez = cc in at.0 same,
+        λ none. let same = at.1 none in cc,
+      )
 
   -- all was written, so nothing was refused
-  pub told_none : (number : ℕ) → (IsErrOf (done_with number) NoRendez ↔ ¬ OwnsRow now row')
-      → ((fault_at (done_with number) ≡ Some NoRendez) ↔ ¬ OwnsRow words row)
-  told_none number tells =
-      let at = moved (Ok number) tells in (
-        λ is. none_is_not_some NoRendez is,
-        λ none. absurd (ok_is_no_err number NoRendez (at.1 none)),
-      )
+  pub told_none : (number : ℕ) (fault : Option Fault) → fault ≡ None
+      → (IsErrOf {T = ℕ} (Ok number) NoRendez ↔ ¬ OwnsRow now row')
+      → ((fault ≡ Some NoRendez) ↔ ¬ OwnsRow words row)
+  told_none number fault none tells =
+      let at = moved (Ok number) tells in (λ is. cc, λ other. let no = at.1 other in cc)

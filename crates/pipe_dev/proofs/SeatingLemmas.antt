@@ -132,8 +132,6 @@ pub seats_back : (read : ReadSide) (writes : List WriteSide) (seats : List PutSe
     → AllByRecursion (AreOfOne read) writes → AreSeatsOf writes seats
     → AllByRecursion (IsWriteSeatOf read.queue read.row) seats
 seats_back read [] [] one are = tt
-seats_back read [] (seat ∷ seats) one are = absurd are
-seats_back read (write ∷ writes) [] one are = absurd are
 seats_back read (write ∷ writes) (seat ∷ seats) one are = (
   subst (λ (q : Queue). IsWriteSeat q read.row seat.writer seat) one.0.queue
       (subst (λ (r : Row). IsWriteSeat write.queue r seat.writer seat) one.0.row
@@ -141,6 +139,7 @@ seats_back read (write ∷ writes) (seat ∷ seats) one are = (
       are.0.seat_is)),
   seats_back read writes seats one.1 are.1,
 )
+seats_back read writes seats one are = absurd are
 
 -- a seat that a write end holds is a writer's seat of its queue
 pub write_seats_put : (queue : Queue) (row : Row) (seats : List PutSeat)
@@ -161,23 +160,20 @@ pub sides_back : (read : ReadSide) (writes : List WriteSide) (seats : List PutSe
     → AllByRecursion (AreOfOne read) writes → AreSeatsOf writes seats
     → map (side_of read.queue read.row) seats ≡ writes
 sides_back read [] [] one are = refl
-sides_back read [] (seat ∷ seats) one are = absurd are
-sides_back read (write ∷ writes) [] one are = absurd are
 sides_back read (write ∷ writes) (seat ∷ seats) one are =
-    ap (λ (w : WriteSide). w ∷ map (side_of read.queue read.row) seats)
-    (ap (λ (q : Queue). record
-    { queue = q; row = read.row; writer = seat.writer; account = put_account seat })
-    (sym one.0.queue)
-    ∙ (ap (λ (r : Row). record
-    { queue = write.queue; row = r; writer = seat.writer; account = put_account seat })
-    (sym one.0.row)
-    ∙ (ap (λ (n : ℕ). record
-    { queue = write.queue; row = write.row; writer = n; account = put_account seat })
-    are.0.seat_is.writer_is
-    ∙ ap (λ (a : Account Entry). record
-    { queue = write.queue; row = write.row; writer = write.writer; account = a })
-    are.0.account)))
+    let queue = one.0.queue in
+    let row = one.0.row in
+    let writer = are.0.seat_is.writer_is in
+    let account = are.0.account in
+    let side : side_of read.queue read.row seat ≡ record {
+      queue = write.queue;
+      row = write.row;
+      writer = write.writer;
+      account = write.account;
+    } = cc in
+    ap (λ (w : WriteSide). w ∷ map (side_of read.queue read.row) seats) side
     ∙ ap (λ (ws : List WriteSide). write ∷ ws) (sides_back read writes seats one.1 are.1)
+sides_back read writes seats one are = absurd are
 
 one_above : (first count : ℕ) → map (λ n. n + 1) (numbers_from first count)
     ≡ numbers_from (first + 1) count
@@ -187,11 +183,9 @@ one_above first (suc count) = ap (λ (ns : List ℕ). (first + 1) ∷ ns) (one_a
 numbers_are : (writes : List WriteSide) (seats : List PutSeat) → AreSeatsOf writes seats
     → numbers_of seats ≡ map (λ n. n + 1) (map (λ write. write.writer) writes)
 numbers_are [] [] are = refl
-numbers_are [] (seat ∷ seats) are = absurd are
-numbers_are (write ∷ writes) [] are = absurd are
 numbers_are (write ∷ writes) (seat ∷ seats) are =
-    ap (λ (n : ℕ). (n + 1) ∷ numbers_of seats) are.0.seat_is.writer_is
-    ∙ ap (λ (ns : List ℕ). (write.writer + 1) ∷ ns) (numbers_are writes seats are.1)
+    let rest = numbers_are writes seats are.1 in let writer = are.0.seat_is.writer_is in cc
+numbers_are writes seats are = absurd are
 
 -- the seats of all write ends, in order, have the numbers from 1 to the count of writers
 pub numbers_back : (writers : ℕ) (writes : List WriteSide) (seats : List PutSeat)
@@ -205,13 +199,12 @@ pub shares_back : (history : List Entry) (writes : List WriteSide) (seats : List
     → AreSeatsOf writes seats → AreTheirs history seats
     → AllByRecursion (HasItsEntries seat_of history) (shares_of writes)
 shares_back history [] [] are theirs = tt
-shares_back history [] (seat ∷ seats) are theirs = absurd are
-shares_back history (write ∷ writes) [] are theirs = absurd are
 shares_back history (write ∷ writes) (seat ∷ seats) are theirs =
     all_append (HasItsEntries seat_of history) write.account.shares (shares_of writes)
     (subst (λ (a : Account Entry). AllByRecursion (HasItsEntries seat_of history) a.shares)
     are.0.account theirs.0)
     (shares_back history writes seats are.1 theirs.1)
+shares_back history writes seats are theirs = absurd are
 
 -- the number is that of the first share, or of one of the others
 pub either : {P : Type 0} (number own : ℕ) (others : Bool) → (number ≡ own → P)

@@ -65,9 +65,10 @@ impl<'p> WriteEnd<'p> {
         };
         match seat.spare.take().filled(alloc, bytes) {
             Ok(block) => {
-                let Done { seat, answer } = write_with(
-                    self.queue, &self.row, rt, seat, proc, bytes, block,
-                );
+                let block = Some(block);
+                let mut putting = Putting { seat, block };
+                let answer = write_with(self.queue, &self.row, rt, &mut putting, proc, bytes);
+                let Putting { seat, block: _ } = putting;
                 self.seat = Some(seat);
                 answer
             }
@@ -80,34 +81,25 @@ impl<'p> WriteEnd<'p> {
     }
 }
 
-// A write is over: its end's seat, and the answer.
-#[derive(Drop)]
-pub(crate) struct Done {
-    pub(crate) seat: PutSeat,
-    pub(crate) answer: Result<u64, Fault>,
-}
-
 // Asks and sleeps until it is answered.
 fn write_with<R: Wait>(
     queue: &Queue,
     row: &Row,
     rt: &R,
-    seat: PutSeat,
+    putting: &mut Putting,
     proc: &mut Proc<'_>,
     bytes: &[u8],
-    block: Piece,
-) -> Done
-    requires seat { IsWriteSeat queue.now row.now seat.writer seat }
+) -> Result<u64, Fault>
+    requires putting { IsPutting queue.now row.now putting.old.seat.writer bytes.now putting.old }
     requires kernel { OwnsRow proc.old.words row.now }
-    requires block { block ≡ bytes.now }
-    ensures seat { IsWriteSeat queue.now row.now seat.writer result.seat }
+    ensures seat { IsWriteSeat queue.now row.now putting.old.seat.writer putting.new.seat }
     ensures words { proc.new.words ≡ proc.old.words }
-    ensures asked { Waited (writing (call_with queue.now row.now seat bytes.now))
-        (writer_rendez row.now seat.writer) (writer_with seat proc.old) result.answer
-        (writer_with result.seat proc.new) }
-    ensures answer { IsAsked result.answer }
+    ensures asked { Waited (writing (call_with queue.now row.now putting.old.seat bytes.now))
+        (writer_rendez row.now putting.old.seat.writer) (writer_with putting.old.seat proc.old)
+        result (writer_with putting.new.seat proc.new) }
+    ensures answer { IsAsked result }
 {
-    let writer = seat.writer();
+    let writer = putting.seat.writer();
     let rendez = row.writer(writer);
     let call = Writing {
         queue,
@@ -115,13 +107,7 @@ fn write_with<R: Wait>(
         writer,
         bytes,
     };
-    let mut putting = Putting {
-        seat,
-        block: Some(block),
-    };
-    let answer = wait_for(rt, proc, rendez, &call, &mut putting, &mut NoProbe);
-    let Putting { seat, block: _ } = putting;
-    Done { seat, answer }
+    wait_for(rt, proc, rendez, &call, putting, &mut NoProbe)
 }
 
 /// The seat of a write, and its block while the queue has not taken it.

@@ -5,19 +5,20 @@ ghost use Rattle.kernel_lock.specs.Seats.{number_of};
 ghost use Rattle.pipe_dev.specs.Ends.{IsWriteSeat};
 ghost use Rattle.pipe_dev.specs.Rendezes.{OwnsRow, writer_rendez};
 ghost use Rattle.pipe_dev.specs.WriteCalls.{call_with, writing};
+ghost use Rattle.pipe_dev.specs.WriteSteps.{IsPutting};
 ghost use Rattle.timer_list.specs.Seats.{IsTimerSeatOf};
 ghost use Rattle.timer_list.specs.Timers.{deadline_of};
 ghost use Rattle.timer_list.specs.Timing.{WaitedInTime, timed_point};
 
 use crate::row::Row;
 use crate::write_end::WriteEnd;
-use crate::writing::{Done, Putting, Writing};
-use block_queue::{PutSeat, Queue};
+use crate::writing::{Putting, Writing};
+use block_queue::Queue;
 use sleep_wakeup::Proc;
 use std::alloc::Global;
 use std::sync::Wait;
 use sync_base::limits::ATOMIC_SIZE;
-use sync_base::{Fault, NoProbe, Piece};
+use sync_base::{Fault, NoProbe};
 use timer_list::{TimerSeat, Timers, wait_within};
 
 impl<'p> WriteEnd<'p> {
@@ -85,9 +86,21 @@ impl<'p> WriteEnd<'p> {
         };
         match seat.spare.take().filled(alloc, bytes) {
             Ok(block) => {
-                let Done { seat, answer } = write_in_time(
-                    self.queue, &self.row, rt, seat, proc, timers, timer, now, ms, bytes, block,
+                let block = Some(block);
+                let mut putting = Putting { seat, block };
+                let answer = write_in_time(
+                    self.queue,
+                    &self.row,
+                    rt,
+                    &mut putting,
+                    proc,
+                    timers,
+                    timer,
+                    now,
+                    ms,
+                    bytes,
                 );
+                let Putting { seat, block: _ } = putting;
                 self.seat = Some(seat);
                 answer
             }
@@ -105,29 +118,27 @@ fn write_in_time<R: Wait>(
     queue: &Queue,
     row: &Row,
     rt: &R,
-    seat: PutSeat,
+    putting: &mut Putting,
     proc: &mut Proc<'_>,
     timers: &Timers,
     timer: &mut TimerSeat,
     now: u64,
     ms: u32,
     bytes: &[u8],
-    block: Piece,
-) -> Done
-    requires seat { IsWriteSeat queue.now row.now seat.writer seat }
+) -> Result<u64, Fault>
+    requires putting { IsPutting queue.now row.now putting.old.seat.writer bytes.now putting.old }
     requires kernel { OwnsRow proc.old.words row.now }
-    requires block { block ≡ bytes.now }
     requires timer { IsTimerSeatOf timers.now timer.old }
-    ensures seat { IsWriteSeat queue.now row.now seat.writer result.seat }
+    ensures seat { IsWriteSeat queue.now row.now putting.old.seat.writer putting.new.seat }
     ensures words { proc.new.words ≡ proc.old.words }
-    ensures waited { WaitedInTime (writing (call_with queue.now row.now seat bytes.now))
-        (writer_rendez row.now seat.writer) timers.now (deadline_of now ms)
-        (timed_point (put_account seat) timer.old proc.old) result.answer
-        (timed_point (put_account result.seat) timer.new proc.new) }
+    ensures waited { WaitedInTime (writing (call_with queue.now row.now putting.old.seat bytes.now))
+        (writer_rendez row.now putting.old.seat.writer) timers.now (deadline_of now ms)
+        (timed_point (put_account putting.old.seat) timer.old proc.old) result
+        (timed_point (put_account putting.new.seat) timer.new proc.new) }
     ensures timer { IsTimerSeatOf timers.now timer.new }
     ensures timer_number { number_of timer.new.seat ≡ number_of timer.old.seat }
 {
-    let writer = seat.writer();
+    let writer = putting.seat.writer();
     let rendez = row.writer(writer);
     let call = Writing {
         queue,
@@ -135,22 +146,16 @@ fn write_in_time<R: Wait>(
         writer,
         bytes,
     };
-    let mut putting = Putting {
-        seat,
-        block: Some(block),
-    };
-    let answer = wait_within(
+    wait_within(
         rt,
         proc,
         rendez,
         &call,
-        &mut putting,
+        putting,
         timers,
         timer,
         now,
         ms,
         &mut NoProbe,
-    );
-    let Putting { seat, block: _ } = putting;
-    Done { seat, answer }
+    )
 }

@@ -1,7 +1,7 @@
 -- The wait, as the account of the seat knows it.
-use Rattle.std.proofs.Common.{ℕ, Some, subst}
+use Rattle.std.proofs.Common.{ℕ, subst}
 use Rattle.sync_base.specs.declared.ids.RendezId.{RendezId}
-use Rattle.waiting.specs.Waiting.{Waited}
+use Rattle.waiting.specs.Waiting.{Waited, point}
 use Rattle.pipe_dev.specs.Rendezes.{writer_rendez}
 use Rattle.pipe_dev.specs.WriteCalls.{WriteCall, call_with, writer_with, writing}
 use Rattle.pipe_dev.specs.WriteSteps.{account_in}
@@ -10,25 +10,17 @@ use Rattle.pipe_dev.proofs.writing.write_with.Goals as goal
 
 pub returns-clause-asked : goal.returns-clause-asked
 returns-clause-asked g c =
+    let seat = c.args.putting.now.seat in
     let call : ℕ → WriteCall =
-    λ writer. record (call_with c.args.queue.now c.args.row.now c.args.seat c.args.bytes.now) {
+    λ writer. record (call_with c.args.queue.now c.args.row.now seat c.args.bytes.now) {
       writer = writer;
     } in
     let W : ℕ → RendezId → Type 0 =
-    λ writer rendez. Waited (writing (call writer)) rendez (writer_with c.args.seat c.args.proc.now)
-    c.wait_for-answer.result
-    (writer_with c.wait_for-answer.new.seat.seat c.wait_for-answer.new.proc) in
+    λ writer rendez. Waited (writing (call writer)) rendez (writer_with seat c.args.proc.now)
+    c.wait_for.result (writer_with c.wait_for.new.seat.seat c.wait_for.new.proc) in
     subst (λ (writer : ℕ). W writer (writer_rendez c.args.row.now writer))
     c.writer-writer.ensures
     (subst (W c.writer-writer.result) c.writer-rendez.ensures
     (waited_seen account_in (writing (call c.writer-writer.result)) c.writer-rendez.result
-    (record {
-      seat = record { seat = c.args.seat; block = Some c.args.block };
-      process = c.args.proc.now.process;
-    })
-    c.wait_for-answer.result
-    (record {
-      seat = c.wait_for-answer.new.seat;
-      process = c.wait_for-answer.new.proc.process;
-    })
-    c.wait_for-answer.ensures.waited))
+    (point c.args.putting.now c.args.proc.now) c.wait_for.result
+    (point c.wait_for.new.seat c.wait_for.new.proc) c.wait_for.ensures.waited))

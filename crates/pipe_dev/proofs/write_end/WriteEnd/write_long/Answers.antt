@@ -1,5 +1,5 @@
 -- the writes that were accepted, and the one at which it ended
-use Rattle.std.proofs.Common.{arith, ◌∙◌, ◌∷◌, [], Ok, Err}
+use Rattle.std.proofs.Common.{arith, ◌∙◌, ◌∷◌, [], Ok, Err, None, refl}
 use Rattle.pipe_dev.specs.WriteCalls.{atomic_writes, writer_of}
 use Rattle.pipe_dev.proofs.LongLemmas.{wrote_at, cut_next, cut_last, all_done, one_done}
 use Rattle.pipe_dev.proofs.LongLemmas.{not_too_big, told_alike, told_none}
@@ -120,7 +120,7 @@ pub returns-in-Ok-clause-no_rendez : goal.returns-in-Ok-clause-no_rendez
 returns-in-Ok-clause-no_rendez g c =
     let short = c.writing-test.false in
     told_none c.args.proc.now.words c.writing.proc.words c.args.self.now.row c.writing.self.row
-    c.writing.invariant.words c.writing.invariant.end.row c.in-Ok.field-0
+    c.writing.invariant.words c.writing.invariant.end.row c.in-Ok.field-0 None refl
     (c.in-Ok.ensures.no_rendez (omega (arith, short)))
 
 pub returns-in-Err-write-clause-too_big : goal.returns-in-Err-write-clause-too_big
