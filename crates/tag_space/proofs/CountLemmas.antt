@@ -21,6 +21,7 @@ module _ (space : Space) (past new : List Entry) (pair : Pair)
       (pairs_of past) in
       rw pairs (omega (arith, more))
 
+  -- it was
   pub counted_here : (member : ℕ) → pair.waiting.member ≡ member
       → count_of space new member ≡ count_of space past member + 1
   counted_here member same =

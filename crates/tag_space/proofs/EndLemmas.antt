@@ -77,7 +77,8 @@ module _ (space : TagSpace) (first : Member) (offer : Offer) where
         → Requests space (call (number_of old)) told old new
         → Served (space_of space) (number_of first) (call (number_of first)) told (seen_of old)
         (seen_of new)
-    served_on call told is = served space old new on.one (number_of first) on.same.number call told is
+    served_on call told is =
+        served space old new on.one (number_of first) on.same.number call told is
 
     on_more : (count : ℕ) → Requests space (Collect (number_of old)) (Wait count) old new
         → IsOn new
@@ -179,7 +180,8 @@ module _ (space : TagSpace) (offered : Offered) (first : Member) (rest : IsMembe
     served_first told now is =
         served space first now rest.one _ refl (λ n. Call n offered.tag offered.value) told is
 
-    calls_first : (told : GroupReply) (now : Member) (its : Served (space_of space) (number_of first)
+    calls_first : (told : GroupReply) (now : Member)
+        (its : Served (space_of space) (number_of first)
         (Call (number_of first) offered.tag offered.value) told (seen_of first) (seen_of now))
         → calls_by (number_of first) (seen_of now)
         ≡ offer_at its.past ∷ calls_by (number_of first) (seen_of first)

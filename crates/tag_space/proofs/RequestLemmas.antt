@@ -1,5 +1,6 @@
 -- What a request leaves of a member: it rests, or its call is under way.
-use Rattle.std.proofs.Common.{◌≡◌, ◌≢◌, ◌<◌, ℕ, eqb, List, [], ◌∷◌, inl, inr, refl, sym, ap, subst, arith}
+use Rattle.std.proofs.Common.{◌≡◌, ◌≢◌, ◌<◌, ℕ, eqb, List, [], ◌∷◌, inl, inr}
+use Rattle.std.proofs.Common.{refl, sym, ap, subst, arith}
 use Rattle.std.proofs.lemmas.Bool.{cases_Bool}
 use Rattle.histories.specs.History.{IsLegal}
 use Rattle.sync_base.specs.declared.ids.Tag.{Tag}
@@ -46,7 +47,8 @@ module _ (space : TagSpace) (before after : Member) where
       (its : Served (space_of space) (number_of before) call told (seen_of before) (seen_of after))
     where
       -- what its history says of the stage of the member is so
-      stands : (P : Stage → Type 0) → P (stage_of (entry_of call told ∷ its.past) (number_of before))
+      stands : (P : Stage → Type 0)
+          → P (stage_of (entry_of call told ∷ its.past) (number_of before))
           → P (stage_of (seen_of after) (number_of after))
       stands P holds =
           subst (λ n. P (stage_of (seen_of after) n)) (sym is.same.number)

@@ -259,7 +259,8 @@ module _ (space : Space) (places : List Place) (past : List Entry)
                 tag = tag.0;
                 value = value;
               })) _ may.exists (rw (yes member) refl)
-                  (λ other differs. rw (no member other differs) refl) count (λ other differs. refl);
+                  (λ other differs. rw (no member other differs) refl) count
+                  (λ other differs. refl);
             })
       ]
 
