@@ -16,9 +16,7 @@ use Rattle.tag_space.specs.Spaces.{IsNewSpace, IsFirstMember, IsFurtherMember}
 use Rattle.tag_space.specs.Forks.{AreKnown, asks_child, asks_space, WantsMember, rfork_of}
 use Rattle.tag_space.specs.Forks.{WhyNotForked, JoinsParent, ComesBack, HasSpace, HasChild}
 use Rattle.tag_space.specs.Forks.{MovesCaller, KeepsMember, LeavesMember, IsUntouched, GivesMember}
-use Rattle.tag_space.specs.Forks.{HasSpent, IsFirstThere, IsChild, IsGroupObject, HasFurther}
-use Rattle.tag_space.specs.Forks.{IsSpent}
-use Rattle.tag_space.specs.Forks.{WhyNotInside, WhyNotOutside}
+use Rattle.tag_space.specs.Forks.{HasSpent, IsFirstThere}
 
 -- ---- what each flag may do
 
@@ -187,23 +185,6 @@ module _ (unused : Unused) (space : TagSpace) (flags : Flags) (before after : Me
   another_comes_back other fewer (inr wants) =
       nobody_knows space before after fewer wants.all_given
 
-  -- the same of the two ways to make a child
-  inside_though_all_is_left : HasPid unused → given_of after.seat < limit_of space.lock
-      → WhyNotInside unused space before after fault.NoProc → ⊥
-  inside_though_all_is_left pid fewer (inl (none, same)) = none pid
-  inside_though_all_is_left pid fewer (inr (left, knows)) =
-      nobody_knows space before after fewer knows
-
-  outside_though_a_pid_is_left : HasPid unused → WhyNotOutside unused space fault.NoProc → ⊥
-  outside_though_a_pid_is_left pid none = none pid
-
-  outside_a_row_before_a_pid : (HasPid unused → ⊥) → WhyNotOutside unused space fault.NoRendez → ⊥
-  outside_a_row_before_a_pid none (pid, row) = none pid
-
-  outside_memory_before_a_row : (HasRendez unused space.procs → ⊥)
-      → WhyNotOutside unused space fault.Memory → ⊥
-  outside_memory_before_a_row none (pid, row) = none row
-
 -- ---- spaces
 
 module _ (unused : Unused) (old new : TagSpace) (flags : Flags) where
@@ -225,12 +206,6 @@ module _ (unused : Unused) (old new : TagSpace) (flags : Flags) where
   a_space_in_no_row : (OwnsRow new unused.words → ⊥) → IsNewSpace unused old.procs new → ⊥
   a_space_in_no_row none is_new = none is_new.row
 
-  no_group : IsGroupObject unused old None → ⊥
-  no_group is = is
-
-  a_group_of_another_size : new.procs ≢ old.procs → IsGroupObject unused old (Some new) → ⊥
-  a_group_of_another_size other is_new = other is_new.procs_are
-
 -- ---- who is made
 
 module _ (unused : Unused) (space : TagSpace) (flags : Flags) (proc : Running) (own : Member) where
@@ -250,13 +225,6 @@ module _ (unused : Unused) (space : TagSpace) (flags : Flags) (proc : Running) (
   a_child_of_another_space : (IsMemberOf space own → ⊥)
       → HasChild unused space flags (Some (proc, own)) → ⊥
   a_child_of_another_space other (asked, is_next, is_member) = other is_member
-
-  no_child_is_there : IsChild unused space None → ⊥
-  no_child_is_there is = is
-
-  a_child_there_of_another_pid : proc ≢ next_process unused
-      → IsChild unused space (Some (proc, own)) → ⊥
-  a_child_there_of_another_pid other (is_next, is_member) = other is_next
 
 -- ---- the caller's member
 
@@ -286,14 +254,6 @@ module _ (flags : Flags) (before after own : Member) (proc : Running) (spent : S
   its_parents_member space joins same gives =
       let above = (gives joins).above in omega (arith, same, above)
 
-  a_further_member_is_its_parents : (space : TagSpace) → number_of own ≡ number_of before
-      → HasFurther space before after (Some (proc, own)) → ⊥
-  a_further_member_is_its_parents space same further =
-      let above = further.above in omega (arith, same, above)
-
-  no_further_member : (space : TagSpace) → HasFurther space before after None → ⊥
-  no_further_member space further = further
-
   -- a caller that moves spends nothing or another member, or one that stays spends its own
   nothing_is_spent : MovesCaller flags → HasSpent flags before None → ⊥
   nothing_is_spent moves none = none moves
@@ -303,12 +263,6 @@ module _ (flags : Flags) (before after own : Member) (proc : Running) (spent : S
 
   another_is_spent : spent.member ≢ before → HasSpent flags before (Some spent) → ⊥
   another_is_spent other (moves, same) = other same
-
-  none_is_spent : IsSpent before None → ⊥
-  none_is_spent is = is
-
-  another_one_is_spent : spent.member ≢ before → IsSpent before (Some spent) → ⊥
-  another_one_is_spent other same = other same
 
 -- ---- who is first
 
