@@ -2,15 +2,15 @@
 use Rattle.std.proofs.Common.{◌≡◌, ℕ, ◌+◌, ◌≤◌, eqb, cond, List, [], ◌∷◌, ◌++◌}
 use Rattle.std.proofs.Common.{subst, arith}
 use Rattle.std.proofs.lemmas.List.Sums.{sum_by-append}
-use Rattle.histories.specs.History.{IsLegal}
+use Rattle.histories.proofs.HistoryLemmas.{legal_past}
 use Rattle.tag_space.specs.declared.calls.GroupCall.{GroupCall}
 use Rattle.tag_space.specs.declared.calls.GroupCall.TheVariants.{Call, Collect, Leave}
 use Rattle.tag_space.specs.declared.calls.GroupReply.TheVariants.{Met, Wait}
 use Rattle.tag_space.specs.GroupObject.{member_of}
-use Rattle.tag_space.specs.Rendezvous.{Entry, Space, Pair, IsAnswered, IsRight, count_of, pairs_of}
+use Rattle.tag_space.specs.Rendezvous.{Entry, Space, Pair, IsAnswered, count_of, pairs_of}
 use Rattle.tag_space.specs.Rendezvous.{pair_made, rendezvous}
 use Rattle.tag_space.specs.WakeLaws.{WaitersAreFoundAbove}
-use Rattle.tag_space.proofs.PromiseLemmas.{state_is_past}
+use Rattle.tag_space.proofs.PromiseLemmas.{is_right}
 
 module _ (space : Space) (member : ℕ) where
   -- whether a pair met a call of the member
@@ -50,24 +50,12 @@ module _ (space : Space) (member : ℕ) where
   found_with past (Collect caller) given count answered = absurd answered
   found_with past (Leave caller) given count answered = absurd answered
 
--- what stands behind some entries of a legal history is legal
-legal_behind : (space : Space) (since past : List Entry)
-    → IsLegal (rendezvous space) [] (since ++ past) → IsLegal (rendezvous space) [] past
-legal_behind space [] past legal = legal
-legal_behind space (entry ∷ since) past legal = legal_behind space since past legal.1
-
--- the newest entry is right behind its past
-right_behind : (space : Space) (past : List Entry) (entry : Entry)
-    → IsLegal (rendezvous space) [] (entry ∷ past) → IsRight space past entry
-right_behind space past entry legal =
-    subst (λ h. IsRight space h entry) (state_is_past space past) legal.0
-
 -- so the one count is above the other
 pub found_above : WaitersAreFoundAbove
 found_above space past since waits found number given member count legal told own met =
-    let then = right_behind space (since ++ waits ∷ past) found legal in
-    let first = right_behind space past waits
-    (legal_behind space since (waits ∷ past) legal.1) in
+    let then = is_right space (since ++ waits ∷ past) found legal in
+    let first = is_right space past waits
+    (legal_past (rendezvous space) [] since (waits ∷ past) legal.1) in
     let low = waits_with space member past waits.request number
     (subst (IsAnswered space past waits.request) told first.answered) own in
     let high = found_with space member (since ++ waits ∷ past) found.request given count

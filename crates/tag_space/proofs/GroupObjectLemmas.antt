@@ -1,210 +1,203 @@
--- What a space keeps stays whole in each step: a member is met, begins to wait, is told or leaves.
-use Rattle.std.proofs.Common.{◌≡◌, ℕ, suc, [], ◌∷◌, ◌+◌, ◌<◌, ◌≤◌, ◌≢◌, true, false, List, length}
-use Rattle.std.proofs.Common.{get_or}
-use Rattle.std.proofs.Common.{eqb, if◌then◌else◌, Option, Some, refl, sym, ap, ◌∙◌, arith, inl, inr}
+-- What a space keeps stays whole in each step, and answers it as the definition does: a member is
+-- met, begins to wait, is told or leaves.
+use Rattle.std.proofs.Common.{◌≡◌, ℕ, ◌+◌, ◌<◌, ◌≤◌, ◌≢◌, true, false, List, length, get_or, cond}
+use Rattle.std.proofs.Common.{eqb, if◌then◌else◌, Option, refl, sym, ap, ◌∙◌, arith, inl, inr}
 use Rattle.std.specs.List.{insert, remove}
 use Rattle.std.proofs.lemmas.Bool.{cases_eq, false≢true}
-use Rattle.std.proofs.lemmas.List.{get_or-set_same, get_or-set_other, length-set, get_or_default}
 use Rattle.std.proofs.lemmas.Bool.Decides.{nat_tests}
+use Rattle.std.proofs.lemmas.Grind.{common_steps}
+use Rattle.std.proofs.lemmas.List.{get_or-set_same, get_or-set_other, length-set, get_or_default}
+use Rattle.std.proofs.lemmas.List.Edits.{length-insert, length-remove}
+use Rattle.std.proofs.lemmas.List.Sums.{count_by-le-length}
 use Rattle.sync_base.specs.declared.ids.Tag.{Tag}
+use Rattle.tag_space.specs.declared.calls.GroupCall.TheVariants.{Call}
+use Rattle.tag_space.specs.declared.calls.GroupReply.TheVariants as reply
+use Rattle.tag_space.specs.declared.limits.TheConstants.{LAST_MEETING}
 use Rattle.tag_space.specs.declared.place.CallState.{CallState}
 use Rattle.tag_space.specs.declared.place.CallState.TheVariants.{Idle, Waiting, Met}
 use Rattle.tag_space.specs.declared.place.Place.{Place}
-use Rattle.tag_space.specs.declared.limits.TheConstants.{LAST_MEETING}
-use Rattle.tag_space.specs.declared.calls.GroupCall.TheVariants.{Call}
-use Rattle.tag_space.specs.declared.calls.GroupReply.TheVariants as reply
 use Rattle.tag_space.specs.GroupObject.{place_of, fresh_place, put, waiter_of, may_call}
 use Rattle.tag_space.specs.GroupObject.{answer_to, places_after, answer_to_call, after_call}
 use Rattle.tag_space.specs.GroupObject.{value_given}
-use Rattle.tag_space.specs.Table.{TagEntry, no_entry, tag_at, member_at, member_with, IsAt}
-use Rattle.tag_space.specs.Table.{IsGapFor}
-use Rattle.tag_space.specs.Table.{waits_at, is_waiting, IsTable, AreCounts, IsGroupObject}
-use Rattle.tag_space.specs.Table.{ListsWaiting}
-use Rattle.tag_space.proofs.EntryLemmas.{found_at, found_in_gap}
-use Rattle.tag_space.proofs.TableLemmas.{waits_with_some, waiter_in_range, waits_there}
-use Rattle.tag_space.proofs.TableLemmas.{finds_waiter}
-use Rattle.tag_space.proofs.TableLemmas.{without_entry, beside_entries, with_entry, has_room}
+use Rattle.tag_space.specs.Table.{TagEntry, no_entry, member_at, IsAt, IsGapFor, waits_at}
+use Rattle.tag_space.specs.Table.{is_waiting, ListsWaiting, IsGroupObject}
+use Rattle.tag_space.proofs.TableLemmas.{waits_with_some, waiter_in_range, waiters_put}
+use Rattle.tag_space.proofs.TableLemmas.{waits_there, alone_there, finds_waiter, finds_nobody}
+use Rattle.tag_space.proofs.TableLemmas.{nobody_there, lists_without, lists_still, lists_with}
 
--- the counts stay counts where one changes to a count
-pub counts_put : (places : List Place) → AreCounts places →
-    (member : ℕ) (state : CallState) (count : ℕ) → member < length places → count ≤ LAST_MEETING →
-    (is_waiting state ≡ true → count < LAST_MEETING) →
-    AreCounts (put places member state count)
-counts_put places counts member state count below most less =
-    record { within = within; waiting = waiting }
-  where
-    new : List Place
-    new = put places member state count
-
-    mine : place_of new member ≡ record { state = state; meetings = count }
-    mine = get_or-set_same places member _ (fresh_place 0) below
-
-    others : (other : ℕ) → other ≢ member → place_of new other ≡ place_of places other
-    others other differs = get_or-set_other places member other _ (fresh_place 0) differs
-
-    within : (other : ℕ) → (place_of new other).meetings ≤ LAST_MEETING
-    within other = elim (cases_eq other member) [
-      | inl same ↦ rw same (rw mine most)
-      | inr differs ↦ rw (others other differs) (counts.within other)
-    ]
-
-    waiting : (other : ℕ) → is_waiting (place_of new other).state ≡ true →
-        (place_of new other).meetings < LAST_MEETING
-    waiting other = elim (cases_eq other member) [
-      | inl same ↦ rw same (rw mine less)
-      | inr differs ↦ rw (others other differs) (counts.waiting other)
-    ]
-
-module _ (table : List TagEntry) (places : List Place) (room : ℕ) (group :
-    IsGroupObject table places room) where
-  module _ (tag i member count : ℕ) (at : IsAt table tag i) (is_member : member ≡
-      member_at table i) (is_count : count ≡ (place_of places member).meetings) where
-    -- the member in an entry waits
-    waits_here : waits_at places tag member ≡ true
-    waits_here = rw is_member (waits_there table places group.entries tag i at)
-
-    -- so it is a member, and its meeting can be counted
-    pub member_in_range : member < length places
-    member_in_range = waiter_in_range places tag member waits_here
-
-    -- one more meeting of the member that waits here can be counted
-    pub can_count : count < LAST_MEETING
-    can_count = rw is_count (group.counts.waiting member
-        (waits_with_some (place_of places member).state tag waits_here))
-
-    -- it is met
-    pub met : (value : ℕ) →
-        IsGroupObject (remove table i) (put places member (Met value) (count + 1)) room
-    met value = record {
-      entries = rw is_member
-          (without_entry table places group.entries tag i at (Met value) (count + 1)
-          refl);
-      counts = counts_put places group.counts member (Met value) (count +
-          1) member_in_range (omega (arith, can_count)) (λ waits. absurd (false≢true waits));
-      enough = rw length-set group.enough;
-    }
-
-    -- it leaves
-    pub left : IsGroupObject (remove table i) (put places member Idle count) room
-    left = record {
-      entries = rw is_member (without_entry table places group.entries tag i at Idle count refl);
-      counts = counts_put places group.counts member Idle count member_in_range
-          (omega (arith, can_count)) (λ waits. absurd (false≢true waits));
-      enough = rw length-set group.enough;
-    }
-
-  module _ (member count : ℕ) (below : member < length places) (is_count : count ≡
-      (place_of places member).meetings) (idle : is_waiting (place_of places member).state ≡
-      false) where
-    -- a member that doesn't wait has no entry, and is told
-    pub told : IsGroupObject table (put places member Idle count) room
-    told = record {
-      entries = beside_entries table places group.entries member below idle Idle count refl;
-      counts = counts_put places group.counts member Idle count below
-          (rw is_count (group.counts.within member)) (λ waits. absurd (false≢true waits));
-      enough = rw length-set group.enough;
-    }
-
-    -- there is room for its entry
-    pub has_place : length table < room
-    has_place = omega (arith, group.enough, has_room table places group.entries member below idle)
-
-    -- it begins to wait
-    pub waits : (key : Tag) (i value : ℕ) → IsGapFor table key.0 i → count ≢ LAST_MEETING →
-        IsGroupObject (insert table i (key, member))
-        (put places member (Waiting key value) count) room
-    waits key i value gap not_last =
-        let most : count ≤ LAST_MEETING = rw is_count (group.counts.within member) in
+module _ (table : List TagEntry) (places : List Place) (room : ℕ)
+    (group : IsGroupObject table places room) where
+  -- it stays whole where one member is put, and the entries are those who wait then
+  module _ (member : ℕ) (state : CallState) (count : ℕ) (below : member < length places) where
+    kept : (new : List TagEntry) → ListsWaiting new (put places member state count)
+        → length new + cond (is_waiting (place_of places member).state) 1 0
+        ≡ length table + cond (is_waiting state) 1 0
+        → count ≤ LAST_MEETING → (is_waiting state ≡ true → count < LAST_MEETING)
+        → IsGroupObject new (put places member state count) room
+    kept new entries many most less =
+        let waiters = waiters_put places member state count below in
         record {
-          entries = with_entry table places group.entries member below idle key i gap value count;
-          counts = counts_put places group.counts member (Waiting key value) count below most
-              (λ waits. omega arith);
+          entries = entries;
+          as_many = omega (arith, many, waiters, group.as_many);
+          counts = record {
+            within = λ other. (counts other).0;
+            waiting = λ other. (counts other).1;
+          };
           enough = rw length-set group.enough;
         }
+      where
+        counts : (other : ℕ)
+            → ((place_of (put places member state count) other).meetings ≤ LAST_MEETING)
+            × (is_waiting (place_of (put places member state count) other).state ≡ true
+            → (place_of (put places member state count) other).meetings < LAST_MEETING)
+        counts other = elim (cases_eq other member) [
+          | inl same ↦
+              rw same (rw (get_or-set_same places member _ (fresh_place 0) below) (most, less))
+          | inr differs ↦ rw (get_or-set_other places member other _ (fresh_place 0) differs)
+              (group.counts.within other, group.counts.waiting other)
+        ]
 
-  -- a member that waits is found by a search
-  pub is_found : (i member : ℕ) (key : Tag) → waits_at places key.0 member ≡ true →
-      IsGapFor table key.0 i → ⊥
-  is_found i member key waits gap =
-      let found = group.entries.has_entry key.0 member waits in
-      let nowhere = found_in_gap table group.entries.rising key member i gap in
-      cc
+  -- the member whose call waits goes out with its entry
+  module _ (tag i : ℕ) (at : IsAt table tag i) (member : ℕ) (mine : member ≡ member_at table i)
+    where
+      waits_here : waits_at places tag member ≡ true
+      waits_here = rw mine (waits_there table places group.entries tag i at)
 
-  -- and its entry is this member's
-  pub is_its_entry : (tag i member : ℕ) → waits_at places tag member ≡ true → IsAt table tag i →
-      member ≡ member_at table i
-  is_its_entry tag i member waits at =
-      let entry = group.entries.has_entry tag member waits in
-      let found = found_at table group.entries.rising tag i at in
-      cc
+      in_range : member < length places
+      in_range = waiter_in_range places tag member waits_here
 
--- a call of a member that may call is answered by who waits with its tag
-pub answers_call : (places : List Place) (member : ℕ) (tag : Tag) (value : ℕ) (found : Option ℕ) →
-    member < length places → (place_of places member).state ≡ Idle → waiter_of places tag.0 ≡
-    found → (answer_to places (Call member tag value) ≡ answer_to_call places member found) ×
-    (places_after places (Call member tag value) ≡ after_call places member tag value found)
-answers_call places member tag value found below idle waiter =
-    let may : may_call places member ≡ true = rw idle (grind (arith, nat_tests)) in
-    (rw may (rw waiter refl), rw may (rw waiter refl))
+      its_count : (place_of places member).meetings < LAST_MEETING
+      its_count =
+          group.counts.waiting member
+          (waits_with_some (place_of places member).state tag waits_here)
 
--- the member in an entry, as it is read
-pub entry_read : (table : List TagEntry) (i : ℕ) (entry : TagEntry) → i < length table → entry ≡
-    get_or table i entry → entry.1 ≡ member_at table i
-entry_read table i entry below read =
-    ap (λ (l : TagEntry). l.1) (read ∙ get_or_default table i entry no_entry below)
+      goes_out : (state : CallState) (count : ℕ) → is_waiting state ≡ false → count ≤ LAST_MEETING
+          → IsGroupObject (remove table i) (put places member state count) room
+      goes_out state count over most =
+          kept member state count in_range (remove table i)
+          (lists_without table places group.entries member state count in_range over tag i at mine)
+          (rw (waits_with_some (place_of places member).state tag waits_here, over)
+          (omega (arith, length-remove table i at.in_range)))
+          most (λ waits. absurd (false≢true (sym over ∙ waits)))
 
--- the place of a member, as it is read
-pub place_read : (places : List Place) (member : ℕ) (place : Place) → member < length places →
-    place ≡ get_or places member place → place ≡ place_of places member
-place_read places member place below read = read ∙
-    get_or_default places member place (fresh_place 0) below
+  -- ---- a member, as its place is read
 
-module _ (table : List TagEntry) (places : List Place) (entries : IsTable table places) (member :
-    ℕ) (tag : Tag) (value : ℕ) (below : member < length places) (idle :
-    (place_of places member).state ≡ Idle) where
-  -- a call whose tag has an entry meets the entry's member
-  pub answers_met : (i waiter : ℕ) (place : Place) → IsAt table tag.0 i → waiter ≡
-      member_at table i → place ≡ place_of places waiter →
-      (answer_to places (Call member tag value) ≡ reply.Met (value_given place.state) waiter
-      (place.meetings + 1)) × (places_after places (Call member tag value) ≡
-      put places waiter (Met value) (place.meetings + 1))
-  answers_met i waiter place at is_waiter is_place =
-      let found = finds_waiter table places entries tag.0 _
-      (found_at table entries.rising tag.0 i at) ∙
-      ap Some (sym is_waiter) in
-      let both = answers_call places member tag value _ below idle found in
-      rw is_place both
+  module _ (slice : List Place) (is_slice : slice ≡ places) (member : ℕ) (place : Place)
+      (its : (member < length slice) × ((d : Place) → place ≡ get_or slice member d)) where
+    below : member < length places
+    below = rw (← is_slice) its.0
 
-  -- a call whose tag has none waits, or is worn out
-  pub answers_alone : (i count : ℕ) → IsGapFor table tag.0 i → count ≡
-      (place_of places member).meetings → (answer_to places (Call member tag value) ≡
-      (if eqb count LAST_MEETING then reply.Worn else reply.Wait count)) ×
-      (places_after places (Call member tag value) ≡
-      (if eqb count LAST_MEETING then places else put places member (Waiting tag value) count))
-  answers_alone i count gap is_count =
-      let found = finds_waiter table places entries tag.0 _
-      (found_in_gap table entries.rising tag member i gap) in
-      let both = answers_call places member tag value _ below idle found in
-      rw is_count both
+    -- it is the member's place
+    is_place : place ≡ place_of places member
+    is_place = rw is_slice at (its.1 (fresh_place 0))
 
--- an entry that is found stands somewhere
-place_of_entry : (table : List TagEntry) (tag member : ℕ) → member_with table tag ≡ Some member →
-    (i : ℕ) × (i < length table) × (tag_at table i ≡ tag) × (member_at table i ≡ member)
-place_of_entry [] tag member found = cc
-place_of_entry ((key, owner) ∷ entries) tag member found = elim (cases_eq key.0 tag) [
-  | inl same ↦ (0, omega arith, same, grind (arith, nat_tests))
-  | inr differs ↦
-      let rest = place_of_entry entries tag member (grind (arith, nat_tests)) in
-      (suc rest.0, omega arith, rest.2, rest.3)
-]
+    -- and so it is where it is read again
+    pub read_again : (again : Place) → again ≡ get_or places member again → again ≡ place
+    read_again again read =
+        read ∙ get_or_default places member again (fresh_place 0) below ∙ sym is_place
 
--- the entries are the calls that wait, each once, tags rising
-pub lists_waiting : (table : List TagEntry) (places : List Place) → IsTable table places →
-    ListsWaiting table places
-lists_waiting table places entries = record {
-  rising = entries.rising;
-  waits = λ i below. waits_there table places entries (tag_at table i) i
-      (record { in_range = below; has_tag = refl });
-  has_entry = λ tag member waits. place_of_entry table tag member
-      (entries.has_entry tag member waits);
-}
+    module _ (rests : is_waiting place.state ≡ false) where
+      its_rests : is_waiting (place_of places member).state ≡ false
+      its_rests = rw is_place at rests
+
+      -- a member that doesn't wait is told
+      pub told : IsGroupObject table (put places member Idle place.meetings) room
+      told =
+          kept member Idle place.meetings below table
+          (lists_still table places group.entries member Idle place.meetings below its_rests refl)
+          (rw its_rests refl) (rw is_place (group.counts.within member))
+          (λ waits. absurd (false≢true waits))
+
+      -- there is room for its entry
+      pub has_place : length table < room
+      has_place =
+          let one_more = waiters_put places member (Waiting (record { 0 = 0 }) 0) 0 below in
+          let most = count_by-le-length (λ (place : Place). is_waiting place.state)
+          (put places member (Waiting (record { 0 = 0 }) 0) 0) in
+          let rests = its_rests in
+          grind (arith, group.as_many, group.enough, common_steps)
+
+      -- it begins to wait
+      pub waits : (key : Tag) (i value : ℕ) → IsGapFor table key.0 i
+          → place.meetings ≢ LAST_MEETING
+          → IsGroupObject (insert table i (key, member))
+          (put places member (Waiting key value) place.meetings) room
+      waits key i value gap not_last =
+          let most : place.meetings ≤ LAST_MEETING = rw is_place (group.counts.within member) in
+          kept member (Waiting key value) place.meetings below (insert table i (key, member))
+          (lists_with table places group.entries member key value place.meetings i below its_rests
+          gap)
+          (rw its_rests (omega (arith, length-insert table i (key, member) gap.in_range)))
+          most (λ waits. omega arith)
+
+    -- a member that waits is found by a search
+    pub is_found : (tag i : ℕ) → waits_at places tag member ≡ true → IsGapFor table tag i → ⊥
+    is_found tag i waits gap = nobody_there table places group.entries tag i gap member waits
+
+    -- and leaves with its entry
+    pub left : (tag i : ℕ) → waits_at places tag member ≡ true → IsAt table tag i
+        → IsGroupObject (remove table i) (put places member Idle place.meetings) room
+    left tag i waits at =
+        goes_out tag i at member (alone_there table places group.entries tag i at member waits) Idle
+        place.meetings refl (rw is_place (group.counts.within member))
+
+    -- a call of a member that may call is answered by who waits with its tag
+    module _ (idle : place.state ≡ Idle) (tag : Tag) (value : ℕ) where
+      answers_call : (found : Option ℕ) → waiter_of places tag.0 ≡ found →
+          (answer_to places (Call member tag value) ≡ answer_to_call places member found) ×
+          (places_after places (Call member tag value) ≡ after_call places member tag value found)
+      answers_call found waiter =
+          let may : may_call places member ≡ true =
+          rw (← is_place) (rw idle (grind (arith, nat_tests, below))) in
+          (rw may (rw waiter refl), rw may (rw waiter refl))
+
+      -- one whose tag has none waits, or is worn out
+      pub answers_alone : (i : ℕ) → IsGapFor table tag.0 i
+          → (answer_to places (Call member tag value) ≡
+          (if eqb place.meetings LAST_MEETING then reply.Worn else reply.Wait place.meetings)) ×
+          (places_after places (Call member tag value) ≡ (if eqb place.meetings LAST_MEETING
+          then places else put places member (Waiting tag value) place.meetings))
+      answers_alone i gap =
+          rw is_place (answers_call _ (finds_nobody table places group.entries tag.0 i gap))
+
+  -- ---- the member whose entry is read
+
+  module _ (slice : List TagEntry) (is_slice : slice ≡ table) (tag : Tag) (i : ℕ)
+      (found : IsAt slice tag.0 i) (entry : TagEntry) (read : entry ≡ get_or table i entry) where
+    at : IsAt table tag.0 i
+    at = rw (← is_slice) found
+
+    mine : entry.1 ≡ member_at table i
+    mine = ap (λ (e : TagEntry). e.1) (read ∙ get_or_default table i entry no_entry at.in_range)
+
+    -- it is a member
+    pub found_below : entry.1 < length places
+    found_below = in_range tag.0 i at entry.1 mine
+
+    module _ (place : Place) (its : place ≡ get_or places entry.1 place) where
+      found_place : place ≡ place_of places entry.1
+      found_place = its ∙ get_or_default places entry.1 place (fresh_place 0) found_below
+
+      -- one more meeting of it can be counted
+      pub found_counts : place.meetings < LAST_MEETING
+      found_counts = rw found_place (its_count tag.0 i at entry.1 mine)
+
+      -- it is met
+      pub found_met : (value : ℕ)
+          → IsGroupObject (remove table i) (put places entry.1 (Met value) (place.meetings + 1))
+          room
+      found_met value =
+          goes_out tag.0 i at entry.1 mine (Met value) (place.meetings + 1) refl
+          (omega (arith, found_counts))
+
+      -- by a call with its tag
+      pub answers_met : (slice : List Place) (is_slice : slice ≡ places) (member : ℕ) (own : Place)
+          (its : (member < length slice) × ((d : Place) → own ≡ get_or slice member d))
+          → own.state ≡ Idle → (value : ℕ)
+          → (answer_to places (Call member tag value)
+          ≡ reply.Met (value_given place.state) entry.1 (place.meetings + 1))
+          × (places_after places (Call member tag value)
+          ≡ put places entry.1 (Met value) (place.meetings + 1))
+      answers_met slice is_slice member own its idle value =
+          rw (found_place, mine) (answers_call slice is_slice member own its idle tag value _
+          (finds_waiter table places group.entries tag.0 i at))

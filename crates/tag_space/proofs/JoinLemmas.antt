@@ -1,6 +1,6 @@
 -- What a join of two members leaves of each: its calls, and that it rests.
 use Rattle.std.proofs.Common.{◌≡◌, ◌≢◌, ℕ, eqb, true, false, Bool, ◌||◌, List, [], ◌∷◌, ◌++◌}
-use Rattle.std.proofs.Common.{refl, ap, ◌∙◌, subst, arith}
+use Rattle.std.proofs.Common.{refl, sym, ◌∙◌, subst, arith}
 use Rattle.std.proofs.lemmas.Bool.Decides.{nat_tests}
 use Rattle.std.specs.List.{AllByRecursion}
 use Rattle.histories.specs.Account.{AreDifferent, HasItsEntries, has_number, numbers_in}
@@ -10,13 +10,12 @@ use Rattle.histories.proofs.AccountLemmas.{by_others, none_since, number_has}
 use Rattle.histories.proofs.ListLemmas.{all_past}
 use Rattle.kernel_lock.specs.Definition.{server}
 use Rattle.tag_space.specs.Members.{space_of, account_of, number_of, seen_of, IsOneOf, IsMemberOf}
-use Rattle.tag_space.specs.Outcome.{calls_by}
 use Rattle.tag_space.specs.Rendezvous.{Entry, rendezvous, stage_of}
 use Rattle.tag_space.specs.Rendezvous.Stage.{Over}
 use Rattle.tag_space.specs.Spaces.{IsKeptIn}
 use Rattle.tag_space.specs.declared.member.Member.{Member}
 use Rattle.tag_space.specs.declared.space.TagSpace.{TagSpace}
-use Rattle.tag_space.proofs.OtherLemmas.{NoneBy, none_by, over_still, calls_still}
+use Rattle.tag_space.proofs.OtherLemmas.{StandsStill, stands_still, none_by}
 
 -- numbers of two lists of shares, all different together, differ
 pub apart_in : (first second : List (Share Entry)) (number other : ℕ)
@@ -46,30 +45,22 @@ apart_in (share ∷ first) second number other different has too =
 module _ (space : TagSpace) (member joined : Member) (is : IsMemberOf space member)
     (one : IsOneOf space joined) (past : IsPast (seen_of member) (seen_of joined))
     (kept : AllByRecursion (HasItsEntries server (seen_of joined)) (account_of member).shares) where
-  legal : IsLegal (rendezvous (space_of space)) [] (past.since ++ seen_of member)
-  legal = subst (IsLegal (rendezvous (space_of space)) []) past.new_is one.history.history.legal
-
-  none : NoneBy (number_of member) past.since
-  none =
-      none_by (number_of member) (account_of member).shares past.since is.one.seat.own
+  -- others left what the history said of the member
+  still : StandsStill (number_of member) (seen_of member) (seen_of joined)
+  still =
+      subst (StandsStill (number_of member) (seen_of member)) (sym past.new_is)
+      (stands_still (space_of space) (number_of member) past.since (seen_of member)
+      (subst (IsLegal (rendezvous (space_of space)) []) past.new_is one.history.history.legal)
+      (none_by (number_of member) (account_of member).shares past.since is.one.seat.own
       (by_others server (account_of member).shares past.since
       (none_since server (account_of member).shares past.since (seen_of member) is.one.history.mine
       (subst (λ h. AllByRecursion (HasItsEntries server h) (account_of member).shares) past.new_is
-      kept)))
+      kept)))))
 
   -- a member that rested rests still in the history that the two have joined
   pub rests_in : stage_of (seen_of joined) (number_of member) ≡ Over
-  rests_in =
-      ap (λ h. stage_of h (number_of member)) past.new_is
-      ∙ over_still (space_of space) (number_of member) past.since (seen_of member) legal none
-      is.rests
+  rests_in = still.over is.rests
 
   -- a member that is joined has in that history just the calls that it had made
   pub is_kept_in : IsKeptIn joined member
-  is_kept_in =
-      record {
-        past = past;
-        calls = ap (calls_by (number_of member)) past.new_is
-            ∙ calls_still (space_of space) (number_of member) past.since (seen_of member) legal
-            none;
-      }
+  is_kept_in = record { past = past; calls = still.calls }

@@ -14,7 +14,6 @@ pub mod AskLemmas
 mod CountLemmas
 mod RequestLemmas
 mod AboveLemmas
-mod OutcomeLemmas
 mod EndLemmas
 mod ValueLemmas
 mod PartnerLemmas

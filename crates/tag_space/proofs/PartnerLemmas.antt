@@ -16,8 +16,15 @@ use Rattle.tag_space.specs.Outcome.{Exchanges, HasPartner}
 use Rattle.tag_space.specs.Promises.{IsMade, IsMeeting, numbers_in}
 use Rattle.tag_space.specs.Rendezvous.{Entry, Space, Offer, Pair, pairs_of, pair_made}
 use Rattle.tag_space.specs.Rendezvous.{rendezvous}
-use Rattle.tag_space.proofs.OtherLemmas.{one_of_more, calls_after, yes}
+use Rattle.tag_space.proofs.OtherLemmas.{calls_after}
+use Rattle.tag_space.proofs.WaitLemmas.{yes}
 use Rattle.tag_space.proofs.PromiseLemmas.{is_space}
+
+-- a pair is one of more pairs too
+one_of_more : (pair : Pair) (more pairs : List Pair) → IsOneOfPairs pair pairs
+    → IsOneOfPairs pair (more ++ pairs)
+one_of_more pair [] pairs is = is
+one_of_more pair (other ∷ more) pairs is = inr (one_of_more pair more pairs is)
 
 -- a call of the member stays one of its calls
 more_calls : (offer : Offer) (number member : ℕ) (call : GroupCall) (others : List Offer)

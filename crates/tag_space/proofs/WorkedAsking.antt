@@ -19,7 +19,7 @@ use Rattle.tag_space.specs.declared.member.Member.{Member}
 use Rattle.tag_space.specs.declared.space.TagSpace.{TagSpace}
 use Rattle.tag_space.specs.Asking.{Asks, Requests, OnlyRequests, Finds, Begins, Collects, Leaves}
 use Rattle.tag_space.specs.Asking.{IsCalled, IsCollected, IsLeft, Meets, RendezvousesInWords}
-use Rattle.tag_space.specs.Forks.{rfork_of, WhyNotForked, WhyNotInside, WhyNotOutside}
+use Rattle.tag_space.specs.Forks.{rfork_of, WhyNotForked}
 use Rattle.tag_space.specs.Members.{account_of, number_of, rendez_of_member, seen_of}
 use Rattle.tag_space.specs.Outcome.{calls_by, word_of}
 use Rattle.tag_space.specs.Rendezvous.{Entry, Offered, Offer, stage_of}
@@ -193,12 +193,6 @@ module _ (unused : Unused) (space : TagSpace) (flags : Flags) (before after : Me
   forked_by_a_double_sleep :
       ¬ WhyNotForked (rfork_of unused space flags) before after fault.DoubleSleep
   forked_by_a_double_sleep why = why
-
-  inside_for_want_of_memory : ¬ WhyNotInside unused space before after fault.Memory
-  inside_for_want_of_memory why = why
-
-  outside_for_bad_flags : ¬ WhyNotOutside unused space fault.BadFlags
-  outside_for_bad_flags why = why
 
   no_group_for_want_of_a_pid : ¬ WhyNoGroup unused 2 fault.NoProc
   no_group_for_want_of_a_pid why = why

@@ -1,24 +1,28 @@
--- What rfork may do by its flags; and what no rfork does to spaces and members, each against one
--- row of what they say.
+-- What rfork does by its flags, computed; and what no rfork does to spaces and members, each against
+-- one row of what they say.
 use Rattle.std.proofs.Common.{◌≡◌, ◌≢◌, ◌<◌, ℕ, Some, None, inl, inr, length, ap, arith, refl}
+use Rattle.std.proofs.Common.{true, false, List, [], ◌∷◌, sym, ◌∙◌}
 use Rattle.std.specs.Prelude.{IsTrue}
 use Rattle.std.proofs.lemmas.Bool.{false≢true}
-use Rattle.kernel_lock.specs.Seats.{KnowsAllGiven, gave_of, given_of, limit_of}
+use Rattle.histories.specs.declared.account.Account.{Account}
+use Rattle.kernel_lock.specs.Seats.{KnowsAllGiven, account_of, gave_of, given_of, limit_of}
+use Rattle.sleep_wakeup.specs.Forks.{HasPid, asks_group}
+use Rattle.sleep_wakeup.specs.Groups.{begins, follows, leaves}
 use Rattle.sync_base.specs.declared.fault.Fault.TheVariants as fault
 use Rattle.sync_base.specs.declared.flags.Flags.{Flags}
-use Rattle.sleep_wakeup.specs.Forks.{HasPid}
 use Rattle.sleep_wakeup.specs.Kernel.{Running, Unused, HasRendez, next_process}
 use Rattle.tag_space.specs.declared.forking.SpentMember.{SpentMember}
 use Rattle.tag_space.specs.declared.member.Member.{Member}
 use Rattle.tag_space.specs.declared.space.TagSpace.{TagSpace}
-use Rattle.tag_space.specs.Members.{OwnsRow, IsMemberOf, IsSameMember, number_of}
+use Rattle.tag_space.specs.Members.{OwnsRow, IsMemberOf, number_of, seen_of}
+use Rattle.tag_space.specs.Outcome.{calls_by}
+use Rattle.tag_space.specs.Rendezvous.{Entry}
 use Rattle.tag_space.specs.Spaces.{IsNewSpace, IsFirstMember, IsFurtherMember}
 use Rattle.tag_space.specs.Forks.{AreKnown, asks_child, asks_space, WantsMember, rfork_of}
 use Rattle.tag_space.specs.Forks.{WhyNotForked, JoinsParent, ComesBack, HasSpace, HasChild}
 use Rattle.tag_space.specs.Forks.{MovesCaller, KeepsMember, LeavesMember, IsUntouched, GivesMember}
-use Rattle.tag_space.specs.Forks.{HasSpent, IsFirstThere, IsChild, IsGroupObject, HasFurther}
-use Rattle.tag_space.specs.Forks.{IsSpent}
-use Rattle.tag_space.specs.Forks.{WhyNotInside, WhyNotOutside}
+use Rattle.tag_space.specs.Forks.{HasSpent, IsFirstThere, callers_space, childs_space, left_by}
+use Rattle.tag_space.proofs.WorkedSpaces.{offer}
 
 -- ---- what each flag may do
 
@@ -26,17 +30,100 @@ use Rattle.tag_space.specs.Forks.{WhyNotInside, WhyNotOutside}
 abbrev flags_of : ℕ → Flags
 flags_of bits = record { bits = bits }
 
+rfproc_asks_for_a_child : (asks_child (flags_of 1) ≡ true) × (asks_space (flags_of 1) ≡ false)
+rfproc_asks_for_a_child = (refl, refl)
+
+rfrend_asks_for_a_space : (asks_child (flags_of 2) ≡ false) × (asks_space (flags_of 2) ≡ true)
+rfrend_asks_for_a_space = (refl, refl)
+
+both_ask_for_both : (asks_child (flags_of 3) ≡ true) × (asks_space (flags_of 3) ≡ true)
+both_ask_for_both = (refl, refl)
+
+no_flag_asks_for_nothing : (asks_child (flags_of 0) ≡ false) × (asks_space (flags_of 0) ≡ false)
+no_flag_asks_for_nothing = (refl, refl)
+
+-- RFNOTEG asks for a note group, and for nothing of these
+rfnoteg_asks_for_a_group : (asks_group (flags_of 4) ≡ true) × (asks_group (flags_of 3) ≡ false)
+rfnoteg_asks_for_a_group = (refl, refl)
+
+rfnoteg_asks_for_no_more : (asks_child (flags_of 4) ≡ false) × (asks_space (flags_of 4) ≡ false)
+rfnoteg_asks_for_no_more = (refl, refl)
+
+a_child_apart_is_a_child : (asks_child (flags_of 5) ≡ true) × (asks_space (flags_of 5) ≡ false)
+a_child_apart_is_a_child = (refl, refl)
+
+a_space_and_a_group_are_a_space : (asks_child (flags_of 6) ≡ false) × (asks_space (flags_of 6) ≡ true)
+a_space_and_a_group_are_a_space = (refl, refl)
+
+all_three_ask_for_all : (asks_child (flags_of 7) ≡ true) × (asks_space (flags_of 7) ≡ true)
+all_three_ask_for_all = (refl, refl)
+
+seven_is_known : AreKnown (flags_of 7)
+seven_is_known = omega arith
+
+eight_is_not : AreKnown (flags_of 8) → ⊥
+eight_is_not known = omega (arith, known)
+
+-- what is left says so too
+module _ (unused : Unused) (space : TagSpace) where
+  a_child_joins_its_parents_group : (left_by 0 unused space (flags_of 1)).groups
+      ≡ follows 0 unused.pids.next unused.groups
+  a_child_joins_its_parents_group = refl
+
+  a_child_in_a_new_space_begins_one : (left_by 0 unused space (flags_of 7)).groups
+      ≡ begins unused.pids.next unused.groups
+  a_child_in_a_new_space_begins_one = refl
+
+  a_caller_alone_leaves_its_group : (left_by 0 unused space (flags_of 4)).groups
+      ≡ leaves 0 unused.groups
+  a_caller_alone_leaves_its_group = refl
+
+  a_caller_of_rfrend_stays_in_it : (left_by 0 unused space (flags_of 2)).groups ≡ unused.groups
+  a_caller_of_rfrend_stays_in_it = refl
+
+module _ (old new : TagSpace) where
+  with_rfrend_alone_the_caller_moves : callers_space (flags_of 2) old (Some new) ≡ new
+  with_rfrend_alone_the_caller_moves = refl
+
+  with_a_child_the_caller_stays : callers_space (flags_of 3) old (Some new) ≡ old
+  with_a_child_the_caller_stays = refl
+
+  without_rfrend_the_caller_stays : callers_space (flags_of 1) old None ≡ old
+  without_rfrend_the_caller_stays = refl
+
+  with_rfrend_the_child_moves : childs_space old (Some new) ≡ new
+  with_rfrend_the_child_moves = refl
+
+  without_rfrend_the_child_is_its_parents : childs_space old None ≡ old
+  without_rfrend_the_child_is_its_parents = refl
+
+-- ---- what rfork does to its caller's member
+
+rfproc_alone_joins_its_parent : JoinsParent (flags_of 1)
+rfproc_alone_joins_its_parent = record { child = refl; no_space = false≢true }
+
+-- no other flags do
+no_flag_joins_nobody : JoinsParent (flags_of 0) → ⊥
+no_flag_joins_nobody joins = false≢true joins.child
+
+both_join_nobody : JoinsParent (flags_of 3) → ⊥
+both_join_nobody joins = joins.no_space refl
+
+-- without flags, and with both, the member is let alone
+no_flag_leaves_the_member : LeavesMember (flags_of 0)
+no_flag_leaves_the_member =
+    record { no_child = no_flag_joins_nobody; stays = λ is. omega (arith, is) }
+
+both_leave_the_member : LeavesMember (flags_of 3)
+both_leave_the_member = record { no_child = both_join_nobody; stays = λ is. omega (arith, is) }
+
 module _ (unused : Unused) (space : TagSpace) (before after : Member) where
   -- a flag that is not known is refused, whatever is left
   an_unknown_flag_is_refused :
       WhyNotForked (rfork_of unused space (flags_of 8)) before after fault.BadFlags
   an_unknown_flag_is_refused known = omega (arith, known)
 
-  -- RFPROC is refused where no pid is left, or all members were given
-  rfproc_finds_no_pid : (HasPid unused → ⊥)
-      → WhyNotForked (rfork_of unused space (flags_of 1)) before after fault.NoProc
-  rfproc_finds_no_pid none = inl (record { known = omega arith; child = refl; none = none })
-
+  -- RFPROC is refused where all members were given
   rfproc_finds_no_member : HasPid unused → KnowsAllGiven space.lock before.seat after.seat
       → WhyNotForked (rfork_of unused space (flags_of 1)) before after fault.NoProc
   rfproc_finds_no_member pid all =
@@ -46,76 +133,19 @@ module _ (unused : Unused) (space : TagSpace) (before after : Member) where
         all_given = all;
       })
 
-  -- RFREND alone needs no pid: it is refused where no row is left, or else no memory
+  -- RFREND alone needs no pid: it is refused where no row is left
   rfrend_finds_no_row : (HasRendez unused space.procs → ⊥)
       → WhyNotForked (rfork_of unused space (flags_of 2)) before after fault.NoRendez
   rfrend_finds_no_row none =
       (record { known = omega arith; pid = λ asked. absurd (false≢true asked); space = refl }, none)
 
-  rfrend_finds_no_memory : HasRendez unused space.procs
-      → WhyNotForked (rfork_of unused space (flags_of 2)) before after fault.Memory
-  rfrend_finds_no_memory row =
-      (record { known = omega arith; pid = λ asked. absurd (false≢true asked); space = refl }, row)
-
-  -- both need a pid, and then a row
-  both_find_no_pid : (HasPid unused → ⊥)
-      → WhyNotForked (rfork_of unused space (flags_of 3)) before after fault.NoProc
-  both_find_no_pid none = inl (record { known = omega arith; child = refl; none = none })
-
-  both_find_no_row : HasPid unused → (HasRendez unused space.procs → ⊥)
-      → WhyNotForked (rfork_of unused space (flags_of 3)) before after fault.NoRendez
-  both_find_no_row pid none =
-      (record { known = omega arith; pid = λ asked. pid; space = refl }, none)
-
-  -- a refusal hands the member back
-  it_comes_back_as_it_was : (flags : Flags) → ComesBack (rfork_of unused space flags) before before
-  it_comes_back_as_it_was flags = inl refl
-
-module _ (unused : Unused) (old new : TagSpace) (proc : Running) (own : Member) where
-  -- RFREND makes a space and no child, RFPROC a child and no space
-  rfrend_makes_a_space : IsNewSpace unused old.procs new
-      → HasSpace unused old (flags_of 2) (Some new)
-  rfrend_makes_a_space is_new = (refl, is_new)
-
-  rfrend_makes_no_child : HasChild unused new (flags_of 2) None
-  rfrend_makes_no_child asked = false≢true asked
-
-  rfproc_makes_no_space : HasSpace unused old (flags_of 1) None
-  rfproc_makes_no_space asked = false≢true asked
-
-  rfproc_makes_a_child : proc ≡ next_process unused → IsMemberOf old own
-      → HasChild unused old (flags_of 1) (Some (proc, own))
-  rfproc_makes_a_child is_next is_member = (refl, is_next, is_member)
-
-  -- where no space is made nobody is first there
-  nobody_is_first : (member : Member) → IsFirstThere None member (Some (proc, own))
-  nobody_is_first member = tt
-
-module _ (space : TagSpace) (before after own : Member) (proc : Running) (spent : SpentMember) where
-  -- without flags the caller's member is as it was
-  no_flag_touches_nothing : IsUntouched (flags_of 0) before before
-  no_flag_touches_nothing leaves = refl
-
-  -- RFPROC keeps it, gives the child a further one, and spends nothing
-  rfproc_keeps_the_member : IsSameMember before after → KeepsMember (flags_of 1) before after
-  rfproc_keeps_the_member same stays = same
-
-  rfproc_gives_a_further_member : IsFurtherMember space before after own
-      → GivesMember space (flags_of 1) before after (Some (proc, own))
-  rfproc_gives_a_further_member further joins = further
-
+module _ (before after : Member) where
+  -- RFPROC spends nothing, and RFREND alone does, so that the caller may have any other
   rfproc_spends_nothing : HasSpent (flags_of 1) before None
   rfproc_spends_nothing moves = omega (arith, moves)
 
-  -- RFREND alone spends it, so that the caller may have any other, and gives nothing
-  rfrend_spends_the_member : spent.member ≡ before → HasSpent (flags_of 2) before (Some spent)
-  rfrend_spends_the_member same = (refl, same)
-
   rfrend_may_change_the_member : KeepsMember (flags_of 2) before after
   rfrend_may_change_the_member stays = absurd (stays refl)
-
-  rfrend_gives_no_member : GivesMember space (flags_of 2) before after None
-  rfrend_gives_no_member joins = false≢true joins.child
 
 -- ---- why nothing is made
 
@@ -187,23 +217,6 @@ module _ (unused : Unused) (space : TagSpace) (flags : Flags) (before after : Me
   another_comes_back other fewer (inr wants) =
       nobody_knows space before after fewer wants.all_given
 
-  -- the same of the two ways to make a child
-  inside_though_all_is_left : HasPid unused → given_of after.seat < limit_of space.lock
-      → WhyNotInside unused space before after fault.NoProc → ⊥
-  inside_though_all_is_left pid fewer (inl (none, same)) = none pid
-  inside_though_all_is_left pid fewer (inr (left, knows)) =
-      nobody_knows space before after fewer knows
-
-  outside_though_a_pid_is_left : HasPid unused → WhyNotOutside unused space fault.NoProc → ⊥
-  outside_though_a_pid_is_left pid none = none pid
-
-  outside_a_row_before_a_pid : (HasPid unused → ⊥) → WhyNotOutside unused space fault.NoRendez → ⊥
-  outside_a_row_before_a_pid none (pid, row) = none pid
-
-  outside_memory_before_a_row : (HasRendez unused space.procs → ⊥)
-      → WhyNotOutside unused space fault.Memory → ⊥
-  outside_memory_before_a_row none (pid, row) = none row
-
 -- ---- spaces
 
 module _ (unused : Unused) (old new : TagSpace) (flags : Flags) where
@@ -225,12 +238,6 @@ module _ (unused : Unused) (old new : TagSpace) (flags : Flags) where
   a_space_in_no_row : (OwnsRow new unused.words → ⊥) → IsNewSpace unused old.procs new → ⊥
   a_space_in_no_row none is_new = none is_new.row
 
-  no_group : IsGroupObject unused old None → ⊥
-  no_group is = is
-
-  a_group_of_another_size : new.procs ≢ old.procs → IsGroupObject unused old (Some new) → ⊥
-  a_group_of_another_size other is_new = other is_new.procs_are
-
 -- ---- who is made
 
 module _ (unused : Unused) (space : TagSpace) (flags : Flags) (proc : Running) (own : Member) where
@@ -250,13 +257,6 @@ module _ (unused : Unused) (space : TagSpace) (flags : Flags) (proc : Running) (
   a_child_of_another_space : (IsMemberOf space own → ⊥)
       → HasChild unused space flags (Some (proc, own)) → ⊥
   a_child_of_another_space other (asked, is_next, is_member) = other is_member
-
-  no_child_is_there : IsChild unused space None → ⊥
-  no_child_is_there is = is
-
-  a_child_there_of_another_pid : proc ≢ next_process unused
-      → IsChild unused space (Some (proc, own)) → ⊥
-  a_child_there_of_another_pid other (is_next, is_member) = other is_next
 
 -- ---- the caller's member
 
@@ -286,14 +286,6 @@ module _ (flags : Flags) (before after own : Member) (proc : Running) (spent : S
   its_parents_member space joins same gives =
       let above = (gives joins).above in omega (arith, same, above)
 
-  a_further_member_is_its_parents : (space : TagSpace) → number_of own ≡ number_of before
-      → HasFurther space before after (Some (proc, own)) → ⊥
-  a_further_member_is_its_parents space same further =
-      let above = further.above in omega (arith, same, above)
-
-  no_further_member : (space : TagSpace) → HasFurther space before after None → ⊥
-  no_further_member space further = further
-
   -- a caller that moves spends nothing or another member, or one that stays spends its own
   nothing_is_spent : MovesCaller flags → HasSpent flags before None → ⊥
   nothing_is_spent moves none = none moves
@@ -304,11 +296,28 @@ module _ (flags : Flags) (before after own : Member) (proc : Running) (spent : S
   another_is_spent : spent.member ≢ before → HasSpent flags before (Some spent) → ⊥
   another_is_spent other (moves, same) = other same
 
-  none_is_spent : IsSpent before None → ⊥
-  none_is_spent is = is
+-- ---- a further member
 
-  another_one_is_spent : spent.member ≢ before → IsSpent before (Some spent) → ⊥
-  another_one_is_spent other same = other same
+module _ (space : TagSpace) (before after further : Member) where
+  -- it has called nobody
+  a_child_has_called : calls_by (number_of further) (seen_of further) ≡ offer 0 1 7 5 ∷ []
+      → IsFurtherMember space before after further → ⊥
+  a_child_has_called calls is = let none = sym is.no_calls ∙ calls in cc
+
+  -- the one that gave it gave one number more and no other
+  a_number_too_many : (one other : ℕ) (gave : List ℕ)
+      → gave_of before.seat ≡ gave → gave_of after.seat ≡ one ∷ other ∷ gave
+      → IsFurtherMember space before after further → ⊥
+  a_number_too_many one other gave then now is =
+      let gives = ap (λ (a : Account Entry). a.gave) is.given.account.parent_is in
+      let both : one ∷ other ∷ gave ≡ number_of_child is ∷ gave =
+      sym now ∙ gives ∙ ap (λ (ns : List ℕ). number_of_child is ∷ ns) then in
+      let lengths : length (one ∷ other ∷ gave) ≡ length (number_of_child is ∷ gave) =
+      ap length both in
+      omega (arith, lengths)
+    where
+      number_of_child : IsFurtherMember space before after further → ℕ
+      number_of_child is = (account_of further.seat).number
 
 -- ---- who is first
 

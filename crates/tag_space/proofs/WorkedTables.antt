@@ -1,11 +1,11 @@
 -- What the table of those who wait is, and what a space keeps: each against the rows that it names.
-use Rattle.std.proofs.Common.{◌≡◌, ◌<◌, ◌≤◌, ℕ, List, length, true, Some}
+use Rattle.std.proofs.Common.{◌≡◌, ◌<◌, ◌≤◌, ℕ, List, length, true}
 use Rattle.tag_space.specs.declared.limits.TheConstants.{LAST_MEETING}
 use Rattle.tag_space.specs.declared.place.Place.{Place}
 use Rattle.tag_space.specs.GroupObject.{place_of}
-use Rattle.tag_space.specs.Table.{TagEntry, IsAt, IsGapFor, IsRising, IsTable, AreCounts}
+use Rattle.tag_space.specs.Table.{TagEntry, IsAt, IsGapFor, IsRising, AreCounts}
 use Rattle.tag_space.specs.Table.{IsGroupObject}
-use Rattle.tag_space.specs.Table.{ListsWaiting, tag_at, member_at, member_with, waits_at, waiters}
+use Rattle.tag_space.specs.Table.{ListsWaiting, tag_at, member_at, waits_at, waiters}
 use Rattle.tag_space.specs.Table.{is_waiting}
 
 module _ (table : List TagEntry) (places : List Place) where
@@ -22,14 +22,6 @@ module _ (table : List TagEntry) (places : List Place) where
         × ((j : ℕ) → i ≤ j → j < length table → tag < tag_at table j)
     a_gap_is_between_its_neighbours is = (is.in_range, is.smaller_before, is.greater_after)
 
-  a_table_has_a_line_for_each_who_waits : IsTable table places → IsRising table
-      × ((tag member : ℕ) → member_with table tag ≡ Some member
-      → waits_at places tag member ≡ true)
-      × ((tag member : ℕ) → waits_at places tag member ≡ true
-      → member_with table tag ≡ Some member)
-      × (length table ≡ waiters places)
-  a_table_has_a_line_for_each_who_waits is = (is.rising, is.waits, is.has_entry, is.as_many)
-
   a_list_has_a_line_for_each_who_waits : ListsWaiting table places → IsRising table
       × ((i : ℕ) → i < length table
       → waits_at places (tag_at table i) (member_at table i) ≡ true)
@@ -44,5 +36,6 @@ module _ (table : List TagEntry) (places : List Place) where
   who_waits_can_be_counted are member = (are.within member, are.waiting member)
 
   a_space_has_room_for_each : (room : ℕ) → IsGroupObject table places room
-      → IsTable table places × AreCounts places × (length places ≤ room)
-  a_space_has_room_for_each room is = (is.entries, is.counts, is.enough)
+      → ListsWaiting table places × (length table ≡ waiters places) × AreCounts places
+      × (length places ≤ room)
+  a_space_has_room_for_each room is = (is.entries, is.as_many, is.counts, is.enough)

@@ -1,6 +1,6 @@
 -- The table in which a tag space finds who waits: an entry for each call that waits, tags rising.
-use Rattle.std.specs.Prelude.{◌≡◌, ℕ, ◌<◌, ◌≤◌, ◌==◌, Bool, true, false, if◌then◌else◌}
-use Rattle.std.specs.Prelude.{Option, Some, None, List, [], ◌∷◌, length, slice_index_or, count_by}
+use Rattle.std.specs.Prelude.{◌≡◌, ℕ, ◌<◌, ◌≤◌, Bool, true, false}
+use Rattle.std.specs.Prelude.{List, length, slice_index_or, count_by}
 use Rattle.sync_base.specs.declared.ids.Tag.{Tag}
 use Rattle.tag_space.specs.declared.place.CallState.{CallState}
 use Rattle.tag_space.specs.declared.place.CallState.TheVariants.{Idle, Waiting, Met}
@@ -24,12 +24,6 @@ member_at table i = let entry = slice_index_or table i no_entry in entry.1
 -- the tags rise, so no tag comes twice
 abbrev pub IsRising : List TagEntry → Type 0
 IsRising table = (i j : ℕ) → i < j → j < length table → tag_at table i < tag_at table j
-
--- the member in the first entry with the tag
-abbrev pub member_with : List TagEntry → ℕ → Option ℕ
-member_with [] tag = None
-member_with ((key, member) ∷ entries) tag =
-    if key.0 == tag then Some member else member_with entries tag
 
 -- the entry at place i has the tag
 pub record IsAt (table : List TagEntry) (tag i : ℕ) : Type 0 where
@@ -56,27 +50,6 @@ is_waiting (Met value) = false
 abbrev pub waiters : List Place → ℕ
 waiters places = count_by (λ place. is_waiting place.state) places
 
--- the entries are the calls that wait
-pub record IsTable (table : List TagEntry) (places : List Place) : Type 0 where
-  pub rising : IsRising table
-  pub waits : (tag member : ℕ) → member_with table tag ≡ Some member
-      → waits_at places tag member ≡ true
-  pub has_entry : (tag member : ℕ) → waits_at places tag member ≡ true
-      → member_with table tag ≡ Some member
-  pub as_many : length table ≡ waiters places
-
--- no count is above the last, and one that waits can still be counted
-pub record AreCounts (places : List Place) : Type 0 where
-  pub within : (member : ℕ) → (place_of places member).meetings ≤ LAST_MEETING
-  pub waiting : (member : ℕ) → is_waiting (place_of places member).state ≡ true
-      → (place_of places member).meetings < LAST_MEETING
-
--- what a space keeps: its members, the table of those who wait, and room for an entry of each
-pub record IsGroupObject (table : List TagEntry) (places : List Place) (room : ℕ) : Type 0 where
-  pub entries : IsTable table places
-  pub counts : AreCounts places
-  pub enough : length places ≤ room
-
 -- the list is the calls that wait, each once, tags rising
 pub record ListsWaiting (entries : List TagEntry) (places : List Place) : Type 0 where
   pub rising : IsRising entries
@@ -84,3 +57,17 @@ pub record ListsWaiting (entries : List TagEntry) (places : List Place) : Type 0
       → waits_at places (tag_at entries i) (member_at entries i) ≡ true
   pub has_entry : (tag member : ℕ) → waits_at places tag member ≡ true
       → (i : ℕ) × (i < length entries) × (tag_at entries i ≡ tag) × (member_at entries i ≡ member)
+
+-- no count is above the last, and one that waits can still be counted
+pub record AreCounts (places : List Place) : Type 0 where
+  pub within : (member : ℕ) → (place_of places member).meetings ≤ LAST_MEETING
+  pub waiting : (member : ℕ) → is_waiting (place_of places member).state ≡ true
+      → (place_of places member).meetings < LAST_MEETING
+
+-- what a space keeps: its members, the table of those who wait, one for each, and room for an
+-- entry of each member
+pub record IsGroupObject (table : List TagEntry) (places : List Place) (room : ℕ) : Type 0 where
+  pub entries : ListsWaiting table places
+  pub as_many : length table ≡ waiters places
+  pub counts : AreCounts places
+  pub enough : length places ≤ room

@@ -14,20 +14,13 @@ ghost use Rattle.tag_space.specs.Forks.{
   left_by,
   rfork_of,
   others_of,
-  IsChild,
   IsFirstThere,
-  IsGroupObject,
   KeepsMember,
   ComesBack,
   IsUntouched,
   GivesMember,
-  HasFurther,
   HasSpent,
-  IsSpent,
-  WhyNotInside,
-  WhyNotOutside,
 };
-ghost use Rattle.tag_space.specs.Spaces.{WhyNoGroup};
 
 use crate::member::Member;
 use crate::space::{Opened, TagSpace};
@@ -116,26 +109,69 @@ pub fn rfork<'k, R: Wait>(
     let apart = flags.bits() >= Flags::RFNOTEG.bits();
     let others = others(flags);
     let both = Flags::RFPROC.bits() + Flags::RFREND.bits();
+    let (pids, _) = roster.left();
+    let mut member = member;
     if others == Flags::NONE.bits() {
         leave_group(roster, parent, apart);
-        Ok(Forked {
-            member,
-            space: None,
-            child: None,
-            spent: None,
-        })
+        Ok(of_parts(member, None, None, None))
     } else if others == Flags::RFPROC.bits() {
-        fork_inside(rt, roster, parent, space, member, apart)
+        if pids == 0 {
+            return Err(refused(member, Fault::NoProc));
+        }
+        match space.fork_member(rt, &mut member) {
+            Ok(childs) => {
+                let child = next_child(roster, parent, apart);
+                Ok(of_parts(member, None, Some((child, childs)), None))
+            }
+            Err(fault) => Err(refused(member, fault)),
+        }
     } else if others == Flags::RFREND.bits() {
-        regroup(alloc, roster, parent, space, member, apart)
+        match space.new_group(alloc, roster) {
+            Ok(Opened { space, member: own }) => {
+                leave_group(roster, parent, apart);
+                Ok(of_parts(own, Some(space), None, Some(SpentMember { member })))
+            }
+            Err(fault) => Err(refused(member, fault)),
+        }
     } else if others == both {
-        fork_outside(alloc, roster, parent, space, member, apart)
+        if pids == 0 {
+            return Err(refused(member, Fault::NoProc));
+        }
+        match space.new_group(alloc, roster) {
+            Ok(Opened { space, member: own }) => {
+                let child = next_child(roster, parent, apart);
+                Ok(of_parts(member, Some(space), Some((child, own)), None))
+            }
+            Err(fault) => Err(refused(member, fault)),
+        }
     } else {
-        Err(NotForked {
-            member,
-            fault: Fault::BadFlags,
-        })
+        Err(refused(member, Fault::BadFlags))
     }
+}
+
+// What was made, of these.
+fn of_parts<'k>(
+    member: Member,
+    space: Option<TagSpace>,
+    child: Option<(Proc<'k>, Member)>,
+    spent: Option<SpentMember>,
+) -> Forked<'k>
+    ensures { result ≡
+        record { member = member; space = space; child = child.entry; spent = spent } }
+{
+    Forked {
+        member,
+        space,
+        child,
+        spent,
+    }
+}
+
+// The member, with the reason.
+fn refused(member: Member, fault: Fault) -> NotForked
+    ensures { result ≡ record { member = member; fault = fault } }
+{
+    NotForked { member, fault }
 }
 
 // The flags but RFNOTEG.
@@ -146,137 +182,6 @@ fn others(flags: Flags) -> u32
         flags.bits() - Flags::RFNOTEG.bits()
     } else {
         flags.bits()
-    }
-}
-
-// A child in its parent's space.
-fn fork_inside<'k, R: Wait>(
-    rt: &R,
-    roster: &mut Roster<'k>,
-    parent: &mut Proc<'k>,
-    space: &TagSpace,
-    member: Member,
-    apart: bool,
-) -> Result<Forked<'k>, NotForked>
-    requires { IsMemberOf space.now member }
-    ensures fault { IfErr result (λ refused.
-        WhyNotInside roster.old space.now member refused.member refused.fault) }
-    ensures back { IfErr result (λ refused. IsMemberOf space.now refused.member) }
-    ensures same { IfErr result (λ refused. IsSameMember member refused.member) }
-    ensures refused { OnErr result (roster.new ≡ roster.old) }
-    ensures space { IfOk result (λ forked. forked.space ≡ None) }
-    ensures child { IfOk result (λ forked. IsChild roster.old space.now forked.child) }
-    ensures member { IfOk result (λ forked. IsMemberOf space.now forked.member) }
-    ensures kept { IfOk result (λ forked. IsSameMember member forked.member) }
-    ensures further { IfOk result (λ forked.
-        HasFurther space.now member forked.member forked.child) }
-    ensures spent { IfOk result (λ forked. forked.spent ≡ None) }
-    ensures left { OnOk result
-        (roster.new ≡ one_pid_less parent.old.process.pid apart roster.old) }
-    ensures parent { parent.new ≡ parent.old }
-{
-    let mut member = member;
-    let (pids, _) = roster.left();
-    if pids == 0 {
-        return Err(NotForked {
-            member,
-            fault: Fault::NoProc,
-        });
-    }
-    match space.fork_member(rt, &mut member) {
-        Ok(childs) => Ok(Forked {
-            member,
-            space: None,
-            child: Some((next_child(roster, parent, apart), childs)),
-            spent: None,
-        }),
-        Err(fault) => Err(NotForked { member, fault }),
-    }
-}
-
-// A new space, of which the caller is the first member.
-fn regroup<'k>(
-    alloc: Global,
-    roster: &mut Roster<'k>,
-    parent: &mut Proc<'k>,
-    space: &TagSpace,
-    member: Member,
-    apart: bool,
-) -> Result<Forked<'k>, NotForked>
-    ensures fault { IfErr result (λ refused.
-        WhyNoGroup roster.old space.now.procs refused.fault) }
-    ensures back { IfErr result (λ refused. refused.member ≡ member) }
-    ensures refused { OnErr result (roster.new ≡ roster.old) }
-    ensures space { IfOk result (λ forked. IsGroupObject roster.old space.now forked.space) }
-    ensures child { IfOk result (λ forked. forked.child ≡ None) }
-    ensures member { IfOk result (λ forked.
-        IsMemberOf (childs_space space.now forked.space) forked.member) }
-    ensures first { IfOk result (λ forked.
-        IsFirstThere forked.space forked.member forked.child) }
-    ensures spent { IfOk result (λ forked. IsSpent member forked.spent) }
-    ensures left { OnOk result (roster.new
-        ≡ regrouped parent.old.process.pid apart (rendez_less space.now.procs roster.old)) }
-    ensures parent { parent.new ≡ parent.old }
-{
-    match space.new_group(alloc, roster) {
-        Ok(Opened { space, member: own }) => {
-            leave_group(roster, parent, apart);
-            Ok(Forked {
-                member: own,
-                space: Some(space),
-                child: None,
-                spent: Some(SpentMember { member }),
-            })
-        }
-        Err(fault) => Err(NotForked { member, fault }),
-    }
-}
-
-// A child in a new space.
-fn fork_outside<'k>(
-    alloc: Global,
-    roster: &mut Roster<'k>,
-    parent: &mut Proc<'k>,
-    space: &TagSpace,
-    member: Member,
-    apart: bool,
-) -> Result<Forked<'k>, NotForked>
-    ensures fault { IfErr result (λ refused.
-        WhyNotOutside roster.old space.now refused.fault) }
-    ensures back { IfErr result (λ refused. refused.member ≡ member) }
-    ensures refused { OnErr result (roster.new ≡ roster.old) }
-    ensures space { IfOk result (λ forked. IsGroupObject roster.old space.now forked.space) }
-    ensures child { IfOk result (λ forked.
-        IsChild roster.old (childs_space space.now forked.space) forked.child) }
-    ensures member { IfOk result (λ forked. forked.member ≡ member) }
-    ensures spent { IfOk result (λ forked. forked.spent ≡ None) }
-    ensures first { IfOk result (λ forked.
-        IsFirstThere forked.space forked.member forked.child) }
-    ensures left { OnOk result
-        (roster.new ≡ one_pid_less parent.old.process.pid apart
-        (rendez_less space.now.procs roster.old)) }
-    ensures parent { parent.new ≡ parent.old }
-{
-    let (pids, _) = roster.left();
-    if pids == 0 {
-        return Err(NotForked {
-            member,
-            fault: Fault::NoProc,
-        });
-    }
-    match space.new_group(alloc, roster) {
-        Ok(
-            Opened {
-                space,
-                member: childs,
-            },
-        ) => Ok(Forked {
-            member,
-            space: Some(space),
-            child: Some((next_child(roster, parent, apart), childs)),
-            spent: None,
-        }),
-        Err(fault) => Err(NotForked { member, fault }),
     }
 }
 

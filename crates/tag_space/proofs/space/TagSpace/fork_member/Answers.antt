@@ -1,5 +1,5 @@
 -- The child has the next number, by which nothing was asked.
-use Rattle.std.proofs.Common.{sym, ap, ◌+◌, ◌<◌, ◌≡◌, [], subst}
+use Rattle.std.proofs.Common.{refl, sym, ap, ◌+◌, ◌<◌, ◌≡◌, [], subst}
 use Rattle.histories.specs.History.{AreByBelow}
 use Rattle.histories.proofs.AccountLemmas.{number_has}
 use Rattle.kernel_lock.specs.Definition.{server}
@@ -9,7 +9,7 @@ use Rattle.tag_space.specs.Outcome.{calls_by}
 use Rattle.tag_space.specs.Rendezvous.{stage_of}
 use Rattle.tag_space.specs.Rendezvous.Stage.{Over}
 use Rattle.tag_space.proofs.AskLemmas.{knows_space}
-use Rattle.tag_space.proofs.OtherLemmas.{over_fresh, calls_fresh}
+use Rattle.tag_space.proofs.OtherLemmas.{stands_fresh}
 use Rattle.tag_space.proofs.space.TagSpace.fork_member.Goals as goal
 
 pub returns-clause-child : goal.returns-clause-child
@@ -28,8 +28,8 @@ returns-clause-child g c =
         rendez = ap (λ n. c.args.self.now.first.0 + n) c.number.ensures;
       };
       rests = subst (λ n. stage_of (account_of seat).seen n ≡ Over) (sym told.child.number)
-          (over_fresh (space_of c.args.self.now) (account_of seat).number (account_of seat).seen
-          knows.history.legal below);
+          ((stands_fresh (space_of c.args.self.now) (account_of seat).number (account_of seat).seen
+          knows.history.legal below).over refl);
     }
 
 pub returns-clause-further : goal.returns-clause-further
@@ -49,6 +49,6 @@ returns-clause-further g c =
           (account_of before.seat).shares told.given.account.next.own
           c.requires.member.one.seat.own);
       no_calls = subst (λ n. calls_by n (account_of seat).seen ≡ []) (sym told.child.number)
-          (calls_fresh (space_of c.args.self.now) (account_of seat).number (account_of seat).seen
-          knows.history.legal below);
+          (stands_fresh (space_of c.args.self.now) (account_of seat).number (account_of seat).seen
+          knows.history.legal below).calls;
     }

@@ -1,8 +1,7 @@
 -- The wait is of the member's own Rendez, and what comes of the call is read off it.
 use Rattle.std.proofs.Common.{arith}
 use Rattle.tag_space.proofs.AskLemmas.{is_below}
-use Rattle.tag_space.proofs.EndLemmas.{came, exchanged}
-use Rattle.waiting.specs.Waiting.{point}
+use Rattle.tag_space.proofs.EndLemmas.{came}
 use Rattle.tag_space.proofs.space.TagSpace.rendezvous_probed.Goals as goal
 
 pub wait_for-answer-requires-clause-rendez : goal.wait_for-answer-requires-clause-rendez
@@ -13,18 +12,10 @@ wait_for-answer-requires-clause-rendez g c =
 
 pub returns-clause-same : goal.returns-clause-same
 returns-clause-same g c =
-    let all =
-    came c.args.self.now (record { tag = c.args.tag; value = c.args.value }) c.args.member.now
-    c.requires.member c.args.member.now.rendez c.args.proc.now.process c.wait_for-answer.result
-    (point c.wait_for-answer.new.seat c.wait_for-answer.new.proc)
-    c.wait_for-answer.ensures.waited in
-    all.over.same
+    (came c.args.self.now _ c.args.member.now c.requires.member _ _ _ _
+    c.wait_for-answer.ensures.waited).same
 
 pub returns-clause-exchange : goal.returns-clause-exchange
 returns-clause-exchange g c =
-    exchanged c.args.self.now (record { tag = c.args.tag; value = c.args.value })
-    c.args.member.now c.requires.member c.wait_for-answer.result c.wait_for-answer.new.seat
-    (came c.args.self.now (record { tag = c.args.tag; value = c.args.value }) c.args.member.now
-    c.requires.member c.args.member.now.rendez c.args.proc.now.process c.wait_for-answer.result
-    (point c.wait_for-answer.new.seat c.wait_for-answer.new.proc)
-    c.wait_for-answer.ensures.waited)
+    (came c.args.self.now _ c.args.member.now c.requires.member _ _ _ _
+    c.wait_for-answer.ensures.waited).exchange

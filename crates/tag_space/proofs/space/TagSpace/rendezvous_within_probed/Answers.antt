@@ -1,9 +1,9 @@
 -- The wait is of the member's own Rendez, and what comes of the call is read off it.
 use Rattle.std.proofs.Common.{arith}
 use Rattle.tag_space.specs.Members.{party_of, seen_of}
-use Rattle.tag_space.proofs.AskLemmas.{is_below}
-use Rattle.tag_space.proofs.EndLemmas.{came, exchanged, same_exchange}
 use Rattle.tag_space.specs.Rendezvous.{Offered}
+use Rattle.tag_space.proofs.AskLemmas.{is_below}
+use Rattle.tag_space.proofs.EndLemmas.{came, same_exchange}
 use Rattle.tag_space.proofs.space.TagSpace.rendezvous_within_probed.Goals as goal
 
 pub wait_within-requires-clause-rendez : goal.wait_within-requires-clause-rendez
@@ -14,10 +14,8 @@ wait_within-requires-clause-rendez g c =
 
 pub returns-clause-same : goal.returns-clause-same
 returns-clause-same g c =
-    let is = c.wait_within.ensures.is_call in
-    (came c.args.self.now (record { tag = c.args.tag; value = c.args.value }) c.args.member.now
-    c.requires.member c.args.member.now.rendez c.args.proc.now.process is.told
-    (record { seat = c.wait_within.new.seat; process = is.process }) is.waited).over.same
+    (came c.args.self.now _ c.args.member.now c.requires.member _ _ _ _
+    c.wait_within.ensures.is_call.waited).same
 
 pub returns-clause-exchange : goal.returns-clause-exchange
 returns-clause-exchange g c =
@@ -26,8 +24,4 @@ returns-clause-exchange g c =
     same_exchange (party_of c.args.self.now c.args.member.now) offered
     (seen_of c.args.member.now) (seen_of c.wait_within.new.seat) is.told c.wait_within.result
     is.same
-    (exchanged c.args.self.now offered c.args.member.now c.requires.member is.told
-    c.wait_within.new.seat
-    (came c.args.self.now offered c.args.member.now c.requires.member c.args.member.now.rendez
-    c.args.proc.now.process is.told
-    (record { seat = c.wait_within.new.seat; process = is.process }) is.waited))
+    (came c.args.self.now offered c.args.member.now c.requires.member _ _ _ _ is.waited).exchange
