@@ -1,7 +1,5 @@
 mod AskLemmas
 mod WaitQueueLemmas
-mod NamedLemmas
-mod OwnSemaLemmas
 mod ReleaseLemmas
 mod RequestLemmas
 mod SemaLawLemmas

@@ -2,11 +2,10 @@
 -- requests they tell of the semaphore.
 use Rattle.std.proofs.Common.{◌≡◌, ℕ, false, List, [], ◌∷◌, map, Option, Some, None, unwrap_or}
 use Rattle.std.proofs.Common.{refl, sym, ap, ◌∙◌, subst, eq-eqb}
-use Rattle.histories.specs.Account.{KnowsHistory, share_after}
+use Rattle.histories.specs.Account.{share_after}
 use Rattle.kernel_lock.specs.Calls.{Serves}
 use Rattle.kernel_lock.specs.Definition.{server}
 use Rattle.kernel_lock.specs.Seats.{IsSeatOf, SeesHistory, Applies, AppliesThen, number_of, view_of}
-use Rattle.kernel_lock.specs.Seats.{account_of, opening_of}
 use Rattle.semaphore.specs.declared.sema.Sema.{Sema}
 use Rattle.semaphore.specs.declared.sema.SemaSeat.{SemaSeat}
 use Rattle.semaphore.specs.declared.sema_object.SemaCall.{SemaCall}
@@ -14,11 +13,11 @@ use Rattle.semaphore.specs.declared.sema_object.SemaCall.TheVariants.{Release, N
 use Rattle.semaphore.specs.declared.sema_object.SemaReply.{SemaReply}
 use Rattle.semaphore.specs.declared.sema_object.SemaReply.TheVariants as reply
 use Rattle.semaphore.specs.declared.sema_asks.Grant.{Grant}
-use Rattle.semaphore.specs.Asking.{Asks, OnlyAsks, AsksBoth, Finds, AsksRelease, wake_next}
+use Rattle.semaphore.specs.Asking.{Asks, OnlyAsks, Finds, AsksRelease, wake_next}
 use Rattle.semaphore.specs.Asking.{wake_reply}
 use Rattle.semaphore.specs.Definitions.{sema_definition}
 use Rattle.semaphore.specs.Releasing.{WakesNamed}
-use Rattle.semaphore.specs.SemaHistory.{SemaEntry, sema_meaning}
+use Rattle.semaphore.specs.SemaHistory.{SemaEntry}
 use Rattle.semaphore.specs.Seats.{IsSemaSeatOf, rendez_of_seat, waits_after}
 use Rattle.semaphore.specs.Units.{seat_named}
 use Rattle.sleep_wakeup.specs.Actions.{WakesOne}
@@ -73,23 +72,7 @@ finds sema call answer old new nobody rests at seat history applied =
         };
         number = number;
       };
-      found = is_told (opening_of sema_definition sema.lock) sema.procs (number_of old.seat) false
-          call answer (view_of old.seat) (view_of new.seat)
-          record {
-            value = at.opened.value;
-            fits = at.opened.fits;
-            opening_is = at.opened.opening_is;
-            mine = at.mine;
-            shares_are = at.shares_are;
-            waits_is = at.waits_is;
-            knew = subst (λ limit. KnowsHistory sema_meaning
-                (opening_of sema_definition sema.lock) limit (account_of old.seat))
-                at.opened.limit at.history;
-            knows = subst (λ limit. KnowsHistory sema_meaning
-                (opening_of sema_definition sema.lock) limit (account_of new.seat))
-                at.opened.limit history;
-            served = served;
-          };
+      found = is_told sema false call answer old new at history served;
     }
 
 -- what the lock tells of a release and of what followed it
@@ -110,48 +93,9 @@ asks_release sema count (reply.Value sum) (Some told) old new at seat history bo
           both.second;
     }
 asks_release sema count (reply.Value sum) None old new at seat history none = absurd none
-asks_release sema count reply.Acquired None old new at seat history applied =
-    finds sema (Release count) reply.Acquired old new refl refl at seat history applied
-asks_release sema count reply.Acquired (Some told) old new at seat history none = absurd none
-asks_release sema count reply.NotNow None old new at seat history applied =
-    finds sema (Release count) reply.NotNow old new refl refl at seat history applied
-asks_release sema count reply.NotNow (Some told) old new at seat history none = absurd none
-asks_release sema count (reply.Wait grant) None old new at seat history applied =
-    finds sema (Release count) (reply.Wait grant) old new refl refl at seat history applied
-asks_release sema count (reply.Wait grant) (Some told) old new at seat history none = absurd none
-asks_release sema count reply.BadArg None old new at seat history applied =
-    finds sema (Release count) reply.BadArg old new refl refl at seat history applied
-asks_release sema count reply.BadArg (Some told) old new at seat history none = absurd none
-asks_release sema count (reply.Wake its grants) None old new at seat history applied =
-    finds sema (Release count) (reply.Wake its grants) old new refl refl at seat history applied
-asks_release sema count (reply.Wake its grants) (Some told) old new at seat history none =
-    absurd none
-asks_release sema count reply.NoWake None old new at seat history applied =
-    finds sema (Release count) reply.NoWake old new refl refl at seat history applied
-asks_release sema count reply.NoWake (Some told) old new at seat history none = absurd none
-asks_release sema count reply.Granted None old new at seat history applied =
-    finds sema (Release count) reply.Granted old new refl refl at seat history applied
-asks_release sema count reply.Granted (Some told) old new at seat history none = absurd none
-asks_release sema count reply.Gone None old new at seat history applied =
-    finds sema (Release count) reply.Gone old new refl refl at seat history applied
-asks_release sema count reply.Gone (Some told) old new at seat history none = absurd none
-asks_release sema count reply.Busy None old new at seat history applied =
-    finds sema (Release count) reply.Busy old new refl refl at seat history applied
-asks_release sema count reply.Busy (Some told) old new at seat history none = absurd none
-asks_release sema count reply.Worn None old new at seat history applied =
-    finds sema (Release count) reply.Worn old new refl refl at seat history applied
-asks_release sema count reply.Worn (Some told) old new at seat history none = absurd none
-
--- a release that was taken is two requests
-pub taken_asks : (sema : Sema) (count sum : ℕ) (told : SemaReply) (old new : SemaSeat)
-    → AsksRelease sema count (reply.Value sum) (Some told) old new
-    → AsksBoth sema (Release count) (reply.Value sum) told old new
-taken_asks sema count sum told old new both =
-    record {
-      between = both.between;
-      asked_first = both.found_first.asks;
-      asked_second = both.found_second.asks;
-    }
+asks_release sema count answer (Some told) old new at seat history none = absurd none
+asks_release sema count answer None old new at seat history applied =
+    finds sema (Release count) answer old new refl refl at seat history applied
 
 -- ---- whom it wakes
 

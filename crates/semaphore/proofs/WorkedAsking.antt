@@ -21,7 +21,7 @@ use Rattle.semaphore.specs.declared.sema_object.SemaReply.TheVariants as told
 use Rattle.timer_list.specs.declared.timers.Timers.{Timers}
 use Rattle.semaphore.specs.Acquiring.{Begins, Collects, Leaves, Waits, AsksNow, Semacquires}
 use Rattle.semaphore.specs.Acquiring.{acquiring}
-use Rattle.semaphore.specs.Asking.{Asks, OnlyAsks, AsksBoth, AsksRelease, now_reply}
+use Rattle.semaphore.specs.Asking.{Asks, OnlyAsks, AsksRelease, FindsBoth, now_reply}
 use Rattle.semaphore.specs.Asking.{wake_next, wake_reply, IsTold}
 use Rattle.semaphore.specs.Releasing.{HasReleased, HasWoken, Releases, WakesOneMore}
 use Rattle.semaphore.specs.Seats.{IsSeatAt, rendez_at, rendez_of_seat, units_given}
@@ -192,11 +192,11 @@ taken_and_not_followed sema before after none = none
 
 -- two requests are two entries more
 both_add : (sema : Sema) (call : SemaCall) (first second : SemaReply) (before after : SemaSeat)
-    → AsksBoth sema call first second before after
+    → FindsBoth sema call first second before after
     → length (seen_of before.seat) + 1 < length (seen_of after.seat)
 both_add sema call first second before after both =
-    let one = asking_adds sema false call first before both.between both.asked_first in
-    let two = asking_adds sema false NextWake second both.between after both.asked_second in
+    let one = asking_adds sema false call first before both.between both.found_first.asks in
+    let two = asking_adds sema false NextWake second both.between after both.found_second.asks in
     omega (arith, one, two)
 
 -- ---- what a request finds

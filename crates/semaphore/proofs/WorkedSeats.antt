@@ -85,13 +85,14 @@ no_seat_stands_after_the_last are = let below = are.0 in omega (arith, below)
 two_seats_are_linked : IsLinked (1 ∷ 2 ∷ 0 ∷ []) (2 ∷ 0 ∷ 1 ∷ []) 2 (0 ∷ 1 ∷ []) 2
 two_seats_are_linked = (refl, (refl, (refl, (refl, (refl, refl)))))
 
-module _ (next prev : List ℕ) (stands : List Bool) (ring : IsRing next prev stands 1) where
+module _ (next prev : List ℕ) (stands : List Bool) (order : List ℕ)
+    (ring : IsRing next prev stands 1 order) where
   a_ring_has_room_for_each : (length stands < 2 ^ 32) × (length next ≡ length stands + 1)
-      × (length prev ≡ length stands + 1) × AreSeats (length stands) ring.order
+      × (length prev ≡ length stands + 1) × AreSeats (length stands) order
   a_ring_has_room_for_each = (ring.few, ring.next_size, ring.prev_size, ring.seats)
 
-  a_ring_holds_who_stands : (length ring.order ≡ 1) × (count_by (λ stand. stand) stands ≡ 1)
-      × IsLinked next prev (length stands) ring.order (length stands)
+  a_ring_holds_who_stands : (length order ≡ 1) × (count_by (λ stand. stand) stands ≡ 1)
+      × IsLinked next prev (length stands) order (length stands)
       × ((seat : ℕ) → seat < length stands
-      → slice_index_or stands seat false ≡ stands_in ring.order seat)
+      → slice_index_or stands seat false ≡ stands_in order seat)
   a_ring_holds_who_stands = (ring.many, ring.counted, ring.linked, ring.told)

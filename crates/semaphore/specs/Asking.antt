@@ -31,15 +31,6 @@ module _ (sema : Sema) (waits : Bool) (call : SemaCall) (told : SemaReply) where
     pub asks : Asks before.seat after.seat
     pub idle : after.process ≡ before.process
 
-module _ (sema : Sema) where
-  -- the seat, which waits for nothing, asked this and was told so, and then asked who is to be
-  -- woken
-  pub record AsksBoth (call : SemaCall) (first second : SemaReply) (before after : SemaSeat) :
-      Type 0 where
-    pub between : SemaSeat
-    pub asked_first : Asks sema false call first before between
-    pub asked_second : Asks sema false NextWake second between after
-
 -- ---- answers
 
 -- whether a unit was taken at once

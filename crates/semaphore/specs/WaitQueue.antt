@@ -43,14 +43,16 @@ abbrev pub AreSeats : ℕ → List ℕ → Type 0
 AreSeats seats [] = Unit {0}
 AreSeats seats (seat ∷ rest) = (seat < seats) × (stands_in rest seat ≡ false) × AreSeats seats rest
 
-pub record IsRing (next prev : List ℕ) (stands : List Bool) (count : ℕ) : Type 0 where
-  pub few : length stands < 2 ^ 32
-  pub next_size : length next ≡ length stands + 1
-  pub prev_size : length prev ≡ length stands + 1
-  pub order : List ℕ
-  pub many : length order ≡ count
-  pub counted : count_by (λ stand. stand) stands ≡ count
-  pub seats : AreSeats (length stands) order
-  pub linked : IsLinked next prev (length stands) order (length stands)
-  pub told : (seat : ℕ) → seat < length stands → slice_index_or stands seat false ≡
-      stands_in order seat
+-- the links through the seats and the end hold this line, of so many, in which each seat stands of
+-- which that is noted
+pub record IsRing (next prev : List ℕ) (stands : List Bool) (count : ℕ) (order : List ℕ) : Type 0
+  where
+    pub few : length stands < 2 ^ 32
+    pub next_size : length next ≡ length stands + 1
+    pub prev_size : length prev ≡ length stands + 1
+    pub many : length order ≡ count
+    pub counted : count_by (λ stand. stand) stands ≡ count
+    pub seats : AreSeats (length stands) order
+    pub linked : IsLinked next prev (length stands) order (length stands)
+    pub told : (seat : ℕ) → seat < length stands → slice_index_or stands seat false ≡
+        stands_in order seat

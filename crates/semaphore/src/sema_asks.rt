@@ -1,7 +1,7 @@
 //! What a seat asks of its semaphore without a wait.
 ghost use Rattle.std.specs.Prelude.{◌<◌, false, IfSome, IfNone};
 ghost use Rattle.kernel_lock.specs.Seats.{number_of};
-ghost use Rattle.semaphore.specs.Asking.{Asks, AsksBoth, now_reply, wake_reply};
+ghost use Rattle.semaphore.specs.Asking.{Asks, FindsBoth, now_reply, wake_reply};
 ghost use Rattle.semaphore.specs.Seats.{IsSemaSeatOf};
 
 use crate::acquiring::Semacquired;
@@ -51,7 +51,7 @@ impl Sema {
         ensures refused { IfNone result
             (Asks self.now false (SemaCall.Release count) SemaReply.BadArg seat.old seat.new) }
         ensures released { IfSome result (λ released.
-            AsksBoth self.now (SemaCall.Release count) (SemaReply.Value released.sum)
+            FindsBoth self.now (SemaCall.Release count) (SemaReply.Value released.sum)
             (wake_reply released.next) seat.old seat.new) }
         ensures there { IfSome result (λ released.
             IfSome released.next (λ grant. grant.seat < self.now.procs)) }

@@ -33,7 +33,8 @@ impl Model for WaitQueue {
       order = walk l.next.items (length l.stands.items) l.count;
     } };
 
-    ghost invariant = { λ l. IsRing l.next.items l.prev.items l.stands.items l.count };
+    ghost invariant = { λ l. IsRing l.next.items l.prev.items l.stands.items l.count
+        (walk l.next.items (length l.stands.items) l.count) };
 }
 
 impl WaitQueue {

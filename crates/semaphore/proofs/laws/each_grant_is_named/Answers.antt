@@ -1,7 +1,10 @@
 -- a grant puts its seat among those to be named, and it is taken from there only with its latest
 -- count
-use Rattle.semaphore.proofs.NamedLemmas.{each_is_named}
+use Rattle.std.proofs.Common.{arith}
+use Rattle.semaphore.proofs.SemaLawLemmas.{history_keeps}
 use Rattle.semaphore.proofs.laws.each_grant_is_named.Goals as goal
 
 pub returns : goal.returns
-returns c = each_is_named
+returns c value procs count past fits few legal seat within =
+    let kept = (history_keeps value procs count past fits few legal).0 in
+    (kept.seats seat (omega (arith, within, kept.size))).named

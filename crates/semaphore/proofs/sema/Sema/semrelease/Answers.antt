@@ -13,18 +13,18 @@ pub returns-in-None-clause-called : goal.returns-in-None-clause-called
 returns-in-None-clause-called g c = record { asks = c.in-None.ensures.refused; idle = refl }
 
 pub wake_granted-requires-clause-seat : goal.wake_granted-requires-clause-seat
-wake_granted-requires-clause-seat g c = c.in-Some.ensures.released.asked_second.seat
+wake_granted-requires-clause-seat g c = c.in-Some.ensures.released.found_second.asks.seat
 
 pub returns-in-Some-clause-number : goal.returns-in-Some-clause-number
 returns-in-Some-clause-number g c =
     let both = c.in-Some.ensures.released in
-    c.wake_granted.ensures.number ∙ both.asked_second.number ∙ both.asked_first.number
+    c.wake_granted.ensures.number ∙ both.found_second.asks.number ∙ both.found_first.asks.number
 
 pub returns-in-Some-clause-called : goal.returns-in-Some-clause-called
 returns-in-Some-clause-called g c =
     let both = c.in-Some.ensures.released in
     record {
       first = point both.between c.args.proc.now;
-      released = record { asks = both.asked_first; idle = refl };
-      wakes = c.wake_granted.ensures.woken both.between both.asked_second;
+      released = record { asks = both.found_first.asks; idle = refl };
+      wakes = c.wake_granted.ensures.woken both.between both.found_second.asks;
     }
