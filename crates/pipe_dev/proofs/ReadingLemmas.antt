@@ -39,12 +39,6 @@ use Rattle.pipe_dev.proofs.SeatingLemmas.{same_entries, reader_knows}
 
 -- ---- a part and the rest behind it
 
-le-said : (a b : ℕ) → nat_le a b ≡ true → a ≤ b
-le-said a b said = grind (arith, nat_tests)
-
-above-said : (a b : ℕ) → nat_le a b ≡ false → b < a
-above-said a b said = grind (arith, nat_tests)
-
 some_bytes : (bytes : List ℕ) → 0 < length bytes → bytes ≢ []
 some_bytes [] some none = absurd (omega (arith, some))
 some_bytes (byte ∷ bytes) some none = cc
@@ -57,7 +51,7 @@ rest_is_some most left = by (nat_le (length left.bytes) most) refl
         → IsRest (if b then None else Some (record left { bytes = drop most left.bytes }))
     by true is = tt
     by false is =
-        let above = above-said (length left.bytes) most is in
+        let above : most < length left.bytes = grind (arith, nat_tests) in
         let dropped = length-drop most left.bytes in
         some_bytes (drop most left.bytes) (omega (arith, above, dropped))
 
@@ -74,9 +68,10 @@ part_and_rest most left parts some = by (nat_le (length left.bytes) most) refl
         ≡ pieces_of (left ∷ parts)
     by true is =
         ap (λ (bytes : List ℕ). with_part (record left { bytes = bytes }) (pieces_of parts))
-        (take_all most left.bytes (le-said (length left.bytes) most is))
+        (take_all most left.bytes
+        (let low : length left.bytes ≤ most = grind (arith, nat_tests) in low))
     by false is =
-        let above = above-said (length left.bytes) most is in
+        let above : most < length left.bytes = grind (arith, nat_tests) in
         let dropped = length-drop most left.bytes in
         let taken = length-take-le most left.bytes (omega (arith, above)) in
         with_part-twice (part_of most left) (record left { bytes = drop most left.bytes })
@@ -173,16 +168,11 @@ nothing_read key old new is adds =
     record {
       own = entered_own key adds.entry old.account new.account 0 adds.entered is.own;
       knows = adds.entered.knows;
-      right = subst (λ (h : List Entry). IsRight (left_state key h) new.parts new.rest)
-          (sym (seen_now key adds.entry old.account new.account adds.entered))
-          (subst (λ (r : Option Part). IsRight (left_state key (adds.entry ∷ past)) new.parts r)
-          (sym adds.rest)
-          (subst (λ (ps : List Part). IsRight (left_state key (adds.entry ∷ past)) ps old.rest)
-          (sym adds.parts)
+      right = rw (seen_now key adds.entry old.account new.account adds.entered, adds.rest, adds.parts)
           (still_right (left_state key past) (left_state key (adds.entry ∷ past)) old.parts old.rest
           (no_block_accepts key past adds.entry adds.no_block)
           (read_within key past (entered_legal key adds.entry old.account new.account adds.entered))
-          (right_before key adds.entry old new.account is adds.entered))));
+          (right_before key adds.entry old new.account is adds.entered));
     }
   where
     past : List Entry
