@@ -253,25 +253,6 @@ tries_are_steps key row old answer new room tries parts =
 
 -- ---- a read that waits
 
--- one request that is told to wait is a try that gave no byte, and leaves its buffer with room
-waits_as_try : (key : Key) (row : Row) (old : Calling) (number : ℕ) (new : Calling)
-    → old.buffer ≢ [] → (mode : Mode)
-    → AsksForBytes key (record row { mode = mode }) old (Wait number) new
-    → (new.buffer ≢ []) × Tries key (record row { mode = mode }) old try.NotYet new
-waits_as_try key row old number new room Message asks = (
-  subst (λ (xs : List ℕ). xs ≢ []) (sym asks.1) room,
-  (record { number = number; found = asks.0 }, asks.1),
-)
-waits_as_try key row old number new room Stream asks = (
-  λ none. let filled = asks.fills.filled in
-      let some = has_room old.buffer room in
-      let size = ap length filled.bytes_are
-      ∙ length-append (bytes_of asks.fills.filling.parts) old.buffer in
-      let empty : length new.buffer ≡ 0 = ap length none in
-      absurd (omega (arith, some, size, empty)),
-  record { number = number; tried = asks },
-)
-
 -- the newest parts stand in front
 bytes_append : (xs ys : List Part) → bytes_of (xs ++ ys) ≡ bytes_of ys ++ bytes_of xs
 bytes_append [] ys = sym (append-nil (bytes_of ys))
@@ -415,12 +396,21 @@ module _ (key : Key) (row : Row) where
       → AsksForBytes key (record row { mode = mode }) old (Wait number) new
       → (new.buffer ≢ [])
       × ((parts : List Part) → IsOfSteps key (AddsNoByte mode) old.reader parts new.reader)
-  waits_so old number new room Message asks =
-      let same = waits_as_try key row old number new room Message asks in
-      (same.0, λ parts. tried key row old new room parts Message try.NotYet same.1)
-  waits_so old number new room Stream asks =
-      let same = waits_as_try key row old number new room Stream asks in
-      (same.0, λ parts. tried key row old new room parts Stream try.NotYet same.1)
+  waits_so old number new room Message asks = (
+    subst (λ (xs : List ℕ). xs ≢ []) (sym asks.1) room,
+    λ parts. tried key row old new room parts Message try.NotYet
+        (record { number = number; found = asks.0 }, asks.1),
+  )
+  waits_so old number new room Stream asks = (
+    λ none. let filled = asks.fills.filled in
+        let some = has_room old.buffer room in
+        let size = ap length filled.bytes_are
+        ∙ length-append (bytes_of asks.fills.filling.parts) old.buffer in
+        let empty : length new.buffer ≡ 0 = ap length none in
+        absurd (omega (arith, some, size, empty)),
+    λ parts. tried key row old new room parts Stream try.NotYet
+        (record { number = number; tried = asks }),
+  )
 
   ends_so : (old : Calling) (answer : Result ReadAnswer Fault) (new : Calling) → old.buffer ≢ []
       → (parts : List Part) (mode : Mode)

@@ -65,7 +65,7 @@ none_older number entry past none = by (eqb (seat_of entry) number) none
     by false absent = absent
 
 -- entries of which none is the reader's
-pub only_accepts : (key : Key) (since seen : List Entry) → entries_by seat_of 0 since ≡ []
+only_accepts : (key : Key) (since seen : List Entry) → entries_by seat_of 0 since ≡ []
     → OnlyAccepts (left_state key seen) (left_state key (since ++ seen))
 only_accepts key [] seen none =
     record { read = refl; more = []; accepted = sym (append-nil (left_state key seen).accepted) }
@@ -85,7 +85,7 @@ only_accepts key (entry ∷ since) seen none =
     record { read = before.read; more = before.more; accepted = before.accepted }
 
 -- what stands in front of a past by whom nothing is missing is not by it
-pub none_since : (number : ℕ) (since seen : List Entry)
+none_since : (number : ℕ) (since seen : List Entry)
     → entries_by seat_of number (since ++ seen) ≡ entries_by seat_of number seen
     → entries_by seat_of number since ≡ []
 none_since number since seen same =
@@ -99,6 +99,16 @@ none_since number since seen same =
         let longer = length-append (x ∷ xs) (entries_by seat_of number seen) in
         let same_length = ap length is in
         absurd (omega (arith, longer, same_length))
+
+-- what is behind what was seen, where nothing of it is the reader's
+pub only_grows : (key : Key) (since seen history : List Entry) → history ≡ since ++ seen
+    → entries_by seat_of 0 history ≡ entries_by seat_of 0 seen
+    → OnlyAccepts (left_state key seen) (left_state key history)
+only_grows key since seen history is same =
+    subst (λ (h : List Entry). OnlyAccepts (left_state key seen) (left_state key h)) (sym is)
+    (only_accepts key since seen
+    (none_since 0 since seen
+    (subst (λ (h : List Entry). entries_by seat_of 0 h ≡ entries_by seat_of 0 seen) is same)))
 
 -- two numbers of writers differ where those of their seats do
 same_writer : (a b : ℕ) → eqb (a + 1) (b + 1) ≡ eqb a b
@@ -163,42 +173,21 @@ pub all_accepted : (key : Key) (reading : Reading) (writers : List (Share Entry)
     → IsReading key reading → (finishes : Finishes key reading writers held)
     → read_and_held key reading held
     ≡ whole_from 0 (left_state key finishes.history).accepted
-all_accepted key reading writers held right finishes = by finishes.seen.since finishes.seen.new_is
-  where
-    seen : List Entry
-    seen = reading.account.seen
-
-    by : (since : List Entry) → finishes.history ≡ since ++ seen
-        → read_and_held key reading held
-        ≡ whole_from 0 (left_state key finishes.history).accepted
-    by since is =
-        let none : entries_by seat_of 0 since ≡ []
-        = none_since 0 since seen
-        (subst (λ h. entries_by seat_of 0 h ≡ entries_by seat_of 0 seen) is
-        finishes.no_more_read) in
-        let grown : OnlyAccepts (left_state key seen) (left_state key finishes.history)
-        = subst (λ h. OnlyAccepts (left_state key seen) (left_state key h)) (sym is)
-        (only_accepts key since seen none) in
-        let within : (left_state key seen).read_whole ≤ length (left_state key seen).accepted
-        = read_within key seen right.knows.history.legal in
-        let within_all : (left_state key seen).read_whole ≤ length
-        (left_state key finishes.history).accepted
-        = let e = ap length grown.accepted in
-        let l = length-append (left_state key seen).accepted grown.more in
-        omega (arith, within, e, l) in
-        ap (λ pieces. pieces ++ whole_from (left_state key seen).read_whole held.writes)
-        right.right.whole
-        ∙ (ap (λ writes. whole_from 0
-        (take (left_state key seen).read_whole (left_state key seen).accepted)
-        ++ whole_from (left_state key seen).read_whole writes)
-        (finishes.writes ∙ ap (λ n. drop n (left_state key finishes.history).accepted) grown.read)
-        ∙ (ap (λ writes. whole_from 0 writes ++ whole_from (left_state key seen).read_whole
-        (drop (left_state key seen).read_whole (left_state key finishes.history).accepted))
-        (sym (ap (take (left_state key seen).read_whole) grown.accepted
-        ∙ take-append-le (left_state key seen).read_whole (left_state key seen).accepted grown.more
-        within))
-        ∙ whole_from-cut (left_state key seen).read_whole (left_state key finishes.history).accepted
-        within_all))
+all_accepted key reading writers held right finishes =
+    let seen = left_state key reading.account.seen in
+    let all = left_state key finishes.history in
+    let grown =
+    only_grows key finishes.seen.since reading.account.seen finishes.history finishes.seen.new_is
+    finishes.no_more_read in
+    let within = read_within key reading.account.seen right.knows.history.legal in
+    let longer = ap length grown.accepted in
+    let added = length-append seen.accepted grown.more in
+    let front : take seen.read_whole seen.accepted ≡ take seen.read_whole all.accepted =
+    sym
+    (ap (take seen.read_whole) grown.accepted
+    ∙ take-append-le seen.read_whole seen.accepted grown.more within) in
+    rw (right.right.whole, finishes.writes, grown.read, front)
+    (whole_from-cut seen.read_whole all.accepted (omega (arith, within, longer, added)))
 
 -- what was read and is held is for each writer the bytes of what its entries say was accepted
 pub each_share_is_read_whole_and_once : EachShareIsReadWholeAndOnce

@@ -14,11 +14,6 @@ is_empty-append : (xs ys : List ℕ) → is_empty xs ≡ false → is_empty (xs 
 is_empty-append [] ys some = cc
 is_empty-append (x ∷ xs) ys some = refl
 
--- of any list but the empty one the test for emptiness is false
-pub is_empty_not : (xs : List ℕ) → xs ≢ [] → is_empty xs ≡ false
-is_empty_not [] some = absurd (some refl)
-is_empty_not (x ∷ xs) some = refl
-
 -- a part of another place begins a piece
 begins : (part piece : Part) (past : List Part) → piece.place ≢ part.place
     → with_part part (piece ∷ past) ≡ part ∷ piece ∷ past

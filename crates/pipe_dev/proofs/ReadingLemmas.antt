@@ -28,26 +28,20 @@ use Rattle.pipe_dev.specs.Chain.{AddsPart, AddsNothing, ReadStep, IsNoBlock, tak
 use Rattle.pipe_dev.specs.Finishing.{left_state}
 use Rattle.pipe_dev.specs.Parts.{Part, pieces_of, continued, with_part, whole_from, whole_at}
 use Rattle.pipe_dev.specs.Filling.{IsLeft, IsTakenOut}
-use Rattle.pipe_dev.specs.Parts.{part_of, rest_of}
+use Rattle.pipe_dev.specs.Parts.{is_empty, part_of, rest_of}
 use Rattle.pipe_dev.specs.Reading.{Reading, IsReading, IsRight, IsRest, seen_state, first_reading}
 use Rattle.pipe_dev.specs.Rounds.{Rounds}
-use Rattle.pipe_dev.proofs.LawLemmas.{OnlyAccepts, only_accepts, none_since, read_within}
+use Rattle.pipe_dev.proofs.LawLemmas.{OnlyAccepts, only_grows, read_within}
 use Rattle.pipe_dev.proofs.PartLemmas.{with_part-twice, with_part-next, whole_from-append}
-use Rattle.pipe_dev.proofs.PartLemmas.{reverse-cons, is_empty_not}
+use Rattle.pipe_dev.proofs.PartLemmas.{reverse-cons}
 use Rattle.pipe_dev.proofs.RoundLemmas.{entered_right, entered_legal}
 use Rattle.pipe_dev.proofs.SeatingLemmas.{same_entries, reader_knows}
 
 -- ---- a part and the rest behind it
 
-le-said : (a b : ℕ) → nat_le a b ≡ true → a ≤ b
-le-said a b said = grind (arith, nat_tests)
-
-above-said : (a b : ℕ) → nat_le a b ≡ false → b < a
-above-said a b said = grind (arith, nat_tests)
-
-some_bytes : (bytes : List ℕ) → 0 < length bytes → bytes ≢ []
-some_bytes [] some none = absurd (omega (arith, some))
-some_bytes (byte ∷ bytes) some none = cc
+some_bytes : (bytes : List ℕ) → 0 < length bytes → is_empty bytes ≡ false
+some_bytes [] some = absurd (omega (arith, some))
+some_bytes (byte ∷ bytes) some = refl
 
 -- a rest has bytes
 pub rest_is_some : (most : ℕ) (left : Part) → IsRest (rest_of most left)
@@ -57,9 +51,10 @@ rest_is_some most left = by (nat_le (length left.bytes) most) refl
         → IsRest (if b then None else Some (record left { bytes = drop most left.bytes }))
     by true is = tt
     by false is =
-        let above = above-said (length left.bytes) most is in
+        let above : most < length left.bytes = grind (arith, nat_tests) in
         let dropped = length-drop most left.bytes in
-        some_bytes (drop most left.bytes) (omega (arith, above, dropped))
+        let some = some_bytes (drop most left.bytes) (omega (arith, above, dropped)) in
+        λ none. let empty = ap is_empty none in cc
 
 -- a part, continued by its rest, makes the pieces that both together make
 pub part_and_rest : (most : ℕ) (left : Part) (parts : List Part) → 0 < most
@@ -74,9 +69,10 @@ part_and_rest most left parts some = by (nat_le (length left.bytes) most) refl
         ≡ pieces_of (left ∷ parts)
     by true is =
         ap (λ (bytes : List ℕ). with_part (record left { bytes = bytes }) (pieces_of parts))
-        (take_all most left.bytes (le-said (length left.bytes) most is))
+        (take_all most left.bytes
+        (let low : length left.bytes ≤ most = grind (arith, nat_tests) in low))
     by false is =
-        let above = above-said (length left.bytes) most is in
+        let above : most < length left.bytes = grind (arith, nat_tests) in
         let dropped = length-drop most left.bytes in
         let taken = length-take-le most left.bytes (omega (arith, above)) in
         with_part-twice (part_of most left) (record left { bytes = drop most left.bytes })
@@ -84,34 +80,24 @@ part_and_rest most left parts some = by (nat_le (length left.bytes) most) refl
         record {
           place = refl;
           writer = refl;
-          first_some =
-              is_empty_not (take most left.bytes)
-              (some_bytes (take most left.bytes) (omega (arith, some, taken)));
-          second_some =
-              is_empty_not (drop most left.bytes)
-              (some_bytes (drop most left.bytes) (omega (arith, above, dropped)));
+          first_some = some_bytes (take most left.bytes) (omega (arith, some, taken));
+          second_some = some_bytes (drop most left.bytes) (omega (arith, above, dropped));
         }
         ∙ ap (λ (bytes : List ℕ). with_part (record left { bytes = bytes }) (pieces_of parts))
         (take-append-drop most left.bytes)
 
 -- ---- the state of the direction
 
-abbrev write_in : Write → Option Write → Write
-write_in other None = other
-write_in other (Some write) = write
-
 take_suc : (xs : List Write) (k : ℕ) (x : Write) → slice_get xs k ≡ Some x
     → take (suc k) xs ≡ take k xs ++ x ∷ []
 take_suc [] k x there = cc
-take_suc (y ∷ ys) zero x there = ap (λ z. z ∷ []) (ap (write_in x) there)
+take_suc (y ∷ ys) zero x there = let same : y ≡ x = cc in ap (λ z. z ∷ []) same
 take_suc (y ∷ ys) (suc k) x there = ap (λ zs. y ∷ zs) (take_suc ys k x there)
 
 take_next : (xs : List Write) (k : ℕ) (x : Write) → slice_get xs k ≡ Some x
     → take (k + 1) xs ≡ take k xs ++ x ∷ []
-take_next xs k x there = ap (λ n. take n xs) (one_up k) ∙ take_suc xs k x there
-  where
-    one_up : (n : ℕ) → n + 1 ≡ suc n
-    one_up n = omega arith
+take_next xs k x there =
+    let up : k + 1 ≡ suc k = omega arith in ap (λ n. take n xs) up ∙ take_suc xs k x there
 
 -- an entry that takes no block out reads nothing, and only adds to what was accepted
 no_block_accepts : (key : Key) (past : List Entry) (entry : Entry) → IsNoBlock entry
@@ -144,12 +130,7 @@ since_accepts key entry old new own knows enters =
     let looked = enters.adds.looked in
     let same : entries_by seat_of 0 enters.adds.past ≡ entries_by seat_of 0 old.seen
     = same_entries old.seen enters.adds.past 0 old.shares knows.mine looked.mine own in
-    subst (λ (h : List Entry). OnlyAccepts (left_state key old.seen) (left_state key h))
-    (sym looked.history_is)
-    (only_accepts key looked.since old.seen
-    (none_since 0 looked.since old.seen
-    (subst (λ (h : List Entry). entries_by seat_of 0 h ≡ entries_by seat_of 0 old.seen)
-    looked.history_is same)))
+    only_grows key looked.since old.seen enters.adds.past looked.history_is same
 
 -- ---- one step
 
@@ -173,16 +154,12 @@ nothing_read key old new is adds =
     record {
       own = entered_own key adds.entry old.account new.account 0 adds.entered is.own;
       knows = adds.entered.knows;
-      right = subst (λ (h : List Entry). IsRight (left_state key h) new.parts new.rest)
-          (sym (seen_now key adds.entry old.account new.account adds.entered))
-          (subst (λ (r : Option Part). IsRight (left_state key (adds.entry ∷ past)) new.parts r)
-          (sym adds.rest)
-          (subst (λ (ps : List Part). IsRight (left_state key (adds.entry ∷ past)) ps old.rest)
-          (sym adds.parts)
+      right = rw
+          (seen_now key adds.entry old.account new.account adds.entered, adds.rest, adds.parts)
           (still_right (left_state key past) (left_state key (adds.entry ∷ past)) old.parts old.rest
           (no_block_accepts key past adds.entry adds.no_block)
           (read_within key past (entered_legal key adds.entry old.account new.account adds.entered))
-          (right_before key adds.entry old new.account is adds.entered))));
+          (right_before key adds.entry old new.account is adds.entered));
     }
   where
     past : List Entry
@@ -243,25 +220,19 @@ got_right key old new first is adds = by adds.taken.next
 
     now : (s : PipeState) → IsRight s (part_of adds.room left ∷ old.parts) (rest_of adds.room left)
         → IsRight s new.parts new.rest
-    now s right =
-        subst (λ (r : Option Part). IsRight s new.parts r) (sym adds.taken.rest)
-        (subst (λ (ps : List Part). IsRight s ps (rest_of adds.room left))
-        (sym (adds.parts ∙ ap (λ (p : Part). p ∷ old.parts) adds.taken.part_is)) right)
+    now s right = rw (adds.taken.rest, adds.parts, adds.taken.part_is) right
 
     by : IsLeft (taker_in old) left (taker_in new)
         ⊎ IsTakenOut key (taker_in old) left (taker_in new)
         → IsReading key new
     by (inl goes) =
         record {
-          own = subst (λ (a : Account Entry). IsTrue (has_number a.shares 0)) (sym goes.account)
-              is.own;
-          knows = subst (λ (a : Account Entry). KnowsQueue key a) (sym goes.account) is.knows;
-          right = subst (λ (a : Account Entry). IsRight (left_state key a.seen) new.parts new.rest)
-              (sym goes.account)
+          own = rw goes.account is.own;
+          knows = rw goes.account is.knows;
+          right = rw goes.account
               (now (seen_state key old)
               (goes_on_right (seen_state key old) left old.parts adds.room adds.some_room
-              (subst (λ (r : Option Part). IsRight (seen_state key old) old.parts r) goes.left_is
-              is.right)));
+              (rw goes.left_is at is.right)));
         }
     by (inr takes) =
         let enters = takes.taken in
@@ -275,14 +246,11 @@ got_right key old new first is adds = by adds.taken.next
         record {
           own = entered_own key entry old.account new.account 0 enters is.own;
           knows = enters.knows;
-          right = subst (λ (h : List Entry). IsRight (left_state key h) new.parts new.rest)
-              (sym (seen_now key entry old.account new.account enters))
+          right = rw (seen_now key entry old.account new.account enters)
               (now (left_state key (entry ∷ enters.adds.past))
               (takes_right key enters.adds.past left old.parts adds.room adds.some_room
               right.may.next (omega (arith, begun, number, first))
-              (subst (λ (r : Option Part). IsRight (left_state key enters.adds.past) old.parts r)
-              takes.none_left
-              (right_before key entry old new.account is enters))));
+              (rw takes.none_left at (right_before key entry old new.account is enters))));
         }
 
 one_step : (key : Key) (old new : Reading) → key.first ≡ 0 → IsReading key old

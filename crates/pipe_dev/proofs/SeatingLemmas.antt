@@ -113,10 +113,14 @@ new_writes queue row (seat ∷ seats) all = (
 )
 
 -- write ends made with the queue and the Rendez of a read end are of one direction with it
-pub new_one : (read : ReadSide) (seats : List PutSeat)
-    → AllByRecursion (AreOfOne read) (map (side_of read.queue read.row) seats)
-new_one read [] = tt
-new_one read (seat ∷ seats) = (record { queue = refl; row = refl }, new_one read seats)
+pub new_one : (read : ReadSide) (queue : Queue) (row : Row) (seats : List PutSeat)
+    → read.queue ≡ queue → read.row ≡ row
+    → AllByRecursion (AreOfOne read) (map (side_of queue row) seats)
+new_one read queue row [] same same_row = tt
+new_one read queue row (seat ∷ seats) same same_row = (
+  record { queue = sym same; row = sym same_row },
+  new_one read queue row seats same same_row,
+)
 
 -- write ends made of seats are in the order of the seats' writers
 pub new_order : (queue : Queue) (row : Row) (seats : List PutSeat)

@@ -76,14 +76,8 @@ impl<'p> End<'p> {
     }
 }
 
-// Both sides of one direction.
-#[derive(Drop)]
-struct Sides<'p> {
-    read: ReadEnd<'p>,
-    writes: Vec<WriteEnd<'p>>,
-}
-
-fn make_ends<'p>(queue: &'p Queue, start: DirectionStart<'p>) -> Sides<'p>
+// Where one direction is read and written.
+fn make_ends<'p>(queue: &'p Queue, start: DirectionStart<'p>) -> Parts<'p>
     requires start { IsDirectionStartOf queue.now start }
     ensures ends { AreNewEnds queue.entry.now start.entry.row result.read result.writes.items }
 {
@@ -97,7 +91,7 @@ fn make_ends<'p>(queue: &'p Queue, start: DirectionStart<'p>) -> Sides<'p>
         seat: take,
         rest: None,
     };
-    Sides {
+    Parts {
         read: ReadEnd::new(queue, row, cursor),
         writes: seat_writers(queue, row, puts, room),
     }

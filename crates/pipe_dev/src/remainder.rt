@@ -41,8 +41,8 @@ pub(crate) struct Delivery {
 
 impl Remainder {
     ghost use Rattle.std.specs.Prelude.{◌≡◌, ◌≢◌, ◌≤◌, ◌<◌, [], length, IfOk};
+    ghost use Rattle.pipe_dev.specs.Filling.{IsFilledBy};
     ghost use Rattle.pipe_dev.specs.Parts.{part_of, rest_of};
-    ghost use Rattle.pipe_dev.specs.ReadCalls.{IsFilled};
 
     /// A write of which nothing was read.
     pub(crate) fn whole(block: Piece, writer: u64, place: u64) -> Remainder
@@ -58,7 +58,7 @@ impl Remainder {
 
     /// Gives the buffer what it has room for. Each byte is copied once.
     pub(crate) fn give(self, buffer: &mut [u8]) -> Delivery
-        ensures filled { IsFilled (part_of (length buffer.old) self) buffer.old buffer.new
+        ensures filled { IsFilledBy (part_of (length buffer.old) self).bytes buffer.old buffer.new
             result.count }
         ensures left { result.left ≡ rest_of (length buffer.old) self }
     {

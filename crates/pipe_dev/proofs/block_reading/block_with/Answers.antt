@@ -12,26 +12,9 @@ use Rattle.pipe_dev.proofs.block_reading.block_with.Goals as goal
 
 pub returns-clause-asked : goal.returns-clause-asked
 returns-clause-asked g c =
-    let key = key_of c.args.queue.now in
-    let row = c.args.row.now in
-    let W : RendezId → List ℕ → List ℕ → Type 0 =
-    λ rendez old new. Waited (waits_by (AsksForBlock key row)) rendez
-    (point (lending_with c.args.cursor old) c.args.proc.now) c.wait_for-answer.result
-    (point (lending_with c.wait_for-answer.new.seat.cursor new) c.wait_for-answer.new.proc) in
-    subst (λ rendez. W rendez c.args.block.now.items c.replace-none.new.dest.items)
-    c.reader-rendez.ensures
-    (subst (λ block. W c.reader-rendez.result block.items c.replace-none.new.dest.items)
-    c.replace-lent.ensures.value
-    (subst (λ block. W c.reader-rendez.result c.replace-lent.result.items block.items)
-    (sym c.replace-none.ensures.after)
-    (waited_seen lending_in (waits_by (AsksForBlock key row)) c.reader-rendez.result
-    (record {
-      seat = record { cursor = c.args.cursor; block = c.replace-lent.result };
-      process = c.args.proc.now.process;
-    })
-    c.wait_for-answer.result
-    (record {
-      seat = c.wait_for-answer.new.seat;
-      process = c.wait_for-answer.new.proc.process;
-    })
-    c.wait_for-answer.ensures.waited)))
+    let answer = c.wait_for-answer in
+    rw (c.reader-rendez.ensures, c.replace-lent.ensures.value, ← c.replace-none.ensures.after) at
+    (waited_seen lending_in (waits_by (AsksForBlock (key_of c.args.queue.now) c.args.row.now))
+    c.reader-rendez.result
+    (point (record { cursor = c.args.cursor; block = c.replace-lent.result }) c.args.proc.now)
+    answer.result (point answer.new.seat answer.new.proc) answer.ensures.waited)

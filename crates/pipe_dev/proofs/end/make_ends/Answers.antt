@@ -3,7 +3,7 @@ use Rattle.std.proofs.Common.{◌≡◌, sym, ap, subst, ◌∙◌, map}
 use Rattle.histories.specs.Account.{numbers_from}
 use Rattle.histories.proofs.ListLemmas.{all_weaker}
 use Rattle.std.specs.List.{AllByRecursion}
-use Rattle.pipe_dev.specs.Ends.{ReadSide, WriteSide, AreOfOne}
+use Rattle.pipe_dev.specs.Ends.{WriteSide, AreOfOne}
 use Rattle.pipe_dev.specs.Openings.{IsNewWriteEnd, IsSeatToGive}
 use Rattle.pipe_dev.specs.Seating.{side_of, IsWriteSeatOf}
 use Rattle.pipe_dev.proofs.SeatingLemmas.{new_writes, new_one, new_order}
@@ -24,25 +24,6 @@ returns c =
     let start = c.requires.start in
     let seated : c.seat_writers.result.items ≡ map (side_of queue row) seats =
     c.seat_writers.ensures.seated in
-    let side : ReadSide =
-    record {
-      queue = queue;
-      row = row;
-      account = c.new.result.account;
-      rest =
-          c.new.result.rest;
-    } in
-    let side_is : side ≡ c.new.result
-    = ap (λ q. record
-    { queue = q; row = row; account = c.new.result.account; rest = c.new.result.rest })
-    (sym c.new.ensures.queue)
-    ∙ ap (λ r. record {
-      queue = c.new.result.queue;
-      row = r;
-      account = c.new.result.account;
-      rest =
-          c.new.result.rest;
-    }) (sym c.new.ensures.row) in
     record {
       ends = record {
         queue_is = c.new.ensures.queue;
@@ -53,9 +34,8 @@ returns c =
             subst (AllByRecursion (IsNewWriteEnd queue row)) (sym seated)
             (new_writes queue row seats start.writes);
         all = record {
-          one = subst (λ (r : ReadSide). AllByRecursion (AreOfOne r) c.seat_writers.result.items)
-              side_is
-              (subst (AllByRecursion (AreOfOne side)) (sym seated) (new_one side seats));
+          one = subst (AllByRecursion (AreOfOne c.new.result)) (sym seated)
+              (new_one c.new.result queue row seats c.new.ensures.queue c.new.ensures.row);
           order = ap (map (λ (w : WriteSide). w.writer)) seated ∙ (new_order queue row seats
               ∙ (start.order ∙ ap (λ r. numbers_from 0 r.writers) (sym c.new.ensures.row)));
         };

@@ -17,10 +17,7 @@ returns-in-Some-clause-next c =
         part_is = refl;
         rest = c.give-count.ensures.left;
       };
-      filled = record {
-        count_is = c.give-count.ensures.filled.count_is;
-        bytes_are = c.give-count.ensures.filled.bytes;
-      };
+      filled = c.give-count.ensures.filled;
       number_is = ap (λ (r : Option Part). number_of r part) c.in-Some.ensures.value;
     }
 
@@ -44,10 +41,7 @@ returns-in-Block-clause-next c =
         part_is = refl;
         rest = c.give-count-in-Block.ensures.left;
       };
-      filled = record {
-        count_is = c.give-count-in-Block.ensures.filled.count_is;
-        bytes_are = c.give-count-in-Block.ensures.filled.bytes;
-      };
+      filled = c.give-count-in-Block.ensures.filled;
       number_is =
           ap Some
           (whole_number key old new c.in-Block.writer c.in-Block.block c.in-Block.number whole

@@ -1,10 +1,10 @@
 -- It was answered at once, or was told to wait, and waited.
-use Rattle.std.proofs.Common.{inr, sym, subst}
+use Rattle.std.proofs.Common.{inr}
 use Rattle.block_queue.specs.Seats.{key_of}
 use Rattle.waiting.specs.Waiting.{point, told}
 use Rattle.pipe_dev.specs.FillSteps.{lending_with}
 use Rattle.pipe_dev.specs.ReadCalls.{AsksForBytes, reading}
-use Rattle.pipe_dev.specs.Rendezes.{OwnsRow, reader_rendez}
+use Rattle.pipe_dev.specs.Rendezes.{reader_rendez}
 use Rattle.timer_list.proofs.UntimedLemmas.{sleeps}
 use Rattle.pipe_dev.proofs.AskedLemmas.{is_asked_read}
 use Rattle.pipe_dev.proofs.reading.read_with.Goals as goal
@@ -12,7 +12,7 @@ use Rattle.pipe_dev.proofs.reading.read_with.Goals as goal
 pub sleep_for_bytes-ending-requires-clause-kernel :
     goal.sleep_for_bytes-ending-requires-clause-kernel
 sleep_for_bytes-ending-requires-clause-kernel g c =
-    subst (λ w. OwnsRow w c.args.row.now) (sym c.ask_for_bytes.ensures.words) c.requires.kernel
+    rw c.ask_for_bytes.ensures.words c.requires.kernel
 
 pub returns-in-NotYet-clause-asked : goal.returns-in-NotYet-clause-asked
 returns-in-NotYet-clause-asked g c =

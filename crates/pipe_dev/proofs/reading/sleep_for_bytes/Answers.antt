@@ -1,7 +1,5 @@
 -- Each way out of the wait, from the rounds before it.
-use Rattle.std.proofs.Common.{suc, refl, sym, ◌∙◌, subst, arith}
-use Rattle.sleep_wakeup.specs.Calls.{WhyNotSlept}
-use Rattle.sleep_wakeup.specs.Actions.{SleepsWell}
+use Rattle.std.proofs.Common.{suc, refl, ◌∙◌, arith}
 use Rattle.waiting.specs.Waiting.{told}
 use Rattle.waiting.proofs.RoundLemmas.{fails_asleep}
 use Rattle.pipe_dev.specs.FillSteps.{lending_with}
@@ -12,7 +10,7 @@ pub returns-in-Err-clause-slept : goal.returns-in-Err-clause-slept
 returns-in-Err-clause-slept g c =
     let row = c.args.row.now in
     let kept = c.reading.invariant in
-    let has = subst (λ w. OwnsRow w row) (sym kept.words) c.requires.kernel in
+    let has : OwnsRow c.reading.proc.words row = rw kept.words c.requires.kernel in
     record {
       times = kept.times;
       last = told (lending_with c.reading.cursor c.reading.buffer) c.reading.proc c.reading.number;
@@ -20,9 +18,7 @@ returns-in-Err-clause-slept g c =
       ends = record {
         failed = fails_asleep c.reading.proc.words c.reading.proc.process (reader_rendez row)
             c.reading.number c.sleep.new.self.process c.in-Err.why (omega (arith, has)) kept.low
-            (subst (λ r. WhyNotSlept c.reading.proc.words c.reading.proc.process r
-            c.reading.number c.sleep.new.self.process c.in-Err.why) c.reader.ensures
-            c.in-Err.ensures.fault);
+            (rw c.reader.ensures at c.in-Err.ensures.fault);
         left = (c.requires.set, refl);
       };
     }
@@ -35,8 +31,7 @@ returns-in-Answered-clause-slept g c =
       rounds = c.reading.invariant.rounds;
       ends = record {
         woken = c.sleep.new.self.process;
-        slept = subst (λ r. SleepsWell c.reading.proc.process r c.reading.number
-            c.sleep.new.self.process) c.reader.ensures c.in-Ok.ensures.slept;
+        slept = rw c.reader.ensures at c.in-Ok.ensures.slept;
         asked = (c.requires.set, c.in-Answered.ensures.asked);
       };
     }
@@ -56,8 +51,7 @@ reading-preserved g c =
         rounds = kept.rounds;
         last = record {
           woken = c.sleep.new.self.process;
-          slept = subst (λ r. SleepsWell c.reading.proc.process r c.reading.number
-              c.sleep.new.self.process) c.reader.ensures c.in-Ok.ensures.slept;
+          slept = rw c.reader.ensures at c.in-Ok.ensures.slept;
           asked = (c.requires.set, c.in-NotYet.ensures.asked);
         };
       };

@@ -17,8 +17,7 @@ use Rattle.pipe_dev.proofs.reading_within.read_in_time.Goals as goal
 pub sleep_for_bytes-ending-requires-clause-kernel :
     goal.sleep_for_bytes-ending-requires-clause-kernel
 sleep_for_bytes-ending-requires-clause-kernel g c =
-    subst (λ w. OwnsRow w c.args.row.now) (sym c.ask_for_bytes.ensures.words)
-    c.requires.kernel
+    rw c.ask_for_bytes.ensures.words c.requires.kernel
 
 pub sleep_for_bytes-ending-requires-clause-set : goal.sleep_for_bytes-ending-requires-clause-set
 sleep_for_bytes-ending-requires-clause-set g c = c.add.ensures.asks.seat
@@ -26,11 +25,8 @@ sleep_for_bytes-ending-requires-clause-set g c = c.add.ensures.asks.seat
 pub end_within-requires-clause-rendez : goal.end_within-requires-clause-rendez
 end_within-requires-clause-rendez g c =
     let kernel = c.requires.kernel in
-    subst (λ rendez. rendez.0 < rendez_of c.sleep_for_bytes-ending.new.proc.words)
-    (sym c.reader.ensures)
-    (subst (λ words. c.args.row.now.first < rendez_of words)
-    (sym (c.sleep_for_bytes-ending.ensures.words ∙ c.ask_for_bytes.ensures.words))
-    (omega (arith, kernel)))
+    rw (c.reader.ensures, c.sleep_for_bytes-ending.ensures.words, c.ask_for_bytes.ensures.words)
+    (omega (arith, kernel))
 
 pub end_within-requires-clause-set : goal.end_within-requires-clause-set
 end_within-requires-clause-set g c = c.add.ensures.asks.seat
@@ -44,10 +40,7 @@ returns-in-NotYet-clause-waited g c =
     let timers = c.args.timers.now in
     let set = c.add.new.seat in
     let slept = c.sleep_for_bytes-ending in
-    let ended = subst
-    (λ rendez. EndsInTime rendez timers set slept.result slept.new.proc.process
-    c.end_within.result c.end_within.new.timer c.end_within.new.proc.process)
-    c.reader.ensures c.end_within.ensures.ended in
+    let ended = rw c.reader.ensures at c.end_within.ensures.ended in
     let pid : Pid = record { 0 = c.args.proc.now.process.pid } in
     let moment = deadline_of c.args.now c.args.ms in
     let added : AsksTimers timers true (Add (number_of c.args.timer.now.seat) pid moment) Added
@@ -55,11 +48,7 @@ returns-in-NotYet-clause-waited g c =
     subst
     (λ p. AsksTimers timers true (Add (number_of c.args.timer.now.seat) p moment) Added
     c.args.timer.now set)
-    (ap (λ n. record { 0 = n }) c.pid-pid.ensures)
-    (subst
-    (λ d. AsksTimers timers true (Add (number_of c.args.timer.now.seat) c.pid-pid.result d) Added
-    c.args.timer.now set)
-    c.deadline.ensures c.add.ensures.asks) in
+    (ap (λ n. record { 0 = n }) c.pid-pid.ensures) (rw c.deadline.ensures at c.add.ensures.asks) in
     inr (record {
       first = told (lending_with c.ask_for_bytes.new.cursor c.ask_for_bytes.new.buffer)
           c.ask_for_bytes.new.proc c.in-NotYet.number;
@@ -71,8 +60,5 @@ returns-in-NotYet-clause-waited g c =
       slept = slept.ensures.slept;
       ended = ended;
       taken = λ is. took_it timers moment pid c.args.timer.now set c.end_within.new.timer
-          c.requires.timer.opened added
-          (subst
-          (λ b. AsksTimers timers false (Cancel (number_of set.seat)) (cancel_reply b) set
-          c.end_within.new.timer) is ended.cancelled);
+          c.requires.timer.opened added (rw is at ended.cancelled);
     })

@@ -11,16 +11,10 @@ use Rattle.pipe_dev.proofs.writing.write_with.Goals as goal
 pub returns-clause-asked : goal.returns-clause-asked
 returns-clause-asked g c =
     let seat = c.args.putting.now.seat in
-    let call : ℕ → WriteCall =
-    λ writer. record (call_with c.args.queue.now c.args.row.now seat c.args.bytes.now) {
-      writer = writer;
+    let call : WriteCall = record (call_with c.args.queue.now c.args.row.now seat c.args.bytes.now) {
+      writer = c.writer-writer.result;
     } in
-    let W : ℕ → RendezId → Type 0 =
-    λ writer rendez. Waited (writing (call writer)) rendez (writer_with seat c.args.proc.now)
-    c.wait_for.result (writer_with c.wait_for.new.seat.seat c.wait_for.new.proc) in
-    subst (λ (writer : ℕ). W writer (writer_rendez c.args.row.now writer))
-    c.writer-writer.ensures
-    (subst (W c.writer-writer.result) c.writer-rendez.ensures
-    (waited_seen account_in (writing (call c.writer-writer.result)) c.writer-rendez.result
+    rw (c.writer-rendez.ensures, c.writer-writer.ensures) at
+    (waited_seen account_in (writing call) c.writer-rendez.result
     (point c.args.putting.now c.args.proc.now) c.wait_for.result
-    (point c.wait_for.new.seat c.wait_for.new.proc) c.wait_for.ensures.waited))
+    (point c.wait_for.new.seat c.wait_for.new.proc) c.wait_for.ensures.waited)

@@ -12,20 +12,13 @@ use Rattle.pipe_dev.proofs.writing_within.write_in_time.Goals as goal
 
 pub returns-clause-waited : goal.returns-clause-waited
 returns-clause-waited g c =
-    let putting = c.args.putting.now in
-    let call : ℕ → WriteCall =
-    λ writer. record (call_with c.args.queue.now c.args.row.now putting.seat c.args.bytes.now) {
-      writer = writer;
+    let seat = c.args.putting.now.seat in
+    let call : WriteCall = record (call_with c.args.queue.now c.args.row.now seat c.args.bytes.now) {
+      writer = c.writer-writer.result;
     } in
-    let moment = deadline_of c.args.now c.args.ms in
     let ended = c.wait_within in
-    let W : ℕ → RendezId → Type 0 =
-    λ writer rendez. WaitedInTime (writing (call writer)) rendez c.args.timers.now moment
-    (timed_point (put_account putting.seat) c.args.timer.now c.args.proc.now) ended.result
-    (timed_point (put_account ended.new.seat.seat) ended.new.timer ended.new.proc) in
-    subst (λ (writer : ℕ). W writer (writer_rendez c.args.row.now writer))
-    c.writer-writer.ensures
-    (subst (W c.writer-writer.result) c.writer-rendez.ensures
-    (in_time_seen account_in (writing (call c.writer-writer.result)) c.writer-rendez.result
-    c.args.timers.now moment (timed_point putting c.args.timer.now c.args.proc.now) ended.result
-    (timed_point ended.new.seat ended.new.timer ended.new.proc) ended.ensures.waited))
+    rw (c.writer-rendez.ensures, c.writer-writer.ensures) at
+    (in_time_seen account_in (writing call) c.writer-rendez.result c.args.timers.now
+    (deadline_of c.args.now c.args.ms)
+    (timed_point c.args.putting.now c.args.timer.now c.args.proc.now) ended.result
+    (timed_point ended.new.seat ended.new.timer ended.new.proc) ended.ensures.waited)
