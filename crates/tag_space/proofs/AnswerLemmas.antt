@@ -1,5 +1,5 @@
 -- After a history of a tag space each call has one answer.
-use Rattle.std.proofs.Common.{◌≡◌, ℕ, ◌+◌, List, refl, sym, ap, ◌∙◌, arith}
+use Rattle.std.proofs.Common.{◌≡◌, ℕ, ◌+◌, List, sym, ap, ◌∙◌, arith}
 use Rattle.sync_base.specs.declared.ids.Tag.{Tag}
 use Rattle.tag_space.specs.declared.calls.GroupCall.{GroupCall}
 use Rattle.tag_space.specs.declared.calls.GroupCall.TheVariants.{Call, Collect, Leave}
@@ -44,78 +44,38 @@ module _ (space : Space) (past : List Entry) (apart : WaitApart past) where
   one_call member tag value (Met g m i) (Wait j) a b = absurd (b.1 m a.1.offer a.1.waits a.1.tag_is)
   one_call member tag value (Met g m i) Worn a b = absurd (b.1 m a.1.offer a.1.waits a.1.tag_is)
   one_call member tag value (Met g m i) Busy a b = absurd (b a.0)
-  one_call member tag value (Met g m i) (WasMet h) a b = absurd b
-  one_call member tag value (Met g m i) Gone a b = absurd b
   one_call member tag value (Wait i) (Met h n j) a b = absurd (a.1 n b.1.offer b.1.waits b.1.tag_is)
   one_call member tag value (Wait i) (Wait j) a b = ap (λ k. Wait k) (a.2 ∙ sym b.2)
   one_call member tag value (Wait i) Worn a b = absurd (a.3 (a.2 ∙ b.2))
   one_call member tag value (Wait i) Busy a b = absurd (b a.0)
-  one_call member tag value (Wait i) (WasMet h) a b = absurd b
-  one_call member tag value (Wait i) Gone a b = absurd b
   one_call member tag value Worn (Met h n j) a b = absurd (a.1 n b.1.offer b.1.waits b.1.tag_is)
   one_call member tag value Worn (Wait j) a b = absurd (b.3 (b.2 ∙ a.2))
-  one_call member tag value Worn Worn a b = refl
   one_call member tag value Worn Busy a b = absurd (b a.0)
-  one_call member tag value Worn (WasMet h) a b = absurd b
-  one_call member tag value Worn Gone a b = absurd b
   one_call member tag value Busy (Met h n j) a b = absurd (a b.0)
   one_call member tag value Busy (Wait j) a b = absurd (a b.0)
   one_call member tag value Busy Worn a b = absurd (a b.0)
-  one_call member tag value Busy Busy a b = refl
-  one_call member tag value Busy (WasMet h) a b = absurd b
-  one_call member tag value Busy Gone a b = absurd b
-  one_call member tag value (WasMet g) second a b = absurd a
-  one_call member tag value Gone second a b = absurd a
+  one_call member tag value first second a b = first_of (cc, grind arith)
 
   one_collect : (member : ℕ) (first second : GroupReply) →
       IsAnswered space past (Collect member) first → IsAnswered space past (Collect member) second →
       first ≡ second
   one_collect member (WasMet g) (WasMet h) a b = one_told member g h a.1 b.1
   one_collect member (WasMet g) (Wait j) a b = absurd (b.0.none a.1.pair a.1.paired)
-  one_collect member (WasMet g) Busy a b = absurd (omega (arith, a.0, b))
-  one_collect member (WasMet g) (Met h n j) a b = absurd b
-  one_collect member (WasMet g) Worn a b = absurd b
-  one_collect member (WasMet g) Gone a b = absurd b
   one_collect member (Wait i) (WasMet h) a b = absurd (a.0.none b.1.pair b.1.paired)
   one_collect member (Wait i) (Wait j) a b = ap (λ k. Wait k) (a.1 ∙ sym b.1)
   one_collect member (Wait i) Busy a b = absurd (omega (arith, a.0.exists, b))
-  one_collect member (Wait i) (Met h n j) a b = absurd b
-  one_collect member (Wait i) Worn a b = absurd b
-  one_collect member (Wait i) Gone a b = absurd b
-  one_collect member Busy (WasMet h) a b = absurd (omega (arith, b.0, a))
   one_collect member Busy (Wait j) a b = absurd (omega (arith, b.0.exists, a))
-  one_collect member Busy Busy a b = refl
-  one_collect member Busy (Met h n j) a b = absurd b
-  one_collect member Busy Worn a b = absurd b
-  one_collect member Busy Gone a b = absurd b
-  one_collect member (Met g m i) second a b = absurd a
-  one_collect member Worn second a b = absurd a
-  one_collect member Gone second a b = absurd a
+  one_collect member first second a b = first_of (cc, grind arith)
 
   one_leave : (member : ℕ) (first second : GroupReply) →
       IsAnswered space past (Leave member) first → IsAnswered space past (Leave member) second →
       first ≡ second
   one_leave member (WasMet g) (WasMet h) a b = one_told member g h a.1 b.1
   one_leave member (WasMet g) Gone a b = absurd (b.none a.1.pair a.1.paired)
-  one_leave member (WasMet g) Busy a b = absurd (omega (arith, a.0, b))
-  one_leave member (WasMet g) (Met h n j) a b = absurd b
-  one_leave member (WasMet g) (Wait j) a b = absurd b
-  one_leave member (WasMet g) Worn a b = absurd b
   one_leave member Gone (WasMet h) a b = absurd (a.none b.1.pair b.1.paired)
-  one_leave member Gone Gone a b = refl
   one_leave member Gone Busy a b = absurd (omega (arith, a.exists, b))
-  one_leave member Gone (Met h n j) a b = absurd b
-  one_leave member Gone (Wait j) a b = absurd b
-  one_leave member Gone Worn a b = absurd b
-  one_leave member Busy (WasMet h) a b = absurd (omega (arith, b.0, a))
   one_leave member Busy Gone a b = absurd (omega (arith, b.exists, a))
-  one_leave member Busy Busy a b = refl
-  one_leave member Busy (Met h n j) a b = absurd b
-  one_leave member Busy (Wait j) a b = absurd b
-  one_leave member Busy Worn a b = absurd b
-  one_leave member (Met g m i) second a b = absurd a
-  one_leave member (Wait i) second a b = absurd a
-  one_leave member Worn second a b = absurd a
+  one_leave member first second a b = first_of (cc, grind arith)
 
   -- each call has one answer
   pub one_answer : (call : GroupCall) (first second : GroupReply) →

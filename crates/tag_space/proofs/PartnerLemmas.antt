@@ -42,24 +42,13 @@ made_is_call : (history : List Entry) (offer : Offer) → IsMade history offer
     → IsOneOfCalls offer (calls_by offer.member history)
 made_is_call [] offer made = made
 made_is_call (entry ∷ past) offer (inl here) =
-    let others = calls_by offer.member past in
-    let call : GroupCall = Call offer.member (record { 0 = offer.tag }) offer.value in
-    let newest : call_made (length past) offer.member call others
-    ≡ record { number = length past; member = offer.member; tag = offer.tag; value = offer.value } ∷
-    others
-    = rw (yes offer.member) refl in
-    let its : record {
-      number = length past;
+    let numbered : ℕ → Offer = λ n. record {
+      number = n;
       member = offer.member;
       tag = offer.tag;
-      value =
-          offer.value;
-    } ≡ offer
-    = ap (λ n. record { number = n; member = offer.member; tag = offer.tag; value = offer.value })
-    (sym here.0) in
-    subst (IsOneOfCalls offer)
-    (sym (ap (λ request. call_made (length past) offer.member request others) here.1 ∙ newest))
-    (inl its)
+      value = offer.value;
+    } in
+    rw here.1 (rw (yes offer.member) (inl (ap numbered (sym here.0))))
 made_is_call (entry ∷ past) offer (inr before) =
     more_calls offer (length past) offer.member entry.request (calls_by offer.member past)
     (made_is_call past offer before)
@@ -71,56 +60,51 @@ of_pair P pair [] all is = absurd is
 of_pair P pair (other ∷ pairs) all (inl is) = subst P is all.0
 of_pair P pair (other ∷ pairs) all (inr more) = of_pair P pair pairs all.1 more
 
+-- a call of the pair has this number
+abbrev HasNumber : ℕ → Pair → Type 0
+HasNumber number pair = (pair.waiting.number ≡ number) ⊎ (pair.finding.number ≡ number)
+
 -- and what is true of each number in pairs is true of the numbers of its calls
-of_numbers : (P : ℕ → Type 0) (pair : Pair) (pairs : List Pair) →
+of_number : (P : ℕ → Type 0) (pair : Pair) (pairs : List Pair) →
     AllByRecursion P (numbers_in pairs)
-    → IsOneOfPairs pair pairs → P pair.waiting.number × P pair.finding.number
-of_numbers P pair [] all is = absurd is
-of_numbers P pair (other ∷ pairs) all (inl is) = (
-  subst (λ (p : Pair). P p.waiting.number) is all.0,
-  subst (λ (p : Pair). P p.finding.number) is all.1.0,
-)
-of_numbers P pair (other ∷ pairs) all (inr more) = of_numbers P pair pairs all.1.1 more
+    → IsOneOfPairs pair pairs → (number : ℕ) → HasNumber number pair → P number
+of_number P pair [] all is number has = absurd is
+of_number P pair (other ∷ pairs) all (inl is) number (inl waiting) =
+    subst P (ap (λ (p : Pair). p.waiting.number) is ∙ waiting) all.0
+of_number P pair (other ∷ pairs) all (inl is) number (inr finding) =
+    subst P (ap (λ (p : Pair). p.finding.number) is ∙ finding) all.1.0
+of_number P pair (other ∷ pairs) all (inr more) number has =
+    of_number P pair pairs all.1.1 more number has
 
--- the call is one of the pair
-abbrev IsSide : Offer → Pair → Type 0
-IsSide offer pair = (pair.waiting ≡ offer) ⊎ (pair.finding ≡ offer)
-
-side_of : (offer : Offer) (given : ℕ) (pair : Pair) → Exchanges offer given pair → IsSide offer pair
-side_of offer given pair (inl first) = inl first.0
-side_of offer given pair (inr second) = inr second.0
+-- the call of an exchange has its number in the pair
+number_of_call : (offer : Offer) (given : ℕ) (pair : Pair) → Exchanges offer given pair
+    → HasNumber offer.number pair
+number_of_call offer given pair (inl first) = inl (ap (λ (o : Offer). o.number) first.0)
+number_of_call offer given pair (inr second) = inr (ap (λ (o : Offer). o.number) second.0)
 
 -- a call of a pair is in none of the others
-not_again : (offer : Offer) (here there : Pair) (pairs : List Pair)
-    → AreDifferent (numbers_in (here ∷ pairs)) → IsOneOfPairs there pairs → IsSide offer here
-    → IsSide offer there → ⊥
-not_again offer here there pairs different is (inl first) (inl second) =
-    (of_numbers (λ n. here.waiting.number ≢ n) there pairs different.0.1 is).0
-    (ap (λ (o : Offer). o.number) (first ∙ sym second))
-not_again offer here there pairs different is (inl first) (inr second) =
-    (of_numbers (λ n. here.waiting.number ≢ n) there pairs different.0.1 is).1
-    (ap (λ (o : Offer). o.number) (first ∙ sym second))
-not_again offer here there pairs different is (inr first) (inl second) =
-    (of_numbers (λ n. here.finding.number ≢ n) there pairs different.1.0 is).0
-    (ap (λ (o : Offer). o.number) (first ∙ sym second))
-not_again offer here there pairs different is (inr first) (inr second) =
-    (of_numbers (λ n. here.finding.number ≢ n) there pairs different.1.0 is).1
-    (ap (λ (o : Offer). o.number) (first ∙ sym second))
+not_again : (number : ℕ) (here there : Pair) (pairs : List Pair)
+    → AreDifferent (numbers_in (here ∷ pairs)) → IsOneOfPairs there pairs → HasNumber number here
+    → HasNumber number there → ⊥
+not_again number here there pairs different is (inl waiting) also =
+    of_number (λ n. here.waiting.number ≢ n) there pairs different.0.1 is number also waiting
+not_again number here there pairs different is (inr finding) also =
+    of_number (λ n. here.finding.number ≢ n) there pairs different.1.0 is number also finding
 
 -- a call is in one pair
-one_pair : (offer : Offer) (first second : Pair) (pairs : List Pair)
+one_pair : (number : ℕ) (first second : Pair) (pairs : List Pair)
     → AreDifferent (numbers_in pairs) → IsOneOfPairs first pairs → IsOneOfPairs second pairs
-    → IsSide offer first → IsSide offer second → first ≡ second
-one_pair offer first second [] different is too side also = absurd is
-one_pair offer first second (pair ∷ pairs) different (inl is) (inl too) side also = sym is ∙ too
-one_pair offer first second (pair ∷ pairs) different (inl is) (inr too) side also =
-    absurd (not_again offer pair second pairs different too (subst (IsSide offer) (sym is) side)
-    also)
-one_pair offer first second (pair ∷ pairs) different (inr is) (inl too) side also =
-    absurd (not_again offer pair first pairs different is (subst (IsSide offer) (sym too) also)
-    side)
-one_pair offer first second (pair ∷ pairs) different (inr is) (inr too) side also =
-    one_pair offer first second pairs different.1.1 is too side also
+    → HasNumber number first → HasNumber number second → first ≡ second
+one_pair number first second [] different is too has also = absurd is
+one_pair number first second (pair ∷ pairs) different (inl is) (inl too) has also = sym is ∙ too
+one_pair number first second (pair ∷ pairs) different (inl is) (inr too) has also =
+    absurd (not_again number pair second pairs different too
+    (subst (HasNumber number) (sym is) has) also)
+one_pair number first second (pair ∷ pairs) different (inr is) (inl too) has also =
+    absurd (not_again number pair first pairs different is
+    (subst (HasNumber number) (sym too) also) has)
+one_pair number first second (pair ∷ pairs) different (inr is) (inr too) has also =
+    one_pair number first second pairs different.1.1 is too has also
 
 -- in one pair a call gets one value, since its two calls are of two members
 one_value : (offer : Offer) (first second : ℕ) (pair : Pair)
@@ -137,23 +121,18 @@ one_value offer first second pair members (inr a) (inr b) = a.1 ∙ sym b.1
 pub each_gets_one_value : EachGetsOneValue
 each_gets_one_value space history offer first second legal one two =
     let is = is_space space history legal in
-    let same = one_pair offer one.pair two.pair (pairs_of history) is.once one.is_pair two.is_pair
-    (side_of offer first one.pair one.exchanged) (side_of offer second two.pair two.exchanged) in
+    let same = one_pair offer.number one.pair two.pair (pairs_of history) is.once one.is_pair
+    two.is_pair (number_of_call offer first one.pair one.exchanged)
+    (number_of_call offer second two.pair two.exchanged) in
     let meeting = of_pair (IsMeeting history) two.pair (pairs_of history) is.meetings two.is_pair in
     one_value offer first second two.pair meeting.members
     (subst (Exchanges offer first) same one.exchanged) two.exchanged
 
--- a call in a pair is not alone
-side_is_there : (offer : Offer) (pair : Pair) → IsSide offer pair
-    → (pair.waiting.number ≢ offer.number) × (pair.finding.number ≢ offer.number) → ⊥
-side_is_there offer pair (inl first) apart = apart.0 (ap (λ (o : Offer). o.number) first)
-side_is_there offer pair (inr second) apart = apart.1 (ap (λ (o : Offer). o.number) second)
-
 -- a call that is in a pair is none of those that end alone
 pub paired_is_not_alone : PairedIsNotAlone
 paired_is_not_alone history offer given is alone =
-    side_is_there offer is.pair (side_of offer given is.pair is.exchanged)
-    (of_numbers (λ n. n ≢ offer.number) is.pair (pairs_of history) alone is.is_pair)
+    of_number (λ n. n ≢ offer.number) is.pair (pairs_of history) alone is.is_pair offer.number
+    (number_of_call offer given is.pair is.exchanged) refl
 
 -- a call stands in the history by its member, or one of the others does
 by_caller : (limit number member : ℕ) (offer : Offer) (call : GroupCall) (others : List Offer)

@@ -58,35 +58,70 @@ is_without old new at in_range shorter below above =
           sym (get_or-remove_above old at d k (omega arith) in_range)
     ])
 
+-- places that are equal hold one entry
+same_at : (slots : List TagEntry) (i j : ℕ) (d : TagEntry) → i ≡ j →
+    get_or slots i d ≡ get_or slots j d
+same_at slots i j d same = ap (λ k. get_or slots k d) same
+
 module _ (slots moved : List TagEntry) (first count at n : ℕ) (within : first + count ≤
     length slots) (as_many : length moved ≡ length slots) where
+  -- an entry is put in where the others made room, in a run from this place on
+  put : (from : ℕ) (entry : TagEntry) → from + count < length slots → at ≤ count →
+      ((k : ℕ) (d : TagEntry) → k < at → get_or moved (from + k) d ≡ get_or slots (first + k) d) →
+      ((k : ℕ) (d : TagEntry) → at < k → k ≤ count →
+      get_or moved (from + k) d ≡ get_or slots (first + (k - 1)) d) →
+      run (slice_set moved (from + at) entry) from (count + 1) ≡
+      insert (run slots first count) at entry
+  put from entry room in_range low high =
+      let new : List TagEntry = slice_set moved (from + at) entry in
+      let before = run_length slots first count within in
+      let after : length (run new from (count + 1)) ≡ count + 1 =
+      run_length new from (count + 1) (rw length-set (omega (arith, as_many))) in
+      is_with (run slots first count) (run new from (count + 1)) at entry
+      (omega (arith, before)) (omega (arith, before, after))
+      (λ k d less.
+      read new from (count + 1) k d (omega arith)
+      ∙ get_or-set_other moved (from + at) (from + k) entry d (λ eq. omega arith)
+      ∙ low k d less ∙ sym (read slots first count k d (omega arith)))
+      (λ d. read new from (count + 1) at d (omega arith) ∙
+      get_or-set_same moved (from + at) entry d (omega (arith, as_many)))
+      (λ k d more below.
+      read new from (count + 1) k d (omega (arith, after))
+      ∙ get_or-set_other moved (from + at) (from + k) entry d (λ eq. omega arith)
+      ∙ high k d more (omega (arith, after))
+      ∙ sym (read slots first count (k - 1) d (omega (arith, after))))
+
+  -- an entry is taken out where the others closed up
+  take_out : (from : ℕ) → from + (count - 1) ≤ length slots → at < count →
+      ((k : ℕ) (d : TagEntry) → k < at → get_or moved (from + k) d ≡ get_or slots (first + k) d) →
+      ((k : ℕ) (d : TagEntry) → at ≤ k → k + 1 < count →
+      get_or moved (from + k) d ≡ get_or slots (first + (k + 1)) d) →
+      run moved from (count - 1) ≡ remove (run slots first count) at
+  take_out from room in_range low high =
+      let before = run_length slots first count within in
+      let after : length (run moved from (count - 1)) ≡ count - 1 =
+      run_length moved from (count - 1) (omega (arith, as_many)) in
+      is_without (run slots first count) (run moved from (count - 1)) at
+      (omega (arith, before)) (omega (arith, before, after))
+      (λ k d less.
+      read moved from (count - 1) k d (omega arith) ∙ low k d less
+      ∙ sym (read slots first count k d (omega arith)))
+      (λ k d behind below.
+      read moved from (count - 1) k d (omega (arith, after))
+      ∙ high k d behind (omega (arith, after))
+      ∙ sym (read slots first count (k + 1) d (omega (arith, after))))
+
   -- an entry is put in, and those before it moved down
   pub put_down : (entry : TagEntry) → 0 < first → at ≤ count → n ≡ at →
       CopiedTo slots moved first (first - 1) n → SameFrom slots moved (first - 1 + n) →
       run (slice_set moved (first - 1 + at) entry) (first - 1) (count + 1) ≡
       insert (run slots first count) at entry
   put_down entry room in_range many copied same =
-      let new : List TagEntry = slice_set moved (first - 1 + at) entry in
-      let before = run_length slots first count within in
-      let after : length (run new (first - 1) (count + 1)) ≡ count + 1 =
-      run_length new (first - 1) (count + 1) (rw length-set (omega (arith, as_many))) in
-      is_with (run slots first count) (run new (first - 1) (count + 1)) at entry
-      (omega (arith, before)) (omega (arith, before, after))
-      (λ k d less.
-      read new (first - 1) (count + 1) k d (omega arith)
-      ∙ get_or-set_other moved (first - 1 + at) (first - 1 + k) entry d (λ eq. omega arith)
-      ∙ copied (first - 1 + k) d (omega arith) (omega arith)
-      ∙ ap (λ j. get_or slots j d) {x = first + (first - 1 + k - (first - 1))} {y = first +
-      k} (omega arith)
-      ∙ sym (read slots first count k d (omega arith)))
-      (λ d. read new (first - 1) (count + 1) at d (omega arith) ∙
-      get_or-set_same moved (first - 1 + at) entry d (omega (arith, as_many)))
-      (λ k d more below.
-      read new (first - 1) (count + 1) k d (omega (arith, after))
-      ∙ get_or-set_other moved (first - 1 + at) (first - 1 + k) entry d (λ eq. omega arith)
-      ∙ same (first - 1 + k) d (omega arith)
-      ∙ ap (λ j. get_or slots j d) {x = first - 1 + k} {y = first + (k - 1)} (omega arith)
-      ∙ sym (read slots first count (k - 1) d (omega (arith, after))))
+      put (first - 1) entry (omega arith) in_range
+      (λ k d less. copied (first - 1 + k) d (omega arith) (omega arith)
+      ∙ same_at slots _ _ d (omega arith))
+      (λ k d more below. same (first - 1 + k) d (omega arith)
+      ∙ same_at slots _ _ d (omega arith))
 
   -- an entry is put in, and those behind its place moved up
   pub put_up : (entry : TagEntry) → first + count < length slots → at ≤ count → at + n ≡ count →
@@ -94,66 +129,26 @@ module _ (slots moved : List TagEntry) (first count at n : ℕ) (within : first 
       SameBelow slots moved (first + at + 1) → run (slice_set moved (first + at) entry) first
       (count + 1) ≡ insert (run slots first count) at entry
   put_up entry room in_range many copied same =
-      let new : List TagEntry = slice_set moved (first + at) entry in
-      let before = run_length slots first count within in
-      let after : length (run new first (count + 1)) ≡ count + 1 =
-      run_length new first (count + 1) (rw length-set (omega (arith, as_many))) in
-      is_with (run slots first count) (run new first (count + 1)) at entry (omega (arith, before))
-      (omega (arith, before, after))
-      (λ k d less.
-      read new first (count + 1) k d (omega arith)
-      ∙ get_or-set_other moved (first + at) (first + k) entry d (λ eq. omega arith)
-      ∙ same (first + k) d (omega arith)
-      ∙ sym (read slots first count k d (omega arith)))
-      (λ d. read new first (count + 1) at d (omega arith) ∙
-      get_or-set_same moved (first + at) entry d (omega (arith, as_many)))
-      (λ k d more below.
-      read new first (count + 1) k d (omega (arith, after))
-      ∙ get_or-set_other moved (first + at) (first + k) entry d (λ eq. omega arith)
-      ∙ copied (first + k) d (omega arith) (omega (arith, after))
-      ∙ ap (λ j. get_or slots j d) {x = first + at + (first + k - (first + at + 1))} {y = first +
-      (k - 1)} (omega arith)
-      ∙ sym (read slots first count (k - 1) d (omega (arith, after))))
+      put first entry room in_range (λ k d less. same (first + k) d (omega arith))
+      (λ k d more below. copied (first + k) d (omega arith) (omega arith)
+      ∙ same_at slots _ _ d (omega arith))
 
   -- an entry is taken out, and those before it moved up
   pub take_up : at < count → n ≡ at → CopiedTo slots moved first (first + 1) n →
       SameFrom slots moved (first + 1 + n) → run moved (first + 1) (count - 1) ≡
       remove (run slots first count) at
   take_up in_range many copied same =
-      let before = run_length slots first count within in
-      let after : length (run moved (first + 1) (count - 1)) ≡ count - 1 =
-      run_length moved (first + 1) (count - 1) (omega (arith, as_many)) in
-      is_without (run slots first count) (run moved (first + 1) (count - 1)) at
-      (omega (arith, before)) (omega (arith, before, after))
-      (λ k d less.
-      read moved (first + 1) (count - 1) k d (omega arith)
-      ∙ copied (first + 1 + k) d (omega arith) (omega arith)
-      ∙ ap (λ j. get_or slots j d) {x = first + (first + 1 + k - (first + 1))} {y = first +
-      k} (omega arith)
-      ∙ sym (read slots first count k d (omega arith)))
-      (λ k d from below.
-      read moved (first + 1) (count - 1) k d (omega (arith, after))
-      ∙ same (first + 1 + k) d (omega arith)
-      ∙ ap (λ j. get_or slots j d) {x = first + 1 + k} {y = first + (k + 1)} (omega arith)
-      ∙ sym (read slots first count (k + 1) d (omega (arith, after))))
+      take_out (first + 1) (omega arith) in_range
+      (λ k d less. copied (first + 1 + k) d (omega arith) (omega arith)
+      ∙ same_at slots _ _ d (omega arith))
+      (λ k d behind below. same (first + 1 + k) d (omega arith)
+      ∙ same_at slots _ _ d (omega arith))
 
   -- an entry is taken out, and those behind it moved down
   pub take_down : at < count → at + 1 + n ≡ count →
       CopiedTo slots moved (first + at + 1) (first + at) n → SameBelow slots moved (first + at) →
       run moved first (count - 1) ≡ remove (run slots first count) at
   take_down in_range many copied same =
-      let before = run_length slots first count within in
-      let after : length (run moved first (count - 1)) ≡ count - 1 =
-      run_length moved first (count - 1) (omega (arith, as_many)) in
-      is_without (run slots first count) (run moved first (count - 1)) at (omega (arith, before))
-      (omega (arith, before, after))
-      (λ k d less.
-      read moved first (count - 1) k d (omega arith)
-      ∙ same (first + k) d (omega arith)
-      ∙ sym (read slots first count k d (omega arith)))
-      (λ k d from below.
-      read moved first (count - 1) k d (omega (arith, after))
-      ∙ copied (first + k) d (omega arith) (omega (arith, after))
-      ∙ ap (λ j. get_or slots j d) {x = first + at + 1 + (first + k - (first + at))} {y = first +
-      (k + 1)} (omega arith)
-      ∙ sym (read slots first count (k + 1) d (omega (arith, after))))
+      take_out first (omega arith) in_range (λ k d less. same (first + k) d (omega arith))
+      (λ k d behind below. copied (first + k) d (omega arith) (omega arith)
+      ∙ same_at slots _ _ d (omega arith))

@@ -1,5 +1,5 @@
 -- Two members of a space of two, each with one call: whoever is answered is answered by the other.
-use Rattle.std.proofs.Common.{◌≡◌, ◌≢◌, ◌<◌, ℕ, zero, suc, List, [], ◌∷◌, Result, Ok, Err}
+use Rattle.std.proofs.Common.{◌≡◌, ◌≢◌, ◌<◌, ℕ, List, [], ◌∷◌, Result, Ok, Err}
 use Rattle.std.proofs.Common.{refl, sym, ap, ◌∙◌, subst, arith, inl, inr}
 use Rattle.std.specs.Prelude.{IfOk, OnOk, IsOk}
 use Rattle.histories.specs.History.{IsLegal}
@@ -15,22 +15,6 @@ use Rattle.tag_space.specs.Rendezvous.{Offer, rendezvous}
 use Rattle.tag_space.specs.Spaces.{IsKeptIn}
 use Rattle.tag_space.proofs.PartnerLemmas.{partners_are_calls, pairs_stay, paired_is_not_alone}
 use Rattle.tag_space.proofs.PartnerLemmas.{calls_are_by_members}
-
--- of the numbers below 2 one is not this one
-other_of_two : (this other number : ℕ) → this < 2 → other < 2 → number < 2 → this ≢ other
-    → number ≢ this → number ≡ other
-other_of_two zero zero number below less small differs apart = absurd (differs refl)
-other_of_two zero (suc zero) zero below less small differs apart = absurd (apart refl)
-other_of_two zero (suc zero) (suc zero) below less small differs apart = refl
-other_of_two (suc zero) zero zero below less small differs apart = refl
-other_of_two (suc zero) zero (suc zero) below less small differs apart = absurd (apart refl)
-other_of_two (suc zero) (suc zero) number below less small differs apart = absurd (differs refl)
-other_of_two (suc (suc this)) other number below less small differs apart =
-    absurd (omega (arith, below))
-other_of_two this (suc (suc other)) number below less small differs apart =
-    absurd (omega (arith, less))
-other_of_two this other (suc (suc number)) below less small differs apart =
-    absurd (omega (arith, small))
 
 -- one call of these is this one
 only_call : (offer only : Offer) → IsOneOfCalls offer (only ∷ []) → only ≡ offer
@@ -53,13 +37,11 @@ module _ (space : TagSpace) (this other joined : Member) (two : space.procs ≡ 
   -- the partner is the other member
   is_others : partner.partner.member ≡ number_of other
   is_others =
-      other_of_two (number_of this) (number_of other) partner.partner.member
-      (subst (λ n. number_of this < n) two this_below)
-      (subst (λ n. number_of other < n) two other_below)
-      (subst (λ n. partner.partner.member < n) two
-      (calls_are_by_members (space_of space) space.procs (seen_of joined) partner.partner.member
-      partner.partner one.history.history partner.call))
-      apart (λ same. partner.another (same ∙ sym its))
+      let apart_from_this : partner.partner.member ≢ number_of this =
+      λ same. partner.another (same ∙ sym its) in
+      let below = calls_are_by_members (space_of space) space.procs (seen_of joined)
+      partner.partner.member partner.partner one.history.history partner.call in
+      omega (arith, two, this_below, other_below, apart, below)
 
   -- and its call is the one that the other made
   is_only : only ≡ partner.partner

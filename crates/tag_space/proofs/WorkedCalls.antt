@@ -1,5 +1,6 @@
 -- What comes of calls in the worked histories, computed, and what a join of two members keeps.
-use Rattle.std.proofs.Common.{◌≡◌, List, [], ◌∷◌, ◌++◌, Ok, Err, refl, inl, inr, ap, sym, ◌∙◌, arith}
+use Rattle.std.proofs.Common.{◌≡◌, List, [], ◌∷◌, ◌++◌, Ok, Err, refl, inl, inr, ap, sym}
+use Rattle.std.proofs.Common.{◌∙◌, arith}
 use Rattle.sync_base.specs.NoteSet.{no_notes}
 use Rattle.sync_base.specs.declared.fault.Fault.TheVariants as fault
 use Rattle.tag_space.specs.declared.calls.GroupReply.TheVariants.{Wait}

@@ -1,5 +1,5 @@
--- What rfork does by its flags, computed; and what no rfork does to spaces and members, each against
--- one row of what they say.
+-- What rfork does by its flags, computed; and what no rfork does to spaces and members, each
+-- against one row of what they say.
 use Rattle.std.proofs.Common.{◌≡◌, ◌≢◌, ◌<◌, ℕ, Some, None, inl, inr, length, ap, arith, refl}
 use Rattle.std.proofs.Common.{true, false, List, [], ◌∷◌, sym, ◌∙◌}
 use Rattle.std.specs.Prelude.{IsTrue}
@@ -52,7 +52,8 @@ rfnoteg_asks_for_no_more = (refl, refl)
 a_child_apart_is_a_child : (asks_child (flags_of 5) ≡ true) × (asks_space (flags_of 5) ≡ false)
 a_child_apart_is_a_child = (refl, refl)
 
-a_space_and_a_group_are_a_space : (asks_child (flags_of 6) ≡ false) × (asks_space (flags_of 6) ≡ true)
+a_space_and_a_group_are_a_space : (asks_child (flags_of 6) ≡ false)
+    × (asks_space (flags_of 6) ≡ true)
 a_space_and_a_group_are_a_space = (refl, refl)
 
 all_three_ask_for_all : (asks_child (flags_of 7) ≡ true) × (asks_space (flags_of 7) ≡ true)
