@@ -1,5 +1,6 @@
 -- What each call keeps of the laws of a semaphore.
-use Rattle.std.proofs.Common.{◌≡◌, ◌≢◌, ◌⊎◌, inl, inr, ⊎_elim, ℕ, zero, suc, ◌+◌, ◌-◌, ◌<◌, ◌≤◌, Bool, true}
+use Rattle.std.proofs.Common.{◌≡◌, ◌≢◌, ◌⊎◌, inl, inr, ⊎_elim, ℕ, zero, suc, ◌+◌, ◌-◌, ◌<◌, ◌≤◌}
+use Rattle.std.proofs.Common.{Bool, true}
 use Rattle.std.proofs.Common.{false, if◌then◌else◌, List, [], ◌∷◌, length, get_or}
 use Rattle.std.proofs.Common.{set, Some, refl, sym, ap, ◌∙◌, subst, arith, not, eqb, IfSome}
 use Rattle.std.proofs.Common.{replicate, drop}
@@ -19,11 +20,13 @@ use Rattle.semaphore.specs.declared.sema_object.SemaCall.TheVariants.{Acquire, A
 use Rattle.semaphore.specs.declared.sema_object.SemaCall.TheVariants.{NextWake, Collect, Leave}
 use Rattle.semaphore.specs.declared.sema_object.SemaReply.TheVariants as reply
 use Rattle.semaphore.specs.Units.{SemaState, IsSound, is_seat, stage_of, grants_of, granted, passed}
-use Rattle.semaphore.specs.Units.{answer_to, answer_leave, after, sema_after, seat_named, is_idle, opening}
-use Rattle.semaphore.specs.SemaHistory.{SemaEntry, sema_meaning, added_by, taken_by, released, last_named}
-use Rattle.semaphore.specs.SemaHistory.{taken, held_in, uncollected, collected_by, collected, named_by}
+use Rattle.semaphore.specs.Units.{answer_to, answer_next, sema_after, seat_named, is_idle, opening}
+use Rattle.semaphore.specs.SemaHistory.{SemaEntry, sema_meaning, added_by, taken_by, released}
+use Rattle.semaphore.specs.SemaHistory.{taken, held_in, uncollected, collected_by, collected}
+use Rattle.semaphore.specs.SemaHistory.{named_by, last_named}
 use Rattle.semaphore.specs.Seats.{waits_after, is_waiting}
-use Rattle.semaphore.proofs.SemaLemmas.{sound_value, stands_with, sound_wait, sound_leave, sound_stage, sound_granted}
+use Rattle.semaphore.proofs.SemaLemmas.{places, sound_value, sound_stage, sound_wait, sound_leave}
+use Rattle.semaphore.proofs.SemaLemmas.{sound_granted, stands_with}
 use Rattle.semaphore.proofs.SemaLemmas.{first_waiter, passed_one, passed_all}
 
 -- ---- what the answers tell of the state
@@ -78,7 +81,8 @@ named_of : (s : SemaState) (seat count : ℕ) → reply.Wake seat count ≡ answ
     (s.unnamed ≡ seat ∷ drop 1 s.unnamed) × (count ≡ grants_of s seat)
 named_of s seat count is = by s.unnamed is
   where
-    by : (line : List ℕ) → reply.Wake seat count ≡ Rattle.semaphore.specs.Units.answer_next s line → (line ≡ seat ∷ drop 1 line) × (count ≡ grants_of s seat)
+    by : (line : List ℕ) → reply.Wake seat count ≡ answer_next s line →
+        (line ≡ seat ∷ drop 1 line) × (count ≡ grants_of s seat)
     by [] is = cc
     by (first ∷ rest) is = (cc, cc)
 
@@ -118,24 +122,25 @@ uncollected_set (old ∷ stages) (suc seat) stage within =
     omega (arith, uncollected_set stages seat stage (omega arith))
 
 -- the first waiter is granted a unit
-granted_seat : (s : SemaState) (seat i count own last : ℕ) (waits : Bool) → seat < length s.stages →
-    seat < length s.grants → stage_of s seat ≡ Waiting → IsAt s i count own last waits → IsAt (granted s seat) i count own last waits
+granted_seat : (s : SemaState) (seat i count own last : ℕ) (waits : Bool) →
+    seat < length s.stages → seat < length s.grants → stage_of s seat ≡ Waiting →
+    IsAt s i count own last waits → IsAt (granted s seat) i count own last waits
 granted_seat s seat i count own last waits within counted is at = record {
-  counts = grind (arith, nat_tests, get_or-set_at, get_or-set_other, at.counts);
-  named = λ gone. grind (arith, nat_tests, get_or-set_other, at.named, stands_with seat i s.unnamed);
-  idle = grind (arith, nat_tests, get_or-set_at, get_or-set_other, at.idle);
+  counts = grind (arith, places, at.counts);
+  named = λ gone. grind (arith, places, at.named, stands_with seat i s.unnamed);
+  idle = grind (arith, places, at.idle);
 }
 
 -- What each grant keeps holds when the units have passed; and then there is no unit, or nobody
 -- waits.
 passed_keeps : (Holds : SemaState → Type 0) → ((s : SemaState) (seat : ℕ) → 0 < s.value →
-    first_of s.waiters ≡ Some seat → Holds s → Holds (granted s seat)) → (units : ℕ) (s : SemaState) →
-    s.value ≡ units → Holds s → Holds (passed s) × Free (passed s)
+    first_of s.waiters ≡ Some seat → Holds s → Holds (granted s seat)) → (units : ℕ)
+    (s : SemaState) → s.value ≡ units → Holds s → Holds (passed s) × Free (passed s)
 passed_keeps Holds step zero s none holds =
     subst (λ t. Holds t × Free t) (passed_all s (inl none)) (holds, inl none)
 passed_keeps Holds step (suc units) s some holds =
-    by s.waiters refl (λ seat more first. passed_keeps Holds step units (granted s seat) (omega arith)
-    (step s seat more first holds))
+    by s.waiters refl (λ seat more first.
+    passed_keeps Holds step units (granted s seat) (omega arith) (step s seat more first holds))
   where
     by : (line : List ℕ) → s.waiters ≡ line → ((seat : ℕ) → 0 < s.value → first_of s.waiters ≡
         Some seat → Holds (passed (granted s seat)) × Free (passed (granted s seat))) →
@@ -180,8 +185,8 @@ module _ (procs sum got count : ℕ) (own last : ℕ → ℕ) (waits : ℕ → B
 
   -- a unit is taken at once
   unit_keeps : (by : ℕ) → 0 < s.value → Free s → Kept procs (0 + sum) (1 + got) count
-      (λ i. 0 + own i) last (λ i. if eqb by i then waits i else waits i) (record s { value = s.value - 1 }) ×
-      Free (record s { value = s.value - 1 })
+      (λ i. 0 + own i) last (λ i. if eqb by i then waits i else waits i)
+      (record s { value = s.value - 1 }) × Free (record s { value = s.value - 1 })
   unit_keeps by some free = (
     record {
       sound = sound_value s (s.value - 1) kept.sound (omega (arith, kept.sound.value));
@@ -193,9 +198,9 @@ module _ (procs sum got count : ℕ) (own last : ℕ → ℕ) (waits : ℕ → B
   )
 
   -- a unit that was granted is collected
-  collect_keeps : (seat by : ℕ) → seat < length s.stages → stage_of s seat ≡ Granted → seat ≡ by → Free s →
-      Kept procs (0 + sum) (1 + got) count (λ i. (if eqb seat i then 1 else 0) + own i) last
-      (λ i. if eqb by i then false else waits i) (record s { stages = set s.stages seat Idle }) ×
+  collect_keeps : (seat by : ℕ) → seat < length s.stages → stage_of s seat ≡ Granted → seat ≡ by →
+      Free s → Kept procs (0 + sum) (1 + got) count (λ i. (if eqb seat i then 1 else 0) + own i)
+      last (λ i. if eqb by i then false else waits i) (record s { stages = set s.stages seat Idle }) ×
       Free (record s { stages = set s.stages seat Idle })
   collect_keeps seat by within is named free = (
     record {
@@ -206,9 +211,9 @@ module _ (procs sum got count : ℕ) (own last : ℕ → ℕ) (waits : ℕ → B
       size = length-set s.stages seat Idle ∙ kept.size;
       units = omega (arith, kept.units, uncollected_set s.stages seat Idle within, ap held_in is);
       seats = λ i inside. record {
-        counts = grind (arith, nat_tests, get_or-set_at, get_or-set_other, (kept.seats i inside).counts);
+        counts = grind (arith, places, (kept.seats i inside).counts);
         named = (kept.seats i inside).named;
-        idle = grind (arith, nat_tests, get_or-set_at, get_or-set_other, (kept.seats i inside).idle);
+        idle = grind (arith, places, (kept.seats i inside).idle);
       };
     },
     free,
@@ -223,14 +228,15 @@ seats_dropped seats (x ∷ xs) are = are.2
 
 kept_step : (s : SemaState) (call : SemaCall) (r : SemaReply) (by procs sum got count : ℕ)
     (own last : ℕ → ℕ) (waits : ℕ → Bool) → r ≡ answer_to s call →
-    IfSome (seat_named call) (λ seat. seat ≡ by) → Kept procs sum got count own last waits s → Free s →
-    Kept procs (added_by call r + sum) (taken_by call r + got) count
+    IfSome (seat_named call) (λ seat. seat ≡ by) → Kept procs sum got count own last waits s →
+    Free s → Kept procs (added_by call r + sum) (taken_by call r + got) count
     (λ i. collected_by i call r + own i) (λ i. named_by i call r (last i))
     (λ i. if eqb by i then waits_after call r (waits i) else waits i) (sema_after s call r) ×
     Free (sema_after s call r)
 kept_step s (Acquire seat) reply.Acquired by procs sum got count own last waits is named kept free =
     unit_keeps procs sum got count own last waits s kept by (acquired_of s seat is) free
-kept_step s (AcquireNow seat) reply.Acquired by procs sum got count own last waits is named kept free =
+kept_step s (AcquireNow seat) reply.Acquired by procs sum got count own last waits is named kept
+    free =
     unit_keeps procs sum got count own last waits s kept by (taken_now_of s seat is) free
 kept_step s (Acquire seat) (reply.Wait n) by procs sum got count own last waits is named kept free =
     let w = waits_of s seat n is in (
@@ -244,17 +250,20 @@ kept_step s (Acquire seat) (reply.Wait n) by procs sum got count own last waits 
           ap held_in w.idle,
         );
         seats = λ i inside. record {
-          counts = grind (arith, nat_tests, get_or-set_at, get_or-set_other, (kept.seats i inside).counts, w.idle, w.within);
+          counts = grind (arith, places, (kept.seats i inside).counts, w.idle, w.within);
           named = (kept.seats i inside).named;
-          idle = grind (arith, nat_tests, get_or-set_at, get_or-set_other, (kept.seats i inside).idle, w.within);
+          idle = grind (arith, places, (kept.seats i inside).idle, w.within);
         };
       },
       inl w.none,
     )
-kept_step s (Release n) (reply.Value total) by procs sum got count own last waits is named kept free =
+kept_step s (Release n) (reply.Value total) by procs sum got count own last waits is named kept
+    free =
     let told = released_of s n total is in
-    passed_keeps (Kept procs (n + sum) (0 + got) count (λ i. 0 + own i) last (λ i. if eqb by i then waits i else waits i))
-    (λ t seat some first. λ now. granted_keeps procs (n + sum) (0 + got) count (λ i. 0 + own i) last _ t now seat some first)
+    passed_keeps (Kept procs (n + sum) (0 + got) count (λ i. 0 + own i) last
+    (λ i. if eqb by i then waits i else waits i))
+    (λ t seat some first now. granted_keeps procs (n + sum) (0 + got) count (λ i. 0 + own i) last _
+    t now seat some first)
     total (record s { value = total }) refl
     (record {
       sound = sound_value s total kept.sound told.1;
@@ -279,7 +288,13 @@ kept_step s NextWake (reply.Wake seat n) by procs sum got count own last waits i
         units = omega (arith, kept.units);
         seats = λ i inside. record {
           counts = omega (arith, (kept.seats i inside).counts);
-          named = λ gone. grind (arith, nat_tests, (kept.seats i inside).named, told.1, ap (λ l. stands_in l i) told.0);
+          named = λ gone. grind (
+            arith,
+            nat_tests,
+            (kept.seats i inside).named,
+            told.1,
+            ap (λ l. stands_in l i) told.0,
+          );
           idle = (same_at procs sum got count own last waits s kept i by inside).idle;
         };
       },
@@ -298,9 +313,9 @@ kept_step s (Leave seat) reply.Gone by procs sum got count own last waits is nam
         size = length-set s.stages seat Idle ∙ kept.size;
         units = omega (arith, kept.units, uncollected_set s.stages seat Idle told.0, told.1);
         seats = λ i inside. record {
-          counts = grind (arith, nat_tests, get_or-set_at, get_or-set_other, (kept.seats i inside).counts, told.0, told.1);
+          counts = grind (arith, places, (kept.seats i inside).counts, told.0, told.1);
           named = (kept.seats i inside).named;
-          idle = grind (arith, nat_tests, get_or-set_at, get_or-set_other, (kept.seats i inside).idle, told.0);
+          idle = grind (arith, places, (kept.seats i inside).idle, told.0);
         };
       },
       ⊎_elim (λ none. inl none) (λ nobody. inr (ap (without seat) nobody)) free,
@@ -346,7 +361,11 @@ opening_kept value procs count fits few =
       size = length-replicate procs Idle;
       units = omega (arith, none_held procs);
       seats = λ i within. record {
-        counts = omega (arith, get_or-replicate procs i count 0 within, ap held_in (idle_at procs i));
+        counts = omega (
+          arith,
+          get_or-replicate procs i count 0 within,
+          ap held_in (idle_at procs i),
+        );
         named = λ gone. get_or-replicate procs i count 0 within;
         idle = ap is_idle (idle_at procs i);
       };
@@ -374,10 +393,11 @@ history_keeps value procs count [] fits few legal =
 history_keeps value procs count (entry ∷ past) fits few legal =
     let before = history_keeps value procs count past fits few legal.1 in
     let s = state_after sema_meaning (opening value procs count) past in
-    let step = kept_step s entry.request entry.reply entry.by procs (value + released past) (taken past) count
-    (λ i. collected i past) (λ i. last_named count i past) (λ i. is_waiting (entries_by server i past))
-    legal.0.reply legal.0.named before.0 before.1 in
-    subst (KeptBy value procs count (entry ∷ past)) (ap (sema_after s entry.request) legal.0.reply) (
+    let step = kept_step s entry.request entry.reply entry.by procs (value + released past)
+    (taken past) count (λ i. collected i past) (λ i. last_named count i past)
+    (λ i. is_waiting (entries_by server i past)) legal.0.reply legal.0.named before.0 before.1 in
+    subst (KeptBy value procs count (entry ∷ past))
+    (ap (sema_after s entry.request) legal.0.reply) (
       record {
         sound = step.0.sound;
         size = step.0.size;

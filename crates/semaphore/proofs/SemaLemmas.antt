@@ -18,6 +18,9 @@ use Rattle.semaphore.specs.Units.{answer_to, answer_leave, after, sema_after}
 use Rattle.semaphore.proofs.WaitQueueLemmas.{stands_below, left_same, left_other, joined_same}
 use Rattle.semaphore.proofs.WaitQueueLemmas.{joined_other, seats_join, seats_without, not_there}
 
+-- what stands at a place of a list when one has been set
+pub ruleset places = (nat_tests, get_or-set_at, get_or-set_other)
+
 -- another stage of one seat, and another line that differs in that seat alone
 pub sound_stage : (s : SemaState) (seat : ℕ) (stage : Stage) (waiters : List ℕ) → IsSound s → seat <
     length s.stages → AreSeats (length s.stages) waiters →
@@ -32,22 +35,8 @@ sound_stage s seat stage waiters sound within are others waits stands may =
       counted = grind (arith, length-set, sound.counted);
       waiters = rw length-set are;
       unnamed = rw length-set sound.unnamed;
-      waits = λ other. grind (
-        arith,
-        nat_tests,
-        get_or-set_at,
-        get_or-set_other,
-        sound.waits other,
-        others other,
-      );
-      stands = λ other. grind (
-        arith,
-        nat_tests,
-        get_or-set_at,
-        get_or-set_other,
-        sound.stands other,
-        others other,
-      );
+      waits = λ other. grind (arith, places, sound.waits other, others other);
+      stands = λ other. grind (arith, places, sound.stands other, others other);
       may_wait = λ other. grind (arith, nat_tests, sound.may_wait other, others other);
       fits = sound.fits;
     }
@@ -153,16 +142,8 @@ sound_granted s seat sound is =
       unnamed = with_are (stands_in s.unnamed seat) refl (rw length-set first.within) left.unnamed;
       waits = left.waits;
       stands = left.stands;
-      may_wait = λ other. grind (arith, nat_tests, get_or-set_other, left.may_wait other, gone);
-      fits = λ other. grind (
-        arith,
-        nat_tests,
-        get_or-set_at,
-        get_or-set_other,
-        sound.fits other,
-        first.more,
-        first.counted,
-      );
+      may_wait = λ other. grind (arith, places, left.may_wait other, gone);
+      fits = λ other. grind (arith, places, sound.fits other, first.more, first.counted);
     }
   where
     with_are : {seats : ℕ} (b : Bool) → stands_in s.unnamed seat ≡ b → seat < seats →

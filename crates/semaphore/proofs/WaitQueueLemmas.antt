@@ -1,6 +1,7 @@
 -- A line of seats as a ring of links.
 use Rattle.std.proofs.Common.{◌≡◌, ◌≢◌, ℕ, ◌+◌, ◌-◌, ◌<◌, ◌≤◌, ◌==◌, Bool}
-use Rattle.std.proofs.Common.{if◌then◌else◌, true, false, List, [], ◌∷◌, ◌++◌, length, count_by, cond}
+use Rattle.std.proofs.Common.{if◌then◌else◌, true, false, List, [], ◌∷◌, ◌++◌, length, count_by}
+use Rattle.std.proofs.Common.{cond}
 use Rattle.std.proofs.Common.{slice_index, get_or, set, refl, sym, ap, ◌∙◌, subst, arith}
 use Rattle.std.proofs.lemmas.Bool.Decides.{nat_tests}
 use Rattle.std.proofs.lemmas.Grind.{get_or-set_at, get_or_default_zero}
@@ -96,13 +97,19 @@ behind_in : (next prev : List ℕ) (from : ℕ) (xs : List ℕ) (end seat : ℕ)
     stands_in (end ∷ xs) (slice_index next seat) ≡ true
 behind_in next prev from [] end seat linked is = cc
 behind_in next prev from (x ∷ xs) end seat linked is =
-    grind (arith, nat_tests, first_in next prev x xs end linked.1.1, behind_in next prev x xs end seat linked.1.1)
+    grind (
+      arith,
+      nat_tests,
+      first_in next prev x xs end linked.1.1,
+      behind_in next prev x xs end seat linked.1.1,
+    )
 
 -- before its end is its start or a seat of it
 last_in : (next prev : List ℕ) (from : ℕ) (xs : List ℕ) (end : ℕ) →
     IsLinked next prev from xs end → stands_in (from ∷ xs) (slice_index prev end) ≡ true
 last_in next prev from [] end linked = grind (arith, nat_tests, linked.1)
-last_in next prev from (x ∷ xs) end linked = grind (arith, nat_tests, last_in next prev x xs end linked.1.1)
+last_in next prev from (x ∷ xs) end linked =
+    grind (arith, nat_tests, last_in next prev x xs end linked.1.1)
 
 -- a link of a place outside is changed
 kept_linked : (next prev : List ℕ) (from : ℕ) (xs : List ℕ) (end i v j u : ℕ) → from ≢ i →
@@ -114,7 +121,8 @@ kept_linked next prev from (x ∷ xs) end i v j u start no_i no_j last linked = 
   rw get_or-set_other linked.0,
   (
     grind (arith, nat_tests, get_or-set_other, linked.1.0),
-    kept_linked next prev x xs end i v j u (grind (arith, nat_tests)) (grind (arith, nat_tests)) (grind (arith, nat_tests)) last linked.1.1,
+    kept_linked next prev x xs end i v j u (grind (arith, nat_tests)) (grind (arith, nat_tests))
+        (grind (arith, nat_tests)) last linked.1.1,
   ),
 )
 
@@ -189,7 +197,8 @@ linked_join next prev seats from (x ∷ xs) end seat last is inside at_next at_p
       (
         grind (arith, nat_tests, get_or-set_other, linked.1.0, are.0),
         linked_join next prev seats x xs end seat last is (grind (arith, are.0)) at_next at_prev
-            edge apart (grind (arith, nat_tests)) most many are.2 (grind (arith, nat_tests)) are.1 linked.1.1,
+            edge apart (grind (arith, nat_tests)) most many are.2 (grind (arith, nat_tests)) are.1
+            linked.1.1,
       ),
     )
 
@@ -290,7 +299,8 @@ module _ (next prev : List ℕ) (stands : List Bool) (count : ℕ) (order : List
         counted = one_more stands seat within (ring.told seat within ∙ new) ∙
             ap (λ n. n + 1) ring.counted;
         seats = rw length-set (seats_join (length stands) order seat ring.seats within new);
-        linked = rw (length-set, ← is) (linked_join next prev (length stands) end order end seat last is_last
+        linked = rw (length-set, ← is) (linked_join next prev (length stands) end order end seat
+            last is_last
             (omega (arith, ring.next_size)) (omega (arith, ring.next_size))
             (omega (arith, ring.prev_size)) (omega (arith, ring.prev_size)) (omega arith)
             (omega arith) (omega arith) (omega (arith, ring.next_size)) ring.seats new

@@ -1,8 +1,8 @@
 -- The note of a tick is pending at the process of a timer that expired, or was taken since.
-use Rattle.std.proofs.Common.{◌≡◌, ◌≢◌, ◌⊎◌, inl, inr, ◌||◌, ℕ, nat_lt, eqb, Bool, true, false}
+use Rattle.std.proofs.Common.{◌≡◌, ◌≢◌, ◌⊎◌, inl, inr, ℕ, nat_lt, eqb, Bool, true, false}
 use Rattle.std.proofs.Common.{if◌then◌else◌, List, [], ◌∷◌, ◌++◌, Option, Some, None, refl}
-use Rattle.std.proofs.Common.{sym, ap, ◌∙◌, subst}
-use Rattle.std.proofs.lemmas.Bool.Decides.{eqb_tells}
+use Rattle.std.proofs.Common.{sym, ap, subst, arith}
+use Rattle.std.proofs.lemmas.Bool.Decides.{nat_tests}
 use Rattle.std.specs.List.{AllByRecursion, cons_option}
 use Rattle.rendez_words.specs.declared.view.Sizes.{Sizes}
 use Rattle.rendez_words.specs.Process.{Process}
@@ -17,12 +17,13 @@ use Rattle.sleep_core.specs.Runs.{Entry, is_kept, kept, own}
 use Rattle.sync_base.specs.declared.ids.Pid.{Pid}
 use Rattle.sync_base.specs.declared.note.Note.TheVariants.{Expired}
 use Rattle.sync_base.specs.declared.note.NoteSet.{NoteSet}
-use Rattle.sync_base.specs.NoteSet.{no_notes, joined, holds, only}
+use Rattle.sync_base.specs.NoteSet.{no_notes, holds, only}
 use Rattle.rendez_words.proofs.LawLemmas.{threads_keep}
 use Rattle.timer_list.specs.declared.timers.Timers.{Timers}
 use Rattle.timer_list.specs.declared.timers.TimerSeat.{TimerSeat}
 use Rattle.timer_list.specs.Ticking.{Expires, FindsNone}
 use Rattle.timer_list.specs.WakeLaws.{HasTaken, TickingTellsEach}
+use Rattle.timer_list.proofs.Cases.{same_or_not}
 use Rattle.waiting.specs.Waiting.{Point}
 use Rattle.waiting.specs.Wakeups.{HasGoneOn}
 
@@ -93,68 +94,29 @@ IsThere pid past = (holds (pending past pid) Expired ≡ true) ⊎ HasTaken past
 noted_too : (pid named : ℕ) (notes : NoteSet) (past : List Effect)
     → ((named ≡ pid) × (holds notes Expired ≡ true)) ⊎ IsThere pid past
     → IsThere pid (Noted named notes ∷ past)
-noted_too pid named notes past there = by (eqb_tells named pid) there
-  where
-    or_true : (b : Bool) → (b || true) ≡ true
-    or_true true = refl
-    or_true false = refl
-
-    by : ((eqb named pid ≡ true) × (named ≡ pid)) ⊎ ((eqb named pid ≡ false) × (named ≢ pid))
-        → ((named ≡ pid) × (holds notes Expired ≡ true)) ⊎ IsThere pid past
-        → IsThere pid (Noted named notes ∷ past)
-    by (inl same) (inl it) =
-        inl (ap
-        (λ b. holds (if b then joined (pending past pid) notes else pending past pid) Expired)
-        same.0
-        ∙ (ap (λ b. holds (pending past pid) Expired || b) it.1
-        ∙ or_true (holds (pending past pid) Expired)))
-    by (inl same) (inr (inl there)) =
-        inl (ap
-        (λ b. holds (if b then joined (pending past pid) notes else pending past pid) Expired)
-        same.0 ∙ ap (λ b. b || holds notes Expired) there)
-    by (inl same) (inr (inr taken)) = inr taken
-    by (inr other) (inl it) = absurd (other.1 it.0)
-    by (inr other) (inr (inl there)) =
-        inl (ap
-        (λ b. holds (if b then joined (pending past pid) notes else pending past pid) Expired)
-        other.0 ∙ there)
-    by (inr other) (inr (inr taken)) = inr taken
+noted_too pid named notes past (inl it) = inl (grind (arith, nat_tests, it.0, it.1))
+noted_too pid named notes past (inr (inl there)) = inl (grind (arith, nat_tests, there))
+noted_too pid named notes past (inr (inr taken)) = inr taken
 
 -- somebody took these notes, which were all that were pending
-module _ (pid by : ℕ) (notes : NoteSet) (past : List Effect) (all : notes ≡ pending past by) where
-  taken_too : IsThere pid past
-      → (holds (if eqb by pid then no_notes else pending past pid) Expired ≡ true)
-      ⊎ (((by ≡ pid) × (holds notes Expired ≡ true)) ⊎ HasTaken past pid)
-  taken_too (inr taken) = inr (inr taken)
-  taken_too (inl there) = test (eqb_tells by pid)
-    where
-      test : ((eqb by pid ≡ true) × (by ≡ pid)) ⊎ ((eqb by pid ≡ false) × (by ≢ pid))
-          → (holds (if eqb by pid then no_notes else pending past pid) Expired ≡ true)
-          ⊎ (((by ≡ pid) × (holds notes Expired ≡ true)) ⊎ HasTaken past pid)
-      test (inl same) =
-          inr (inl (
-            same.1,
-            ap (λ set. holds set Expired) all
-                ∙ (ap (λ n. holds (pending past n) Expired) same.1 ∙ there),
-          ))
-      test (inr other) =
-          inl (ap (λ b. holds (if b then no_notes else pending past pid) Expired) other.0 ∙ there)
+taken_too : (pid by : ℕ) (notes : NoteSet) (past : List Effect) → notes ≡ pending past by
+    → IsThere pid past → (holds (if eqb by pid then no_notes else pending past pid) Expired ≡ true)
+    ⊎ (((by ≡ pid) × (holds notes Expired ≡ true)) ⊎ HasTaken past pid)
+taken_too pid by notes past all (inr taken) = inr (inr taken)
+taken_too pid by notes past all (inl there) = test (same_or_not by pid)
+  where
+    test : (by ≡ pid) ⊎ (by ≢ pid)
+        → (holds (if eqb by pid then no_notes else pending past pid) Expired ≡ true)
+        ⊎ (((by ≡ pid) × (holds notes Expired ≡ true)) ⊎ HasTaken past pid)
+    test (inl same) = inr (inl (same, rw (all, same) there))
+    test (inr other) = inl (grind (arith, nat_tests, there))
 
 -- a sleep that ends well leaves no note pending
 well_too : (pid by : ℕ) (past : List Effect) → pending past by ≡ no_notes → IsThere pid past
     → IsThere pid (Left by None ∷ past)
 well_too pid by past none (inr taken) = inr taken
-well_too pid by past none (inl there) = test (eqb_tells by pid)
-  where
-    test : ((eqb by pid ≡ true) × (by ≡ pid)) ⊎ ((eqb by pid ≡ false) × (by ≢ pid))
-        → IsThere pid (Left by None ∷ past)
-    test (inl same) =
-        let clash : true ≡ false = sym there
-        ∙ (ap (λ n. holds (pending past n) Expired) (sym same.1)
-        ∙ ap (λ set. holds set Expired) none) in
-        cc
-    test (inr other) =
-        inl (ap (λ b. holds (if b then no_notes else pending past pid) Expired) other.0 ∙ there)
+well_too pid by past none (inl there) =
+    inl (grind (arith, nat_tests, there, ap (λ set. holds set Expired) none))
 
 is_there : (pid : ℕ) (past : List Effect) → AreNotesRight past → HasCome pid past → IsThere pid past
 is_there pid [] right come = absurd come

@@ -82,17 +82,6 @@ dues-same timers i timer dues are same =
     (ap (λ s. due_of s (get_or timers i Unset)) (omega arith) ∙ same))
     ∙ dues-set timers i timer (dues_from 0 timers) refl))
 
--- the earliest is one of the list
-one_of_two : (a b : Option Due) → (earlier_of a b ≡ a) ⊎ (earlier_of a b ≡ b)
-one_of_two None b = inr refl
-one_of_two (Some a) None = inl refl
-one_of_two (Some a) (Some b) = by_test (is_before b a)
-  where
-    by_test : (t : Bool) → ((if t then Some b else Some a) ≡ Some a) ⊎
-        ((if t then Some b else Some a) ≡ Some b)
-    by_test true = inr refl
-    by_test false = inl refl
-
 -- where in a list of moments this one stands
 pub record StandsAt (dues : List (Option Due)) (due : Due) : Type 0 where
   -- its place
@@ -106,19 +95,27 @@ earliest_stands : (dues : List (Option Due)) (due : Due) → earliest dues ≡ S
     StandsAt dues due
 earliest_stands [] due is = cc
 earliest_stands (first ∷ dues) due is =
-    by_side (earliest_stands dues due) (one_of_two first (earliest dues))
+    stands (by first (earliest dues) is (earliest_stands dues due))
   where
-    by_side : (earliest dues ≡ Some due → StandsAt dues due) → (earlier_of first (earliest dues) ≡
-        first) ⊎ (earlier_of first (earliest dues) ≡ earliest dues) → StandsAt (first ∷ dues) due
-    by_side rest (inl here) = record { place = 0; within = omega arith; there = sym here ∙ is }
-    by_side rest (inr later) =
-        let found = rest (sym later ∙ is) in
+    stands : (first ≡ Some due) ⊎ StandsAt dues due → StandsAt (first ∷ dues) due
+    stands (inl here) = record { place = 0; within = omega arith; there = here }
+    stands (inr found) =
         record {
           place = suc found.place;
           within = omega (arith, found.within);
-          there =
-              found.there;
+          there = found.there;
         }
+
+    by : (one rest : Option Due) → earlier_of one rest ≡ Some due →
+        (rest ≡ Some due → StandsAt dues due) → (one ≡ Some due) ⊎ StandsAt dues due
+    by None rest is later = inr (later is)
+    by (Some a) None is later = inl is
+    by (Some a) (Some b) is later = test (is_before b a) is
+      where
+        test : (t : Bool) → (if t then Some b else Some a) ≡ Some due →
+            (Some a ≡ Some due) ⊎ StandsAt dues due
+        test true is = inr (later is)
+        test false is = inl is
 
 -- a timer that expires at a known moment is set
 pub record IsSet (timers : List Timer) (due : Due) : Type 0 where

@@ -2,7 +2,8 @@
 use Rattle.std.proofs.Common.{◌≡◌, ℕ, zero, suc, ◌+◌, ◌-◌, ◌*◌, ◌/◌, ◌<◌, ◌≤◌, List, Option, None}
 use Rattle.std.proofs.Common.{length, drop, get_or, set, sym, ap, ◌∙◌, subst, arith, ◌⊎◌, ◌≢◌}
 use Rattle.std.proofs.Common.{length-drop, inl, inr, ⊎_elim}
-use Rattle.std.proofs.lemmas.List.{get_or-drop, get_or-set_same, get_or-set_other}
+use Rattle.std.proofs.lemmas.Grind.{get_or-set_at}
+use Rattle.std.proofs.lemmas.List.{get_or-drop, get_or-set_other}
 use Rattle.timer_list.specs.declared.due.Due.{Due}
 use Rattle.timer_list.specs.Due.{earlier_of, earliest}
 use Rattle.timer_list.specs.Tournament.{IsTournament, IsWon, node_at}
@@ -15,25 +16,23 @@ module _ (entrants : ℕ) (nodes : List (Option Due)) (t : IsTournament entrants
   -- the game above a place
   game_above : (place : ℕ) → 2 ≤ place → place < 2 * entrants →
       IsFirst (node_at nodes (place / 2)) (node_at nodes place)
-  game_above place far within = by_side (same_or_not place (2 * (place / 2)))
+  game_above place far within =
+      let half = place / 2 in
+      let left = node_at nodes (2 * half) in
+      let right = node_at nodes (2 * half + 1) in
+      let won = t.won half (omega arith) (omega arith) in
+      let before_left = first-left left right in
+      let before_right = first-right left right in
+      by (same_or_not place (2 * half)) (rw (← won) at before_left) (rw (← won) at before_right)
     where
-      winner : Option Due
-      winner = earlier_of (node_at nodes (2 * (place / 2))) (node_at nodes (2 * (place / 2) + 1))
-
-      below : IsFirst winner (node_at nodes place) →
+      by : (place ≡ 2 * (place / 2)) ⊎ (place ≢ 2 * (place / 2)) →
+          IsFirst (node_at nodes (place / 2)) (node_at nodes (2 * (place / 2))) →
+          IsFirst (node_at nodes (place / 2)) (node_at nodes (2 * (place / 2) + 1)) →
           IsFirst (node_at nodes (place / 2)) (node_at nodes place)
-      below = subst (λ x. IsFirst x (node_at nodes place))
-          (sym (t.won (place / 2) (omega arith) (omega arith)))
-
-      by_side : (place ≡ 2 * (place / 2)) ⊎ (place ≢ 2 * (place / 2)) →
-          IsFirst (node_at nodes (place / 2)) (node_at nodes place)
-      by_side (inl left) =
-          below (subst (λ p. IsFirst winner (node_at nodes p)) (sym left)
-          (first-left (node_at nodes (2 * (place / 2))) (node_at nodes (2 * (place / 2) + 1))))
-      by_side (inr right) =
-          let at : place ≡ 2 * (place / 2) + 1 = omega arith in
-          below (subst (λ p. IsFirst winner (node_at nodes p)) (sym at)
-          (first-right (node_at nodes (2 * (place / 2))) (node_at nodes (2 * (place / 2) + 1))))
+      by (inl is) left right =
+          subst (λ p. IsFirst (node_at nodes (place / 2)) (node_at nodes p)) (sym is) left
+      by (inr other) left right =
+          subst (λ p. IsFirst (node_at nodes (place / 2)) (node_at nodes p)) (omega arith) right
 
   -- the root is before each place
   root_first : (fuel place : ℕ) → place ≤ fuel → 1 ≤ place → place < 2 * entrants →
@@ -93,26 +92,8 @@ pub won_after_game : (half place : ℕ) (nodes : List (Option Due)) (winner : Op
     ((p : ℕ) → 1 ≤ p → p < half → ¬ (p ≡ place) → IsWon nodes p) → (p : ℕ) → 1 ≤ p → p < half →
     ¬ (p ≡ place / 2) → IsWon (set nodes place winner) p
 won_after_game half place nodes winner size some within is_winner won p first inner other =
-    by_place (same_or_not p place)
+    by (same_or_not p place)
   where
-    kept : (q : ℕ) → q ≢ place → node_at (set nodes place winner) q ≡ node_at nodes q
-    kept q else = get_or-set_other nodes place q winner None else
-
-    below : ¬ (2 * p ≡ place) → ¬ (2 * p + 1 ≡ place) →
-        earlier_of (node_at nodes (2 * p)) (node_at nodes (2 * p + 1)) ≡
-        earlier_of (node_at (set nodes place winner) (2 * p))
-        (node_at (set nodes place winner) (2 * p + 1))
-    below left right =
-        ap (λ x. earlier_of x (node_at nodes (2 * p + 1))) (sym (kept (2 * p) left))
-        ∙ ap (earlier_of (node_at (set nodes place winner) (2 * p))) (sym (kept (2 * p + 1) right))
-
-    by_place : (p ≡ place) ⊎ (p ≢ place) → IsWon (set nodes place winner) p
-    by_place (inl here) =
-        (ap (node_at (set nodes place winner)) here
-        ∙ (get_or-set_same nodes place winner None (omega arith)
-        ∙ (is_winner ∙ ap (λ q. earlier_of (node_at nodes (2 * q)) (node_at nodes (2 * q + 1)))
-        (sym here))))
-        ∙ below (λ e. omega arith) (λ e. omega arith)
-    by_place (inr else) =
-        kept p else ∙ (won p first inner else ∙
-        below (λ e. other (omega arith)) (λ e. other (omega arith)))
+    by : (p ≡ place) ⊎ (p ≢ place) → IsWon (set nodes place winner) p
+    by (inl here) = grind (arith, get_or-set_at, get_or-set_other, is_winner)
+    by (inr else) = grind (arith, get_or-set_other, won p first inner else)

@@ -1,6 +1,5 @@
 -- A sleep as a call that asks nobody, after tsleep of the kernel.
 use Rattle.std.specs.Prelude.{◌≡◌, ⊤, ℕ, Option, Some, None}
-use Rattle.sync_base.specs.declared.fault.Fault.{Fault}
 use Rattle.waiting.specs.declared.call.Reply.{Reply}
 use Rattle.waiting.specs.declared.call.Reply.TheVariants as reply
 use Rattle.waiting.specs.Waiting.{Promise, Point}

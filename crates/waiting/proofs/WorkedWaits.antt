@@ -1,7 +1,8 @@
 -- Calls at small devices that count the requests: what a wait does, and what it may not do, each
 -- against one row.
 use Rattle.std.proofs.Common.{◌≡◌, ◌⊎◌, ◌≤◌, ◌+◌, ◌*◌, ℕ, zero, suc, List, [], ◌∷◌, ◌++◌, length}
-use Rattle.std.proofs.Common.{Option, Some, None, Result, Ok, Err, inl, inr, refl, sym, ap, ◌∙◌}
+use Rattle.std.proofs.Common.{⊎_elim, Option, Some, None, Result, Ok, Err, inl, inr, refl, sym, ap}
+use Rattle.std.proofs.Common.{◌∙◌}
 use Rattle.std.proofs.Common.{subst, arith}
 use Rattle.std.proofs.lemmas.List.{length-append}
 use Rattle.rendez_words.specs.Process.{Process, TableId}
@@ -27,9 +28,9 @@ use Rattle.waiting.specs.declared.call.Reply.{Reply}
 use Rattle.waiting.specs.declared.call.Reply.TheVariants.{Done, Wait, Refused}
 use Rattle.waiting.specs.declared.wait.WaitEnd.{WaitEnd}
 use Rattle.waiting.specs.declared.wait.WaitEnd.TheVariants.{Answered, Stopped}
-use Rattle.waiting.specs.Waiting.{Point, Promise, WaitPoint, StandsSo, IsLow, SleepsThenAsks}
+use Rattle.waiting.specs.Waiting.{Point, Promise, WaitPoint, StandsSo, IsLow}
 use Rattle.waiting.specs.Waiting.{Rounds}
-use Rattle.waiting.specs.Waiting.{Ends, Returns, answer_of, reply_of, WaitsOn, Waited}
+use Rattle.waiting.specs.Waiting.{Ends, Returns, answer_of, reply_of, Waited}
 
 -- ---- what an answer leaves
 
@@ -112,69 +113,48 @@ module _ (table : TableId) where
 
   -- ---- as it should be
 
-  it_sleeps_and_is_answered : Waited (device 4 None) (rendez 0) (at 0 []) (Ok 7) (at 2 (short 4))
-  it_sleeps_and_is_answered =
+  -- a call that is told to wait once, and whose only sleep ends so
+  waits_once : (number : ℕ) (late : Option ℕ) (ending : WaitEnd ℕ) (process : Process)
+      (steps : List Entry)
+      → Ends (device number late) (rendez 0) (told number) ending
+      (record { seat = 2; process = process }) → Returns ending process (after table steps)
+      → Waited (device number late) (rendez 0) (at 0 []) (answer_of ending) (at 2 steps)
+  waits_once number late ending process steps ends returned =
       inr (record {
-        first = told 4;
+        first = told number;
         begun = (refl, record { seat_is = refl; idle = refl });
         waited = record {
-          ending = Answered (Ok 7);
-          process = after table (short 4);
-          slept = record {
-            times = 0;
-            last = told 4;
-            rounds = refl;
-            ends = record {
-              woken = after table (short 4);
-              slept = slept_short;
-              asked = (refl, record { seat_is = refl; idle = refl });
-            };
-          };
-          returned = refl;
+          ending = ending;
+          process = process;
+          slept = record { times = 0; last = told number; rounds = refl; ends = ends };
+          returned = returned;
           answer_is = refl;
         };
       })
 
+  it_sleeps_and_is_answered : Waited (device 4 None) (rendez 0) (at 0 []) (Ok 7) (at 2 (short 4))
+  it_sleeps_and_is_answered =
+      waits_once 4 None (Answered (Ok 7)) (after table (short 4)) (short 4)
+      (record {
+        woken = after table (short 4);
+        slept = slept_short;
+        asked = (refl, record { seat_is = refl; idle = refl });
+      }) refl
+
   it_is_alarmed_and_leaves : Waited (device 0 None) (rendez 0) (at 0 [])
       (Err (fault.Interrupted (only Alarm))) (at 2 leaves_with_an_alarm)
   it_is_alarmed_and_leaves =
-      inr (record {
-        first = told 0;
-        begun = (refl, record { seat_is = refl; idle = refl });
-        waited = record {
-          ending = Stopped (fault.Interrupted (only Alarm)) None;
-          process = after table leaves_with_an_alarm;
-          slept = record {
-            times = 0;
-            last = told 0;
-            rounds = refl;
-            ends = record { failed = alarmed; left = (refl, refl) };
-          };
-          returned = refl;
-          answer_is = refl;
-        };
-      })
+      waits_once 0 None (Stopped (fault.Interrupted (only Alarm)) None)
+      (after table leaves_with_an_alarm) leaves_with_an_alarm
+      (record { failed = alarmed; left = (refl, refl) }) refl
 
   -- what it came to is answered, and the alarm is pending again
   it_leaves_late : Waited (device 0 (Some 9)) (rendez 0) (at 0 []) (Ok 9)
       (at 2 (noted 0 ∷ leaves_with_an_alarm))
   it_leaves_late =
-      inr (record {
-        first = told 0;
-        begun = (refl, record { seat_is = refl; idle = refl });
-        waited = record {
-          ending = Stopped (fault.Interrupted (only Alarm)) (Some 9);
-          process = after table leaves_with_an_alarm;
-          slept = record {
-            times = 0;
-            last = told 0;
-            rounds = refl;
-            ends = record { failed = alarmed; left = (refl, refl) };
-          };
-          returned = refl;
-          answer_is = refl;
-        };
-      })
+      waits_once 0 (Some 9) (Stopped (fault.Interrupted (only Alarm)) (Some 9))
+      (after table leaves_with_an_alarm) (noted 0 ∷ leaves_with_an_alarm)
+      (record { failed = alarmed; left = (refl, refl) }) refl
 
   -- ---- what such a call can have done
 
@@ -261,14 +241,11 @@ module _ (table : TableId) where
 
   asks_again_without_a_sleep : ¬ Waited (device 0 None) (rendez 0) (at 0 []) (Ok 7)
       (at 2 answers_at_once)
-  asks_again_without_a_sleep waited = by (came_to 0 None (Ok 7) (at 2 answers_at_once) waited)
-    where
-      by : ¬ (IsAnswered 0 None (Ok 7) (at 2 answers_at_once)
-          ⊎ HasLeft 0 None (Ok 7) (at 2 answers_at_once))
-      by (inl is) =
-          let bad =
-          ap (λ (e : Entry). e.event) (of_sleep table no_notes answers_at_once is.slept).last in cc
-      by (inr left) = let bad = left.answer_is in cc
+  asks_again_without_a_sleep waited =
+      ⊎_elim
+      (λ is. let bad = ap (λ (e : Entry). e.event)
+      (of_sleep table no_notes answers_at_once is.slept).last in cc)
+      (λ left. let bad = left.answer_is in cc) (came_to _ _ _ _ waited)
 
   -- the number of its shortest sleep
   slept_with : (number posted : ℕ)
@@ -300,12 +277,8 @@ module _ (table : TableId) where
       → Waited (device number None) (rendez 0) (at 0 []) (Ok 7) (at 2 (short posted))
       → number ≡ posted
   another_number number posted waited =
-      by (came_to number None (Ok 7) (at 2 (short posted)) waited)
-    where
-      by : IsAnswered number None (Ok 7) (at 2 (short posted))
-          ⊎ HasLeft number None (Ok 7) (at 2 (short posted)) → number ≡ posted
-      by (inl is) = slept_with number posted is.slept
-      by (inr left) = let bad = left.answer_is in absurd (cc)
+      ⊎_elim (λ is. slept_with number posted is.slept)
+      (λ left. let bad = left.answer_is in absurd (cc)) (came_to _ _ _ _ waited)
 
   sleeps_with_a_lower_number : ¬ Waited (device 4 None) (rendez 0) (at 0 []) (Ok 7)
       (at 2 (short 3))
@@ -317,25 +290,17 @@ module _ (table : TableId) where
 
   sleeps_on_another_rendez : ¬ Waited (device 0 None) (rendez 0) (at 0 []) (Ok 7)
       (at 2 posts_elsewhere)
-  sleeps_on_another_rendez waited = by (came_to 0 None (Ok 7) (at 2 posts_elsewhere) waited)
-    where
-      by : ¬ (IsAnswered 0 None (Ok 7) (at 2 posts_elsewhere)
-          ⊎ HasLeft 0 None (Ok 7) (at 2 posts_elsewhere))
-      by (inl is) =
-          let bad = ap (λ (e : Entry). rendez_of e.event)
-          (of_sleep table no_notes posts_elsewhere is.slept).first in
-          cc
-      by (inr left) = let bad = left.answer_is in cc
+  sleeps_on_another_rendez waited =
+      ⊎_elim
+      (λ is. let bad = ap (λ (e : Entry). rendez_of e.event)
+      (of_sleep table no_notes posts_elsewhere is.slept).first in cc)
+      (λ left. let bad = left.answer_is in cc) (came_to _ _ _ _ waited)
 
   never_leaves : ¬ Waited (device 0 None) (rendez 0) (at 0 [])
       (Err (fault.Interrupted (only Alarm))) (at 1 leaves_with_an_alarm)
   never_leaves waited =
-      by (came_to 0 None (Err (fault.Interrupted (only Alarm))) (at 1 leaves_with_an_alarm) waited)
-    where
-      by : ¬ (IsAnswered 0 None (Err (fault.Interrupted (only Alarm))) (at 1 leaves_with_an_alarm)
-          ⊎ HasLeft 0 None (Err (fault.Interrupted (only Alarm))) (at 1 leaves_with_an_alarm))
-      by (inl is) = let bad = is.seat_is in cc
-      by (inr left) = let bad = left.seat_is in cc
+      ⊎_elim (λ is. let bad = is.seat_is in cc) (λ left. let bad = left.seat_is in cc)
+      (came_to _ _ _ _ waited)
 
   -- a sleep that another process kept out is one step
   not_kept_out : (steps : List Entry) (process : Process)
@@ -346,7 +311,9 @@ module _ (table : TableId) where
 
   drops_the_notes : ¬ Waited (device 0 (Some 9)) (rendez 0) (at 0 []) (Ok 9)
       (at 2 leaves_with_an_alarm)
-  drops_the_notes waited = by (came_to 0 (Some 9) (Ok 9) (at 2 leaves_with_an_alarm) waited)
+  drops_the_notes waited =
+      ⊎_elim (λ is. let bad = is.answer_is in cc)
+      (λ left. back left.why left.process left.failed left.returned) (came_to _ _ _ _ waited)
     where
       back : (why : Fault) (process : Process)
           → FailsAsleep (after table []) (rendez 0) 0 process why
@@ -361,16 +328,11 @@ module _ (table : TableId) where
           let bad = not_kept_out leaves_with_an_alarm process failed returned in cc
       back other process failed returned = failed
 
-      by : ¬ (IsAnswered 0 (Some 9) (Ok 9) (at 2 leaves_with_an_alarm)
-          ⊎ HasLeft 0 (Some 9) (Ok 9) (at 2 leaves_with_an_alarm))
-      by (inl is) = let bad = is.answer_is in cc
-      by (inr left) = back left.why left.process left.failed left.returned
-
   answers_the_notes_and_puts_them_back : ¬ Waited (device 0 None) (rendez 0) (at 0 [])
       (Err (fault.Interrupted (only Alarm))) (at 2 (noted 0 ∷ leaves_with_an_alarm))
   answers_the_notes_and_puts_them_back waited =
-      by (came_to 0 None (Err (fault.Interrupted (only Alarm)))
-      (at 2 (noted 0 ∷ leaves_with_an_alarm)) waited)
+      ⊎_elim (λ is. let bad = is.answer_is in cc)
+      (λ left. kept left.why left.process left.failed left.returned) (came_to _ _ _ _ waited)
     where
       kept : (why : Fault) (process : Process)
           → FailsAsleep (after table []) (rendez 0) 0 process why
@@ -384,28 +346,17 @@ module _ (table : TableId) where
           let bad = not_kept_out (noted 0 ∷ leaves_with_an_alarm) process failed same in cc
       kept other process failed same = failed
 
-      by : ¬ (IsAnswered 0 None (Err (fault.Interrupted (only Alarm)))
-          (at 2 (noted 0 ∷ leaves_with_an_alarm))
-          ⊎ HasLeft 0 None (Err (fault.Interrupted (only Alarm)))
-          (at 2 (noted 0 ∷ leaves_with_an_alarm)))
-      by (inl is) = let bad = is.answer_is in cc
-      by (inr left) = kept left.why left.process left.failed left.returned
-
   answers_another_fault : ¬ Waited (device 0 None) (rendez 0) (at 0 []) (Err fault.Worn)
       (at 2 leaves_with_an_alarm)
   answers_another_fault waited =
-      by (came_to 0 None (Err fault.Worn) (at 2 leaves_with_an_alarm) waited)
+      ⊎_elim (λ is. let bad = is.answer_is in cc)
+      (λ left. subst (FailsAsleep (after table []) (rendez 0) 0 left.process)
+      (sym (ap fault_in left.answer_is)) left.failed)
+      (came_to _ _ _ _ waited)
     where
       fault_in : Result ℕ Fault → Fault
       fault_in (Ok out) = fault.Worn
       fault_in (Err why) = why
-
-      by : ¬ (IsAnswered 0 None (Err fault.Worn) (at 2 leaves_with_an_alarm)
-          ⊎ HasLeft 0 None (Err fault.Worn) (at 2 leaves_with_an_alarm))
-      by (inl is) = let bad = is.answer_is in cc
-      by (inr left) =
-          subst (FailsAsleep (after table []) (rendez 0) 0 left.process)
-          (sym (ap fault_in left.answer_is)) left.failed
 
 -- ---- a device that may tell each request to wait
 

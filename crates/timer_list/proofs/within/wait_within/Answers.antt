@@ -7,7 +7,7 @@ use Rattle.timer_list.specs.declared.timer_object.TimerCall.TheVariants.{Add, Ca
 use Rattle.timer_list.specs.declared.timer_object.TimerReply.TheVariants.{Added}
 use Rattle.timer_list.specs.Asking.{AsksTimers, cancel_reply}
 use Rattle.timer_list.specs.Timers.{deadline_of}
-use Rattle.timer_list.specs.Timing.{Looks, awaiting, timed_point}
+use Rattle.timer_list.specs.Timing.{timed_point}
 use Rattle.timer_list.proofs.TickLemmas.{took_it}
 use Rattle.timer_list.proofs.UntimedLemmas.{untimed}
 use Rattle.waiting.specs.Waiting.{told}

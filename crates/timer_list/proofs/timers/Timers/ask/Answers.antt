@@ -1,35 +1,20 @@
 -- The state that the call finds is what a legal history leaves, in which the seat's own calls are
 -- its.
 use Rattle.std.proofs.Common.{subst}
-use Rattle.histories.specs.Account.{KnowsHistory}
 use Rattle.kernel_lock.specs.Calls.{Serves}
-use Rattle.kernel_lock.specs.Seats.{account_of, number_of, opening_of, shares_of, view_of}
-use Rattle.timer_list.specs.Definitions.{timer_definition}
+use Rattle.kernel_lock.specs.Seats.{number_of, shares_of, view_of}
 use Rattle.timer_list.specs.Timers.{seat_named}
-use Rattle.timer_list.specs.TimerHistory.{timer_meaning}
 use Rattle.timer_list.proofs.AskLemmas.{is_timed, names_it}
 use Rattle.timer_list.proofs.timers.Timers.ask.Goals as goal
 
 pub returns-clause-told : goal.returns-clause-told
 returns-clause-told g c set at =
-    is_timed (opening_of timer_definition c.args.self.now.lock) c.args.self.now.procs
-    (number_of c.args.seat.now.seat) set c.args.call c.apply.result (view_of c.args.seat.now.seat)
-    (view_of c.apply.new.seat)
-    (record {
-      opening_is = at.opened.opening_is;
-      mine = at.mine;
-      shares_are = at.shares_are;
-      set_is = at.set_is;
-      knew = subst (λ limit. KnowsHistory timer_meaning
-          (opening_of timer_definition c.args.self.now.lock) limit
-          (account_of c.args.seat.now.seat)) at.opened.limit at.history;
-      knows = subst (λ limit. KnowsHistory timer_meaning
-          (opening_of timer_definition c.args.self.now.lock) limit (account_of c.apply.new.seat))
-          at.opened.limit c.apply.ensures.history;
-      served = subst
-          (λ by. Serves (record { by = by; request = c.args.call; reply = c.apply.result })
-          (view_of c.args.seat.now.seat) (view_of c.apply.new.seat))
-          (names_it (seat_named c.args.call) (shares_of c.args.seat.now.seat)
-          (number_of c.args.seat.now.seat) at.mine c.requires.named at.shares_are)
-          c.apply.ensures.served;
-    })
+    is_timed c.args.self.now set c.args.call c.apply.result c.args.seat.now
+    (record { seat = c.apply.new.seat }) at
+    c.apply.ensures.history
+    (subst
+    (λ by. Serves (record { by = by; request = c.args.call; reply = c.apply.result })
+    (view_of c.args.seat.now.seat) (view_of c.apply.new.seat))
+    (names_it (seat_named c.args.call) (shares_of c.args.seat.now.seat)
+    (number_of c.args.seat.now.seat) at.mine c.requires.named at.shares_are)
+    c.apply.ensures.served)
