@@ -27,9 +27,7 @@ returns-clause-start c =
       read = record {
         row_is = row_is;
         seat = direction.take_is;
-        knows = subst (λ (a : Account Entry). KnowsQueue (key_of queue) a)
-            (sym (direction.account_is ∙ ap reader_account row_is.writers))
-            (reader_knows (key_of queue));
+        knows = rw (direction.account_is, row_is.writers) (reader_knows (key_of queue));
         gave = ap (λ (a : Account Entry). a.gave) direction.account_is;
         some_left = tt;
       };
