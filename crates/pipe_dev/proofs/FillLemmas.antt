@@ -342,7 +342,11 @@ module _ {key : Key} {mode : Mode} {first now : Lending} {took : Option ℕ} {co
               last = record {
                 further = goes_so;
                 part = given_part.part;
-                taken = rw (room_is, so_far.taker_is) at given_part.taken;
+                taken = subst (λ (t : Taker). TakesPart key
+                    (length first.buffer - length (bytes_of so_far.filling.parts)) t given_part.part
+                    new) so_far.taker_is
+                    (subst (λ (n : ℕ). TakesPart key n now.taker given_part.part new) room_is
+                    given_part.taken);
                 parts = refl;
               };
             };

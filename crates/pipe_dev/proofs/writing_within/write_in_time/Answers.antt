@@ -13,9 +13,8 @@ use Rattle.pipe_dev.proofs.writing_within.write_in_time.Goals as goal
 pub returns-clause-waited : goal.returns-clause-waited
 returns-clause-waited g c =
     let seat = c.args.putting.now.seat in
-    let call : WriteCall = record (call_with c.args.queue.now c.args.row.now seat c.args.bytes.now) {
-      writer = c.writer-writer.result;
-    } in
+    let own = call_with c.args.queue.now c.args.row.now seat c.args.bytes.now in
+    let call : WriteCall = record own { writer = c.writer-writer.result } in
     let ended = c.wait_within in
     rw (c.writer-rendez.ensures, c.writer-writer.ensures) at
     (in_time_seen account_in (writing call) c.writer-rendez.result c.args.timers.now
