@@ -2,8 +2,6 @@
 use Rattle.std.proofs.Common.{◌≡◌, ℕ, List, [], ◌∷◌, length, map, Option, Some, refl, sym, ◌∙◌, ap}
 use Rattle.std.proofs.Common.{subst, arith}
 use Rattle.std.specs.List.{AllByRecursion}
-use Rattle.histories.specs.declared.account.Account.{Account}
-use Rattle.histories.specs.History.{IsPast}
 use Rattle.block_queue.specs.declared.entry.Entry.{Entry}
 use Rattle.block_queue.specs.declared.gather.Gathered.{Gathered}
 use Rattle.block_queue.specs.declared.queue.Queue.{Queue}

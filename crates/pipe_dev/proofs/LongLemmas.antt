@@ -1,6 +1,6 @@
 -- How a long write is cut into writes.
 use Rattle.std.proofs.Common.{◌≡◌, ◌⊎◌, inl, inr, ℕ, zero, suc, ◌<◌, ◌≤◌, true, false, List}
-use Rattle.std.proofs.Common.{[], ◌∷◌, ◌++◌, length, take, drop, reverse, refl, sym, ◌∙◌, ap, subst}
+use Rattle.std.proofs.Common.{[], ◌∷◌, ◌++◌, length, take, drop, reverse, refl, sym, ◌∙◌, ap}
 use Rattle.std.proofs.Common.{arith}
 use Rattle.std.specs.Prelude.{◌↔◌, nat_le, Option, Some, None, Result, Ok, Err, IsErrOf}
 use Rattle.std.proofs.lemmas.Bool.Decides.{leb_tells, nat_tests}
@@ -9,8 +9,6 @@ use Rattle.sync_base.specs.declared.fault.Fault.{Fault}
 use Rattle.sync_base.specs.declared.fault.Fault.TheVariants.{TooBig, NoRendez}
 use Rattle.sync_base.specs.declared.limits.TheConstants.{ATOMIC_SIZE}
 use Rattle.rendez_words.specs.declared.words.Words.{Words}
-use Rattle.block_queue.specs.declared.queue.Queue.{Queue}
-use Rattle.block_queue.specs.Seats.{key_of}
 use Rattle.pipe_dev.specs.declared.row.Row.{Row}
 use Rattle.pipe_dev.specs.Ends.{WriteSide, IsSameWriteEnd}
 use Rattle.pipe_dev.specs.Rendezes.{OwnsRow}

@@ -19,7 +19,7 @@ use Rattle.block_queue.specs.Meaning.{KnowsQueue}
 use Rattle.block_queue.specs.Opening.{IsNewPutSeat, new_account, reader_account}
 use Rattle.block_queue.specs.Seats.{IsPutSeatOf, key_of, put_account}
 use Rattle.pipe_dev.specs.declared.row.Row.{Row}
-use Rattle.pipe_dev.specs.Ends.{ReadSide, WriteSide, AreOfOne, IsRowOf, IsWriteSeat}
+use Rattle.pipe_dev.specs.Ends.{ReadSide, WriteSide, AreOfOne, IsRowOf}
 use Rattle.pipe_dev.specs.Finishing.{shares_of}
 use Rattle.pipe_dev.specs.Openings.{IsSeatToGive, IsNewWriteEnd}
 use Rattle.pipe_dev.specs.Seating.{IsWriteSeatOf, AreSeatsOf, side_of}

@@ -1,10 +1,9 @@
 -- What the calls of an end make of what it has read or written, and what a finish finds.
-use Rattle.std.proofs.Common.{◌≡◌, ◌+◌, ◌<◌, ◌++◌, ℕ, List, [], ◌∷◌, map, refl, sym}
-use Rattle.std.proofs.Common.{◌∙◌, ap, subst, arith, Option, inr}
+use Rattle.std.proofs.Common.{◌≡◌, ◌+◌, ◌<◌, ℕ, List, [], ◌∷◌, map, refl, sym}
+use Rattle.std.proofs.Common.{◌∙◌, ap, subst, arith, inr}
 use Rattle.std.proofs.lemmas.List.{append-nil}
 use Rattle.std.specs.List.{AllByRecursion}
 use Rattle.histories.specs.Account.{numbers_from}
-use Rattle.histories.specs.declared.account.Account.{Account}
 use Rattle.histories.specs.History.{AreByBelow}
 use Rattle.histories.proofs.ListLemmas.{all_append}
 use Rattle.sync_base.specs.Write.{Write}
@@ -17,7 +16,7 @@ use Rattle.block_queue.specs.History.{seat_of}
 use Rattle.block_queue.specs.Opening.{reader_account}
 use Rattle.block_queue.specs.Seats.{key_of}
 use Rattle.pipe_dev.specs.declared.row.Row.{Row}
-use Rattle.pipe_dev.specs.Chain.{ReadStep, IsMade, HasWritten, written_by}
+use Rattle.pipe_dev.specs.Chain.{ReadStep, IsMade}
 use Rattle.pipe_dev.specs.Chain.{AddsRead, AddsTry, AddsNone}
 use Rattle.pipe_dev.specs.Ends.{ReadSide, WriteSide, AreOfOne, IsSameReadEnd}
 use Rattle.pipe_dev.specs.Ends.{reading_of}

@@ -1,11 +1,8 @@
 -- nothing was called on any of them, and these are all
-use Rattle.std.proofs.Common.{◌≡◌, sym, ap, subst, ◌∙◌, map}
-use Rattle.histories.specs.Account.{numbers_from}
+use Rattle.std.proofs.Common.{◌∙◌}
 use Rattle.histories.proofs.ListLemmas.{all_weaker}
-use Rattle.std.specs.List.{AllByRecursion}
-use Rattle.pipe_dev.specs.Ends.{WriteSide, AreOfOne}
-use Rattle.pipe_dev.specs.Openings.{IsNewWriteEnd, IsSeatToGive}
-use Rattle.pipe_dev.specs.Seating.{side_of, IsWriteSeatOf}
+use Rattle.pipe_dev.specs.Openings.{IsSeatToGive}
+use Rattle.pipe_dev.specs.Seating.{IsWriteSeatOf}
 use Rattle.pipe_dev.proofs.SeatingLemmas.{new_writes, new_one, new_order}
 use Rattle.pipe_dev.proofs.end.make_ends.Goals as goal
 

@@ -1,9 +1,6 @@
 -- The wait, as the account of the seat knows it.
-use Rattle.std.proofs.Common.{ℕ, subst}
-use Rattle.sync_base.specs.declared.ids.RendezId.{RendezId}
-use Rattle.waiting.specs.Waiting.{Waited, point}
-use Rattle.pipe_dev.specs.Rendezes.{writer_rendez}
-use Rattle.pipe_dev.specs.WriteCalls.{WriteCall, call_with, writer_with, writing}
+use Rattle.waiting.specs.Waiting.{point}
+use Rattle.pipe_dev.specs.WriteCalls.{WriteCall, call_with, writing}
 use Rattle.pipe_dev.specs.WriteSteps.{account_in}
 use Rattle.pipe_dev.proofs.SightLemmas.{waited_seen}
 use Rattle.pipe_dev.proofs.writing.write_with.Goals as goal

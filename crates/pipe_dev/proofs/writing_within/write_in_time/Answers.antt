@@ -1,10 +1,6 @@
 -- The wait, as the account of the seat knows it.
-use Rattle.std.proofs.Common.{ℕ, subst}
-use Rattle.sync_base.specs.declared.ids.RendezId.{RendezId}
-use Rattle.block_queue.specs.Seats.{put_account}
 use Rattle.timer_list.specs.Timers.{deadline_of}
-use Rattle.timer_list.specs.Timing.{WaitedInTime, timed_point}
-use Rattle.pipe_dev.specs.Rendezes.{writer_rendez}
+use Rattle.timer_list.specs.Timing.{timed_point}
 use Rattle.pipe_dev.specs.WriteCalls.{WriteCall, call_with, writing}
 use Rattle.pipe_dev.specs.WriteSteps.{account_in}
 use Rattle.pipe_dev.proofs.TimedLemmas.{in_time_seen}
