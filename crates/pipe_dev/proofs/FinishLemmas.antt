@@ -2,8 +2,6 @@
 use Rattle.std.proofs.Common.{◌≡◌, ℕ, List, [], ◌∷◌, length, map, Option, Some, refl, sym, ◌∙◌, ap}
 use Rattle.std.proofs.Common.{subst, arith}
 use Rattle.std.specs.List.{AllByRecursion}
-use Rattle.histories.specs.declared.account.Account.{Account}
-use Rattle.histories.specs.History.{IsPast}
 use Rattle.block_queue.specs.declared.entry.Entry.{Entry}
 use Rattle.block_queue.specs.declared.gather.Gathered.{Gathered}
 use Rattle.block_queue.specs.declared.queue.Queue.{Queue}
@@ -35,7 +33,7 @@ pasts_back : (history : List Entry) (writes : List WriteSide) (seats : List PutS
     → AreSeatsOf writes seats → AreTheirPasts history seats → HaveSeen history writes
 pasts_back history [] [] are pasts = tt
 pasts_back history (write ∷ writes) (seat ∷ seats) are pasts = (
-  subst (λ (a : Account Entry). IsPast a.seen history) are.0.account pasts.0,
+  rw are.0.account at pasts.0,
   pasts_back history writes seats are.1 pasts.1,
 )
 pasts_back history writes seats are pasts = absurd are

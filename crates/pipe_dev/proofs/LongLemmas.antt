@@ -1,6 +1,6 @@
 -- How a long write is cut into writes.
 use Rattle.std.proofs.Common.{◌≡◌, ◌⊎◌, inl, inr, ℕ, zero, suc, ◌<◌, ◌≤◌, true, false, List}
-use Rattle.std.proofs.Common.{[], ◌∷◌, ◌++◌, length, take, drop, reverse, refl, sym, ◌∙◌, ap, subst}
+use Rattle.std.proofs.Common.{[], ◌∷◌, ◌++◌, length, take, drop, reverse, refl, sym, ◌∙◌, ap}
 use Rattle.std.proofs.Common.{arith}
 use Rattle.std.specs.Prelude.{◌↔◌, nat_le, Option, Some, None, Result, Ok, Err, IsErrOf}
 use Rattle.std.proofs.lemmas.Bool.Decides.{leb_tells, nat_tests}
@@ -9,8 +9,6 @@ use Rattle.sync_base.specs.declared.fault.Fault.{Fault}
 use Rattle.sync_base.specs.declared.fault.Fault.TheVariants.{TooBig, NoRendez}
 use Rattle.sync_base.specs.declared.limits.TheConstants.{ATOMIC_SIZE}
 use Rattle.rendez_words.specs.declared.words.Words.{Words}
-use Rattle.block_queue.specs.declared.queue.Queue.{Queue}
-use Rattle.block_queue.specs.Seats.{key_of}
 use Rattle.pipe_dev.specs.declared.row.Row.{Row}
 use Rattle.pipe_dev.specs.Ends.{WriteSide, IsSameWriteEnd}
 use Rattle.pipe_dev.specs.Rendezes.{OwnsRow}
@@ -85,12 +83,7 @@ pub wrote_at : (old now : WriteSide) (block : List ℕ) (before : Writer) (answe
     (after : Writer) → IsSameWriteEnd old now → Writes (call_of now block) before answer after
     → Writes (call_of old block) before answer after
 wrote_at old now block before answer after same wrote =
-    subst (λ (q : Queue). Writes (record (call_of old block) { key = key_of q }) before answer
-    after) same.queue
-    (subst (λ (r : Row). Writes (record (call_of old block) { key = key_of now.queue; row = r })
-    before answer after) same.row
-    (subst (λ (n : ℕ). Writes (record (call_of now block) { writer = n }) before answer after)
-    same.writer wrote))
+    rw (same.queue, same.row, same.writer) at wrote
 
 -- the next write is cut off
 pub cut_next : (bytes left front back : List ℕ) (done : List (List ℕ)) → ATOMIC_SIZE < length left
@@ -130,17 +123,11 @@ not_too_big size why tells fits is =
     let big = tells.0 same in absurd (omega (arith, big, fits))
 
 module _ (words now : Words) (row row' : Row) (same : now ≡ words) (same_row : row' ≡ row) where
-  moved : (answer : Result ℕ Fault) → (IsErrOf answer NoRendez ↔ ¬ OwnsRow now row')
-      → (IsErrOf answer NoRendez ↔ ¬ OwnsRow words row)
-  moved answer tells =
-      subst (λ (w : Words). IsErrOf answer NoRendez ↔ ¬ OwnsRow w row) same
-      (subst (λ (r : Row). IsErrOf answer NoRendez ↔ ¬ OwnsRow now r) same_row tells)
-
   -- the long write is refused so where the piece was
   pub told_alike : (why : Fault) → (IsErrOf (refused why) NoRendez ↔ ¬ OwnsRow now row')
       → ((Some why ≡ Some NoRendez) ↔ ¬ OwnsRow words row)
   told_alike why tells =
-      let at = moved (refused why) tells in (
+      let at = rw (same, same_row) at tells in (
         λ is. let same : refused why ≡ refused NoRendez = cc in at.0 same,
         λ none. let same = at.1 none in cc,
       )
@@ -150,4 +137,4 @@ module _ (words now : Words) (row row' : Row) (same : now ≡ words) (same_row :
       → (IsErrOf {T = ℕ} (Ok number) NoRendez ↔ ¬ OwnsRow now row')
       → ((fault ≡ Some NoRendez) ↔ ¬ OwnsRow words row)
   told_none number fault none tells =
-      let at = moved (Ok number) tells in (λ is. cc, λ other. let no = at.1 other in cc)
+      let at = rw (same, same_row) at tells in (λ is. cc, λ other. let no = at.1 other in cc)

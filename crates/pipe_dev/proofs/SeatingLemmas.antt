@@ -19,7 +19,7 @@ use Rattle.block_queue.specs.Meaning.{KnowsQueue}
 use Rattle.block_queue.specs.Opening.{IsNewPutSeat, new_account, reader_account}
 use Rattle.block_queue.specs.Seats.{IsPutSeatOf, key_of, put_account}
 use Rattle.pipe_dev.specs.declared.row.Row.{Row}
-use Rattle.pipe_dev.specs.Ends.{ReadSide, WriteSide, AreOfOne, IsRowOf, IsWriteSeat}
+use Rattle.pipe_dev.specs.Ends.{ReadSide, WriteSide, AreOfOne, IsRowOf}
 use Rattle.pipe_dev.specs.Finishing.{shares_of}
 use Rattle.pipe_dev.specs.Openings.{IsSeatToGive, IsNewWriteEnd}
 use Rattle.pipe_dev.specs.Seating.{IsWriteSeatOf, AreSeatsOf, side_of}
@@ -137,10 +137,7 @@ pub seats_back : (read : ReadSide) (writes : List WriteSide) (seats : List PutSe
     → AllByRecursion (IsWriteSeatOf read.queue read.row) seats
 seats_back read [] [] one are = tt
 seats_back read (write ∷ writes) (seat ∷ seats) one are = (
-  subst (λ (q : Queue). IsWriteSeat q read.row seat.writer seat) one.0.queue
-      (subst (λ (r : Row). IsWriteSeat write.queue r seat.writer seat) one.0.row
-      (subst (λ (n : ℕ). IsWriteSeat write.queue write.row n seat) (sym are.0.seat_is.writer_is)
-      are.0.seat_is)),
+  rw (one.0.queue, one.0.row, ← are.0.seat_is.writer_is) at are.0.seat_is,
   seats_back read writes seats one.1 are.1,
 )
 seats_back read writes seats one are = absurd are
@@ -205,8 +202,7 @@ pub shares_back : (history : List Entry) (writes : List WriteSide) (seats : List
 shares_back history [] [] are theirs = tt
 shares_back history (write ∷ writes) (seat ∷ seats) are theirs =
     all_append (HasItsEntries seat_of history) write.account.shares (shares_of writes)
-    (subst (λ (a : Account Entry). AllByRecursion (HasItsEntries seat_of history) a.shares)
-    are.0.account theirs.0)
+    (rw are.0.account at theirs.0)
     (shares_back history writes seats are.1 theirs.1)
 shares_back history writes seats are theirs = absurd are
 

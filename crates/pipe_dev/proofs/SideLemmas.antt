@@ -1,10 +1,9 @@
 -- What the calls of an end make of what it has read or written, and what a finish finds.
-use Rattle.std.proofs.Common.{◌≡◌, ◌+◌, ◌<◌, ◌++◌, ℕ, List, [], ◌∷◌, map, refl, sym}
-use Rattle.std.proofs.Common.{◌∙◌, ap, subst, arith, Option, inr}
+use Rattle.std.proofs.Common.{◌≡◌, ◌+◌, ◌<◌, ℕ, List, [], ◌∷◌, map, refl, sym}
+use Rattle.std.proofs.Common.{◌∙◌, ap, subst, arith, inr}
 use Rattle.std.proofs.lemmas.List.{append-nil}
 use Rattle.std.specs.List.{AllByRecursion}
 use Rattle.histories.specs.Account.{numbers_from}
-use Rattle.histories.specs.declared.account.Account.{Account}
 use Rattle.histories.specs.History.{AreByBelow}
 use Rattle.histories.proofs.ListLemmas.{all_append}
 use Rattle.sync_base.specs.Write.{Write}
@@ -17,7 +16,7 @@ use Rattle.block_queue.specs.History.{seat_of}
 use Rattle.block_queue.specs.Opening.{reader_account}
 use Rattle.block_queue.specs.Seats.{key_of}
 use Rattle.pipe_dev.specs.declared.row.Row.{Row}
-use Rattle.pipe_dev.specs.Chain.{ReadStep, IsMade, HasWritten, written_by}
+use Rattle.pipe_dev.specs.Chain.{ReadStep, IsMade}
 use Rattle.pipe_dev.specs.Chain.{AddsRead, AddsTry, AddsNone}
 use Rattle.pipe_dev.specs.Ends.{ReadSide, WriteSide, AreOfOne, IsSameReadEnd}
 use Rattle.pipe_dev.specs.Ends.{reading_of}
@@ -99,8 +98,7 @@ writes_add old new before after block answer writes same =
     record {
       same = same;
       just = λ blocks written.
-          subst (λ (w : ℕ). HasWritten new.account w (blocks ++ written_by answer block))
-          (sym same.writer)
+          rw same.writer
           (writes_add_what_was_accepted (call_of old block) (writer_of old before) answer
           (writer_of new after) writes blocks written);
     }
@@ -111,11 +109,9 @@ write_ends_hang_up old new enters same =
     record {
       same = same;
       just = λ blocks written.
-          subst (λ (bs : List (List ℕ)). HasWritten new.account new.writer bs)
-          (sym (append-nil blocks))
-          (subst (λ (w : ℕ). HasWritten new.account w blocks) (sym same.writer)
+          rw (append-nil blocks, same.writer)
           (hangups_write_nothing (key_of old.queue) old.writer old.account new.account enters blocks
-          written));
+          written);
     }
 
 -- ---- all ends of a direction
@@ -125,18 +121,9 @@ pub new_ends_are_unused : NewEndsAreUnused
 new_ends_are_unused queue start read writes is_start new =
     record {
       read_none = record {
-        first = ap (λ (q : Queue). (key_of q).first) new.queue_is ∙ is_start.row_is.first;
+        first = rw new.queue_is is_start.row_is.first;
         times = 0;
-        steps = ap (λ (a : Account Entry). record { account = a; parts = []; rest = read.rest })
-            (new.unread
-            ∙ ap reader_account
-            (is_start.row_is.writers
-            ∙ ap (λ (q : Queue). (key_of q).writers) (sym new.queue_is)))
-            ∙ ap (λ (r : Option Part). record {
-              account = reader_account (key_of read.queue).writers;
-              parts = [];
-              rest = r;
-            }) new.rest;
+        steps = rw (new.unread, new.rest, new.queue_is, is_start.row_is.writers) refl;
       };
       written_none = each writes new.unwritten;
     }
@@ -145,8 +132,7 @@ new_ends_are_unused queue start read writes is_start new =
         → AllByRecursion (λ write. HasWrittenJust write []) ends
     each [] unwritten = tt
     each (write ∷ ends) unwritten = (
-      subst (λ (a : Account Entry). HasWritten a write.writer []) (sym unwritten.0.unused)
-          (new_ends_have_written_nothing write.writer),
+      rw unwritten.0.unused (new_ends_have_written_nothing write.writer),
       each ends unwritten.1,
     )
 
@@ -155,8 +141,6 @@ still_one : (read read' : ReadSide) (writes writes' : List WriteSide) → IsSame
     → AreSameWriteEnds writes writes' → AllByRecursion (AreOfOne read) writes
     → AllByRecursion (AreOfOne read') writes'
 still_one read read' [] [] same sames one = tt
-still_one read read' [] (new ∷ news) same sames one = absurd sames
-still_one read read' (old ∷ olds) [] same sames one = absurd sames
 still_one read read' (old ∷ olds) (new ∷ news) same sames one = (
   record {
     queue = sames.0.queue ∙ (one.0.queue ∙ sym same.queue);
@@ -164,16 +148,15 @@ still_one read read' (old ∷ olds) (new ∷ news) same sames one = (
   },
   still_one read read' olds news same sames.1 one.1,
 )
+still_one read read' writes writes' same sames one = absurd sames
 
 -- and their writers are in the same order
 same_order : (writes writes' : List WriteSide) → AreSameWriteEnds writes writes'
     → map (λ write. write.writer) writes' ≡ map (λ write. write.writer) writes
 same_order [] [] sames = refl
-same_order [] (new ∷ news) sames = absurd sames
-same_order (old ∷ olds) [] sames = absurd sames
 same_order (old ∷ olds) (new ∷ news) sames =
-    ap (λ (w : ℕ). w ∷ map (λ (write : WriteSide). write.writer) news) sames.0.writer
-    ∙ ap (λ (ws : List ℕ). old.writer ∷ ws) (same_order olds news sames.1)
+    let here = sames.0.writer in let others = same_order olds news sames.1 in cc
+same_order writes writes' sames = absurd sames
 
 -- ends that were all ends of a direction are so after any calls
 pub calls_keep_all_ends : CallsKeepAllEnds

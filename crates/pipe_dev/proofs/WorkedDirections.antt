@@ -64,8 +64,7 @@ module _ (pipe : Pipe) (start : PipeStart) where
       → ¬ IsStartOf pipe start
   a_start_of_another_pipe_there other of_it = other of_it.there
 
-  a_start_of_another_pipe_back : ¬ IsDirectionStartOf pipe.back start.back
-      → ¬ IsStartOf pipe start
+  a_start_of_another_pipe_back : ¬ IsDirectionStartOf pipe.back start.back → ¬ IsStartOf pipe start
   a_start_of_another_pipe_back other of_it = other of_it.back
 
 module _ (words : Words) (opened : Opened) where

@@ -105,5 +105,4 @@ module _ (queue : Queue) (row : Row) (read : ReadSide) (write : WriteSide) where
 a_writer_saw_more : (read : ReadSide) (parts : List Part) (write : WriteSide) (held : Held)
     → ((history : List Entry) → IsPast write.account.seen history → ⊥)
     → FinishesEnds read parts (write ∷ []) held → ⊥
-a_writer_saw_more read parts write held none ends =
-    none ends.finishes.history ends.writers_seen.0
+a_writer_saw_more read parts write held none ends = none ends.finishes.history ends.writers_seen.0

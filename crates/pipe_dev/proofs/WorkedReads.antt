@@ -1,8 +1,9 @@
 -- Reads of messages worked out by the definitions alone, and short reads that they refuse.
-use Rattle.std.proofs.Common.{◌≡◌, ◌⊎◌, ◌+◌, [], ◌∷◌, Some, None, refl, inl, inr, ap, subst, arith}
-use Rattle.std.proofs.Common.{rules}
-use Rattle.std.specs.Prelude.{Ok, Err}
+use Rattle.std.proofs.Common.{◌≡◌, ◌⊎◌, ◌+◌, ℕ, List, [], ◌∷◌, Some, None, refl, inl, inr}
+use Rattle.std.proofs.Common.{ap, subst, arith, rules}
+use Rattle.std.specs.Prelude.{Result, Ok, Err, Option}
 use Rattle.histories.specs.declared.account.Account.{Account}
+use Rattle.sync_base.specs.declared.fault.Fault.{Fault}
 use Rattle.sync_base.specs.declared.fault.Fault.TheVariants as fault
 use Rattle.sync_base.specs.declared.mode.Mode.TheVariants.{Message}
 use Rattle.sync_base.specs.NoteSet.{no_notes}
@@ -12,6 +13,7 @@ use Rattle.block_queue.specs.declared.entry.Entry.TheVariants as entry
 use Rattle.block_queue.specs.Meaning.{Enters}
 use Rattle.pipe_dev.specs.declared.answers.ReadAnswer.{ReadAnswer}
 use Rattle.pipe_dev.specs.declared.answers.ReadAnswer.TheVariants as read
+use Rattle.pipe_dev.specs.declared.answers.TryAnswer.{TryAnswer}
 use Rattle.pipe_dev.specs.declared.answers.TryAnswer.TheVariants as try
 use Rattle.pipe_dev.specs.BlockReads.{ReadsBlock, AsksForBlock}
 use Rattle.pipe_dev.specs.Chain.{IsMade, IsNoBlock, AddsNothing, ReadStep}
@@ -19,7 +21,7 @@ use Rattle.pipe_dev.specs.Parts.{Part}
 use Rattle.pipe_dev.specs.ReadCalls.{Reader, Reads, Tries, GoesOn, TakesOut, FindsNotYet}
 use Rattle.pipe_dev.specs.Filling.{Lending}
 use Rattle.pipe_dev.specs.ReadCalls.{AsksForBytes, Calling, GivesUp, calling, lending_of, lent_at}
-use Rattle.pipe_dev.specs.ReadCalls.{reading, waits_by}
+use Rattle.pipe_dev.specs.ReadCalls.{FindsEnd, reading, waits_by}
 use Rattle.waiting.specs.declared.call.Reply.{Reply}
 use Rattle.waiting.specs.declared.call.Reply.TheVariants.{Done, Wait, Refused}
 use Rattle.pipe_dev.specs.Reading.{Reading}
@@ -73,6 +75,41 @@ module _ (table : TableId) where
   abbrev reader_woken : Process
   reader_woken = slept idle 3 0 no_notes
 
+  -- a read of a buffer before any call, and behind what a take told
+  abbrev unread_with : List ℕ → Calling
+  unread_with buffer = calling (reader unread idle) buffer
+
+  abbrev told_with : List ℕ → Calling
+  told_with buffer = calling (reader told idle) buffer
+
+  abbrev taken_with : List ℕ → Calling
+  taken_with buffer = calling (reader has_taken idle) buffer
+
+  abbrev ended_with : List ℕ → Calling
+  ended_with buffer = calling (reader has_ended idle) buffer
+
+  abbrev ReadsSo : Calling → Result ReadAnswer Fault → Calling → Type 0
+  ReadsSo = Reads tight rendez_row
+
+  abbrev TriesSo : Calling → TryAnswer → Calling → Type 0
+  TriesSo = Tries tight rendez_row
+
+  abbrev ReadsBlockSo : Calling → Result ReadAnswer Fault → Calling → Type 0
+  ReadsBlockSo = ReadsBlock tight rendez_row
+
+  found_end : FindsEnd tight (reader unread idle) (reader has_ended idle)
+  found_end = record { none_left = refl; entered = finds_the_end; rest = refl; process = refl }
+
+  -- the write was taken out, and its writer woken with the number 1
+  took_out : (rest : Option Part) → TakesOut tight rendez_row (reader told reader_woken) first_write
+      (record { account = has_taken; rest = rest; process = woke reader_woken 4 1 })
+  took_out rest =
+      record {
+        none_left = refl;
+        taken = takes_out;
+        woken = wakes_writer Message reader_woken 1;
+      }
+
   finds_not_yet : FindsNotYet tight 0 (reader unread idle) (reader told idle)
   finds_not_yet =
       record {
@@ -81,44 +118,32 @@ module _ (table : TableId) where
       }
 
   -- it slept once, and then got the write whole and woke its writer with the number 1
-  waits_and_reads : Reads tight rendez_row (calling (reader unread idle) (0 ∷ 0 ∷ 0 ∷ []))
+  waits_and_reads : ReadsSo (unread_with (0 ∷ 0 ∷ 0 ∷ []))
       (Ok (read.Got 2)) (calling (reader has_taken (woke reader_woken 4 1)) (97 ∷ 98 ∷ 0 ∷ []))
   waits_and_reads =
-      slept_once (reading tight rendez_row) 3
-      (lent_at (calling (reader unread idle) (0 ∷ 0 ∷ 0 ∷ [])))
-      (lending_of (calling (reader told idle) (0 ∷ 0 ∷ 0 ∷ [])))
-      (lending_of (calling (reader has_taken idle) (97 ∷ 98 ∷ 0 ∷ []))) idle 0 (finds_not_yet, refl)
-      (Ok (read.Got 2)) (woke reader_woken 4 1)
+      slept_once (reading tight rendez_row) 3 (lent_at (unread_with (0 ∷ 0 ∷ 0 ∷ [])))
+      (lending_of (told_with (0 ∷ 0 ∷ 0 ∷ []))) (lending_of (taken_with (97 ∷ 98 ∷ 0 ∷ []))) idle 0
+      (finds_not_yet, refl) (Ok (read.Got 2)) (woke reader_woken 4 1)
       (record {
         left = first_write;
-        next = inr record {
-          none_left = refl;
-          taken = takes_out;
-          woken = wakes_writer Message reader_woken 1;
-        };
+        next = inr (took_out None);
         filled = record { count_is = refl; bytes = refl };
         rest = refl;
       })
 
-  reads_to_the_end : Reads tight rendez_row (calling (reader unread idle) b) (Ok read.End)
-      (calling (reader has_ended idle) b)
-  reads_to_the_end =
-      inl (record { none_left = refl; entered = finds_the_end; rest = refl; process = refl }, refl)
+  reads_to_the_end : ReadsSo (unread_with b) (Ok read.End) (ended_with b)
+  reads_to_the_end = inl (found_end, refl)
 
-  read_of_no_bytes : Reads tight rendez_row (calling (reader unread idle) []) (Err fault.BadCount)
-      (calling (reader unread idle) [])
+  read_of_no_bytes : ReadsSo (unread_with []) (Err fault.BadCount) (unread_with [])
   read_of_no_bytes = record { same = refl; buffer_same = refl }
 
-  read_of_another_kernel : Reads tight rendez_row (calling (reader unread idle) b)
-      (Err fault.NoRendez) (calling (reader unread idle) b)
+  read_of_another_kernel : ReadsSo (unread_with b) (Err fault.NoRendez) (unread_with b)
   read_of_another_kernel = record { same = refl; buffer_same = refl }
 
-  refused_read_asks : Reads tight rendez_row (calling (reader unread idle) b) (Err fault.NoRendez)
-      (calling (reader told idle) b) → ⊥
+  refused_read_asks : ReadsSo (unread_with b) (Err fault.NoRendez) (told_with b) → ⊥
   refused_read_asks reads = let seen = ap (λ (r : Reader). r.account.seen) reads.same in cc
 
-  refused_read_writes_its_buffer : Reads tight rendez_row (calling (reader unread idle) b)
-      (Err fault.BadCount) (calling (reader unread idle) a) → ⊥
+  refused_read_writes_its_buffer : ReadsSo (unread_with b) (Err fault.BadCount) (unread_with a) → ⊥
   refused_read_writes_its_buffer reads = let bytes = reads.buffer_same in cc
 
   queue_refuses_a_read : (old new : Calling)
@@ -126,7 +151,7 @@ module _ (table : TableId) where
   queue_refuses_a_read old new asks = asks
 
   read_that_waits_fills_its_buffer : ¬ AsksForBytes tight rendez_row
-      (calling (reader unread idle) b) (Wait 0) (calling (reader told idle) a)
+      (unread_with b) (Wait 0) (told_with a)
   read_that_waits_fills_its_buffer asks = let bytes = asks.1 in cc
 
   -- ---- a read that does not wait
@@ -138,22 +163,18 @@ module _ (table : TableId) where
   abbrev begun : Process → Reader
   begun process = record { account = has_taken; rest = Some second_byte; process = process }
 
-  tries_and_begins : Tries tight rendez_row (calling (reader told reader_woken) (0 ∷ []))
+  tries_and_begins : TriesSo (calling (reader told reader_woken) (0 ∷ []))
       (try.Got 1) (calling (begun (woke reader_woken 4 1)) (97 ∷ []))
   tries_and_begins =
       record {
         left = first_write;
-        next = inr record {
-          none_left = refl;
-          taken = takes_out;
-          woken = wakes_writer Message reader_woken 1;
-        };
+        next = inr (took_out (Some second_byte));
         filled = record { count_is = refl; bytes = refl };
         rest = refl;
       }
 
-  tries_and_goes_on : Tries tight rendez_row (calling (begun idle) (0 ∷ 0 ∷ [])) (try.Got 1)
-      (calling (reader has_taken idle) (98 ∷ 0 ∷ []))
+  tries_and_goes_on : TriesSo (calling (begun idle) (0 ∷ 0 ∷ [])) (try.Got 1)
+      (taken_with (98 ∷ 0 ∷ []))
   tries_and_goes_on =
       record {
         left = second_byte;
@@ -162,16 +183,13 @@ module _ (table : TableId) where
         rest = refl;
       }
 
-  tries_too_early : Tries tight rendez_row (calling (reader unread idle) b) try.NotYet
-      (calling (reader told idle) b)
+  tries_too_early : TriesSo (unread_with b) try.NotYet (told_with b)
   tries_too_early = (record { number = 0; found = finds_not_yet }, refl)
 
-  tries_at_the_end : Tries tight rendez_row (calling (reader unread idle) b) try.End
-      (calling (reader has_ended idle) b)
-  tries_at_the_end =
-      (record { none_left = refl; entered = finds_the_end; rest = refl; process = refl }, refl)
+  tries_at_the_end : TriesSo (unread_with b) try.End (ended_with b)
+  tries_at_the_end = (found_end, refl)
 
-  try_wakes_no_writer : Tries tight rendez_row (calling (reader told idle) (0 ∷ [])) (try.Got 1)
+  try_wakes_no_writer : TriesSo (told_with (0 ∷ [])) (try.Got 1)
       (calling (begun idle) (97 ∷ [])) → ⊥
   try_wakes_no_writer tries = by tries.left tries.next
     where
@@ -181,12 +199,10 @@ module _ (table : TableId) where
       by left (inr out) =
           is_not_idle table out.woken.between (left.place + 1) out.woken.last.woken.ends
 
-  try_sleeps : Tries tight rendez_row (calling (reader unread idle) b) try.NotYet
-      (calling (reader told reader_woken) b) → ⊥
+  try_sleeps : TriesSo (unread_with b) try.NotYet (calling (reader told reader_woken) b) → ⊥
   try_sleeps tries = let trace = ap (λ (p : Process). p.trace) tries.0.found.none.process in cc
 
-  try_at_the_end_fills_its_buffer : Tries tight rendez_row (calling (reader unread idle) b) try.End
-      (calling (reader has_ended idle) a) → ⊥
+  try_at_the_end_fills_its_buffer : TriesSo (unread_with b) try.End (ended_with a) → ⊥
   try_at_the_end_fills_its_buffer tries = let bytes = tries.1 in cc
 
   -- ---- a read of a block
@@ -195,20 +211,15 @@ module _ (table : TableId) where
   asks_for_block = AsksForBlock tight rendez_row
 
   -- it slept once; then the block is the write, whole, and its writer was woken with the number 1
-  waits_and_reads_a_block : ReadsBlock tight rendez_row (calling (reader unread idle) b)
+  waits_and_reads_a_block : ReadsBlockSo (unread_with b)
       (Ok (read.Got 2)) (calling (reader has_taken (woke reader_woken 4 1)) a)
   waits_and_reads_a_block =
-      slept_once (waits_by asks_for_block) 3 (lent_at (calling (reader unread idle) b))
-      (lending_of (calling (reader told idle) b)) (lending_of (calling (reader has_taken idle) a))
-      idle 0
-      (finds_not_yet, refl) (Ok (read.Got 2)) (woke reader_woken 4 1) (
+      slept_once (waits_by asks_for_block) 3 (lent_at (unread_with b)) (lending_of (told_with b))
+      (lending_of (taken_with a)) idle 0 (finds_not_yet, refl) (Ok (read.Got 2))
+      (woke reader_woken 4 1) (
         record {
           left = first_write;
-          next = inr record {
-            none_left = refl;
-            taken = takes_out;
-            woken = wakes_writer Message reader_woken 1;
-          };
+          next = inr (took_out None);
           block_is = refl;
           rest = refl;
         },
@@ -216,8 +227,8 @@ module _ (table : TableId) where
       )
 
   -- of a write that was begun it reads what is left, and wakes nobody
-  reads_a_begun_block : ReadsBlock tight rendez_row (calling (begun idle) a) (Ok (read.Got 1))
-      (calling (reader has_taken idle) (98 ∷ []))
+  reads_a_begun_block : ReadsBlockSo (calling (begun idle) a) (Ok (read.Got 1))
+      (taken_with (98 ∷ []))
   reads_a_begun_block =
       inl (
         record {
@@ -229,20 +240,13 @@ module _ (table : TableId) where
         refl,
       )
 
-  reads_no_block_at_the_end : ReadsBlock tight rendez_row (calling (reader unread idle) b)
-      (Ok read.End) (calling (reader has_ended idle) b)
-  reads_no_block_at_the_end =
-      inl (
-        record { none_left = refl; entered = finds_the_end; rest = refl; process = refl },
-        refl,
-      )
+  reads_no_block_at_the_end : ReadsBlockSo (unread_with b) (Ok read.End) (ended_with b)
+  reads_no_block_at_the_end = inl (found_end, refl)
 
-  block_read_of_another_kernel : ReadsBlock tight rendez_row (calling (reader unread idle) b)
-      (Err fault.NoRendez) (calling (reader unread idle) b)
+  block_read_of_another_kernel : ReadsBlockSo (unread_with b) (Err fault.NoRendez) (unread_with b)
   block_read_of_another_kernel = record { same = refl; buffer_same = refl }
 
-  refused_block_read_asks : ReadsBlock tight rendez_row (calling (reader unread idle) b)
-      (Err fault.NoRendez) (calling (reader told idle) b) → ⊥
+  refused_block_read_asks : ReadsBlockSo (unread_with b) (Err fault.NoRendez) (told_with b) → ⊥
   refused_block_read_asks reads = let seen = ap (λ (r : Reader). r.account.seen) reads.same in cc
 
   block_read_leaves_a_rest : ¬ asks_for_block (calling (reader told reader_woken) b)
@@ -250,21 +254,20 @@ module _ (table : TableId) where
   block_read_leaves_a_rest asks = let rest = asks.0.rest in cc
 
   block_read_counts_another_size : ¬ asks_for_block (calling (begun idle) a) (Done (read.Got 2))
-      (calling (reader has_taken idle) (98 ∷ []))
+      (taken_with (98 ∷ []))
   block_read_counts_another_size asks = let count = asks.1 in cc
 
-  block_read_takes_the_block_at_the_end : ¬ asks_for_block (calling (reader unread idle) b)
-      (Done read.End) (calling (reader has_ended idle) [])
+  block_read_takes_the_block_at_the_end : ¬ asks_for_block (unread_with b)
+      (Done read.End) (ended_with [])
   block_read_takes_the_block_at_the_end asks = let bytes = asks.1 in cc
 
   -- one that waits leaves the block as it was, and so does one whose sleep failed
-  block_read_that_waits_takes_the_block : ¬ asks_for_block (calling (reader unread idle) b)
-      (Wait 0) (calling (reader told idle) [])
+  block_read_that_waits_takes_the_block : ¬ asks_for_block (unread_with b) (Wait 0) (told_with [])
   block_read_that_waits_takes_the_block asks = let bytes = asks.1 in cc
 
   interrupted_block_read_takes_the_block :
-      ¬ GivesUp (lending_of (calling (reader told idle) b)) None
-      (lending_of (calling (reader told idle) []))
+      ¬ GivesUp (lending_of (told_with b)) None
+      (lending_of (told_with []))
   interrupted_block_read_takes_the_block same =
       let bytes = ap (λ (l : Lending). l.buffer) same in cc
 

@@ -1,8 +1,9 @@
 -- Reads in stream mode worked out by the definitions alone, and the shortest ones that are refused.
-use Rattle.std.proofs.Common.{◌≡◌, ℕ, List, [], ◌∷◌, Some, None, refl, sym, ◌∙◌, inl, inr, ap}
+use Rattle.std.proofs.Common.{◌≡◌, ◌-◌, ℕ, true, List, [], ◌∷◌, Some, None, refl, sym, ◌∙◌, inl, inr, ap}
 use Rattle.std.proofs.Common.{arith, rules, length, map, length-append}
-use Rattle.std.specs.Prelude.{Ok, Err}
+use Rattle.std.specs.Prelude.{Result, Ok, Err}
 use Rattle.histories.specs.declared.account.Account.{Account}
+use Rattle.sync_base.specs.declared.fault.Fault.{Fault}
 use Rattle.sync_base.specs.declared.fault.Fault.TheVariants as fault
 use Rattle.sync_base.specs.declared.mode.Mode.TheVariants.{Stream}
 use Rattle.sync_base.specs.declared.note.Note.TheVariants.{Interrupt}
@@ -13,19 +14,24 @@ use Rattle.sleep_wakeup.specs.Calls.{Ends}
 use Rattle.block_queue.specs.declared.entry.Entry.{Entry}
 use Rattle.block_queue.specs.declared.entry.Entry.TheVariants as entry
 use Rattle.block_queue.specs.Meaning.{Enters}
+use Rattle.pipe_dev.specs.declared.answers.ReadAnswer.{ReadAnswer}
 use Rattle.pipe_dev.specs.declared.answers.ReadAnswer.TheVariants as read
+use Rattle.pipe_dev.specs.declared.answers.TryAnswer.{TryAnswer}
 use Rattle.pipe_dev.specs.declared.answers.TryAnswer.TheVariants as try
+use Rattle.pipe_dev.specs.declared.filling.ReadOutcome.{ReadOutcome}
+use Rattle.pipe_dev.specs.declared.filling.Stop.{Stop}
 use Rattle.pipe_dev.specs.declared.filling.Stop.TheVariants as stop
 use Rattle.pipe_dev.specs.declared.row.Row.{Row}
 use Rattle.pipe_dev.specs.Parts.{Part, bytes_of}
 use Rattle.pipe_dev.specs.ReadCalls.{Reader, Reads, Tries, calling, TriesOn, came_to, lent_at}
-use Rattle.pipe_dev.specs.ReadCalls.{lending_of, reading}
+use Rattle.pipe_dev.specs.ReadCalls.{Calling, lending_of, reading}
 use Rattle.pipe_dev.specs.Rendezes.{WakesWriters, WakesWith}
-use Rattle.pipe_dev.specs.Filling.{begins, last_number}
+use Rattle.pipe_dev.specs.Filling.{IsFilledBy, StopsAt, Taker, TakesPart, begins, goes_further}
+use Rattle.pipe_dev.specs.Filling.{last_number, number_of}
 use Rattle.pipe_dev.proofs.WorkedEntries.{a, b, taker, taker_enters, unread, at_rendez, row_in}
 use Rattle.pipe_dev.proofs.WorkedEntries.{woke, slept, wakes_writer, interrupted, is_not_idle}
 use Rattle.pipe_dev.proofs.WorkedFills.{part, loose, one_out, all_out, told, takes_first}
-use Rattle.pipe_dev.proofs.WorkedFills.{finds_none, free, filling, fills_all}
+use Rattle.pipe_dev.proofs.WorkedFills.{finds_none, free, filling, fills_all, stream}
 
 -- ---- a try, and a read, of that direction and of two more
 
@@ -72,8 +78,52 @@ module _ (table : TableId) where
   abbrev zeros : List ℕ
   zeros = 0 ∷ 0 ∷ 0 ∷ 0 ∷ []
 
+  -- a read of a buffer before any call, and behind what it found
+  abbrev unread_with : List ℕ → Calling
+  unread_with buffer = calling (reader unread idle) buffer
+
+  abbrev empty_with : List ℕ → Calling
+  empty_with buffer = calling (reader told_empty (woke idle 4 1)) buffer
+
+  abbrev ended_with : List ℕ → Calling
+  ended_with buffer = calling (reader has_ended idle) buffer
+
+  abbrev ReadsSo : Calling → Result ReadAnswer Fault → Calling → Type 0
+  ReadsSo = Reads loose row
+
+  abbrev TriesSo : Calling → TryAnswer → Calling → Type 0
+  TriesSo = Tries loose row
+
+  abbrev TriesOnSo : Calling → ReadOutcome → Calling → Type 0
+  TriesOnSo = TriesOn loose row
+
+  -- a try that read one part
+  one_part : (old : Calling) (count : ℕ) (why : Stop) (new : Calling) (part : Part) (after : Taker)
+      → goes_further (stream (length old.buffer)) [] ≡ true
+      → TakesPart loose (length old.buffer - 0) (lending_of old).taker part after
+      → StopsAt loose (stream (length old.buffer)) why
+      (record { taker = after; parts = part ∷ [] }) (lending_of new).taker
+      → IsFilledBy part.bytes old.buffer new.buffer count
+      → WakesWith row (number_of old.reader.rest part) old.reader.process new.reader.process
+      → TriesOnSo old (came_to count why) new
+  one_part old count why new part after further taken stopped filled woken =
+      record {
+        fills = record {
+          times = 1;
+          filling = record { taker = after; parts = part ∷ [] };
+          taken = record {
+            between = begins (lending_of old).taker;
+            rounds = refl;
+            last = record { further = further; part = part; taken = taken; parts = refl };
+          };
+          stopped = stopped;
+          filled = filled;
+        };
+        woken = woken;
+      }
+
   -- it joined all three writes, was told that no more are there, and then woke its writer once
-  joins_all : TriesOn loose row (calling (reader unread idle) zeros)
+  joins_all : TriesOnSo (unread_with zeros)
       (came_to 3 (stop.NotYet 3))
       (calling (reader told (woke idle 4 3)) (97 ∷ 98 ∷ 99 ∷ 0 ∷ []))
   joins_all =
@@ -95,11 +145,11 @@ module _ (table : TableId) where
       }
 
   -- so it is answered
-  answers_all : Tries loose row (calling (reader unread idle) zeros) (try.Got 3)
+  answers_all : TriesSo (unread_with zeros) (try.Got 3)
       (calling (reader told (woke idle 4 3)) (97 ∷ 98 ∷ 99 ∷ 0 ∷ []))
   answers_all = record { why = stop.NotYet 3; tried = joins_all; got = refl }
 
-  reads_all : Reads loose row (calling (reader unread idle) zeros) (Ok (read.Got 3))
+  reads_all : ReadsSo (unread_with zeros) (Ok (read.Got 3))
       (calling (reader told (woke idle 4 3)) (97 ∷ 98 ∷ 99 ∷ 0 ∷ []))
   reads_all = inl answers_all
 
@@ -136,123 +186,70 @@ module _ (table : TableId) where
   begun process = record { account = one_out; rest = Some second_byte; process = process }
 
   -- one byte of the first write fills its buffer, and the other is kept
-  begins_a_write : TriesOn loose row (calling (reader unread idle) (0 ∷ [])) (came_to 1 stop.Enough)
+  begins_a_write : TriesOnSo (unread_with (0 ∷ [])) (came_to 1 stop.Enough)
       (calling (begun (woke idle 4 1)) (97 ∷ []))
   begins_a_write =
-      record {
-        fills = record {
-          times = 1;
-          filling = record {
-            taker = record { account = one_out; rest = Some second_byte };
-            parts = part 0 (97 ∷ []) ∷ [];
-          };
-          taken = record {
-            between = begins (free unread);
-            rounds = refl;
-            last = record {
-              further = refl;
-              part = part 0 (97 ∷ []);
-              taken = record {
-                left = part 0 a;
-                next = inr record { none_left = refl; taken = takes_first };
-                part_is = refl;
-                rest = refl;
-              };
-              parts = refl;
-            };
-          };
-          stopped = (refl, refl);
-          filled = record { count_is = refl; bytes_are = refl };
-        };
-        woken = wakes_writer Stream idle 1;
-      }
+      one_part (unread_with (0 ∷ [])) 1 stop.Enough (calling (begun (woke idle 4 1)) (97 ∷ []))
+      (part 0 (97 ∷ [])) (record { account = one_out; rest = Some second_byte }) refl
+      (record {
+        left = part 0 a;
+        next = inr record { none_left = refl; taken = takes_first };
+        part_is = refl;
+        rest = refl;
+      })
+      (refl, refl) (record { count_is = refl; bytes_are = refl }) (wakes_writer Stream idle 1)
 
   -- the other is read next, and nobody is woken for it
-  goes_on_in_it : TriesOn loose row (calling (begun idle) (0 ∷ [])) (came_to 1 stop.Enough)
+  goes_on_in_it : TriesOnSo (calling (begun idle) (0 ∷ [])) (came_to 1 stop.Enough)
       (calling (reader one_out idle) (98 ∷ []))
   goes_on_in_it =
-      record {
-        fills = record {
-          times = 1;
-          filling = filling one_out (second_byte ∷ []);
-          taken = record {
-            between = begins (record { account = one_out; rest = Some second_byte });
-            rounds = refl;
-            last = record {
-              further = refl;
-              part = second_byte;
-              taken = record {
-                left = second_byte;
-                next = inl record { left_is = refl; account = refl };
-                part_is = refl;
-                rest = refl;
-              };
-              parts = refl;
-            };
-          };
-          stopped = (refl, refl);
-          filled = record { count_is = refl; bytes_are = refl };
-        };
-        woken = refl;
-      }
+      one_part (calling (begun idle) (0 ∷ [])) 1 stop.Enough (calling (reader one_out idle) (98 ∷ []))
+      second_byte (free one_out) refl
+      (record {
+        left = second_byte;
+        next = inl record { left_is = refl; account = refl };
+        part_is = refl;
+        rest = refl;
+      })
+      (refl, refl) (record { count_is = refl; bytes_are = refl }) refl
 
-  tries_a_byte : Tries loose row (calling (begun idle) (0 ∷ [])) (try.Got 1)
+  tries_a_byte : TriesSo (calling (begun idle) (0 ∷ [])) (try.Got 1)
       (calling (reader one_out idle) (98 ∷ []))
   tries_a_byte = record { why = stop.Enough; tried = goes_on_in_it; got = refl }
 
   -- ---- no byte
 
   -- an empty write was passed, for which the writer was woken
-  passes_an_empty_write : TriesOn loose row (calling (reader unread idle) b)
-      (came_to 0 (stop.NotYet 1)) (calling (reader told_empty (woke idle 4 1)) b)
+  passes_an_empty_write : TriesOnSo (unread_with b) (came_to 0 (stop.NotYet 1)) (empty_with b)
   passes_an_empty_write =
-      record {
-        fills = record {
-          times = 1;
-          filling = filling passed (part 0 [] ∷ []);
-          taken = record {
-            between = begins (free unread);
-            rounds = refl;
-            last = record {
-              further = refl;
-              part = part 0 [];
-              taken = record {
-                left = part 0 [];
-                next = inr record { none_left = refl; taken = takes_empty };
-                part_is = refl;
-                rest = refl;
-              };
-              parts = refl;
-            };
-          };
-          stopped = (
-            refl,
-            record {
-              nothing = record { none_left = refl; entered = finds_nothing; rest = refl };
-              fresh = λ knew. cc;
-            },
-          );
-          filled = record { count_is = refl; bytes_are = refl };
-        };
-        woken = wakes_writer Stream idle 1;
-      }
+      one_part (unread_with b) 0 (stop.NotYet 1) (empty_with b) (part 0 []) (free passed) refl
+      (record {
+        left = part 0 [];
+        next = inr record { none_left = refl; taken = takes_empty };
+        part_is = refl;
+        rest = refl;
+      }) (
+        refl,
+        record {
+          nothing = record { none_left = refl; entered = finds_nothing; rest = refl };
+          fresh = λ knew. cc;
+        },
+      ) (record { count_is = refl; bytes_are = refl }) (wakes_writer Stream idle 1)
 
-  tries_too_early : Tries loose row (calling (reader unread idle) b) try.NotYet
-      (calling (reader told_empty (woke idle 4 1)) b)
+  tries_too_early : TriesSo (unread_with b) try.NotYet (empty_with b)
   tries_too_early = record { number = 1; tried = passes_an_empty_write }
 
   -- it wakes first, then sleeps with the number that it was told, and is interrupted
-  read_is_interrupted : Reads loose row (calling (reader unread idle) b)
+  read_is_interrupted : ReadsSo (unread_with b)
       (Err (fault.Interrupted (only Interrupt)))
       (calling (reader told_empty (slept (woke idle 4 1) 3 1 (only Interrupt))) b)
   read_is_interrupted =
-      interrupted (reading loose row) 3 (lent_at (calling (reader unread idle) b))
+      interrupted (reading loose row) 3 (lent_at (unread_with b))
       (lending_of (calling (reader told_empty idle) b))
       (lending_of (calling (reader told_empty idle) b))
       (woke idle 4 1) 1 passes_an_empty_write refl
 
-  finds_an_end : TriesOn loose row (calling (reader unread idle) b) (came_to 0 stop.End)
-      (calling (reader has_ended idle) b)
+  finds_an_end : TriesOnSo (unread_with b) (came_to 0 stop.End) (ended_with b)
   finds_an_end =
       record {
         fills = record {
@@ -265,17 +262,14 @@ module _ (table : TableId) where
         woken = refl;
       }
 
-  tries_at_the_end : Tries loose row (calling (reader unread idle) b) try.End
-      (calling (reader has_ended idle) b)
+  tries_at_the_end : TriesSo (unread_with b) try.End (ended_with b)
   tries_at_the_end = finds_an_end
 
-  reads_to_the_end : Reads loose row (calling (reader unread idle) b) (Ok read.End)
-      (calling (reader has_ended idle) b)
+  reads_to_the_end : ReadsSo (unread_with b) (Ok read.End) (ended_with b)
   reads_to_the_end = inl finds_an_end
 
   -- an end has no byte
-  end_fills_its_buffer : (new : Reader)
-      → Tries loose row (calling (reader unread idle) b) try.End (calling new a) → ⊥
+  end_fills_its_buffer : (new : Reader) → TriesSo (unread_with b) try.End (calling new a) → ⊥
   end_fills_its_buffer new tries =
       let filled = tries.fills.filled in
       let none : length (bytes_of tries.fills.filling.parts) ≡ 0 = sym filled.count_is in
@@ -284,6 +278,6 @@ module _ (table : TableId) where
       absurd (omega (arith, none, size))
 
   -- a read that is refused at once did nothing
-  refused_read_passes : Reads loose row (calling (reader unread idle) b) (Err fault.NoRendez)
+  refused_read_passes : ReadsSo (unread_with b) (Err fault.NoRendez)
       (calling (reader passed idle) b) → ⊥
   refused_read_passes reads = let seen = ap (λ (r : Reader). r.account.seen) reads.same in cc

@@ -159,8 +159,7 @@ module _ (table : TableId) where
 
   write_comes_too_late : Writes (call b) (writer unwritten idle) (Err fault.Hungup)
       (writer is_late (notes idle (pid_in idle) (only ClosedPipe)))
-  write_comes_too_late =
-      inl (record { entered = finds_the_hangup; knew = tt; noted = refl })
+  write_comes_too_late = inl (record { entered = finds_the_hangup; knew = tt; noted = refl })
 
   numbers_are_worn_out : Writes (record (call b) { key = record tight { first = LAST_WRITE } })
       (writer unwritten idle) (Err fault.Worn) (writer is_worn idle)
@@ -314,8 +313,7 @@ module _ (queue : Queue) (read_account : Account Entry) where
   one_is_missing : AreAllEnds read_side (write_side two_writers 0 ∷ []) → ⊥
   one_is_missing all = let order = all.order in cc
 
-  out_of_order : AreAllEnds read_side (write_side two_writers 1 ∷ write_side two_writers 0 ∷ [])
-      → ⊥
+  out_of_order : AreAllEnds read_side (write_side two_writers 1 ∷ write_side two_writers 0 ∷ []) → ⊥
   out_of_order all = let order = all.order in cc
 
   of_another_direction : AreAllEnds read_side

@@ -1,12 +1,9 @@
 -- The wait, as the account of the seat and the bytes of the block know it.
-use Rattle.std.proofs.Common.{List, ℕ, sym, subst}
-use Rattle.sync_base.specs.declared.ids.RendezId.{RendezId}
 use Rattle.block_queue.specs.Seats.{key_of}
 use Rattle.pipe_dev.specs.BlockReads.{AsksForBlock}
-use Rattle.pipe_dev.specs.FillSteps.{lending_with}
 use Rattle.pipe_dev.specs.ReadCalls.{waits_by}
 use Rattle.pipe_dev.specs.ReadSteps.{lending_in}
-use Rattle.waiting.specs.Waiting.{Waited, point}
+use Rattle.waiting.specs.Waiting.{point}
 use Rattle.pipe_dev.proofs.SightLemmas.{waited_seen}
 use Rattle.pipe_dev.proofs.block_reading.block_with.Goals as goal
 

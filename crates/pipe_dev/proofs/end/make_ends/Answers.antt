@@ -1,11 +1,8 @@
 -- nothing was called on any of them, and these are all
-use Rattle.std.proofs.Common.{◌≡◌, sym, ap, subst, ◌∙◌, map}
-use Rattle.histories.specs.Account.{numbers_from}
+use Rattle.std.proofs.Common.{◌∙◌}
 use Rattle.histories.proofs.ListLemmas.{all_weaker}
-use Rattle.std.specs.List.{AllByRecursion}
-use Rattle.pipe_dev.specs.Ends.{WriteSide, AreOfOne}
-use Rattle.pipe_dev.specs.Openings.{IsNewWriteEnd, IsSeatToGive}
-use Rattle.pipe_dev.specs.Seating.{side_of, IsWriteSeatOf}
+use Rattle.pipe_dev.specs.Openings.{IsSeatToGive}
+use Rattle.pipe_dev.specs.Seating.{IsWriteSeatOf}
 use Rattle.pipe_dev.proofs.SeatingLemmas.{new_writes, new_one, new_order}
 use Rattle.pipe_dev.proofs.end.make_ends.Goals as goal
 
@@ -22,22 +19,18 @@ returns c =
     let row = c.args.start.row in
     let seats = c.args.start.puts.items in
     let start = c.requires.start in
-    let seated : c.seat_writers.result.items ≡ map (side_of queue row) seats =
-    c.seat_writers.ensures.seated in
+    let seated = c.seat_writers.ensures.seated in
     record {
       ends = record {
         queue_is = c.new.ensures.queue;
         row_is = c.new.ensures.row;
         unread = c.new.ensures.account ∙ start.unread;
         rest = c.new.ensures.rest;
-        unwritten =
-            subst (AllByRecursion (IsNewWriteEnd queue row)) (sym seated)
-            (new_writes queue row seats start.writes);
+        unwritten = rw seated (new_writes queue row seats start.writes);
         all = record {
-          one = subst (AllByRecursion (AreOfOne c.new.result)) (sym seated)
+          one = rw seated
               (new_one c.new.result queue row seats c.new.ensures.queue c.new.ensures.row);
-          order = ap (map (λ (w : WriteSide). w.writer)) seated ∙ (new_order queue row seats
-              ∙ (start.order ∙ ap (λ r. numbers_from 0 r.writers) (sym c.new.ensures.row)));
+          order = rw (seated, c.new.ensures.row) (new_order queue row seats ∙ start.order);
         };
       };
     }

@@ -1,17 +1,14 @@
 -- It is answered at once; or it sets its timer, sleeps, and ends its wait.
-use Rattle.std.proofs.Common.{◌<◌, inr, true, false, sym, ap, ◌∙◌, subst, arith}
+use Rattle.std.proofs.Common.{inr, true, ap, ◌∙◌, subst, arith}
 use Rattle.kernel_lock.specs.Seats.{number_of}
-use Rattle.rendez_words.specs.Words.{rendez_of}
 use Rattle.sync_base.specs.declared.ids.Pid.{Pid}
-use Rattle.timer_list.specs.declared.timer_object.TimerCall.TheVariants.{Add, Cancel}
+use Rattle.timer_list.specs.declared.timer_object.TimerCall.TheVariants.{Add}
 use Rattle.timer_list.specs.declared.timer_object.TimerReply.TheVariants.{Added}
-use Rattle.timer_list.specs.Asking.{AsksTimers, cancel_reply}
+use Rattle.timer_list.specs.Asking.{AsksTimers}
 use Rattle.timer_list.specs.Timers.{deadline_of}
-use Rattle.timer_list.specs.Timing.{EndsInTime}
 use Rattle.timer_list.proofs.TickLemmas.{took_it}
 use Rattle.waiting.specs.Waiting.{told}
 use Rattle.pipe_dev.specs.FillSteps.{lending_with}
-use Rattle.pipe_dev.specs.Rendezes.{OwnsRow}
 use Rattle.pipe_dev.proofs.reading_within.read_in_time.Goals as goal
 
 pub sleep_for_bytes-ending-requires-clause-kernel :

@@ -1,10 +1,6 @@
 -- The wait, as the account of the seat knows it.
-use Rattle.std.proofs.Common.{ℕ, subst}
-use Rattle.sync_base.specs.declared.ids.RendezId.{RendezId}
-use Rattle.block_queue.specs.Seats.{put_account}
 use Rattle.timer_list.specs.Timers.{deadline_of}
-use Rattle.timer_list.specs.Timing.{WaitedInTime, timed_point}
-use Rattle.pipe_dev.specs.Rendezes.{writer_rendez}
+use Rattle.timer_list.specs.Timing.{timed_point}
 use Rattle.pipe_dev.specs.WriteCalls.{WriteCall, call_with, writing}
 use Rattle.pipe_dev.specs.WriteSteps.{account_in}
 use Rattle.pipe_dev.proofs.TimedLemmas.{in_time_seen}
@@ -13,9 +9,8 @@ use Rattle.pipe_dev.proofs.writing_within.write_in_time.Goals as goal
 pub returns-clause-waited : goal.returns-clause-waited
 returns-clause-waited g c =
     let seat = c.args.putting.now.seat in
-    let call : WriteCall = record (call_with c.args.queue.now c.args.row.now seat c.args.bytes.now) {
-      writer = c.writer-writer.result;
-    } in
+    let own = call_with c.args.queue.now c.args.row.now seat c.args.bytes.now in
+    let call : WriteCall = record own { writer = c.writer-writer.result } in
     let ended = c.wait_within in
     rw (c.writer-rendez.ensures, c.writer-writer.ensures) at
     (in_time_seen account_in (writing call) c.writer-rendez.result c.args.timers.now

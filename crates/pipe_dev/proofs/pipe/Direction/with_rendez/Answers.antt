@@ -4,8 +4,7 @@ use Rattle.histories.specs.declared.account.Account.{Account}
 use Rattle.histories.specs.Account.{numbers_from}
 use Rattle.block_queue.specs.declared.entry.Entry.{Entry}
 use Rattle.block_queue.specs.declared.view.Key.{Key}
-use Rattle.block_queue.specs.Meaning.{KnowsQueue}
-use Rattle.block_queue.specs.Opening.{IsNewPutSeat, reader_account}
+use Rattle.block_queue.specs.Opening.{IsNewPutSeat}
 use Rattle.block_queue.specs.Seats.{key_of}
 use Rattle.pipe_dev.specs.Ends.{IsRowOf}
 use Rattle.pipe_dev.proofs.SeatingLemmas.{reader_knows, all_to_give, writers_in_order}
@@ -27,9 +26,7 @@ returns-clause-start c =
       read = record {
         row_is = row_is;
         seat = direction.take_is;
-        knows = subst (λ (a : Account Entry). KnowsQueue (key_of queue) a)
-            (sym (direction.account_is ∙ ap reader_account row_is.writers))
-            (reader_knows (key_of queue));
+        knows = rw (direction.account_is, row_is.writers) (reader_knows (key_of queue));
         gave = ap (λ (a : Account Entry). a.gave) direction.account_is;
         some_left = tt;
       };
