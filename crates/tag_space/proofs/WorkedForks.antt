@@ -106,21 +106,6 @@ both_leave_the_member : LeavesMember (flags_of 3)
 both_leave_the_member = record { no_child = both_join_nobody; stays = λ is. omega (arith, is) }
 
 module _ (unused : Unused) (space : TagSpace) (before after : Member) where
-  -- a flag that is not known is refused, whatever is left
-  an_unknown_flag_is_refused :
-      WhyNotForked (rfork_of unused space (flags_of 8)) before after fault.BadFlags
-  an_unknown_flag_is_refused known = omega (arith, known)
-
-  -- RFPROC is refused where all members were given
-  rfproc_finds_no_member : HasPid unused → KnowsAllGiven space.lock before.seat after.seat
-      → WhyNotForked (rfork_of unused space (flags_of 1)) before after fault.NoProc
-  rfproc_finds_no_member pid all =
-      inr (record {
-        joins = record { child = refl; no_space = false≢true };
-        pid = pid;
-        all_given = all;
-      })
-
   -- RFREND alone needs no pid: it is refused where no row is left
   rfrend_finds_no_row : (HasRendez unused space.procs → ⊥)
       → WhyNotForked (rfork_of unused space (flags_of 2)) before after fault.NoRendez
@@ -193,10 +178,6 @@ module _ (unused : Unused) (space : TagSpace) (flags : Flags) (before after : Me
   a_member_before_a_pid : (HasPid unused → ⊥)
       → WantsMember (rfork_of unused space flags) before after → ⊥
   a_member_before_a_pid none wants = none wants.pid
-
-  a_member_for_a_new_space : IsTrue (asks_space flags)
-      → WantsMember (rfork_of unused space flags) before after → ⊥
-  a_member_for_a_new_space asked wants = wants.joins.no_space asked
 
   -- a refused member comes back as another, while a member is left
   another_comes_back : after ≢ before → given_of after.seat < limit_of space.lock
