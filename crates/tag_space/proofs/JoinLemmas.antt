@@ -1,13 +1,11 @@
 -- What a join of two members leaves of each: its calls, and that it rests.
-use Rattle.std.proofs.Common.{◌≡◌, ◌≢◌, ℕ, eqb, true, false, Bool, ◌||◌, List, [], ◌∷◌, ◌++◌}
-use Rattle.std.proofs.Common.{refl, sym, ◌∙◌, subst, arith}
-use Rattle.std.proofs.lemmas.Bool.Decides.{nat_tests}
+use Rattle.std.proofs.Common.{◌≡◌, ◌≢◌, ℕ, true, List, [], ◌∷◌, ◌++◌}
+use Rattle.std.proofs.Common.{sym, subst}
 use Rattle.std.specs.List.{AllByRecursion}
 use Rattle.histories.specs.Account.{AreDifferent, HasItsEntries, has_number, numbers_in}
 use Rattle.histories.specs.History.{IsLegal, IsPast}
 use Rattle.histories.specs.declared.account.Share.{Share}
 use Rattle.histories.proofs.AccountLemmas.{by_others, none_since, number_has}
-use Rattle.histories.proofs.ListLemmas.{all_past}
 use Rattle.kernel_lock.specs.Definition.{server}
 use Rattle.tag_space.specs.Members.{space_of, account_of, number_of, seen_of, IsOneOf, IsMemberOf}
 use Rattle.tag_space.specs.Rendezvous.{Entry, rendezvous, stage_of}
@@ -21,26 +19,23 @@ use Rattle.tag_space.proofs.OtherLemmas.{StandsStill, stands_still, none_by}
 pub apart_in : (first second : List (Share Entry)) (number other : ℕ)
     → AreDifferent (numbers_in (first ++ second)) → has_number first number ≡ true
     → has_number second other ≡ true → number ≢ other
-apart_in [] second number other different has too = cc
-apart_in (share ∷ first) second number other different has too =
-    here (eqb share.number number) refl has
-    (λ had. apart_in first second number other different.1 had too)
+apart_in first second number other different has too =
+    number_has (λ n. n ≢ other) number first (others first different) has
   where
-    not_behind : (shares : List (Share Entry)) →
-        AllByRecursion (λ n. share.number ≢ n) (numbers_in shares)
-        → AllByRecursion (λ (its : Share Entry). share.number ≢ its.number) shares
-    not_behind [] all = tt
-    not_behind (its ∷ shares) all = (all.0, not_behind shares all.1)
+    each : (n : ℕ) (shares : List (Share Entry)) → AllByRecursion (λ m. n ≢ m) (numbers_in shares)
+        → AllByRecursion (λ (share : Share Entry). n ≢ share.number) shares
+    each n [] all = tt
+    each n (share ∷ shares) all = (all.0, each n shares all.1)
 
-    here : (b : Bool) → eqb share.number number ≡ b → (b || has_number first number) ≡ true
-        → (has_number first number ≡ true → number ≢ other) → number ≢ other
-    here true is had behind =
-        let same : share.number ≡ number = grind (arith, nat_tests) in
-        let apart = number_has (λ n. share.number ≢ n) other second
-        (all_past (λ (its : Share Entry). share.number ≢ its.number) first second
-        (not_behind (first ++ second) different.0)) too in
-        (λ meets. apart (same ∙ meets))
-    here false is had behind = behind had
+    behind : (n : ℕ) (shares : List (Share Entry))
+        → AllByRecursion (λ m. n ≢ m) (numbers_in (shares ++ second)) → n ≢ other
+    behind n [] all = number_has (λ m. n ≢ m) other second (each n second all) too
+    behind n (share ∷ shares) all = behind n shares all.1
+
+    others : (shares : List (Share Entry)) → AreDifferent (numbers_in (shares ++ second))
+        → AllByRecursion (λ (share : Share Entry). share.number ≢ other) shares
+    others [] all = tt
+    others (share ∷ shares) all = (behind share.number shares all.0, others shares all.1)
 
 module _ (space : TagSpace) (member joined : Member) (is : IsMemberOf space member)
     (one : IsOneOf space joined) (past : IsPast (seen_of member) (seen_of joined))

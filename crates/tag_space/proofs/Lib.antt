@@ -15,12 +15,10 @@ mod CountLemmas
 mod RequestLemmas
 mod AboveLemmas
 mod EndLemmas
-mod ValueLemmas
 mod PartnerLemmas
 mod JoinLemmas
 pub mod TwoLemmas
 mod WorkedCalls
 mod WorkedAsking
 mod WorkedForks
-mod WorkedReasons
 mod WorkedMembers

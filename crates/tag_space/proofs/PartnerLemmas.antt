@@ -1,4 +1,4 @@
--- The partner of a call that is in a pair, and that the pair stays.
+-- Whoever is told of a meeting is in that pair, who its partner is, and that the pair stays.
 use Rattle.std.proofs.Common.{◌≡◌, ◌≢◌, ◌⊎◌, ◌<◌, ℕ, eqb, List, [], ◌∷◌, ◌++◌, length}
 use Rattle.std.proofs.Common.{refl, sym, ap, ◌∙◌, subst, inl, inr}
 use Rattle.std.proofs.lemmas.Bool.{cases_Bool, cases_eq}
@@ -10,15 +10,42 @@ use Rattle.tag_space.specs.declared.calls.GroupCall.{GroupCall}
 use Rattle.tag_space.specs.declared.calls.GroupCall.TheVariants.{Call, Collect, Leave}
 use Rattle.tag_space.specs.GroupObject.{member_of}
 use Rattle.tag_space.specs.Laws.{PartnersAreCalls, PairsStay, EachGetsOneValue}
-use Rattle.tag_space.specs.Laws.{CallsAreByMembers, PairedIsNotAlone}
+use Rattle.tag_space.specs.Laws.{CallsAreByMembers, PairedIsNotAlone, FoundIsInPair, ToldIsInPair}
 use Rattle.tag_space.specs.Outcome.{call_made, calls_by, IsOneOfPairs, IsOneOfCalls}
 use Rattle.tag_space.specs.Outcome.{Exchanges, HasPartner}
 use Rattle.tag_space.specs.Promises.{IsMade, IsMeeting, numbers_in}
 use Rattle.tag_space.specs.Rendezvous.{Entry, Space, Offer, Pair, pairs_of, pair_made}
 use Rattle.tag_space.specs.Rendezvous.{rendezvous}
 use Rattle.tag_space.proofs.OtherLemmas.{calls_after}
-use Rattle.tag_space.proofs.WaitLemmas.{yes}
-use Rattle.tag_space.proofs.PromiseLemmas.{is_space}
+use Rattle.tag_space.proofs.WaitLemmas.{waits_last, yes}
+use Rattle.tag_space.proofs.PromiseLemmas.{is_space, is_right}
+
+-- who finds a call that waits is in a pair with it, and is answered its value
+pub found_is_in_pair : FoundIsInPair
+found_is_in_pair space past by member tag value given other count legal =
+    let offer : Offer =
+    record { number = length past; member = member; tag = tag.0; value = value } in
+    let finds = (is_right space past _ legal).answered.1 in
+    let pair : Pair = record { waiting = finds.offer; finding = offer } in
+    record {
+      pair = pair;
+      is_pair = rw (waits_last past other finds.offer finds.waits) (inl refl);
+      exchanged = inr (refl, finds.given_is);
+    }
+
+-- who is told of a meeting is in that pair, and is told the partner's value
+pub told_is_in_pair : ToldIsInPair
+told_is_in_pair space past member given legal met =
+    let is = (is_space space past legal).paired member met.pair met.paired in
+    record {
+      offer = met.pair.waiting;
+      mine = is.1;
+      in_pair = record {
+        pair = met.pair;
+        is_pair = is.0;
+        exchanged = inl (refl, met.given_is);
+      };
+    }
 
 -- a pair is one of more pairs too
 one_of_more : (pair : Pair) (more pairs : List Pair) → IsOneOfPairs pair pairs

@@ -1,6 +1,6 @@
 -- The promises hold of every history of a tag space, by induction on it.
 use Rattle.std.proofs.Common.{◌≡◌, ◌≢◌, ◌⊎◌, ℕ, ◌<◌, eqb, true, if◌then◌else◌}
-use Rattle.std.proofs.Common.{Option, List, [], ◌∷◌, ◌++◌, length, refl, sym, ap, ◌∙◌, subst, arith}
+use Rattle.std.proofs.Common.{List, [], ◌∷◌, ◌++◌, length, refl, sym, ap, ◌∙◌, subst, arith}
 use Rattle.std.proofs.Common.{inl, inr}
 use Rattle.std.proofs.lemmas.Bool.{cases_eq}
 use Rattle.std.specs.List.{AllByRecursion}
@@ -16,7 +16,7 @@ use Rattle.tag_space.specs.declared.limits.TheConstants.{LAST_MEETING}
 use Rattle.tag_space.specs.GroupObject.{member_of}
 use Rattle.tag_space.specs.Outcome.{IsOneOfPairs}
 use Rattle.tag_space.specs.Rendezvous.{Entry, Space, Offer, Pair, Stage, stage_of, pairs_of}
-use Rattle.tag_space.specs.Rendezvous.{count_of, found_by, pair_with, IsAnswered, IsRight}
+use Rattle.tag_space.specs.Rendezvous.{count_of, found_by, IsAnswered, IsRight}
 use Rattle.tag_space.specs.Rendezvous.{NobodyWaits, rendezvous}
 use Rattle.tag_space.specs.Rendezvous.Stage.{Over, Waits, Paired}
 use Rattle.tag_space.specs.Promises.{IsMade, IsMeeting, AreMeetings, numbers_in, MeetsOnce}
@@ -126,8 +126,7 @@ module _ (space : Space) (past : List Entry) (by : ℕ) where
         call = refl;
         over = answered.0.is_over;
         tags = finds.tag_is;
-        pairs = ap (λ (o : Option Offer). pair_with finding o ++ pairs_of past)
-            (waits_last past other finds.offer finds.waits);
+        pairs = rw (waits_last past other finds.offer finds.waits) refl;
       } in
       turned space past _ other (Paired _) meets.here
       (λ third differs. rw (no other third differs) refl) meets (inr (other, _, meets))

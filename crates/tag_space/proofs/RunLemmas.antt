@@ -25,39 +25,6 @@ run_length : (slots : List TagEntry) (first count : ℕ) → first + count ≤ l
     length (run slots first count) ≡ count
 run_length slots first count within = grind (arith, common_steps)
 
--- entries that are those before with one more
-is_with : (old new : List TagEntry) (at : ℕ) (entry : TagEntry) → at ≤ length old → length new
-    ≡ length old +
-    1 → ((k : ℕ) (d : TagEntry) → k < at → get_or new k d ≡ get_or old k d) →
-    ((d : TagEntry) → get_or new at d ≡ entry) → ((k : ℕ) (d : TagEntry) → at < k → k < length new →
-    get_or new k d ≡ get_or old (k - 1) d) → new ≡ insert old at entry
-is_with old new at entry in_range longer below here above =
-    same_lists new (insert old at entry)
-    (omega (arith, longer, length-insert old at entry in_range))
-    (λ k d within. elim (cases_lt k at) [
-      | inl less ↦ below k d less ∙ sym (get_or-insert_below old at entry d k less in_range)
-      | inr not_less ↦ elim (cases_eq k at) [
-        | inl same ↦ rw same (here d ∙ sym (get_or-insert_at old at entry d in_range))
-        | inr differs ↦
-            let more : k ≡ k - 1 + 1 = omega arith in
-            above k d (omega arith) within ∙ sym (ap (λ j. get_or (insert old at entry) j d) more ∙
-            get_or-insert_above old at entry d (k - 1) (omega arith) in_range)
-      ]
-    ])
-
--- entries that are those before without one
-is_without : (old new : List TagEntry) (at : ℕ) → at < length old → length new + 1 ≡ length old →
-    ((k : ℕ) (d : TagEntry) → k < at → get_or new k d ≡ get_or old k d)
-    → ((k : ℕ) (d : TagEntry) → at ≤ k →
-    k < length new → get_or new k d ≡ get_or old (k + 1) d) → new ≡ remove old at
-is_without old new at in_range shorter below above =
-    same_lists new (remove old at) (omega (arith, shorter, length-remove old at in_range))
-    (λ k d within. elim (cases_lt k at) [
-      | inl less ↦ below k d less ∙ sym (get_or-remove_below old at d k less in_range)
-      | inr not_less ↦ above k d (omega arith) within ∙
-          sym (get_or-remove_above old at d k (omega arith) in_range)
-    ])
-
 -- places that are equal hold one entry
 same_at : (slots : List TagEntry) (i j : ℕ) (d : TagEntry) → i ≡ j →
     get_or slots i d ≡ get_or slots j d
@@ -77,19 +44,26 @@ module _ (slots moved : List TagEntry) (first count at n : ℕ) (within : first 
       let before = run_length slots first count within in
       let after : length (run new from (count + 1)) ≡ count + 1 =
       run_length new from (count + 1) (rw length-set (omega (arith, as_many))) in
-      is_with (run slots first count) (run new from (count + 1)) at entry
-      (omega (arith, before)) (omega (arith, before, after))
-      (λ k d less.
-      read new from (count + 1) k d (omega arith)
-      ∙ get_or-set_other moved (from + at) (from + k) entry d (λ eq. omega arith)
-      ∙ low k d less ∙ sym (read slots first count k d (omega arith)))
-      (λ d. read new from (count + 1) at d (omega arith) ∙
-      get_or-set_same moved (from + at) entry d (omega (arith, as_many)))
-      (λ k d more below.
-      read new from (count + 1) k d (omega (arith, after))
-      ∙ get_or-set_other moved (from + at) (from + k) entry d (λ eq. omega arith)
-      ∙ high k d more (omega (arith, after))
-      ∙ sym (read slots first count (k - 1) d (omega (arith, after))))
+      let old = run slots first count in
+      let at_old : at ≤ length old = omega (arith, before) in
+      same_lists (run new from (count + 1)) (insert old at entry)
+      (omega (arith, before, after, length-insert old at entry at_old))
+      (λ k d below. read new from (count + 1) k d (omega (arith, after)) ∙ elim (cases_lt k at) [
+        | inl less ↦ get_or-set_other moved (from + at) (from + k) entry d (λ eq. omega arith)
+            ∙ low k d less ∙ sym (read slots first count k d (omega arith))
+            ∙ sym (get_or-insert_below old at entry d k less at_old)
+        | inr not_less ↦ elim (cases_eq k at) [
+          | inl same ↦ rw same (get_or-set_same moved (from + at) entry d (omega (arith, as_many))
+              ∙ sym (get_or-insert_at old at entry d at_old))
+          | inr differs ↦
+              let more : k ≡ k - 1 + 1 = omega arith in
+              get_or-set_other moved (from + at) (from + k) entry d (λ eq. omega arith)
+              ∙ high k d (omega arith) (omega (arith, after))
+              ∙ sym (read slots first count (k - 1) d (omega (arith, after)))
+              ∙ sym (ap (λ j. get_or (insert old at entry) j d) more
+              ∙ get_or-insert_above old at entry d (k - 1) (omega arith) at_old)
+        ]
+      ])
 
   -- an entry is taken out where the others closed up
   take_out : (from : ℕ) → from + (count - 1) ≤ length slots → at < count →
@@ -101,15 +75,17 @@ module _ (slots moved : List TagEntry) (first count at n : ℕ) (within : first 
       let before = run_length slots first count within in
       let after : length (run moved from (count - 1)) ≡ count - 1 =
       run_length moved from (count - 1) (omega (arith, as_many)) in
-      is_without (run slots first count) (run moved from (count - 1)) at
-      (omega (arith, before)) (omega (arith, before, after))
-      (λ k d less.
-      read moved from (count - 1) k d (omega arith) ∙ low k d less
-      ∙ sym (read slots first count k d (omega arith)))
-      (λ k d behind below.
-      read moved from (count - 1) k d (omega (arith, after))
-      ∙ high k d behind (omega (arith, after))
-      ∙ sym (read slots first count (k + 1) d (omega (arith, after))))
+      let old = run slots first count in
+      let at_old : at < length old = omega (arith, before) in
+      same_lists (run moved from (count - 1)) (remove old at)
+      (omega (arith, before, after, length-remove old at at_old))
+      (λ k d below. read moved from (count - 1) k d (omega (arith, after)) ∙ elim (cases_lt k at) [
+        | inl less ↦ low k d less ∙ sym (read slots first count k d (omega arith))
+            ∙ sym (get_or-remove_below old at d k less at_old)
+        | inr not_less ↦ high k d (omega arith) (omega (arith, after))
+            ∙ sym (read slots first count (k + 1) d (omega (arith, after)))
+            ∙ sym (get_or-remove_above old at d k (omega arith) at_old)
+      ])
 
   -- an entry is put in, and those before it moved down
   pub put_down : (entry : TagEntry) → 0 < first → at ≤ count → n ≡ at →

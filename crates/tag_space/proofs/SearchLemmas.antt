@@ -1,8 +1,7 @@
 -- A step of a search leaves a quarter of the entries.
 use Rattle.std.proofs.Common.{◌≡◌, ℕ, zero, suc, ◌+◌, ◌-◌, ◌*◌, ◌<◌, ◌≤◌, List, length}
 use Rattle.std.proofs.Common.{ap, subst, arith}
-use Rattle.tag_space.specs.Table.{TagEntry, tag_at, IsRising}
-use Rattle.tag_space.specs.Search.{IsNarrowed, AreSmaller}
+use Rattle.tag_space.specs.Table.{TagEntry, tag_at, IsRising, IsNarrowed, AreSmaller}
 
 module _ (table : List TagEntry) (rising : IsRising table) where
   -- an entry further on has no smaller tag

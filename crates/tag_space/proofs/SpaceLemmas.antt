@@ -79,18 +79,11 @@ module _ (space : Space) (places : List Place) (past : List Entry) (shows :
     Shows space places past) where
   -- the object lets a member call where the history does
   may_call_is : (member : ℕ) → may_call places member ≡ true → MayCall space past member
-  may_call_is member may =
-      elim (cases_lt member (length places)) [
-        | inl below ↦
-            let idle : is_idle (place_of places member).state ≡ true =
-            grind (arith, nat_tests) in
-            record {
-              exists = rw (← shows.members) below;
-              is_over = over_from_idle (stage_of past member) (rw (← shows.states member) idle);
-            }
-        | inr past_last ↦ absurd (false≢true (let no : nat_lt member (length places) ≡ false = grind
-            (arith, nat_tests) in rw no at may))
-      ]
+  may_call_is member may = record {
+    exists = rw (← shows.members) (grind (arith, nat_tests, may));
+    is_over = over_from_idle (stage_of past member)
+        (rw (← shows.states member) (grind (arith, nat_tests, may)));
+  }
 
   -- who may not call by what is kept of it may not call by the history either
   may_not_call_is : (member : ℕ) → may_call places member ≡ false → MayCall space past member →

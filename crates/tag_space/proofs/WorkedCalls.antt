@@ -1,14 +1,10 @@
--- What comes of calls in the worked histories, computed, and what a join of two members keeps.
-use Rattle.std.proofs.Common.{◌≡◌, List, [], ◌∷◌, ◌++◌, Ok, Err, refl, inl, inr, ap, sym}
-use Rattle.std.proofs.Common.{◌∙◌, arith}
+-- What comes of calls in the worked histories, computed.
+use Rattle.std.proofs.Common.{◌≡◌, [], ◌∷◌, Ok, Err, refl, inl, inr, ap, sym, ◌∙◌, arith}
 use Rattle.sync_base.specs.NoteSet.{no_notes}
 use Rattle.sync_base.specs.declared.fault.Fault.TheVariants as fault
 use Rattle.tag_space.specs.declared.calls.GroupReply.TheVariants.{Wait}
-use Rattle.tag_space.specs.declared.member.Member.{Member}
-use Rattle.tag_space.specs.Members.{number_of, seen_of}
 use Rattle.tag_space.specs.Outcome.{calls_by, IsInPair, IsOneOfCalls, HasPartner, Exchange, word_of}
-use Rattle.tag_space.specs.Spaces.{IsKeptIn, JoinsMembers}
-use Rattle.tag_space.specs.Rendezvous.{Entry, Party, Offered, Offer, Pair}
+use Rattle.tag_space.specs.Rendezvous.{Party, Offered, Offer, Pair}
 use Rattle.tag_space.proofs.WorkedSpaces.{told, gives, offer, two, one_waits, one_is_found}
 use Rattle.tag_space.proofs.WorkedSpaces.{one_is_told, the_pair}
 
@@ -118,35 +114,3 @@ an_interruption_is_all_ones = refl
 
 another_fault_stays : word_of (Err fault.Worn) ≡ Err fault.Worn
 another_fault_stays = refl
-
--- ---- what a join of two members keeps
-
-module _ (first second joined : Member) where
-  not_behind : (since : List Entry) (entry : Entry) → [] ≡ since ++ entry ∷ [] → ⊥
-  not_behind [] entry is = cc
-  not_behind (newer ∷ since) entry is = cc
-
-  -- it has seen what either has
-  the_first_is_forgotten : (entry : Entry) → seen_of first ≡ entry ∷ [] → seen_of joined ≡ []
-      → JoinsMembers first second joined → ⊥
-  the_first_is_forgotten entry saw now joins =
-      not_behind joins.first_kept.past.since entry
-      (sym now ∙ joins.first_kept.past.new_is
-      ∙ ap (λ (h : List Entry). joins.first_kept.past.since ++ h) saw)
-
-  the_second_is_forgotten : (entry : Entry) → seen_of second ≡ entry ∷ [] → seen_of joined ≡ []
-      → JoinsMembers first second joined → ⊥
-  the_second_is_forgotten entry saw now joins =
-      not_behind joins.second_kept.past.since entry
-      (sym now ∙ joins.second_kept.past.new_is
-      ∙ ap (λ (h : List Entry). joins.second_kept.past.since ++ h) saw)
-
-  -- and knows of no call that the two did not make
-  a_call_is_added : calls_by (number_of second) (seen_of second) ≡ []
-      → calls_by (number_of second) (seen_of joined) ≡ offer 0 1 7 5 ∷ []
-      → IsKeptIn joined second → ⊥
-  a_call_is_added none made kept = let is = sym made ∙ kept.calls ∙ none in cc
-
-  -- no member is joined with itself
-  one_joins_itself : JoinsMembers first first joined → ⊥
-  one_joins_itself joins = joins.apart refl

@@ -6,7 +6,7 @@ use Rattle.std.specs.Prelude.{IsTrue}
 use Rattle.std.proofs.lemmas.Bool.{false≢true}
 use Rattle.histories.specs.declared.account.Account.{Account}
 use Rattle.kernel_lock.specs.Seats.{KnowsAllGiven, account_of, gave_of, given_of, limit_of}
-use Rattle.sleep_wakeup.specs.Forks.{HasPid, asks_group}
+use Rattle.sleep_wakeup.specs.Forks.{HasPid}
 use Rattle.sleep_wakeup.specs.Groups.{begins, follows, leaves}
 use Rattle.sync_base.specs.declared.fault.Fault.TheVariants as fault
 use Rattle.sync_base.specs.declared.flags.Flags.{Flags}
@@ -42,22 +42,9 @@ both_ask_for_both = (refl, refl)
 no_flag_asks_for_nothing : (asks_child (flags_of 0) ≡ false) × (asks_space (flags_of 0) ≡ false)
 no_flag_asks_for_nothing = (refl, refl)
 
--- RFNOTEG asks for a note group, and for nothing of these
-rfnoteg_asks_for_a_group : (asks_group (flags_of 4) ≡ true) × (asks_group (flags_of 3) ≡ false)
-rfnoteg_asks_for_a_group = (refl, refl)
-
-rfnoteg_asks_for_no_more : (asks_child (flags_of 4) ≡ false) × (asks_space (flags_of 4) ≡ false)
-rfnoteg_asks_for_no_more = (refl, refl)
-
+-- RFNOTEG asks for none of these
 a_child_apart_is_a_child : (asks_child (flags_of 5) ≡ true) × (asks_space (flags_of 5) ≡ false)
 a_child_apart_is_a_child = (refl, refl)
-
-a_space_and_a_group_are_a_space : (asks_child (flags_of 6) ≡ false)
-    × (asks_space (flags_of 6) ≡ true)
-a_space_and_a_group_are_a_space = (refl, refl)
-
-all_three_ask_for_all : (asks_child (flags_of 7) ≡ true) × (asks_space (flags_of 7) ≡ true)
-all_three_ask_for_all = (refl, refl)
 
 seven_is_known : AreKnown (flags_of 7)
 seven_is_known = omega arith
@@ -119,21 +106,6 @@ both_leave_the_member : LeavesMember (flags_of 3)
 both_leave_the_member = record { no_child = both_join_nobody; stays = λ is. omega (arith, is) }
 
 module _ (unused : Unused) (space : TagSpace) (before after : Member) where
-  -- a flag that is not known is refused, whatever is left
-  an_unknown_flag_is_refused :
-      WhyNotForked (rfork_of unused space (flags_of 8)) before after fault.BadFlags
-  an_unknown_flag_is_refused known = omega (arith, known)
-
-  -- RFPROC is refused where all members were given
-  rfproc_finds_no_member : HasPid unused → KnowsAllGiven space.lock before.seat after.seat
-      → WhyNotForked (rfork_of unused space (flags_of 1)) before after fault.NoProc
-  rfproc_finds_no_member pid all =
-      inr (record {
-        joins = record { child = refl; no_space = false≢true };
-        pid = pid;
-        all_given = all;
-      })
-
   -- RFREND alone needs no pid: it is refused where no row is left
   rfrend_finds_no_row : (HasRendez unused space.procs → ⊥)
       → WhyNotForked (rfork_of unused space (flags_of 2)) before after fault.NoRendez
@@ -206,10 +178,6 @@ module _ (unused : Unused) (space : TagSpace) (flags : Flags) (before after : Me
   a_member_before_a_pid : (HasPid unused → ⊥)
       → WantsMember (rfork_of unused space flags) before after → ⊥
   a_member_before_a_pid none wants = none wants.pid
-
-  a_member_for_a_new_space : IsTrue (asks_space flags)
-      → WantsMember (rfork_of unused space flags) before after → ⊥
-  a_member_for_a_new_space asked wants = wants.joins.no_space asked
 
   -- a refused member comes back as another, while a member is left
   another_comes_back : after ≢ before → given_of after.seat < limit_of space.lock

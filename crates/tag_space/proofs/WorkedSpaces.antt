@@ -70,12 +70,10 @@ two_calls_are_a_pair = refl
 a_call_is_over_once_told : stage_of one_is_told 0 ≡ Over
 a_call_is_over_once_told = refl
 
-a_meeting_counts_for_who_waited : count_of two one_is_told 0 ≡ 1
-a_meeting_counts_for_who_waited = refl
+a_meeting_counts_not_for_who_found : count_of two one_is_told 1 ≡ 0
+a_meeting_counts_not_for_who_found = refl
 
-and_not_for_who_found : count_of two one_is_told 1 ≡ 0
-and_not_for_who_found = refl
-
+-- it counts for who waited, from where the space begins
 counts_begin_where_the_space_begins : count_of (record { members = 2; count = 6 }) one_is_told 0 ≡ 7
 counts_begin_where_the_space_begins = refl
 
@@ -110,9 +108,6 @@ the_space_runs_so : IsLegal (rendezvous two) [] a_run
 the_space_runs_so = objects_are_spaces two a_run the_object_runs_so
 
 -- the last count: who has it finds others, and waits no more
-abbrev last_but_one : Space
-last_but_one = record { members = 2; count = 18446744073709551613 }
-
 abbrev a_worn_run : List Entry
 a_worn_run =
     told (gives 0 8 3) (Met 2 1 18446744073709551614)

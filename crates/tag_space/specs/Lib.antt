@@ -2,8 +2,6 @@ pub mod GroupObject
 pub mod Laws
 pub mod Rendezvous
 pub mod Table
-pub mod Search
-pub mod Runs
 pub mod Promises
 pub mod Members
 pub mod Spaces

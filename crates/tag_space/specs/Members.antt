@@ -51,14 +51,11 @@ pub record IsMemberOf (space : TagSpace) (member : Member) : Type 0 where
   pub one : IsOneOf space member
   pub rests : stage_of (seen_of member) (number_of member) ≡ Over
 
--- its last call is under way: it waits, or was met and has not been told
-abbrev pub HasCallUnderWay : Member → Type 0
-HasCallUnderWay member = stage_of (seen_of member) (number_of member) ≢ Over
-
--- a member of the space whose call waits: whoever meets it finds it
+-- a member of the space whose last call is under way: it waits, and whoever meets it finds it, or
+-- was met and has not been told
 pub record IsWaitingMember (space : TagSpace) (member : Member) : Type 0 where
   pub one : IsOneOf space member
-  pub under_way : HasCallUnderWay member
+  pub under_way : stage_of (seen_of member) (number_of member) ≢ Over
 
 -- it is the same member, whatever it knows
 pub record IsSameMember (before after : Member) : Type 0 where

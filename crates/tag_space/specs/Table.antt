@@ -1,11 +1,13 @@
--- The table in which a tag space finds who waits: an entry for each call that waits, tags rising.
-use Rattle.std.specs.Prelude.{◌≡◌, ℕ, ◌<◌, ◌≤◌, Bool, true, false}
-use Rattle.std.specs.Prelude.{List, length, slice_index_or, count_by}
+-- The table in which a tag space finds who waits: an entry for each call that waits, tags rising,
+-- in one piece of memory, with room on both sides.
+use Rattle.std.specs.Prelude.{◌≡◌, ℕ, ◌+◌, ◌*◌, ◌-◌, ◌<◌, ◌≤◌, Bool, true, false}
+use Rattle.std.specs.Prelude.{List, length, take, drop, slice_index_or, count_by}
 use Rattle.sync_base.specs.declared.ids.Tag.{Tag}
 use Rattle.tag_space.specs.declared.place.CallState.{CallState}
 use Rattle.tag_space.specs.declared.place.CallState.TheVariants.{Idle, Waiting, Met}
 use Rattle.tag_space.specs.declared.place.Place.{Place}
 use Rattle.tag_space.specs.declared.limits.TheConstants.{LAST_MEETING}
+use Rattle.tag_space.specs.declared.tag_table.TagTable.{TagTable}
 use Rattle.tag_space.specs.GroupObject.{place_of, waits_with}
 
 -- a tag, and the member that waits with it
@@ -71,3 +73,27 @@ pub record IsGroupObject (table : List TagEntry) (places : List Place) (room : �
   pub as_many : length table ≡ waiters places
   pub counts : AreCounts places
   pub enough : length places ≤ room
+
+-- ---- a search for a tag in a table, narrowed step by step
+
+-- smaller tags before place i, and none from so many entries further on
+pub record IsNarrowed (table : List TagEntry) (tag i left : ℕ) : Type 0 where
+  pub in_range : i + left ≤ length table
+  pub smaller_before : (j : ℕ) → j < i → tag_at table j < tag
+  pub none_after : (j : ℕ) → i + left ≤ j → j < length table → tag ≤ tag_at table j
+
+-- of three quarters from place i on, so many end with a smaller tag, and those are the first
+pub record AreSmaller (table : List TagEntry) (tag i quarter count : ℕ) : Type 0 where
+  pub most : count ≤ 3
+  pub last : 0 < count → tag_at table (i + count * quarter - 1) < tag
+  pub next : count < 3 → tag ≤ tag_at table (i + (count + 1) * quarter - 1)
+
+-- ---- the piece of memory
+
+-- the entries, in their order
+abbrev pub entries_of : TagTable → List TagEntry
+entries_of entries = take entries.count (drop entries.first entries.slots.items)
+
+-- how many entries there is room for
+abbrev pub room_of : TagTable → ℕ
+room_of entries = length entries.slots.items

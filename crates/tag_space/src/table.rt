@@ -1,8 +1,7 @@
 //! How a space finds the call that waits with a tag: by binary search in a table sorted by tag.
 ghost use Rattle.std.specs.Prelude.{◌≡◌, ◌<◌, ◌≤◌, ◌+◌, ◌*◌, ltb, if◌then◌else◌, length, IfOk};
 ghost use Rattle.std.specs.Prelude.{IfErr};
-ghost use Rattle.tag_space.specs.Table.{IsRising, IsAt, IsGapFor};
-ghost use Rattle.tag_space.specs.Search.{IsNarrowed, AreSmaller};
+ghost use Rattle.tag_space.specs.Table.{IsRising, IsAt, IsGapFor, IsNarrowed, AreSmaller};
 
 use sync_base::Tag;
 

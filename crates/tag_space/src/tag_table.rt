@@ -18,7 +18,7 @@ pub(crate) struct TagTable {
 impl TagTable {
     ghost use Rattle.std.specs.Prelude.{◌≡◌, ◌≤◌, ◌<◌, ◌+◌, [], length, slice_index_or, IfOk};
     ghost use Rattle.std.specs.List.{insert, remove};
-    ghost use Rattle.tag_space.specs.Runs.{entries_of, room_of};
+    ghost use Rattle.tag_space.specs.Table.{entries_of, room_of};
 
     /// No entries, with room for so many. It takes all its memory here.
     pub(crate) fn new(alloc: Global, room: usize) -> Result<TagTable, AllocError>

@@ -1,5 +1,5 @@
 -- the entries before have smaller tags, and those behind what is left have none
-use Rattle.tag_space.specs.Search.{IsNarrowed}
+use Rattle.tag_space.specs.Table.{IsNarrowed}
 use Rattle.tag_space.proofs.table.count_smaller.Given as goal
 
 abbrev pub invariant-quartering : goal.invariant-quartering
