@@ -5,8 +5,7 @@ use Rattle.std.proofs.Common.{false, if◌then◌else◌, List, [], ◌∷◌, l
 use Rattle.std.proofs.Common.{set, Some, refl, sym, ap, ◌∙◌, subst, arith, not, eqb, IfSome}
 use Rattle.std.proofs.Common.{replicate, drop}
 use Rattle.std.proofs.lemmas.Bool.Decides.{nat_tests}
-use Rattle.std.proofs.lemmas.Grind.{get_or-set_at}
-use Rattle.std.proofs.lemmas.List.{get_or-set_other, get_or-replicate, length-replicate}
+use Rattle.std.proofs.lemmas.List.{get_or-replicate, length-replicate}
 use Rattle.std.proofs.Math.ListN.{length-set}
 use Rattle.histories.specs.History.{state_after, IsLegal, entries_by}
 use Rattle.kernel_lock.specs.Definition.{server}
@@ -19,7 +18,7 @@ use Rattle.semaphore.specs.declared.sema_object.SemaReply.{SemaReply}
 use Rattle.semaphore.specs.declared.sema_object.SemaCall.TheVariants.{Acquire, AcquireNow, Release}
 use Rattle.semaphore.specs.declared.sema_object.SemaCall.TheVariants.{NextWake, Collect, Leave}
 use Rattle.semaphore.specs.declared.sema_object.SemaReply.TheVariants as reply
-use Rattle.semaphore.specs.Units.{SemaState, IsSound, is_seat, stage_of, grants_of, granted, passed}
+use Rattle.semaphore.specs.Units.{SemaState, IsSound, stage_of, grants_of, granted, passed}
 use Rattle.semaphore.specs.Units.{answer_to, answer_next, sema_after, seat_named, is_idle, opening}
 use Rattle.semaphore.specs.SemaHistory.{SemaEntry, sema_meaning, added_by, taken_by, released}
 use Rattle.semaphore.specs.SemaHistory.{taken, held_in, uncollected, collected_by, collected}
@@ -210,11 +209,9 @@ module _ (procs sum got count : ℕ) (own last : ℕ → ℕ) (waits : ℕ → B
           (kept.sound.may_wait seat);
       size = length-set s.stages seat Idle ∙ kept.size;
       units = omega (arith, kept.units, uncollected_set s.stages seat Idle within, ap held_in is);
-      seats = λ i inside. record {
-        counts = grind (arith, places, (kept.seats i inside).counts);
-        named = (kept.seats i inside).named;
-        idle = grind (arith, places, (kept.seats i inside).idle);
-      };
+      seats = λ i inside.
+          let at = kept.seats i inside in
+          grind (arith, places, at.counts, at.named, at.idle);
     },
     free,
   )
@@ -249,11 +246,9 @@ kept_step s (Acquire seat) (reply.Wait n) by procs sum got count own last waits 
           uncollected_set s.stages seat Waiting w.within,
           ap held_in w.idle,
         );
-        seats = λ i inside. record {
-          counts = grind (arith, places, (kept.seats i inside).counts, w.idle, w.within);
-          named = (kept.seats i inside).named;
-          idle = grind (arith, places, (kept.seats i inside).idle, w.within);
-        };
+        seats = λ i inside.
+            let at = kept.seats i inside in
+            grind (arith, places, at.counts, at.named, at.idle, w.idle, w.within);
       },
       inl w.none,
     )
@@ -312,11 +307,9 @@ kept_step s (Leave seat) reply.Gone by procs sum got count own last waits is nam
         sound = sound_leave s seat kept.sound told.0;
         size = length-set s.stages seat Idle ∙ kept.size;
         units = omega (arith, kept.units, uncollected_set s.stages seat Idle told.0, told.1);
-        seats = λ i inside. record {
-          counts = grind (arith, places, (kept.seats i inside).counts, told.0, told.1);
-          named = (kept.seats i inside).named;
-          idle = grind (arith, places, (kept.seats i inside).idle, told.0);
-        };
+        seats = λ i inside.
+            let at = kept.seats i inside in
+            grind (arith, places, at.counts, at.named, at.idle, told.0, told.1);
       },
       ⊎_elim (λ none. inl none) (λ nobody. inr (ap (without seat) nobody)) free,
     )
