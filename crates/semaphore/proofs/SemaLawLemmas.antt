@@ -199,7 +199,8 @@ module _ (procs sum got count : ℕ) (own last : ℕ → ℕ) (waits : ℕ → B
   -- a unit that was granted is collected
   collect_keeps : (seat by : ℕ) → seat < length s.stages → stage_of s seat ≡ Granted → seat ≡ by →
       Free s → Kept procs (0 + sum) (1 + got) count (λ i. (if eqb seat i then 1 else 0) + own i)
-      last (λ i. if eqb by i then false else waits i) (record s { stages = set s.stages seat Idle }) ×
+      last (λ i. if eqb by i then false else waits i)
+      (record s { stages = set s.stages seat Idle }) ×
       Free (record s { stages = set s.stages seat Idle })
   collect_keeps seat by within is named free = (
     record {
