@@ -5,6 +5,7 @@ use Rattle.std.proofs.Common.{false, if◌then◌else◌, List, [], ◌∷◌, l
 use Rattle.std.proofs.Common.{set, Some, refl, sym, ap, ◌∙◌, subst, arith, not, eqb, IfSome}
 use Rattle.std.proofs.Common.{replicate, drop}
 use Rattle.std.proofs.lemmas.Bool.Decides.{nat_tests}
+use Rattle.std.proofs.lemmas.Grind.{common_steps}
 use Rattle.std.proofs.lemmas.List.{get_or-replicate, length-replicate}
 use Rattle.std.proofs.Math.ListN.{length-set}
 use Rattle.histories.specs.History.{state_after, IsLegal, entries_by}
@@ -206,7 +207,7 @@ module _ (procs sum got count : ℕ) (own last : ℕ → ℕ) (waits : ℕ → B
     record {
       sound = sound_stage s seat Idle s.waiters kept.sound within kept.sound.waiters
           (λ other apart. refl)
-          (λ stands. absurd (clash (sym is ∙ kept.sound.waits seat stands))) (λ e. cc)
+          (λ stands. let bad = sym is ∙ kept.sound.waits seat stands in cc) (λ e. cc)
           (kept.sound.may_wait seat);
       size = length-set s.stages seat Idle ∙ kept.size;
       units = omega (arith, kept.units, uncollected_set s.stages seat Idle within, ap held_in is);
@@ -216,9 +217,6 @@ module _ (procs sum got count : ℕ) (own last : ℕ → ℕ) (waits : ℕ → B
     },
     free,
   )
-    where
-      clash : Granted ≡ Waiting → ⊥
-      clash e = cc
 
 seats_dropped : (seats : ℕ) (xs : List ℕ) → AreSeats seats xs → AreSeats seats (drop 1 xs)
 seats_dropped seats [] are = tt
@@ -329,14 +327,10 @@ none_held zero = refl
 none_held (suc n) = omega (arith, none_held n)
 
 idle_at : (n i : ℕ) → get_or (replicate n Idle) i Idle ≡ Idle
-idle_at zero i = refl
-idle_at (suc n) zero = refl
-idle_at (suc n) (suc i) = idle_at n i
+idle_at n i = grind (arith, common_steps)
 
 count_at : (n i count : ℕ) → get_or (replicate n count) i 0 ≤ count
-count_at zero i count = omega arith
-count_at (suc n) zero count = omega arith
-count_at (suc n) (suc i) count = count_at n i count
+count_at n i count = grind (arith, common_steps)
 
 opening_kept : (value procs count : ℕ) → value ≤ MAX_VALUE → count ≤ LAST_GRANT →
     Kept procs (value + 0) 0 count (λ i. 0) (λ i. count) (λ i. false) (opening value procs count)
@@ -348,8 +342,8 @@ opening_kept value procs count fits few =
         waiters = tt;
         unnamed = tt;
         waits = λ seat stands. cc;
-        stands = λ seat is. absurd (clash (sym (idle_at procs seat) ∙ is));
-        may_wait = λ seat stands. absurd (nowhere stands);
+        stands = λ seat is. let bad : Idle ≡ Waiting = sym (idle_at procs seat) ∙ is in cc;
+        may_wait = λ seat stands. absurd (cc);
         fits = λ seat. omega (arith, count_at procs seat count);
       };
       size = length-replicate procs Idle;
@@ -364,12 +358,6 @@ opening_kept value procs count fits few =
         idle = ap is_idle (idle_at procs i);
       };
     }
-  where
-    clash : Idle ≡ Waiting → ⊥
-    clash e = cc
-
-    nowhere : false ≡ true → ⊥
-    nowhere e = cc
 
 -- what a history keeps of the state that it leaves
 abbrev pub KeptBy : ℕ → ℕ → ℕ → List SemaEntry → SemaState → Type 0
