@@ -23,9 +23,7 @@ asks_so {sema} {waits} {told} {named} {before} {after} call own asks =
 pub is_below : (sema : Sema) (waits : Bool) (seat : SemaSeat) → IsSeatAt sema waits seat
     → number_of seat.seat < sema.procs
 is_below sema waits seat at =
-    subst (λ limit. number_of seat.seat < limit) at.opened.limit
-    (subst (AllByRecursion (λ share. share.number < limit_of sema.lock)) at.shares_are
-    at.history.numbers).0
+    (rw (at.shares_are, at.opened.limit) at at.history.numbers).0
 
 -- so its Rendez is among those of the kernel
 pub is_in_row : (sema : Sema) (waits : Bool) (seat : SemaSeat) (words : Words)

@@ -14,9 +14,8 @@ rendez-rendez-requires g c = (false, c.requires.seat)
 
 pub wait_within-requires-clause-rendez : goal.wait_within-requires-clause-rendez
 wait_within-requires-clause-rendez g c =
-    subst (λ rendez. rendez.0 < rendez_of c.args.proc.now.words) (sym c.rendez-rendez.ensures)
-    (is_in_row c.args.self.now false c.args.seat.now c.args.proc.now.words c.requires.seat
-    c.requires.row)
+    rw c.rendez-rendez.ensures
+    (is_in_row _ _ _ c.args.proc.now.words c.requires.seat c.requires.row)
 
 pub returns-clause-number : goal.returns-clause-number
 returns-clause-number g c =
