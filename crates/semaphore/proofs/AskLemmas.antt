@@ -30,11 +30,9 @@ is_told sema waits call answer old new at history served =
     let at_first = opening at.opened.value sema.procs 0 in
     let legal : IsLegal sema_meaning at_first (entry ∷ past) =
     subst (λ s. IsLegal sema_meaning s (entry ∷ past)) at.opened.opening_is
-    (subst (IsLegal sema_meaning (opening_of sema_definition sema.lock))
-    (ap (λ a. a.seen) served.account.new_is) history.history.legal) in
+    (rw served.account.new_is at history.history.legal) in
     let mine : entries_by server (number_of old.seat) past ≡ at.mine =
-    (subst (AllByRecursion (HasItsEntries server past)) at.shares_are
-    served.account.looked.mine).0.entries in
+    (rw at.shares_are at served.account.looked.mine).0.entries in
     let within = is_below sema waits old at in
     let kept = (history_keeps at.opened.value sema.procs 0 past at.opened.fits (omega arith)
     legal.1).0 in

@@ -1,6 +1,6 @@
 -- A release that asks in the same hold of the lock who is to be woken: what the lock tells of both
 -- requests they tell of the semaphore.
-use Rattle.std.proofs.Common.{◌≡◌, ℕ, false, List, [], ◌∷◌, map, Option, Some, None, unwrap_or}
+use Rattle.std.proofs.Common.{rules, ◌≡◌, ℕ, false, List, [], ◌∷◌, map, Option, Some, None, unwrap_or}
 use Rattle.std.proofs.Common.{refl, sym, ap, ◌∙◌, subst, eq-eqb}
 use Rattle.histories.specs.Account.{share_after}
 use Rattle.kernel_lock.specs.Calls.{Serves}
@@ -42,36 +42,9 @@ pub finds : (sema : Sema) (call : SemaCall) (answer : SemaReply) (old new : Sema
     → Applies sema_definition old.seat call answer new.seat → Finds sema call answer old new
 finds sema call answer old new nobody rests at seat history applied =
     let served : Serves (record { by = number_of old.seat; request = call; reply = answer })
-    (view_of old.seat) (view_of new.seat) =
-    subst
-    (λ named. Serves (record {
-      by = unwrap_or named (number_of old.seat);
-      request = call;
-      reply = answer;
-    }) (view_of old.seat) (view_of new.seat))
-    nobody applied in
-    let number : number_of new.seat ≡ number_of old.seat =
-    seat.number ∙ ap (λ account. account.number) served.account.new_is ∙ sym at.seat_is.number in
+    (view_of old.seat) (view_of new.seat) = rw nobody at applied in
     record {
-      asks = record {
-        served = served;
-        seat = record {
-          opened = at.opened;
-          seat_is = seat;
-          history = history;
-          mine = record { by = number_of old.seat; request = call; reply = answer } ∷ at.mine;
-          shares_are = ap (λ account. account.shares) served.account.new_is
-              ∙ ap (map (share_after server
-              (record { by = number_of old.seat; request = call; reply = answer }))) at.shares_are
-              ∙ has_made (number_of old.seat) at.mine call answer
-              ∙ ap (λ own. record {
-                number = own;
-                mine = record { by = number_of old.seat; request = call; reply = answer } ∷ at.mine;
-              } ∷ []) (sym number);
-          waits_is = ap (waits_after call answer) at.waits_is ∙ rests;
-        };
-        number = number;
-      };
+      asks = record { served = served; seat = search rules; number = search rules };
       found = is_told sema false call answer old new at history served;
     }
 
@@ -126,10 +99,7 @@ names_more sema grant next before seat after proc woken had wakes asks =
         between = had.last;
         others = had.woken;
         named = had.named.asks;
-        woken = subst
-            (λ process. WakesOne process (rendez_of_seat sema grant.seat) grant.grants
-            woken.process)
-            had.named.idle wakes;
+        woken = rw had.named.idle at wakes;
       };
       named = record { asks = asks; idle = refl };
     }

@@ -1,8 +1,7 @@
 -- A request of a seat's own number, and which Rendez the seat has.
 use Rattle.std.proofs.Common.{◌≡◌, ◌<◌, ℕ, Bool, subst, arith}
 use Rattle.std.specs.List.{AllByRecursion}
-use Rattle.kernel_lock.specs.Calls.{Serves}
-use Rattle.kernel_lock.specs.Seats.{number_of, view_of, limit_of}
+use Rattle.kernel_lock.specs.Seats.{number_of, limit_of}
 use Rattle.rendez_words.specs.declared.words.Words.{Words}
 use Rattle.rendez_words.specs.Words.{rendez_of}
 use Rattle.semaphore.specs.declared.sema.Sema.{Sema}
@@ -13,28 +12,18 @@ use Rattle.semaphore.specs.Asking.{Asks}
 use Rattle.semaphore.specs.Seats.{IsSeatAt, OwnsRow, rendez_at}
 
 -- a request that names the number that its seat was told
-pub asks_so : (sema : Sema) (waits : Bool) (call : ℕ → SemaCall) (told : SemaReply) (named : ℕ)
-    (before after : SemaSeat) → named ≡ number_of before.seat
-    → Serves (record { by = number_of before.seat; request = call named; reply = told })
-    (view_of before.seat) (view_of after.seat)
-    → IsSeatAt sema waits after → number_of after.seat ≡ number_of before.seat
+pub asks_so : {sema : Sema} {waits : Bool} {told : SemaReply} {named : ℕ} {before after : SemaSeat}
+    (call : ℕ → SemaCall) → named ≡ number_of before.seat
+    → Asks sema waits (call named) told before after
     → Asks sema waits (call (number_of before.seat)) told before after
-asks_so sema waits call told named before after own served at same =
-    record {
-      served = subst
-          (λ n. Serves (record { by = number_of before.seat; request = call n; reply = told })
-          (view_of before.seat) (view_of after.seat)) own served;
-      seat = at;
-      number = same;
-    }
+asks_so {sema} {waits} {told} {named} {before} {after} call own asks =
+    subst (λ n. Asks sema waits (call n) told before after) own asks
 
 -- a seat's number is below the number of seats
 pub is_below : (sema : Sema) (waits : Bool) (seat : SemaSeat) → IsSeatAt sema waits seat
     → number_of seat.seat < sema.procs
 is_below sema waits seat at =
-    subst (λ limit. number_of seat.seat < limit) at.opened.limit
-    (subst (AllByRecursion (λ share. share.number < limit_of sema.lock)) at.shares_are
-    at.history.numbers).0
+    (rw (at.shares_are, at.opened.limit) at at.history.numbers).0
 
 -- so its Rendez is among those of the kernel
 pub is_in_row : (sema : Sema) (waits : Bool) (seat : SemaSeat) (words : Words)

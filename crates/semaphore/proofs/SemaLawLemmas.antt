@@ -5,8 +5,8 @@ use Rattle.std.proofs.Common.{false, if◌then◌else◌, List, [], ◌∷◌, l
 use Rattle.std.proofs.Common.{set, Some, refl, sym, ap, ◌∙◌, subst, arith, not, eqb, IfSome}
 use Rattle.std.proofs.Common.{replicate, drop}
 use Rattle.std.proofs.lemmas.Bool.Decides.{nat_tests}
-use Rattle.std.proofs.lemmas.Grind.{get_or-set_at}
-use Rattle.std.proofs.lemmas.List.{get_or-set_other, get_or-replicate, length-replicate}
+use Rattle.std.proofs.lemmas.Grind.{common_steps}
+use Rattle.std.proofs.lemmas.List.{get_or-replicate, length-replicate}
 use Rattle.std.proofs.Math.ListN.{length-set}
 use Rattle.histories.specs.History.{state_after, IsLegal, entries_by}
 use Rattle.kernel_lock.specs.Definition.{server}
@@ -19,7 +19,7 @@ use Rattle.semaphore.specs.declared.sema_object.SemaReply.{SemaReply}
 use Rattle.semaphore.specs.declared.sema_object.SemaCall.TheVariants.{Acquire, AcquireNow, Release}
 use Rattle.semaphore.specs.declared.sema_object.SemaCall.TheVariants.{NextWake, Collect, Leave}
 use Rattle.semaphore.specs.declared.sema_object.SemaReply.TheVariants as reply
-use Rattle.semaphore.specs.Units.{SemaState, IsSound, is_seat, stage_of, grants_of, granted, passed}
+use Rattle.semaphore.specs.Units.{SemaState, IsSound, stage_of, grants_of, granted, passed}
 use Rattle.semaphore.specs.Units.{answer_to, answer_next, sema_after, seat_named, is_idle, opening}
 use Rattle.semaphore.specs.SemaHistory.{SemaEntry, sema_meaning, added_by, taken_by, released}
 use Rattle.semaphore.specs.SemaHistory.{taken, held_in, uncollected, collected_by, collected}
@@ -200,27 +200,23 @@ module _ (procs sum got count : ℕ) (own last : ℕ → ℕ) (waits : ℕ → B
   -- a unit that was granted is collected
   collect_keeps : (seat by : ℕ) → seat < length s.stages → stage_of s seat ≡ Granted → seat ≡ by →
       Free s → Kept procs (0 + sum) (1 + got) count (λ i. (if eqb seat i then 1 else 0) + own i)
-      last (λ i. if eqb by i then false else waits i) (record s { stages = set s.stages seat Idle }) ×
+      last (λ i. if eqb by i then false else waits i)
+      (record s { stages = set s.stages seat Idle }) ×
       Free (record s { stages = set s.stages seat Idle })
   collect_keeps seat by within is named free = (
     record {
       sound = sound_stage s seat Idle s.waiters kept.sound within kept.sound.waiters
           (λ other apart. refl)
-          (λ stands. absurd (clash (sym is ∙ kept.sound.waits seat stands))) (λ e. cc)
+          (λ stands. let bad = sym is ∙ kept.sound.waits seat stands in cc) (λ e. cc)
           (kept.sound.may_wait seat);
       size = length-set s.stages seat Idle ∙ kept.size;
       units = omega (arith, kept.units, uncollected_set s.stages seat Idle within, ap held_in is);
-      seats = λ i inside. record {
-        counts = grind (arith, places, (kept.seats i inside).counts);
-        named = (kept.seats i inside).named;
-        idle = grind (arith, places, (kept.seats i inside).idle);
-      };
+      seats = λ i inside.
+          let at = kept.seats i inside in
+          grind (arith, places, at.counts, at.named, at.idle);
     },
     free,
   )
-    where
-      clash : Granted ≡ Waiting → ⊥
-      clash e = cc
 
 seats_dropped : (seats : ℕ) (xs : List ℕ) → AreSeats seats xs → AreSeats seats (drop 1 xs)
 seats_dropped seats [] are = tt
@@ -249,11 +245,9 @@ kept_step s (Acquire seat) (reply.Wait n) by procs sum got count own last waits 
           uncollected_set s.stages seat Waiting w.within,
           ap held_in w.idle,
         );
-        seats = λ i inside. record {
-          counts = grind (arith, places, (kept.seats i inside).counts, w.idle, w.within);
-          named = (kept.seats i inside).named;
-          idle = grind (arith, places, (kept.seats i inside).idle, w.within);
-        };
+        seats = λ i inside.
+            let at = kept.seats i inside in
+            grind (arith, places, at.counts, at.named, at.idle, w.idle, w.within);
       },
       inl w.none,
     )
@@ -312,11 +306,9 @@ kept_step s (Leave seat) reply.Gone by procs sum got count own last waits is nam
         sound = sound_leave s seat kept.sound told.0;
         size = length-set s.stages seat Idle ∙ kept.size;
         units = omega (arith, kept.units, uncollected_set s.stages seat Idle told.0, told.1);
-        seats = λ i inside. record {
-          counts = grind (arith, places, (kept.seats i inside).counts, told.0, told.1);
-          named = (kept.seats i inside).named;
-          idle = grind (arith, places, (kept.seats i inside).idle, told.0);
-        };
+        seats = λ i inside.
+            let at = kept.seats i inside in
+            grind (arith, places, at.counts, at.named, at.idle, told.0, told.1);
       },
       ⊎_elim (λ none. inl none) (λ nobody. inr (ap (without seat) nobody)) free,
     )
@@ -335,14 +327,10 @@ none_held zero = refl
 none_held (suc n) = omega (arith, none_held n)
 
 idle_at : (n i : ℕ) → get_or (replicate n Idle) i Idle ≡ Idle
-idle_at zero i = refl
-idle_at (suc n) zero = refl
-idle_at (suc n) (suc i) = idle_at n i
+idle_at n i = grind (arith, common_steps)
 
 count_at : (n i count : ℕ) → get_or (replicate n count) i 0 ≤ count
-count_at zero i count = omega arith
-count_at (suc n) zero count = omega arith
-count_at (suc n) (suc i) count = count_at n i count
+count_at n i count = grind (arith, common_steps)
 
 opening_kept : (value procs count : ℕ) → value ≤ MAX_VALUE → count ≤ LAST_GRANT →
     Kept procs (value + 0) 0 count (λ i. 0) (λ i. count) (λ i. false) (opening value procs count)
@@ -354,8 +342,8 @@ opening_kept value procs count fits few =
         waiters = tt;
         unnamed = tt;
         waits = λ seat stands. cc;
-        stands = λ seat is. absurd (clash (sym (idle_at procs seat) ∙ is));
-        may_wait = λ seat stands. absurd (nowhere stands);
+        stands = λ seat is. let bad : Idle ≡ Waiting = sym (idle_at procs seat) ∙ is in cc;
+        may_wait = λ seat stands. absurd (cc);
         fits = λ seat. omega (arith, count_at procs seat count);
       };
       size = length-replicate procs Idle;
@@ -370,12 +358,6 @@ opening_kept value procs count fits few =
         idle = ap is_idle (idle_at procs i);
       };
     }
-  where
-    clash : Idle ≡ Waiting → ⊥
-    clash e = cc
-
-    nowhere : false ≡ true → ⊥
-    nowhere e = cc
 
 -- what a history keeps of the state that it leaves
 abbrev pub KeptBy : ℕ → ℕ → ℕ → List SemaEntry → SemaState → Type 0

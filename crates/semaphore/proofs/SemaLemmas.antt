@@ -84,10 +84,7 @@ sound_left s seat stage sound within apart =
     sound_stage s seat stage (without seat s.waiters) sound within
     (seats_without (length s.stages) s.waiters seat sound.waiters)
     (λ other else_where. left_other s.waiters seat other (λ e. else_where (sym e)))
-    (λ is. cc) (λ is. absurd (apart is)) (λ is. absurd (clash (sym gone ∙ is)))
-  where
-    clash : false ≡ true → ⊥
-    clash e = cc
+    (λ is. cc) (λ is. absurd (apart is)) (λ is. absurd (cc))
 
 -- a sound state stays sound when a seat leaves the line and is idle
 pub sound_leave : (s : SemaState) (seat : ℕ) → IsSound s → seat < length s.stages →

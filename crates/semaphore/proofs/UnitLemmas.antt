@@ -44,85 +44,63 @@ own_more entry shares mine are =
     ∙ (ap (λ b. if b then entry ∷ mine else mine) (yes entry.by)
     ∙ sym (ap (λ l. entry ∷ own_of l) are))
 
--- the units that a request brought
+-- ---- a call
+
+-- since then the seat kept its number and was given so many units
+pub record WasGiven (first : SemaSeat) (count : ℕ) (now : SemaSeat) : Type 0 where
+  pub number : number_of now.seat ≡ number_of first.seat
+  pub units : units_given now ≡ units_given first + count
+
+-- a request brings what it is answered
 given_more : (sema : Sema) (waits now_waits : Bool) (call : SemaCall) (told : SemaReply)
-    (old new : SemaSeat) → IsSeatAt sema waits old → Asks sema now_waits call told old new
-    → units_given new ≡ taken_by call told + units_given old
-given_more sema waits now_waits call told old new at asks =
-    ap (λ (a : Account SemaEntry). taken (own_of a.shares)) asks.served.account.new_is
+    (first old new : SemaSeat) → IsSeatAt sema waits old → WasGiven first 0 old
+    → Asks sema now_waits call told old new → WasGiven first (taken_by call told) new
+given_more sema waits now_waits call told first old new at given asks =
+    let more = ap (λ (a : Account SemaEntry). taken (own_of a.shares)) asks.served.account.new_is
     ∙ ap taken
     (own_more (record { by = number_of old.seat; request = call; reply = told })
-    (shares_of old.seat) at.mine at.shares_are)
+    (shares_of old.seat) at.mine at.shares_are) in
+    record { number = asks.number ∙ given.number; units = omega (arith, more, given.units) }
 
--- ---- a wait
+none_yet : (first : SemaSeat) → WasGiven first 0 first
+none_yet first = record { number = refl; units = omega arith }
 
--- while it waits a seat is given none
-record IsOn (sema : Sema) (first now : SemaSeat) : Type 0 where
-  at : IsSeatAt sema true now
-  number : number_of now.seat ≡ number_of first.seat
-  units : units_given now ≡ units_given first
+-- while it waits a seat is given none, and at the end what it is answered
+abbrev IsOn : Sema → SemaSeat → SemaSeat → Type 0
+IsOn sema first now = IsSeatAt sema true now × WasGiven first 0 now
 
--- at the end it was given what it is answered
-pub record IsOver (first : SemaSeat) (answer : Result Unit Fault) (now : SemaSeat) : Type 0 where
-  -- the seat has the number that it had
-  pub number : number_of now.seat ≡ number_of first.seat
-  -- an answer Ok is one unit, and any other is none
-  pub units : units_given now ≡ units_given first + timed_units_of answer
+abbrev pub IsOver : SemaSeat → Result Unit Fault → SemaSeat → Type 0
+IsOver first answer now = WasGiven first (timed_units_of answer) now
 
 module _ (sema : Sema) (first : SemaSeat) where
   goes_on : (old new : Point SemaSeat) (count : ℕ) → IsOn sema first old.seat
       → (acquiring sema).asked old (Wait count) new → IsOn sema first new.seat
   goes_on old new count on asked =
-      let asks = asked.asks in
-      let more = given_more sema true true _ _ old.seat new.seat on.at asks in
-      record {
-        at = asks.seat;
-        number = asks.number ∙ on.number;
-        units = omega (arith, more, on.units);
-      }
+      (asked.asks.seat, given_more sema true true _ _ first _ _ on.0 on.1 asked.asks)
 
   told_so : (old new : Point SemaSeat) (answer : Result Unit Fault) → IsOn sema first old.seat
       → (acquiring sema).asked old (reply_of answer) new → IsOver first answer new.seat
   told_so old new (Ok unit) on asked =
-      let asks = asked.asks in
-      let more = given_more sema true false _ _ old.seat new.seat on.at asks in
-      record { number = asks.number ∙ on.number; units = omega (arith, more, on.units) }
+      given_more sema true false _ _ first _ _ on.0 on.1 asked.asks
   told_so old new (Err why) on asked = absurd asked
 
   late_so : (old new : SemaSeat) (out : Unit) → IsOn sema first old
       → (acquiring sema).left old (Some out) new → IsOver first (Ok out) new
-  late_so old new out on left =
-      let more = given_more sema true false _ _ old new on.at left in
-      record { number = left.number ∙ on.number; units = omega (arith, more, on.units) }
+  late_so old new out on left = given_more sema true false _ _ first _ _ on.0 on.1 left
 
   gone_so : (old new : SemaSeat) (why : Fault) → IsOn sema first old
       → (acquiring sema).left old None new → IsOver first (Err why) new
-  gone_so old new why on left =
-      let more = given_more sema true false _ _ old new on.at left in
-      record { number = left.number ∙ on.number; units = omega (arith, more, on.units) }
+  gone_so old new why on left = given_more sema true false _ _ first _ _ on.0 on.1 left
 
 module _ (sema : Sema) (before : Point SemaSeat) (rest : IsSemaSeatOf sema before.seat) where
   -- a call that was answered at once
-  pub at_once : (after : Point SemaSeat) (answer : Result Unit Fault)
+  at_once : (after : Point SemaSeat) (answer : Result Unit Fault)
       → Begins sema before (reply_of answer) after → IsOver before.seat answer after.seat
   at_once after (Ok unit) begun =
-      let more = given_more sema false false _ _ before.seat after.seat rest begun.asks in
-      record { number = begun.asks.number; units = omega (arith, more) }
+      given_more sema false false _ _ _ _ _ rest (none_yet before.seat) begun.asks
   at_once after (Err fault.Worn) begun =
-      let more = given_more sema false false _ _ before.seat after.seat rest begun.asks in
-      record { number = begun.asks.number; units = omega (arith, more) }
+      given_more sema false false _ _ _ _ _ rest (none_yet before.seat) begun.asks
   at_once after (Err other) begun = absurd begun
-
-  -- one that was told to wait
-  begins_on : (after : Point SemaSeat) (count : ℕ) → Begins sema before (Wait count) after
-      → IsOn sema before.seat after.seat
-  begins_on after count begun =
-      let more = given_more sema false true _ _ before.seat after.seat rest begun.asks in
-      record {
-        at = begun.asks.seat;
-        number = begun.asks.number;
-        units = omega (arith, more);
-      }
 
   -- any call
   pub came : (rendez : RendezId) (after : Point SemaSeat) (answer : Result Unit Fault)
@@ -132,7 +110,10 @@ module _ (sema : Sema) (before : Point SemaSeat) (rest : IsSemaSeatOf sema befor
       wait_ends (acquiring sema) rendez (IsOn sema before.seat) (IsOver before.seat)
       (goes_on sema before.seat) (told_so sema before.seat)
       (late_so sema before.seat) (gone_so sema before.seat)
-      waits.first answer after (begins_on waits.first.at waits.first.number waits.begun)
+      waits.first answer after (
+        waits.begun.asks.seat,
+        given_more sema false true _ _ _ _ _ rest (none_yet before.seat) waits.begun.asks,
+      )
       waits.waited
 
 -- what comes to the same is so many units
@@ -143,18 +124,12 @@ same_units (Err why) (Err other) same = refl
 same_units (Ok one) (Err other) same = absurd same
 same_units (Err why) (Ok other) same = absurd same
 
--- what one that does not wait answers is a unit where it took one
-pub now_units : (got : Semacquired) (number : ℕ)
-    → taken_by (AcquireNow number) (now_reply got) ≡ units_of (Ok got)
-now_units got.Acquired number = refl
-now_units got.NotNow number = refl
-
--- and the units of such a call add up
+-- the units of a call that does not wait add up
 pub now_over : (sema : Sema) (before after : SemaSeat) (got : Semacquired)
     → IsSemaSeatOf sema before
     → Asks sema false (AcquireNow (number_of before.seat)) (now_reply got) before after
     → units_given after ≡ units_given before + units_of (Ok got)
-now_over sema before after got rest asks =
-    let more = given_more sema false false _ _ before after rest asks in
-    let units = now_units got (number_of before.seat) in
-    omega (arith, more, units)
+now_over sema before after got.Acquired rest asks =
+    (given_more sema false false _ _ _ _ _ rest (none_yet before) asks).units
+now_over sema before after got.NotNow rest asks =
+    (given_more sema false false _ _ _ _ _ rest (none_yet before) asks).units

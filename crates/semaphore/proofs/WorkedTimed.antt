@@ -100,15 +100,10 @@ timed_more timers set now_set call told old new at asks =
     (own_more (record { by = number_of old.seat; request = call; reply = told })
     (shares_of old.seat) at.mine at.shares_are)
 
-waits_post : (event : Event) → IsOfWait event → is_post event ≡ 0
-waits_post (Look pid) is = refl
-waits_post (Withdraw pid) is = refl
-waits_post other is = absurd is
-
-waits_drain : (event : Event) → IsOfWait event → is_drain event ≡ 0
-waits_drain (Look pid) is = refl
-waits_drain (Withdraw pid) is = refl
-waits_drain other is = absurd is
+none_in_a_wait : (event : Event) → IsOfWait event → (is_post event ≡ 0) × (is_drain event ≡ 0)
+none_in_a_wait (Look pid) is = (refl, refl)
+none_in_a_wait (Withdraw pid) is = (refl, refl)
+none_in_a_wait other is = absurd is
 
 -- steps that are none of these
 adds_none : (is : Event → ℕ) → ((event : Event) → IsOfWait event → is event ≡ 0)
@@ -139,8 +134,10 @@ slept_once before at number set after slept =
     let past = (tests (posts before at number answer.Posted) slept.tested).trace in
     let lies = ap lay_down leaves.cleared in
     let drains = ap drained leaves.cleared in
-    let no_post = adds_none is_post waits_post leaves.waiting past leaves.of_wait in
-    let no_drain = adds_none is_drain waits_drain leaves.waiting past leaves.of_wait in
+    let no_post = adds_none is_post (λ event is. (none_in_a_wait event is).0) leaves.waiting past
+    leaves.of_wait in
+    let no_drain = adds_none is_drain (λ event is. (none_in_a_wait event is).1) leaves.waiting past
+    leaves.of_wait in
     record { lies = omega (arith, lies, no_post); drains = omega (arith, drains, no_drain) }
 
 failed_once : (before : Process) (at : RendezId) (number : ℕ) (after : Process) (why : Fault)
@@ -153,40 +150,44 @@ failed_once before at number after fault.DoubleSleep failed =
     record { lies = omega (arith, lies); drains = omega (arith, drains) }
 failed_once before at number after other failed = absurd failed
 
+-- a sleep, and a request behind it that is not a first one
+adds_one : (by : ℕ) (call : SemaCall) (told : SemaReply) (old new : Point SemaSeat)
+    → SleepsOnce old.process new.process → is_first call ≡ 0
+    → own new.seat ≡ record { by = by; request = call; reply = told } ∷ own old.seat
+    → Adds 1 1 old new
+adds_one by call told old new slept later asked =
+    let calls = ap (λ (l : List SemaEntry). length l) asked in
+    let begins = ap firsts asked in
+    record {
+      lies = slept.lies;
+      drains = slept.drains;
+      asks = omega (arith, calls);
+      firsts = omega (arith, begins, later);
+    }
+
 module _ (sema : Sema) (Timer : Type 0) (rendez : RendezId) where
   -- between any two requests stands one sleep
   rounds_add : (times : ℕ) (first now : WaitPoint SemaSeat) → IsSeatAt sema true first.at.seat
       → Rounds (while_set Timer (acquiring sema)) rendez times first now
       → IsSeatAt sema true now.at.seat × Adds times times first.at now.at
   rounds_add zero first now at same =
-      let lies = ap (λ (t : WaitPoint SemaSeat). lay_down t.at.process) same in
-      let drains = ap (λ (t : WaitPoint SemaSeat). drained t.at.process) same in
-      let calls = ap (λ (t : WaitPoint SemaSeat). length (own t.at.seat)) same in
-      let begins = ap (λ (t : WaitPoint SemaSeat). firsts (own t.at.seat)) same in (
-        subst (λ (t : WaitPoint SemaSeat). IsSeatAt sema true t.at.seat) (sym same) at,
-        record {
-          lies = omega (arith, lies);
-          drains = drains;
-          asks = omega (arith, calls);
-          firsts = begins;
-        },
-      )
+      subst (λ (t : WaitPoint SemaSeat). IsSeatAt sema true t.at.seat × Adds 0 0 first.at t.at)
+      (sym same)
+      (at, record { lies = omega arith; drains = refl; asks = omega arith; firsts = refl })
   rounds_add (suc times) first now at more =
       let (waits, before) = rounds_add times first more.between at more.rounds in
       let slept = slept_once more.between.at.process rendez more.between.number no_notes
       more.last.woken more.last.slept in
       let only = more.last.asked.1 in
-      let lies = ap lay_down only.idle in
-      let drains = ap drained only.idle in
-      let asked = asked_more sema true true _ _ more.between.at.seat now.at.seat waits only.asks in
-      let calls = ap (λ (l : List SemaEntry). length l) asked in
-      let begins = ap firsts asked in (
+      let one = adds_one _ _ _ more.between.at now.at
+      (subst (SleepsOnce more.between.at.process) (sym only.idle) slept) refl
+      (asked_more sema true true _ _ more.between.at.seat now.at.seat waits only.asks) in (
         only.asks.seat,
         record {
-          lies = omega (arith, before.lies, slept.lies, lies);
-          drains = omega (arith, before.drains, slept.drains, drains);
-          asks = omega (arith, before.asks, calls);
-          firsts = omega (arith, before.firsts, begins);
+          lies = omega (arith, before.lies, one.lies);
+          drains = omega (arith, before.drains, one.drains);
+          asks = omega (arith, before.asks, one.asks);
+          firsts = omega (arith, before.firsts, one.firsts);
         },
       )
 
@@ -198,40 +199,17 @@ module _ (sema : Sema) (Timer : Type 0) (rendez : RendezId) where
   end_adds last (Answered (Ok unit)) after at ends =
       let slept = slept_once last.at.process rendez last.number no_notes ends.woken ends.slept in
       let only = ends.asked.1 in
-      let lies = ap lay_down only.idle in
-      let drains = ap drained only.idle in
-      let asked = asked_more sema true false _ _ last.at.seat after.seat at only.asks in
-      let calls = ap (λ (l : List SemaEntry). length l) asked in
-      let begins = ap firsts asked in
-      record {
-        lies = omega (arith, slept.lies, lies);
-        drains = omega (arith, slept.drains, drains);
-        asks = omega (arith, calls);
-        firsts = omega (arith, begins);
-      }
+      adds_one _ _ _ last.at after (subst (SleepsOnce last.at.process) (sym only.idle) slept) refl
+      (asked_more sema true false _ _ last.at.seat after.seat at only.asks)
   end_adds last (Answered (Err why)) after at ends = absurd ends.asked.1
   end_adds last (Stopped why (Some unit)) after at ends =
-      let failed = failed_once last.at.process rendez last.number after.process why ends.failed in
-      let asked = asked_more sema true false _ _ last.at.seat after.seat at ends.left.1 in
-      let calls = ap (λ (l : List SemaEntry). length l) asked in
-      let begins = ap firsts asked in
-      record {
-        lies = failed.lies;
-        drains = failed.drains;
-        asks = omega (arith, calls);
-        firsts = omega (arith, begins);
-      }
+      adds_one _ _ _ last.at after
+      (failed_once last.at.process rendez last.number after.process why ends.failed) refl
+      (asked_more sema true false _ _ last.at.seat after.seat at ends.left.1)
   end_adds last (Stopped why None) after at ends =
-      let failed = failed_once last.at.process rendez last.number after.process why ends.failed in
-      let asked = asked_more sema true false _ _ last.at.seat after.seat at ends.left.1 in
-      let calls = ap (λ (l : List SemaEntry). length l) asked in
-      let begins = ap firsts asked in
-      record {
-        lies = failed.lies;
-        drains = failed.drains;
-        asks = omega (arith, calls);
-        firsts = omega (arith, begins);
-      }
+      adds_one _ _ _ last.at after
+      (failed_once last.at.process rendez last.number after.process why ends.failed) refl
+      (asked_more sema true false _ _ last.at.seat after.seat at ends.left.1)
 
 -- it does not look for a tick that took no timer
 not_looked : (rendez : RendezId) (times : ℕ) (first now : Awaiting)

@@ -54,10 +54,9 @@ impl Sema {
     ghost use Rattle.std.specs.Prelude.{◌≡◌, ◌≤◌, Bool, IfOk, IfErr, OnOk, OnErr};
     ghost use Rattle.sync_base.specs.declared.fault.Fault.TheVariants.{NoProc};
     ghost use Rattle.sleep_wakeup.specs.Kernel.{HasRendez, rendez_less};
-    ghost use Rattle.kernel_lock.specs.Calls.{Serves};
-    ghost use Rattle.kernel_lock.specs.Seats.{Splits, KnowsAllGiven, NamesOwn, number_of, view_of};
+    ghost use Rattle.kernel_lock.specs.Seats.{Splits, KnowsAllGiven, NamesOwn, number_of};
     ghost use Rattle.semaphore.specs.declared.limits.TheConstants.{MAX_VALUE};
-    ghost use Rattle.semaphore.specs.Asking.{AsksRelease, IsTold};
+    ghost use Rattle.semaphore.specs.Asking.{Asks, AsksRelease, IsTold};
     ghost use Rattle.semaphore.specs.Definitions.{sema_definition};
     ghost use Rattle.semaphore.specs.Opening.{WhyNotOpened};
     ghost use Rattle.sleep_core.specs.Limits.{IsProcCount};
@@ -150,14 +149,8 @@ impl Sema {
     pub(crate) fn ask<R: Wait>(&self, rt: &R, seat: &mut SemaSeat, call: SemaCall) -> SemaReply
         requires seat { (waits : Bool) × IsSeatAt self.now waits seat.old }
         requires named { NamesOwn sema_definition seat.old.seat call }
-        ensures seat { (waits : Bool) → IsSeatAt self.now waits seat.old →
-            IsSeatAt self.now (waits_after call result waits) seat.new }
-        ensures number { number_of seat.new.seat ≡ number_of seat.old.seat }
-
-        // The call stands in one legal history, with what it was answered there.
-        ensures served { Serves
-            (record { by = number_of seat.old.seat; request = call; reply = result })
-            (view_of seat.old.seat) (view_of seat.new.seat) }
+        ensures asked { (waits : Bool) → IsSeatAt self.now waits seat.old →
+            Asks self.now (waits_after call result waits) call result seat.old seat.new }
         ensures told { (waits : Bool) → IsSeatAt self.now waits seat.old →
             IsTold self.now.procs (number_of seat.old.seat) waits call result }
     {

@@ -3,7 +3,6 @@ pub mod Cases
 mod EarlierLemmas
 mod NoteLemmas
 mod OwnTimerLemmas
-mod RequestLemmas
 pub mod TickLemmas
 mod TimerLemmas
 mod TournamentLemmas

@@ -10,8 +10,8 @@ use Rattle.rendez_words.specs.Rule.{ShowsCore}
 use Rattle.sleep_core.specs.declared.answer.Answer.TheVariants as answer
 use Rattle.sleep_core.specs.declared.event.Event.TheVariants.{Note}
 use Rattle.sleep_core.specs.History.{Effect, effect_of, history_of}
-use Rattle.sleep_core.specs.History.Effect.{Began, Passed, Fell, Roused, Withdrew, Left, Raised}
-use Rattle.sleep_core.specs.History.Effect.{Missed, Took, Marked, Noted, Drained}
+use Rattle.sleep_core.specs.History.Effect.{Left}
+use Rattle.sleep_core.specs.History.Effect.{Noted, Drained}
 use Rattle.sleep_core.specs.Promises.{AreNotesRight, pending}
 use Rattle.sleep_core.specs.Runs.{Entry, is_kept, kept, own}
 use Rattle.sync_base.specs.declared.ids.Pid.{Pid}
@@ -130,15 +130,7 @@ is_there pid (Left by (Some notes) ∷ past) right come =
     taken_too pid by notes past right.0.0 (is_there pid past right.1 come)
 is_there pid (Left by None ∷ past) right come =
     well_too pid by past right.0 (is_there pid past right.1 come)
-is_there pid (Began by rendez threshold ∷ past) right come = is_there pid past right come
-is_there pid (Passed by ∷ past) right come = is_there pid past right come
-is_there pid (Fell by ∷ past) right come = is_there pid past right come
-is_there pid (Roused by ∷ past) right come = is_there pid past right come
-is_there pid (Withdrew by ∷ past) right come = is_there pid past right come
-is_there pid (Raised by rendez level ∷ past) right come = is_there pid past right come
-is_there pid (Missed by ∷ past) right come = is_there pid past right come
-is_there pid (Took by sleeper ∷ past) right come = is_there pid past right come
-is_there pid (Marked by sleeper ∷ past) right come = is_there pid past right come
+is_there pid (effect ∷ past) right come = is_there pid past right come
 
 -- ---- a tick
 

@@ -4,7 +4,7 @@ use Rattle.std.proofs.Common.{true, false, not, if◌then◌else◌, List, [], �
 use Rattle.std.proofs.Common.{replicate, get_or, set, Option, None, Some, IfSome, refl, sym, ap}
 use Rattle.std.proofs.Common.{◌∙◌, subst, arith}
 use Rattle.std.proofs.lemmas.Bool.Decides.{nat_tests}
-use Rattle.std.proofs.lemmas.Grind.{get_or-set_at}
+use Rattle.std.proofs.lemmas.Grind.{common_steps, get_or-set_at}
 use Rattle.std.proofs.lemmas.List.{get_or-set_same, get_or-set_other, length-replicate}
 use Rattle.std.proofs.Math.ListN.{length-set}
 use Rattle.histories.specs.History.{state_after, IsLegal, entries_by}
@@ -123,12 +123,8 @@ pub own_timer : (procs number : ℕ) (past : List TimerEntry) →
     Keeps (state_after timer_meaning (replicate procs Unset) past) procs number
     (not (has_timer (entries_by server number past)))
 own_timer procs number [] legal =
-    record { size = length-replicate procs Unset; is = ap may_add (none_set procs number) }
-  where
-    none_set : (n i : ℕ) → get_or (replicate n Unset) i Unset ≡ Unset
-    none_set zero i = refl
-    none_set (suc n) zero = refl
-    none_set (suc n) (suc i) = none_set n i
+    let unset : get_or (replicate procs Unset) number Unset ≡ Unset = grind (arith, common_steps) in
+    record { size = length-replicate procs Unset; is = ap may_add unset }
 own_timer procs number (entry ∷ past) legal =
     let s = state_after timer_meaning (replicate procs Unset) past in
     let before = own_timer procs number past legal.1 in

@@ -159,6 +159,12 @@ earliest_is_set timers due is =
     set_of_due timers stands.place due (get_or timers stands.place Unset) refl there
     (subst (λ n. stands.place < n) (length-dues_from 0 timers) stands.within)
 
+-- so is the first of the moments of these timers
+pub due_is_set : (timers : List Timer) (dues : List (Option Due)) (due : Due) →
+    dues ≡ dues_from 0 timers → Some due ≡ earliest dues → IsSet timers due
+due_is_set timers dues due are is =
+    earliest_is_set timers due (ap earliest (sym are) ∙ sym is)
+
 -- what Expire answers and leaves
 pub record Expires (timers : List Timer) (now : ℕ) (told : TimerReply) (left : List Timer) :
     Type 0 where
@@ -168,24 +174,25 @@ pub record Expires (timers : List Timer) (now : ℕ) (told : TimerReply) (left :
   pub after : left ≡ after timers (Expire now)
 
 -- where the earliest moment is not come, an Expire answers that none is due, and leaves the timers
-pub expires_none : (timers : List Timer) (now : ℕ) (first : Option Due) → first ≡
-    earliest (dues_from 0 timers) → if_come now first ≡ None →
-    Expires timers now reply.NoneDue timers
-expires_none timers now first is none =
+pub expires_none : (timers : List Timer) (now : ℕ) (dues : List (Option Due))
+    (first : Option Due) → dues ≡ dues_from 0 timers → first ≡ earliest dues →
+    if_come now first ≡ None → Expires timers now reply.NoneDue timers
+expires_none timers now dues first are is none =
     let due : first_due now timers ≡ None = first_of_all now timers ∙
-    (ap (if_come now) (sym is) ∙ none) in
+    (ap (λ l. if_come now (earliest l)) (sym are) ∙ ap (if_come now) (sym is) ∙ none) in
     let answer : answer_to timers (Expire now) ≡ reply.NoneDue = ap (answer_first timers) due in
     record { answer = sym answer; after = sym (ap (timers_after timers (Expire now)) answer) }
 
 -- where the earliest moment is come, an Expire names the process of that timer, and leaves it
 -- expired
-pub expires_one : (timers : List Timer) (now : ℕ) (due : Due) (pid : Pid) (deadline : ℕ) →
-    Some due ≡ earliest (dues_from 0 timers) → due.deadline ≤ now → get_or timers due.seat Unset ≡
-    Set pid deadline → Expires timers now (reply.Ended pid) (set timers due.seat Expired)
-expires_one timers now due pid deadline is come timer =
+pub expires_one : (timers : List Timer) (now : ℕ) (dues : List (Option Due)) (due : Due)
+    (pid : Pid) (deadline : ℕ) → dues ≡ dues_from 0 timers → Some due ≡ earliest dues →
+    due.deadline ≤ now → get_or timers due.seat Unset ≡ Set pid deadline →
+    Expires timers now (reply.Ended pid) (set timers due.seat Expired)
+expires_one timers now dues due pid deadline are is come timer =
     let here : if_come now (Some due) ≡ Some due = grind (arith, nat_tests) in
     let first : first_due now timers ≡ Some due = first_of_all now timers ∙
-    (ap (if_come now) (sym is) ∙ here) in
+    (ap (λ l. if_come now (earliest l)) (sym are) ∙ ap (if_come now) (sym is) ∙ here) in
     let answer : answer_to timers (Expire now) ≡ reply.Ended pid =
     ap (answer_first timers) first ∙ ap answer_expired timer in
     record {

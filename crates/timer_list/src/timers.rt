@@ -29,9 +29,8 @@ pub struct OpenedTimers {
 impl Timers {
     ghost use Rattle.std.specs.Prelude.{◌≡◌, Bool, IfOk, IfErr, OnOk, OnErr};
     ghost use Rattle.sync_base.specs.declared.fault.Fault.TheVariants.{NoProc};
-    ghost use Rattle.kernel_lock.specs.Calls.{Serves};
-    ghost use Rattle.kernel_lock.specs.Seats.{Splits, KnowsAllGiven, NamesOwn, number_of, view_of};
-    ghost use Rattle.timer_list.specs.Asking.{IsTimed};
+    ghost use Rattle.kernel_lock.specs.Seats.{Splits, KnowsAllGiven, NamesOwn, number_of};
+    ghost use Rattle.timer_list.specs.Asking.{AsksTimers, IsTimed};
     ghost use Rattle.timer_list.specs.Definitions.{timer_definition};
     ghost use Rattle.sleep_core.specs.Limits.{IsProcCount};
     ghost use Rattle.timer_list.specs.Seats.{IsSeatAtTimers, IsTimerSeatOf, AreNewTimers};
@@ -83,14 +82,8 @@ impl Timers {
     pub(crate) fn ask<R: Wait>(&self, rt: &R, seat: &mut TimerSeat, call: TimerCall) -> TimerReply
         requires seat { (set : Bool) × IsSeatAtTimers self.now set seat.old }
         requires named { NamesOwn timer_definition seat.old.seat call }
-        ensures seat { (set : Bool) → IsSeatAtTimers self.now set seat.old →
-            IsSeatAtTimers self.now (sets_after call result set) seat.new }
-        ensures number { number_of seat.new.seat ≡ number_of seat.old.seat }
-
-        // The call stands in one legal history, with what it was answered there.
-        ensures served { Serves
-            (record { by = number_of seat.old.seat; request = call; reply = result })
-            (view_of seat.old.seat) (view_of seat.new.seat) }
+        ensures asked { (set : Bool) → IsSeatAtTimers self.now set seat.old →
+            AsksTimers self.now (sets_after call result set) call result seat.old seat.new }
         ensures told { (set : Bool) → IsSeatAtTimers self.now set seat.old →
             IsTimed self.now.procs (number_of seat.old.seat) set call result }
     {

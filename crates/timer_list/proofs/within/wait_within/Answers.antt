@@ -80,26 +80,11 @@ returns-in-Wait-clause-waited g c =
     })
 
 pub returns-in-Done-clause-is_call : goal.returns-in-Done-clause-is_call
-returns-in-Done-clause-is_call g c =
-    untimed (g.C.WaitingCall.promise c.args.call.now) c.args.rendez c.args.timers.now
-    (deadline_of c.args.now c.args.ms)
-    (timed_point c.args.seat.now c.args.timer.now c.args.proc.now)
-    (Ok c.in-Done.out) (timed_point c.begin.new.seat c.args.timer.now c.begin.new.proc)
-    (returns-in-Done-clause-waited g c)
+returns-in-Done-clause-is_call g c = untimed _ _ _ _ _ _ _ (returns-in-Done-clause-waited g c)
 
 pub returns-in-Refused-clause-is_call : goal.returns-in-Refused-clause-is_call
 returns-in-Refused-clause-is_call g c =
-    untimed (g.C.WaitingCall.promise c.args.call.now) c.args.rendez c.args.timers.now
-    (deadline_of c.args.now c.args.ms)
-    (timed_point c.args.seat.now c.args.timer.now c.args.proc.now)
-    (Err c.in-Refused.why) (timed_point c.begin.new.seat c.args.timer.now c.begin.new.proc)
-    (returns-in-Refused-clause-waited g c)
+    untimed _ _ _ _ _ _ _ (returns-in-Refused-clause-waited g c)
 
 pub returns-in-Wait-clause-is_call : goal.returns-in-Wait-clause-is_call
-returns-in-Wait-clause-is_call g c =
-    untimed (g.C.WaitingCall.promise c.args.call.now) c.args.rendez c.args.timers.now
-    (deadline_of c.args.now c.args.ms)
-    (timed_point c.args.seat.now c.args.timer.now c.args.proc.now)
-    c.end_within.result
-    (timed_point c.sleep_for-ending.new.seat c.end_within.new.timer c.end_within.new.proc)
-    (returns-in-Wait-clause-waited g c)
+returns-in-Wait-clause-is_call g c = untimed _ _ _ _ _ _ _ (returns-in-Wait-clause-waited g c)

@@ -1,7 +1,6 @@
 -- The seat was granted its unit, or waits on.
-use Rattle.std.proofs.Common.{false, true, refl, arith}
+use Rattle.std.proofs.Common.{true, refl, arith}
 use Rattle.semaphore.specs.declared.sema_object.SemaCall.TheVariants.{Collect}
-use Rattle.semaphore.specs.declared.sema_object.SemaReply.TheVariants as reply
 use Rattle.semaphore.proofs.RequestLemmas.{asks_so}
 use Rattle.semaphore.proofs.TellLemmas.{collect_never, collect_fits}
 use Rattle.semaphore.proofs.acquiring.AcquiringWaitingCall.ask.Goals as goal
@@ -14,15 +13,14 @@ unreachable-requires g c =
 pub returns-in-Granted-clause-asked : goal.returns-in-Granted-clause-asked
 returns-in-Granted-clause-asked g c =
     record {
-      asks = asks_so c.args.self.now.sema.now false Collect reply.Granted c.number-number.result
-          c.args.seat.now c.ask.new.seat c.number-number.ensures c.in-Granted.ensures.served
-          (c.in-Granted.ensures.seat true c.requires.waits) c.in-Granted.ensures.number;
+      asks = asks_so Collect c.number-number.ensures
+          (c.in-Granted.ensures.asked true c.requires.waits);
       idle = refl;
     }
 
 pub returns-in-Wait-clause-stands : goal.returns-in-Wait-clause-stands
 returns-in-Wait-clause-stands g c =
-    c.in-Wait.ensures.seat true c.requires.waits
+    (c.in-Wait.ensures.asked true c.requires.waits).seat
 
 pub returns-in-Wait-clause-low : goal.returns-in-Wait-clause-low
 returns-in-Wait-clause-low g c =
@@ -33,9 +31,7 @@ returns-in-Wait-clause-low g c =
 pub returns-in-Wait-clause-asked : goal.returns-in-Wait-clause-asked
 returns-in-Wait-clause-asked g c =
     record {
-      asks = asks_so c.args.self.now.sema.now true Collect (reply.Wait c.in-Wait.again)
-          c.number-number.result c.args.seat.now c.ask.new.seat c.number-number.ensures
-          c.in-Wait.ensures.served (c.in-Wait.ensures.seat true c.requires.waits)
-          c.in-Wait.ensures.number;
+      asks = asks_so Collect c.number-number.ensures
+          (c.in-Wait.ensures.asked true c.requires.waits);
       idle = refl;
     }

@@ -1,7 +1,6 @@
 -- The seat has its unit, waits, or was worn out.
-use Rattle.std.proofs.Common.{false, true, refl, arith}
+use Rattle.std.proofs.Common.{false, refl, arith}
 use Rattle.semaphore.specs.declared.sema_object.SemaCall.TheVariants.{Acquire}
-use Rattle.semaphore.specs.declared.sema_object.SemaReply.TheVariants as reply
 use Rattle.semaphore.proofs.RequestLemmas.{asks_so}
 use Rattle.semaphore.proofs.TellLemmas.{acquire_never, acquire_fits}
 use Rattle.semaphore.proofs.acquiring.AcquiringWaitingCall.begin.Goals as goal
@@ -14,15 +13,14 @@ unreachable-requires g c =
 pub returns-in-Acquired-clause-asked : goal.returns-in-Acquired-clause-asked
 returns-in-Acquired-clause-asked g c =
     record {
-      asks = asks_so c.args.self.now.sema.now false Acquire reply.Acquired c.number-number.result
-          c.args.seat.now c.ask.new.seat c.number-number.ensures c.in-Acquired.ensures.served
-          (c.in-Acquired.ensures.seat false c.requires.ready) c.in-Acquired.ensures.number;
+      asks = asks_so Acquire c.number-number.ensures
+          (c.in-Acquired.ensures.asked false c.requires.ready);
       idle = refl;
     }
 
 pub returns-in-Wait-clause-stands : goal.returns-in-Wait-clause-stands
 returns-in-Wait-clause-stands g c =
-    c.in-Wait.ensures.seat false c.requires.ready
+    (c.in-Wait.ensures.asked false c.requires.ready).seat
 
 pub returns-in-Wait-clause-low : goal.returns-in-Wait-clause-low
 returns-in-Wait-clause-low g c =
@@ -33,18 +31,15 @@ returns-in-Wait-clause-low g c =
 pub returns-in-Wait-clause-asked : goal.returns-in-Wait-clause-asked
 returns-in-Wait-clause-asked g c =
     record {
-      asks = asks_so c.args.self.now.sema.now true Acquire (reply.Wait c.in-Wait.count)
-          c.number-number.result c.args.seat.now c.ask.new.seat c.number-number.ensures
-          c.in-Wait.ensures.served (c.in-Wait.ensures.seat false c.requires.ready)
-          c.in-Wait.ensures.number;
+      asks = asks_so Acquire c.number-number.ensures
+          (c.in-Wait.ensures.asked false c.requires.ready);
       idle = refl;
     }
 
 pub returns-in-Worn-clause-asked : goal.returns-in-Worn-clause-asked
 returns-in-Worn-clause-asked g c =
     record {
-      asks = asks_so c.args.self.now.sema.now false Acquire reply.Worn c.number-number.result
-          c.args.seat.now c.ask.new.seat c.number-number.ensures c.in-Worn.ensures.served
-          (c.in-Worn.ensures.seat false c.requires.ready) c.in-Worn.ensures.number;
+      asks = asks_so Acquire c.number-number.ensures
+          (c.in-Worn.ensures.asked false c.requires.ready);
       idle = refl;
     }

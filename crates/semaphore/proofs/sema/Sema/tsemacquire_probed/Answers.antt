@@ -14,30 +14,21 @@ rendez-rendez-requires g c = (false, c.requires.seat)
 
 pub wait_within-requires-clause-rendez : goal.wait_within-requires-clause-rendez
 wait_within-requires-clause-rendez g c =
-    subst (λ rendez. rendez.0 < rendez_of c.args.proc.now.words) (sym c.rendez-rendez.ensures)
-    (is_in_row c.args.self.now false c.args.seat.now c.args.proc.now.words c.requires.seat
-    c.requires.row)
+    rw c.rendez-rendez.ensures
+    (is_in_row _ _ _ c.args.proc.now.words c.requires.seat c.requires.row)
 
 pub returns-clause-number : goal.returns-clause-number
 returns-clause-number g c =
-    let is = c.wait_within.ensures.is_call in
-    (came c.args.self.now (point c.args.seat.now c.args.proc.now) c.requires.seat
-    c.rendez-rendez.result (record { seat = c.wait_within.new.seat; process = is.process })
-    is.told is.waited).number
+    (came c.args.self.now (point c.args.seat.now c.args.proc.now) c.requires.seat _ _ _
+    c.wait_within.ensures.is_call.waited).number
 
 pub returns-clause-called : goal.returns-clause-called
 returns-clause-called g c =
     let is = c.wait_within.ensures.is_call in
-    let units = (came c.args.self.now (point c.args.seat.now c.args.proc.now) c.requires.seat
-    c.rendez-rendez.result (record { seat = c.wait_within.new.seat; process = is.process })
-    is.told is.waited).units in
+    let units = (came c.args.self.now (point c.args.seat.now c.args.proc.now) c.requires.seat _ _ _
+    is.waited).units in
     let same = same_units is.told c.wait_within.result is.same in
     record {
       units = omega (arith, units, same);
-      takes = subst
-          (λ rendez. WaitedInTime (acquiring c.args.self.now) rendez c.args.timers.now
-          (deadline_of c.args.now c.args.ms)
-          (timed_point c.args.seat.now c.args.timer.now c.args.proc.now) c.wait_within.result
-          (timed_point c.wait_within.new.seat c.wait_within.new.timer c.wait_within.new.proc))
-          c.rendez-rendez.ensures c.wait_within.ensures.waited;
+      takes = rw (← c.rendez-rendez.ensures) c.wait_within.ensures.waited;
     }

@@ -15,9 +15,6 @@ loop-preserved g c =
       named = λ before first.
           names_more c.args.self.now c.in-Some-next.grant c.next_wake-next.result _ c.loop.seat
           c.next_wake-next.new.seat c.loop.proc c.wakeup.new.self
-          (subst
-          (λ next. HasNamed c.args.self.now next (point before c.args.proc.now)
-          (point c.loop.seat c.loop.proc))
-          c.in-Some-next.is (c.loop.invariant.named before first))
+          (rw c.in-Some-next.is at (c.loop.invariant.named before first))
           (record { receipt = c.in-Ok.field-0; woken = c.in-Ok.ensures.woken }) asks;
     }

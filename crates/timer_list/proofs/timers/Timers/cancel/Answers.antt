@@ -1,9 +1,9 @@
 -- the seat has a timer, so a Cancel is answered Removed or Expired and nothing else
-use Rattle.std.proofs.Common.{false, true}
+use Rattle.std.proofs.Common.{false, true, subst}
 use Rattle.timer_list.specs.declared.timer_object.TimerCall.TheVariants.{Cancel}
 use Rattle.timer_list.specs.declared.timer_object.TimerReply.TheVariants as told
+use Rattle.timer_list.specs.Asking.{AsksTimers}
 use Rattle.timer_list.proofs.OwnTimerLemmas.{cancel_never}
-use Rattle.timer_list.proofs.RequestLemmas.{asks_timers_so}
 use Rattle.timer_list.proofs.timers.Timers.cancel.Goals as goal
 
 pub unreachable-requires : goal.unreachable-requires
@@ -15,15 +15,17 @@ unreachable-requires g c =
 pub returns-in-Removed : goal.returns-in-Removed
 returns-in-Removed g c =
     record {
-      asks = asks_timers_so c.args.self.now false Cancel told.Removed c.number-number.result
-          c.args.seat.now c.ask.new.seat c.number-number.ensures c.in-Removed.ensures.served
-          (c.in-Removed.ensures.seat true c.requires) c.in-Removed.ensures.number;
+      asks = subst
+          (λ n. AsksTimers c.args.self.now false (Cancel n) told.Removed c.args.seat.now
+          c.ask.new.seat)
+          c.number-number.ensures (c.in-Removed.ensures.asked true c.requires);
     }
 
 pub returns-in-Expired : goal.returns-in-Expired
 returns-in-Expired g c =
     record {
-      asks = asks_timers_so c.args.self.now false Cancel told.Expired c.number-number.result
-          c.args.seat.now c.ask.new.seat c.number-number.ensures c.in-Expired.ensures.served
-          (c.in-Expired.ensures.seat true c.requires) c.in-Expired.ensures.number;
+      asks = subst
+          (λ n. AsksTimers c.args.self.now false (Cancel n) told.Expired c.args.seat.now
+          c.ask.new.seat)
+          c.number-number.ensures (c.in-Expired.ensures.asked true c.requires);
     }

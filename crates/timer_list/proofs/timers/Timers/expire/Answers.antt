@@ -10,21 +10,7 @@ unreachable-requires g c =
     c.in_default.not-NoneDue
 
 pub returns-in-Ended : goal.returns-in-Ended
-returns-in-Ended g c =
-    record {
-      asks = record {
-        served = c.in-Ended.ensures.served;
-        seat = c.in-Ended.ensures.seat false c.requires;
-        number = c.in-Ended.ensures.number;
-      };
-    }
+returns-in-Ended g c = record { asks = c.in-Ended.ensures.asked false c.requires }
 
 pub returns-in-NoneDue : goal.returns-in-NoneDue
-returns-in-NoneDue g c =
-    record {
-      asks = record {
-        served = c.in-NoneDue.ensures.served;
-        seat = c.in-NoneDue.ensures.seat false c.requires;
-        number = c.in-NoneDue.ensures.number;
-      };
-    }
+returns-in-NoneDue g c = record { asks = c.in-NoneDue.ensures.asked false c.requires }
