@@ -37,7 +37,7 @@ module _ (row : Row) (level : ℕ) (past : List Wakeup) where
   wakes_each (suc count) first between after woken wakes =
       record {
         between = wakes.between;
-        others = wakes_each count first between wakes.between woken wakes.others;
+        others = wakes_each count first between wakes.between woken wakes.rounds;
         last = wakes.last;
       }
 
