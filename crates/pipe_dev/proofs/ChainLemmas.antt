@@ -45,6 +45,7 @@ use Rattle.waiting.specs.declared.call.Reply.TheVariants.{Wait}
 use Rattle.waiting.specs.Waiting.{Point, Waited, reply_of}
 use Rattle.pipe_dev.proofs.LawLemmas.{each_share_is_read_whole_and_once}
 use Rattle.pipe_dev.proofs.ReadingLemmas.{what_is_read_is_right}
+use Rattle.pipe_dev.proofs.RoundLemmas.{has_room}
 use Rattle.pipe_dev.proofs.SeatingLemmas.{either}
 use Rattle.pipe_dev.proofs.SightLemmas.{waited_ends}
 
@@ -119,11 +120,6 @@ part_step {key} {row} {old} {new} {left} room parts some next rest =
         ⊎ IsTakenOut key (taker_of old) left (taker_of new)
     by (inl goes) = inl record { left_is = goes.left_is; account = goes.account }
     by (inr out) = inr record { none_left = out.none_left; taken = out.taken }
-
--- a buffer with room
-has_room : (buffer : List ℕ) → buffer ≢ [] → 0 < length buffer
-has_room [] some = absurd (some refl)
-has_room (byte ∷ bytes) some = omega arith
 
 -- ---- steps behind steps
 

@@ -32,7 +32,7 @@ use Rattle.pipe_dev.specs.Finishing.{left_state}
 use Rattle.pipe_dev.specs.Parts.{Part, part_of, rest_of, bytes_of}
 use Rattle.pipe_dev.specs.Rounds.{Rounds}
 use Rattle.pipe_dev.proofs.ReadingLemmas.{since_accepts}
-use Rattle.pipe_dev.proofs.RoundLemmas.{entered_right}
+use Rattle.pipe_dev.proofs.RoundLemmas.{entered_right, has_room}
 
 -- ---- one part
 
@@ -90,10 +90,6 @@ pub record SoFar (key : Key) (mode : Mode) (first now : Lending) (took : Option 
   pub rest_none : (filling ≡ begins first.taker)
       ⊎ ((has_none filling.parts ≡ false) × (further ≡ true → now.taker.rest ≡ None))
 
-some_room : (buffer : List ℕ) → buffer ≢ [] → 0 < length buffer
-some_room [] some = absurd (some refl)
-some_room (byte ∷ bytes) some = omega arith
-
 -- it has begun
 pub begun_so_far : (key : Key) (mode : Mode) (first : Lending) → first.buffer ≢ []
     → SoFar key mode first first None 0 true
@@ -114,7 +110,7 @@ begun_so_far key mode first some =
     by : (m : Mode) → true
         ≡ goes_further (record { mode = m; room = length first.buffer }) []
     by Message = refl
-    by Stream = let room = some_room first.buffer some in grind (arith, nat_tests)
+    by Stream = let room = has_room first.buffer some in grind (arith, nat_tests)
 
 last_more : (begun : Option Part) (part : Part) (parts : List Part) → has_none parts ≡ false
     → last_number begun (part ∷ parts) ≡ Some (part.place + 1)

@@ -1,5 +1,5 @@
 -- Which numbers a sleep between two tries may have, and who knew of a hangup.
-use Rattle.std.proofs.Common.{◌≡◌, ℕ, ◌<◌, true, List, [], ◌∷◌, sym, subst, arith}
+use Rattle.std.proofs.Common.{◌≡◌, ◌≢◌, ℕ, ◌<◌, true, List, [], ◌∷◌, length, refl, sym, subst, arith}
 use Rattle.sync_base.specs.declared.limits.TheConstants.{TOP_LEVEL}
 use Rattle.sync_base.specs.Pipe.{begun_number}
 use Rattle.histories.specs.declared.account.Account.{Account}
@@ -75,3 +75,8 @@ hungup_knew key writer block old new enters =
     subst (λ (account : Account Entry). HasHang account.seen) (sym enters.adds.new_is)
     (has_hang key enters.adds.past
     (entered_right key (entry.Hungup writer block) old new enters).may)
+
+-- a buffer with room
+pub has_room : (buffer : List ℕ) → buffer ≢ [] → 0 < length buffer
+has_room [] some = absurd (some refl)
+has_room (byte ∷ bytes) some = omega arith

@@ -1,8 +1,7 @@
 -- The wakeups of a pipe, by the law of all devices: a wakeup that has returned releases its
 -- sleeper.
-use Rattle.std.proofs.Common.{◌≡◌, ◌≢◌, ◌⊎◌, inl, inr, eqb, true, false, ℕ, zero, suc, ◌+◌, ◌<◌}
+use Rattle.std.proofs.Common.{◌≡◌, ◌⊎◌, inl, inr, ℕ, zero, suc, ◌+◌, ◌<◌}
 use Rattle.std.proofs.Common.{List, [], ◌∷◌, Option, refl, sym, subst, arith}
-use Rattle.std.proofs.lemmas.Bool.Decides.{eqb_tells}
 use Rattle.std.specs.List.{AllByRecursion}
 use Rattle.sync_base.specs.declared.limits.TheConstants.{TOP_LEVEL}
 use Rattle.rendez_words.specs.Process.{Process}
@@ -37,7 +36,7 @@ module _ (row : Row) (level : ℕ) (past : List Wakeup) where
   wakes_each (suc count) first between after woken wakes =
       record {
         between = wakes.between;
-        others = wakes_each count first between wakes.between woken wakes.others;
+        others = wakes_each count first between wakes.between woken wakes.rounds;
         last = wakes.last;
       }
 
@@ -48,17 +47,16 @@ module _ (row : Row) (level : ℕ) (past : List Wakeup) where
         → Holds (of_writer row level writer)
     of_each zero writer low all = absurd (omega (arith, low))
     of_each (suc count) writer low all =
-        by (eqb_tells writer count) (λ lower. of_each count writer lower all.1)
+        by (at_or_below writer count low) (λ lower. of_each count writer lower all.1)
       where
-        by : ((eqb writer count ≡ true) × (writer ≡ count))
-            ⊎ ((eqb writer count ≡ false) × (writer ≢ count))
+        at_or_below : (a b : ℕ) → a < suc b → (a ≡ b) ⊎ (a < b)
+        at_or_below a b low = grind arith
+
+        by : (writer ≡ count) ⊎ (writer < count)
             → (writer < count → Holds (of_writer row level writer))
             → Holds (of_writer row level writer)
-        by (inl same) others = subst (λ n. Holds (of_writer row level n)) (sym same.1) all.0
-        by (inr differ) others = others (below writer count low differ.1)
-          where
-            below : (a b : ℕ) → a < suc b → a ≢ b → a < b
-            below a b low differ = omega (arith, low, differ)
+        by (inl same) others = subst (λ n. Holds (of_writer row level n)) (sym same) all.0
+        by (inr lower) others = others lower
 
     -- and of the others
     of_past : (count : ℕ) → AllByRecursion Holds (of_writers row count level past)

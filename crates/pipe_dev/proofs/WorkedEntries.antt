@@ -150,7 +150,7 @@ pub wakes_writer : (mode : Mode) (before : Process) (level : ℕ)
 wakes_writer mode before level =
     record {
       between = record before { pid = 0 };
-      others = refl;
+      rounds = refl;
       last = wakes_one before 4 level;
     }
 

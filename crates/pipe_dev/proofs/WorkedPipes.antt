@@ -162,7 +162,7 @@ module _ (before : Process) where
   wakes_both =
       record {
         between = woke idle 4 5;
-        others = record { between = idle; others = refl; last = wakes_one idle 4 5 };
+        rounds = record { between = idle; rounds = refl; last = wakes_one idle 4 5 };
         last = wakes_one (woke idle 4 5) 5 5;
       }
 

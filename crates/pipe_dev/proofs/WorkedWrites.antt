@@ -212,7 +212,7 @@ module _ (table : TableId) where
         between = second_written;
         written = record {
           between = writer has_put idle;
-          others = refl;
+          rounds = refl;
           last = record { number = 2; accepted = waits_and_writes };
         };
         taken = refl;
@@ -249,7 +249,7 @@ module _ (table : TableId) where
         between = between;
         written = record {
           between = old;
-          others = refl;
+          rounds = refl;
           last = record { number = 1; accepted = first };
         };
         taken = omega arith;

@@ -1,9 +1,9 @@
 pub mod Parts
 pub mod Reading
+pub mod Rounds
 pub mod Rendezes
 pub mod Ends
 pub mod Openings
-pub mod Rounds
 pub mod Filling
 pub mod FillSteps
 pub mod ReadCalls

@@ -8,6 +8,7 @@ use Rattle.rendez_words.specs.Words.{rendez_of}
 use Rattle.sleep_wakeup.specs.Actions.{WakesOne}
 use Rattle.sleep_wakeup.specs.Kernel.{Running}
 use Rattle.pipe_dev.specs.declared.row.Row.{Row}
+use Rattle.pipe_dev.specs.Rounds.{OneMore}
 
 -- where the reader waits for a write
 abbrev pub reader_rendez : Row → RendezId
@@ -21,18 +22,12 @@ writer_rendez row writer = record { 0 = row.first + 1 + writer }
 abbrev pub OwnsRow : Words → Row → Type 0
 OwnsRow words row = row.first + 1 + row.writers ≤ rendez_of words
 
--- so many writers were woken, from the first one on, and then one more
-pub record WakesNext (WakesBefore : Process → Type 0) (row : Row) (writer level : ℕ)
-    (after : Process) : Type 0 where
-  pub between : Process
-  pub others : WakesBefore between
-  pub last : WakesOne between (writer_rendez row writer) level after
-
 -- the first so many writers were woken, each once and in order, and the process did nothing else
 abbrev pub WakesWriters : Row → ℕ → ℕ → Process → Process → Type 0
 WakesWriters row zero level before after = after ≡ before
 WakesWriters row (suc count) level before after =
-    WakesNext (WakesWriters row count level before) row count level after
+    OneMore (WakesWriters row count level before)
+    (λ between last. WakesOne between (writer_rendez row count) level last) after
 
 -- each writer was woken with this number, if there is one, and else nobody
 abbrev pub WakesWith : Row → Option ℕ → Process → Process → Type 0

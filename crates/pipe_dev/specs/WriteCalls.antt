@@ -25,6 +25,7 @@ use Rattle.pipe_dev.specs.declared.answers.Long.{Long}
 use Rattle.pipe_dev.specs.declared.row.Row.{Row}
 use Rattle.pipe_dev.specs.Ends.{WriteSide}
 use Rattle.pipe_dev.specs.Rendezes.{reader_rendez, writer_rendez}
+use Rattle.pipe_dev.specs.Rounds.{OneMore}
 use Rattle.timer_list.specs.declared.timers.Timers.{Timers}
 use Rattle.timer_list.specs.declared.timers.TimerSeat.{TimerSeat}
 use Rattle.timer_list.specs.Timing.{ComesToSame, TimedPoint, WaitedInTime, timed_point}
@@ -167,18 +168,11 @@ pub record WritesWell (call : WriteCall) (old new : Writer) : Type 0 where
   pub number : ℕ
   pub accepted : Writes call old (Ok number) new
 
--- these were written, and then one more
-pub record WritesNext (WritesBefore : Writer → Type 0) (Write : Writer → Writer → Type 0)
-    (new : Writer) : Type 0 where
-  pub between : Writer
-  pub others : WritesBefore between
-  pub last : Write between new
-
 -- each of these writes of a long write was accepted, one after the other, the newest first
 abbrev pub WritesEach : WriteCall → List (List ℕ) → Writer → Writer → Type 0
 WritesEach call [] old new = new ≡ old
 WritesEach call (block ∷ blocks) old new =
-    WritesNext (WritesEach call blocks old) (WritesWell (call_for call block)) new
+    OneMore (WritesEach call blocks old) (WritesWell (call_for call block)) new
 
 abbrev pub bytes_in : List (List ℕ) → ℕ
 bytes_in [] = 0

@@ -162,21 +162,15 @@ impl<'q> WaitingCall for BlockReading<'q> {
         lending: &mut Lending,
     ) -> Reply<ReadAnswer> {
         if let Some(begun) = lending.cursor.rest.take() {
-            lending
-                .cursor
-                .seat
-                .spare
-                .keep(begun.hand_over(&mut lending.block));
+            let spare = begun.hand_over(&mut lending.block);
+            lending.cursor.seat.spare.keep(spare);
             return Reply::Done(ReadAnswer::Got(lending.block.len()));
         }
         match self.queue.take(&mut lending.cursor.seat) {
             TakeAnswer::Block(bytes, writer, number) => {
                 let whole = Remainder::whole(bytes, writer, number - 1);
-                lending
-                    .cursor
-                    .seat
-                    .spare
-                    .keep(whole.hand_over(&mut lending.block));
+                let spare = whole.hand_over(&mut lending.block);
+                lending.cursor.seat.spare.keep(spare);
                 wake_writers(proc, self.row, number);
                 Reply::Done(ReadAnswer::Got(lending.block.len()))
             }

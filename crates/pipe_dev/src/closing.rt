@@ -60,10 +60,11 @@ pub fn finish<'p>(
     let Ok(rest) = read.left(alloc) else {
         return Err(Unfinished { read, writes });
     };
-    let Ok(puts) = Vec::with_capacity(alloc, writes.len()) else {
+    let Ok(mut puts) = Vec::with_capacity(alloc, writes.len()) else {
         return Err(Unfinished { read, writes });
     };
-    let Emptied { puts, room } = take_seats(writes, puts);
+    let mut room = writes;
+    take_seats(&mut room, &mut puts);
     let ReadEnd { queue, row, cursor } = read;
     let Some(ReadCursor { seat, rest: begun }) = cursor else {
         unreachable!()
@@ -87,28 +88,19 @@ pub fn finish<'p>(
     }
 }
 
-// The seats of all write ends, and the room that they had.
-#[derive(Drop)]
-struct Emptied<'p> {
-    puts: Vec<PutSeat>,
-    room: Vec<WriteEnd<'p>>,
-}
-
-// The last end comes first out of its vector, so the seats are turned round.
-fn take_seats<'p>(writes: Vec<WriteEnd<'p>>, puts: Vec<PutSeat>) -> Emptied<'p>
-    requires none { puts.items ≡ [] }
-    requires room { length writes.items ≤ vec_capacity puts }
-    ensures seats { AreSeatsOf writes.entry.items result.puts.items }
-    ensures none { result.room.items ≡ [] }
-    ensures room { length writes.entry.items ≤ vec_capacity result.room }
+// The seats of all write ends, whose room is left. The last end comes first out of its vector, so
+// the seats are turned round.
+fn take_seats(writes: &mut Vec<WriteEnd<'_>>, puts: &mut Vec<PutSeat>)
+    requires none { puts.old.items ≡ [] }
+    requires room { length writes.old.items ≤ vec_capacity puts.old }
+    ensures seats { AreSeatsOf writes.old.items puts.new.items }
+    ensures none { writes.new.items ≡ [] }
+    ensures room { length writes.old.items ≤ vec_capacity writes.new }
 {
-    let mut puts = puts;
-    let mut room = writes;
-    'taking: while let Some(end) = room.pop() {
+    'taking: while let Some(end) = writes.pop() {
         puts.push_reserved(end.into_seat());
     }
     puts.as_mut_slice().reverse();
-    Emptied { puts, room }
 }
 
 impl<'p> ReadEnd<'p> {

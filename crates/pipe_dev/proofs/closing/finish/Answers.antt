@@ -11,21 +11,21 @@ gather-requires-clause-puts c =
     let inside = c.read.inside in
     their_seats inside.queue.now inside.row inside.cursor c.in-Some.field-0 c.args.read
     c.read.view_is c.read.invariant c.in-Some.is c.args.writes.items c.requires.all
-    c.take_seats-puts.result.puts.items c.take_seats-puts.ensures.seats
+    c.take_seats.new.puts.items c.take_seats.ensures.seats
 
 pub gather-requires-clause-all : goal.gather-requires-clause-all
 gather-requires-clause-all c =
     let inside = c.read.inside in
     all_seats inside.queue.now inside.row inside.cursor c.in-Some.field-0 c.args.read
     c.read.view_is c.read.invariant c.in-Some.is c.args.writes.items c.requires.all
-    c.take_seats-puts.result.puts.items c.take_seats-puts.ensures.seats
+    c.take_seats.new.puts.items c.take_seats.ensures.seats
 
 pub returns-in-Ok-gather-clause-held : goal.returns-in-Ok-gather-clause-held
 returns-in-Ok-gather-clause-held c =
     let inside = c.read.inside in
     gives_held inside.queue.now inside.row inside.cursor c.in-Some.field-0 c.args.read
     c.read.view_is c.read.invariant c.in-Some.is c.args.writes.items c.requires.all
-    c.take_seats-puts.result.puts.items c.take_seats-puts.ensures.seats
+    c.take_seats.new.puts.items c.take_seats.ensures.seats
     c.in-Ok-gather.field-0 c.of.result c.in-Ok-gather.ensures.gathered
     (c.of.ensures ∙ c.in-Ok.ensures)
 
@@ -36,15 +36,15 @@ seat_writers-requires-clause-seats c =
     (sym (ap (λ puts. puts.items) c.in-Err.ensures.puts))
     (their_write_seats inside.queue.now inside.row inside.cursor c.in-Some.field-0 c.args.read
     c.read.view_is c.read.invariant c.in-Some.is c.args.writes.items c.requires.all
-    c.take_seats-puts.result.puts.items c.take_seats-puts.ensures.seats)
+    c.take_seats.new.puts.items c.take_seats.ensures.seats)
 
 pub seat_writers-requires-clause-room : goal.seat_writers-requires-clause-room
 seat_writers-requires-clause-room c =
     let many =
-    as_many c.args.writes.items c.take_seats-puts.result.puts.items
-    c.take_seats-puts.ensures.seats in
+    as_many c.args.writes.items c.take_seats.new.puts.items
+    c.take_seats.ensures.seats in
     let same = ap (λ puts. length puts.items) c.in-Err.ensures.puts in
-    let room = c.take_seats-puts.ensures.room in
+    let room = c.take_seats.ensures.room in
     omega (arith, many, same, room)
 
 pub returns-clause-writes : goal.returns-clause-writes
@@ -52,6 +52,6 @@ returns-clause-writes c =
     let inside = c.read.inside in
     their_sides inside.queue.now inside.row inside.cursor c.in-Some.field-0 c.args.read
     c.read.view_is c.read.invariant c.in-Some.is c.args.writes.items c.requires.all
-    c.take_seats-puts.result.puts.items c.take_seats-puts.ensures.seats
+    c.take_seats.new.puts.items c.take_seats.ensures.seats
     c.seat_writers.result.items c.in-Err.field-0.puts.items
     (ap (λ puts. puts.items) c.in-Err.ensures.puts) c.seat_writers.ensures.seated

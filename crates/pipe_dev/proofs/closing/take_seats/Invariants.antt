@@ -8,11 +8,11 @@ use Rattle.pipe_dev.proofs.closing.take_seats.Given as goal
 abbrev pub invariant-taking : goal.invariant-taking
 invariant-taking l =
     record {
-      seats : (done : List WriteSide) × (l.initial.room.items ≡ l.room.items ++ done)
+      seats : (done : List WriteSide) × (l.initial.writes.items ≡ l.writes.items ++ done)
           × AreSeatsOf done (reverse l.puts.items);
-      room : length l.room.items + length l.puts.items ≤ vec_capacity l.puts;
-      capacity : vec_capacity l.room ≡ vec_capacity l.initial.room;
+      room : length l.writes.items + length l.puts.items ≤ vec_capacity l.puts;
+      capacity : vec_capacity l.writes ≡ vec_capacity l.initial.writes;
     }
 
 abbrev pub decreases-taking : goal.decreases-taking
-decreases-taking l = length l.room.items
+decreases-taking l = length l.writes.items

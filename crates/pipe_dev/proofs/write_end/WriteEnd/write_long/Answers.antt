@@ -42,7 +42,7 @@ writing-preserved g c =
         c.split_at.result.0.now ∷ written.0,
         record {
           between = writer_of c.writing.self c.writing.proc;
-          others = written.1;
+          rounds = written.1;
           last = record {
             number = c.in_default.field-0;
             accepted =
@@ -69,7 +69,7 @@ returns-in-Ok-clause-wrote g c =
       between = writer_of c.write-2.new.self c.write-2.new.proc;
       written = record {
         between = writer_of c.writing.self c.writing.proc;
-        others = written.1;
+        rounds = written.1;
         last = record {
           number = c.in-Ok.field-0;
           accepted =
