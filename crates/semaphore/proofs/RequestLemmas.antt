@@ -1,4 +1,4 @@
--- A request of a seat's own number, and which Rendez the seat has.
+-- Which Rendez a seat has.
 use Rattle.std.proofs.Common.{◌≡◌, ◌<◌, ℕ, Bool, subst, arith}
 use Rattle.std.specs.List.{AllByRecursion}
 use Rattle.kernel_lock.specs.Seats.{number_of, limit_of}
@@ -10,14 +10,6 @@ use Rattle.semaphore.specs.declared.sema_object.SemaCall.{SemaCall}
 use Rattle.semaphore.specs.declared.sema_object.SemaReply.{SemaReply}
 use Rattle.semaphore.specs.Asking.{Asks}
 use Rattle.semaphore.specs.Seats.{IsSeatAt, OwnsRow, rendez_at}
-
--- a request that names the number that its seat was told
-pub asks_so : {sema : Sema} {waits : Bool} {told : SemaReply} {named : ℕ} {before after : SemaSeat}
-    (call : ℕ → SemaCall) → named ≡ number_of before.seat
-    → Asks sema waits (call named) told before after
-    → Asks sema waits (call (number_of before.seat)) told before after
-asks_so {sema} {waits} {told} {named} {before} {after} call own asks =
-    subst (λ n. Asks sema waits (call n) told before after) own asks
 
 -- a seat's number is below the number of seats
 pub is_below : (sema : Sema) (waits : Bool) (seat : SemaSeat) → IsSeatAt sema waits seat

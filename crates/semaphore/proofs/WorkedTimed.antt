@@ -171,8 +171,7 @@ module _ (sema : Sema) (Timer : Type 0) (rendez : RendezId) where
       → Rounds (while_set Timer (acquiring sema)) rendez times first now
       → IsSeatAt sema true now.at.seat × Adds times times first.at now.at
   rounds_add zero first now at same =
-      subst (λ (t : WaitPoint SemaSeat). IsSeatAt sema true t.at.seat × Adds 0 0 first.at t.at)
-      (sym same)
+      rw same
       (at, record { lies = omega arith; drains = refl; asks = omega arith; firsts = refl })
   rounds_add (suc times) first now at more =
       let (waits, before) = rounds_add times first more.between at more.rounds in
@@ -293,9 +292,7 @@ module _ (sema : Sema) (timers : Timers) (moment : ℕ) (before after : TimedPoi
         let begins : Awaiting =
         record { process = waits.process; notes = notes_of waits.ending } in
         let rendez = rendez_at sema before.at.seat in
-        let looks = subst
-        (λ b. Looks rendez b waits.ended.awaits.times begins waits.ended.awaited) in_time
-        waits.ended.awaits.looks in
+        let looks = rw in_time at waits.ended.awaits.looks in
         let none = not_looked rendez waits.ended.awaits.times begins waits.ended.awaited looks in
         let none_lies = ap (λ a. lay_down a.process) none in
         let none_drains = ap (λ a. drained a.process) none in

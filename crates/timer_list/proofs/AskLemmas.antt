@@ -34,9 +34,7 @@ names_it (Some n) shares number mine own are =
 pub is_below : (timers : Timers) (set : Bool) (seat : TimerSeat) → IsSeatAtTimers timers set seat
     → number_of seat.seat < timers.procs
 is_below timers set seat at =
-    subst (λ limit. number_of seat.seat < limit) at.opened.limit
-    (subst (AllByRecursion (λ share. share.number < limit_of timers.lock)) at.shares_are
-    at.history.numbers).0
+    (rw (at.shares_are, at.opened.limit) at at.history.numbers).0
 
 -- a seat that called is told what some timers answer, among which its own may be set unless it has
 -- one
@@ -52,11 +50,9 @@ is_timed timers set call answer old new at history served =
     let at_first = replicate timers.procs Unset in
     let legal : IsLegal timer_meaning at_first (entry ∷ past) =
     subst (λ s. IsLegal timer_meaning s (entry ∷ past)) at.opened.opening_is
-    (subst (IsLegal timer_meaning (opening_of timer_definition timers.lock))
-    (ap (λ a. a.seen) served.account.new_is) history.history.legal) in
+    (rw served.account.new_is at history.history.legal) in
     let mine : entries_by server (number_of old.seat) past ≡ at.mine =
-    (subst (AllByRecursion (HasItsEntries server past)) at.shares_are
-    served.account.looked.mine).0.entries in
+    (rw at.shares_are at served.account.looked.mine).0.entries in
     let keeps = own_timer timers.procs (number_of old.seat) past legal.1 in
     record {
       state = state_after timer_meaning at_first past;

@@ -142,7 +142,7 @@ module _ (sizes : Sizes) (s : _) (shows : ShowsCore sizes s) (now : Process)
       is_there pid (history_of shows.run) (threads_keep sizes s shows).kept.notes_right
       (in_run gone.part.pid pid shows.run
       (subst (Has pid) seated.trace_is
-      (subst (Has pid) (sym gone.since.new_is) (has_since pid gone.since.since now.trace has))))
+      (rw gone.since.new_is (has_since pid gone.since.since now.trace has))))
 
   each_told : (timers : Timers) (kernel moment : ℕ) (ended : List Pid)
       (before after : Point TimerSeat) → Expires timers kernel moment ended before after
@@ -152,8 +152,7 @@ module _ (sizes : Sizes) (s : _) (shows : ShowsCore sizes s) (now : Process)
   each_told timers kernel moment [] before after expires on = tt
   each_told timers kernel moment (pid ∷ others) before after expires on = (
     λ below. told pid.0 (on pid.0
-        (subst (λ (p : Process). Has pid.0 p.trace) (sym (expires.tells.told below))
-        (inl (refl, refl)))),
+        (rw (expires.tells.told below) (inl (refl, refl)))),
     each_told timers kernel moment others before expires.between expires.others
         (λ its has. on its (still its has)),
   )
@@ -163,7 +162,7 @@ module _ (sizes : Sizes) (s : _) (shows : ShowsCore sizes s) (now : Process)
         where
           by : (b : Bool) → nat_lt pid.0 kernel ≡ b → Has its after.process.trace
           by true below =
-              subst (λ (p : Process). Has its p.trace) (sym (expires.tells.told below))
+              rw (expires.tells.told below)
               (has_more its
               (record {
                 maker = expires.between.process.pid;
@@ -171,7 +170,7 @@ module _ (sizes : Sizes) (s : _) (shows : ShowsCore sizes s) (now : Process)
                 answer = answer.Noted;
               }) expires.between.process.trace has)
           by false above =
-              subst (λ (p : Process). Has its p.trace) (sym (expires.tells.other above)) has
+              rw (expires.tells.other above) has
 
 -- by the notes of its steps, which stand in the run
 pub ticking_tells : TickingTellsEach
@@ -182,6 +181,5 @@ ticking_tells sizes s shows timers kernel now count before after ticks gone =
     by : (pid : ℕ) → Has pid ticks.last.process.trace
         → FindsNone timers now ticks.last after ⊎ ((count ≡ timers.procs) × (after ≡ ticks.last))
         → Has pid after.process.trace
-    by pid has (inl none) = subst (λ (p : Process). Has pid p.trace) (sym none.idle) has
-    by pid has (inr all) =
-        subst (λ (p : Point TimerSeat). Has pid p.process.trace) (sym all.1) has
+    by pid has (inl none) = rw none.idle has
+    by pid has (inr all) = rw all.1 has

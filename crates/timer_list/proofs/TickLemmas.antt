@@ -99,7 +99,7 @@ took_it timers moment pid before set after opened added cancelled =
         ap (λ l. since ++ l) (ap (λ a. a.seen) added.served.account.new_is))
 
     legal : IsLegal timer_meaning opening (cancelling ∷ (since ++ (adding ∷ past)))
-    legal = subst (IsLegal timer_meaning opening) seen_is cancelled.seat.history.history.legal
+    legal = rw seen_is at cancelled.seat.history.history.legal
 
     size : length (state_after timer_meaning opening past) ≡ timers.procs
     size =

@@ -174,15 +174,6 @@ module _ (table : TableId) where
       returned : Returns (Stopped why late) process now.process
       answer_is : reply ≡ answer_of (Stopped why late)
 
-    -- what is true of a call that was told to wait once is true of its first request
-    moved : (Is : Process → ℕ → Type 0) (first last : WaitPoint ℕ) → last ≡ first
-        → first.number ≡ number → first.at.process ≡ after table []
-        → Is last.at.process last.number → Is (after table []) number
-    moved Is first last same told_is idle is =
-        subst (λ n. Is (after table []) n) told_is
-        (subst (λ p. Is p first.number) idle
-        (subst (λ (t : WaitPoint ℕ). Is t.at.process t.number) same is))
-
     module _ (first last : WaitPoint ℕ) (same : last ≡ first) (told_is : first.number ≡ number)
         (seat_is : first.at.seat ≡ 1) (idle : first.at.process ≡ after table [])
         (process : Process) where
@@ -192,12 +183,9 @@ module _ (table : TableId) where
           → Returns end process now.process → reply ≡ answer_of end → IsAnswered ⊎ HasLeft
       ends (Answered answer) asked returned answer_is =
           inl (record {
-            slept = subst (λ p. SleepsWell (after table []) (rendez 0) number p)
-                (sym (returned ∙ asked.asked.1.idle))
-                (moved (λ p n. SleepsWell p (rendez 0) n asked.woken) first last same told_is idle
-                asked.slept);
-            seat_is = asked.asked.1.seat_is
-                ∙ ap suc (ap (λ (t : WaitPoint ℕ). t.at.seat) same ∙ seat_is);
+            slept = rw (returned, asked.asked.1.idle)
+                (rw (same, idle, told_is) at asked.slept);
+            seat_is = rw (same, seat_is) at asked.asked.1.seat_is;
             answer_is = answer_is ∙ done answer asked.asked.0;
           })
         where
@@ -212,12 +200,10 @@ module _ (table : TableId) where
           inr (record {
             why = why;
             process = process;
-            failed = moved (λ p n. FailsAsleep p (rendez 0) n process why) first last same told_is
-                idle left.failed;
-            seat_is = left.left.1 ∙ ap suc (ap (λ (t : WaitPoint ℕ). t.at.seat) same ∙ seat_is);
-            returned = subst (λ o. Returns (Stopped why o) process now.process) left.left.0
-                returned;
-            answer_is = answer_is ∙ ap (λ o. answer_of (Stopped why o)) left.left.0;
+            failed = rw (same, idle, told_is) at left.failed;
+            seat_is = rw (same, seat_is) at left.left.1;
+            returned = rw left.left.0 at returned;
+            answer_is = rw left.left.0 at answer_is;
           })
 
     came_to : Waited (device number late) (rendez 0) (at 0 []) reply now → IsAnswered ⊎ HasLeft

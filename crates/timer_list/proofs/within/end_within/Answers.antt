@@ -17,12 +17,7 @@ returns-clause-ended g c =
       awaited = awaiting c.await_tick-came.new.proc c.await_tick-came.result;
       awaits = record {
         times = c.await_tick-came.ensures.looks.0;
-        looks = subst
-            (λ notes. Looks c.args.rendez c.cancel-expired.result
-            c.await_tick-came.ensures.looks.0
-            (record { process = c.args.proc.now.process; notes = notes })
-            (awaiting c.await_tick-came.new.proc c.await_tick-came.result))
-            c.taken_by.ensures c.await_tick-came.ensures.looks.1;
+        looks = rw c.taken_by.ensures at c.await_tick-came.ensures.looks.1;
         came = c.await_tick-came.ensures.came;
       };
       kept = c.answer_timed.ensures.kept;

@@ -7,15 +7,9 @@ use Rattle.timer_list.proofs.within.look_for_tick.Goals as goal
 
 pub returns-in-Ok-clause-looked : goal.returns-in-Ok-clause-looked
 returns-in-Ok-clause-looked g c =
-    inl (subst
-    (λ set. Sleeps c.args.proc.now.process c.args.rendez LAST_THRESHOLD set
-    c.sleep.new.self.process)
-    (sym c.empty.ensures.value) c.in-Ok.ensures.slept)
+    inl (rw c.empty.ensures.value c.in-Ok.ensures.slept)
 
 pub returns-in-Err-Interrupted-clause-looked : goal.returns-in-Err-Interrupted-clause-looked
 returns-in-Err-Interrupted-clause-looked g c =
     let came : c.sleep.result ≡ Err (Interrupted c.in-Err-Interrupted.set) = cc in
-    let failed = subst
-    (λ r. IfErr r (WhyNotSlept c.args.proc.now.words c.args.proc.now.process c.args.rendez
-    LAST_THRESHOLD c.sleep.new.self.process)) came c.sleep.ensures.fault in
-    inl failed.0
+    inl (rw came at c.sleep.ensures.fault).0

@@ -31,13 +31,11 @@ sleep_for-ending-requires-clause-row g c =
 
 pub sleep_for-ending-requires-clause-rendez : goal.sleep_for-ending-requires-clause-rendez
 sleep_for-ending-requires-clause-rendez g c =
-    subst (λ words. c.args.rendez.0 < rendez_of words) (sym c.in-Wait.ensures.words)
-    c.requires.rendez
+    rw c.in-Wait.ensures.words c.requires.rendez
 
 pub end_within-requires-clause-rendez : goal.end_within-requires-clause-rendez
 end_within-requires-clause-rendez g c =
-    subst (λ words. c.args.rendez.0 < rendez_of words)
-    (sym (c.sleep_for-ending.ensures.words ∙ c.in-Wait.ensures.words)) c.requires.rendez
+    rw (c.sleep_for-ending.ensures.words, c.in-Wait.ensures.words) c.requires.rendez
 
 pub end_within-requires-clause-set : goal.end_within-requires-clause-set
 end_within-requires-clause-set g c = c.add.ensures.asks.seat
@@ -55,14 +53,7 @@ returns-in-Wait-clause-waited g c =
     let moment = deadline_of c.args.now c.args.ms in
     let added : AsksTimers timers true (Add (number_of c.args.timer.now.seat) pid moment) Added
     c.args.timer.now set =
-    subst
-    (λ p. AsksTimers timers true (Add (number_of c.args.timer.now.seat) p moment) Added
-    c.args.timer.now set)
-    (ap (λ n. record { 0 = n }) c.pid-pid.ensures)
-    (subst
-    (λ d. AsksTimers timers true (Add (number_of c.args.timer.now.seat) c.pid-pid.result d) Added
-    c.args.timer.now set)
-    c.deadline.ensures c.add.ensures.asks) in
+    rw (c.pid-pid.ensures, c.deadline.ensures) at c.add.ensures.asks in
     inr (record {
       first = told c.begin.new.seat c.begin.new.proc c.in-Wait.number;
       set = set;
@@ -74,9 +65,7 @@ returns-in-Wait-clause-waited g c =
       ended = ended;
       taken = λ is. took_it timers moment pid c.args.timer.now set c.end_within.new.timer
           c.requires.timer.opened added
-          (subst
-          (λ b. AsksTimers timers false (Cancel (number_of set.seat)) (cancel_reply b) set
-          c.end_within.new.timer) is ended.cancelled);
+          (rw is at ended.cancelled);
     })
 
 pub returns-in-Done-clause-is_call : goal.returns-in-Done-clause-is_call

@@ -1,7 +1,6 @@
 -- The seat was granted its unit, or waits on.
 use Rattle.std.proofs.Common.{true, refl, arith}
 use Rattle.semaphore.specs.declared.sema_object.SemaCall.TheVariants.{Collect}
-use Rattle.semaphore.proofs.RequestLemmas.{asks_so}
 use Rattle.semaphore.proofs.TellLemmas.{collect_never, collect_fits}
 use Rattle.semaphore.proofs.acquiring.AcquiringWaitingCall.ask.Goals as goal
 
@@ -13,8 +12,7 @@ unreachable-requires g c =
 pub returns-in-Granted-clause-asked : goal.returns-in-Granted-clause-asked
 returns-in-Granted-clause-asked g c =
     record {
-      asks = asks_so Collect c.number-number.ensures
-          (c.in-Granted.ensures.asked true c.requires.waits);
+      asks = rw c.number-number.ensures at (c.in-Granted.ensures.asked true c.requires.waits);
       idle = refl;
     }
 
@@ -31,7 +29,6 @@ returns-in-Wait-clause-low g c =
 pub returns-in-Wait-clause-asked : goal.returns-in-Wait-clause-asked
 returns-in-Wait-clause-asked g c =
     record {
-      asks = asks_so Collect c.number-number.ensures
-          (c.in-Wait.ensures.asked true c.requires.waits);
+      asks = rw c.number-number.ensures at (c.in-Wait.ensures.asked true c.requires.waits);
       idle = refl;
     }

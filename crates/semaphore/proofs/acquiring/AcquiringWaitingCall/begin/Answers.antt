@@ -1,7 +1,6 @@
 -- The seat has its unit, waits, or was worn out.
 use Rattle.std.proofs.Common.{false, refl, arith}
 use Rattle.semaphore.specs.declared.sema_object.SemaCall.TheVariants.{Acquire}
-use Rattle.semaphore.proofs.RequestLemmas.{asks_so}
 use Rattle.semaphore.proofs.TellLemmas.{acquire_never, acquire_fits}
 use Rattle.semaphore.proofs.acquiring.AcquiringWaitingCall.begin.Goals as goal
 
@@ -13,8 +12,7 @@ unreachable-requires g c =
 pub returns-in-Acquired-clause-asked : goal.returns-in-Acquired-clause-asked
 returns-in-Acquired-clause-asked g c =
     record {
-      asks = asks_so Acquire c.number-number.ensures
-          (c.in-Acquired.ensures.asked false c.requires.ready);
+      asks = rw c.number-number.ensures at (c.in-Acquired.ensures.asked false c.requires.ready);
       idle = refl;
     }
 
@@ -31,15 +29,13 @@ returns-in-Wait-clause-low g c =
 pub returns-in-Wait-clause-asked : goal.returns-in-Wait-clause-asked
 returns-in-Wait-clause-asked g c =
     record {
-      asks = asks_so Acquire c.number-number.ensures
-          (c.in-Wait.ensures.asked false c.requires.ready);
+      asks = rw c.number-number.ensures at (c.in-Wait.ensures.asked false c.requires.ready);
       idle = refl;
     }
 
 pub returns-in-Worn-clause-asked : goal.returns-in-Worn-clause-asked
 returns-in-Worn-clause-asked g c =
     record {
-      asks = asks_so Acquire c.number-number.ensures
-          (c.in-Worn.ensures.asked false c.requires.ready);
+      asks = rw c.number-number.ensures at (c.in-Worn.ensures.asked false c.requires.ready);
       idle = refl;
     }

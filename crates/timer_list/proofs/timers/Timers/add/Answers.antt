@@ -14,9 +14,4 @@ unreachable-requires g c =
 
 pub returns : goal.returns
 returns g c =
-    record {
-      asks = subst
-          (λ n. AsksTimers c.args.self.now true (Add n c.args.pid c.args.deadline) told.Added
-          c.args.seat.now c.ask.new.seat)
-          c.number-number.ensures (c.in-Added.ensures.asked false c.requires);
-    }
+    record { asks = rw c.number-number.ensures at (c.in-Added.ensures.asked false c.requires) }

@@ -10,11 +10,6 @@ use Rattle.timer_list.proofs.timers.Timers.ask.Goals as goal
 pub returns-clause-told : goal.returns-clause-told
 returns-clause-told g c set at =
     is_timed c.args.self.now set c.args.call c.apply.result c.args.seat.now
-    (record { seat = c.apply.new.seat }) at
-    c.apply.ensures.history
-    (subst
-    (λ by. Serves (record { by = by; request = c.args.call; reply = c.apply.result })
-    (view_of c.args.seat.now.seat) (view_of c.apply.new.seat))
-    (names_it (seat_named c.args.call) (shares_of c.args.seat.now.seat)
-    (number_of c.args.seat.now.seat) at.mine c.requires.named at.shares_are)
+    (record { seat = c.apply.new.seat }) at c.apply.ensures.history
+    (rw (names_it (seat_named c.args.call) _ _ at.mine c.requires.named at.shares_are) at
     c.apply.ensures.served)

@@ -14,18 +14,8 @@ unreachable-requires g c =
 
 pub returns-in-Removed : goal.returns-in-Removed
 returns-in-Removed g c =
-    record {
-      asks = subst
-          (λ n. AsksTimers c.args.self.now false (Cancel n) told.Removed c.args.seat.now
-          c.ask.new.seat)
-          c.number-number.ensures (c.in-Removed.ensures.asked true c.requires);
-    }
+    record { asks = rw c.number-number.ensures at (c.in-Removed.ensures.asked true c.requires) }
 
 pub returns-in-Expired : goal.returns-in-Expired
 returns-in-Expired g c =
-    record {
-      asks = subst
-          (λ n. AsksTimers c.args.self.now false (Cancel n) told.Expired c.args.seat.now
-          c.ask.new.seat)
-          c.number-number.ensures (c.in-Expired.ensures.asked true c.requires);
-    }
+    record { asks = rw c.number-number.ensures at (c.in-Expired.ensures.asked true c.requires) }
