@@ -95,6 +95,7 @@ nothing_step {made = made} parts none finds =
       parts = refl;
     }
 
+-- so is one as a contract says it
 pub found_none : {key : Key} {made : Entry} {old new : Reader} (parts : List Part) → IsNoBlock made
     → FindsNone key made old new → ReadStep key (reading_at old parts) (reading_at new parts)
 found_none {key} {made} {old} {new} parts none found =
@@ -123,6 +124,7 @@ part_step {key} {row} {old} {new} {left} room parts some next rest =
 
 -- ---- steps behind steps
 
+-- some rounds, and others behind them
 pub rounds_then : {A : Type 0} (Round : A → A → Type 0) (times more : ℕ) (first between last : A)
     → Rounds Round times first between → Rounds Round more between last
     → (all : ℕ) × Rounds Round all first last
@@ -277,11 +279,11 @@ abbrev AddsNoByte : Mode → List Part → List Part → Type 0
 AddsNoByte Message parts parts' = parts' ≡ parts
 AddsNoByte Stream parts parts' = AddsParts [] parts parts'
 
-pub adds_none : (mode : Mode) (parts : List Part) → AddsNoByte mode parts parts
+adds_none : (mode : Mode) (parts : List Part) → AddsNoByte mode parts parts
 adds_none Message parts = refl
 adds_none Stream parts = record { added = []; bytes_are = refl; parts_are = refl }
 
-pub adds_refused : (mode : Mode) (why : Fault) (buffer : List ℕ) (parts parts' : List Part)
+adds_refused : (mode : Mode) (why : Fault) (buffer : List ℕ) (parts parts' : List Part)
     → AddsNoByte mode parts parts' → AddsRead mode (Err why) buffer parts parts'
 adds_refused Message why buffer parts parts' adds = adds
 adds_refused Stream why buffer parts parts' adds = adds
@@ -363,6 +365,7 @@ module _ (key : Key) (mode : Mode) (Asks : Calling → Reply ReadAnswer → Call
         steps = on.1.steps;
       })
 
+  -- so the whole read is such steps
   pub waited_steps : (rendez : RendezId) (answer : Result ReadAnswer Fault) (new : Calling)
       → Room first.buffer → Waited (waits_by Asks) rendez (lent_at first) answer (lent_at new)
       → IsOfSteps key (AddsRead mode answer new.buffer) first.reader parts new.reader

@@ -1,5 +1,6 @@
 -- Which numbers a sleep between two tries may have, and who knew of a hangup.
-use Rattle.std.proofs.Common.{◌≡◌, ◌≢◌, ℕ, ◌<◌, true, List, [], ◌∷◌, length, refl, sym, subst, arith}
+use Rattle.std.proofs.Common.{◌≡◌, ◌≢◌, ℕ, ◌<◌, true, List, [], ◌∷◌, length, refl, sym, subst}
+use Rattle.std.proofs.Common.{arith}
 use Rattle.sync_base.specs.declared.limits.TheConstants.{TOP_LEVEL}
 use Rattle.sync_base.specs.Pipe.{begun_number}
 use Rattle.histories.specs.declared.account.Account.{Account}

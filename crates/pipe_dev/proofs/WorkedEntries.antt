@@ -126,6 +126,7 @@ at_rendez number = record { 0 = number }
 abbrev pub row_in : Mode → Row
 row_in mode = record { first = 3; writers = 1; mode = mode; small = omega arith }
 
+-- where writes stay apart
 abbrev pub rendez_row : Row
 rendez_row = row_in Message
 

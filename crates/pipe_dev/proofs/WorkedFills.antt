@@ -249,10 +249,3 @@ asks_when_full stops = let further : false ≡ true = stops.0 in cc
 -- an empty write gives no byte
 counts_an_empty_write : IsFilledBy (bytes_of (part 0 [] ∷ [])) (0 ∷ []) (0 ∷ []) 1 → ⊥
 counts_an_empty_write filled = let count = filled.count_is in cc
-
--- what is left of a write behind a part is kept
-keeps_the_rest : rest_of 1 (part 0 a) ≡ Some (part 0 (98 ∷ []))
-keeps_the_rest = refl
-
-loses_a_byte : rest_of 1 (part 0 a) ≡ None → ⊥
-loses_a_byte none = cc

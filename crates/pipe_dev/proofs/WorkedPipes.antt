@@ -114,9 +114,6 @@ none_is_left = refl
 empty_is_used_up : rest_of 1 (part 0 0 []) ≡ None
 empty_is_used_up = refl
 
-filled : IsFilled (part_of 2 abc) (0 ∷ 0 ∷ []) (97 ∷ 98 ∷ []) 2
-filled = record { count_is = refl; bytes = refl }
-
 filled_in_front : IsFilled (part_of 5 abc) (0 ∷ 0 ∷ 0 ∷ 0 ∷ 7 ∷ []) (97 ∷ 98 ∷ 99 ∷ 0 ∷ 7 ∷ []) 3
 filled_in_front = record { count_is = refl; bytes = refl }
 

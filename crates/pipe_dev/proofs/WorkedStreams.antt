@@ -1,6 +1,6 @@
 -- Reads in stream mode worked out by the definitions alone, and the shortest ones that are refused.
-use Rattle.std.proofs.Common.{◌≡◌, ◌-◌, ℕ, true, List, [], ◌∷◌, Some, None, refl, sym, ◌∙◌, inl, inr, ap}
-use Rattle.std.proofs.Common.{arith, rules, length, map, length-append}
+use Rattle.std.proofs.Common.{◌≡◌, ◌-◌, ℕ, true, List, [], ◌∷◌, Some, None, refl, sym, ◌∙◌, inl}
+use Rattle.std.proofs.Common.{inr, ap, arith, rules, length, map, length-append}
 use Rattle.std.specs.Prelude.{Result, Ok, Err}
 use Rattle.histories.specs.declared.account.Account.{Account}
 use Rattle.sync_base.specs.declared.fault.Fault.{Fault}
@@ -203,8 +203,8 @@ module _ (table : TableId) where
   goes_on_in_it : TriesOnSo (calling (begun idle) (0 ∷ [])) (came_to 1 stop.Enough)
       (calling (reader one_out idle) (98 ∷ []))
   goes_on_in_it =
-      one_part (calling (begun idle) (0 ∷ [])) 1 stop.Enough (calling (reader one_out idle) (98 ∷ []))
-      second_byte (free one_out) refl
+      one_part (calling (begun idle) (0 ∷ [])) 1 stop.Enough
+      (calling (reader one_out idle) (98 ∷ [])) second_byte (free one_out) refl
       (record {
         left = second_byte;
         next = inl record { left_is = refl; account = refl };
