@@ -1,7 +1,7 @@
 -- A release that asks in the same hold of the lock who is to be woken: what the lock tells of both
 -- requests they tell of the semaphore.
-use Rattle.std.proofs.Common.{rules, ◌≡◌, ℕ, false, List, [], ◌∷◌, map, Option, Some, None, unwrap_or}
-use Rattle.std.proofs.Common.{refl, sym, ap, ◌∙◌, subst, eq-eqb}
+use Rattle.std.proofs.Common.{rules, ◌≡◌, ℕ, false, List, [], ◌∷◌, map, Option, Some, None}
+use Rattle.std.proofs.Common.{refl, eq-eqb}
 use Rattle.histories.specs.Account.{share_after}
 use Rattle.kernel_lock.specs.Calls.{Serves}
 use Rattle.kernel_lock.specs.Definition.{server}

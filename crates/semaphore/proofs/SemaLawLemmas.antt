@@ -1,6 +1,6 @@
 -- What each call keeps of the laws of a semaphore.
 use Rattle.std.proofs.Common.{◌≡◌, ◌≢◌, ◌⊎◌, inl, inr, ⊎_elim, ℕ, zero, suc, ◌+◌, ◌-◌, ◌<◌, ◌≤◌}
-use Rattle.std.proofs.Common.{Bool, true}
+use Rattle.std.proofs.Common.{Bool}
 use Rattle.std.proofs.Common.{false, if◌then◌else◌, List, [], ◌∷◌, length, get_or}
 use Rattle.std.proofs.Common.{set, Some, refl, sym, ap, ◌∙◌, subst, arith, not, eqb, IfSome}
 use Rattle.std.proofs.Common.{replicate, drop}

@@ -1,5 +1,5 @@
 -- What a seat's own calls tell of its timer, and which tick took it.
-use Rattle.std.proofs.Common.{◌≡◌, ◌≢◌, ◌⊎◌, inl, inr, ℕ, zero, suc, ◌<◌, ◌≤◌, eqb, Bool}
+use Rattle.std.proofs.Common.{◌≡◌, ◌≢◌, ◌⊎◌, inl, inr, ℕ, ◌<◌, ◌≤◌, eqb, Bool}
 use Rattle.std.proofs.Common.{true, false, not, if◌then◌else◌, List, [], ◌∷◌, ◌++◌, length}
 use Rattle.std.proofs.Common.{replicate, get_or, set, Option, None, Some, IfSome, refl, sym, ap}
 use Rattle.std.proofs.Common.{◌∙◌, subst, arith}
