@@ -13,8 +13,7 @@ use Rattle.semaphore.specs.declared.sema_object.SemaCall.TheVariants.{Release, N
 use Rattle.semaphore.specs.declared.sema_object.SemaReply.{SemaReply}
 use Rattle.semaphore.specs.declared.sema_object.SemaReply.TheVariants as reply
 use Rattle.semaphore.specs.declared.sema_asks.Grant.{Grant}
-use Rattle.semaphore.specs.Asking.{Asks, OnlyAsks, Finds, AsksRelease, wake_next}
-use Rattle.semaphore.specs.Asking.{wake_reply}
+use Rattle.semaphore.specs.Asking.{Asks, OnlyAsks, Finds, AsksRelease, wake_next, wake_reply}
 use Rattle.semaphore.specs.Definitions.{sema_definition}
 use Rattle.semaphore.specs.Releasing.{WakesNamed}
 use Rattle.semaphore.specs.SemaHistory.{SemaEntry}

@@ -10,8 +10,7 @@ use Rattle.rendez_words.specs.Rule.{ShowsCore}
 use Rattle.sleep_core.specs.declared.answer.Answer.TheVariants as answer
 use Rattle.sleep_core.specs.declared.event.Event.TheVariants.{Note}
 use Rattle.sleep_core.specs.History.{Effect, effect_of, history_of}
-use Rattle.sleep_core.specs.History.Effect.{Left}
-use Rattle.sleep_core.specs.History.Effect.{Noted, Drained}
+use Rattle.sleep_core.specs.History.Effect.{Left, Noted, Drained}
 use Rattle.sleep_core.specs.Promises.{AreNotesRight, pending}
 use Rattle.sleep_core.specs.Runs.{Entry, is_kept, kept, own}
 use Rattle.sync_base.specs.declared.ids.Pid.{Pid}
