@@ -1,11 +1,9 @@
 -- What a request of a seat finds.
 use Rattle.std.proofs.Common.{◌≡◌, Bool, not, ◌∷◌, ap, ◌∙◌, subst, arith}
-use Rattle.std.specs.List.{AllByRecursion}
-use Rattle.histories.specs.Account.{HasItsEntries}
 use Rattle.histories.specs.History.{state_after, IsLegal, entries_by}
 use Rattle.kernel_lock.specs.Calls.{Serves}
 use Rattle.kernel_lock.specs.Definition.{server}
-use Rattle.kernel_lock.specs.Seats.{SeesHistory, number_of, opening_of, view_of}
+use Rattle.kernel_lock.specs.Seats.{SeesHistory, number_of, view_of}
 use Rattle.semaphore.specs.declared.sema.Sema.{Sema}
 use Rattle.semaphore.specs.declared.sema.SemaSeat.{SemaSeat}
 use Rattle.semaphore.specs.declared.sema_object.SemaCall.{SemaCall}

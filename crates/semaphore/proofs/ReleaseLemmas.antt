@@ -1,7 +1,7 @@
 -- A release that asks in the same hold of the lock who is to be woken: what the lock tells of both
 -- requests they tell of the semaphore.
-use Rattle.std.proofs.Common.{rules, ◌≡◌, ℕ, false, List, [], ◌∷◌, map, Option, Some, None, unwrap_or}
-use Rattle.std.proofs.Common.{refl, sym, ap, ◌∙◌, subst, eq-eqb}
+use Rattle.std.proofs.Common.{rules, ◌≡◌, ℕ, false, List, [], ◌∷◌, map, Option, Some, None}
+use Rattle.std.proofs.Common.{refl, eq-eqb}
 use Rattle.histories.specs.Account.{share_after}
 use Rattle.kernel_lock.specs.Calls.{Serves}
 use Rattle.kernel_lock.specs.Definition.{server}
@@ -13,8 +13,7 @@ use Rattle.semaphore.specs.declared.sema_object.SemaCall.TheVariants.{Release, N
 use Rattle.semaphore.specs.declared.sema_object.SemaReply.{SemaReply}
 use Rattle.semaphore.specs.declared.sema_object.SemaReply.TheVariants as reply
 use Rattle.semaphore.specs.declared.sema_asks.Grant.{Grant}
-use Rattle.semaphore.specs.Asking.{Asks, OnlyAsks, Finds, AsksRelease, wake_next}
-use Rattle.semaphore.specs.Asking.{wake_reply}
+use Rattle.semaphore.specs.Asking.{Asks, OnlyAsks, Finds, AsksRelease, wake_next, wake_reply}
 use Rattle.semaphore.specs.Definitions.{sema_definition}
 use Rattle.semaphore.specs.Releasing.{WakesNamed}
 use Rattle.semaphore.specs.SemaHistory.{SemaEntry}

@@ -1,14 +1,10 @@
 -- Which Rendez a seat has.
-use Rattle.std.proofs.Common.{◌≡◌, ◌<◌, ℕ, Bool, subst, arith}
-use Rattle.std.specs.List.{AllByRecursion}
-use Rattle.kernel_lock.specs.Seats.{number_of, limit_of}
+use Rattle.std.proofs.Common.{◌<◌, Bool, arith}
+use Rattle.kernel_lock.specs.Seats.{number_of}
 use Rattle.rendez_words.specs.declared.words.Words.{Words}
 use Rattle.rendez_words.specs.Words.{rendez_of}
 use Rattle.semaphore.specs.declared.sema.Sema.{Sema}
 use Rattle.semaphore.specs.declared.sema.SemaSeat.{SemaSeat}
-use Rattle.semaphore.specs.declared.sema_object.SemaCall.{SemaCall}
-use Rattle.semaphore.specs.declared.sema_object.SemaReply.{SemaReply}
-use Rattle.semaphore.specs.Asking.{Asks}
 use Rattle.semaphore.specs.Seats.{IsSeatAt, OwnsRow, rendez_at}
 
 -- a seat's number is below the number of seats

@@ -1,9 +1,7 @@
 -- What each call keeps of the laws of a semaphore.
 use Rattle.std.proofs.Common.{◌≡◌, ◌≢◌, ◌⊎◌, inl, inr, ⊎_elim, ℕ, zero, suc, ◌+◌, ◌-◌, ◌<◌, ◌≤◌}
-use Rattle.std.proofs.Common.{Bool, true}
-use Rattle.std.proofs.Common.{false, if◌then◌else◌, List, [], ◌∷◌, length, get_or}
-use Rattle.std.proofs.Common.{set, Some, refl, sym, ap, ◌∙◌, subst, arith, not, eqb, IfSome}
-use Rattle.std.proofs.Common.{replicate, drop}
+use Rattle.std.proofs.Common.{Bool, false, if◌then◌else◌, List, [], ◌∷◌, length, get_or, set, Some}
+use Rattle.std.proofs.Common.{refl, sym, ap, ◌∙◌, subst, arith, not, eqb, IfSome, replicate, drop}
 use Rattle.std.proofs.lemmas.Bool.Decides.{nat_tests}
 use Rattle.std.proofs.lemmas.Grind.{common_steps}
 use Rattle.std.proofs.lemmas.List.{get_or-replicate, length-replicate}

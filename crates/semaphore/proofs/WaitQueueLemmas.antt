@@ -1,15 +1,13 @@
 -- A line of seats as a ring of links.
-use Rattle.std.proofs.Common.{◌≡◌, ◌≢◌, ℕ, ◌+◌, ◌-◌, ◌<◌, ◌≤◌, ◌==◌, Bool}
-use Rattle.std.proofs.Common.{if◌then◌else◌, true, false, List, [], ◌∷◌, ◌++◌, length, count_by}
-use Rattle.std.proofs.Common.{cond}
-use Rattle.std.proofs.Common.{slice_index, get_or, set, refl, sym, ap, ◌∙◌, subst, arith}
+use Rattle.std.proofs.Common.{◌≡◌, ◌≢◌, ℕ, ◌+◌, ◌-◌, ◌<◌, ◌≤◌, ◌==◌, Bool, if◌then◌else◌, true}
+use Rattle.std.proofs.Common.{false, List, [], ◌∷◌, ◌++◌, length, count_by, cond, slice_index}
+use Rattle.std.proofs.Common.{get_or, set, refl, sym, ap, ◌∙◌, subst, arith}
 use Rattle.std.proofs.lemmas.Bool.Decides.{nat_tests}
 use Rattle.std.proofs.lemmas.Grind.{get_or-set_at, get_or_default_zero}
 use Rattle.std.proofs.lemmas.List.{get_or-set_other}
 use Rattle.std.proofs.lemmas.List.Sums.{sum_by-set, count_by-le-length}
 use Rattle.std.proofs.Math.ListN.{length-set}
-use Rattle.semaphore.specs.WaitQueue.{Queue, stands_in, without, walk, IsLinked, AreSeats}
-use Rattle.semaphore.specs.WaitQueue.{IsRing}
+use Rattle.semaphore.specs.WaitQueue.{Queue, stands_in, without, walk, IsLinked, AreSeats, IsRing}
 
 -- ---- lines
 

@@ -1,7 +1,6 @@
 -- Whom a semrelease was named is released, and a seat is named above what it was told before.
-use Rattle.std.proofs.Common.{◌≡◌, ◌≤◌, ◌<◌, ℕ}
-use Rattle.std.proofs.Common.{List, [], ◌∷◌, ◌++◌, Some, map, length, sym, ap, ◌∙◌, subst}
-use Rattle.std.proofs.Common.{arith}
+use Rattle.std.proofs.Common.{◌≡◌, ◌≤◌, ◌<◌, ℕ, List, [], ◌∷◌, ◌++◌, Some, map, length, sym, ap}
+use Rattle.std.proofs.Common.{◌∙◌, subst, arith}
 use Rattle.std.proofs.lemmas.Bool.Decides.{nat_tests}
 use Rattle.std.specs.List.{AllByRecursion}
 use Rattle.histories.specs.History.{state_after}
@@ -18,9 +17,7 @@ use Rattle.semaphore.specs.declared.sema_object.SemaReply.TheVariants as reply
 use Rattle.semaphore.specs.Releasing.{WakesNamed}
 use Rattle.semaphore.specs.Seats.{rendez_of_seat}
 use Rattle.semaphore.specs.SemaHistory.{SemaEntry, sema_meaning, collected, held_in}
-use Rattle.semaphore.specs.Units.{SemaState, opening, answer_to}
-use Rattle.semaphore.specs.Units.{grants_of, seat_named}
-use Rattle.semaphore.specs.Units.{stage_of}
+use Rattle.semaphore.specs.Units.{SemaState, opening, answer_to, grants_of, seat_named, stage_of}
 use Rattle.semaphore.specs.WakeLaws.{ReleasingReleasesTheNamed, WaitersAreNamedAbove}
 use Rattle.semaphore.proofs.SemaLawLemmas.{history_keeps}
 use Rattle.histories.proofs.HistoryLemmas.{legal_past}

@@ -1,7 +1,6 @@
 -- What semacquire promises. From semacquire(2); the order of waiters, and that notes that came with
 -- a unit are put back, are own. How a call sleeps is the wait of all devices.
-use Rattle.std.specs.Prelude.{◌≡◌, ℕ, ◌+◌, Bool, true, false, Option, Some, None}
-use Rattle.std.specs.Prelude.{Result, Ok, Err}
+use Rattle.std.specs.Prelude.{◌≡◌, ℕ, ◌+◌, Bool, true, false, Option, Some, None, Result, Ok, Err}
 use Rattle.kernel_lock.specs.Seats as lock
 use Rattle.sync_base.specs.declared.fault.Fault.{Fault}
 use Rattle.sync_base.specs.declared.fault.Fault.TheVariants as fault

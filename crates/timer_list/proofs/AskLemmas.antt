@@ -3,13 +3,12 @@ use Rattle.std.proofs.Common.{◌≡◌, ℕ, ◌<◌, ◌||◌, eqb, Bool, fals
 use Rattle.std.proofs.Common.{not, IsTrue, List, [], ◌∷◌, replicate, Option, Some, None, IfSome}
 use Rattle.std.proofs.Common.{unwrap_or, refl, ap, ◌∙◌, subst, arith}
 use Rattle.std.proofs.lemmas.Bool.Decides.{nat_tests}
-use Rattle.std.specs.List.{AllByRecursion}
 use Rattle.histories.specs.declared.account.Share.{Share}
-use Rattle.histories.specs.Account.{HasItsEntries, has_number}
+use Rattle.histories.specs.Account.{has_number}
 use Rattle.histories.specs.History.{state_after, IsLegal, entries_by}
 use Rattle.kernel_lock.specs.Calls.{Serves}
 use Rattle.kernel_lock.specs.Definition.{server}
-use Rattle.kernel_lock.specs.Seats.{SeesHistory, limit_of, number_of, opening_of, view_of}
+use Rattle.kernel_lock.specs.Seats.{SeesHistory, number_of, view_of}
 use Rattle.timer_list.specs.declared.timer_object.Timer.TheVariants.{Unset}
 use Rattle.timer_list.specs.declared.timer_object.TimerCall.{TimerCall}
 use Rattle.timer_list.specs.declared.timer_object.TimerReply.{TimerReply}

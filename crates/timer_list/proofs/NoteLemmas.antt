@@ -1,7 +1,7 @@
 -- The note of a tick is pending at the process of a timer that expired, or was taken since.
 use Rattle.std.proofs.Common.{◌≡◌, ◌≢◌, ◌⊎◌, inl, inr, ℕ, nat_lt, eqb, Bool, true, false}
 use Rattle.std.proofs.Common.{if◌then◌else◌, List, [], ◌∷◌, ◌++◌, Option, Some, None, refl}
-use Rattle.std.proofs.Common.{sym, ap, subst, arith}
+use Rattle.std.proofs.Common.{ap, subst, arith}
 use Rattle.std.proofs.lemmas.Bool.Decides.{nat_tests}
 use Rattle.std.specs.List.{AllByRecursion, cons_option}
 use Rattle.rendez_words.specs.declared.view.Sizes.{Sizes}
@@ -10,8 +10,7 @@ use Rattle.rendez_words.specs.Rule.{ShowsCore}
 use Rattle.sleep_core.specs.declared.answer.Answer.TheVariants as answer
 use Rattle.sleep_core.specs.declared.event.Event.TheVariants.{Note}
 use Rattle.sleep_core.specs.History.{Effect, effect_of, history_of}
-use Rattle.sleep_core.specs.History.Effect.{Left}
-use Rattle.sleep_core.specs.History.Effect.{Noted, Drained}
+use Rattle.sleep_core.specs.History.Effect.{Left, Noted, Drained}
 use Rattle.sleep_core.specs.Promises.{AreNotesRight, pending}
 use Rattle.sleep_core.specs.Runs.{Entry, is_kept, kept, own}
 use Rattle.sync_base.specs.declared.ids.Pid.{Pid}

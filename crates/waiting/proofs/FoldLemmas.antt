@@ -1,6 +1,5 @@
 -- What holds at the end of each wait of a device, read off what its requests do to a seat.
-use Rattle.std.proofs.Common.{ℕ, zero, suc, Some, None, Result, Ok, Err}
-use Rattle.std.proofs.Common.{sym, subst}
+use Rattle.std.proofs.Common.{ℕ, zero, suc, Some, None, Result, Ok, Err, sym, subst}
 use Rattle.sync_base.specs.declared.fault.Fault.{Fault}
 use Rattle.sync_base.specs.declared.ids.RendezId.{RendezId}
 use Rattle.waiting.specs.declared.call.Reply.TheVariants.{Wait}

@@ -1,6 +1,5 @@
 -- A wakeup that has returned stands in the steps of whoever made it, and releases its sleeper.
-use Rattle.std.proofs.Common.{inl, inr, ℕ}
-use Rattle.std.proofs.Common.{List, [], ◌∷◌, ◌++◌, Option, None, Some, sym, subst}
+use Rattle.std.proofs.Common.{inl, inr, ℕ, List, [], ◌∷◌, ◌++◌, Option, None, Some, sym, subst}
 use Rattle.std.specs.List.{cons_option, AllByRecursion}
 use Rattle.sync_base.specs.declared.ids.RendezId.{RendezId}
 use Rattle.sleep_core.specs.declared.answer.Answer.TheVariants as answer

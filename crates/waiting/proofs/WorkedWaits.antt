@@ -2,8 +2,7 @@
 -- against one row.
 use Rattle.std.proofs.Common.{◌≡◌, ◌⊎◌, ◌≤◌, ◌+◌, ◌*◌, ℕ, zero, suc, List, [], ◌∷◌, ◌++◌, length}
 use Rattle.std.proofs.Common.{⊎_elim, Option, Some, None, Result, Ok, Err, inl, inr, refl, sym, ap}
-use Rattle.std.proofs.Common.{◌∙◌}
-use Rattle.std.proofs.Common.{subst, arith}
+use Rattle.std.proofs.Common.{◌∙◌, subst, arith}
 use Rattle.std.proofs.lemmas.List.{length-append}
 use Rattle.rendez_words.specs.Process.{Process, TableId}
 use Rattle.rendez_words.specs.Steps.{posts, tests}
@@ -28,9 +27,8 @@ use Rattle.waiting.specs.declared.call.Reply.{Reply}
 use Rattle.waiting.specs.declared.call.Reply.TheVariants.{Done, Wait, Refused}
 use Rattle.waiting.specs.declared.wait.WaitEnd.{WaitEnd}
 use Rattle.waiting.specs.declared.wait.WaitEnd.TheVariants.{Answered, Stopped}
-use Rattle.waiting.specs.Waiting.{Point, Promise, WaitPoint, StandsSo, IsLow}
-use Rattle.waiting.specs.Waiting.{Rounds}
-use Rattle.waiting.specs.Waiting.{Ends, Returns, answer_of, reply_of, Waited}
+use Rattle.waiting.specs.Waiting.{Point, Promise, WaitPoint, StandsSo, IsLow, Rounds, Ends, Returns}
+use Rattle.waiting.specs.Waiting.{answer_of, reply_of, Waited}
 
 -- ---- what an answer leaves
 

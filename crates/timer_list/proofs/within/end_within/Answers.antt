@@ -1,6 +1,5 @@
 -- It cancels its timer, awaits the note of a tick that has taken it, and keeps what came.
-use Rattle.std.proofs.Common.{subst}
-use Rattle.timer_list.specs.Timing.{Looks, awaiting}
+use Rattle.timer_list.specs.Timing.{awaiting}
 use Rattle.timer_list.proofs.within.end_within.Goals as goal
 
 pub returns-clause-timer : goal.returns-clause-timer

@@ -1,8 +1,6 @@
 -- It slept, well or not; or it was refused, and took its notes.
-use Rattle.std.proofs.Common.{◌≡◌, Err, IfErr, inl, sym, subst}
-use Rattle.sleep_wakeup.specs.Calls.{Sleeps, WhyNotSlept}
+use Rattle.std.proofs.Common.{◌≡◌, Err, inl}
 use Rattle.sync_base.specs.declared.fault.Fault.TheVariants.{Interrupted}
-use Rattle.timer_list.specs.declared.limits.TheConstants.{LAST_THRESHOLD}
 use Rattle.timer_list.proofs.within.look_for_tick.Goals as goal
 
 pub returns-in-Ok-clause-looked : goal.returns-in-Ok-clause-looked

@@ -1,13 +1,11 @@
 -- It is answered at once; or it sets its timer, sleeps, and ends its wait.
-use Rattle.std.proofs.Common.{◌<◌, Ok, Err, false, true, inl, inr, refl, sym, ap, ◌∙◌, subst}
+use Rattle.std.proofs.Common.{true, inl, inr, refl, sym, ◌∙◌, subst}
 use Rattle.kernel_lock.specs.Seats.{number_of}
-use Rattle.rendez_words.specs.Words.{rendez_of}
 use Rattle.sync_base.specs.declared.ids.Pid.{Pid}
-use Rattle.timer_list.specs.declared.timer_object.TimerCall.TheVariants.{Add, Cancel}
+use Rattle.timer_list.specs.declared.timer_object.TimerCall.TheVariants.{Add}
 use Rattle.timer_list.specs.declared.timer_object.TimerReply.TheVariants.{Added}
-use Rattle.timer_list.specs.Asking.{AsksTimers, cancel_reply}
+use Rattle.timer_list.specs.Asking.{AsksTimers}
 use Rattle.timer_list.specs.Timers.{deadline_of}
-use Rattle.timer_list.specs.Timing.{timed_point}
 use Rattle.timer_list.proofs.TickLemmas.{took_it}
 use Rattle.timer_list.proofs.UntimedLemmas.{untimed}
 use Rattle.waiting.specs.Waiting.{told}

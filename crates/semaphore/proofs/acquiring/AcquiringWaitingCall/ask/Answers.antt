@@ -1,6 +1,5 @@
 -- The seat was granted its unit, or waits on.
 use Rattle.std.proofs.Common.{true, refl, arith}
-use Rattle.semaphore.specs.declared.sema_object.SemaCall.TheVariants.{Collect}
 use Rattle.semaphore.proofs.TellLemmas.{collect_never, collect_fits}
 use Rattle.semaphore.proofs.acquiring.AcquiringWaitingCall.ask.Goals as goal
 

@@ -1,6 +1,5 @@
 -- The seat has its unit, waits, or was worn out.
 use Rattle.std.proofs.Common.{false, refl, arith}
-use Rattle.semaphore.specs.declared.sema_object.SemaCall.TheVariants.{Acquire}
 use Rattle.semaphore.proofs.TellLemmas.{acquire_never, acquire_fits}
 use Rattle.semaphore.proofs.acquiring.AcquiringWaitingCall.begin.Goals as goal
 

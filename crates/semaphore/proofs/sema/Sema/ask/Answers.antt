@@ -1,8 +1,5 @@
 -- The state that the call finds is what a legal history leaves, in which the seat's own calls are
 -- its.
-use Rattle.std.proofs.Common.{subst}
-use Rattle.kernel_lock.specs.Calls.{Serves}
-use Rattle.kernel_lock.specs.Seats.{number_of, shares_of, view_of}
 use Rattle.semaphore.specs.Units.{seat_named}
 use Rattle.semaphore.proofs.AskLemmas.{is_told}
 use Rattle.timer_list.proofs.AskLemmas.{names_it}

@@ -1,12 +1,8 @@
 -- It waits on its own Rendez, and is given what it answers.
-use Rattle.std.proofs.Common.{◌<◌, false, sym, subst, arith}
-use Rattle.rendez_words.specs.Words.{rendez_of}
+use Rattle.std.proofs.Common.{false, arith}
 use Rattle.semaphore.proofs.RequestLemmas.{is_in_row}
 use Rattle.semaphore.proofs.UnitLemmas.{came, same_units}
-use Rattle.timer_list.specs.Timers.{deadline_of}
-use Rattle.timer_list.specs.Timing.{WaitedInTime, timed_point}
 use Rattle.waiting.specs.Waiting.{point}
-use Rattle.semaphore.specs.Acquiring.{acquiring}
 use Rattle.semaphore.proofs.sema.Sema.tsemacquire_probed.Goals as goal
 
 pub rendez-rendez-requires : goal.rendez-rendez-requires

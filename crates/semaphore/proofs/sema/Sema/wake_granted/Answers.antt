@@ -1,7 +1,6 @@
 -- Each round wakes whom it was named, and asks for the next.
-use Rattle.std.proofs.Common.{subst, ◌∙◌}
-use Rattle.waiting.specs.Waiting.{point}
-use Rattle.semaphore.proofs.ReleaseLemmas.{HasNamed, names_more}
+use Rattle.std.proofs.Common.{◌∙◌}
+use Rattle.semaphore.proofs.ReleaseLemmas.{names_more}
 use Rattle.semaphore.proofs.sema.Sema.wake_granted.Goals as goal
 
 pub loop-preserved : goal.loop-preserved

@@ -1,8 +1,5 @@
 -- the seat has no timer, so an Add is answered Added and nothing else
-use Rattle.std.proofs.Common.{subst, true, false}
-use Rattle.timer_list.specs.declared.timer_object.TimerCall.TheVariants.{Add}
-use Rattle.timer_list.specs.declared.timer_object.TimerReply.TheVariants as told
-use Rattle.timer_list.specs.Asking.{AsksTimers}
+use Rattle.std.proofs.Common.{false}
 use Rattle.timer_list.proofs.OwnTimerLemmas.{add_never}
 use Rattle.timer_list.proofs.timers.Timers.add.Goals as goal
 

@@ -1,8 +1,5 @@
 -- The state that the call finds is what a legal history leaves, in which the seat's own calls are
 -- its.
-use Rattle.std.proofs.Common.{subst}
-use Rattle.kernel_lock.specs.Calls.{Serves}
-use Rattle.kernel_lock.specs.Seats.{number_of, shares_of, view_of}
 use Rattle.timer_list.specs.Timers.{seat_named}
 use Rattle.timer_list.proofs.AskLemmas.{is_timed, names_it}
 use Rattle.timer_list.proofs.timers.Timers.ask.Goals as goal

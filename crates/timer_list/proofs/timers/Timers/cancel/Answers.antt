@@ -1,8 +1,5 @@
 -- the seat has a timer, so a Cancel is answered Removed or Expired and nothing else
-use Rattle.std.proofs.Common.{false, true, subst}
-use Rattle.timer_list.specs.declared.timer_object.TimerCall.TheVariants.{Cancel}
-use Rattle.timer_list.specs.declared.timer_object.TimerReply.TheVariants as told
-use Rattle.timer_list.specs.Asking.{AsksTimers}
+use Rattle.std.proofs.Common.{true}
 use Rattle.timer_list.proofs.OwnTimerLemmas.{cancel_never}
 use Rattle.timer_list.proofs.timers.Timers.cancel.Goals as goal
 
