@@ -86,25 +86,30 @@ named_of s seat count is = by s.unnamed is
 
 -- ---- what a history keeps
 
--- What is kept of a seat that is at this stage, has this count, and is to be named or not: its
--- count is where it began, the units that it collected, and the one that it has yet to collect; if
--- it is not to be named it was named last with its count; and its own calls tell whether it waits.
+-- what is kept of a seat that is at this stage, has this count, and is to be named or not
 pub record AtSeat (stage : Stage) (grants : ℕ) (stands : Bool) (count own last : ℕ) (waits : Bool) :
     Type 0 where
+  -- its count is where it began, the units that it collected and one that it has yet to collect
   pub counts : grants ≡ count + own + held_in stage
+  -- if it is not to be named, it was named last with its count
   pub named : stands ≡ false → grants ≡ last
+  -- its own calls tell whether it waits
   pub idle : is_idle stage ≡ not waits
 
+-- what is kept of the seat with this number
 abbrev pub IsAt : SemaState → ℕ → ℕ → ℕ → ℕ → Bool → Type 0
 IsAt s seat = AtSeat (stage_of s seat) (grants_of s seat) (stands_in s.unnamed seat)
 
--- what is kept of all: the state is one that a semaphore can be in, of so many seats; and the units
--- that nobody has, those taken and those granted but not collected are all that there were
+-- what is kept of all
 pub record Kept (procs sum got count : ℕ) (own last : ℕ → ℕ) (waits : ℕ → Bool) (s : SemaState) :
     Type 0 where
+  -- a semaphore can be in this state
   pub sound : IsSound s
+  -- it has so many seats
   pub size : length s.stages ≡ procs
+  -- what nobody has, what was taken and what was granted but not collected are all units
   pub units : s.value + got + uncollected s.stages ≡ sum
+  -- and what is kept of each seat
   pub seats : (seat : ℕ) → seat < procs → IsAt s seat count (own seat) (last seat) (waits seat)
 
 -- there is no unit, or nobody waits for one

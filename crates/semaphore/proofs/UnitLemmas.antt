@@ -48,7 +48,9 @@ own_more entry shares mine are =
 
 -- since then the seat kept its number and was given so many units
 pub record WasGiven (first : SemaSeat) (count : ℕ) (now : SemaSeat) : Type 0 where
+  -- it has the number that it had
   pub number : number_of now.seat ≡ number_of first.seat
+  -- and so many units more
   pub units : units_given now ≡ units_given first + count
 
 -- a request brings what it is answered
@@ -65,10 +67,11 @@ given_more sema waits now_waits call told first old new at given asks =
 none_yet : (first : SemaSeat) → WasGiven first 0 first
 none_yet first = record { number = refl; units = omega arith }
 
--- while it waits a seat is given none, and at the end what it is answered
+-- while it waits a seat is given none
 abbrev IsOn : Sema → SemaSeat → SemaSeat → Type 0
 IsOn sema first now = IsSeatAt sema true now × WasGiven first 0 now
 
+-- at the end it was given what it is answered
 abbrev pub IsOver : SemaSeat → Result Unit Fault → SemaSeat → Type 0
 IsOver first answer now = WasGiven first (timed_units_of answer) now
 
