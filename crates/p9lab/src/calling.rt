@@ -8,7 +8,7 @@ use crate::verbs::Call;
 use plan9::{Fault, Note, NoteSet, Pid, Proc};
 use std::alloc::Global;
 use std::sync::Wait;
-use std::thread::{Threads, yield_now};
+use std::thread::{JoinHandle, Threads, yield_now};
 use std::{mem, thread};
 
 /// What is awaited of a process.
@@ -69,15 +69,25 @@ fn started(place: &Place) -> Answer {
 
 /// The answer of a call that has ended. The process is here again.
 pub fn join<R: Threads + Wait>(rt: &R, place: &mut Place) -> Answer {
-    match mem::replace(&mut place.stay, Stay::Gone) {
-        Stay::Out(handle) => {
-            let Back { actor, answer } = handle.join(rt);
-            set(&mut place.stay, Stay::Here(actor));
-            answer
-        }
+    match call_of(&mut place.stay) {
+        Some(handle) => come_back(&mut place.stay, handle.join(rt)),
+        None => Answer::of("not started"),
+    }
+}
+
+fn come_back(stay: &mut Stay, back: Back) -> Answer {
+    let Back { actor, answer } = back;
+    set(stay, Stay::Here(actor));
+    answer
+}
+
+// The thread of its call, if it makes one.
+fn call_of(stay: &mut Stay) -> Option<JoinHandle<Back>> {
+    match mem::replace(stay, Stay::Gone) {
+        Stay::Out(handle) => Some(handle),
         other => {
-            set(&mut place.stay, other);
-            Answer::of("not started")
+            set(stay, other);
+            None
         }
     }
 }
@@ -156,13 +166,7 @@ pub fn call_off<R: Threads + Wait>(rt: &R, scene: &mut Scene) -> Leftover {
         ..
     } = scene;
     for place in places.iter_mut() {
-        if let Stay::Out(_) = place.stay {
-            if call_off_one(rt, zero, place, *turns) {
-                left.ended = left.ended.saturating_add(1);
-            } else {
-                left.stuck = left.stuck.saturating_add(1);
-            }
-        }
+        call_off_one(rt, zero, place, *turns, &mut left);
     }
     left
 }
@@ -172,18 +176,34 @@ fn call_off_one<R: Threads + Wait>(
     zero: &mut Proc<'static>,
     place: &mut Place,
     turns: u64,
-) -> bool {
+    left: &mut Leftover,
+) {
+    if !is_out(&place.stay) {
+        return;
+    }
     place.desk.let_go();
+    interrupt(zero, place);
+    if ends(place, turns) {
+        join(rt, place);
+        left.ended = left.ended.saturating_add(1);
+    } else {
+        left.stuck = left.stuck.saturating_add(1);
+    }
+}
+
+fn is_out(stay: &Stay) -> bool {
+    match stay {
+        Stay::Out(_) => true,
+        _ => false,
+    }
+}
+
+fn interrupt(zero: &mut Proc<'static>, place: &mut Place) {
     let sender = match &mut place.sender {
         Some(sender) => sender,
         None => zero,
     };
     let _ = sender.postnote(Pid(place.pid), NoteSet::of(Note::Interrupt));
-    if !ends(place, turns) {
-        return false;
-    }
-    join(rt, place);
-    true
 }
 
 fn ends(place: &Place, turns: u64) -> bool {

@@ -8,10 +8,10 @@ use crate::roles::lone::lone_at;
 use crate::roles::peer::{Peer, first_of, fork_peer};
 use crate::roles::queue::{keeper_at, putter_at, taker_at};
 use crate::roles::sharer::first_sharer;
-use crate::scene::{Place, Scene, Setup, Stay, begin, keep, push, set};
+use crate::scene::{Place, Scene, Setup, Stay, begin, keep, place_at, push, set};
 use plan9::{
-    Fault, Flags, Guest, Holder, Kernel, NoteSet, OpenedSpace, Pid, Proc, Reader, Roster, Sharer,
-    TagSpace, Unforked, WriteEnd, Writer, fork_writers,
+    Fault, Flags, Guest, Holder, Kernel, NoteSet, OpenedSpace, Pid, Proc, ReadEnd, Reader, Roster,
+    Sharer, TagSpace, Unforked, WriteEnd, Writer, fork_writers,
 };
 use std::alloc::Global;
 use std::mem;
@@ -222,22 +222,15 @@ fn proc_in<'a>(
     if number == 0 {
         return Some(zero);
     }
-    for place in places.iter_mut() {
-        if place.number == number {
-            return proc_here(&mut place.stay);
-        }
-    }
-    None
+    let at = place_at(places, number)?;
+    proc_of(&mut actor_at(places, at)?.role)
 }
 
-fn proc_here(stay: &mut Stay) -> Option<&mut Proc<'static>> {
-    match stay {
-        Stay::Here(actor) => match &mut actor.role {
-            Role::Plain(proc) => Some(proc),
-            Role::Reader(reader) => Some(&mut reader.proc),
-            Role::Writer(writer) => Some(&mut writer.proc),
-            _ => None,
-        },
+fn proc_of(role: &mut Role) -> Option<&mut Proc<'static>> {
+    match role {
+        Role::Plain(proc) => Some(proc),
+        Role::Reader(reader) => Some(&mut reader.proc),
+        Role::Writer(writer) => Some(&mut writer.proc),
         _ => None,
     }
 }
@@ -440,23 +433,25 @@ fn direction_in(stock: &mut Stock, casting: Casting) -> Option<&mut Direction> {
 }
 
 fn read_with(direction: Option<&mut Direction>, proc: Proc<'static>) -> Result<Role, Fault> {
-    match direction {
-        Some(direction) => match direction.read.take() {
-            Some(end) => Ok(Role::Reader(Reader::new(end, proc))),
-            None => Err(Fault::NoProc),
-        },
+    match read_end_of(direction) {
+        Some(end) => Ok(Role::Reader(Reader::new(end, proc))),
         None => Err(Fault::NoProc),
     }
 }
 
+fn read_end_of(direction: Option<&mut Direction>) -> Option<ReadEnd<'static>> {
+    direction?.read.take()
+}
+
 fn write_with(direction: Option<&mut Direction>, proc: Proc<'static>) -> Result<Role, Fault> {
-    match direction {
-        Some(direction) => match direction.writes.pop() {
-            Some(end) => Ok(Role::Writer(Writer::new(end, proc))),
-            None => Err(Fault::NoProc),
-        },
+    match write_end_of(direction) {
+        Some(end) => Ok(Role::Writer(Writer::new(end, proc))),
         None => Err(Fault::NoProc),
     }
+}
+
+fn write_end_of(direction: Option<&mut Direction>) -> Option<WriteEnd<'static>> {
+    direction?.writes.pop()
 }
 
 fn share_first(stock: &mut Stock, proc: Proc<'static>, object: u64) -> Result<Role, Fault> {
@@ -498,18 +493,18 @@ fn sharer_in(
     places: &mut Vec<Place>,
     wanted: u64,
 ) -> Option<&mut Sharer<'static, 'static, 'static>> {
-    for place in places.iter_mut() {
-        if let Stay::Here(actor) = &mut place.stay {
-            if actor.object == wanted {
-                if let Role::Beside(beside) = &mut actor.role {
-                    if let Beside::Sharer(sharer) = beside {
-                        return Some(sharer);
-                    }
-                }
-            }
-        }
+    let at = player_at(places, wanted, Part::Sharer)?;
+    match &mut actor_at(places, at)?.role {
+        Role::Beside(beside) => sharer_of(beside),
+        _ => None,
     }
-    None
+}
+
+fn sharer_of(beside: &mut Beside) -> Option<&mut Sharer<'static, 'static, 'static>> {
+    match beside {
+        Beside::Sharer(sharer) => Some(sharer),
+        _ => None,
+    }
 }
 
 // ---- who is a member of a tag space in its own hands
@@ -593,22 +588,29 @@ fn hold<R: Wait>(
     proc: Proc<'static>,
     object: u64,
 ) -> Result<Role, Fault> {
-    if let Some(Some(_)) = stock.pools.get(at(object)) {
-        return hold_first(stock, proc, object);
+    match take_at(&mut stock.pools, at(object)) {
+        Some(pool) => Ok(Role::Holder(pool.first(proc)?)),
+        None => hold_beside(rt, places, proc, object),
     }
+}
+
+fn hold_beside<R: Wait>(
+    rt: &R,
+    places: &mut Vec<Place>,
+    proc: Proc<'static>,
+    object: u64,
+) -> Result<Role, Fault> {
     match holder_in(places, object) {
         Some(holder) => Ok(Role::Holder(holder.join(rt, proc)?)),
         None => Err(Fault::NoProc),
     }
 }
 
-fn hold_first(stock: &mut Stock, proc: Proc<'static>, object: u64) -> Result<Role, Fault> {
-    match stock.pools.get_mut(at(object)) {
-        Some(place) => match place.take() {
-            Some(pool) => Ok(Role::Holder(pool.first(proc)?)),
-            None => Err(Fault::NoProc),
-        },
-        None => Err(Fault::NoProc),
+// What is still here of this number, which is then taken.
+fn take_at<T: Drop>(kept: &mut Vec<Option<T>>, at: usize) -> Option<T> {
+    match kept.get_mut(at) {
+        Some(place) => place.take(),
+        None => None,
     }
 }
 
@@ -619,47 +621,57 @@ fn admit<R: Wait>(
     proc: Proc<'static>,
     object: u64,
 ) -> Result<Role, Fault> {
-    if let Some(Some(_)) = stock.halls.get(at(object)) {
-        return admit_first(stock, proc, object);
+    match take_at(&mut stock.halls, at(object)) {
+        Some(hall) => Ok(Role::Guest(hall.first(proc)?)),
+        None => admit_beside(rt, places, proc, object),
     }
+}
+
+fn admit_beside<R: Wait>(
+    rt: &R,
+    places: &mut Vec<Place>,
+    proc: Proc<'static>,
+    object: u64,
+) -> Result<Role, Fault> {
     match guest_in(places, object) {
         Some(guest) => Ok(Role::Guest(guest.join(rt, proc)?)),
         None => Err(Fault::NoProc),
     }
 }
 
-fn admit_first(stock: &mut Stock, proc: Proc<'static>, object: u64) -> Result<Role, Fault> {
-    match stock.halls.get_mut(at(object)) {
-        Some(place) => match place.take() {
-            Some(hall) => Ok(Role::Guest(hall.first(proc)?)),
-            None => Err(Fault::NoProc),
-        },
-        None => Err(Fault::NoProc),
-    }
-}
-
 fn holder_in(places: &mut Vec<Place>, wanted: u64) -> Option<&mut Holder<'static, 'static>> {
-    for place in places.iter_mut() {
-        if let Stay::Here(actor) = &mut place.stay {
-            if actor.object == wanted {
-                if let Role::Holder(holder) = &mut actor.role {
-                    return Some(holder);
-                }
-            }
-        }
+    let at = player_at(places, wanted, Part::Holder)?;
+    match &mut actor_at(places, at)?.role {
+        Role::Holder(holder) => Some(holder),
+        _ => None,
     }
-    None
 }
 
 fn guest_in(places: &mut Vec<Place>, wanted: u64) -> Option<&mut Guest<'static, 'static>> {
-    for place in places.iter_mut() {
-        if let Stay::Here(actor) = &mut place.stay {
-            if actor.object == wanted {
-                if let Role::Guest(guest) = &mut actor.role {
-                    return Some(guest);
-                }
+    let at = player_at(places, wanted, Part::Guest)?;
+    match &mut actor_at(places, at)?.role {
+        Role::Guest(guest) => Some(guest),
+        _ => None,
+    }
+}
+
+// The place of the first process that is here and has this part at the object.
+fn player_at(places: &Vec<Place>, object: u64, part: Part) -> Option<usize> {
+    for (at, place) in places.iter().enumerate() {
+        if let Stay::Here(actor) = &place.stay {
+            if actor.object == object && has_part(&actor.role, part) {
+                return Some(at);
             }
         }
     }
     None
+}
+
+fn has_part(role: &Role, part: Part) -> bool {
+    match role {
+        Role::Holder(_) => part == Part::Holder,
+        Role::Guest(_) => part == Part::Guest,
+        Role::Beside(Beside::Sharer(_)) => part == Part::Sharer,
+        _ => false,
+    }
 }

@@ -121,11 +121,16 @@ fn room_for(alloc: Global, procs: u64) -> Result<Vec<ProcStatus>, Fault> {
 impl Scene {
     /// The place of the process with this number, if it has one. Process 0 has none.
     pub fn place_of(&self, number: u64) -> Option<usize> {
-        for (at, place) in self.places.iter().enumerate() {
-            if place.number == number {
-                return Some(at);
-            }
-        }
-        None
+        place_at(&self.places, number)
     }
+}
+
+/// The place of the process with this number among these.
+pub fn place_at(places: &Vec<Place>, number: u64) -> Option<usize> {
+    for (at, place) in places.iter().enumerate() {
+        if place.number == number {
+            return Some(at);
+        }
+    }
+    None
 }
