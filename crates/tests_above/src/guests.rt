@@ -109,7 +109,8 @@ fn calls<R: Wait + Abort>(rt: &R, job: &mut Job, board: &Board, work: &mut Work,
     }
 }
 
-// Calls at random tags until there were meetings enough.
+// Calls at random tags until there were meetings enough, and then at a tag of its own, under which
+// it meets nobody, until notes and a tick have ended a wait of it.
 fn works<R: Wait + Abort>(rt: &R, alloc: Global, mut job: Job, board: &Board) -> Work {
     let mut work = Work {
         exchanges: Vec::new(alloc),
@@ -120,10 +121,16 @@ fn works<R: Wait + Abort>(rt: &R, alloc: Global, mut job: Job, board: &Board) ->
     let number = job.number;
     let mut dice = Dice { state: number };
     for call in 0..u64::MAX {
-        if board.told.load(SeqCst) >= 2 * MEETINGS {
+        let are_enough = board.told.load(SeqCst) >= 2 * MEETINGS;
+        if are_enough && work.interrupted > 0 && work.timed_out > 0 {
             break;
         }
-        let given = value_of(number, call, dice.roll(TAGS));
+        let tag = if are_enough {
+            TAGS.wrapping_add(number)
+        } else {
+            dice.roll(TAGS)
+        };
+        let given = value_of(number, call, tag);
         calls(rt, &mut job, board, &mut work, given);
     }
     board.ended.fetch_add(1, SeqCst);
