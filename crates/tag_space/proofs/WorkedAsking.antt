@@ -18,15 +18,19 @@ use Rattle.tag_space.specs.declared.calls.GroupReply.TheVariants as group
 use Rattle.tag_space.specs.declared.member.Member.{Member}
 use Rattle.tag_space.specs.declared.space.TagSpace.{TagSpace}
 use Rattle.tag_space.specs.Asking.{Asks, Requests, OnlyRequests, Finds, Begins, Collects, Leaves}
-use Rattle.tag_space.specs.Asking.{IsCalled, IsCollected, IsLeft, Meets, RendezvousesInWords}
+use Rattle.tag_space.specs.Asking.{IsCalled, IsCollected, IsLeft, meeting, Meets, MeetsInTime}
+use Rattle.tag_space.specs.Asking.{RendezvousesInWords}
 use Rattle.tag_space.specs.Forks.{rfork_of, WhyNotForked}
+use Rattle.tag_space.specs.Members.{IsOneOf, IsSameMember}
 use Rattle.tag_space.specs.Members.{account_of, number_of, rendez_of_member, seen_of}
 use Rattle.tag_space.specs.Outcome.{calls_by, word_of}
 use Rattle.tag_space.specs.Rendezvous.{Entry, Offered, Offer, stage_of}
 use Rattle.tag_space.specs.Rendezvous.Stage.{Over}
 use Rattle.tag_space.specs.Spaces.{WhyNoGroup, WhyNoSpace}
+use Rattle.timer_list.specs.declared.timers.Timers.{Timers}
+use Rattle.timer_list.specs.Timing.{TimedPoint, WaitedInTime}
 use Rattle.waiting.specs.declared.call.Reply.TheVariants as reply
-use Rattle.waiting.specs.Waiting.{Point}
+use Rattle.waiting.specs.Waiting.{Point, Waited}
 
 -- ---- each request is one entry more
 
@@ -67,6 +71,27 @@ module _ (space : TagSpace) (offered : Offered) (before after : Point Member)
 
   gone_without_leaving : ¬ Leaves space before.seat None after.seat
   gone_without_leaving gone = nothing_was_asked _ _ gone
+
+-- ---- who asks: a member of the space, which it is behind its request too
+
+module _ (space : TagSpace) (call : GroupCall) (told : GroupReply) (before after : Member) where
+  no_member_asks : ¬ IsOneOf space after → ¬ Requests space call told before after
+  no_member_asks none asked = none asked.one
+
+  another_member_asks : ¬ IsSameMember before after → ¬ Requests space call told before after
+  another_member_asks other asked = other asked.same
+
+-- ---- where a call waits: in its member's own Rendez
+
+module _ (space : TagSpace) (offered : Offered) (answer : Result ℕ Fault) where
+  waits_in_its_own_rendez : (before after : Point Member) → Meets space offered before answer after
+      → Waited (meeting space offered) before.seat.rendez before answer after
+  waits_in_its_own_rendez before after meets = meets
+
+  waits_there_in_time : (timers : Timers) (moment : ℕ) (before after : TimedPoint Member)
+      → MeetsInTime space timers moment offered before answer after
+      → WaitedInTime (meeting space offered) before.at.seat.rendez timers moment before answer after
+  waits_there_in_time timers moment before after meets = meets
 
 -- ---- for what a request is refused
 

@@ -11,10 +11,11 @@ use Rattle.sleep_wakeup.specs.Kernel.{Unused, HasRendez}
 use Rattle.sync_base.specs.declared.fault.Fault.TheVariants as fault
 use Rattle.tag_space.specs.declared.member.Member.{Member}
 use Rattle.tag_space.specs.declared.space.TagSpace.{TagSpace}
-use Rattle.tag_space.specs.Members.{OwnsRow, IsOneOf, IsSameMember, number_of, account_of}
-use Rattle.tag_space.specs.Members.{seen_of, space_of}
+use Rattle.tag_space.specs.Members.{OwnsRow, IsOneOf, IsMemberOf, IsWaitingMember, IsSameMember}
+use Rattle.tag_space.specs.Members.{number_of, account_of, seen_of, space_of}
 use Rattle.tag_space.specs.Outcome.{calls_by}
-use Rattle.tag_space.specs.Rendezvous.{Entry, rendezvous}
+use Rattle.tag_space.specs.Rendezvous.{Entry, rendezvous, stage_of}
+use Rattle.tag_space.specs.Rendezvous.Stage.{Over}
 use Rattle.tag_space.specs.Spaces.{IsKeptIn, JoinsMembers, WhyNoGroup, WhyNoSpace}
 use Rattle.tag_space.proofs.WorkedSpaces.{offer}
 
@@ -30,10 +31,29 @@ module _ (space : TagSpace) where
       × (member.rendez.0 ≡ space.first.0 + number_of member)
   each_member_has_its_own_rendez member one = (one.seat, one.history, one.rendez)
 
+  -- nobody rests, or waits, who is no member
+  no_member_rests : (member : Member) → ¬ IsOneOf space member → ¬ IsMemberOf space member
+  no_member_rests member none rests = none rests.one
+
+  no_member_waits : (member : Member) → ¬ IsOneOf space member → ¬ IsWaitingMember space member
+  no_member_waits member none waits = none waits.one
+
+  -- and no member does both
+  who_waits_does_not_rest : (member : Member) → stage_of (seen_of member) (number_of member) ≢ Over
+      → ¬ IsMemberOf space member
+  who_waits_does_not_rest member under_way rests = under_way rests.rests
+
+  who_rests_does_not_wait : (member : Member) → stage_of (seen_of member) (number_of member) ≡ Over
+      → ¬ IsWaitingMember space member
+  who_rests_does_not_wait member over waits = waits.under_way over
+
 module _ (before after second joined : Member) where
   -- a member of the same number sleeps in another Rendez
   a_member_with_another_rendez : after.rendez ≢ before.rendez → IsSameMember before after → ⊥
   a_member_with_another_rendez other same = other same.rendez
+
+  a_member_of_another_number : number_of after ≢ number_of before → ¬ IsSameMember before after
+  a_member_of_another_number other same = other same.number
 
   -- no member is joined with itself
   one_joins_itself : JoinsMembers before before joined → ⊥
