@@ -1,11 +1,16 @@
 -- Wakeups of a process, and steps that are none, each against one row.
-use Rattle.std.proofs.Common.{◌≤◌, ◌+◌, ℕ, [], ◌∷◌, length, inl, inr, refl, ap, arith}
+use Rattle.std.proofs.Common.{◌≢◌, ◌≤◌, ◌+◌, ℕ, List, [], ◌∷◌, length, inl, inr, refl, ap, arith}
+use mathlib.Core.Option.{some}
+use lib.ListN.{get_elem?}
+use Rattle.histories.specs.History.{IsPast}
 use Rattle.sync_base.specs.declared.ids.RendezId.{RendezId}
+use Rattle.rendez_words.specs.declared.view.View.{View}
+use Rattle.rendez_words.specs.declared.view.View.TheVariants as view
 use Rattle.rendez_words.specs.Process.{Process}
 use Rattle.rendez_words.specs.Steps.{raises, finds_nobody}
 use Rattle.sleep_wakeup.specs.Calls.{Ends}
 use Rattle.sleep_wakeup.specs.Actions.{WakesOne}
-use Rattle.waiting.specs.Wakeups.{Wakeup, WakesEach}
+use Rattle.waiting.specs.Wakeups.{Wakeup, WakesEach, HasGoneOn}
 
 -- how many steps the process has made
 abbrev steps_of : Process → ℕ
@@ -62,3 +67,12 @@ module _ (before : Process) where
       let earlier = wakes_long others.between (record { 0 = 4 }) 7 wakes.between others.last in
       let later = wakes_long wakes.between (record { 0 = 3 }) 7 (missed first 3 7) wakes.last in
       omega (arith, same, earlier, later)
+
+-- ---- who has gone on since
+
+module _ (views : List View) (process : Process) (gone : HasGoneOn views process) where
+  nobody_is_in_its_seat : ¬ (get_elem? views gone.seat ≢ some (view.Process gone.part))
+  nobody_is_in_its_seat other = other gone.there
+
+  its_steps_are_forgotten : ¬ ¬ IsPast process.trace gone.part.trace
+  its_steps_are_forgotten forgotten = forgotten gone.since
