@@ -16,7 +16,7 @@ use Rattle.timer_list.specs.declared.timers.Timers.{Timers}
 use Rattle.timer_list.specs.declared.timers.TimerSeat.{TimerSeat}
 use Rattle.timer_list.specs.Asking.{AsksTimers, cancel_reply, expire_reply, IsTimed}
 use Rattle.timer_list.specs.Seats.{IsSeatAtTimers}
-use Rattle.timer_list.specs.Ticking.{ExpiresOneMore, FindsNone, Tells, Ticks}
+use Rattle.timer_list.specs.Ticking.{Expires, ExpiresOneMore, FindsNone, Tells, Ticks}
 use Rattle.timer_list.specs.TimerHistory.{TimerEntry}
 use Rattle.timer_list.specs.Timers.{may_add, timer_of}
 use Rattle.timer_list.specs.Timers as timing
@@ -60,6 +60,27 @@ steps_of process = length process.trace
 module _ (watch : Timers) (kernel now : ℕ) (before after : Point TimerSeat) where
   counts_another : (ticks : Ticks watch kernel now 3 before after) → length ticks.ended ≡ 2 → ⊥
   counts_another ticks two = let three = ticks.count_is in omega (arith, two, three)
+
+  counts_too_few : (ticks : Ticks watch kernel now 3 before after) → length ticks.ended ≡ 4 → ⊥
+  counts_too_few ticks four = let three = ticks.count_is in omega (arith, four, three)
+
+  -- more timers expire than there are
+  expires_more_than_all : watch.procs ≡ 2 → ¬ Ticks watch kernel now 3 before after
+  expires_more_than_all two ticks = let most = ticks.at_most in omega (arith, most, two)
+
+  -- it told of timers that did not expire
+  tells_of_others : (ticks : Ticks watch kernel now 3 before after)
+      → ¬ ¬ Expires watch kernel now ticks.ended before ticks.last
+  tells_of_others ticks none = none ticks.expires
+
+  -- with no timer expired nothing happened, and with one more that one did
+  expires_none_and_goes_on : after ≢ before → ¬ Expires watch kernel now [] before after
+  expires_none_and_goes_on other none = other none
+
+  expires_one_more : (pid : Pid) (others : List Pid)
+      → ¬ ExpiresOneMore watch kernel now (Expires watch kernel now others before) pid after
+      → ¬ Expires watch kernel now (pid ∷ others) before after
+  expires_one_more pid others no_more more = no_more more
 
   -- it stops while a timer may be due
   stops_early : ¬ FindsNone watch now before after → watch.procs ≡ 3

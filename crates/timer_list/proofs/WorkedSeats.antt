@@ -13,7 +13,7 @@ use Rattle.timer_list.specs.declared.timers.Timers.{Timers}
 use Rattle.timer_list.specs.declared.timers.TimerSeat.{TimerSeat}
 use Rattle.timer_list.specs.Definitions.{timer_definition}
 use Rattle.timer_list.specs.Opening.{IsTimerLock}
-use Rattle.timer_list.specs.Seats.{IsSeatAtTimers}
+use Rattle.timer_list.specs.Seats.{IsSeatAtTimers, IsTimerSeatOf}
 use Rattle.timer_list.specs.TimerHistory.{has_timer}
 use Rattle.timer_list.specs.Tournament.{IsTournament, IsWon}
 
@@ -47,6 +47,11 @@ module _ (timers : Timers) (set : Bool) (seat : TimerSeat) where
   who_made_no_call_has_no_timer : (at : IsSeatAtTimers timers set seat) → at.mine ≡ []
       → false ≡ set
   who_made_no_call_has_no_timer at none = sym (ap has_timer none) ∙ at.set_is
+
+-- between two calls no timer is set
+a_seat_between_calls_has_no_timer : (timers : Timers) (seat : TimerSeat)
+    → ¬ IsSeatAtTimers timers false seat → ¬ IsTimerSeatOf timers seat
+a_seat_between_calls_has_no_timer timers seat set at = set at
 
 -- ---- sizes
 

@@ -201,6 +201,9 @@ module _ (before after : Point Unit) where
   sleeps_with_another_threshold : ¬ (sleeping 4).begun before (Wait 3) after
   sleeps_with_another_threshold begun = omega (arith, begun.0)
 
+  sleeps_with_a_threshold_above : ¬ (sleeping 4).begun before (Wait 5) after
+  sleeps_with_a_threshold_above begun = omega (arith, begun.0)
+
   is_over_before_it_sleeps : ¬ (sleeping 4).begun before (Done tt) after
   is_over_before_it_sleeps begun = begun
 
