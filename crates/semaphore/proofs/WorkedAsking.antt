@@ -1,5 +1,5 @@
 -- What is no request of a seat, no answer to one, and no call of a semaphore: each against one row.
-use Rattle.std.proofs.Common.{◌≡◌, ◌≢◌, ◌<◌, ◌+◌, ℕ, Bool, true, false, List, [], length}
+use Rattle.std.proofs.Common.{◌≡◌, ◌≢◌, ◌<◌, ◌+◌, ℕ, Bool, true, false, List, [], ◌∷◌, length}
 use Rattle.std.proofs.Common.{Some, None, Result, Ok, Err, inl, inr, refl, ap, arith, not}
 use Rattle.std.proofs.lemmas.List.{length-append}
 use Rattle.histories.specs.declared.account.Account.{Account}
@@ -21,9 +21,9 @@ use Rattle.semaphore.specs.declared.sema_object.SemaReply.TheVariants as told
 use Rattle.timer_list.specs.declared.timers.Timers.{Timers}
 use Rattle.semaphore.specs.Acquiring.{Begins, Collects, Leaves, Waits, AsksNow, Semacquires}
 use Rattle.semaphore.specs.Acquiring.{acquiring}
-use Rattle.semaphore.specs.Asking.{Asks, OnlyAsks, AsksRelease, FindsBoth, now_reply}
+use Rattle.semaphore.specs.Asking.{Asks, OnlyAsks, AsksRelease, Finds, FindsBoth, now_reply}
 use Rattle.semaphore.specs.Asking.{wake_next, wake_reply, IsTold}
-use Rattle.semaphore.specs.Releasing.{HasReleased, HasWoken, Releases, WakesOneMore}
+use Rattle.semaphore.specs.Releasing.{HasReleased, HasWoken, Releases, WakesNamed, WakesOneMore}
 use Rattle.semaphore.specs.Seats.{IsSeatAt, rendez_at, rendez_of_seat, units_given}
 use Rattle.semaphore.specs.SemaHistory.{SemaEntry}
 use Rattle.semaphore.specs.SemaLaws.{AlwaysHolds}
@@ -31,7 +31,7 @@ use Rattle.semaphore.specs.Units.{IsSound, is_idle, stage_of, answer_to}
 use Rattle.semaphore.specs.Timing.{AcquiresInTime}
 use Rattle.timer_list.specs.Timing.{TimedPoint, WaitedInTime}
 use Rattle.waiting.specs.declared.call.Reply.TheVariants as reply
-use Rattle.waiting.specs.Waiting.{Point}
+use Rattle.waiting.specs.Waiting.{Point, Waited}
 
 -- ---- each request is one entry more
 
@@ -113,6 +113,17 @@ module _ (sema : Sema) (before after : Point SemaSeat) where
   a_wait_that_answers_not_now : ¬ Waits sema before (Ok got.NotNow) after
   a_wait_that_answers_not_now waits = waits
 
+  -- it waits as a call of each device does, in its own Rendez
+  acquired_without_a_wait :
+      ¬ Waited (acquiring sema) (rendez_at sema before.seat) before (Ok tt) after
+      → ¬ Waits sema before (Ok got.Acquired) after
+  acquired_without_a_wait none waits = none waits
+
+  refused_without_a_wait : (why : Fault)
+      → ¬ Waited (acquiring sema) (rendez_at sema before.seat) before (Err why) after
+      → ¬ Waits sema before (Err why) after
+  refused_without_a_wait why none waits = none waits
+
   refused_though_it_does_not_wait : (why : Fault) → ¬ AsksNow sema before (Err why) after
   refused_though_it_does_not_wait why asks = asks
 
@@ -138,6 +149,16 @@ module _ (sema : Sema) (before after : Point SemaSeat) where
 
   released_for_no_reason : ¬ Releases sema 3 before (Err fault.Worn) after
   released_for_no_reason releases = releases
+
+  -- nobody was named, and more happened
+  wakes_nobody_and_goes_on : after ≢ before → ¬ WakesNamed sema [] before after
+  wakes_nobody_and_goes_on other woken = other woken
+
+  -- one more was named, and was not woken
+  wakes_fewer_than_named : (grant : Grant) (others : List Grant)
+      → ¬ WakesOneMore sema (WakesNamed sema others before) grant after
+      → ¬ WakesNamed sema (grant ∷ others) before after
+  wakes_fewer_than_named grant others no_more woken = no_more woken
 
   -- it does not ask until nobody is left to be woken
   asks_not_to_the_last : ((last : Point SemaSeat)
@@ -189,6 +210,23 @@ refused_and_followed sema before after none = none
 taken_and_not_followed : (sema : Sema) (before after : SemaSeat)
     → AsksRelease sema 1 (told.Value 5) None before after → ⊥
 taken_and_not_followed sema before after none = none
+
+released_without_both : (sema : Sema) (before after : SemaSeat)
+    → ¬ FindsBoth sema (Release 1) (told.Value 5) told.NoWake before after
+    → ¬ AsksRelease sema 1 (told.Value 5) (Some told.NoWake) before after
+released_without_both sema before after none both = none both
+
+refused_without_asking_for_it : (sema : Sema) (before after : SemaSeat)
+    → ¬ Finds sema (Release 1) told.BadArg before after
+    → ¬ AsksRelease sema 1 told.BadArg None before after
+refused_without_asking_for_it sema before after none asks = none asks
+
+-- what was told is the answer of some state
+told_what_no_state_answers : (sema : Sema) (call : SemaCall) (answer : SemaReply)
+    (before after : SemaSeat)
+    → ¬ IsTold sema.procs (number_of before.seat) false call answer
+    → ¬ Finds sema call answer before after
+told_what_no_state_answers sema call answer before after none finds = none finds.found
 
 -- two requests are two entries more
 both_add : (sema : Sema) (call : SemaCall) (first second : SemaReply) (before after : SemaSeat)
