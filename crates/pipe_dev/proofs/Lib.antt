@@ -27,3 +27,4 @@ pub mod WorkedOpenings
 pub mod WorkedEnds
 mod WorkedDirections
 mod WorkedTimes
+mod WorkedChains

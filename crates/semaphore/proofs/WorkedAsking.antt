@@ -166,6 +166,14 @@ module _ (sema : Sema) (before after : Point SemaSeat) where
       → ¬ HasWoken sema before after
   asks_not_to_the_last none woken = none woken.last woken.none
 
+  wakes_others_than_named : (woken : HasWoken sema before after)
+      → ¬ ¬ WakesNamed sema woken.grants before woken.last
+  wakes_others_than_named woken none = none woken.woken
+
+  released_without_a_release : ¬ HasReleased sema 3 5 before after
+      → ¬ Releases sema 3 before (Ok 5) after
+  released_without_a_release none releases = none releases
+
   releases_nothing : ((first : Point SemaSeat)
       → ¬ OnlyAsks sema false (Release 3) (told.Value 5) before first)
       → ¬ HasReleased sema 3 5 before after
