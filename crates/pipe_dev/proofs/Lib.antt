@@ -28,3 +28,4 @@ pub mod WorkedEnds
 mod WorkedDirections
 mod WorkedTimes
 mod WorkedChains
+mod WorkedSteps

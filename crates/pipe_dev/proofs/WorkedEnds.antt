@@ -1,10 +1,15 @@
 -- What an end has between two calls and what a request of a write comes to, in plain words.
-use Rattle.std.proofs.Common.{◌≡◌, ℕ, true, [], ◌∷◌, Some, None}
+use Rattle.std.proofs.Common.{◌≡◌, ◌≢◌, ℕ, true, [], ◌∷◌, Some, None}
+use Rattle.histories.specs.Account.{numbers_from}
 use Rattle.block_queue.specs.declared.queue.Queue.{Queue}
 use Rattle.block_queue.specs.declared.seats.PutSeat.{PutSeat}
+use Rattle.block_queue.specs.Meaning.{KnowsQueue}
+use Rattle.block_queue.specs.Seats.{IsPutSeatOf, IsTakeSeatOf, key_of, put_account, take_account}
 use Rattle.block_queue.specs.Steps.{saw_hangup}
+use Rattle.pipe_dev.specs.declared.cursor.ReadCursor.{ReadCursor}
 use Rattle.pipe_dev.specs.declared.row.Row.{Row}
-use Rattle.pipe_dev.specs.Ends.{WriteSide, HasReadCursor, HasWriteSeat}
+use Rattle.pipe_dev.specs.Ends.{ReadSide, WriteSide, HasReadCursor, HasWriteSeat, IsReadCursor}
+use Rattle.pipe_dev.specs.Ends.{IsRowOf, IsSameReadEnd, IsSameWriteEnd, IsWriteSeat}
 use Rattle.pipe_dev.specs.Seating.{AreSeated}
 use Rattle.pipe_dev.specs.WriteCalls.{WriteCall, Writer, HasHang, IsTooLate, IsWornOut}
 use Rattle.pipe_dev.specs.WriteCalls.{FindsFull}
@@ -28,6 +33,62 @@ module _ (queue : Queue) (row : Row) where
 
   end_has_no_seat : (write : WriteSide) → AreSeated queue row [] (write ∷ []) → ⊥
   end_has_no_seat write one = cc
+
+  -- ---- a Rendez, a cursor and a seat of another queue
+
+  a_row_of_other_writers : row.writers ≢ (key_of queue).writers → ¬ IsRowOf queue row
+  a_row_of_other_writers other is = other is.writers
+
+  a_row_of_later_numbers : (key_of queue).first ≢ 0 → ¬ IsRowOf queue row
+  a_row_of_later_numbers later is = later is.first
+
+  module _ (cursor : ReadCursor) where
+    a_cursor_away : ¬ IsReadCursor queue row cursor → ¬ HasReadCursor queue row (Some cursor)
+    a_cursor_away none has = none has
+
+    a_cursor_of_another_queue : ¬ IsTakeSeatOf queue cursor.seat → ¬ IsReadCursor queue row cursor
+    a_cursor_of_another_queue other is = other is.seat
+
+    a_cursor_that_knows_no_queue : ¬ KnowsQueue (key_of queue) (take_account cursor.seat)
+        → ¬ IsReadCursor queue row cursor
+    a_cursor_that_knows_no_queue none is = none is.knows
+
+    a_cursor_that_gave_others : (take_account cursor.seat).gave ≢ numbers_from 1 row.writers
+        → ¬ IsReadCursor queue row cursor
+    a_cursor_that_gave_others other is = other is.gave
+
+  module _ (writer : ℕ) (seat : PutSeat) where
+    a_seat_in_another_row : ¬ IsRowOf queue row → ¬ IsWriteSeat queue row writer seat
+    a_seat_in_another_row other is = other is.row_is
+
+    a_seat_of_another_queue : ¬ IsPutSeatOf queue seat → ¬ IsWriteSeat queue row writer seat
+    a_seat_of_another_queue other is = other is.seat_is
+
+    a_seat_that_knows_no_queue : ¬ KnowsQueue (key_of queue) (put_account seat)
+        → ¬ IsWriteSeat queue row writer seat
+    a_seat_that_knows_no_queue none is = none is.knows
+
+    a_seat_that_gave_another : (put_account seat).gave ≢ [] → ¬ IsWriteSeat queue row writer seat
+    a_seat_that_gave_another other is = other is.gave
+
+-- ---- a call moves no end to another direction
+
+module _ (old new : ReadSide) where
+  a_read_end_of_another_queue : new.queue ≢ old.queue → ¬ IsSameReadEnd old new
+  a_read_end_of_another_queue other same = other same.queue
+
+  a_read_end_of_another_row : new.row ≢ old.row → ¬ IsSameReadEnd old new
+  a_read_end_of_another_row other same = other same.row
+
+module _ (old new : WriteSide) where
+  a_write_end_of_another_queue : new.queue ≢ old.queue → ¬ IsSameWriteEnd old new
+  a_write_end_of_another_queue other same = other same.queue
+
+  a_write_end_of_another_row : new.row ≢ old.row → ¬ IsSameWriteEnd old new
+  a_write_end_of_another_row other same = other same.row
+
+  a_write_end_of_another_writer : new.writer ≢ old.writer → ¬ IsSameWriteEnd old new
+  a_write_end_of_another_writer other same = other same.writer
 
 module _ (call : WriteCall) (old new : Writer) where
   -- who is told of a hangup has seen it

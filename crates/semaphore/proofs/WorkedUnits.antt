@@ -1,6 +1,6 @@
 -- Runs of semaphores, computed from the definitions alone, and histories that are none.
 use Rattle.std.proofs.Common.{◌≡◌, ◌⊎◌, ◌<◌, ◌≤◌, ◌+◌, ℕ, true, false, List, [], ◌∷◌, length}
-use Rattle.std.proofs.Common.{inl, inr, refl, arith}
+use Rattle.std.proofs.Common.{Some, inl, inr, refl, arith}
 use Rattle.histories.specs.History.{state_after, IsLegal}
 use Rattle.semaphore.specs.declared.limits.TheConstants.{MAX_VALUE, LAST_GRANT}
 use Rattle.semaphore.specs.declared.sema_object.Stage.TheVariants.{Idle, Waiting, Granted}
@@ -11,7 +11,7 @@ use Rattle.semaphore.specs.declared.sema_object.SemaReply.{SemaReply}
 use Rattle.semaphore.specs.declared.sema_object.SemaReply.TheVariants as reply
 use Rattle.semaphore.specs.Units.{SemaState, IsSound, opening, answer_to, after, passed, grants_of}
 use Rattle.semaphore.specs.Units.{stage_of}
-use Rattle.semaphore.specs.WaitQueue.{stands_in, AreSeats}
+use Rattle.semaphore.specs.WaitQueue.{Queue, stands_in, with_seat, without, first_of, AreSeats}
 use Rattle.semaphore.specs.SemaHistory.{SemaEntry, sema_meaning, released, taken, collected}
 use Rattle.semaphore.specs.SemaHistory.{uncollected, last_named}
 use Rattle.semaphore.specs.SemaLaws.{UnitsAddUp, NobodyWaitsForNothing, EachGrantIsNamed}
@@ -147,3 +147,30 @@ module _ (past : List SemaEntry) (legal : IsLegal sema_meaning (opening 1 3 0) p
       → stands_in left.unnamed 1 ≡ false → grants_of left 1 ≡ last_named 0 1 past
   seat_1_is_named_with_its_latest_count law =
       law 1 3 0 past (omega arith) (omega arith) legal 1
+
+-- ---- a line of waiters
+
+-- of four seats the third came first, and then the second
+line : Queue
+line = record { seats = 4; order = 2 ∷ 1 ∷ [] }
+
+who_comes_stands_last : with_seat 3 line.order ≡ 2 ∷ 1 ∷ 3 ∷ []
+unfolding line
+who_comes_stands_last = refl
+
+who_comes_again_keeps_its_place : with_seat 2 line.order ≡ line.order
+unfolding line
+who_comes_again_keeps_its_place = refl
+
+who_leaves_is_in_line_no_more : without 2 line.order ≡ 1 ∷ []
+unfolding line
+who_leaves_is_in_line_no_more = refl
+
+who_came_first_is_first : first_of line.order ≡ Some 2
+unfolding line
+who_came_first_is_first = refl
+
+-- and all of them are seats
+the_line_is_of_seats : AreSeats line.seats line.order
+unfolding line
+the_line_is_of_seats = (omega arith, refl, (omega arith, refl, tt))

@@ -1,10 +1,15 @@
 -- What comes of calls in the worked histories, computed.
-use Rattle.std.proofs.Common.{◌≡◌, [], ◌∷◌, Ok, Err, refl, inl, inr, ap, sym, ◌∙◌, arith}
+use Rattle.std.proofs.Common.{◌≡◌, ◌≢◌, ℕ, List, [], ◌∷◌, ◌++◌, Ok, Err, refl, inl, inr, ap, sym}
+use Rattle.std.proofs.Common.{◌∙◌, arith}
+use Rattle.histories.specs.History.{IsLegal}
 use Rattle.sync_base.specs.NoteSet.{no_notes}
+use Rattle.sync_base.specs.declared.fault.Fault.{Fault}
 use Rattle.sync_base.specs.declared.fault.Fault.TheVariants as fault
 use Rattle.tag_space.specs.declared.calls.GroupReply.TheVariants.{Wait}
-use Rattle.tag_space.specs.Outcome.{calls_by, IsInPair, IsOneOfCalls, HasPartner, Exchange, word_of}
-use Rattle.tag_space.specs.Rendezvous.{Party, Offered, Offer, Pair}
+use Rattle.tag_space.specs.Outcome.{calls_by, ComesOf, Exchange, HasPartner, IsInPair, IsOneOfCalls}
+use Rattle.tag_space.specs.Outcome.{IsOutForGood, word_of}
+use Rattle.tag_space.specs.Promises.{IsAlone}
+use Rattle.tag_space.specs.Rendezvous.{Entry, Space, Party, Offered, Offer, Pair, rendezvous}
 use Rattle.tag_space.proofs.WorkedSpaces.{told, gives, offer, two, one_waits, one_is_found}
 use Rattle.tag_space.proofs.WorkedSpaces.{one_is_told, the_pair}
 
@@ -114,3 +119,17 @@ an_interruption_is_all_ones = refl
 
 another_fault_stays : word_of (Err fault.Worn) ≡ Err fault.Worn
 another_fault_stays = refl
+
+module _ (space : Space) (history : List Entry) (made : Offer) where
+  nobody_is_its_own_partner : (given : ℕ) (has : HasPartner history made given)
+      → has.partner.member ≢ made.member
+  nobody_is_its_own_partner given has = has.another
+
+  -- who is in a pair at last is not out for good
+  out_for_good_and_met : (since : List Entry) → IsLegal (rendezvous space) [] (since ++ history)
+      → ¬ IsAlone (since ++ history) made.number → ¬ IsOutForGood space history made
+  out_for_good_and_met since legal met out = met (out since legal)
+
+  refused_and_not_out_for_good : (why : Fault) → ¬ IsOutForGood space history made
+      → ¬ ComesOf space history made (Err why)
+  refused_and_not_out_for_good why in_line comes = in_line comes
