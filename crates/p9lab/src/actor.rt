@@ -1,6 +1,5 @@
 //! A process in its role, and the calls that a line may make of it.
-use crate::answer::Answer;
-use crate::desk::{Desk, Stops, Visit, Visitor};
+use crate::desk::{Desk, Stops, Visitor};
 use crate::roles::guest::{call_guest, call_guest_probed};
 use crate::roles::holder::{call_holder, call_holder_probed};
 use crate::roles::lone::{Lone, call_lone};
@@ -10,8 +9,10 @@ use crate::roles::queue::{Keeper, Putter, Taker, call_keeper, call_putter, call_
 use crate::roles::reader::call_reader;
 use crate::roles::sharer::call_sharer;
 use crate::roles::writer::call_writer;
-use crate::verbs::Call;
 use plan9::{Guest, Holder, NoProbe, Proc, Reader, Sharer, Watch, Writer};
+use scene_text::answer::Answer;
+use scene_text::page::Visit;
+use scene_text::verbs::Call;
 use std::alloc::Global;
 use std::sync::Wait;
 

@@ -1,11 +1,11 @@
 //! Calls at whose points other lines are played.
-use crate::answer::Answer;
 use crate::calling::{Until, can_come, ending, has_come, waiting};
 use crate::desk::Stops;
-use crate::lines::{Words, behind_two, line_of, number_of, words_of};
 use crate::scene::Scene;
 use crate::steps::{Command, begin, command_of, step};
-use crate::verbs::Call;
+use scene_text::answer::Answer;
+use scene_text::lines::{Words, behind_two, line_of, number_of, words_of};
+use scene_text::verbs::Call;
 use std::alloc::Global;
 use std::sync::Wait;
 use std::thread::{Threads, yield_now};

@@ -1,15 +1,15 @@
 //! A call on a thread of its own: how it starts, how it is awaited, and how it ends.
 use crate::actor::{Actor, Back, run};
-use crate::answer::{Answer, refused};
 use crate::desk::{Desk, Stops};
 use crate::looks::is_posted;
 use crate::scene::{Place, Scene, Stay, set};
-use crate::verbs::Call;
 use plan9::{Fault, Note, NoteSet, Pid, Proc};
+use scene_text::answer::{Answer, refused};
+use scene_text::verbs::Call;
+use std::{mem, thread};
 use std::alloc::Global;
 use std::sync::Wait;
 use std::thread::{JoinHandle, Threads, yield_now};
-use std::{mem, thread};
 
 /// What is awaited of a process.
 #[derive(Clone, Copy, PartialEq, Eq)]

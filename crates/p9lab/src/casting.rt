@@ -1,8 +1,6 @@
 //! How a process is made and gets its role.
 use crate::actor::{Actor, Beside, Role};
-use crate::answer::{Answer, numbered, refused};
 use crate::desk::Desk;
-use crate::lines::{WORDS, Words, number_of};
 use crate::objects::{Direction, Stock};
 use crate::roles::lone::lone_at;
 use crate::roles::peer::{Peer, first_of, fork_peer};
@@ -13,6 +11,8 @@ use plan9::{
     Fault, Flags, Guest, Holder, Kernel, NoteSet, OpenedSpace, Pid, Proc, ReadEnd, Reader, Roster,
     Sharer, TagSpace, Unforked, WriteEnd, Writer, fork_writers,
 };
+use scene_text::answer::{Answer, numbered, refused};
+use scene_text::lines::{WORDS, Words, number_of};
 use std::alloc::Global;
 use std::mem;
 use std::sync::Wait;

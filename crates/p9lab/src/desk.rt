@@ -1,7 +1,8 @@
 //! Where the call of a process stands, as its thread and the player of the scene see it.
 use plan9::{Kernel, Probe, ProcStatus};
-use std::sync::atomic::Ordering::SeqCst;
+use scene_text::page::Visit;
 use std::sync::atomic::{AtomicBool, AtomicU64};
+use std::sync::atomic::Ordering::SeqCst;
 use std::thread::yield_now;
 
 /// The points of a call are below this.
@@ -108,13 +109,6 @@ impl Stops {
         self.at[point as usize] = false;
         stops
     }
-}
-
-/// A point that a call has visited, and whether its process stood posted in a Rendez then.
-#[derive(Clone, Copy)]
-pub struct Visit {
-    pub point: u64,
-    pub posted: bool,
 }
 
 /// The probe of a call on a thread: it writes each visit down, and stands where it is to.

@@ -1,7 +1,7 @@
 //! What a look at a kernel shows: look(2).
-use crate::answer::{Answer, refused};
 use crate::scene::Scene;
 use plan9::{Fault, Kernel, ProcStatus, RendezStatus};
+use scene_text::answer::{Answer, refused};
 use std::alloc::Global;
 
 /// Whether the process with this pid is posted, and nobody has marked it.

@@ -1,7 +1,6 @@
 //! The objects of a scene, each kind numbered from 1 in the order of its lines.
 ghost use Rattle.plan9.specs.Openings.{IsStartOf};
 
-use crate::answer::{Answer, refused};
 use crate::roles::lone::Spot;
 use crate::roles::queue::Seats;
 use crate::roles::sharer::Sharing;
@@ -9,6 +8,7 @@ use crate::scene::{Scene, keep, push};
 use plan9::{
     Clock, Ends, Fault, Hall, OpenedPipe, Parts, Pipe, Pool, ReadEnd, Roster, Watch, WriteEnd,
 };
+use scene_text::answer::{Answer, refused};
 use std::alloc::Global;
 
 /// The ends of one direction that nobody has yet.

@@ -3,13 +3,13 @@ ghost use Rattle.std.specs.Prelude.{IfOk, IfSome};
 ghost use Rattle.sleep_wakeup.specs.Starts.{IsStartOf};
 
 use crate::acts::{Acts, Said, step_with_acts};
-use crate::answer::{Answer, fault_text, refused};
 use crate::calling::call_off;
-use crate::lines::{Line, WORDS, Words, line_of, number_of, words_of};
-use crate::page::Page;
 use crate::scene::{Scene, Stay, begin, open, set};
 use crate::steps::leave;
 use plan9::{Fault, Kernel, OpenedKernel, Plan};
+use scene_text::answer::{Answer, fault_text, refused};
+use scene_text::lines::{Line, WORDS, Words, line_of, number_of, words_of};
+use scene_text::page::Page;
 use std::alloc::Global;
 use std::io::Write;
 use std::sync::Wait;

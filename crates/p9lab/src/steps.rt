@@ -1,13 +1,11 @@
 //! What a line does, where no act is to be played within it.
 use crate::actor::Actor;
-use crate::answer::{Answer, numbered, refused};
 use crate::calling::{Until, call_off, comes, ending, start, waiting};
 use crate::casting::{
     Casting, Part, can_fork, casting_of, fork, fork_beside, note_group, object_of, rfork_peer,
     seat_stranger,
 };
 use crate::desk::Stops;
-use crate::lines::{WORDS, Words, number_of};
 use crate::looks::{level_of, look_answer};
 use crate::objects::{
     Stock, made, make_clock, make_group, make_pipe, make_sema, make_space, make_stream,
@@ -18,8 +16,10 @@ use crate::roles::queue::{QueueKind, make_queue};
 use crate::roles::sharer::make_shared;
 use crate::roles::writer::fill;
 use crate::scene::{Scene, Stay, set};
-use crate::verbs::{Call, Verb, call_of, flags_of, kinds_of};
 use plan9::{Fault, Flags, Mode, RendezId};
+use scene_text::answer::{Answer, numbered, refused};
+use scene_text::lines::{WORDS, Words, number_of};
+use scene_text::verbs::{Call, Verb, call_of, flags_of, kinds_of};
 use std::alloc::Global;
 use std::sync::Wait;
 use std::thread::Threads;

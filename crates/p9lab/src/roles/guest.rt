@@ -1,8 +1,8 @@
 //! A process that is a member of a tag space.
-use crate::answer::{Answer, done, numbered};
 use crate::desk::Visitor;
-use crate::verbs::{Call, Deadline, Verb};
 use plan9::{Guest, NoProbe, Pid, Probe, Tag, Watch};
+use scene_text::answer::{Answer, done, numbered};
+use scene_text::verbs::{Call, Deadline, Verb};
 use std::sync::Wait;
 
 pub fn call_guest<R: Wait>(

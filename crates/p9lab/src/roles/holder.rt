@@ -1,8 +1,8 @@
 //! A process with a seat at a semaphore.
-use crate::answer::{Answer, done, refused, taken};
 use crate::desk::Visitor;
-use crate::verbs::{Call, Deadline, Verb};
 use plan9::{Fault, Holder, Pid, Watch};
+use scene_text::answer::{Answer, done, refused, taken};
+use scene_text::verbs::{Call, Deadline, Verb};
 use std::sync::Wait;
 
 pub fn call_holder<R: Wait>(

@@ -6,17 +6,17 @@ ghost use Rattle.std.specs.Vec.{vec_capacity};
 ghost use Rattle.pipe_dev.specs.Ends.{AreAllEnds, IsSameReadEnd, IsSameWriteEnd};
 ghost use Rattle.pipe_dev.specs.Openings.{IsStartOf};
 
-use crate::answer::{Answer, More, have_read, have_tried, have_written, numbered, refused};
 use crate::roles::plain::call_plain;
 use crate::roles::reader::make_room;
 use crate::scene::{keep, push};
-use crate::told::{tell, tell_bytes, tell_number};
-use crate::verbs::{Call, Verb};
 use counted_slot::{Counted, FREE, Fits, TAKEN};
 use plan9::{
     Ends, Fault, Held, Long, Mode, OpenedPipe, Parts, Pipe, PipeStart, Proc, ReadEnd, Roster,
     Unfinished, WriteEnd, finish,
 };
+use scene_text::answer::{Answer, More, have_read, have_tried, have_written, numbered, refused};
+use scene_text::told::{tell, tell_bytes, tell_number};
+use scene_text::verbs::{Call, Verb};
 use std::alloc::Global;
 use std::snapshot::Snapshot;
 use std::sync::Wait;

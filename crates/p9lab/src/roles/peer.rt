@@ -5,13 +5,13 @@ ghost use Rattle.plan9.specs.Halls.{IsRowOfSpace};
 ghost use Rattle.tag_space.specs.Members.{IsMemberOf};
 ghost use Rattle.tag_space.specs.Spaces.{IsFirstMember};
 
-use crate::answer::{Answer, done, numbered};
 use crate::scene::{keep, set};
-use crate::verbs::{Call, Verb};
 use plan9::{
     Fault, Flags, Forked, Member, NotForked, Pid, Probe, Proc, RendezId, Roster, Tag, TagSpace,
     rfork,
 };
+use scene_text::answer::{Answer, done, numbered};
+use scene_text::verbs::{Call, Verb};
 use std::alloc::Global;
 use std::marker::Model;
 use std::sync::Wait;

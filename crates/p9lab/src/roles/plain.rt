@@ -1,8 +1,8 @@
 //! A process alone: sleep(2) and postnote(2).
-use crate::answer::{Answer, done, have_woken};
 use crate::desk::Visitor;
-use crate::verbs::{Call, Deadline, Verb};
 use plan9::{Pid, Proc, RendezId, Watch};
+use scene_text::answer::{Answer, done, have_woken};
+use scene_text::verbs::{Call, Deadline, Verb};
 use std::sync::Wait;
 
 pub fn call_plain<R: Wait>(

@@ -5,14 +5,14 @@ ghost use Rattle.std.specs.Vec.{vec_capacity};
 ghost use Rattle.block_queue.specs.Gather.{AreAllSeats};
 ghost use Rattle.block_queue.specs.Seats.{IsPutSeatOf, IsTakeSeatOf};
 
-use crate::answer::{Answer, More, refused};
 use crate::scene::{keep, push, set};
-use crate::told::{tell, tell_bytes, tell_number};
-use crate::verbs::{Call, Verb};
 use block_queue::{
     Gathered, Opened, PutAnswer, PutSeat, Queue, Spare, TakeAnswer, TakeSeat, Ungathered,
 };
 use plan9::{Fault, NoProbe, Piece, Probe};
+use scene_text::answer::{Answer, More, refused};
+use scene_text::told::{tell, tell_bytes, tell_number};
+use scene_text::verbs::{Call, Verb};
 use std::alloc::Global;
 use std::sync::Wait;
 

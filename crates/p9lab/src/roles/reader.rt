@@ -1,8 +1,8 @@
 //! A process that reads a direction of a pipe or a stream.
-use crate::answer::{Answer, have_filled, have_piece, have_read, have_tried, refused};
 use crate::roles::plain::call_plain;
-use crate::verbs::{Call, Deadline, Verb};
-use plan9::{Fault, Reader, Watch};
+use plan9::{Fault, Reader, ShortRead, Watch};
+use scene_text::answer::{Answer, have_piece, have_read, have_tried, refused};
+use scene_text::verbs::{Call, Deadline, Verb};
 use std::sync::Wait;
 
 /// The most bytes of a read.
@@ -46,6 +46,23 @@ fn read_within<R: Wait>(
     match watch {
         Some(watch) => have_read(reader.read_within(rt, watch, now, ms, bytes.as_mut_slice())),
         None => Answer::of("no clock"),
+    }
+}
+
+// A buffer that is full, or how far it came.
+fn have_filled(answer: Result<(), ShortRead>, count: usize) -> Answer {
+    match answer {
+        Ok(()) => Answer::got(count),
+        Err(ShortRead { count, fault: None }) => Answer::short(count),
+        Err(
+            ShortRead {
+                count,
+                fault: Some(fault),
+            },
+        ) => Answer {
+            behind: Some(count as u64),
+            ..refused(fault)
+        },
     }
 }
 

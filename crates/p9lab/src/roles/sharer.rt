@@ -1,9 +1,9 @@
 //! A process that shares a read end with others.
-use crate::answer::{Answer, have_read, refused};
 use crate::roles::reader::make_room;
 use crate::scene::{keep, push, set};
-use crate::verbs::{Call, Verb};
 use plan9::{Fault, Proc, ReadEnd, Roster, Shared, Sharer, Unshared};
+use scene_text::answer::{Answer, have_read, refused};
+use scene_text::verbs::{Call, Verb};
 use std::alloc::Global;
 use std::sync::Wait;
 

@@ -1,9 +1,9 @@
 //! A process that writes at a direction of a pipe or a stream.
-use crate::answer::{Answer, have_written, numbered};
-use crate::lines::number_of;
 use crate::roles::plain::call_plain;
-use crate::verbs::{Call, Deadline, Verb};
 use plan9::{Watch, Writer};
+use scene_text::answer::{Answer, have_written, numbered};
+use scene_text::lines::number_of;
+use scene_text::verbs::{Call, Deadline, Verb};
 use std::alloc::Global;
 use std::sync::Wait;
 

@@ -4,7 +4,7 @@ use Rattle.std.proofs.Crossing.{crosses}
 use Rattle.p9lab.proofs.Sending.{actor_field, actor_send, back_send}
 use Rattle.p9lab.proofs.desk.Desk.TheSendSync as desk
 use Rattle.p9lab.proofs.desk.Stops.TheSendSync as stops
-use Rattle.p9lab.proofs.verbs.Call.TheSendSync as call
+use Rattle.scene_text.proofs.verbs.Call.TheSendSync as call
 use Rattle.p9lab.proofs.calling.start_call.Goals as goal
 
 -- what the closure takes along

@@ -1,7 +1,7 @@
 //! What a line is answered.
-use plan9::{
-    Done, Fault, Long, NoteSet, ProcStatus, ReadAnswer, RendezStatus, ShortRead, TryAnswer,
-};
+use pipe_dev::{Long, ReadAnswer, TryAnswer};
+use sleep_wakeup::{Done, ProcStatus, RendezStatus};
+use sync_base::{Fault, NoteSet};
 
 /// What stands behind the word of an answer.
 #[derive(Clone, Copy)]
@@ -57,6 +57,11 @@ impl Answer {
 
     pub fn got(count: usize) -> Answer {
         Answer::with("got", More::Bytes(count))
+    }
+
+    /// A buffer that an end or a hangup left short.
+    pub fn short(count: usize) -> Answer {
+        Answer::with("short", More::Bytes(count))
     }
 
     /// After ps(1): `Wakeme` is posted, and its Rendez stands behind it; any other is `Ready`.
@@ -155,23 +160,6 @@ pub fn have_piece(answer: Result<Option<usize>, Fault>) -> Answer {
         Ok(Some(count)) => Answer::got(count),
         Ok(None) => Answer::of("end"),
         Err(fault) => refused(fault),
-    }
-}
-
-/// A buffer that is full, or how far it came.
-pub fn have_filled(answer: Result<(), ShortRead>, count: usize) -> Answer {
-    match answer {
-        Ok(()) => Answer::got(count),
-        Err(ShortRead { count, fault: None }) => Answer::with("short", More::Bytes(count)),
-        Err(
-            ShortRead {
-                count,
-                fault: Some(fault),
-            },
-        ) => Answer {
-            behind: Some(count as u64),
-            ..refused(fault)
-        },
     }
 }
 

@@ -1,7 +1,7 @@
 //! What a process may be told, and with which operands. A new call is a variant, a row of
 //! `entry_of` and an arm of the roles that make it.
 use crate::lines::{Words, number_of};
-use plan9::{Flags, Note, NoteSet};
+use sync_base::{Flags, Note, NoteSet};
 
 /// A word behind a process.
 #[derive(Clone, Copy, PartialEq, Eq)]

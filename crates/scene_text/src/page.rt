@@ -1,16 +1,23 @@
 //! What is printed, and what of it was wanted otherwise.
 use crate::answer::{Answer, More};
-use crate::desk::Visit;
-use plan9::{Note, NoteSet, ProcStatus, RendezStatus};
+use sleep_wakeup::{ProcStatus, RendezStatus};
 use std::alloc::Global;
 use std::io;
 use std::io::Write;
+use sync_base::{Note, NoteSet};
 
 /// From how many bytes on a run of one byte is shown as `N*x`.
 const LONG: usize = 33;
 
 /// What stands before an answer.
 const MARK: &str = " = ";
+
+/// A point that a call has visited, and whether its process stood posted in a Rendez then.
+#[derive(Clone, Copy)]
+pub struct Visit {
+    pub point: u64,
+    pub posted: bool,
+}
 
 /// The lines so far of a scene, and how all lines went. What finds no memory is left out, and the
 /// page says so.
