@@ -2,16 +2,14 @@
 //! proved once more for its tests.
 //! Read `plain`, a pipe for one thread; `worlds`, the machine of sleep and wakeup; `words`, the
 //! same on shared words; `locks` and `rooms`, objects under a lock; `spaces`, where calls meet by
-//! tags; `units` and `timers`, of semaphores; `machines`, every schedule of a table; `devices`,
-//! scripts on streams that fail; and `sizes`, what no program makes at each size.
+//! tags; `units` and `timers`, of semaphores; `devices`, scripts on streams that fail; and `sizes`,
+//! what no program makes at each size.
 #![tactic(auto)]
 
 #[cfg(test)]
 mod devices;
 #[cfg(test)]
 mod locks;
-#[cfg(test)]
-mod machines;
 #[cfg(test)]
 mod plain;
 #[cfg(test)]
