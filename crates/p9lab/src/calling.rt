@@ -6,10 +6,10 @@ use crate::scene::{Place, Scene, Stay, set};
 use plan9::{Fault, Note, NoteSet, Pid, Proc};
 use scene_text::answer::{Answer, refused};
 use scene_text::verbs::Call;
-use std::{mem, thread};
 use std::alloc::Global;
 use std::sync::Wait;
 use std::thread::{JoinHandle, Threads, yield_now};
+use std::{mem, thread};
 
 /// What is awaited of a process.
 #[derive(Clone, Copy, PartialEq, Eq)]

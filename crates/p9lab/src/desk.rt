@@ -1,8 +1,8 @@
 //! Where the call of a process stands, as its thread and the player of the scene see it.
 use plan9::{Kernel, Probe, ProcStatus};
 use scene_text::page::Visit;
-use std::sync::atomic::{AtomicBool, AtomicU64};
 use std::sync::atomic::Ordering::SeqCst;
+use std::sync::atomic::{AtomicBool, AtomicU64};
 use std::thread::yield_now;
 
 /// The points of a call are below this.

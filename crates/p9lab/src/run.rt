@@ -2,11 +2,11 @@
 use crate::play::play_text;
 use scene_text::lines::number_of;
 use scene_text::page::Page;
-use std::{fs, io};
 use std::fs::Files;
 use std::io::{ErrorKind, Read, Write};
 use std::sync::Wait;
 use std::thread::Threads;
+use std::{fs, io};
 
 /// The status of a run in which each answer agrees.
 pub const GOOD: u8 = 0;
