@@ -117,7 +117,7 @@ pub no_stranger_is_posted : ¬ (ShowsCore (with_procs 1) stranger_is_posted)
 no_stranger_is_posted shows =
     let sizes = runs_are_sound 1 1 shows.run shows.legal in
     let found = said (with_procs 1) stranger_is_posted shows (PostedOf 0) (omega arith) in
-    omega (arith, found, sizes.sound.posted 0, sizes.procs_stay)
+    omega (arith, found, sizes.sound.whole.posted 0, sizes.procs_stay)
 
 -- and no seat is one of a process that the world has not
 pub no_stranger_has_a_seat : ¬ (ShowsCore (with_procs 1) stranger_has_a_seat)

@@ -80,7 +80,7 @@ phase_there words process is =
     (subst (λ n. IsPhaseIn n (Rattle.std.specs.Prelude.length
     (world_of (procs_of words) (rendez_of words) run.run).posted)
     (phase_of (world_of (procs_of words) (rendez_of words) run.run) process.pid)) sound.procs_stay
-    (sound.sound.phases process.pid)))
+    (sound.sound.whole.phases process.pid)))
 
 -- a process of these words names in its phase only processes and Rendez that they have
 pub in_phase : (words : Words) (process : Process) (stage : Phase) → IsProcessOf words process

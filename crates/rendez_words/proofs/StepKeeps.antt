@@ -36,8 +36,8 @@ sizes_of_run sizes run legal =
     let sound = runs_are_sound sizes.procs sizes.rendez run legal in
     record {
       posted = sound.rendez_stay;
-      levels = sound.sound.levels ∙ sound.rendez_stay;
-      flags = sound.sound.flags ∙ sound.procs_stay;
+      levels = sound.sound.whole.levels ∙ sound.rendez_stay;
+      flags = sound.sound.whole.flags ∙ sound.procs_stay;
       phases = sound.procs_stay;
     }
 

@@ -38,11 +38,14 @@ core_at_opening : (procs rendez : ℕ) → Core (opening procs rendez) []
 core_at_opening procs rendez =
     record {
       sound = record {
-        flags = length-replicate procs no_flags ∙ sym (length-replicate procs phase.Idle);
-        levels = refl;
+        whole = record {
+          flags = length-replicate procs no_flags ∙ sym (length-replicate procs phase.Idle);
+          levels = refl;
+          phases = λ pid.
+              subst (IsPhaseIn (length s.phases) (length s.posted)) (sym (idle pid)) tt;
+          posted = λ r. omega (arith, free r);
+        };
         returned = refl;
-        phases = λ pid. subst (IsPhaseIn (length s.phases) (length s.posted)) (sym (idle pid)) tt;
-        posted = λ r. omega (arith, free r);
       };
       fits = λ pid. subst (Fits s [] pid) (sym (idle pid)) refl;
       posted = λ r pid posted. absurd (omega (arith, free r, posted));

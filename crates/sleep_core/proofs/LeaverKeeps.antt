@@ -57,7 +57,8 @@ withdraw_out_keeps s h pid rendez in_range at mine core =
     later = Withdrew pid ∷ h
 
     has_rendez : rendez.0 < length s.posted
-    has_rendez = subst (IsPhaseIn (length s.phases) (length s.posted)) at (core.sound.phases pid)
+    has_rendez =
+        subst (IsPhaseIn (length s.phases) (length s.posted)) at (core.sound.whole.phases pid)
 
     here : token h pid ≡ InRendez rendez.0
     here = core.posted rendez.0 pid mine
@@ -145,7 +146,7 @@ clear_keeps s h pid stage in_range at over core =
     later = Left pid (ending_notes notes) ∷ h
 
     has_flags : pid < length s.flags
-    has_flags = omega (arith, core.sound.flags)
+    has_flags = omega (arith, core.sound.whole.flags)
 
     no_token : (at' : Phase) → IsOver at' → Fits s h pid at'
         → (token h pid ≡ Nowhere) ⊎ (token h pid ≡ InFlags)

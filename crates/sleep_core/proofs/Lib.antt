@@ -1,5 +1,6 @@
 pub mod ListLemmas
 pub mod Soundness
+pub mod BareLemmas
 pub mod ClearLemmas
 pub mod RunSteps
 pub mod LocalityLemmas

@@ -57,7 +57,7 @@ note_keeps s h pid new in_range core =
     later = Noted pid new ∷ h
 
     has_flags : pid < length s.flags
-    has_flags = omega (arith, core.sound.flags)
+    has_flags = omega (arith, core.sound.whole.flags)
 
     flags_same : flags_of after pid ≡ noted
     flags_same = get_or-set_same s.flags pid noted no_flags has_flags
@@ -126,7 +126,7 @@ drain_keeps s h pid in_range idle core =
     later = Drained pid (flags_of s pid).notes ∷ h
 
     has_flags : pid < length s.flags
-    has_flags = omega (arith, core.sound.flags)
+    has_flags = omega (arith, core.sound.whole.flags)
 
     flags_same : flags_of after pid ≡ no_flags
     flags_same = get_or-set_same s.flags pid no_flags no_flags has_flags

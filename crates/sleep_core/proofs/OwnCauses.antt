@@ -1,15 +1,14 @@
 -- The cause for which a sleep ends stands among the process's own events.
 use Rattle.std.proofs.Common.{◌≡◌, ◌≢◌, ◌⊎◌, inl, inr, ℕ, true, false, eqb, cond, Option, Some}
-use Rattle.std.proofs.Common.{None, List, [], ◌∷◌, refl, sym, ◌∙◌, ap, subst}
+use Rattle.std.proofs.Common.{None, List, [], ◌∷◌, sym, ◌∙◌, subst}
 use Rattle.std.specs.List.{cons_option}
 use Rattle.std.proofs.lemmas.Bool.Decides.{eqb_tells}
-use Rattle.sync_base.specs.declared.note.NoteSet.{NoteSet}
 use Rattle.sleep_core.specs.declared.event.Event.{Event}
 use Rattle.sleep_core.specs.declared.event.Event.TheVariants.{Post, Test, Look, Withdraw, Clear}
 use Rattle.sleep_core.specs.declared.event.Event.TheVariants.{Raise, Take, Mark, Note, Drain}
 use Rattle.sleep_core.specs.declared.answer.Answer.{Answer}
 use Rattle.sleep_core.specs.declared.answer.Answer.TheVariants as answer
-use Rattle.sleep_core.specs.Runs.{Entry, IsMadeBy, IsRun, own, kept}
+use Rattle.sleep_core.specs.Runs.{Entry, IsMadeBy, IsRun, own}
 use Rattle.sleep_core.specs.History.{Effect, effect_of, history_of}
 use Rattle.sleep_core.specs.History.Effect.{Began, Passed, Roused, Left}
 use Rattle.sleep_core.specs.Promises.{IsCaused, EachSleepIsCaused}

@@ -292,10 +292,11 @@ places_kept s h (take_holding {pid = pid} {sleeper = sleeper} {rendez = rendez} 
 places_kept s h (mark_marked {pid = pid} {sleeper = sleeper} {rendez = rendez} {level = level}
     in_range at)
     core placed =
-    let there = subst (IsPhaseIn (length s.phases) (length s.posted)) at (core.sound.phases pid) in
-    mark_places s h pid sleeper rendez level (omega (arith, there.0, core.sound.flags)) at placed
+    let whole = core.sound.whole in
+    let there = subst (IsPhaseIn (length s.phases) (length s.posted)) at (whole.phases pid) in
+    mark_places s h pid sleeper rendez level (omega (arith, there.0, whole.flags)) at placed
 places_kept s h (note_noted {pid = pid} {new = new} in_range) core placed =
-    note_places s h pid new (omega (arith, core.sound.flags)) placed
+    note_places s h pid new (omega (arith, core.sound.whole.flags)) placed
 places_kept s h (drain_notes {pid = pid} in_range idle) core placed =
     drain_places s h pid (flags_of s pid).notes (fits_at s h pid phase.Idle core idle) placed
 

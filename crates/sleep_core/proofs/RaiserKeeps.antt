@@ -68,7 +68,7 @@ raise_keeps s h pid rendez level in_range idle has_level core =
     record {
       sound = IsSound-with_phase raised pid (phase.Owing rendez level)
           (IsSound-with_level s rendez.0 (max (level_of s rendez.0) level) core.sound)
-          (omega (arith, core.sound.levels));
+          (omega (arith, core.sound.whole.levels));
       fits = fits_each raised after later pid (phase.Owing rendez level) in_range own others;
       posted = core.posted;
       marked = core.marked;
@@ -214,7 +214,7 @@ take_nobody_keeps s h pid rendez level in_range at free core =
     has_returned : rendez.0 < length s.returned
     has_returned =
         let has_rendez : rendez.0 < length s.posted = subst
-        (IsPhaseIn (length s.phases) (length s.posted)) at (core.sound.phases pid) in
+        (IsPhaseIn (length s.phases) (length s.posted)) at (core.sound.whole.phases pid) in
         omega (arith, core.sound.returned)
 
     others : (p : ℕ) → p ≢ pid → Fits after later p (phase_of s p)
@@ -248,7 +248,7 @@ take_holding_keeps s h pid sleeper rendez level in_range at posted core =
     record {
       sound = IsSound-with_phase taken pid (phase.Holding sleeper rendez level)
           (IsSound-with_posted s rendez.0 0 core.sound (omega arith)) (
-            omega (arith, core.sound.posted rendez.0),
+            omega (arith, core.sound.whole.posted rendez.0),
             rw (length-set s.posted rendez.0 0)
                 has_rendez,
           );
@@ -278,7 +278,8 @@ take_holding_keeps s h pid sleeper rendez level in_range at posted core =
     later = Took pid sleeper.0 ∷ h
 
     has_rendez : rendez.0 < length s.posted
-    has_rendez = subst (IsPhaseIn (length s.phases) (length s.posted)) at (core.sound.phases pid)
+    has_rendez =
+        subst (IsPhaseIn (length s.phases) (length s.posted)) at (core.sound.whole.phases pid)
 
     fit : Raises s h pid rendez.0 level
     fit = fits_at s h pid (phase.Owing rendez level) core at
@@ -409,10 +410,11 @@ mark_keeps s h pid sleeper rendez level in_range at core =
     fit = fits_at s h pid (phase.Holding sleeper rendez level) core at
 
     has_both : (sleeper.0 < length s.phases) × (rendez.0 < length s.posted)
-    has_both = subst (IsPhaseIn (length s.phases) (length s.posted)) at (core.sound.phases pid)
+    has_both =
+        subst (IsPhaseIn (length s.phases) (length s.posted)) at (core.sound.whole.phases pid)
 
     has_flags : sleeper.0 < length s.flags
-    has_flags = omega (arith, has_both, core.sound.flags)
+    has_flags = omega (arith, has_both, core.sound.whole.flags)
 
     has_returned : rendez.0 < length s.returned
     has_returned = omega (arith, has_both, core.sound.returned)

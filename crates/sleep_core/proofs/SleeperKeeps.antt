@@ -25,7 +25,7 @@ use Rattle.sleep_core.proofs.Frames.{Frame, frame_past, frame_quiet, fits_kept}
 has_rendez_at : (s : State) (pid : ℕ) (stage : Phase) → IsSound s → phase_of s pid ≡ stage
     → IsPhaseIn (length s.phases) (length s.posted) stage
 has_rendez_at s pid stage sound at =
-    subst (IsPhaseIn (length s.phases) (length s.posted)) at (sound.phases pid)
+    subst (IsPhaseIn (length s.phases) (length s.posted)) at (sound.whole.phases pid)
 
 -- a post: the process is in the Rendez
 pub post_keeps : (s : State) (h : List Effect) (pid : ℕ) (rendez : RendezId) (threshold : ℕ)

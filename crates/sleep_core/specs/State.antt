@@ -1,7 +1,7 @@
 -- What the core is at one moment: a phase and a word of flags for each process, and for each Rendez
 -- the word of its sleeper, its level, and the greatest level whose wakeup has returned.
 use Rattle.std.specs.Prelude.{◌≡◌, ◌<◌, ◌≤◌, ◌+◌, ◌-◌, ⊤, ℕ, false}
-use Rattle.std.specs.Prelude.{List, length, replicate, slice_index, slice_index_or}
+use Rattle.std.specs.Prelude.{List, [], length, replicate, slice_index, slice_index_or}
 use Rattle.sync_base.specs.NoteSet.{no_notes}
 use Rattle.sleep_core.specs.declared.phase.Phase.{Phase}
 use Rattle.sleep_core.specs.declared.phase.Phase.TheVariants as phase
@@ -73,11 +73,20 @@ IsPhaseIn procs rendez phase.Out = ⊤
 IsPhaseIn procs rendez (phase.Owing at level) = at.0 < rendez
 IsPhaseIn procs rendez (phase.Holding sleeper at level) = (sleeper.0 < procs) × (at.0 < rendez)
 
+-- a world but for the levels with which wakeups have returned: no event and no answer depends on
+-- them
+abbrev pub bare : State → State
+bare state = record state { returned = [] }
+
 -- the rows have one length for processes and one for Rendez, and whatever they name is there
-pub record IsSound (state : State) : Type 0 where
+pub record IsWhole (state : State) : Type 0 where
   pub flags : length state.flags ≡ length state.phases
   pub levels : length state.levels ≡ length state.posted
-  pub returned : length state.returned ≡ length state.posted
   pub phases : (pid : ℕ)
       → IsPhaseIn (length state.phases) (length state.posted) (phase_of state pid)
   pub posted : (rendez : ℕ) → posted_of state rendez ≤ length state.phases
+
+-- and so with the levels that have returned
+pub record IsSound (state : State) : Type 0 where
+  pub whole : IsWhole state
+  pub returned : length state.returned ≡ length state.posted

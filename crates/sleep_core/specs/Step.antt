@@ -62,6 +62,11 @@ is_refusal answer.BadLevel = true
 is_refusal answer.DoubleSleep = true
 is_refusal told = false
 
+-- the answer to a look that found neither the mark nor notes
+abbrev pub is_parked : Answer → Bool
+is_parked answer.Parked = true
+is_parked told = false
+
 -- the answer to an event whose process is in the phase
 abbrev pub answer_in : State → Phase → Event → Answer
 answer_in state stage event =

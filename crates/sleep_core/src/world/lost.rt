@@ -3,10 +3,11 @@
 ghost use Rattle.std.specs.Prelude.{◌≡◌, ◌<◌, ◌↔◌, IsTrue, length};
 ghost use Rattle.sleep_core.specs.LostWakeup.{HasLostWakeup, has_lost_wakeup, oversleeps};
 ghost use Rattle.sleep_core.specs.State.{phase_of};
+ghost use Rattle.sync_base.specs.declared.limits.TheConstants.{TOP_LEVEL};
 
 use crate::Phase;
+use crate::bare_world::posted::posted_as;
 use crate::world::World;
-use crate::world::posted::posted_as;
 use sync_base::Pid;
 
 impl World {
@@ -16,7 +17,7 @@ impl World {
         ensures fact { IsTrue result ↔ HasLostWakeup self.now }
         ensures value { result ≡ has_lost_wakeup self.now }
     {
-        for pid in 0..self.phases.len() {
+        for pid in 0..self.bare.phases().len() {
             if self.oversleeps(pid) {
                 return true;
             }
@@ -25,12 +26,13 @@ impl World {
     }
 
     fn oversleeps(&self, pid: usize) -> bool
-        requires { pid < length self.now.phases }
+        requires there { pid < length self.now.phases }
+        requires counts { pid < TOP_LEVEL }
         ensures { result ≡ oversleeps self.now pid (phase_of self.now pid) }
     {
-        match self.phases[pid] {
+        match self.bare.phase(pid) {
             Phase::Asleep { rendez, threshold } => {
-                self.posted[rendez.0 as usize] == posted_as(Pid(pid as u64))
+                self.bare.posted()[rendez.0 as usize] == posted_as(Pid(pid as u64))
                     && self.returned[rendez.0 as usize] > threshold
             }
             _ => false,
