@@ -1,6 +1,7 @@
 """Rooms: copies of a crate in a folder of their own, over what is kept of the crates below it. `rt` works at one thing at a
 time in a folder; in rooms, crates that don't need each other are proved side by side, and mistakes are tried.
 """
+import contextlib
 import os
 import shutil
 
@@ -22,12 +23,13 @@ def crates_below():
 
 
 def link(source, to):
-    """A link, where the two folders lie on one file system."""
-    try:
-        os.link(source, to)
-    except OSError:
-        shutil.copy2(source, to)
-    return to
+    """A link to what was built, where the two folders lie on one file system. A source is copied: a link would change its time of
+    change, by which the launcher sees whether it was touched."""
+    if "/out/" in source[len(TOP):]:
+        with contextlib.suppress(OSError):
+            os.link(source, to)
+            return to
+    return shutil.copy2(source, to)
 
 
 def copy_parts(crate, to):
