@@ -26,17 +26,12 @@ def make(program, file, why, is_try):
     if os.statvfs(TOP).f_flag & os.ST_NOEXEC:
         fail(f"the program {why}, and nothing may be run in {TOP}: its file system is mounted noexec")
     hold_streams()
-    mask = os.umask(0o022)
-    # what is built is for whoever may read the sources
-    os.umask(mask & 0o722)
     try:
         return compile_unproved(program, file) if is_try else build(program, file, why)
     except Stopped as found:
         say(f"{NAME}: the build was stopped")
         signal.signal(found.args[0], signal.SIG_DFL)
         os.kill(os.getpid(), found.args[0])
-    finally:
-        os.umask(mask)
 
 
 def hold_streams():
