@@ -52,6 +52,69 @@ fn wait(count: u64) -> GroupReply {
     GroupReply::Wait { count }
 }
 
+fn collect(member: u64) -> GroupCall {
+    GroupCall::Collect { member }
+}
+
+fn leave(member: u64) -> GroupCall {
+    GroupCall::Leave { member }
+}
+
+// After this call these wait.
+fn lends(rt: &impl Abort, space: &mut GroupObject, call: GroupCall, waiting: &[(Tag, u64)]) {
+    space.run(call);
+    assert_eq!(rt; space.waiting(), waiting);
+}
+
+#[test]
+fn who_waits_is_lent_by_rising_tags(rt: HostRuntime) {
+    let mut space = space_of(&rt, rt.alloc(), 3, 0);
+    lends(&rt, &mut space, collect(0), &[]);
+    lends(&rt, &mut space, call(0, 9, 1), &[(Tag(9), 0)]);
+    lends(&rt, &mut space, call(1, 7, 2), &[(Tag(7), 1), (Tag(9), 0)]);
+    lends(&rt, &mut space, call(2, 9, 3), &[(Tag(7), 1)]);
+    lends(&rt, &mut space, leave(1), &[]);
+}
+
+const MOST: u64 = 1_024;
+
+// Every second member has left. One of them calls with the tag of the next, which waits.
+fn finds_the_next(rt: &impl Abort, space: &mut GroupObject, half: u64) {
+    let caller = half.wrapping_mul(2);
+    let waiter = caller.wrapping_add(1);
+    let value = half.wrapping_add(10_000);
+    let rows = [
+        (
+            call(caller, 5_000u64.wrapping_sub(waiter), value),
+            met(waiter, waiter, 1),
+        ),
+        (collect(waiter), was_met(value)),
+    ];
+    answers(rt, space, &rows);
+}
+
+// All members call, and then every second one leaves. Tags fall: the last member has the least.
+fn half_of_them_wait(rt: &impl Abort, space: &mut GroupObject) {
+    for member in 0..MOST {
+        let called = call(member, 5_000u64.wrapping_sub(member), member);
+        answers(rt, space, &[(called, wait(0))]);
+    }
+    for half in 0..MOST / 2 {
+        answers(rt, space, &[(leave(half.wrapping_mul(2)), Gone)]);
+    }
+}
+
+#[test]
+fn who_left_finds_each_of_those_that_wait(rt: HostRuntime) {
+    let mut space = space_of(&rt, rt.alloc(), MOST, 0);
+    half_of_them_wait(&rt, &mut space);
+    assert_eq!(rt; space.waiting().len() as u64, MOST / 2);
+    for half in 0..MOST / 2 {
+        finds_the_next(&rt, &mut space, half);
+    }
+    assert_eq!(rt; space.waiting().len(), 0);
+}
+
 #[test]
 fn two_meet_and_one_leaves(rt: HostRuntime) {
     let rows = [
