@@ -2,10 +2,11 @@
 
 /// What each writer passes before each of its writes.
 pub trait Gate {
-    ghost use Rattle.std.specs.Prelude.{◌≡◌, ℕ, false};
+    ghost use Rattle.std.specs.Prelude.{◌≡◌, ⊤, ℕ, false};
 
     /// Where it may send a writer away: at this write of this writer, both counted from 0.
-    ghost may_stop: { Self → ℕ → ℕ → Type 0 };
+    /// Anywhere, unless it is said.
+    ghost may_stop: { Self → ℕ → ℕ → Type 0 } = { λ gate writer write. ⊤ };
 
     /// Whether this writer may make this write, both counted from 0. Where it may not, it writes no
     /// more.

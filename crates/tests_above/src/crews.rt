@@ -18,10 +18,6 @@ struct Meeting {
 }
 
 impl Gate for Meeting {
-    ghost use Rattle.std.specs.Prelude.{⊤};
-
-    ghost may_stop = { λ _ _ _. ⊤ };
-
     fn pass(&self, _writer: u64, _write: u64) -> bool {
         self.come.fetch_add(1, SeqCst);
         for _ in 0..TURNS {
@@ -45,10 +41,6 @@ struct Turnstile {
 }
 
 impl Gate for Turnstile {
-    ghost use Rattle.std.specs.Prelude.{⊤};
-
-    ghost may_stop = { λ _ _ _. ⊤ };
-
     fn pass(&self, writer: u64, write: u64) -> bool {
         self.calls.fetch_add(1, SeqCst);
         write != self.write || self.writer.is_some_and(|only| only != writer)
