@@ -1,13 +1,13 @@
 -- What is no request of a seat, no answer to one, and no tick: each against one row.
-use Rattle.std.proofs.Common.{◌≡◌, ◌≢◌, ◌⊎◌, ◌<◌, ℕ, Bool, true, false, List, [], ◌∷◌, length}
-use Rattle.std.proofs.Common.{Some, None, inl, inr, refl, ap, subst, arith, not}
+use Rattle.std.proofs.Common.{◌≡◌, ◌≢◌, ◌⊎◌, ◌<◌, ℕ, nat_lt, Bool, true, false, List, [], ◌∷◌}
+use Rattle.std.proofs.Common.{◌++◌, length, Some, None, inl, inr, refl, ap, subst, sym, arith, not}
 use Rattle.std.proofs.lemmas.List.{length-append}
 use Rattle.histories.specs.declared.account.Account.{Account}
 use Rattle.kernel_lock.specs.Seats.{number_of, seen_of}
 use Rattle.rendez_words.specs.Process.{Process}
 use Rattle.sync_base.specs.declared.ids.Pid.{Pid}
 use Rattle.sync_base.specs.declared.note.Note.TheVariants.{Alarm, Expired}
-use Rattle.sync_base.specs.NoteSet.{only}
+use Rattle.sync_base.specs.NoteSet.{holds, only}
 use Rattle.timer_list.specs.declared.timer_object.TimerCall.{TimerCall}
 use Rattle.timer_list.specs.declared.timer_object.TimerCall.TheVariants.{Expire}
 use Rattle.timer_list.specs.declared.timer_object.TimerReply.{TimerReply}
@@ -20,8 +20,13 @@ use Rattle.timer_list.specs.Ticking.{Expires, ExpiresOneMore, FindsNone, Tells, 
 use Rattle.timer_list.specs.TimerHistory.{TimerEntry}
 use Rattle.timer_list.specs.Timers.{may_add, timer_of}
 use Rattle.timer_list.specs.Timers as timing
-use Rattle.timer_list.specs.WakeLaws.{HasTaken}
+use Rattle.timer_list.specs.WakeLaws.{HasTaken, telling, IsToldSince, AreToldSince}
+use Rattle.sleep_core.specs.declared.answer.Answer.TheVariants.{Notes}
+use Rattle.sleep_core.specs.declared.event.Event.TheVariants.{Drain}
+use Rattle.sleep_core.specs.History.{history_of}
 use Rattle.sleep_core.specs.History.Effect.{Left, Drained}
+use Rattle.sleep_core.specs.Promises.{pending}
+use Rattle.sleep_core.specs.Runs.{Entry, own, kept}
 use Rattle.waiting.specs.Waiting.{Point}
 
 -- ---- each request is one entry more
@@ -154,3 +159,84 @@ another_took_its_without_a_sleep (inr none) = none
 
 a_sleep_that_ends_well_takes_none : ¬ HasTaken (Left 5 None ∷ []) 5
 a_sleep_that_ends_well_takes_none taken = taken
+
+-- ---- a note that was told by this tick
+
+module _ (at : Process) where
+  -- process 0, which ticks, behind these steps
+  abbrev ticker : List Entry → Process
+  ticker trace = record at { pid = 0; trace = trace }
+
+  abbrev five : Pid
+  five = record { 0 = 5 }
+
+  -- it told process 5, which then took that note
+  abbrev note : Entry
+  note = telling (ticker []) five
+
+  abbrev takes : Entry
+  takes = record { maker = 5; event = Drain five; answer = Notes (only Expired) }
+
+  it_is_pending : IsToldSince (note ∷ []) (ticker []) five
+  it_is_pending =
+      record { since = []; past = []; run_is = refl; next = refl; there = inl refl }
+
+  it_was_taken_since : IsToldSince (takes ∷ note ∷ []) (ticker []) five
+  it_was_taken_since =
+      record {
+        since = takes ∷ [];
+        past = [];
+        run_is = refl;
+        next = refl;
+        there = inr (inl (refl, refl));
+      }
+
+  it_came_again : IsToldSince (note ∷ takes ∷ note ∷ []) (ticker (note ∷ [])) five
+  it_came_again =
+      record { since = []; past = takes ∷ note ∷ []; run_is = refl; next = refl; there = inl refl }
+
+  -- A second tick took its timer, and posted no note: that it took the note of the first is no
+  -- excuse.
+  it_took_one_before : HasTaken (history_of (takes ∷ note ∷ [])) 5
+  it_took_one_before = inl (refl, refl)
+
+  the_second_was_never_posted :
+      ¬ IsToldSince (takes ∷ note ∷ []) (ticker (note ∷ [])) five
+  the_second_was_never_posted is = by is.since is.past is.run_is is.next
+    where
+      by : (since past : List Entry) → takes ∷ note ∷ [] ≡ since ++ (note ∷ past)
+          → kept (own 0 past) ≡ note ∷ [] → ⊥
+      by [] past run next = let clash : takes ≡ note = cc in
+          let five : 5 ≡ 0 = ap (λ (entry : Entry). entry.maker) clash in omega (arith, five)
+      by (entry ∷ []) past run next =
+          let none : [] ≡ past = cc in
+          let clash : kept (own 0 []) ≡ note ∷ [] =
+          subst (λ (past : List Entry). kept (own 0 past) ≡ note ∷ []) (sym none) next in cc
+      by (entry ∷ other ∷ []) past run next = cc
+      by (entry ∷ other ∷ third ∷ since) past run next = cc
+
+  module _ (watch : Timers) (now : ℕ) (others : List Pid) (before after : Point TimerSeat) where
+    a_tick_that_posts_none_tells_none :
+        (expires : Expires watch 6 now (five ∷ others) before after)
+        → expires.between.process ≡ ticker (note ∷ [])
+        → ¬ AreToldSince (takes ∷ note ∷ []) watch 6 now (five ∷ others) before after expires
+    a_tick_that_posts_none_tells_none expires second told =
+        the_second_was_never_posted
+        (subst (λ (teller : Process). IsToldSince (takes ∷ note ∷ []) teller five) second
+        (told.0 refl))
+
+    the_others_are_told_too : (run : List Entry) (pid : Pid)
+        (expires : Expires watch 6 now (pid ∷ others) before after)
+        → AreToldSince run watch 6 now (pid ∷ others) before after expires
+        → AreToldSince run watch 6 now others before expires.between expires.others
+    the_others_are_told_too run pid expires told = told.1
+
+  told_and_neither_pending_nor_taken : (run : List Entry) (teller : Process) (pid : Pid)
+      (is : IsToldSince run teller pid) → holds (pending (history_of run) pid.0) Expired ≡ false
+      → HasTaken (history_of is.since) pid.0
+  told_and_neither_pending_nor_taken run teller pid is none = by is.there
+    where
+      by : (holds (pending (history_of run) pid.0) Expired ≡ true)
+          ⊎ HasTaken (history_of is.since) pid.0 → HasTaken (history_of is.since) pid.0
+      by (inl there) = cc
+      by (inr taken) = taken

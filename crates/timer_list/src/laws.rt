@@ -8,8 +8,9 @@ pub fn an_expired_timer_was_taken()
     ensures { ExpiredWasTaken }
 {}
 
-/// No note of a tick is lost: once the tick has returned, it is pending at the process of each
-/// timer that expired, where its kernel has that process, or that process took it since.
+/// No note of a tick is lost: once the tick has returned, the note that it posted is pending at the
+/// process of each timer that expired, where its kernel has that process, or that process took it
+/// since it was posted.
 pub fn who_expired_is_told()
     ensures { TickingTellsEach }
 {}
