@@ -1,11 +1,15 @@
 -- A release that asks in the same hold of the lock who is to be woken: what the lock tells of both
 -- requests they tell of the semaphore.
-use Rattle.std.proofs.Common.{rules, ◌≡◌, ℕ, false, List, [], ◌∷◌, map, Option, Some, None}
-use Rattle.std.proofs.Common.{refl, eq-eqb}
+use Rattle.std.proofs.Common.{rules, ◌≡◌, ℕ, Bool, false, List, [], ◌∷◌, map, Option, Some, None}
+use Rattle.std.proofs.Common.{refl, sym, subst, eq-eqb}
+use Rattle.histories.specs.declared.account.Account.{Account}
 use Rattle.histories.specs.Account.{share_after}
+use Rattle.histories.specs.History.{IsPast}
+use Rattle.histories.proofs.ListLemmas.{past_cons}
 use Rattle.kernel_lock.specs.Calls.{Serves}
 use Rattle.kernel_lock.specs.Definition.{server}
-use Rattle.kernel_lock.specs.Seats.{IsSeatOf, SeesHistory, Applies, AppliesThen, number_of, view_of}
+use Rattle.kernel_lock.specs.Seats.{IsSeatOf, SeesHistory, Applies, AppliesThen, number_of}
+use Rattle.kernel_lock.specs.Seats.{seen_of, view_of}
 use Rattle.semaphore.specs.declared.sema.Sema.{Sema}
 use Rattle.semaphore.specs.declared.sema.SemaSeat.{SemaSeat}
 use Rattle.semaphore.specs.declared.sema_object.SemaCall.{SemaCall}
@@ -63,11 +67,24 @@ asks_release sema count (reply.Value sum) (Some told) old new at seat history bo
       found_first = first;
       found_second = finds sema NextWake told between new refl refl first.asks.seat seat history
           both.second;
+      at_once = both.at_once;
     }
 asks_release sema count (reply.Value sum) None old new at seat history none = absurd none
 asks_release sema count answer (Some told) old new at seat history none = absurd none
 asks_release sema count answer None old new at seat history applied =
     finds sema (Release count) answer old new refl refl at seat history applied
+
+-- what a seat had seen before a request is a past of what it has seen behind it
+pub asks_later : (sema : Sema) (waits : Bool) (call : SemaCall) (answer : SemaReply)
+    (before after : SemaSeat) → Asks sema waits call answer before after
+    → IsPast (seen_of before.seat) (seen_of after.seat)
+asks_later sema waits call answer before after asks =
+    let adds = asks.served.account in
+    subst (λ (account : Account SemaEntry). IsPast (seen_of before.seat) account.seen)
+    (sym adds.new_is)
+    (past_cons (seen_of before.seat) adds.past
+    (record { by = number_of before.seat; request = call; reply = answer })
+    (record { since = adds.looked.since; new_is = adds.looked.history_is }))
 
 -- ---- whom it wakes
 

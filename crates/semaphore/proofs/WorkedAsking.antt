@@ -1,6 +1,7 @@
 -- What is no request of a seat, no answer to one, and no call of a semaphore: each against one row.
 use Rattle.std.proofs.Common.{◌≡◌, ◌≢◌, ◌<◌, ◌+◌, ℕ, Bool, true, false, List, [], ◌∷◌, length}
-use Rattle.std.proofs.Common.{Some, None, Result, Ok, Err, inl, inr, refl, ap, arith, not}
+use Rattle.std.proofs.Common.{Some, None, Result, Ok, Err, inl, inr, refl, sym, ap, ◌∙◌, ◌++◌}
+use Rattle.std.proofs.Common.{arith, not}
 use Rattle.std.proofs.lemmas.List.{length-append}
 use Rattle.histories.specs.declared.account.Account.{Account}
 use Rattle.kernel_lock.specs.Seats.{number_of, seen_of}
@@ -15,7 +16,7 @@ use Rattle.semaphore.specs.declared.sema.Sema.{Sema}
 use Rattle.semaphore.specs.declared.sema.SemaSeat.{SemaSeat}
 use Rattle.semaphore.specs.declared.sema_asks.Grant.{Grant}
 use Rattle.semaphore.specs.declared.sema_object.SemaCall.{SemaCall}
-use Rattle.semaphore.specs.declared.sema_object.SemaCall.TheVariants.{Release, NextWake}
+use Rattle.semaphore.specs.declared.sema_object.SemaCall.TheVariants.{Acquire, Release, NextWake}
 use Rattle.semaphore.specs.declared.sema_object.SemaReply.{SemaReply}
 use Rattle.semaphore.specs.declared.sema_object.SemaReply.TheVariants as told
 use Rattle.timer_list.specs.declared.timers.Timers.{Timers}
@@ -23,13 +24,15 @@ use Rattle.semaphore.specs.Acquiring.{Begins, Collects, Leaves, Waits, AsksNow, 
 use Rattle.semaphore.specs.Acquiring.{acquiring}
 use Rattle.semaphore.specs.Asking.{Asks, OnlyAsks, AsksRelease, Finds, FindsBoth, now_reply}
 use Rattle.semaphore.specs.Asking.{wake_next, wake_reply, IsTold}
-use Rattle.semaphore.specs.Releasing.{HasReleased, HasWoken, Releases, WakesNamed, WakesOneMore}
+use Rattle.semaphore.specs.Releasing.{AsksNext, HasReleased, HasWoken, Releases, WakesNamed}
+use Rattle.semaphore.specs.Releasing.{WakesOneMore}
 use Rattle.semaphore.specs.Seats.{IsSeatAt, rendez_at, rendez_of_seat, units_given}
 use Rattle.semaphore.specs.SemaHistory.{SemaEntry}
 use Rattle.semaphore.specs.SemaLaws.{AlwaysHolds}
 use Rattle.semaphore.specs.Units.{IsSound, is_idle, stage_of, answer_to}
 use Rattle.semaphore.specs.Timing.{AcquiresInTime}
 use Rattle.timer_list.specs.Timing.{TimedPoint, WaitedInTime}
+use Rattle.semaphore.proofs.Broken.{entry}
 use Rattle.waiting.specs.declared.call.Reply.TheVariants as reply
 use Rattle.waiting.specs.Waiting.{Point, Waited}
 
@@ -183,6 +186,47 @@ module _ (sema : Sema) (before after : Point SemaSeat) where
       → ¬ HasReleased sema 3 5 before after
   releases_and_wakes_nobody none released = none released.first released.wakes
 
+  releases_and_asks_whom_to_wake_later : ((first : SemaSeat) → ¬ AsksNext first after.seat)
+      → ¬ HasReleased sema 3 5 before after
+  releases_and_asks_whom_to_wake_later none released =
+      none released.first.seat released.at_once
+
+-- ---- whom to wake, asked in the hold of the release
+
+module _ (before after : SemaSeat) (own : number_of before.seat ≡ 0)
+    (released : seen_of before.seat ≡ entry 0 (Release 1) (told.Value 5) ∷ []) where
+  asks_at_once : seen_of after.seat
+      ≡ entry 0 NextWake told.NoWake ∷ entry 0 (Release 1) (told.Value 5) ∷ []
+      → AsksNext before after
+  asks_at_once seen =
+      record {
+        told = told.NoWake;
+        next = record { since = []; new_is = rw (own, released) seen };
+      }
+
+  -- another seat's request came between the two
+  asks_in_a_second_hold : seen_of after.seat
+      ≡ entry 0 NextWake told.NoWake ∷ entry 1 (Acquire 1) told.Acquired
+      ∷ entry 0 (Release 1) (told.Value 5) ∷ []
+      → ¬ AsksNext before after
+  asks_in_a_second_hold seen asks =
+      by asks.told asks.next.since
+      (sym seen ∙ rw (own, released) at asks.next.new_is)
+    where
+      by : (answer : SemaReply) (since : List SemaEntry)
+          → entry 0 NextWake told.NoWake ∷ entry 1 (Acquire 1) told.Acquired
+          ∷ entry 0 (Release 1) (told.Value 5) ∷ []
+          ≡ since ++ (entry 0 NextWake answer ∷ entry 0 (Release 1) (told.Value 5) ∷ []) → ⊥
+      by answer [] is = cc
+      by answer (one ∷ []) is =
+          let clash : entry 1 (Acquire 1) told.Acquired ≡ entry 0 NextWake answer = cc in
+          let other : 1 ≡ 0 = ap (λ (e : SemaEntry). e.by) clash in omega (arith, other)
+      by answer (one ∷ two ∷ since) is =
+          let same = ap (λ (xs : List SemaEntry). length xs) is in
+          let longer = length-append since
+          (entry 0 NextWake answer ∷ entry 0 (Release 1) (told.Value 5) ∷ []) in
+          omega (arith, same, longer)
+
 abbrev steps_of : Process → ℕ
 steps_of process = length process.trace
 
@@ -244,6 +288,13 @@ both_add sema call first second before after both =
     let one = asking_adds sema false call first before both.between both.found_first.asks in
     let two = asking_adds sema false NextWake second both.between after both.found_second.asks in
     omega (arith, one, two)
+
+-- and nothing stands between them
+both_are_next : (sema : Sema) (call : SemaCall) (first second : SemaReply)
+    (before after : SemaSeat) → (both : FindsBoth sema call first second before after)
+    → length (seen_of after.seat) ≡ length (seen_of both.between.seat) + 1
+both_are_next sema call first second before after both =
+    let one = ap (λ (seen : List SemaEntry). length seen) both.at_once in omega (arith, one)
 
 -- ---- what a request finds
 

@@ -1,7 +1,7 @@
 -- What a seat asks of its semaphore, one request at a time, and what the typed answers stand for.
-use Rattle.std.specs.Prelude.{◌≡◌, ℕ, ◌<◌, Bool, false, length, not, Option, Some, None}
+use Rattle.std.specs.Prelude.{◌≡◌, ℕ, ◌<◌, Bool, false, ◌∷◌, length, not, Option, Some, None}
 use Rattle.kernel_lock.specs.Calls.{Serves}
-use Rattle.kernel_lock.specs.Seats.{number_of, view_of}
+use Rattle.kernel_lock.specs.Seats.{number_of, seen_of, view_of}
 use Rattle.semaphore.specs.declared.acquiring.Semacquired.{Semacquired}
 use Rattle.semaphore.specs.declared.acquiring.Semacquired.TheVariants as got
 use Rattle.semaphore.specs.declared.sema.Sema.{Sema}
@@ -72,6 +72,10 @@ module _ (sema : Sema) where
     pub between : SemaSeat
     pub found_first : Finds call first before between
     pub found_second : Finds NextWake second between after
+    -- no other request stands between them
+    pub at_once : seen_of after.seat ≡
+        record { by = number_of between.seat; request = NextWake; reply = second }
+        ∷ seen_of between.seat
 
   -- it asked for a release of so many units and, just where that was taken, who is to be woken
   abbrev pub AsksRelease :

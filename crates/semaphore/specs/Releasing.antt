@@ -1,6 +1,8 @@
 -- What semrelease promises. After semrelease in semacquire(2); that it answers the sum, and wakes
 -- each who was granted a unit with the number of its grants, is own.
 use Rattle.std.specs.Prelude.{◌≡◌, ℕ, false, List, [], ◌∷◌, Result, Ok, Err}
+use Rattle.histories.specs.History.{IsPast}
+use Rattle.kernel_lock.specs.Seats.{number_of, seen_of}
 use Rattle.sleep_wakeup.specs.Actions.{WakesOne}
 use Rattle.sync_base.specs.declared.fault.Fault.{Fault}
 use Rattle.sync_base.specs.declared.fault.Fault.TheVariants as fault
@@ -8,10 +10,19 @@ use Rattle.semaphore.specs.declared.sema.Sema.{Sema}
 use Rattle.semaphore.specs.declared.sema.SemaSeat.{SemaSeat}
 use Rattle.semaphore.specs.declared.sema_asks.Grant.{Grant}
 use Rattle.semaphore.specs.declared.sema_object.SemaCall.TheVariants.{Release, NextWake}
+use Rattle.semaphore.specs.declared.sema_object.SemaReply.{SemaReply}
 use Rattle.semaphore.specs.declared.sema_object.SemaReply.TheVariants as reply
 use Rattle.semaphore.specs.Asking.{Asks, OnlyAsks}
 use Rattle.semaphore.specs.Seats.{rendez_of_seat}
 use Rattle.waiting.specs.Waiting.{Point}
+
+-- right behind all that the seat had seen stands its own request whom to wake: no request of
+-- another seat came between
+pub record AsksNext (before after : SemaSeat) : Type 0 where
+  pub told : SemaReply
+  pub next : IsPast
+      (record { by = number_of before.seat; request = NextWake; reply = told }
+      ∷ seen_of before.seat) (seen_of after.seat)
 
 module _ (sema : Sema) where
   -- it was named a seat that was granted a unit, and woke the Rendez of that seat, once, with the
@@ -37,11 +48,13 @@ module _ (sema : Sema) where
     pub woken : WakesNamed grants before last
     pub none : OnlyAsks sema false NextWake reply.NoWake last after
 
-  -- it released so many units, once, which was answered this sum, and then woke whom it was named
+  -- it released so many units, once, which was answered this sum, asked in the same hold of the
+  -- lock whom to wake, and woke whom it was named
   pub record HasReleased (count sum : ℕ) (before after : Point SemaSeat) : Type 0 where
     pub first : Point SemaSeat
     pub released : OnlyAsks sema false (Release count) (reply.Value sum) before first
     pub wakes : HasWoken first after
+    pub at_once : AsksNext first.seat after.seat
 
   -- a semrelease of so many units: it answers the sum, or was refused and did nothing else
   abbrev pub Releases : ℕ → Point SemaSeat → Result ℕ Fault → Point SemaSeat → Type 0

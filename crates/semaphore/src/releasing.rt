@@ -1,6 +1,7 @@
 //! How a process adds units, and wakes who was granted one.
 ghost use Rattle.std.specs.Prelude.{◌≡◌, ◌<◌, false, IfSome};
-ghost use Rattle.kernel_lock.specs.Seats.{number_of};
+ghost use Rattle.histories.specs.History.{IsPast};
+ghost use Rattle.kernel_lock.specs.Seats.{number_of, seen_of};
 ghost use Rattle.semaphore.specs.declared.sema.SemaSeat.{SemaSeat};
 ghost use Rattle.semaphore.specs.declared.sema_object.SemaCall.TheVariants.{NextWake};
 ghost use Rattle.semaphore.specs.Asking.{Asks, wake_reply};
@@ -62,6 +63,7 @@ impl Sema {
         ensures woken { (before : SemaSeat) →
             Asks self.now false NextWake (wake_reply next) before seat.old →
             HasWoken self.now (point before proc.old) (point seat.new proc.new) }
+        ensures later { IsPast (seen_of seat.old.seat) (seen_of seat.new.seat) }
     {
         let mut next = next;
         for _ in rt.forever() {

@@ -1,5 +1,9 @@
 -- It was refused, or it released and then woke each that was named.
-use Rattle.std.proofs.Common.{refl, ◌∙◌}
+use Rattle.std.proofs.Common.{refl, ◌∙◌, List, subst}
+use Rattle.histories.specs.History.{IsPast}
+use Rattle.kernel_lock.specs.Seats.{seen_of}
+use Rattle.semaphore.specs.Asking.{wake_reply}
+use Rattle.semaphore.specs.SemaHistory.{SemaEntry}
 use Rattle.waiting.specs.Waiting.{point}
 use Rattle.semaphore.proofs.sema.Sema.semrelease.Goals as goal
 
@@ -27,4 +31,10 @@ returns-in-Some-clause-called g c =
       first = point both.between c.args.proc.now;
       released = record { asks = both.found_first.asks; idle = refl };
       wakes = c.wake_granted.ensures.woken both.between both.found_second.asks;
+      at_once = record {
+        told = wake_reply c.in-Some.released.next;
+        next = subst
+            (λ (seen : List SemaEntry). IsPast seen (seen_of c.wake_granted.new.seat.seat))
+            both.at_once c.wake_granted.ensures.later;
+      };
     }

@@ -1,6 +1,7 @@
 -- Each round wakes whom it was named, and asks for the next.
 use Rattle.std.proofs.Common.{◌∙◌}
-use Rattle.semaphore.proofs.ReleaseLemmas.{names_more}
+use Rattle.histories.proofs.ListLemmas.{past_trans}
+use Rattle.semaphore.proofs.ReleaseLemmas.{asks_later, names_more}
 use Rattle.semaphore.proofs.sema.Sema.wake_granted.Goals as goal
 
 pub loop-preserved : goal.loop-preserved
@@ -16,4 +17,6 @@ loop-preserved g c =
           c.next_wake-next.new.seat c.loop.proc c.wakeup.new.self
           (rw c.in-Some-next.is at (c.loop.invariant.named before first))
           (record { receipt = c.in-Ok.field-0; woken = c.in-Ok.ensures.woken }) asks;
+      later = past_trans _ _ _ c.loop.invariant.later
+          (asks_later c.args.self.now _ _ _ c.loop.seat c.next_wake-next.new.seat asks);
     }

@@ -1,7 +1,8 @@
 -- it has woken each that was named but the last, whoever asked for the first of them, and did
 -- nothing else since it began
 use Rattle.std.proofs.Common.{◌≡◌, ◌<◌, false, IfSome}
-use Rattle.kernel_lock.specs.Seats.{number_of}
+use Rattle.histories.specs.History.{IsPast}
+use Rattle.kernel_lock.specs.Seats.{number_of, seen_of}
 use Rattle.semaphore.specs.declared.sema.SemaSeat.{SemaSeat}
 use Rattle.semaphore.specs.declared.sema_object.SemaCall.TheVariants.{NextWake}
 use Rattle.semaphore.specs.Asking.{wake_reply}
@@ -21,4 +22,5 @@ invariant-loop g l =
       named : (before : SemaSeat) →
           Asks l.self false NextWake (wake_reply l.initial.next) before l.initial.seat →
           HasNamed l.self l.next (point before l.initial.proc) (point l.seat l.proc);
+      later : IsPast (seen_of l.initial.seat.seat) (seen_of l.seat.seat);
     }
