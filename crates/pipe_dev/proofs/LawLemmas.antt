@@ -27,7 +27,8 @@ use Rattle.pipe_dev.specs.Laws.{read_and_held, IsAllOfWriter, EachShareIsReadWho
 use Rattle.pipe_dev.specs.Laws.{IsNeverHung, NoWriteAfterHangup, NoneIsAcceptedAfterHangup}
 use Rattle.pipe_dev.proofs.PartLemmas.{whole_from-append, bytes_by-append}
 
-abbrev LegalFor : Key → List Entry → Type 0
+-- the history is a legal one of the direction
+abbrev pub LegalFor : Key → List Entry → Type 0
 LegalFor key history = IsLegal (queue_meaning key.first) (opening_state key.limit) history
 
 -- no more writes are read than were accepted

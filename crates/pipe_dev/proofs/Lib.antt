@@ -14,6 +14,7 @@ pub mod CallLemmas
 pub mod WrittenLemmas
 pub mod ChainLemmas
 pub mod WaitLemmas
+pub mod AboveLemmas
 pub mod OwnLemmas
 pub mod WorkedPipes
 pub mod WorkedEntries
@@ -29,3 +30,4 @@ mod WorkedDirections
 mod WorkedTimes
 mod WorkedChains
 mod WorkedSteps
+mod WorkedNumbers

@@ -1,6 +1,8 @@
 -- No wakeup of a pipe is lost: who waits for a write or for room is taken out of the Rendez by the
--- wakeup of the call that made its condition true, once that call has returned.
-use Rattle.std.specs.Prelude.{◌≡◌, ◌+◌, ◌<◌, ℕ, Some}
+-- wakeup of the call that made its condition true, once that call has returned; and that wakeup is
+-- above the number with which it was told to wait.
+use Rattle.std.specs.Prelude.{◌≡◌, ◌≢◌, ◌+◌, ◌<◌, ℕ, ⊤, List, [], ◌∷◌, ◌++◌, Some}
+use Rattle.histories.specs.History.{IsHistory}
 use Rattle.sync_base.specs.declared.limits.TheConstants.{TOP_LEVEL}
 use Rattle.sleep_core.specs.Laws.{ReleasesBelow}
 use Rattle.sleep_core.specs.Runs.{world_of}
@@ -8,7 +10,11 @@ use Rattle.sleep_core.specs.State.{State}
 use Rattle.rendez_words.specs.declared.view.Sizes.{Sizes}
 use Rattle.rendez_words.specs.Process.{Process}
 use Rattle.rendez_words.specs.Rule.{ShowsCore}
+use Rattle.block_queue.specs.declared.entry.Entry.{Entry}
+use Rattle.block_queue.specs.declared.entry.Entry.TheVariants.{Stood, Full, Block, NotYet}
 use Rattle.block_queue.specs.declared.view.Key.{Key}
+use Rattle.block_queue.specs.History.{opening_state}
+use Rattle.block_queue.specs.Meaning.{queue_meaning}
 use Rattle.pipe_dev.specs.declared.row.Row.{Row}
 use Rattle.pipe_dev.specs.Parts.{Part}
 use Rattle.pipe_dev.specs.declared.filling.ReadOutcome.{ReadOutcome}
@@ -60,3 +66,42 @@ HangupsWakeAll =
     (sizes : Sizes) (s : _) (shows : ShowsCore sizes s)
     → (row : Row) (before after : Process) → WakesAll row before after → HasGoneOn s.views after
     → ReleasesAll (world_of sizes.procs sizes.rendez shows.run) row
+
+-- ---- and these wakeups are enough
+
+-- no read took the write with this number out
+abbrev pub IsUnread : ℕ → List Entry → Type 0
+IsUnread number [] = ⊤
+IsUnread number (Block writer block its ∷ past) = (its ≢ number) × IsUnread number past
+IsUnread number (entry ∷ past) = IsUnread number past
+
+-- where the reader was told to wait, each write that it had not read and that stood later has a
+-- number above the one that it was told
+abbrev pub AreReadersWokenAbove : List Entry → Type 0
+AreReadersWokenAbove history =
+    (past since : List Entry) (told writer number : ℕ)
+    → history ≡ Stood writer number ∷ (since ++ (NotYet told ∷ past))
+    → IsUnread number past → told < number
+
+-- where a writer was told to wait for room, each write that was taken out later has a number above
+-- the one that it was told
+abbrev pub AreWritersWokenAbove : List Entry → Type 0
+AreWritersWokenAbove history =
+    (past since : List Entry) (waits writer told number : ℕ) (waiting block : List ℕ)
+    → history ≡ Block writer block number ∷ (since ++ (Full waits waiting told ∷ past))
+    → told < number
+
+-- A write wakes the reader with its number: that is above what a reader was told that waits for it.
+abbrev pub WaitingReadersAreWokenAbove : Type 0
+WaitingReadersAreWokenAbove =
+    (key : Key) (history : List Entry)
+    → IsHistory (queue_meaning key.first) (opening_state key.limit) (key.writers + 1) history
+    → AreReadersWokenAbove history
+
+-- A read wakes the writers with the number of the write that it took out: that is above what a
+-- writer was told that waits for room.
+abbrev pub WaitingWritersAreWokenAbove : Type 0
+WaitingWritersAreWokenAbove =
+    (key : Key) (history : List Entry)
+    → IsHistory (queue_meaning key.first) (opening_state key.limit) (key.writers + 1) history
+    → AreWritersWokenAbove history

@@ -21,6 +21,8 @@ ghost use Rattle.pipe_dev.specs.WaitLaws.{
   ReadsWakeEachWriter,
   TriesWakeEachWriter,
   HangupsWakeAll,
+  WaitingReadersAreWokenAbove,
+  WaitingWritersAreWokenAbove,
 };
 ghost use Rattle.pipe_dev.specs.ReadCalls.{ReadsInTimeAreReads};
 ghost use Rattle.pipe_dev.specs.WriteCalls.{WritesInTimeAreWrites};
@@ -51,8 +53,9 @@ pub fn calls_write_what_they_answer()
 /// The headline. Whatever calls were made of the ends of a direction, from any threads: what was
 /// read from it, followed by what it still holds, is for each writer the bytes of its accepted
 /// writes, in its order, each write whole, contiguous and once; no write is accepted after a
-/// hangup; and no process that fell asleep before its condition was made true stays posted once
-/// the wakeup that followed has returned.
+/// hangup; no process that fell asleep before its condition was made true stays posted once the
+/// wakeup that followed has returned; and the level of that wakeup is above the number that the
+/// process was told to wait with.
 pub fn each_write_is_read_whole_and_once()
     ensures shares { EachShareIsReadWholeAndOnce }
     ensures whole { EachWriteIsReadWholeAndOnce }
@@ -61,6 +64,8 @@ pub fn each_write_is_read_whole_and_once()
     ensures writers_woken { ReadsWakeEachWriter }
     ensures tries_woken { TriesWakeEachWriter }
     ensures all_woken { HangupsWakeAll }
+    ensures reader_above { WaitingReadersAreWokenAbove }
+    ensures writers_above { WaitingWritersAreWokenAbove }
 {}
 
 /// A call with a deadline does to its direction what one without does, and comes to the same or to
