@@ -6,7 +6,7 @@ use Rattle.sync_base.specs.declared.fault.Fault.{Fault}
 use Rattle.sync_base.specs.declared.fault.Fault.TheVariants as fault
 use Rattle.sync_base.specs.declared.ids.RendezId.{RendezId}
 use Rattle.timer_list.specs.declared.timers.Timers.{Timers}
-use Rattle.timer_list.specs.Timing.{ComesToSame, TimedPoint, WaitedInTime, while_set}
+use Rattle.timer_list.specs.Timing.{ComesToSame, TimedPoint, WaitedInTime}
 use Rattle.timer_list.proofs.UntimedLemmas.{untimed}
 use Rattle.waiting.specs.Waiting.{Promise}
 use Rattle.pipe_dev.specs.ReadCalls.{ReadsInTimeAreReads, calling_at, reading}
@@ -37,7 +37,7 @@ module _ {Seat Seen Out : Type 0} (see : Seat → Seen) (promise : Promise Seen 
         process = waits.process;
         begun = waits.begun;
         added = waits.added;
-        slept = slept_seen see (while_set _ promise) rendez waits.first waits.ending
+        slept = slept_seen see promise rendez waits.first waits.ending
             (record { seat = after.at.seat; process = waits.process }) waits.slept;
         ended = waits.ended;
         taken = waits.taken;

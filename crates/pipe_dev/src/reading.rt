@@ -8,7 +8,6 @@ ghost use Rattle.pipe_dev.specs.ReadCalls.{AsksForBytes, IsAskedRead, Tries, rea
 ghost use Rattle.pipe_dev.specs.ReadCalls.{calling_at};
 ghost use Rattle.pipe_dev.specs.ReadSteps.{found_of, told_by};
 ghost use Rattle.pipe_dev.specs.Rendezes.{OwnsRow, reader_rendez};
-ghost use Rattle.timer_list.specs.Timing.{IsSetIfAny, while_set};
 ghost use Rattle.waiting.specs.Waiting.{IsLow, SleepsOn, Waited, point, told};
 
 use crate::answers::{ReadAnswer, TryAnswer};
@@ -21,7 +20,6 @@ use block_queue::Queue;
 use sleep_wakeup::Proc;
 use std::sync::Wait;
 use sync_base::Fault;
-use timer_list::SetTimer;
 use waiting::{WaitEnd, end_wait};
 
 impl<'p> ReadEnd<'p> {
@@ -141,14 +139,14 @@ fn read_with<R: Wait>(
     match ask_for_bytes(queue, row, cursor, proc, buffer) {
         Found::Answered(answer) => Ok(answer),
         Found::NotYet(number) => {
-            let ending = sleep_for_bytes(queue, row, rt, cursor, proc, buffer, number, None);
+            let ending = sleep_for_bytes(queue, row, rt, cursor, proc, buffer, number);
             end_wait(proc, ending)
         }
     }
 }
 
 // The sleeps of a read that was told to wait with this number, and its requests after them: the
-// loop of `waiting`, with the buffer that is lent. A read that has a deadline has set its timer.
+// loop of `waiting`, with the buffer that is lent.
 pub(crate) fn sleep_for_bytes<R: Wait>(
     queue: &Queue,
     row: &Row,
@@ -157,21 +155,17 @@ pub(crate) fn sleep_for_bytes<R: Wait>(
     proc: &mut Proc<'_>,
     buffer: &mut [u8],
     number: u64,
-    set: Option<SetTimer<'_, '_>>,
 ) -> WaitEnd<ReadAnswer>
     requires cursor { IsReadCursor queue.now row.now cursor.old }
     requires kernel { OwnsRow proc.old.words row.now }
     requires room { buffer.old ≢ [] }
     requires low { number < TOP_LEVEL }
-    requires set { IsSetIfAny set }
     ensures cursor { IsReadCursor queue.now row.now cursor.new }
     ensures words { proc.new.words ≡ proc.old.words }
-    ensures slept { SleepsOn
-        (while_set (IsSetIfAny set.entry) (reading (key_of queue.now) row.now))
-        (reader_rendez row.now) (told (lending_with cursor.old buffer.old) proc.old number) result
+    ensures slept { SleepsOn (reading (key_of queue.now) row.now) (reader_rendez row.now)
+        (told (lending_with cursor.old buffer.old) proc.old number) result
         (point (lending_with cursor.new buffer.new) proc.new) }
 {
-    let _ = set;
     let mut number = number;
     'reading: for _ in rt.forever() {
         match proc.sleep(rt, row.reader(), number) {

@@ -20,7 +20,7 @@ use sleep_wakeup::Proc;
 use std::sync::Wait;
 use sync_base::Fault;
 use timer_list::timer_object::deadline;
-use timer_list::{SetTimer, TimerSeat, Timers, end_within};
+use timer_list::{TimerSeat, Timers, end_within};
 
 impl<'p> ReadEnd<'p> {
     ghost use Rattle.std.specs.Prelude.{◌≡◌, ◌≢◌, []};
@@ -132,11 +132,7 @@ fn read_in_time<R: Wait>(
         Found::Answered(answer) => Ok(answer),
         Found::NotYet(number) => {
             timers.add(rt, timer, pid, deadline(now, ms));
-            let set = SetTimer {
-                timers,
-                seat: timer,
-            };
-            let ending = sleep_for_bytes(queue, row, rt, cursor, proc, buffer, number, Some(set));
+            let ending = sleep_for_bytes(queue, row, rt, cursor, proc, buffer, number);
             end_within(rt, proc, row.reader(), timers, timer, ending)
         }
     }

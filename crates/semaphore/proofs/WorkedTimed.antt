@@ -38,7 +38,7 @@ use Rattle.semaphore.specs.SemaHistory.{SemaEntry}
 use Rattle.timer_list.specs.Ticking.{Ticks}
 use Rattle.timer_list.specs.TimerHistory.{TimerEntry}
 use Rattle.timer_list.specs.Timing.{Awaiting, Keeps, Looks, PutsBackAny, TimedPoint, WaitsInTime}
-use Rattle.timer_list.specs.Timing.{notes_of, while_set}
+use Rattle.timer_list.specs.Timing.{notes_of}
 use Rattle.semaphore.proofs.UnitLemmas.{own_more}
 use Rattle.waiting.specs.declared.wait.WaitEnd.{WaitEnd}
 use Rattle.waiting.specs.declared.wait.WaitEnd.TheVariants.{Answered, Stopped}
@@ -165,10 +165,10 @@ adds_one by call told old new slept later asked =
       firsts = omega (arith, begins, later);
     }
 
-module _ (sema : Sema) (Timer : Type 0) (rendez : RendezId) where
+module _ (sema : Sema) (rendez : RendezId) where
   -- between any two requests stands one sleep
   rounds_add : (times : ℕ) (first now : WaitPoint SemaSeat) → IsSeatAt sema true first.at.seat
-      → Rounds (while_set Timer (acquiring sema)) rendez times first now
+      → Rounds (acquiring sema) rendez times first now
       → IsSeatAt sema true now.at.seat × Adds times times first.at now.at
   rounds_add zero first now at same =
       rw same
@@ -177,7 +177,7 @@ module _ (sema : Sema) (Timer : Type 0) (rendez : RendezId) where
       let (waits, before) = rounds_add times first more.between at more.rounds in
       let slept = slept_once more.between.at.process rendez more.between.number no_notes
       more.last.woken more.last.slept in
-      let only = more.last.asked.1 in
+      let only = more.last.asked in
       let one = adds_one _ _ _ more.between.at now.at
       (subst (SleepsOnce more.between.at.process) (sym only.idle) slept) refl
       (asked_more sema true true _ _ more.between.at.seat now.at.seat waits only.asks) in (
@@ -193,22 +193,22 @@ module _ (sema : Sema) (Timer : Type 0) (rendez : RendezId) where
   -- and one before the last
   end_adds : (last : WaitPoint SemaSeat) (ending : WaitEnd Unit) (after : Point SemaSeat)
       → IsSeatAt sema true last.at.seat
-      → Ends (while_set Timer (acquiring sema)) rendez last ending after
+      → Ends (acquiring sema) rendez last ending after
       → Adds 1 1 last.at after
   end_adds last (Answered (Ok unit)) after at ends =
       let slept = slept_once last.at.process rendez last.number no_notes ends.woken ends.slept in
-      let only = ends.asked.1 in
+      let only = ends.asked in
       adds_one _ _ _ last.at after (subst (SleepsOnce last.at.process) (sym only.idle) slept) refl
       (asked_more sema true false _ _ last.at.seat after.seat at only.asks)
-  end_adds last (Answered (Err why)) after at ends = absurd ends.asked.1
+  end_adds last (Answered (Err why)) after at ends = absurd ends.asked
   end_adds last (Stopped why (Some unit)) after at ends =
       adds_one _ _ _ last.at after
       (failed_once last.at.process rendez last.number after.process why ends.failed) refl
-      (asked_more sema true false _ _ last.at.seat after.seat at ends.left.1)
+      (asked_more sema true false _ _ last.at.seat after.seat at ends.left)
   end_adds last (Stopped why None) after at ends =
       adds_one _ _ _ last.at after
       (failed_once last.at.process rendez last.number after.process why ends.failed) refl
-      (asked_more sema true false _ _ last.at.seat after.seat at ends.left.1)
+      (asked_more sema true false _ _ last.at.seat after.seat at ends.left)
 
 -- it does not look for a tick that took no timer
 not_looked : (rendez : RendezId) (times : ℕ) (first now : Awaiting)
@@ -286,9 +286,9 @@ module _ (sema : Sema) (timers : Timers) (moment : ℕ) (before after : TimedPoi
         let calls = ap (λ (l : List SemaEntry). length l) asked in
         let one = ap firsts asked in
         let slept = waits.slept in
-        let (at, rounds) = rounds_add sema _ _ slept.times waits.first slept.last begun.asks.seat
+        let (at, rounds) = rounds_add sema _ slept.times waits.first slept.last begun.asks.seat
         slept.rounds in
-        let end = end_adds sema _ _ slept.last waits.ending _ at slept.ends in
+        let end = end_adds sema _ slept.last waits.ending _ at slept.ends in
         let begins : Awaiting =
         record { process = waits.process; notes = notes_of waits.ending } in
         let rendez = rendez_at sema before.at.seat in

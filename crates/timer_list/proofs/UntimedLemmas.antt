@@ -1,5 +1,5 @@
 -- What a call with a deadline did to its seat, a call without one does.
-use Rattle.std.proofs.Common.{ℕ, zero, suc, Bool, Some, None, Result, Ok, Err}
+use Rattle.std.proofs.Common.{ℕ, Bool, Some, None, Result, Ok, Err}
 use Rattle.std.proofs.Common.{inl, inr, refl, sym, subst}
 use Rattle.rendez_words.specs.Process.{Process, pid_in}
 use Rattle.rendez_words.specs.Steps.{notes}
@@ -9,49 +9,10 @@ use Rattle.sync_base.specs.declared.ids.RendezId.{RendezId}
 use Rattle.sync_base.specs.declared.note.NoteSet.{NoteSet}
 use Rattle.timer_list.specs.declared.timers.Timers.{Timers}
 use Rattle.timer_list.specs.Timing.{ComesToSame, IsACall, IsEndedByNotes, Keeps, TimedPoint}
-use Rattle.timer_list.specs.Timing.{WaitedInTime, while_set}
+use Rattle.timer_list.specs.Timing.{WaitedInTime}
 use Rattle.waiting.specs.declared.wait.WaitEnd.{WaitEnd}
 use Rattle.waiting.specs.declared.wait.WaitEnd.TheVariants.{Answered, Stopped}
-use Rattle.waiting.specs.Waiting.{Promise, Point, WaitPoint, Rounds, Ends, SleepsOn, Returns}
-use Rattle.waiting.specs.Waiting.{answer_of}
-
-module _ {Seat Out : Type 0} (Timer : Type 0) (promise : Promise Seat Out) (rendez : RendezId)
-  where
-    -- rounds with a timer are rounds
-    rounds : (times : ℕ) (first now : WaitPoint Seat)
-        → Rounds (while_set Timer promise) rendez times first now
-        → Rounds promise rendez times first now
-    rounds zero first now same = same
-    rounds (suc times) first now more =
-        record {
-          between = more.between;
-          rounds = rounds times first more.between more.rounds;
-          last = record {
-            woken = more.last.woken;
-            slept = more.last.slept;
-            asked = more.last.asked.1;
-          };
-        }
-
-    ends : (last : WaitPoint Seat) (ending : WaitEnd Out) (after : Point Seat)
-        → Ends (while_set Timer promise) rendez last ending after
-        → Ends promise rendez last ending after
-    ends last (Answered answer) after asked =
-        record { woken = asked.woken; slept = asked.slept; asked = asked.asked.1 }
-    ends last (Stopped why reply) after left =
-        record { failed = left.failed; left = left.left.1 }
-
-    -- and so are its sleeps
-    pub sleeps : (first : WaitPoint Seat) (ending : WaitEnd Out) (after : Point Seat)
-        → SleepsOn (while_set Timer promise) rendez first ending after
-        → SleepsOn promise rendez first ending after
-    sleeps first ending after slept =
-        record {
-          times = slept.times;
-          last = slept.last;
-          rounds = rounds slept.times first slept.last slept.rounds;
-          ends = ends slept.last ending after slept.ends;
-        }
+use Rattle.waiting.specs.Waiting.{Promise, Returns, answer_of}
 
 -- where a process is that has put back the notes that ended a sleep
 abbrev put_back : Fault → Process → Process
@@ -122,8 +83,7 @@ untimed promise rendez timers moment before answer after (inr waits) =
         waited = record {
           ending = waits.ending;
           process = waits.process;
-          slept = sleeps _ promise rendez waits.first waits.ending
-              (record { seat = after.at.seat; process = waits.process }) waits.slept;
+          slept = waits.slept;
           returned = returns waits.ending waits.process;
           answer_is = refl;
         };

@@ -11,15 +11,13 @@ use Rattle.sync_base.specs.declared.note.Note.TheVariants.{Alarm, Expired}
 use Rattle.sync_base.specs.declared.note.NoteSet.{NoteSet}
 use Rattle.sync_base.specs.NoteSet.{no_notes, joined, only, holds}
 use Rattle.timer_list.specs.declared.limits.TheConstants.{LAST_THRESHOLD}
-use Rattle.timer_list.specs.declared.timed.SetTimer.{SetTimer}
 use Rattle.timer_list.specs.declared.timers.Timers.{Timers}
-use Rattle.timer_list.specs.Seats.{IsSeatAtTimers}
 use Rattle.timer_list.specs.Definitions.{timer_definition}
 use Rattle.timer_list.specs.TimerHistory.{WasTaken}
 use Rattle.timer_list.specs.Timing.{AwaitsTick, Awaiting, BegunAtOnce, ComesToSame, IsACall}
 use Rattle.timer_list.specs.Timing.{IsEndedByNotes, Keeps, Looks, LooksForTick, PutsBackAny}
 use Rattle.timer_list.specs.Timing.{TimedPoint, WaitedInTime, WaitsInTime, notes_in, notes_of}
-use Rattle.timer_list.specs.Timing.{IsSetIfAny, while_set, without_expired}
+use Rattle.timer_list.specs.Timing.{without_expired}
 use Rattle.timer_list.specs.Sleeping.{sleeping}
 use Rattle.waiting.specs.declared.call.Reply.TheVariants.{Done, Wait}
 use Rattle.waiting.specs.declared.wait.WaitEnd.{WaitEnd}
@@ -148,27 +146,6 @@ module _ {Seat : Type 0} (promise : Promise Seat Unit) (rendez : RendezId) (watc
   times_out_too_early waits is none = none (waits.taken is)
 
 -- ---- as a call without a deadline
-
-module _ {Seat Out : Type 0} (promise : Promise Seat Out) where
-  asks_without_its_timer : (old new : Point Seat) (number : ℕ)
-      → ¬ (while_set ⊥ promise).asked old (Wait number) new
-  asks_without_its_timer old new number asked = asked.0
-
-  leaves_without_its_timer : (old new : Seat) → ¬ (while_set ⊥ promise).left old None new
-  leaves_without_its_timer old new left = left.0
-
-  -- such a call begins before its timer is set
-  begins_without_its_timer : (old new : Point Seat) (number : ℕ)
-      → promise.begun old (Wait number) new → (while_set ⊥ promise).begun old (Wait number) new
-  begins_without_its_timer old new number begun = begun
-
--- a call that has a timer has set it
-a_timer_that_is_not_set : (set : SetTimer) → ¬ IsSeatAtTimers set.timers.now true set.seat.now
-    → ¬ IsSetIfAny (Some set)
-a_timer_that_is_not_set set unset is = unset is
-
-no_timer_is_set : IsSetIfAny None
-no_timer_is_set = tt
 
 the_same_comes : ComesToSame {Out = ℕ} (Ok 7) (Ok 7)
     × ComesToSame {Out = ℕ} (Err fault.TimedOut) (Err fault.Worn)

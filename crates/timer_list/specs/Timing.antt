@@ -1,7 +1,9 @@
--- What a call with a deadline does: the wait of all devices, while a timer is set. After
--- tsemacquire in semacquire(2) and tsleep of the kernel; the ticks, that a call waits for the note
--- of a tick that took its timer, and which notes are put back, are own.
-use Rattle.std.specs.Prelude.{◌≡◌, ◌≢◌, ◌⊎◌, ⊤, ℕ, zero, suc, Bool, true, false, Option, Some, None}
+-- What a call with a deadline does: the wait of all devices, and one timer, set and cancelled.
+-- After tsemacquire in semacquire(2) and tsleep of the kernel; the ticks, that a call waits for the
+-- note of a tick that took its timer, and which notes are put back, are own. The steps of a process
+-- and the requests at its timers are two histories: which step comes before which request is not
+-- said.
+use Rattle.std.specs.Prelude.{◌≡◌, ◌≢◌, ◌⊎◌, ⊤, ℕ, zero, suc, Bool, true, false, Some, None}
 use Rattle.std.specs.Prelude.{Result, Ok, Err}
 use Rattle.kernel_lock.specs.Seats.{number_of, opening_of, seen_of}
 use Rattle.rendez_words.specs.Process.{Process, pid_in}
@@ -16,14 +18,12 @@ use Rattle.sync_base.specs.declared.note.Note.TheVariants.{Expired}
 use Rattle.sync_base.specs.declared.note.NoteSet.{NoteSet}
 use Rattle.sync_base.specs.NoteSet.{no_notes, joined, holds}
 use Rattle.timer_list.specs.declared.limits.TheConstants.{LAST_THRESHOLD}
-use Rattle.timer_list.specs.declared.timed.SetTimer.{SetTimer}
 use Rattle.timer_list.specs.declared.timer_object.TimerCall.TheVariants.{Add, Cancel}
 use Rattle.timer_list.specs.declared.timer_object.TimerReply.TheVariants as told
 use Rattle.timer_list.specs.declared.timers.Timers.{Timers}
 use Rattle.timer_list.specs.declared.timers.TimerSeat.{TimerSeat}
 use Rattle.timer_list.specs.Asking.{AsksTimers, cancel_reply}
 use Rattle.timer_list.specs.Definitions.{timer_definition}
-use Rattle.timer_list.specs.Seats.{IsSeatAtTimers}
 use Rattle.timer_list.specs.TimerHistory.{WasTaken}
 use Rattle.waiting.specs.declared.call.Reply.TheVariants.{Wait}
 use Rattle.waiting.specs.declared.wait.WaitEnd.{WaitEnd}
@@ -113,24 +113,6 @@ module _ {Out : Type 0} (expired : Bool) (others : NoteSet) where
 
 -- ---- the call
 
--- a timer is set
-abbrev pub IsSet : SetTimer → Type 0
-IsSet set = IsSeatAtTimers set.timers.now true set.seat.now
-
--- so is the one that a call has, if it has one
-abbrev pub IsSetIfAny : Option SetTimer → Type 0
-IsSetIfAny None = ⊤
-IsSetIfAny (Some set) = IsSet set
-
--- this holds of a timer at each request behind a sleep, and else these are a call's requests
-abbrev pub while_set : {Seat Out : Type 0} → Type 0 → Promise Seat Out → Promise Seat Out
-while_set Timer promise =
-    record {
-      begun = promise.begun;
-      asked = λ before reply after. Timer × promise.asked before reply after;
-      left = λ before reply after. Timer × promise.left before reply after;
-    }
-
 -- where a call with a deadline stands: its seats, and the steps of its process
 pub record TimedPoint (Seat : Type 0) : Type 0 where
   pub at : Point Seat
@@ -139,8 +121,8 @@ pub record TimedPoint (Seat : Type 0) : Type 0 where
 abbrev pub timed_point : {Seat : Type 0} → Seat → TimerSeat → Running → TimedPoint Seat
 timed_point seat timer proc = record { at = point seat proc; timer = timer }
 
--- Behind its sleeps a call cancelled its timer, awaited the note of a tick that had taken it, and
--- kept what came.
+-- A call cancelled its timer; behind its sleeps it awaited the note of a tick that had taken the
+-- timer, and kept what came.
 pub record EndsInTime {Out : Type 0} (rendez : RendezId) (timers : Timers) (set : TimerSeat)
     (ending : WaitEnd Out) (slept : Process) (answer : Result Out Fault) (timer : TimerSeat)
     (after : Process) : Type 0 where
@@ -162,7 +144,7 @@ module _ {Seat Out : Type 0} (promise : Promise Seat Out) (rendez : RendezId) (t
     pub begun : promise.begun before.at (reply_of answer) after.at
     pub timer : after.timer ≡ before.timer
 
-  -- It was told to wait, and then: it set its timer; it slept while that was set; and it ended so.
+  -- It was told to wait: it set its timer, once; it slept; and it ended so.
   pub record WaitsInTime (before : TimedPoint Seat) (answer : Result Out Fault)
       (after : TimedPoint Seat) : Type 0 where
     pub first : WaitPoint Seat
@@ -173,8 +155,8 @@ module _ {Seat Out : Type 0} (promise : Promise Seat Out) (rendez : RendezId) (t
     pub added : AsksTimers timers true
         (Add (number_of before.timer.seat) (pid_in before.at.process) moment) told.Added
         before.timer set
-    pub slept : SleepsOn (while_set (IsSeatAtTimers timers true set) promise) rendez first
-        ending (record { seat = after.at.seat; process = process })
+    pub slept : SleepsOn promise rendez first ending
+        (record { seat = after.at.seat; process = process })
     pub ended : EndsInTime rendez timers set ending process answer after.timer after.at.process
     -- where a tick took its timer, that was at its deadline or later
     pub taken : ended.expired ≡ true
@@ -182,7 +164,7 @@ module _ {Seat Out : Type 0} (promise : Promise Seat Out) (rendez : RendezId) (t
         moment (seen_of after.timer.seat)
 
   -- A call until this moment: it asked, and was answered at once, or was told to wait, and waited
-  -- with its timer set.
+  -- with a timer.
   abbrev pub WaitedInTime : TimedPoint Seat → Result Out Fault → TimedPoint Seat → Type 0
   WaitedInTime before answer after =
       BegunAtOnce before answer after ⊎ WaitsInTime before answer after

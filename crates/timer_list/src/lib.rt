@@ -1,8 +1,8 @@
 //! Timers: a seat sets one to a moment, and a tick that tells that this moment is come posts the
-//! note `expired` to the process of the seat. A call with a deadline sleeps while its timer is set.
+//! note `expired` to the process of the seat. A call with a deadline sets one before it sleeps.
 //! Read `due`, `tournament`, `timer_object`, `object`, the timers as an object that a lock stands
 //! round; then `timers`, `timer_asks`, `ticking`, the calls of processes on threads; `limits`,
-//! `timed`, `within`, `sleeping`, how a call waits until a moment; and `laws`.
+//! `within`, `sleeping`, how a call waits until a moment; and `laws`.
 #![tactic(auto)]
 
 pub mod due;
@@ -11,7 +11,6 @@ pub mod limits;
 mod object;
 mod sleeping;
 mod ticking;
-mod timed;
 mod timer_asks;
 pub mod timer_object;
 pub mod timers;
@@ -19,7 +18,6 @@ mod tournament;
 mod within;
 
 pub use due::Due;
-pub use timed::SetTimer;
 pub use timer_object::{Timer, TimerCall, TimerObject, TimerReply};
 pub use timers::{OpenedTimers, TimerSeat, Timers};
 pub use within::{end_within, wait_within};

@@ -23,7 +23,6 @@ ghost use Rattle.timer_list.specs.Timing.{
 ghost use Rattle.waiting.specs.Waiting.{point};
 
 use crate::limits::LAST_THRESHOLD;
-use crate::timed::{SetTimer, Timed};
 use crate::timer_object::deadline;
 use crate::timers::{TimerSeat, Timers};
 use sleep_wakeup::Proc;
@@ -78,12 +77,7 @@ pub fn wait_within<R: Wait, C: WaitingCall, P: Probe>(
         Reply::Refused(why) => Err(why),
         Reply::Wait(number) => {
             timers.add(rt, timer, pid, deadline(now, ms));
-            let set = SetTimer {
-                timers,
-                seat: timer,
-            };
-            let timed = Timed { call, set };
-            let ending = sleep_for(rt, proc, rendez, &timed, seat, number, probe);
+            let ending = sleep_for(rt, proc, rendez, call, seat, number, probe);
             end_within(rt, proc, rendez, timers, timer, ending)
         }
     }

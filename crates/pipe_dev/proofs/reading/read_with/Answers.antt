@@ -3,9 +3,8 @@ use Rattle.std.proofs.Common.{inr}
 use Rattle.block_queue.specs.Seats.{key_of}
 use Rattle.waiting.specs.Waiting.{point, told}
 use Rattle.pipe_dev.specs.FillSteps.{lending_with}
-use Rattle.pipe_dev.specs.ReadCalls.{AsksForBytes, reading}
+use Rattle.pipe_dev.specs.ReadCalls.{AsksForBytes}
 use Rattle.pipe_dev.specs.Rendezes.{reader_rendez}
-use Rattle.timer_list.proofs.UntimedLemmas.{sleeps}
 use Rattle.pipe_dev.proofs.AskedLemmas.{is_asked_read}
 use Rattle.pipe_dev.proofs.reading.read_with.Goals as goal
 
@@ -25,10 +24,7 @@ returns-in-NotYet-clause-asked g c =
       waited = record {
         ending = slept.result;
         process = slept.new.proc.process;
-        slept = sleeps _ (reading (key_of c.args.queue.now) c.args.row.now)
-            (reader_rendez c.args.row.now) first slept.result
-            (point (lending_with slept.new.cursor slept.new.buffer) slept.new.proc)
-            slept.ensures.slept;
+        slept = slept.ensures.slept;
         returned = c.end_wait.ensures.returned;
         answer_is = c.end_wait.ensures.answer;
       };

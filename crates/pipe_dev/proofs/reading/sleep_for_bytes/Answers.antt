@@ -19,7 +19,7 @@ returns-in-Err-clause-slept g c =
         failed = fails_asleep c.reading.proc.words c.reading.proc.process (reader_rendez row)
             c.reading.number c.sleep.new.self.process c.in-Err.why (omega (arith, has)) kept.low
             (rw c.reader.ensures at c.in-Err.ensures.fault);
-        left = (c.requires.set, refl);
+        left = refl;
       };
     }
 
@@ -32,7 +32,7 @@ returns-in-Answered-clause-slept g c =
       ends = record {
         woken = c.sleep.new.self.process;
         slept = rw c.reader.ensures at c.in-Ok.ensures.slept;
-        asked = (c.requires.set, c.in-Answered.ensures.asked);
+        asked = c.in-Answered.ensures.asked;
       };
     }
 
@@ -52,7 +52,7 @@ reading-preserved g c =
         last = record {
           woken = c.sleep.new.self.process;
           slept = rw c.reader.ensures at c.in-Ok.ensures.slept;
-          asked = (c.requires.set, c.in-NotYet.ensures.asked);
+          asked = c.in-NotYet.ensures.asked;
         };
       };
     }

@@ -2,7 +2,6 @@
 use Rattle.std.proofs.Common.{◌≡◌, ◌≢◌, ◌<◌, [], ℕ}
 use Rattle.sync_base.specs.declared.limits.TheConstants.{TOP_LEVEL}
 use Rattle.block_queue.specs.Seats.{key_of}
-use Rattle.timer_list.specs.Timing.{IsSetIfAny, while_set}
 use Rattle.waiting.specs.Waiting.{Rounds, told}
 use Rattle.pipe_dev.specs.Ends.{IsReadCursor}
 use Rattle.pipe_dev.specs.FillSteps.{lending_with}
@@ -18,8 +17,7 @@ invariant-reading g l =
       room : l.buffer ≢ [];
       low : l.number < TOP_LEVEL;
       times : ℕ;
-      rounds : Rounds (while_set (IsSetIfAny l.initial.set) (reading (key_of l.queue) l.row))
-          (reader_rendez l.row) times
+      rounds : Rounds (reading (key_of l.queue) l.row) (reader_rendez l.row) times
           (told (lending_with l.initial.cursor l.initial.buffer) l.initial.proc l.initial.number)
           (told (lending_with l.cursor l.buffer) l.proc l.number);
     }

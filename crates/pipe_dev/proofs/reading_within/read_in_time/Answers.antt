@@ -16,9 +16,6 @@ pub sleep_for_bytes-ending-requires-clause-kernel :
 sleep_for_bytes-ending-requires-clause-kernel g c =
     rw c.ask_for_bytes.ensures.words c.requires.kernel
 
-pub sleep_for_bytes-ending-requires-clause-set : goal.sleep_for_bytes-ending-requires-clause-set
-sleep_for_bytes-ending-requires-clause-set g c = c.add.ensures.asks.seat
-
 pub end_within-requires-clause-rendez : goal.end_within-requires-clause-rendez
 end_within-requires-clause-rendez g c =
     let kernel = c.requires.kernel in

@@ -21,7 +21,7 @@ returns-in-Refused-clause-waited g c =
 
 pub sleep_for-ending-requires-clause-waits : goal.sleep_for-ending-requires-clause-waits
 sleep_for-ending-requires-clause-waits g c =
-    (c.in-Wait.ensures.stands, c.add.ensures.asks.seat)
+    c.in-Wait.ensures.stands
 
 pub sleep_for-ending-requires-clause-row : goal.sleep_for-ending-requires-clause-row
 sleep_for-ending-requires-clause-row g c =
