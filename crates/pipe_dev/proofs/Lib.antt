@@ -15,6 +15,7 @@ pub mod WrittenLemmas
 pub mod ChainLemmas
 pub mod WaitLemmas
 pub mod AboveLemmas
+mod TimedWakeLemmas
 pub mod OwnLemmas
 pub mod WorkedPipes
 pub mod WorkedEntries

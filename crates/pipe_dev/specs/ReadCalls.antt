@@ -2,6 +2,7 @@
 use Rattle.std.specs.Prelude.{◌≡◌, ◌⊎◌, ◌+◌, ◌++◌, ℕ, nat_lt, Bool, true}
 use Rattle.std.specs.Prelude.{List, length, drop, ⊤}
 use Rattle.std.specs.Prelude.{Option, Some, None, Result, Err}
+use Rattle.histories.specs.History.{IsPast}
 use Rattle.histories.specs.declared.account.Account.{Account}
 use Rattle.sync_base.specs.declared.fault.Fault.{Fault}
 use Rattle.sync_base.specs.declared.fault.Fault.TheVariants as fault
@@ -242,18 +243,20 @@ ReadsInTime key row timers moment = WaitedInTime (reading key row) (reader_rende
 -- Of its direction it did what a read does that waits as long as it takes, and it comes to the
 -- same.
 pub record IsARead (key : Key) (row : Row) (old : Calling) (answer : Result ReadAnswer Fault)
-    (new : Lending) : Type 0 where
+    (new : Point Lending) : Type 0 where
   pub told : Result ReadAnswer Fault
   pub process : Process
-  pub read : Reads key row old told (calling_at (record { seat = new; process = process }))
+  pub read : Reads key row old told (calling_at (record { seat = new.seat; process = process }))
   pub same : ComesToSame told answer
+  -- its steps are the caller's own, which has gone on since
+  pub own : IsPast process.trace new.process.trace
 
 abbrev pub ReadsInTimeAreReads : Type 0
 ReadsInTimeAreReads =
     (key : Key) (row : Row) (timers : Timers) (moment : ℕ) (old new : TimedPoint Lending)
     (answer : Result ReadAnswer Fault)
     → ReadsInTime key row timers moment old answer new
-    → IsARead key row (calling_at old.at) answer new.at.seat
+    → IsARead key row (calling_at old.at) answer new.at
 
 -- ---- what comes from the wait
 

@@ -1,7 +1,8 @@
 -- No wakeup of a pipe is lost: who waits for a write or for room is taken out of the Rendez by the
 -- wakeup of the call that made its condition true, once that call has returned; and that wakeup is
 -- above the number with which it was told to wait.
-use Rattle.std.specs.Prelude.{◌≡◌, ◌≢◌, ◌+◌, ◌<◌, ℕ, ⊤, List, [], ◌∷◌, ◌++◌, Some}
+use Rattle.std.specs.Prelude.{◌≡◌, ◌≢◌, ◌+◌, ◌<◌, ℕ, ⊤, List, [], ◌∷◌, ◌++◌, Some, Ok}
+use Rattle.histories.specs.declared.account.Account.{Account}
 use Rattle.histories.specs.History.{IsHistory}
 use Rattle.sync_base.specs.declared.limits.TheConstants.{TOP_LEVEL}
 use Rattle.sleep_core.specs.Laws.{ReleasesBelow}
@@ -15,13 +16,18 @@ use Rattle.block_queue.specs.declared.entry.Entry.TheVariants.{Stood, Full, Bloc
 use Rattle.block_queue.specs.declared.view.Key.{Key}
 use Rattle.block_queue.specs.History.{opening_state}
 use Rattle.block_queue.specs.Meaning.{queue_meaning}
+use Rattle.pipe_dev.specs.declared.answers.ReadAnswer.{ReadAnswer}
 use Rattle.pipe_dev.specs.declared.row.Row.{Row}
 use Rattle.pipe_dev.specs.Parts.{Part}
 use Rattle.pipe_dev.specs.declared.filling.ReadOutcome.{ReadOutcome}
-use Rattle.pipe_dev.specs.Filling.{last_number}
-use Rattle.pipe_dev.specs.ReadCalls.{Reader, TakesOut, Calling, TriesOn}
+use Rattle.pipe_dev.specs.Filling.{Lending, last_number}
+use Rattle.pipe_dev.specs.ReadCalls.{AsksForBytes, Reader, ReadsInTime, TakesOut, Calling, TriesOn}
+use Rattle.pipe_dev.specs.ReadCalls.{calling_at}
 use Rattle.pipe_dev.specs.Rendezes.{WakesAll, reader_rendez, writer_rendez}
-use Rattle.pipe_dev.specs.WriteCalls.{WriteCall, Writer, Accepts}
+use Rattle.pipe_dev.specs.WriteCalls.{WriteCall, Writer, Accepts, WritesInTime}
+use Rattle.timer_list.specs.declared.timers.Timers.{Timers}
+use Rattle.timer_list.specs.Timing.{TimedPoint}
+use Rattle.waiting.specs.declared.call.Reply.TheVariants.{Done}
 use Rattle.waiting.specs.Wakeups.{HasGoneOn}
 
 -- Whoever fell asleep on the reader's Rendez below the number of a write that was accepted is no
@@ -105,3 +111,47 @@ WaitingWritersAreWokenAbove =
     (key : Key) (history : List Entry)
     → IsHistory (queue_meaning key.first) (opening_state key.limit) (key.writers + 1) history
     → AreWritersWokenAbove history
+
+-- ---- a call until a moment
+
+-- A write that was accepted until a moment wakes the reader as any other does, and its caller goes
+-- on from there.
+abbrev pub TimedWritesWakeTheReader : Type 0
+TimedWritesWakeTheReader =
+    (sizes : Sizes) (s : _) (shows : ShowsCore sizes s)
+    → (call : WriteCall) (timers : Timers) (moment number : ℕ)
+    → (old new : TimedPoint (Account Entry))
+    → WritesInTime call timers moment old (Ok number) new → HasGoneOn s.views new.at.process
+    → ReleasesBelow (world_of sizes.procs sizes.rendez shows.run) (reader_rendez call.row) number
+
+-- each writer is released below this number
+abbrev pub ReleasesWriters : State → Row → ℕ → Type 0
+ReleasesWriters state row number =
+    (writer : ℕ) → writer < row.writers → ReleasesBelow state (writer_rendez row writer) number
+
+-- The last try of a read that was answered so: the writers are released below the number of the
+-- last write that it took out.
+pub record LastTryReleases (state : State) (key : Key) (row : Row) (answer : ReadAnswer)
+    (seat : Lending) : Type 0 where
+  pub before : Calling
+  pub process : Process
+  pub asked : AsksForBytes key row before (Done answer)
+      (calling_at (record { seat = seat; process = process }))
+  pub taken : (left : Part)
+      → TakesOut key row before.reader left
+      (calling_at (record { seat = seat; process = process })).reader
+      → ReleasesWriters state row (left.place + 1)
+  pub tried : (came : ReadOutcome) (number : ℕ)
+      → (tries : TriesOn key row before came
+      (calling_at (record { seat = seat; process = process })))
+      → last_number before.reader.rest tries.fills.filling.parts ≡ Some number
+      → ReleasesWriters state row number
+
+-- So with a read until a moment, and the writers.
+abbrev pub TimedReadsWakeEachWriter : Type 0
+TimedReadsWakeEachWriter =
+    (sizes : Sizes) (s : _) (shows : ShowsCore sizes s)
+    → (key : Key) (row : Row) (timers : Timers) (moment : ℕ) (answer : ReadAnswer)
+    → (old new : TimedPoint Lending)
+    → ReadsInTime key row timers moment old (Ok answer) new → HasGoneOn s.views new.at.process
+    → LastTryReleases (world_of sizes.procs sizes.rendez shows.run) key row answer new.at.seat

@@ -2,6 +2,7 @@
 use Rattle.std.specs.Prelude.{◌≡◌, ◌⊎◌, ◌+◌, ◌++◌, ℕ, zero, suc, nat_le, false, ⊤}
 use Rattle.std.specs.Prelude.{List, [], ◌∷◌, length, take, drop, reverse}
 use Rattle.std.specs.Prelude.{Option, Some, None, Result, Ok, Err, if◌then◌else◌}
+use Rattle.histories.specs.History.{IsPast}
 use Rattle.histories.specs.declared.account.Account.{Account}
 use Rattle.sync_base.specs.declared.fault.Fault.{Fault}
 use Rattle.sync_base.specs.declared.fault.Fault.TheVariants as fault
@@ -134,17 +135,19 @@ WritesInTime call timers moment old answer new =
 -- Of its direction it did what a write does that waits as long as it takes, and it comes to the
 -- same.
 pub record IsAWrite (call : WriteCall) (old : Writer) (answer : Result ℕ Fault)
-    (new : Account Entry) : Type 0 where
+    (new : Writer) : Type 0 where
   pub told : Result ℕ Fault
   pub process : Process
-  pub wrote : Writes call old told (record { seat = new; process = process })
+  pub wrote : Writes call old told (record { seat = new.seat; process = process })
   pub same : ComesToSame told answer
+  -- its steps are the caller's own, which has gone on since
+  pub own : IsPast process.trace new.process.trace
 
 abbrev pub WritesInTimeAreWrites : Type 0
 WritesInTimeAreWrites =
     (call : WriteCall) (timers : Timers) (moment : ℕ) (old new : TimedPoint (Account Entry))
     (answer : Result ℕ Fault)
-    → WritesInTime call timers moment old answer new → IsAWrite call old.at answer new.at.seat
+    → WritesInTime call timers moment old answer new → IsAWrite call old.at answer new.at
 
 -- ---- a long write
 

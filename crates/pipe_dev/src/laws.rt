@@ -23,6 +23,8 @@ ghost use Rattle.pipe_dev.specs.WaitLaws.{
   HangupsWakeAll,
   WaitingReadersAreWokenAbove,
   WaitingWritersAreWokenAbove,
+  TimedWritesWakeTheReader,
+  TimedReadsWakeEachWriter,
 };
 ghost use Rattle.pipe_dev.specs.ReadCalls.{ReadsInTimeAreReads};
 ghost use Rattle.pipe_dev.specs.WriteCalls.{WritesInTimeAreWrites};
@@ -68,9 +70,16 @@ pub fn each_write_is_read_whole_and_once()
     ensures writers_above { WaitingWritersAreWokenAbove }
 {}
 
-/// A call with a deadline does to its direction what one without does, and comes to the same or to
-/// nothing: so the laws of writes and reads hold of it.
+/// A call with a deadline does to its direction what one without does, by steps of its caller, and
+/// comes to the same or to nothing: so the laws of writes and reads hold of it.
 pub fn calls_in_time_are_calls()
     ensures writes { WritesInTimeAreWrites }
     ensures reads { ReadsInTimeAreReads }
+{}
+
+/// No wakeup of a call with a deadline is lost: once it has returned, the process that its last
+/// request woke is no longer posted.
+pub fn timed_calls_wake()
+    ensures reader_woken { TimedWritesWakeTheReader }
+    ensures writers_woken { TimedReadsWakeEachWriter }
 {}

@@ -2,6 +2,7 @@ pub mod AskLemmas
 pub mod Cases
 mod EarlierLemmas
 mod NoteLemmas
+pub mod OwnStepLemmas
 mod OwnTimerLemmas
 pub mod TickLemmas
 mod TimerLemmas

@@ -13,6 +13,8 @@ use Rattle.timer_list.specs.Timing.{WaitedInTime}
 use Rattle.waiting.specs.declared.wait.WaitEnd.{WaitEnd}
 use Rattle.waiting.specs.declared.wait.WaitEnd.TheVariants.{Answered, Stopped}
 use Rattle.waiting.specs.Waiting.{Promise, Returns, answer_of}
+use Rattle.histories.proofs.ListLemmas.{past_refl}
+use Rattle.timer_list.proofs.OwnStepLemmas.{ended_own}
 
 -- where a process is that has put back the notes that ended a sleep
 abbrev put_back : Fault → Process → Process
@@ -65,13 +67,14 @@ pub untimed : {Seat Out : Type 0} (promise : Promise Seat Out) (rendez : RendezI
     (timers : Timers) (moment : ℕ) (before : TimedPoint Seat) (answer : Result Out Fault)
     (after : TimedPoint Seat)
     → WaitedInTime promise rendez timers moment before answer after
-    → IsACall promise rendez before.at answer after.at.seat
+    → IsACall promise rendez before.at answer after.at
 untimed promise rendez timers moment before answer after (inl at_once) =
     record {
       told = answer;
       process = after.at.process;
       waited = inl at_once.begun;
       same = same_answer answer;
+      own = past_refl after.at.process.trace;
     }
 untimed promise rendez timers moment before answer after (inr waits) =
     record {
@@ -89,4 +92,6 @@ untimed promise rendez timers moment before answer after (inr waits) =
         };
       });
       same = same waits.ending waits.ended.expired _ answer _ _ waits.ended.kept;
+      own = ended_own rendez timers waits.set waits.ending waits.process answer after.timer
+          after.at.process waits.ended;
     }

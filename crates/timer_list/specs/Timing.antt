@@ -5,6 +5,8 @@
 -- said.
 use Rattle.std.specs.Prelude.{◌≡◌, ◌≢◌, ◌⊎◌, ⊤, ℕ, zero, suc, Bool, true, false, Some, None}
 use Rattle.std.specs.Prelude.{Result, Ok, Err}
+use Rattle.std.proofs.Common.{inl, inr}
+use Rattle.histories.specs.History.{IsPast}
 use Rattle.kernel_lock.specs.Seats.{number_of, opening_of, seen_of}
 use Rattle.rendez_words.specs.Process.{Process, pid_in}
 use Rattle.rendez_words.specs.Steps.{posts, drains, notes}
@@ -177,11 +179,24 @@ ComesToSame (Ok one) (Ok other) = other ≡ one
 ComesToSame (Err why) (Err other) = ⊤
 ComesToSame one other = ⊥
 
--- What it did to its seat, a call without a deadline does, and comes to the same: so the laws of a
--- device's calls hold of it.
-pub record IsACall {Seat Out : Type 0} (promise : Promise Seat Out) (rendez : RendezId)
-    (before : Point Seat) (answer : Result Out Fault) (after : Seat) : Type 0 where
-  pub told : Result Out Fault
-  pub process : Process
-  pub waited : Waited promise rendez before told (record { seat = after; process = process })
-  pub same : ComesToSame told answer
+module _ {Seat Out : Type 0} (promise : Promise Seat Out) (rendez : RendezId)
+    (before : Point Seat) where
+  -- where the process of a call stood when its last request or its last sleep was over: it has put
+  -- no notes back
+  abbrev pub over_at : (answer : Result Out Fault) (after : Point Seat)
+      → Waited promise rendez before answer after → Process
+  over_at answer after (inl begun) = after.process
+  over_at answer after (inr waits) = waits.waited.process
+
+  -- What it did to its seat, a call without a deadline does, and comes to the same: so the laws of
+  -- a device's calls hold of it.
+  pub record IsACall (answer : Result Out Fault) (after : Point Seat) : Type 0 where
+    pub told : Result Out Fault
+    pub process : Process
+    pub waited : Waited promise rendez before told
+        (record { seat = after.seat; process = process })
+    pub same : ComesToSame told answer
+    -- the steps of its requests and sleeps are the caller's own, which has gone on since
+    pub own : IsPast
+        (over_at told (record { seat = after.seat; process = process }) waited).trace
+        after.process.trace

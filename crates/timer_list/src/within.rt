@@ -69,7 +69,7 @@ pub fn wait_within<R: Wait, C: WaitingCall, P: Probe>(
 
     // So what holds of a call without a deadline holds of it.
     ensures is_call { IsACall (C.promise call.now) rendez (point seat.old proc.old) result
-        seat.new }
+        (point seat.new proc.new) }
 {
     let pid = proc.pid();
     match call.begin(rt, proc, seat) {
