@@ -1,14 +1,15 @@
 //! A server's request loop. It shows a pipe with many writers, and a pipe back to each of them.
 //!
 //! Four clients write requests into one pipe, and one server reads them in the order in which they
-//! come. It answers each on a pipe of its client's own. A hangup of the pipe of requests ends it.
+//! come. It answers each on a pipe of its client's own. One client leaves in the middle, and the
+//! server goes on with the others. A hangup of the pipe of requests ends it.
 #![tactic(auto)]
 
 ghost use Rattle.std.specs.Prelude.{◌≡◌, IfOk};
 
 use plan9::{
     Ends, Fault, Kernel, OpenedKernel, OpenedPipe, Pipe, Proc, ReadAnswer, ReadEnd, Reader, Roster,
-    Started, WriteEnd, Writer, fork_writers,
+    Started, WriteEnd, Writer, fork_writers, write_unnoted,
 };
 use std::alloc::Global;
 use std::sync::Wait;
@@ -21,22 +22,59 @@ struct Client<'k> {
     answers: ReadEnd<'k>,
 }
 
-/// Asks for the squares of 1 to 5, and gives their sum. A request, with the client's number, is one
-/// write: it is read whole and never joined with another, so the clients need no lock.
-fn ask<R: Wait>(rt: &R, alloc: Global, me: &mut Client<'_>) -> Result<u64, Fault> {
+/// The client with this number leaves in the middle.
+const LEAVES: u8 = 2;
+
+/// Asks for a square. A request, with the client's number, is one write: it is read whole and never
+/// joined with another, so the clients need no lock.
+fn request<R: Wait>(
+    rt: &R,
+    alloc: Global,
+    me: &mut Client<'_>,
+    number: u8,
+    wanted: u8,
+) -> Result<u64, Fault> {
+    me.asks.write(alloc, rt, &[number, wanted])
+}
+
+/// Waits for the answer.
+fn answer<R: Wait>(rt: &R, me: &mut Client<'_>) -> Result<u64, Fault> {
     let Client { asks, answers } = me;
-    let Ok(number) = u8::try_from(asks.end.writer()) else {
+    let mut square = [0];
+    if answers.read(rt, &mut asks.proc, &mut square)? == ReadAnswer::End {
+        return Err(Fault::Hungup);
+    }
+    Ok(u64::from(square[0]))
+}
+
+/// Hangs the answers up and leaves, with a request unanswered.
+fn leave<R: Wait>(
+    rt: &R,
+    alloc: Global,
+    me: &mut Client<'_>,
+    number: u8,
+    wanted: u8,
+) -> Result<Option<u64>, Fault> {
+    let Client { asks, answers } = me;
+    answers.hangup(&mut asks.proc);
+    request(rt, alloc, me, number, wanted)?;
+    Ok(None)
+}
+
+/// Asks for the squares of 1 to 5, and gives their sum; a client that leaves has none.
+fn ask<R: Wait>(rt: &R, alloc: Global, me: &mut Client<'_>) -> Result<Option<u64>, Fault> {
+    let Ok(number) = u8::try_from(me.asks.end.writer()) else {
         return Err(Fault::BadArg);
     };
-    let (mut sum, mut square) = (0u64, [0]);
+    let mut sum = 0u64;
     for wanted in 1..=5 {
-        asks.write(alloc, rt, &[number, wanted])?;
-        if answers.read(rt, &mut asks.proc, &mut square)? == ReadAnswer::End {
-            return Err(Fault::Hungup);
+        if number == LEAVES && wanted == 3 {
+            return leave(rt, alloc, me, number, wanted);
         }
-        sum = sum.wrapping_add(u64::from(square[0]));
+        request(rt, alloc, me, number, wanted)?;
+        sum = sum.wrapping_add(answer(rt, me)?);
     }
-    Ok(sum)
+    Ok(Some(sum))
 }
 
 /// All clients, each on a thread, and then a hangup of the pipe of requests by a writer for this
@@ -52,10 +90,13 @@ fn ask_all<R: Threads + Wait + Sync>(
     sums(alloc, &asked?)
 }
 
-fn sums(alloc: Global, asked: &[Result<u64, Fault>]) -> Result<Vec<u64>, Fault> {
+/// The sums of those who stayed.
+fn sums(alloc: Global, asked: &[Result<Option<u64>, Fault>]) -> Result<Vec<u64>, Fault> {
     let mut sums = Vec::new(alloc);
-    for sum in asked {
-        sums.push((*sum)?)?;
+    for asked in asked {
+        if let Some(sum) = (*asked)? {
+            sums.push(sum)?;
+        }
     }
     Ok(sums)
 }
@@ -67,7 +108,9 @@ struct Server<'k> {
     answers: Vec<WriteEnd<'k>>,
 }
 
-/// The request loop. The pipe of a client that can't be answered is hung up, so it doesn't wait.
+/// The request loop. A client that is gone has hung its answers up: the write there is refused, and
+/// leaves no note that would end the next read. The pipe of a client that can't be answered is hung
+/// up, so it doesn't wait.
 fn serve<R: Wait>(rt: &R, alloc: Global, server: &mut Server<'_>) -> Result<(), Fault> {
     let Server { reader, answers } = server;
     let mut request = [0; 2];
@@ -78,7 +121,7 @@ fn serve<R: Wait>(rt: &R, alloc: Global, server: &mut Server<'_>) -> Result<(), 
         let [client, wanted] = request;
         let square = [wanted.saturating_mul(wanted)];
         let end = answers.get_mut(usize::from(client)).ok_or(Fault::BadArg)?;
-        if end.write(alloc, rt, &mut reader.proc, &square).is_err() {
+        if write_unnoted(alloc, rt, end, &mut reader.proc, &square).is_err() {
             end.hangup(&mut reader.proc);
         }
     }
@@ -174,7 +217,7 @@ fn run<R: Threads + Wait + Sync>(rt: &R, alloc: Global) -> Result<Vec<u64>, Faul
 
 fn main(rt: HostRuntime) -> std::io::Result<()> {
     match run(&rt, rt.alloc()) {
-        Ok(sums) => println!(rt; "the clients' sums are {sums:?}"),
+        Ok(sums) => println!(rt; "the sums of the clients that stayed are {sums:?}"),
         Err(fault) => println!(rt; "the server failed: {fault}"),
     }
 }

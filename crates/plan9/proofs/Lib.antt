@@ -4,6 +4,7 @@ pub mod Sending
 mod SharingLemmas
 mod StreamLemmas
 mod WorkedHalls
+mod WorkedNotings
 mod WorkedOthers
 mod WorkedPieces
 mod WorkedPlans

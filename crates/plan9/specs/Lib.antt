@@ -7,6 +7,7 @@ pub mod Refusals
 pub mod Vacancies
 pub mod Pools
 pub mod Pipes
+pub mod Notings
 pub mod Readings
 pub mod Sharings
 pub mod Streams

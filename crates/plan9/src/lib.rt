@@ -2,14 +2,15 @@
 //! what belongs together.
 //! Read the lists below from the top: what every call speaks of; a kernel and its processes, with
 //! `plan` and `forking`; what comes back where a process is refused, with `refusals`, and faults in
-//! words, with `texts`; pipes, with `pipes`, `reading`, `sharing` and `streams`; semaphores, with
-//! `pool` and `vacant`; timers, with `clock` and `ticker`; tag spaces, with `hall`; and what else a
-//! caller may prove.
+//! words, with `texts`; pipes, with `pipes`, `noting`, `reading`, `sharing` and `streams`;
+//! semaphores, with `pool` and `vacant`; timers, with `clock` and `ticker`; tag spaces, with
+//! `hall`; and what else a caller may prove.
 #![tactic(auto)]
 
 pub mod clock;
 pub mod forking;
 pub mod hall;
+pub mod noting;
 pub mod pipes;
 pub mod plan;
 pub mod pool;
@@ -37,6 +38,7 @@ pub use crate::refusals::{Refused, Unforked};
 pub use crate::texts::{FaultText, NoteTexts};
 
 // Pipes, and processes that have an end of one.
+pub use crate::noting::{take_note, write_unnoted};
 pub use crate::pipes::{Reader, Writer, fork_writers};
 pub use crate::reading::ShortRead;
 pub use crate::sharing::{Shared, Sharer, Unshared};

@@ -4,6 +4,7 @@ ghost use Rattle.plan9.specs.Pipes.{HaveEnds, WhyNoWriters};
 ghost use Rattle.plan9.specs.Refusals.{ComeBack};
 
 use crate::clock::Watch;
+use crate::noting::write_unnoted;
 use crate::refusals::Unforked;
 use pipe_dev::{Long, ReadAnswer, ReadEnd, TryAnswer, WriteEnd};
 use sleep_wakeup::{Proc, Roster};
@@ -199,6 +200,7 @@ impl<'p, 'k> Writer<'p, 'k> {
     ghost use Rattle.pipe_dev.specs.WriteCalls.{IsRefusedAs, Writes, WritesInTime, WritesLong};
     ghost use Rattle.pipe_dev.specs.WriteCalls.{call_of, writer_of};
     ghost use Rattle.timer_list.specs.Timers.{deadline_of};
+    ghost use Rattle.plan9.specs.Notings.{WritesUnnoted};
     ghost use Rattle.plan9.specs.Watches.{IsSameWatch, watched_write};
 
     /// A process with a write end. Takes no memory and doesn't wait.
@@ -233,6 +235,24 @@ impl<'p, 'k> Writer<'p, 'k> {
         ensures words { self.new.proc.words ≡ self.old.proc.words }
     {
         self.end.write(alloc, rt, &mut self.proc, bytes)
+    }
+
+    /// A `write` that leaves no note where the direction is hung up, so that no later wait of the
+    /// process is ended by it. It waits, and takes memory, as `write` does.
+    ///
+    /// Refuses as `write` does. With `Hungup` it takes the note of a write on a closed pipe back,
+    /// also one that was pending before, since a process has at most one of a kind; other notes
+    /// that were pending are pending again. After write(2) and notify(2); own: that a writer takes
+    /// its note back.
+    pub fn write_unnoted<R: Wait>(
+        &mut self,
+        alloc: Global,
+        rt: &R,
+        bytes: &[u8],
+    ) -> Result<u64, Fault>
+        ensures { WritesUnnoted self.old bytes.now result self.new }
+    {
+        write_unnoted(alloc, rt, &mut self.end, &mut self.proc, bytes)
     }
 
     /// A `write` that waits until a tick of the clock at the moment `now` + `ms` or later; that
