@@ -13,11 +13,14 @@ use Rattle.plan9.specs.declared.pipes.Reader.{Reader}
 use Rattle.plan9.specs.declared.sharing.Sharer.{Sharer}
 use Rattle.plan9.specs.Pools.{Holding, IsSameHolder}
 use Rattle.plan9.specs.Readings.{LiesIn, read_answer}
-use Rattle.plan9.specs.Sharings.{AsksForTurn, AsksNow, Buffers, CallsShared, HasTurn, InTurn}
+use Rattle.plan9.specs.declared.place.Receipt.{Receipt}
+use Rattle.plan9.specs.Places.{IsLaid}
+use Rattle.plan9.specs.Sharings.{AsksForTurn, AsksNow, Buffers, CallsAndLays, HasTurn, InTurn}
 use Rattle.plan9.specs.Sharings.{ReadsOnce, TriesBy, TriesInTurn, TriesOnce, reader}
 use Rattle.plan9.proofs.ReadingLemmas.{piece_lies}
 
--- a call of the end that lay there is one of the shared end, as it has the same direction
+-- a call of the end that lay there is one of the shared end, as it has the same direction; and
+-- what was laid down lies there
 pub calls_shared : (end lay lies : ReadSide) (old new : Holding) (running : Running)
     (Call : Reader → Reader → Type 0)
     → IsSameReadEnd end lay
@@ -26,19 +29,23 @@ pub calls_shared : (end lay lies : ReadSide) (old new : Holding) (running : Runn
     → new.seat ≡ old.seat
     → IsSameReadEnd lay lies
     → Call (reader lay running) (reader lies new.running)
-    → CallsShared end old Call new
-calls_shared end lay lies old new running Call same runs holder seat kept call =
+    → (laid : Receipt) → IsLaid lies laid
+    → CallsAndLays end old Call laid new
+calls_shared end lay lies old new running Call same runs holder seat kept call laid is =
     record {
-      lay = lay;
-      lies = lies;
-      lay_is = same;
-      lies_is = record {
-        queue = kept.queue ∙ same.queue;
-        row = kept.row ∙ same.row;
+      calls = record {
+        lay = lay;
+        lies = lies;
+        lay_is = same;
+        lies_is = record {
+          queue = kept.queue ∙ same.queue;
+          row = kept.row ∙ same.row;
+        };
+        called = rw (← runs) call;
+        same = holder;
+        seat_is = seat;
       };
-      called = rw (← runs) call;
-      same = holder;
-      seat_is = seat;
+      laid_is = is;
     }
 
 -- whatever it was answered, it had its turn

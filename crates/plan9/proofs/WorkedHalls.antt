@@ -1,12 +1,13 @@
 -- What is no hall, no guest and no reason to refuse one: each against one row of what the calls of
 -- a hall say.
-use Rattle.std.proofs.Common.{◌≡◌, ◌≢◌, ◌<◌, ap, arith, Some, None}
+use Rattle.std.proofs.Common.{◌≡◌, ◌≢◌, ◌<◌, ap, arith, refl, Some, None, Ok, Err}
 use Rattle.kernel_lock.specs.Seats.{given_of, limit_of}
 use Rattle.sync_base.specs.declared.fault.Fault.TheVariants as fault
 use Rattle.sleep_wakeup.specs.Kernel.{Running, Unused}
 use Rattle.tag_space.specs.declared.member.Member.{Member}
 use Rattle.tag_space.specs.Members.{OwnsRow, IsMemberOf, number_of}
 use Rattle.plan9.specs.Halls.{Hosting, Visiting, IsNewHall, IsFirstGuest, WhyNotFirstGuest}
+use Rattle.plan9.specs.Halls.{IsFirstMemberOf, TakesMember, without_member}
 use Rattle.plan9.specs.Halls.{IsSameGuest, IsAdmittedGuest, IsFurtherGuest, WhyNoGuest}
 
 -- ---- the first
@@ -38,6 +39,42 @@ module _ (hall : Hosting) (running : Running) (guest : Visiting) where
 
   refused_for_memory : WhyNotFirstGuest hall running fault.Memory → ⊥
   refused_for_memory why = why
+
+  -- the first member is another, one of another space, or not for a process of another kernel
+  another_first_member : (member : Member) → Some member ≢ hall.spare
+      → ¬ IsFirstMemberOf hall running member
+  another_first_member member other first = other first.member_is
+
+  a_member_of_another_space : (member : Member) → ¬ IsMemberOf hall.space member
+      → ¬ IsFirstMemberOf hall running member
+  a_member_of_another_space member other first = other first.of_space
+
+  a_member_for_a_stranger : (member : Member) → ¬ OwnsRow hall.space running.words
+      → ¬ IsFirstMemberOf hall running member
+  a_member_for_a_stranger member stranger first = stranger first.row
+
+module _ (old new : Hosting) (running : Running) (member : Member) where
+  -- a member is taken that is another, or is there still; or it is refused for no reason, or is
+  -- gone
+  another_member_is_taken : ¬ IsFirstMemberOf old running member
+      → ¬ TakesMember old running (Ok member) new
+  another_member_is_taken other takes = other takes.0
+
+  a_member_is_taken_and_stays : new ≢ without_member old
+      → ¬ TakesMember old running (Ok member) new
+  a_member_is_taken_and_stays other takes = other takes.1
+
+  a_member_is_refused_for_no_reason : ¬ WhyNotFirstGuest old running fault.NoProc
+      → ¬ TakesMember old running (Err fault.NoProc) new
+  a_member_is_refused_for_no_reason none takes = none takes.0
+
+  a_member_is_refused_and_gone : new ≢ old → ¬ TakesMember old running (Err fault.NoProc) new
+  a_member_is_refused_and_gone other takes = other takes.1
+
+-- the first member is gone, and the space is the same
+without_its_first_member : (hall : Hosting)
+    → without_member hall ≡ record { space = hall.space; spare = None }
+without_its_first_member hall = refl
 
 -- ---- a call, and another process
 

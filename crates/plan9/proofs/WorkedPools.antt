@@ -1,7 +1,7 @@
 -- What is no pool, no holder of its units and no reason to refuse one: each against one row of what
 -- the calls of a pool say.
 use Rattle.std.proofs.Common.{◌≡◌, ◌≢◌, ◌⊎◌, ◌<◌, ℕ, false, [], ◌∷◌, length, inl, inr}
-use Rattle.std.proofs.Common.{ap, arith, Option, Some, None}
+use Rattle.std.proofs.Common.{ap, arith, refl, List, Option, Some, None, Ok, Err, ◌++◌}
 use Rattle.kernel_lock.specs.Seats.{number_of, account_of, given_of, limit_of, Splits}
 use Rattle.sync_base.specs.declared.fault.Fault.{Fault}
 use Rattle.sync_base.specs.declared.fault.Fault.TheVariants as fault
@@ -9,13 +9,14 @@ use Rattle.sleep_wakeup.specs.Forks.{HasPid}
 use Rattle.sleep_wakeup.specs.Kernel.{Running, Unused, next_process, one_pid_less}
 use Rattle.rendez_words.specs.Words.{procs_of}
 use Rattle.pipe_dev.specs.Rounds.{Rounds}
-use Rattle.semaphore.specs.declared.sema.Sema.{Sema}
 use Rattle.semaphore.specs.declared.sema.SemaSeat.{SemaSeat}
 use Rattle.semaphore.specs.Seats.{OwnsRow, IsSemaSeatOf}
 use Rattle.plan9.specs.Pools.{Pooled, Holding, IsNewPool, IsFirstHolder, WhyNotFirst}
 use Rattle.plan9.specs.Pools.{IsSameHolder, IsSeatedHolder, IsSameParent, IsFurtherHolder}
 use Rattle.plan9.specs.declared.vacant.Unseated.{Unseated}
 use Rattle.plan9.specs.Pools.{KnowsNoSeat, WhyNotJoined, ForksHolder, Forking, WhyNoFork}
+use Rattle.plan9.specs.Pools.{AreChildren, IsFirstSeat, TakesSeat, gathering}
+use Rattle.plan9.specs.Pools.{procs_of_holders, without_spare}
 use Rattle.plan9.specs.Pools.{IsFilled, AreHolders, MayHold, ForksOneMore, StopsForking, forking}
 use Rattle.plan9.specs.Pools.{Gathering, AsksTooMany, LacksMemory, HasNoFirst, HasTooFew}
 use Rattle.plan9.specs.Pools.{WhyNoHolders, IsFurtherVacancy}
@@ -191,21 +192,87 @@ module _ (vacancy : Vacancy) (running : Running) (holding : Holding) where
 
 -- ---- all at once
 
-module _ (at : Sema) (running : Running) (unused : Unused) (holding : Holding) where
+module _ (pool : Pooled) (running : Running) (unused after : Unused) (holding : Holding) where
   -- as many as were asked for, one at another semaphore, and one of another kernel
-  one_is_one : (count : ℕ) → AreHolders at running unused count (holding ∷ []) → 1 ≡ count
+  one_is_one : (count : ℕ)
+      → AreHolders (gathering pool running unused count) (holding ∷ []) after → 1 ≡ count
   one_is_one count are = are.count_is
 
-  one_elsewhere : holding.sema ≢ at → AreHolders at running unused 1 (holding ∷ []) → ⊥
+  one_elsewhere : holding.sema ≢ pool.sema
+      → AreHolders (gathering pool running unused 1) (holding ∷ []) after → ⊥
   one_elsewhere other are = other are.at_sema.0
 
   one_of_another_kernel : holding.running ≢ running → holding.running.words ≢ unused.words
-      → AreHolders at running unused 1 (holding ∷ []) → ⊥
+      → AreHolders (gathering pool running unused 1) (holding ∷ []) after → ⊥
   one_of_another_kernel another elsewhere are = by are.kernels.0
     where
       by : (holding.running ≡ running) ⊎ (holding.running.words ≡ unused.words) → ⊥
       by (inl same) = another same
       by (inr same) = elsewhere same
+
+  -- who asks is the last of them, as it was, behind children that the roster made
+  who_asks_is_the_last : (are : AreHolders (gathering pool running unused 1) (holding ∷ []) after)
+      → procs_of_holders (holding ∷ []) ≡ procs_of_holders are.others ++ running ∷ []
+  who_asks_is_the_last are = are.procs_are
+
+  the_others_are_children :
+      (are : AreHolders (gathering pool running unused 1) (holding ∷ []) after)
+      → AreChildren unused running.process.pid are.others after
+  the_others_are_children are = are.made
+
+module _ (before after : Unused) (holding : Holding) where
+  -- nobody was made, and a pid, a Rendez or a note group was used up
+  nobody_used_a_pid_up : after ≢ before → ¬ AreChildren before 0 [] after
+  nobody_used_a_pid_up other are = other are.roster
+
+  -- a child uses one pid up, in the note group of its parent
+  one_child_has_one_pid : AreChildren before 0 (holding ∷ []) after
+      → after ≡ one_pid_less 0 false before
+  one_child_has_one_pid are = are.roster
+
+  -- a child is another process than the next one
+  another_process : holding.running ≢ next_process before
+      → ¬ AreChildren before 0 (holding ∷ []) after
+  another_process other are =
+      other (ap (λ (procs : List Running). head_or holding.running procs) are.procs_are)
+    where
+      head_or : Running → List Running → Running
+      head_or none [] = none
+      head_or none (first ∷ rest) = first
+
+-- ---- how they begin
+
+module _ (old new : Pooled) (running : Running) (seat : SemaSeat) where
+  -- a seat is taken that is another, or lies there still; or it is refused for no reason, or is
+  -- gone
+  another_seat_is_taken : ¬ IsFirstSeat old running seat → ¬ TakesSeat old running (Ok seat) new
+  another_seat_is_taken other takes = other takes.0
+
+  a_seat_is_taken_and_stays : new ≢ without_spare old → ¬ TakesSeat old running (Ok seat) new
+  a_seat_is_taken_and_stays other takes = other takes.1
+
+  a_seat_is_refused_for_no_reason : ¬ WhyNotFirst old running fault.NoProc
+      → ¬ TakesSeat old running (Err fault.NoProc) new
+  a_seat_is_refused_for_no_reason none takes = none takes.0
+
+  a_seat_is_refused_and_gone : new ≢ old → ¬ TakesSeat old running (Err fault.NoProc) new
+  a_seat_is_refused_and_gone other takes = other takes.1
+
+module _ (pool : Pooled) (running : Running) (seat : SemaSeat) where
+  -- the first seat is another, one of another semaphore, or not for a process of another kernel
+  another_first_seat : Some seat ≢ pool.spare → ¬ IsFirstSeat pool running seat
+  another_first_seat other first = other first.seat_is
+
+  a_seat_of_another_semaphore : ¬ IsSemaSeatOf pool.sema seat → ¬ IsFirstSeat pool running seat
+  a_seat_of_another_semaphore other first = other first.at_sema
+
+  a_seat_for_a_stranger : ¬ OwnsRow pool.sema running.words → ¬ IsFirstSeat pool running seat
+  a_seat_for_a_stranger stranger first = stranger first.row
+
+-- the first seat is gone, and the semaphore is the same
+without_its_first_seat : (pool : Pooled)
+    → without_spare pool ≡ record { sema = pool.sema; spare = None }
+without_its_first_seat pool = refl
 
 -- ---- and why there are none
 

@@ -1,7 +1,7 @@
 -- What is no shared end, nobody who shares one and no turn: each against one row of what the calls
 -- of a shared end say.
 use Rattle.std.proofs.Common.{◌≡◌, ◌≢◌, ◌<◌, ◌≤◌, ℕ, true, false, List, [], Result, Ok, Err}
-use Rattle.std.proofs.Common.{Bool, IfErr, inl, inr, ⊎_elim, subst}
+use Rattle.std.proofs.Common.{Bool, IfErr, IfSome, None, Some, inl, inr, refl, ⊎_elim, subst}
 use Rattle.sync_base.specs.declared.fault.Fault.{Fault}
 use Rattle.sync_base.specs.declared.fault.Fault.TheVariants as fault
 use Rattle.sync_base.specs.declared.note.NoteSet.{NoteSet}
@@ -20,7 +20,7 @@ use Rattle.pipe_dev.specs.declared.answers.ReadAnswer.{ReadAnswer}
 use Rattle.pipe_dev.specs.declared.answers.ReadAnswer.TheVariants as read
 use Rattle.pipe_dev.specs.declared.answers.TryAnswer.{TryAnswer}
 use Rattle.pipe_dev.specs.declared.answers.TryAnswer.TheVariants as try
-use Rattle.pipe_dev.specs.Ends.{ReadSide}
+use Rattle.pipe_dev.specs.Ends.{ReadSide, IsSameReadEnd}
 use Rattle.pipe_dev.specs.Rendezes.{OwnsRow}
 use Rattle.plan9.specs.declared.pipes.Reader.{Reader}
 use Rattle.plan9.specs.declared.sharing.Shared.{Shared}
@@ -30,7 +30,12 @@ use Rattle.plan9.specs.Pools.{Holding, IsNewPool, IsFirstHolder, ForksHolder, Is
 use Rattle.plan9.specs.Pools.{holder_point}
 use Rattle.plan9.specs.Readings.{ReadsBy}
 use Rattle.plan9.specs.Sharings.{Buffers, IsNewShared, IsNotShared, IsFirstSharer, IsSameSharer}
+use Rattle.plan9.specs.declared.place.Lying.{Lying}
+use Rattle.plan9.specs.declared.place.Receipt.{Receipt}
+use Rattle.plan9.specs.declared.place.Swapped.{Swapped}
+use Rattle.plan9.specs.Places.{IsLaid, Swaps, end_in}
 use Rattle.plan9.specs.Sharings.{ForksSharer, GivesTurnBack, AsksForTurn, AsksNow, CallsShared}
+use Rattle.plan9.specs.Sharings.{CallsAndLays}
 use Rattle.plan9.specs.Sharings.{HasNoTurn, HasTurn, InTurn, PostsAsSharer, ReadsBlockOnce}
 use Rattle.plan9.specs.Sharings.{ReadsOnce, TakesNotes, TriesInTurn, TriesOnce, buffers}
 use Rattle.plan9.specs.Sharings.{first_end, end_of, reader}
@@ -216,6 +221,40 @@ module _ (end : ReadSide) (old new : Holding) (Call : Reader → Reader → Type
 
   call_takes_units : new.seat ≢ old.seat → CallsShared end old Call new → ⊥
   call_takes_units other calls = other calls.seat_is
+
+-- another end was laid down than the one that lies there then
+what_lies_was_laid_down : (end : ReadSide) (old new : Holding) (Call : Reader → Reader → Type 0)
+    (laid : Receipt) → (calls : CallsAndLays end old Call laid new)
+    → IsLaid calls.calls.lies laid
+what_lies_was_laid_down end old new Call laid calls = calls.laid_is
+
+no_call_and_an_end_laid_down : (end : ReadSide) (old new : Holding)
+    (Call : Reader → Reader → Type 0) (laid : Receipt) → ¬ CallsShared end old Call new
+    → ¬ CallsAndLays end old Call laid new
+no_call_and_an_end_laid_down end old new Call laid none calls = none calls.calls
+
+-- nothing was put there, and an end was laid down
+nothing_is_laid_down : (end : ReadSide) (receipt : Receipt) → receipt.what.value ≡ None
+    → ¬ IsLaid end receipt
+nothing_is_laid_down end receipt none laid = cc
+
+module _ (first : ReadSide) (swapped : Swapped) where
+  -- an end was to be put there, and nothing was; or what lay there is an end of another pipe
+  nothing_is_put_there : (lying : Lying) → swapped.put.what.value ≡ None
+      → ¬ Swaps first (Some lying) swapped
+  nothing_is_put_there lying none swaps = let put = swaps.put_is in cc
+
+  an_end_of_another_pipe_lay_there : (found : Lying) → swapped.found ≡ Some found
+      → ¬ IsSameReadEnd first found.end → ¬ Swaps first None swapped
+  an_end_of_another_pipe_lay_there found is other swaps =
+      other (subst (λ lay. IfSome lay (λ it. IsSameReadEnd first it.end)) is swaps.found_is)
+
+-- an end that lies there is given, and none is where none does
+an_end_that_lies_there : (lying : Lying) → end_in (Some lying) ≡ Some lying.end
+an_end_that_lies_there lying = refl
+
+no_end_that_lies_there : end_in None ≡ None
+no_end_that_lies_there = refl
 
 -- ---- what was read
 

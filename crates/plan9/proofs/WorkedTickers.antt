@@ -1,6 +1,6 @@
 -- What is no look, no tick and no end of a ticker: each against one row of what a ticker does. And
 -- where each tick is of a time that counts.
-use Rattle.std.proofs.Common.{◌≡◌, ◌≢◌, ◌+◌, ℕ, refl, ap, arith}
+use Rattle.std.proofs.Common.{◌≡◌, ◌≢◌, ◌+◌, ℕ, None, Some, refl, ap, arith, subst}
 use Rattle.sync_base.specs.declared.note.NoteSet.{NoteSet}
 use Rattle.sync_base.specs.NoteSet.{no_notes}
 use Rattle.rendez_words.specs.Steps.{drains}
@@ -9,6 +9,10 @@ use Rattle.sleep_wakeup.specs.Kernel.{Running}
 use Rattle.timer_list.specs.Ticking.{Ticks}
 use Rattle.waiting.specs.Waiting.{point}
 use Rattle.pipe_dev.specs.Rounds.{Rounds}
+use Rattle.std.specs.Borrow.{Bor}
+use Rattle.plan9.specs.declared.ticker.Beat.{Beat}
+use Rattle.plan9.specs.declared.ticker.RealTime.{RealTime}
+use Rattle.plan9.specs.Tickers.{IsBeatOf, IsShownAt}
 use Rattle.plan9.specs.Tickers.{IsBeat, Timed, Looks, TicksOnce, EndsTicking, TicksOn}
 use Rattle.plan9.specs.Watches.{IsSameWatch}
 
@@ -33,6 +37,25 @@ a_beat_that_says_another_moment beat = let is : 5 ≡ 4 = beat.moment_is in omeg
 a_beat_that_stands_at_the_end :
     IsBeat 18446744073709551615 18446744073709551615 18446744073709551615
 a_beat_that_stands_at_the_end = record { on = λ more. omega (arith, more); moment_is = refl }
+
+-- ---- a beat of real time
+
+module _ {Clock : Type 0} (time : RealTime) (beat : Beat Clock) where
+  -- it begins at another moment, has told one, or shows none
+  a_beat_of_another_begin : beat.began ≢ time.began → ¬ IsBeatOf time beat
+  a_beat_of_another_begin other is = other is.began_is
+
+  a_beat_that_has_told : beat.now ≡ 3 → ¬ IsBeatOf time beat
+  a_beat_that_has_told told is = let zero = is.from_zero in omega (arith, told, zero)
+
+  a_beat_that_shows_nothing : beat.shown ≡ None → ¬ IsBeatOf time beat
+  a_beat_that_shows_nothing none is =
+      subst (λ shown. IsShownAt time.told shown) none is.shown
+
+-- an atomic that is shown is the one that is meant
+module _ (shown : Bor ℕ) where
+  another_is_shown : shown.now ≢ 5 → ¬ IsShownAt 5 (Some shown)
+  another_is_shown other is = other is
 
 -- ---- of any time
 

@@ -1,5 +1,5 @@
 -- What clauses see of a hall, in which processes meet, and of its guests.
-use Rattle.std.specs.Prelude.{◌≡◌, ⊤, ℕ, Option, Some, None}
+use Rattle.std.specs.Prelude.{◌≡◌, ⊤, ℕ, Option, Some, None, Result, Ok, Err}
 use Rattle.sync_base.specs.declared.fault.Fault.{Fault}
 use Rattle.sync_base.specs.declared.fault.Fault.TheVariants as fault
 use Rattle.rendez_words.specs.declared.words.Words.{Words}
@@ -49,6 +49,22 @@ abbrev pub WhyNotFirstGuest : Hosting → Running → Fault → Type 0
 WhyNotFirstGuest hall running fault.NoRendez = ¬ OwnsRow hall.space running.words
 WhyNotFirstGuest hall running fault.NoProc = OwnsRow hall.space running.words × (hall.spare ≡ None)
 WhyNotFirstGuest hall running other = ⊥
+
+-- this is the member that no process had, and it is one that the process may have
+pub record IsFirstMemberOf (hall : Hosting) (running : Running) (member : Member) : Type 0 where
+  pub member_is : Some member ≡ hall.spare
+  pub of_space : IsMemberOf hall.space member
+  pub row : OwnsRow hall.space running.words
+
+-- the hall without the member that no process had
+abbrev pub without_member : Hosting → Hosting
+without_member hall = record hall { spare = None }
+
+-- the member was taken, or it was refused and the hall is as it was
+abbrev pub TakesMember : Hosting → Running → Result Member Fault → Hosting → Type 0
+TakesMember old running (Ok member) new =
+    IsFirstMemberOf old running member × (new ≡ without_member old)
+TakesMember old running (Err why) new = WhyNotFirstGuest old running why × (new ≡ old)
 
 -- the process has the member that none had
 pub record IsFirstGuest (hall : Hosting) (running : Running) (guest : Visiting) : Type 0 where

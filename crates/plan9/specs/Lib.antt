@@ -8,6 +8,7 @@ pub mod Vacancies
 pub mod Pools
 pub mod Pipes
 pub mod Notings
+pub mod Places
 pub mod Readings
 pub mod Sharings
 pub mod Streams

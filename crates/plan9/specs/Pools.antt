@@ -1,6 +1,6 @@
 -- What clauses see of a pool, and of those who hold its units.
 use Rattle.std.specs.Prelude.{◌≡◌, ◌⊎◌, ◌≤◌, ◌<◌, ◌+◌, ⊤, ℕ, Bool, false, if◌then◌else◌, List}
-use Rattle.std.specs.Prelude.{length, Option, Some, None, Result, Ok, Err}
+use Rattle.std.specs.Prelude.{◌++◌, [], ◌∷◌, length, map, Option, Some, None, Result, Ok, Err}
 use Rattle.std.specs.List.{AllByRecursion}
 use Rattle.sync_base.specs.declared.fault.Fault.{Fault}
 use Rattle.sync_base.specs.declared.fault.Fault.TheVariants as fault
@@ -17,6 +17,7 @@ use Rattle.semaphore.specs.Seats.{OwnsRow, IsNewSema, IsSemaSeatOf}
 use Rattle.waiting.specs.Waiting.{Point, point}
 use Rattle.pipe_dev.specs.Rounds.{Rounds}
 use Rattle.plan9.specs.declared.vacant.Unseated.{Unseated}
+use Rattle.plan9.specs.Pipes.{children, less_children}
 use Rattle.plan9.specs.Vacancies.{Vacancy}
 
 -- a pool: its semaphore, and the first seat as long as nobody has it
@@ -76,6 +77,21 @@ abbrev pub WhyNotFirst : Pooled → Running → Fault → Type 0
 WhyNotFirst pool running fault.NoRendez = ¬ OwnsRow pool.sema running.words
 WhyNotFirst pool running fault.NoProc = OwnsRow pool.sema running.words × (pool.spare ≡ None)
 WhyNotFirst pool running other = ⊥
+
+-- this is the seat that nobody had, and it is one that the process may have
+pub record IsFirstSeat (pool : Pooled) (running : Running) (seat : SemaSeat) : Type 0 where
+  pub seat_is : Some seat ≡ pool.spare
+  pub at_sema : IsSemaSeatOf pool.sema seat
+  pub row : OwnsRow pool.sema running.words
+
+-- the pool without the seat that nobody had
+abbrev pub without_spare : Pooled → Pooled
+without_spare pool = record pool { spare = None }
+
+-- the seat was taken, or it was refused and the pool is as it was
+abbrev pub TakesSeat : Pooled → Running → Result SemaSeat Fault → Pooled → Type 0
+TakesSeat old running (Ok seat) new = IsFirstSeat old running seat × (new ≡ without_spare old)
+TakesSeat old running (Err why) new = WhyNotFirst old running why × (new ≡ old)
 
 -- the process has the seat that nobody had
 pub record IsFirstHolder (pool : Pooled) (running : Running) (holding : Holding) : Type 0 where
@@ -155,13 +171,16 @@ WhyNoFork old new unseated other = ⊥
 
 -- ---- all at once
 
--- so many hold units of this semaphore, in the kernel of this roster but for the one that was first
-pub record AreHolders (sema : Sema) (running : Running) (unused : Unused) (count : ℕ)
-    (holders : List Holding) : Type 0 where
-  pub count_is : length holders ≡ count
-  pub at_sema : AllByRecursion (λ holding. holding.sema ≡ sema) holders
-  pub kernels : AllByRecursion (λ holding.
-      (holding.running ≡ running) ⊎ (holding.running.words ≡ unused.words)) holders
+-- the processes of these holders
+abbrev pub procs_of_holders : List Holding → List Running
+procs_of_holders holders = map (λ holding. holding.running) holders
+
+-- these are children of a process in its note group, the next ones of the roster, which gave out a
+-- pid for each and no Rendez
+pub record AreChildren (before : Unused) (parent : ℕ) (holders : List Holding) (after : Unused) :
+    Type 0 where
+  pub procs_are : procs_of_holders holders ≡ children (length holders) parent before
+  pub roster : after ≡ less_children (length holders) parent before
 
 -- one or more are asked for, and there are seats for so many, and pids for all but one
 pub record MayHold (pool : Pooled) (unused : Unused) (count : ℕ) : Type 0 where
@@ -195,6 +214,18 @@ pub record Gathering : Type 0 where
 abbrev pub gathering : Pooled → Running → Unused → ℕ → Gathering
 gathering pool running roster count =
     record { pool = pool; running = running; roster = roster; count = count }
+
+-- So many hold units of the pool, in the kernel of the roster but for the one that asks: first its
+-- children, and behind them itself, as it was.
+pub record AreHolders (asked : Gathering) (holders : List Holding) (after : Unused) :
+    Type 0 where
+  pub count_is : length holders ≡ asked.count
+  pub at_sema : AllByRecursion (λ holding. holding.sema ≡ asked.pool.sema) holders
+  pub kernels : AllByRecursion (λ holding. (holding.running ≡ asked.running)
+      ⊎ (holding.running.words ≡ asked.roster.words)) holders
+  pub others : List Holding
+  pub made : AreChildren asked.roster asked.running.process.pid others after
+  pub procs_are : procs_of_holders holders ≡ procs_of_holders others ++ asked.running ∷ []
 
 -- no process is made: none are asked for, or too many
 pub record AsksTooMany (asked : Gathering) (after : Unused) (why : Fault) : Type 0 where

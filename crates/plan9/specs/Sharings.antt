@@ -26,6 +26,8 @@ use Rattle.plan9.specs.declared.pipes.Reader.{Reader}
 use Rattle.plan9.specs.declared.sharing.Shared.{Shared}
 use Rattle.plan9.specs.declared.sharing.Sharer.{Sharer}
 use Rattle.plan9.specs.declared.sharing.Unshared.{Unshared}
+use Rattle.plan9.specs.declared.place.Receipt.{Receipt}
+use Rattle.plan9.specs.Places.{IsLaid}
 use Rattle.plan9.specs.Pools.{Holding, IsNewPool, IsFirstHolder, IsSameHolder}
 use Rattle.plan9.specs.Pools.{ForksHolder, got, got_now, holder_point}
 use Rattle.plan9.specs.Readings.{ReadsBy}
@@ -125,6 +127,12 @@ pub record CallsShared (end : ReadSide) (old : Holding) (Call : Reader → Reade
   pub called : Call (reader lay old.running) (reader lies new.running)
   pub same : IsSameHolder old new
   pub seat_is : new.seat ≡ old.seat
+
+-- and the end that lies there then is the one that was laid down
+pub record CallsAndLays (end : ReadSide) (old : Holding) (Call : Reader → Reader → Type 0)
+    (laid : Receipt) (new : Holding) : Type 0 where
+  pub calls : CallsShared end old Call new
+  pub laid_is : IsLaid calls.lies laid
 
 -- A read, which was answered so. A buffer of no bytes is refused first, and then a process of a
 -- kernel that does not own all the Rendez of the direction.

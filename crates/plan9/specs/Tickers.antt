@@ -1,5 +1,6 @@
 -- What a ticker does. Own.
-use Rattle.std.specs.Prelude.{◌≡◌, ◌≢◌, ◌<◌, ◌+◌, ◌^◌, ℕ}
+use Rattle.std.specs.Prelude.{◌≡◌, ◌≢◌, ◌<◌, ◌+◌, ◌^◌, ℕ, Option, Some, None}
+use Rattle.std.specs.Borrow.{Bor}
 use Rattle.sync_base.specs.declared.note.NoteSet.{NoteSet}
 use Rattle.sync_base.specs.NoteSet.{no_notes}
 use Rattle.rendez_words.specs.Steps.{drains}
@@ -8,6 +9,8 @@ use Rattle.sleep_wakeup.specs.Kernel.{Running}
 use Rattle.timer_list.specs.Ticking.{Ticks}
 use Rattle.waiting.specs.Waiting.{point}
 use Rattle.pipe_dev.specs.Rounds.{Rounds}
+use Rattle.plan9.specs.declared.ticker.Beat.{Beat}
+use Rattle.plan9.specs.declared.ticker.RealTime.{RealTime}
 use Rattle.plan9.specs.declared.ticker.Ticker.{Ticker}
 use Rattle.plan9.specs.Watches.{IsSameWatch}
 
@@ -20,6 +23,17 @@ pub record Looks (old : Running) (came : NoteSet) (new : Running) : Type 0 where
 pub record IsBeat (old moment new : ℕ) : Type 0 where
   pub on : old + 1 < 2 ^ 64 → old < new
   pub moment_is : moment ≡ new
+
+-- an atomic that is shown is this one
+abbrev pub IsShownAt : {Atomic : Type 0} → Atomic → Option (Bor Atomic) → Type 0
+IsShownAt place None = ⊥
+IsShownAt place (Some shown) = shown.now ≡ place
+
+-- a beat that begins where this real time began, at the moment 0, and shows there what it tells
+pub record IsBeatOf {Clock : Type 0} (time : RealTime) (beat : Beat Clock) : Type 0 where
+  pub began_is : beat.began ≡ time.began
+  pub from_zero : beat.now ≡ 0
+  pub shown : IsShownAt time.told beat.shown
 
 -- a ticker, and the time that it asks for its moments
 pub record Timed (TickSource : Type 0) : Type 0 where

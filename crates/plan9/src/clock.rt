@@ -149,12 +149,14 @@ impl<'t> Watch<'t> {
         ensures words { proc.new.words ≡ proc.old.words }
 
         // A Rendez that is not there is refused first, and then a threshold that no level is above;
-        // its process does nothing then.
+        // its process does nothing then, and its timer is asked nothing.
         ensures no_rendez { rendez_of proc.old.words ≤ rendez.0 → result ≡ Err NoRendez }
         ensures bad_level { rendez.0 < rendez_of proc.old.words → TOP_LEVEL ≤ threshold
             → result ≡ Err BadLevel }
         ensures refused_there { rendez_of proc.old.words ≤ rendez.0 → proc.new ≡ proc.old }
         ensures refused_level { TOP_LEVEL ≤ threshold → proc.new ≡ proc.old }
+        ensures watch_there { rendez_of proc.old.words ≤ rendez.0 → self.new ≡ self.old }
+        ensures watch_level { TOP_LEVEL ≤ threshold → self.new ≡ self.old }
 
         // Else it slept, with its timer set.
         ensures slept { rendez.0 < rendez_of proc.old.words → threshold < TOP_LEVEL

@@ -65,7 +65,12 @@ impl Hall {
     ghost use Rattle.sleep_core.specs.Limits.{IsProcCount};
     ghost use Rattle.sleep_wakeup.specs.Kernel.{rendez_less};
     ghost use Rattle.tag_space.specs.Spaces.{WhyNoGroup, WhyNoSpace};
-    ghost use Rattle.plan9.specs.Halls.{IsFirstGuest, IsNewHall, WhyNotFirstGuest};
+    ghost use Rattle.plan9.specs.Halls.{
+      IsFirstGuest,
+      IsNewHall,
+      TakesMember,
+      WhyNotFirstGuest,
+    };
     ghost use Rattle.plan9.specs.Refusals.{ComesBack};
 
     /// A hall for so many processes. It takes as many Rendez.
@@ -120,24 +125,29 @@ impl Hall {
             (ComesBack (WhyNotFirstGuest self.old proc.entry) proc.entry) }
         ensures first { IfOk result (IsFirstGuest self.old proc.entry) }
     {
-        if !has_row(&proc, self.first, self.procs) {
-            return Err(Refused {
-                proc,
-                fault: Fault::NoRendez,
-            });
-        }
-        match self.spare.take() {
-            None => Err(Refused {
-                proc,
-                fault: Fault::NoProc,
-            }),
-            Some(member) => Ok(Guest {
+        match self.take_member(&proc) {
+            Err(fault) => Err(Refused { proc, fault }),
+            Ok(member) => Ok(Guest {
                 space: &self.space,
                 first: self.first,
                 procs: self.procs,
                 member,
                 proc,
             }),
+        }
+    }
+
+    // Takes the member that no process has, for one that may be the first.
+    fn take_member(&mut self, proc: &Proc<'_>) -> Result<Member, Fault>
+        // Refused, and then the hall is as it was; or nobody finds the member there any more.
+        ensures { TakesMember self.old proc.now result self.new }
+    {
+        if !has_row(proc, self.first, self.procs) {
+            return Err(Fault::NoRendez);
+        }
+        match self.spare.take() {
+            None => Err(Fault::NoProc),
+            Some(member) => Ok(member),
         }
     }
 }

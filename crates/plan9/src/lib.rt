@@ -2,7 +2,7 @@
 //! what belongs together.
 //! Read the lists below from the top: what every call speaks of; a kernel and its processes, with
 //! `plan` and `forking`; what comes back where a process is refused, with `refusals`, and faults in
-//! words, with `texts`; pipes, with `pipes`, `noting`, `reading`, `sharing` and `streams`;
+//! words, with `texts`; pipes, with `pipes`, `noting`, `reading`, `sharing`, `place` and `streams`;
 //! semaphores, with `pool` and `vacant`; timers, with `clock` and `ticker`; tag spaces, with
 //! `hall`; and what else a caller may prove.
 #![tactic(auto)]
@@ -12,6 +12,7 @@ pub mod forking;
 pub mod hall;
 pub mod noting;
 pub mod pipes;
+mod place;
 pub mod plan;
 pub mod pool;
 pub mod reading;

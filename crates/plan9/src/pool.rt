@@ -4,7 +4,7 @@ ghost use Rattle.std.specs.Prelude.{◌≡◌, ◌≤◌, ◌<◌, ◌+◌, ◌�
 ghost use Rattle.std.specs.List.{AllByRecursion};
 ghost use Rattle.std.specs.Vec.{vec_capacity};
 ghost use Rattle.rendez_words.specs.Words.{rendez_of};
-ghost use Rattle.plan9.specs.Pools.{IsSameParent, MayHold, StopsForking, forking};
+ghost use Rattle.plan9.specs.Pools.{AreChildren, IsSameParent, MayHold, StopsForking, forking};
 
 use crate::clock::Watch;
 use crate::refusals::Refused;
@@ -79,6 +79,7 @@ impl Pool {
       AreHolders,
       IsFirstHolder,
       IsNewPool,
+      TakesSeat,
       WhyNoHolders,
       WhyNotFirst,
       gathering,
@@ -120,24 +121,29 @@ impl Pool {
         ensures fault { IfErr result (ComesBack (WhyNotFirst self.old proc.entry) proc.entry) }
         ensures first { IfOk result (IsFirstHolder self.old proc.entry) }
     {
-        if !has_row(&proc, self.first, self.procs) {
-            return Err(Refused {
-                proc,
-                fault: Fault::NoRendez,
-            });
-        }
-        match self.spare.take() {
-            None => Err(Refused {
-                proc,
-                fault: Fault::NoProc,
-            }),
-            Some(seat) => Ok(Holder {
+        match self.take_seat(&proc) {
+            Err(fault) => Err(Refused { proc, fault }),
+            Ok(seat) => Ok(Holder {
                 sema: &self.sema,
                 first: self.first,
                 procs: self.procs,
                 seat,
                 proc,
             }),
+        }
+    }
+
+    // Takes the seat that nobody has, for a process that may be the first.
+    fn take_seat(&mut self, proc: &Proc<'_>) -> Result<SemaSeat, Fault>
+        // Refused, and then the pool is as it was; or nobody finds the seat there any more.
+        ensures { TakesSeat self.old proc.now result self.new }
+    {
+        if !has_row(proc, self.first, self.procs) {
+            return Err(Fault::NoRendez);
+        }
+        match self.spare.take() {
+            None => Err(Fault::NoProc),
+            Some(seat) => Ok(seat),
         }
     }
 
@@ -159,9 +165,9 @@ impl Pool {
         ensures fault { IfErr result (ComesBack (WhyNoHolders
             (gathering self.old proc.entry roster.old count) roster.new) proc.entry) }
 
-        // Otherwise they hold.
-        ensures holders { IfOk result (λ holders.
-            AreHolders self.old.sema proc.entry roster.old count holders.items) }
+        // Otherwise they hold, and one pid less than their count is used up, and no Rendez.
+        ensures holders { IfOk result (λ holders. AreHolders
+            (gathering self.old proc.entry roster.old count) holders.items roster.new) }
     {
         if !may_hold(self, roster, count) {
             return Err(Refused {
@@ -213,7 +219,9 @@ fn fork_others<'s, 'k, R: Wait>(
     ensures fault { IfErr result (λ why. StopsForking count (forking roster.old first.old) why
         (forking roster.new first.new)) }
 
-    // Those that were made hold, and there is room for the first.
+    // Those that were made hold, each a child with the next pid, and there is room for the first.
+    ensures made { OnOk result (AreChildren roster.old first.old.running.process.pid
+        holders.new.items roster.new) }
     ensures counted { OnOk result (length holders.new.items + 1 ≡ count) }
     ensures room { count ≤ vec_capacity holders.new }
     ensures at_sema { AllByRecursion (λ holding. holding.sema ≡ first.old.sema)

@@ -1,41 +1,13 @@
 //! A read end that several processes share: each reads in its turn, and a note ends its wait.
-ghost use Rattle.std.specs.Prelude.{◌≡◌, IfSome};
-ghost use Rattle.pipe_dev.specs.Ends.{IsSameReadEnd};
-
+use crate::place::{Place, Receipt, end_of, lay_down, place_of, take_up};
 use crate::pool::{Holder, Pool};
 use crate::refusals::Refused;
 use crate::vacant::NotHolder;
-use counted_slot::{Counted, FREE, Fits, TAKEN};
 use pipe_dev::{ReadAnswer, ReadEnd, TryAnswer};
 use sleep_wakeup::{Proc, Roster};
 use std::alloc::Global;
-use std::snapshot::Snapshot;
 use std::sync::Wait;
-use std::thread::yield_now;
 use sync_base::{Fault, NoteSet, Pid, RendezId};
-
-/// The end that lies between two turns.
-#[derive(Drop)]
-pub(crate) struct Lying<'p> {
-    end: ReadEnd<'p>,
-}
-
-impl<'p> Fits for Lying<'p> {
-    ghost use Rattle.pipe_dev.specs.Ends.{IsSameReadEnd};
-
-    type Tag = Snapshot<ReadEnd<'p>>;
-
-    ghost fits = { λ first lying. IsSameReadEnd first.value lying.end };
-}
-
-/// The end, for a turn. It can't be dropped: `lay_down` spends it, with whatever answer.
-#[must_use]
-struct TakenUp<'p> {
-    end: ReadEnd<'p>,
-}
-
-/// Where the end lies while nobody has the turn.
-type Place<'p> = Counted<Option<Lying<'p>>>;
 
 /// A read end that several processes share.
 #[derive(Drop)]
@@ -97,8 +69,7 @@ impl<'p> Shared<'p> {
     {
         match Pool::new(alloc, roster, 1, procs) {
             Ok(turns) => {
-                let first = Snapshot::of(&end);
-                let place = Counted::new(Some(Lying { end }), &first);
+                let place = place_of(end);
                 Ok(Shared { turns, place })
             }
             Err(fault) => Err(Unshared { end, fault }),
@@ -123,103 +94,70 @@ impl<'p> Shared<'p> {
         ensures { IfSome result (IsSameReadEnd (first_end self.entry)) }
     {
         let Shared { turns: _, place } = self;
-        match place.into_inner() {
-            Some(Lying { end }) => Some(end),
-            None => None,
-        }
+        end_of(place)
     }
 }
 
-// Puts this where the end lies, and takes what lay there.
-fn swap<'p, R: Wait>(rt: &R, place: &Place<'p>, lying: Option<Lying<'p>>) -> Option<Lying<'p>>
-    requires { IfSome lying (λ lying. IsSameReadEnd place.now.value lying.end) }
-    ensures { IfSome result (λ lying. IsSameReadEnd place.now.value lying.end) }
-{
-    'trying: for _ in rt.forever() {
-        let (found, claim) = place.turn(FREE, TAKEN);
-        if found == FREE {
-            return claim.put(lying, FREE);
-        }
-        claim.done();
-        yield_now();
-    }
-    unreachable!()
-}
-
-// Takes the end up. Who has the turn finds it there.
-fn take_up<'p, R: Wait>(rt: &R, place: &Place<'p>) -> TakenUp<'p>
-    ensures { IsSameReadEnd place.now.value result.end }
-{
-    'looking: for _ in rt.forever() {
-        if let Some(Lying { end }) = swap(rt, place, None) {
-            return TakenUp { end };
-        }
-        yield_now();
-    }
-    unreachable!()
-}
-
-// Lays the end down where it lay.
-fn lay_down<'p, R: Wait>(rt: &R, place: &Place<'p>, taken: TakenUp<'p>)
-    requires { IsSameReadEnd place.now.value taken.end }
-{
-    let TakenUp { end } = taken;
-    swap(rt, place, Some(Lying { end }));
+/// How a call of the end was answered, and that the end was laid down after it.
+struct Called<'p, A> {
+    answer: A,
+    laid: Receipt<'p>,
 }
 
 // Each of these makes one call of the end that it has taken up, and lays it down.
 impl<'s, 'k> Holder<'s, 'k> {
     ghost use Rattle.plan9.specs.Sharings.{
-      CallsShared,
+      CallsAndLays,
       ReadsBlockOnce,
       ReadsOnce,
       TriesOnce,
       buffers,
     };
 
-    fn read_shared<R: Wait>(
+    fn read_shared<'p, R: Wait>(
         &mut self,
         rt: &R,
-        place: &Place<'_>,
+        place: &Place<'p>,
         buffer: &mut [u8],
-    ) -> Result<ReadAnswer, Fault>
-        ensures { CallsShared place.now.value self.old
-            (ReadsOnce (buffers buffer.old buffer.new) result) self.new }
+    ) -> Called<'p, Result<ReadAnswer, Fault>>
+        ensures { CallsAndLays place.now.value self.old
+            (ReadsOnce (buffers buffer.old buffer.new) result.answer) result.laid self.new }
     {
         let mut taken = take_up(rt, place);
         let answer = taken.end.read(rt, &mut self.proc, buffer);
-        lay_down(rt, place, taken);
-        answer
+        let laid = lay_down(rt, place, taken);
+        Called { answer, laid }
     }
 
-    fn read_block_shared<R: Wait>(
+    fn read_block_shared<'p, R: Wait>(
         &mut self,
         rt: &R,
-        place: &Place<'_>,
+        place: &Place<'p>,
         block: &mut Vec<u8>,
-    ) -> Result<ReadAnswer, Fault>
-        ensures { CallsShared place.now.value self.old
-            (ReadsBlockOnce (buffers block.old.items block.new.items) result) self.new }
+    ) -> Called<'p, Result<ReadAnswer, Fault>>
+        ensures { CallsAndLays place.now.value self.old
+            (ReadsBlockOnce (buffers block.old.items block.new.items) result.answer)
+            result.laid self.new }
     {
         let mut taken = take_up(rt, place);
         let answer = taken.end.read_block(rt, &mut self.proc, block);
-        lay_down(rt, place, taken);
-        answer
+        let laid = lay_down(rt, place, taken);
+        Called { answer, laid }
     }
 
-    fn try_shared<R: Wait>(
+    fn try_shared<'p, R: Wait>(
         &mut self,
         rt: &R,
-        place: &Place<'_>,
+        place: &Place<'p>,
         buffer: &mut [u8],
-    ) -> Result<TryAnswer, Fault>
-        ensures { CallsShared place.now.value self.old
-            (TriesOnce (buffers buffer.old buffer.new) result) self.new }
+    ) -> Called<'p, Result<TryAnswer, Fault>>
+        ensures { CallsAndLays place.now.value self.old
+            (TriesOnce (buffers buffer.old buffer.new) result.answer) result.laid self.new }
     {
         let mut taken = take_up(rt, place);
         let answer = taken.end.try_read(&mut self.proc, buffer);
-        lay_down(rt, place, taken);
-        answer
+        let laid = lay_down(rt, place, taken);
+        Called { answer, laid }
     }
 }
 
@@ -253,7 +191,7 @@ impl<'s, 'p, 'k> Sharer<'s, 'p, 'k> {
         ensures turn { InTurn ReadsOnce self.old (buffers buffer.old buffer.new) result self.new }
     {
         self.holder.acquire(rt)?;
-        let answer = self.holder.read_shared(rt, self.place, buffer);
+        let Called { answer, laid: _ } = self.holder.read_shared(rt, self.place, buffer);
         let _sum = self.holder.release(rt, 1);
         answer
     }
@@ -282,7 +220,7 @@ impl<'s, 'p, 'k> Sharer<'s, 'p, 'k> {
             result self.new }
     {
         self.holder.acquire(rt)?;
-        let answer = self.holder.read_block_shared(rt, self.place, block);
+        let Called { answer, laid: _ } = self.holder.read_block_shared(rt, self.place, block);
         let _sum = self.holder.release(rt, 1);
         answer
     }
@@ -297,7 +235,7 @@ impl<'s, 'p, 'k> Sharer<'s, 'p, 'k> {
         if !self.holder.try_acquire(rt) {
             return Ok(TryAnswer::NotYet);
         }
-        let answer = self.holder.try_shared(rt, self.place, buffer);
+        let Called { answer, laid: _ } = self.holder.try_shared(rt, self.place, buffer);
         let _sum = self.holder.release(rt, 1);
         answer
     }

@@ -29,6 +29,8 @@ pub struct RealTime {
 }
 
 impl RealTime {
+    ghost use Rattle.plan9.specs.Tickers.{IsBeatOf};
+
     /// Begins at the moment 0, by the system's clock. Takes no memory and doesn't wait.
     pub fn new<R: Clock>(rt: &R) -> RealTime {
         RealTime {
@@ -47,7 +49,9 @@ impl RealTime {
 
     /// A beat that begins where this began, and shows here each moment before it tells it. Takes no
     /// memory and doesn't wait.
-    pub fn beat<'r, R: Clock>(&'r self, rt: &'r R) -> Beat<'r, R> {
+    pub fn beat<'r, R: Clock>(&'r self, rt: &'r R) -> Beat<'r, R>
+        ensures { IsBeatOf self.now result }
+    {
         Beat {
             rt,
             began: self.began,
@@ -69,8 +73,12 @@ pub struct Beat<'r, R> {
 }
 
 impl<'r, R: Clock> Beat<'r, R> {
+    ghost use Rattle.std.specs.Prelude.{◌≡◌};
+
     /// Begins at the moment 0, by the system's clock. Takes no memory and doesn't wait.
-    pub fn new(rt: &'r R) -> Beat<'r, R> {
+    pub fn new(rt: &'r R) -> Beat<'r, R>
+        ensures { result.now ≡ 0 }
+    {
         Beat {
             rt,
             began: Instant::now(rt).ok(),

@@ -25,3 +25,4 @@ returns g c =
       no_rendez = read.no_rendez;
       reads = read.read;
     }
+    c.lay_down-laid.result c.lay_down-laid.ensures

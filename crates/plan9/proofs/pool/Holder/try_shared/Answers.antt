@@ -28,3 +28,4 @@ returns g c =
           c.try_read-answer.result (reader c.try_read-answer.new.self c.try_read-answer.new.proc)
           c.try_read-answer.new.buffer read.tried read.refused;
     }
+    c.lay_down-laid.result c.lay_down-laid.ensures

@@ -1,8 +1,10 @@
 -- the children hold, and the first behind them; or one does not, and the first comes back
-use Rattle.std.proofs.Common.{◌≡◌, ◌⊎◌, ◌∙◌, arith, inl, inr, subst}
+use Rattle.std.proofs.Common.{◌≡◌, ◌⊎◌, ◌++◌, ◌∷◌, ◌∙◌, [], ap, arith, inl, inr, subst}
 use Rattle.histories.proofs.ListLemmas.{all_weaker}
 use Rattle.std.specs.List.{AllByRecursion}
-use Rattle.plan9.proofs.PoolLemmas.{all_and_one, one_longer}
+use Rattle.sleep_wakeup.specs.Kernel.{Running}
+use Rattle.plan9.specs.Pools.{AreChildren, procs_of_holders}
+use Rattle.plan9.proofs.PoolLemmas.{all_and_one, one_longer, procs_of_both}
 use Rattle.plan9.proofs.pool.Pool.holders.Goals as goal
 
 pub returns-in-Ok-fork_others-clause-holders : goal.returns-in-Ok-fork_others-clause-holders
@@ -27,6 +29,13 @@ returns-in-Ok-fork_others-clause-holders g c =
           ⊎ (holding.running.words ≡ c.args.roster.now.words))
           (λ holding is. inr is) children c.fork_others.ensures.kernels)
           (inl (same.running_is ∙ first.running_is));
+      others = children;
+      made = subst (λ (running : Running). AreChildren c.args.roster.now running.process.pid
+          children c.fork_others.new.roster) first.running_is
+          c.in-Ok-fork_others.ensures.made;
+      procs_are = ap procs_of_holders items ∙ procs_of_both children (last ∷ [])
+          ∙ ap (λ running. procs_of_holders children ++ running ∷ [])
+          (same.running_is ∙ first.running_is);
     }
 
 pub returns-clause-fault : goal.returns-clause-fault

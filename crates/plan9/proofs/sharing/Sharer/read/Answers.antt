@@ -6,12 +6,12 @@ use Rattle.plan9.proofs.sharing.Sharer.read.Goals as goal
 pub returns-clause-turn : goal.returns-clause-turn
 returns-clause-turn g c =
     has_turn ReadsOnce c.args.self.now (buffers c.args.buffer.now c.read_shared-answer.new.buffer)
-    c.read_shared-answer.result _
+    c.read_shared-answer.result.answer _
     record {
       begun = c.acquire.new.self;
       ended = c.read_shared-answer.new.self;
       asks = c.in_ok-acquire.ensures.called;
-      calls = c.read_shared-answer.ensures;
+      calls = c.read_shared-answer.ensures.calls;
       gives_back = record {
         answer = c.release-sum.result;
         called = c.release-sum.ensures.called;

@@ -7,12 +7,12 @@ pub returns-clause-turn : goal.returns-clause-turn
 returns-clause-turn g c =
     has_turn ReadsBlockOnce c.args.self.now
     (buffers c.args.block.now.items c.read_block_shared-answer.new.block.items)
-    c.read_block_shared-answer.result _
+    c.read_block_shared-answer.result.answer _
     record {
       begun = c.acquire.new.self;
       ended = c.read_block_shared-answer.new.self;
       asks = c.in_ok-acquire.ensures.called;
-      calls = c.read_block_shared-answer.ensures;
+      calls = c.read_block_shared-answer.ensures.calls;
       gives_back = record {
         answer = c.release-sum.result;
         called = c.release-sum.ensures.called;
