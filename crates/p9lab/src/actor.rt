@@ -74,6 +74,7 @@ pub fn run<R: Wait>(
     Back { actor, answer }
 }
 
+// A call of its role, at whose points nothing is done.
 fn make_call<R: Wait>(rt: &R, alloc: Global, actor: &mut Actor, call: Call) -> Answer {
     let Actor {
         role,
@@ -91,6 +92,7 @@ fn make_call<R: Wait>(rt: &R, alloc: Global, actor: &mut Actor, call: Call) -> A
     }
 }
 
+// A call of a role that is in turn with others, in its own hands, or below processes.
 fn call_beside<R: Wait>(
     rt: &R,
     alloc: Global,
@@ -140,6 +142,7 @@ fn make_probed<R: Wait>(
     }
 }
 
+// The same of these roles, of which some take no probe.
 fn probe_beside<R: Wait>(
     rt: &R,
     alloc: Global,

@@ -34,6 +34,7 @@ pub struct Acts {
 }
 
 impl Acts {
+    /// Before any was written down.
     pub fn none() -> Acts {
         let act = Act {
             point: 0,
@@ -76,6 +77,7 @@ impl Acts {
         true
     }
 
+    // The act with this number, counted from 1.
     fn row(&self, number: u64) -> Option<Act> {
         for (at, act) in self.rows.iter().enumerate() {
             if at < self.kept && at as u64 + 1 == number {
@@ -93,6 +95,7 @@ pub struct Said {
     pub number: u64,
 }
 
+// An answer of a line of this process.
 fn numbered(answer: Answer, number: u64) -> Option<Said> {
     Some(Said { answer, number })
 }
@@ -160,6 +163,7 @@ fn acted(acts: &Acts, words: &Words<'_>) -> Option<Said> {
     numbered(act.answer, act.number)
 }
 
+// A line without acts of its own. What it waits for may stand at a point, and is served there.
 fn step_served<R: Threads + Wait + Copy + Send + 'static>(
     rt: &R,
     alloc: Global,
@@ -186,6 +190,7 @@ fn step_served<R: Threads + Wait + Copy + Send + 'static>(
     }
 }
 
+// A call, which gets the acts that are kept once it has started.
 fn call_served<R: Threads + Wait + Copy + Send + 'static>(
     rt: &R,
     alloc: Global,
@@ -261,6 +266,7 @@ fn serve<R: Threads + Wait + Copy + Send + 'static>(
     let_go(scene, owner);
 }
 
+// The point at which the call of this place stands, or 0.
 fn standing_at(scene: &Scene, at: usize) -> u64 {
     match scene.places.get(at) {
         Some(place) => place.desk.stands_at(),
@@ -268,12 +274,14 @@ fn standing_at(scene: &Scene, at: usize) -> u64 {
     }
 }
 
+// Lets the call of this place go on from its point.
 fn let_go(scene: &Scene, at: usize) {
     if let Some(place) = scene.places.get(at) {
         place.desk.let_go();
     }
 }
 
+// Plays an act.
 fn play_act<R: Threads + Wait + Copy + Send + 'static>(
     rt: &R,
     alloc: Global,

@@ -75,6 +75,7 @@ pub fn join<R: Threads + Wait>(rt: &R, place: &mut Place) -> Answer {
     }
 }
 
+// The process is here again, and its call is answered.
 fn come_back(stay: &mut Stay, back: Back) -> Answer {
     let Back { actor, answer } = back;
     set(stay, Stay::Here(actor));
@@ -171,6 +172,7 @@ pub fn call_off<R: Threads + Wait>(rt: &R, scene: &mut Scene) -> Leftover {
     left
 }
 
+// Ends the call of this place by a note, if one runs.
 fn call_off_one<R: Threads + Wait>(
     rt: &R,
     zero: &mut Proc<'static>,
@@ -191,6 +193,7 @@ fn call_off_one<R: Threads + Wait>(
     }
 }
 
+// Whether its call runs on a thread.
 fn is_out(stay: &Stay) -> bool {
     match stay {
         Stay::Out(_) => true,
@@ -198,6 +201,7 @@ fn is_out(stay: &Stay) -> bool {
     }
 }
 
+// Posts an interrupt to the process at this place, from a process of the same kernel.
 fn interrupt(zero: &mut Proc<'static>, place: &mut Place) {
     let sender = match &mut place.sender {
         Some(sender) => sender,
@@ -206,6 +210,7 @@ fn interrupt(zero: &mut Proc<'static>, place: &mut Place) {
     let _ = sender.postnote(Pid(place.pid), NoteSet::of(Note::Interrupt));
 }
 
+// Whether its call ends within so many turns.
 fn ends(place: &Place, turns: u64) -> bool {
     for _ in 0..turns {
         if !place.desk.runs() {

@@ -55,6 +55,7 @@ pub fn casting_of(words: &Words<'_>, from: usize) -> Option<Casting> {
     Some(Casting { part, object, back })
 }
 
+// Whether the line ends with this word.
 fn is_last(words: &Words<'_>, wanted: &str) -> bool {
     words.count > 0 && words.count <= WORDS && words.list[words.count - 1] == wanted
 }
@@ -73,6 +74,7 @@ pub fn object_of(words: &Words<'_>, at: usize, count: usize) -> Option<u64> {
     }
 }
 
+// The role that a word names.
 fn part_of(word: &str) -> Option<Part> {
     match word {
         "plain" => Some(Part::Plain),
@@ -162,6 +164,7 @@ fn writers_of(
     }
 }
 
+// Gives each of these writers its place. The answer is that of the last.
 fn seat_each(
     alloc: Global,
     scene: &mut Scene,
@@ -176,12 +179,14 @@ fn seat_each(
     last
 }
 
+// Gives a process of the scene's kernel its place, in its role.
 fn seat_role(alloc: Global, scene: &mut Scene, pid: Pid, role: Role, object: u64) -> Answer {
     let kernel = scene.kernel;
     let stay = Stay::Here(actor_of(alloc, role, object));
     seat(alloc, scene, pid.0, kernel, pid.0, None, stay)
 }
 
+// A child of the process with this number, if these flags ask for one.
 fn child_of(scene: &mut Scene, number: u64, flags: Flags) -> Result<Option<Proc<'static>>, Fault> {
     let Scene {
         roster,
@@ -214,6 +219,7 @@ pub fn can_fork(scene: &mut Scene, number: u64) -> bool {
     proc_in(&mut scene.zero, &mut scene.places, number).is_some()
 }
 
+// The process with this number, if it is here and its role lends it.
 fn proc_in<'a>(
     zero: &'a mut Proc<'static>,
     places: &'a mut Vec<Place>,
@@ -226,6 +232,7 @@ fn proc_in<'a>(
     proc_of(&mut actor_at(places, at)?.role)
 }
 
+// The process of a role, where the role lends it.
 fn proc_of(role: &mut Role) -> Option<&mut Proc<'static>> {
     match role {
         Role::Plain(proc) => Some(proc),
@@ -270,6 +277,7 @@ fn actor_at(places: &mut Vec<Place>, at: usize) -> Option<&mut Actor> {
     }
 }
 
+// Gives a child its role and its place. A child whose role is refused is gone.
 fn place<R: Wait>(
     rt: &R,
     alloc: Global,
@@ -319,6 +327,7 @@ struct Stranger {
     sender: Option<Proc<'static>>,
 }
 
+// A kernel of this size, its process 0, and one more process that sends it notes.
 fn open_stranger(alloc: Global, procs: u64, rendez: u64) -> Result<Stranger, Fault> {
     let Setup {
         kernel,
@@ -337,6 +346,7 @@ fn open_stranger(alloc: Global, procs: u64, rendez: u64) -> Result<Stranger, Fau
     })
 }
 
+// Gives a stranger its role and its place. One that is refused has none, and no number.
 fn place_stranger<R: Wait>(
     rt: &R,
     alloc: Global,
@@ -360,6 +370,7 @@ fn place_stranger<R: Wait>(
     }
 }
 
+// A process in its role, which has made no call yet.
 fn actor_of(alloc: Global, role: Role, object: u64) -> Actor {
     Actor {
         role,
@@ -398,6 +409,7 @@ fn seat(
     }
 }
 
+// The role of a process, with the end or the seat that it takes.
 fn cast<R: Wait>(
     rt: &R,
     scene: &mut Scene,
@@ -426,12 +438,14 @@ fn at(object: u64) -> usize {
     (object.max(1) - 1) as usize
 }
 
+// The direction at which the role is.
 fn direction_in(stock: &mut Stock, casting: Casting) -> Option<&mut Direction> {
     let place = at(casting.object).saturating_mul(2);
     let back = if casting.back { 1 } else { 0 };
     stock.directions.get_mut(place.saturating_add(back))
 }
 
+// The reader of a direction, if nobody has its read end.
 fn read_with(direction: Option<&mut Direction>, proc: Proc<'static>) -> Result<Role, Fault> {
     match read_end_of(direction) {
         Some(end) => Ok(Role::Reader(Reader::new(end, proc))),
@@ -439,10 +453,12 @@ fn read_with(direction: Option<&mut Direction>, proc: Proc<'static>) -> Result<R
     }
 }
 
+// The read end of a direction, which is then taken.
 fn read_end_of(direction: Option<&mut Direction>) -> Option<ReadEnd<'static>> {
     direction?.read.take()
 }
 
+// The next writer of a direction, if there is one more.
 fn write_with(direction: Option<&mut Direction>, proc: Proc<'static>) -> Result<Role, Fault> {
     match write_end_of(direction) {
         Some(end) => Ok(Role::Writer(Writer::new(end, proc))),
@@ -450,10 +466,12 @@ fn write_with(direction: Option<&mut Direction>, proc: Proc<'static>) -> Result<
     }
 }
 
+// The next write end of a direction, which is then taken.
 fn write_end_of(direction: Option<&mut Direction>) -> Option<WriteEnd<'static>> {
     direction?.writes.pop()
 }
 
+// The first that has turns at a shared end.
 fn share_first(stock: &mut Stock, proc: Proc<'static>, object: u64) -> Result<Role, Fault> {
     match stock.sharings.get_mut(at(object)) {
         Some(sharing) => Ok(Role::Beside(Beside::Sharer(first_sharer(sharing, proc)?))),
@@ -461,6 +479,7 @@ fn share_first(stock: &mut Stock, proc: Proc<'static>, object: u64) -> Result<Ro
     }
 }
 
+// Whether somebody that is here has turns at this shared end.
 fn has_sharer(scene: &mut Scene, object: u64) -> bool {
     sharer_in(&mut scene.places, object).is_some()
 }
@@ -477,6 +496,7 @@ fn fork_sharer<R: Wait>(rt: &R, alloc: Global, scene: &mut Scene, object: u64) -
     }
 }
 
+// A child of a sharer that is here, with turns at the same end.
 fn sharer_beside<R: Wait>(
     rt: &R,
     places: &mut Vec<Place>,
@@ -489,6 +509,7 @@ fn sharer_beside<R: Wait>(
     }
 }
 
+// The first sharer that is here of this shared end.
 fn sharer_in(
     places: &mut Vec<Place>,
     wanted: u64,
@@ -500,6 +521,7 @@ fn sharer_in(
     }
 }
 
+// The sharer in such a role.
 fn sharer_of(beside: &mut Beside) -> Option<&mut Sharer<'static, 'static, 'static>> {
     match beside {
         Beside::Sharer(sharer) => Some(sharer),
@@ -523,6 +545,7 @@ fn fork_first_peer(
     }
 }
 
+// A peer that is the first member of a new space of so many.
 fn first_peer(
     alloc: Global,
     scene: &mut Scene,
@@ -537,6 +560,7 @@ fn first_peer(
     }
 }
 
+// Gives a peer its place.
 fn seat_peer(alloc: Global, scene: &mut Scene, peer: Peer) -> Answer {
     let pid = peer.pid();
     let role = Role::Beside(Beside::Peer(Some(peer)));
@@ -594,6 +618,7 @@ fn hold<R: Wait>(
     }
 }
 
+// One more holder, beside one that is here.
 fn hold_beside<R: Wait>(
     rt: &R,
     places: &mut Vec<Place>,
@@ -614,6 +639,7 @@ fn take_at<T: Drop>(kept: &mut Vec<Option<T>>, at: usize) -> Option<T> {
     }
 }
 
+// The first process in a tag space, or one more beside one that is there.
 fn admit<R: Wait>(
     rt: &R,
     places: &mut Vec<Place>,
@@ -627,6 +653,7 @@ fn admit<R: Wait>(
     }
 }
 
+// One more guest, beside one that is here.
 fn admit_beside<R: Wait>(
     rt: &R,
     places: &mut Vec<Place>,
@@ -639,6 +666,7 @@ fn admit_beside<R: Wait>(
     }
 }
 
+// The first holder that is here of this semaphore.
 fn holder_in(places: &mut Vec<Place>, wanted: u64) -> Option<&mut Holder<'static, 'static>> {
     let at = player_at(places, wanted, Part::Holder)?;
     match &mut actor_at(places, at)?.role {
@@ -647,6 +675,7 @@ fn holder_in(places: &mut Vec<Place>, wanted: u64) -> Option<&mut Holder<'static
     }
 }
 
+// The first guest that is here of this space.
 fn guest_in(places: &mut Vec<Place>, wanted: u64) -> Option<&mut Guest<'static, 'static>> {
     let at = player_at(places, wanted, Part::Guest)?;
     match &mut actor_at(places, at)?.role {
@@ -667,6 +696,7 @@ fn player_at(places: &Vec<Place>, object: u64, part: Part) -> Option<usize> {
     None
 }
 
+// Whether this is the role of that name, among those that several may have.
 fn has_part(role: &Role, part: Part) -> bool {
     match role {
         Role::Holder(_) => part == Part::Holder,

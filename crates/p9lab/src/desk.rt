@@ -24,6 +24,7 @@ pub struct Desk {
 }
 
 impl Desk {
+    /// Of a process that makes no call, for this many turns at a point.
     pub fn new(turns: u64, kernel: &'static Kernel, pid: u64) -> Desk {
         Desk {
             turns,
@@ -34,14 +35,17 @@ impl Desk {
         }
     }
 
+    /// The call begins.
     pub fn begin(&self) {
         self.runs.store(true, SeqCst);
     }
 
+    /// The call has ended.
     pub fn end(&self) {
         self.runs.store(false, SeqCst);
     }
 
+    /// Whether the call runs still.
     pub fn runs(&self) -> bool {
         self.runs.load(SeqCst)
     }
@@ -51,6 +55,7 @@ impl Desk {
         self.point.load(SeqCst)
     }
 
+    /// Lets the call go on from the point at which it stands.
     pub fn let_go(&self) {
         self.point.store(0, SeqCst);
     }
@@ -87,6 +92,7 @@ pub struct Stops {
 }
 
 impl Stops {
+    /// No stops, and no probe.
     pub fn none() -> Stops {
         Stops {
             at: [false; POINTS],
@@ -94,6 +100,7 @@ impl Stops {
         }
     }
 
+    /// One stop more, in a call that is probed.
     pub fn add(&mut self, point: u64) {
         self.probed = true;
         if point < POINTS as u64 {
@@ -101,6 +108,7 @@ impl Stops {
         }
     }
 
+    // Whether the call stops at this point, as it does once.
     fn takes(&mut self, point: u64) -> bool {
         if point >= POINTS as u64 {
             return false;
@@ -120,6 +128,7 @@ pub struct Visitor<'a> {
 }
 
 impl<'a> Probe for Visitor<'a> {
+    // Writes the visit down, and stands there where it is to.
     fn at(&mut self, point: u64) {
         let posted = self.desk.is_posted();
         let _ = self.visits.push(Visit { point, posted });

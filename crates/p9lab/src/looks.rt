@@ -12,6 +12,7 @@ pub fn is_posted(kernel: &Kernel, statuses: &mut Vec<ProcStatus>, pid: u64) -> b
     }
 }
 
+// How the process with this pid stands, if there is one.
 fn status_of(kernel: &Kernel, statuses: &mut Vec<ProcStatus>, pid: u64) -> Option<ProcStatus> {
     let look = kernel.look(statuses.as_mut_slice(), &mut []);
     match look.procs.get(pid as usize) {

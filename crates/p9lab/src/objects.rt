@@ -32,6 +32,7 @@ pub struct Stock {
 }
 
 impl Stock {
+    /// No objects.
     pub fn new(alloc: Global) -> Stock {
         Stock {
             directions: Vec::new(alloc),
@@ -53,10 +54,12 @@ pub fn made(came: Result<(), Fault>) -> Answer {
     }
 }
 
+// Whether there was memory, as an answer.
 fn told(has_room: bool) -> Result<(), Fault> {
     if has_room { Ok(()) } else { Err(Fault::Memory) }
 }
 
+/// Makes a pipe in message mode, whose ends nobody has yet.
 pub fn make_pipe(alloc: Global, scene: &mut Scene, limit: u64, writers: u64) -> Answer {
     match Pipe::new(alloc, &mut scene.roster, limit, writers) {
         Ok(opened) => made(lay_pipe(alloc, &mut scene.stock.directions, opened)),
@@ -64,6 +67,7 @@ pub fn make_pipe(alloc: Global, scene: &mut Scene, limit: u64, writers: u64) -> 
     }
 }
 
+/// Makes a pipe in stream mode, whose ends nobody has yet.
 pub fn make_stream(alloc: Global, scene: &mut Scene, limit: u64, writers: u64) -> Answer {
     match Pipe::new_stream(alloc, &mut scene.roster, limit, writers) {
         Ok(opened) => made(lay_pipe(alloc, &mut scene.stock.directions, opened)),
@@ -71,6 +75,7 @@ pub fn make_stream(alloc: Global, scene: &mut Scene, limit: u64, writers: u64) -
     }
 }
 
+// Lays the ends of both directions of a pipe with those that nobody has yet.
 fn lay_pipe(
     alloc: Global,
     directions: &mut Vec<Direction>,
@@ -85,6 +90,7 @@ fn lay_pipe(
     told(push(directions, direction_of(away, back)) && has_room)
 }
 
+// Keeps a pipe, and takes its two ends.
 fn ends_of(alloc: Global, opened: OpenedPipe<'static>) -> Result<Ends<'static>, Fault>
     requires { IsStartOf opened.pipe opened.start }
 {
@@ -103,11 +109,13 @@ fn direction_of(read: ReadEnd<'static>, mut writes: Vec<WriteEnd<'static>>) -> D
     }
 }
 
+/// Makes a semaphore, at which nobody has a seat yet.
 pub fn make_sema(alloc: Global, scene: &mut Scene, units: u32, seats: u64) -> Answer {
     let opened = Pool::new(alloc, &mut scene.roster, units, seats);
     made(lay(alloc, &mut scene.stock.pools, opened))
 }
 
+/// Makes a tag space, to which nobody has come yet.
 pub fn make_space(alloc: Global, scene: &mut Scene, members: u64) -> Answer {
     let opened = Hall::new(alloc, &mut scene.roster, members);
     made(lay(alloc, &mut scene.stock.halls, opened))
@@ -123,6 +131,7 @@ pub fn make_group(alloc: Global, scene: &mut Scene, object: u64) -> Answer {
     made(lay(alloc, &mut stock.halls, opened))
 }
 
+// Keeps an object that was made.
 fn lay<'a, T: Drop + 'a>(
     alloc: Global,
     kept: &mut Vec<Option<&'a mut T>>,
@@ -132,10 +141,12 @@ fn lay<'a, T: Drop + 'a>(
     told(push(kept, Some(object)))
 }
 
+/// Makes timers, whose first seat is that of process 0.
 pub fn make_clock(alloc: Global, scene: &mut Scene, seats: u64) -> Answer {
     made(lay_clock(alloc, &mut scene.stock.clocks, Clock::new(alloc, seats)))
 }
 
+// Keeps timers, and takes their first seat.
 fn lay_clock(
     alloc: Global,
     clocks: &mut Vec<Watch<'static>>,

@@ -76,6 +76,7 @@ fn play_line<R: Threads + Wait + Copy + Send + 'static>(
     true
 }
 
+// Plays a line and puts its answer. Whether it is a line.
 fn answer_line<R: Threads + Wait + Copy + Send + 'static>(
     rt: &R,
     alloc: Global,
@@ -120,6 +121,7 @@ fn step_again<R: Threads + Wait + Copy + Send + 'static>(
     Some(said)
 }
 
+// Whether this answer is that memory ran out.
 fn lacks_memory(answer: Answer) -> bool {
     answer.word == fault_text(Fault::Memory)
 }
@@ -149,10 +151,12 @@ fn begin_scene(
     true
 }
 
+// The scene that this line begins, if it is a first line.
 fn open_scene(alloc: Global, turns: u64, words: &Words<'_>) -> Option<Result<Scene, Fault>> {
     Some(open(alloc, turns, begin(alloc, kernel_in(alloc, words)?)))
 }
 
+// The kernel that a first line asks for.
 fn kernel_in(alloc: Global, words: &Words<'_>) -> Option<Result<OpenedKernel, Fault>>
     ensures { IfSome result (λ made. IfOk made (λ opened. IsStartOf opened.kernel opened.start)) }
 {
@@ -186,6 +190,7 @@ fn plan_in(words: &Words<'_>) -> Option<Plan> {
     Some(plan)
 }
 
+// A plan with so many of one kind of object more.
 fn planned(plan: Plan, kind: &str, count: u64) -> Option<Plan> {
     match kind {
         "processes" => Some(plan.processes(count)),

@@ -71,6 +71,7 @@ pub fn run_words<R: Threads + Wait + Files + AllocGlobal + Copy + Send + 'static
     end(&page, err)
 }
 
+// Says how all went, and gives the status.
 fn end(page: &Page, err: &mut impl Write) -> u8 {
     let _ = page.report_all(err);
     if page.is_good() { GOOD } else { FAULT }

@@ -75,6 +75,7 @@ pub struct Setup {
     pub zero: Proc<'static>,
 }
 
+/// A kernel that was made, kept and started.
 pub fn begin(alloc: Global, made: Result<OpenedKernel, Fault>) -> Result<Setup, Fault>
     requires { IfOk made (λ opened. IsStartOf opened.kernel opened.start) }
 {

@@ -55,6 +55,7 @@ pub fn command_of(words: &Words<'_>) -> Option<Command> {
     }
 }
 
+// This command, if no operand stands after it.
 fn bare(words: &Words<'_>, command: Command) -> Option<Command> {
     if words.count == 2 && !words.apart {
         Some(command)
@@ -130,6 +131,7 @@ fn make_seats(alloc: Global, scene: &mut Scene, words: &Words<'_>) -> Option<Ans
     Some(made(make_queue(alloc, &mut scene.stock.queues, kind)))
 }
 
+// The queue that a line asks for.
 fn kind_of(words: &Words<'_>) -> Option<QueueKind> {
     let lone = words.list[0] == "lone_queue";
     let known = if lone { 2 } else { 3 };
@@ -169,6 +171,7 @@ fn make(alloc: Global, scene: &mut Scene, words: &Words<'_>) -> Option<Answer> {
     )
 }
 
+// Makes an object with one operand.
 fn make_of_one(alloc: Global, scene: &mut Scene, kind: &str, first: u64) -> Option<Answer> {
     match kind {
         "space" => Some(make_space(alloc, scene, first)),
@@ -178,6 +181,7 @@ fn make_of_one(alloc: Global, scene: &mut Scene, kind: &str, first: u64) -> Opti
     }
 }
 
+// Makes an object with two operands.
 fn make_of_two(
     alloc: Global,
     scene: &mut Scene,
@@ -209,6 +213,7 @@ fn admit_stranger<R: Wait>(
     Some(seat_stranger(rt, alloc, scene, procs, rendez, casting))
 }
 
+// `rendez R`: how a Rendez stands.
 fn look_at_rendez(alloc: Global, scene: &Scene, words: &Words<'_>) -> Option<Answer> {
     if words.count != 2 || words.apart {
         return None;
@@ -216,6 +221,7 @@ fn look_at_rendez(alloc: Global, scene: &Scene, words: &Words<'_>) -> Option<Ans
     level_of(alloc, scene, number_of(words.list[1])?)
 }
 
+// `left`: ends what runs still.
 fn left<R: Threads + Wait>(rt: &R, scene: &mut Scene, words: &Words<'_>) -> Option<Answer> {
     if words.count != 1 || words.apart {
         return None;
@@ -276,6 +282,7 @@ fn rfork_as<R: Wait>(
     Some(fork_here(rt, alloc, scene, number, flags, casting))
 }
 
+// A child of the process with this number, if it can make one.
 fn fork_here<R: Wait>(
     rt: &R,
     alloc: Global,
@@ -303,6 +310,7 @@ fn note_group_as(scene: &mut Scene, number: u64, words: &Words<'_>) -> Option<An
 
 // ---- process 0
 
+// A line of process 0.
 fn step_zero<R: Wait>(
     rt: &R,
     alloc: Global,
@@ -326,6 +334,7 @@ fn step_zero<R: Wait>(
     }
 }
 
+// The Rendez that were given, by the first of them.
 fn first_of(made: Result<RendezId, Fault>) -> Answer {
     numbered("rendez", made.map(|first| first.0))
 }
@@ -339,6 +348,7 @@ fn take_row(scene: &mut Scene, words: &Words<'_>) -> Option<Answer> {
     Some(first_of(scene.roster.row(count)))
 }
 
+// This answer, if no operand stands after the call.
 fn counted_words(words: &Words<'_>, answer: Answer) -> Option<Answer> {
     if words.count != 2 {
         return None;
@@ -356,6 +366,7 @@ fn call_zero(scene: &mut Scene, call: Call) -> Option<Answer> {
     }
 }
 
+// `0 tick NOW` and `0 tick NOW K`: a tick of process 0.
 fn tick<R: Wait>(rt: &R, scene: &mut Scene, words: &Words<'_>) -> Option<Answer> {
     let now = number_of(words.list[2])?;
     let object = object_of(words, 3, words.count)?;
@@ -368,6 +379,7 @@ fn tick<R: Wait>(rt: &R, scene: &mut Scene, words: &Words<'_>) -> Option<Answer>
 
 // ---- the others
 
+// A line of another process.
 fn step_one<R: Threads + Wait + Copy + Send + 'static>(
     rt: &R,
     alloc: Global,
@@ -394,6 +406,7 @@ fn step_one<R: Threads + Wait + Copy + Send + 'static>(
     }
 }
 
+// A call, and its answer where it is awaited.
 fn call_and_await<R: Threads + Wait + Copy + Send + 'static>(
     rt: &R,
     alloc: Global,
@@ -431,6 +444,7 @@ pub fn begin<R: Threads + Wait + Copy + Send + 'static>(
     start(rt, alloc, place, call, stops)
 }
 
+// Lays the bytes that a call writes where its process has its bytes.
 fn prepare(actor: &mut Actor, call: Call, words: &Words<'_>) -> bool {
     match call.verb {
         Verb::Write | Verb::WriteLong | Verb::Put => fill(&mut actor.bytes, words.list[2]),

@@ -31,6 +31,7 @@ pub struct Answer {
 }
 
 impl Answer {
+    // A word, and this after it.
     fn with(word: &'static str, more: More) -> Answer {
         Answer {
             word,
@@ -39,22 +40,27 @@ impl Answer {
         }
     }
 
+    /// No answer.
     pub fn none() -> Answer {
         Answer::with("", More::Nothing)
     }
 
+    /// A word alone.
     pub fn of(word: &'static str) -> Answer {
         Answer::with(word, More::Nothing)
     }
 
+    /// A word and a number.
     pub fn counted(word: &'static str, number: u64) -> Answer {
         Answer::with(word, More::Number(number))
     }
 
+    /// A word and kinds of notes.
     pub fn noted(word: &'static str, notes: NoteSet) -> Answer {
         Answer::with(word, More::Notes(notes))
     }
 
+    /// So many bytes that were read.
     pub fn got(count: usize) -> Answer {
         Answer::with("got", More::Bytes(count))
     }
@@ -74,14 +80,17 @@ impl Answer {
         Answer::with(word, More::Status(status))
     }
 
+    /// How a Rendez stands.
     pub fn level(status: RendezStatus) -> Answer {
         Answer::with("level", More::Level(status))
     }
 
+    /// The points that were visited.
     pub fn points() -> Answer {
         Answer::with("points", More::Points)
     }
 
+    /// Those of them at which the process stood posted.
     pub fn posted() -> Answer {
         Answer::with("posted", More::Posted)
     }
@@ -109,6 +118,7 @@ pub fn fault_text(fault: Fault) -> &'static str {
     }
 }
 
+/// A fault by its text, with the notes of an interruption.
 pub fn refused(fault: Fault) -> Answer {
     match fault {
         Fault::Interrupted(notes) => Answer::noted("interrupted", notes),
@@ -124,6 +134,7 @@ pub fn done(word: &'static str, answer: Result<(), Fault>) -> Answer {
     }
 }
 
+/// What a wakeup came to.
 pub fn have_woken(answer: Result<Done, Fault>) -> Answer {
     match answer {
         Ok(_) => Answer::of("ok"),
@@ -131,6 +142,7 @@ pub fn have_woken(answer: Result<Done, Fault>) -> Answer {
     }
 }
 
+/// A word and the number that a call came to.
 pub fn numbered(word: &'static str, answer: Result<u64, Fault>) -> Answer {
     match answer {
         Ok(number) => Answer::counted(word, number),
@@ -138,6 +150,7 @@ pub fn numbered(word: &'static str, answer: Result<u64, Fault>) -> Answer {
     }
 }
 
+/// A word, or `not now`.
 pub fn taken(word: &'static str, came: bool) -> Answer {
     if came {
         Answer::of(word)
@@ -146,6 +159,7 @@ pub fn taken(word: &'static str, came: bool) -> Answer {
     }
 }
 
+/// What a read came to.
 pub fn have_read(answer: Result<ReadAnswer, Fault>) -> Answer {
     match answer {
         Ok(ReadAnswer::Got(count)) => Answer::got(count),
@@ -163,6 +177,7 @@ pub fn have_piece(answer: Result<Option<usize>, Fault>) -> Answer {
     }
 }
 
+/// What a read came to that does not wait.
 pub fn have_tried(answer: Result<TryAnswer, Fault>) -> Answer {
     match answer {
         Ok(TryAnswer::Got(count)) => Answer::got(count),

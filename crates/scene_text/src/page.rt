@@ -38,6 +38,7 @@ pub struct Page {
 }
 
 impl Page {
+    /// An empty page.
     pub fn new(alloc: Global) -> Page {
         Page {
             text: Vec::new(alloc),
@@ -53,16 +54,19 @@ impl Page {
         }
     }
 
+    /// Adds a text.
     pub fn put(&mut self, text: &str) {
         self.put_bytes(text.as_bytes());
     }
 
+    // Adds bytes.
     fn put_bytes(&mut self, bytes: &[u8]) {
         if self.text.extend_from_slice(bytes).is_err() {
             self.lacks = true;
         }
     }
 
+    // Adds a byte.
     fn put_byte(&mut self, byte: u8) {
         self.put_bytes(&[byte]);
     }
@@ -97,6 +101,7 @@ impl Page {
         self.put_note(notes, Note::Expired, "expired", mark);
     }
 
+    // Adds a kind that is there, after this mark. The mark of the next one.
     fn put_note(&mut self, notes: NoteSet, note: Note, text: &str, mark: u8) -> u8 {
         if !notes.has(note) {
             return mark;
@@ -120,6 +125,7 @@ impl Page {
         }
     }
 
+    // Adds each point that was visited.
     fn put_points(&mut self, visits: &[Visit]) {
         for visit in visits.iter() {
             self.put_behind(visit.point);
@@ -140,6 +146,7 @@ impl Page {
         }
     }
 
+    // Adds a space and a number.
     fn put_behind(&mut self, number: u64) {
         self.put(" ");
         self.put_number(number);
@@ -215,6 +222,7 @@ impl Page {
         }
     }
 
+    /// Counts one scene more.
     pub fn count_scene(&mut self) {
         self.scenes = self.scenes.saturating_add(1);
     }
@@ -286,6 +294,7 @@ fn answer_from(text: &[u8], from: usize) -> &[u8] {
     text[from..].trim_ascii()
 }
 
+// Whether each of them is this one.
 fn is_run(bytes: &[u8], first: u8) -> bool {
     bytes.iter().all(|byte| *byte == first)
 }

@@ -1,5 +1,6 @@
 //! Texts that a call leaves where its process has its bytes. Each says whether there was memory.
 
+/// Adds a text.
 pub fn tell(told: &mut Vec<u8>, text: &str) -> bool {
     told.extend_from_slice(text.as_bytes()).is_ok()
 }

@@ -68,6 +68,7 @@ pub struct Entry {
     pub shape: Shape,
 }
 
+// A verb with operands of this shape.
 fn row(verb: Verb, shape: Shape) -> Option<Entry> {
     Some(Entry {
         verb,
@@ -76,6 +77,7 @@ fn row(verb: Verb, shape: Shape) -> Option<Entry> {
     })
 }
 
+// A verb with a deadline, and then operands of this shape.
 fn row_within(verb: Verb, shape: Shape) -> Option<Entry> {
     Some(Entry {
         verb,
@@ -84,6 +86,7 @@ fn row_within(verb: Verb, shape: Shape) -> Option<Entry> {
     })
 }
 
+// The verb that a word names.
 fn entry_of(word: &str) -> Option<Entry> {
     match word {
         "sleep" => row(Verb::Sleep, Shape::TwoNumbers),
@@ -96,6 +99,7 @@ fn entry_of(word: &str) -> Option<Entry> {
     }
 }
 
+// The verb of an object that a word names.
 fn entry_of_object(word: &str) -> Option<Entry> {
     match word {
         "write" => row(Verb::Write, Shape::Text),
@@ -182,6 +186,7 @@ pub fn call_of(words: &Words<'_>) -> Option<Call> {
     Some(call)
 }
 
+// A deadline in two words.
 fn deadline_of(now: &str, ms: &str) -> Option<Deadline> {
     Some(Deadline {
         now: number_of(now)?,
@@ -189,10 +194,12 @@ fn deadline_of(now: &str, ms: &str) -> Option<Deadline> {
     })
 }
 
+// A number of 32 bits.
 fn count_of(word: &str) -> Option<u32> {
     u32::try_from(number_of(word)?).ok()
 }
 
+// How many words a shape has.
 fn operands_of(shape: Shape) -> usize {
     match shape {
         Shape::Bare => 0,
@@ -231,6 +238,7 @@ pub fn flags_of(word: &str) -> Option<Flags> {
     Some(flags)
 }
 
+// The flag that a word names.
 fn flag_of(word: &str) -> Option<Flags> {
     match word {
         "proc" => Some(Flags::RFPROC),
@@ -240,6 +248,7 @@ fn flag_of(word: &str) -> Option<Flags> {
     }
 }
 
+// The kind of note that a word names.
 fn kind_of(word: &str) -> Option<Note> {
     match word {
         "interrupt" => Some(Note::Interrupt),

@@ -5,6 +5,7 @@ use scene_text::answer::{Answer, done, numbered};
 use scene_text::verbs::{Call, Deadline, Verb};
 use std::sync::Wait;
 
+/// A call of a guest.
 pub fn call_guest<R: Wait>(
     rt: &R,
     guest: &mut Guest<'_, '_>,
@@ -27,6 +28,7 @@ pub fn call_guest<R: Wait>(
     }
 }
 
+/// A call of a guest that takes a probe.
 pub fn call_guest_probed<R: Wait>(
     rt: &R,
     guest: &mut Guest<'_, '_>,
@@ -44,6 +46,7 @@ pub fn call_guest_probed<R: Wait>(
     }
 }
 
+// A rendezvous until a moment, which needs a seat at timers.
 fn meet_within<R: Wait, P: Probe>(
     rt: &R,
     guest: &mut Guest<'_, '_>,

@@ -5,6 +5,7 @@ use scene_text::answer::{Answer, done, refused, taken};
 use scene_text::verbs::{Call, Deadline, Verb};
 use std::sync::Wait;
 
+/// A call of a holder.
 pub fn call_holder<R: Wait>(
     rt: &R,
     holder: &mut Holder<'_, '_>,
@@ -23,6 +24,7 @@ pub fn call_holder<R: Wait>(
     }
 }
 
+// Releases so many units.
 fn release<R: Wait>(rt: &R, holder: &mut Holder<'_, '_>, count: u64) -> Answer {
     let Ok(count) = u32::try_from(count) else {
         return refused(Fault::BadArg);
@@ -33,6 +35,7 @@ fn release<R: Wait>(rt: &R, holder: &mut Holder<'_, '_>, count: u64) -> Answer {
     }
 }
 
+// An acquire until a moment, which needs a seat at timers.
 fn acquire_within<R: Wait>(
     rt: &R,
     holder: &mut Holder<'_, '_>,
@@ -46,6 +49,7 @@ fn acquire_within<R: Wait>(
     }
 }
 
+/// A call of a holder that takes a probe.
 pub fn call_holder_probed<R: Wait>(
     rt: &R,
     holder: &mut Holder<'_, '_>,
@@ -61,6 +65,7 @@ pub fn call_holder_probed<R: Wait>(
     }
 }
 
+// The same with a probe.
 fn acquire_within_probed<R: Wait>(
     rt: &R,
     holder: &mut Holder<'_, '_>,

@@ -100,6 +100,7 @@ pub fn lone_at(lones: &Vec<Spot>, at: usize, proc: Proc<'static>) -> Result<Lone
     }
 }
 
+// A pipe with one writer, in this mode.
 fn opened_in(
     alloc: Global,
     roster: &mut Roster<'static>,
@@ -114,6 +115,7 @@ fn opened_in(
     }
 }
 
+// Keeps a pipe, and both ends of its first direction where they lie between calls.
 fn kept_both(alloc: Global, opened: OpenedPipe<'static>) -> Result<&'static Both, Fault>
     requires { IsStartOf opened.pipe opened.start }
 {
@@ -143,6 +145,7 @@ fn both_of(pipe: &'static Pipe, start: PipeStart<'static>) -> Option<Both>
     Some(laid(read, write))
 }
 
+// Both ends of a direction, as they lie there first.
 fn laid(read: ReadEnd<'static>, write: WriteEnd<'static>) -> Both
     requires { AreAllEnds read (write ∷ []) }
 {
@@ -172,6 +175,7 @@ fn swap<X: Fits + Drop, R: Wait>(rt: &R, place: &Counted<Option<X>>, lying: Opti
     unreachable!()
 }
 
+/// A call of a lone.
 pub fn call_lone<R: Wait>(
     rt: &R,
     alloc: Global,
@@ -192,6 +196,7 @@ pub fn call_lone<R: Wait>(
     }
 }
 
+// A call at the read end, which is taken up for it.
 fn at_read_end<R: Wait>(rt: &R, lone: &mut Lone, bytes: &mut Vec<u8>, call: Call) -> Answer {
     let Some(LyingRead { mut end }) = swap(rt, &lone.both.read, None) else {
         return Answer::of("not here");
@@ -201,6 +206,7 @@ fn at_read_end<R: Wait>(rt: &R, lone: &mut Lone, bytes: &mut Vec<u8>, call: Call
     answer
 }
 
+// A call of the read end.
 fn call_read_end<R: Wait>(
     rt: &R,
     proc: &mut Proc<'_>,
@@ -221,6 +227,7 @@ fn call_read_end<R: Wait>(
     }
 }
 
+// A call at the write end, which is taken up for it.
 fn at_write_end<R: Wait>(
     rt: &R,
     alloc: Global,
@@ -236,6 +243,7 @@ fn at_write_end<R: Wait>(
     answer
 }
 
+// A call of the write end.
 fn call_write_end<R: Wait>(
     rt: &R,
     alloc: Global,
@@ -306,6 +314,7 @@ fn finish_both<R: Wait>(rt: &R, alloc: Global, both: &Both, told: &mut Vec<u8>) 
     }
 }
 
+// Finishes the direction. Where that finds no memory both ends come back.
 fn give_back(
     alloc: Global,
     read: ReadEnd<'static>,
@@ -323,6 +332,7 @@ fn give_back(
     finish(alloc, read, writes)
 }
 
+// Lays both ends down again.
 #[tactic(auto, using(crate::proofs::LoneLemmas::last_is_same))]
 fn lay_again<R: Wait>(rt: &R, both: &Both, unfinished: Unfinished<'static>)
     requires read { IsSameReadEnd both.now.read.value unfinished.read }

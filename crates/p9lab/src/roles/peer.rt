@@ -60,6 +60,7 @@ pub fn first_of(
     admitted(space, first, procs, member, proc)
 }
 
+// The process takes this member of a space, if its kernel has all Rendez of the space.
 fn admitted(
     space: &'static TagSpace,
     first: u64,
@@ -86,6 +87,7 @@ fn admitted(
 
 // ---- its calls
 
+/// A call of a peer.
 pub fn call_peer<R: Wait, P: Probe>(
     rt: &R,
     kept: &mut Option<Peer>,
@@ -99,10 +101,12 @@ pub fn call_peer<R: Wait, P: Probe>(
 }
 
 impl Peer {
+    /// The pid of its process.
     pub fn pid(&self) -> Pid {
         self.proc.pid()
     }
 
+    // A call of a peer that is here.
     fn call<R: Wait, P: Probe>(&mut self, rt: &R, call: Call, probe: &mut P) -> Answer {
         match call.verb {
             Verb::Rendezvous => numbered("met", self.meet(rt, Tag(call.first), call.second, probe)),
@@ -117,6 +121,7 @@ impl Peer {
         }
     }
 
+    // A rendezvous in its space.
     fn meet<R: Wait, P: Probe>(
         &mut self,
         rt: &R,
@@ -154,6 +159,7 @@ pub fn fork_peer<R: Wait>(
     child
 }
 
+// The rfork: what the caller is afterwards, and its child.
 fn part<R: Wait>(
     rt: &R,
     alloc: Global,
@@ -195,10 +201,12 @@ fn part<R: Wait>(
     }
 }
 
+// What the two are after an rfork.
 fn ended_so(caller: Result<Peer, Fault>, child: Result<Option<Peer>, Fault>) -> Parted {
     Parted { caller, child }
 }
 
+// A child that was made.
 fn born_peer(made: Result<Peer, Fault>) -> Result<Option<Peer>, Fault> {
     Ok(Some(made?))
 }

@@ -5,6 +5,7 @@ use scene_text::answer::{Answer, done, have_woken};
 use scene_text::verbs::{Call, Deadline, Verb};
 use std::sync::Wait;
 
+/// A call of a process alone.
 pub fn call_plain<R: Wait>(
     rt: &R,
     proc: &mut Proc<'_>,
@@ -19,6 +20,7 @@ pub fn call_plain<R: Wait>(
     }
 }
 
+// A tick, which needs a seat at timers.
 fn tick<R: Wait>(rt: &R, proc: &mut Proc<'_>, watch: &mut Option<Watch<'_>>, now: u64) -> Answer {
     match watch {
         Some(watch) => Answer::counted("expired", watch.tick(rt, proc, now)),
@@ -26,6 +28,7 @@ fn tick<R: Wait>(rt: &R, proc: &mut Proc<'_>, watch: &mut Option<Watch<'_>>, now
     }
 }
 
+// A sleep until a moment, which needs a seat at timers.
 fn sleep_within<R: Wait>(
     rt: &R,
     proc: &mut Proc<'_>,
@@ -57,6 +60,7 @@ pub fn call_at_once(proc: &mut Proc<'_>, call: Call) -> Answer {
     }
 }
 
+/// A sleep with a probe. No other call of a process alone takes one.
 pub fn call_proc_probed<R: Wait>(
     rt: &R,
     proc: &mut Proc<'_>,

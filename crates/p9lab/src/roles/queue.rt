@@ -56,6 +56,7 @@ pub struct Seats {
 }
 
 impl Seats {
+    // Of a queue whose seats are all taken.
     fn none() -> Seats {
         Seats {
             keeper: None,
@@ -65,6 +66,7 @@ impl Seats {
         }
     }
 
+    // The next writer's seat, which is then taken.
     fn next_putter(&mut self) -> Option<Putter> {
         match self.first.take() {
             Some(putter) => Some(putter),
@@ -93,6 +95,7 @@ pub fn make_queue(alloc: Global, queues: &mut Vec<Seats>, kind: QueueKind) -> Re
     }
 }
 
+// A queue with its seats, from its first write or a later one on.
 fn opened(alloc: Global, kind: QueueKind) -> Result<Opened, Fault>
     ensures take { IfOk result (λ opened. IsTakeSeatOf opened.queue opened.take) }
     ensures puts { IfOk result (λ opened.
@@ -105,6 +108,7 @@ fn opened(alloc: Global, kind: QueueKind) -> Result<Opened, Fault>
     }
 }
 
+// A queue that counts from its first write on.
 fn opened_new(alloc: Global, limit: u64, writers: u64) -> Result<Opened, Fault>
     ensures take { IfOk result (λ opened. IsTakeSeatOf opened.queue opened.take) }
     ensures puts { IfOk result (λ opened.
@@ -117,6 +121,7 @@ fn opened_new(alloc: Global, limit: u64, writers: u64) -> Result<Opened, Fault>
     }
 }
 
+// A queue in which so many writes were counted before.
 fn opened_from(alloc: Global, limit: u64, writers: u64, first: u64) -> Result<Opened, Fault>
     ensures take { IfOk result (λ opened. IsTakeSeatOf opened.queue opened.take) }
     ensures puts { IfOk result (λ opened.
@@ -129,6 +134,7 @@ fn opened_from(alloc: Global, limit: u64, writers: u64, first: u64) -> Result<Op
     }
 }
 
+// Keeps a queue, and lays its seats with those that nobody has yet.
 fn kept_seats(alloc: Global, opened: Opened, lone: bool) -> Result<Seats, Fault>
     requires take { IsTakeSeatOf opened.queue opened.take }
     requires puts { AllByRecursion (IsPutSeatOf opened.queue) opened.puts.items }
@@ -143,6 +149,7 @@ fn kept_seats(alloc: Global, opened: Opened, lone: bool) -> Result<Seats, Fault>
     })
 }
 
+// All seats of a queue with one writer, for one process.
 fn all_in_one(queue: &'static Queue, take: TakeSeat, mut puts: Vec<PutSeat>) -> Seats
     requires take { IsTakeSeatOf queue.now take }
     requires puts { AllByRecursion (IsPutSeatOf queue.now) puts.items }
@@ -157,6 +164,7 @@ fn all_in_one(queue: &'static Queue, take: TakeSeat, mut puts: Vec<PutSeat>) -> 
     seats
 }
 
+// Each seat alone, of two writers at most.
 fn each_alone(queue: &'static Queue, take: TakeSeat, mut puts: Vec<PutSeat>) -> Seats
     requires take { IsTakeSeatOf queue.now take }
     requires puts { AllByRecursion (IsPutSeatOf queue.now) puts.items }
@@ -177,6 +185,7 @@ fn each_alone(queue: &'static Queue, take: TakeSeat, mut puts: Vec<PutSeat>) -> 
     seats
 }
 
+// What nobody had yet.
 fn given<T>(seat: Option<T>) -> Result<T, Fault> {
     match seat {
         Some(seat) => Ok(seat),
@@ -192,6 +201,7 @@ pub fn putter_at(queues: &mut Vec<Seats>, at: usize) -> Result<Putter, Fault> {
     }
 }
 
+/// The reader's seat of this queue.
 pub fn taker_at(queues: &mut Vec<Seats>, at: usize) -> Result<Taker, Fault> {
     match queues.get_mut(at) {
         Some(seats) => given(seats.taker.take()),
@@ -199,6 +209,7 @@ pub fn taker_at(queues: &mut Vec<Seats>, at: usize) -> Result<Taker, Fault> {
     }
 }
 
+/// All seats of this queue.
 pub fn keeper_at(queues: &mut Vec<Seats>, at: usize) -> Result<Keeper, Fault> {
     match queues.get_mut(at) {
         Some(seats) => given(seats.keeper.take()),
@@ -208,6 +219,7 @@ pub fn keeper_at(queues: &mut Vec<Seats>, at: usize) -> Result<Keeper, Fault> {
 
 // ---- what is told
 
+// An answer with the bytes of a block.
 fn with_block(word: &'static str, block: Piece, bytes: &mut Vec<u8>) -> Answer {
     set(bytes, block.into_vec());
     Answer {
@@ -230,6 +242,7 @@ fn tell_put(answer: PutAnswer, bytes: &mut Vec<u8>) -> Answer {
     }
 }
 
+// A block that was taken, with its writer and its number.
 fn tell_block(block: &Piece, writer: u64, number: u64, told: &mut Vec<u8>) -> Answer {
     told.clear();
     let has_room = tell_number(told, writer)
@@ -247,6 +260,7 @@ fn tell_block(block: &Piece, writer: u64, number: u64, told: &mut Vec<u8>) -> An
     }
 }
 
+// What a take was answered.
 fn tell_take(answer: &TakeAnswer, told: &mut Vec<u8>) -> Answer {
     match answer {
         TakeAnswer::Block(block, writer, number) => tell_block(block, *writer, *number, told),
@@ -265,14 +279,17 @@ fn block_of(alloc: Global, bytes: &[u8]) -> Option<Piece> {
     }
 }
 
+// A put at the seat of a writer.
 fn put<R: Wait, P: Probe>(rt: &R, putter: &mut Putter, block: Piece, probe: &mut P) -> PutAnswer {
     putter.queue.put_probed(rt, &mut putter.seat, block, probe)
 }
 
+// A take at the seat of the reader.
 fn take<P: Probe>(taker: &mut Taker, probe: &mut P) -> TakeAnswer {
     taker.queue.take_probed(&mut taker.seat, probe)
 }
 
+/// A call of a putter.
 pub fn call_putter<R: Wait, P: Probe>(
     rt: &R,
     alloc: Global,
@@ -294,6 +311,7 @@ pub fn call_putter<R: Wait, P: Probe>(
     }
 }
 
+/// A call of a taker.
 pub fn call_taker<P: Probe>(
     taker: &mut Taker,
     bytes: &mut Vec<u8>,
@@ -329,6 +347,7 @@ pub fn call_keeper<R: Wait>(
     }
 }
 
+// A call of a keeper that has its seats.
 fn call_kept<R: Wait>(
     rt: &R,
     alloc: Global,
@@ -392,6 +411,7 @@ fn gather(alloc: Global, kept: &mut Option<Keeper>, bytes: &mut Vec<u8>) -> Answ
     }
 }
 
+// Gathers a queue. Where that finds no memory all seats come back.
 fn gather_kept(
     alloc: Global,
     keeper: Keeper,
@@ -415,6 +435,7 @@ fn gather_kept(
     }
 }
 
+// What a queue still held.
 fn tell_gathered(gathered: &Gathered, told: &mut Vec<u8>) -> Answer {
     told.clear();
     let mut has_room = true;

@@ -8,6 +8,7 @@ use std::sync::Wait;
 /// The most bytes of a read.
 const MOST: u64 = 16_000_000;
 
+/// A call of a reader.
 pub fn call_reader<R: Wait>(
     rt: &R,
     reader: &mut Reader<'_, '_>,
@@ -35,6 +36,7 @@ pub fn call_reader<R: Wait>(
     }
 }
 
+// A read until a moment, which needs a seat at timers.
 fn read_within<R: Wait>(
     rt: &R,
     reader: &mut Reader<'_, '_>,

@@ -7,6 +7,7 @@ use scene_text::verbs::{Call, Verb};
 use std::alloc::Global;
 use std::sync::Wait;
 
+/// A call of a sharer.
 pub fn call_sharer<R: Wait>(
     rt: &R,
     sharer: &mut Sharer<'_, '_, '_>,
@@ -44,6 +45,7 @@ pub fn make_shared(
     }
 }
 
+// Keeps a shared end.
 fn lay_shared(
     alloc: Global,
     sharings: &mut Vec<Sharing>,

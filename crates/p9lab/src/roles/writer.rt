@@ -7,6 +7,7 @@ use scene_text::verbs::{Call, Deadline, Verb};
 use std::alloc::Global;
 use std::sync::Wait;
 
+/// A call of a writer.
 pub fn call_writer<R: Wait>(
     rt: &R,
     alloc: Global,
@@ -29,6 +30,7 @@ pub fn call_writer<R: Wait>(
     }
 }
 
+// A write until a moment, which needs a seat at timers.
 fn write_within<R: Wait>(
     rt: &R,
     alloc: Global,
@@ -64,6 +66,7 @@ pub fn fill(bytes: &mut Vec<u8>, word: &str) -> bool {
     bytes.extend_from_slice(word.as_bytes()).is_ok()
 }
 
+// So many of one byte.
 fn fill_many(bytes: &mut Vec<u8>, count: u64, text: &str) -> bool {
     let byte = match text.as_bytes() {
         [byte] => *byte,
