@@ -10,8 +10,7 @@ use crate::roles::reader::call_reader;
 use crate::roles::sharer::call_sharer;
 use crate::roles::writer::call_writer;
 use plan9::{Guest, Holder, NoProbe, Proc, Reader, Sharer, Watch, Writer};
-use scene_text::answer::Answer;
-use scene_text::page::Visit;
+use scene_text::answer::{Answer, Visit};
 use scene_text::verbs::Call;
 use std::alloc::Global;
 use std::sync::Wait;
@@ -88,7 +87,7 @@ fn make_call<R: Wait>(rt: &R, alloc: Global, actor: &mut Actor, call: Call) -> A
         Role::Writer(writer) => call_writer(rt, alloc, writer, bytes, watch, call),
         Role::Holder(holder) => call_holder(rt, holder, watch, call),
         Role::Guest(guest) => call_guest(rt, guest, watch, call),
-        Role::Beside(beside) => call_beside(rt, alloc, beside, bytes, call),
+        Role::Beside(beside) => call_beside(rt, alloc, beside, bytes, watch, call),
     }
 }
 
@@ -98,11 +97,12 @@ fn call_beside<R: Wait>(
     alloc: Global,
     beside: &mut Beside,
     bytes: &mut Vec<u8>,
+    watch: &mut Option<Watch<'static>>,
     call: Call,
 ) -> Answer {
     match beside {
         Beside::Sharer(sharer) => call_sharer(rt, sharer, bytes, call),
-        Beside::Lone(lone) => call_lone(rt, alloc, lone, bytes, call),
+        Beside::Lone(lone) => call_lone(rt, alloc, lone, bytes, watch, call),
         Beside::Peer(kept) => call_peer(rt, kept, call, &mut NoProbe),
         Beside::Putter(putter) => call_putter(rt, alloc, putter, bytes, call, &mut NoProbe),
         Beside::Taker(taker) => call_taker(taker, bytes, call, &mut NoProbe),

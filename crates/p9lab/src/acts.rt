@@ -1,10 +1,12 @@
 //! Calls at whose points other lines are played.
-use crate::calling::{Until, can_come, ending, has_come, waiting};
+use crate::calling::{Leftover, Until, can_come, ending, has_come, interrupt_at, waiting};
 use crate::desk::Stops;
-use crate::scene::Scene;
-use crate::steps::{Command, begin, command_of, step};
-use scene_text::answer::Answer;
+use crate::scene::{Place, Scene, Stay, place_at};
+use crate::steps::{Command, begin, command_of, is_alone, step};
+use plan9::Fault;
+use scene_text::answer::{Answer, refused};
 use scene_text::lines::{Words, behind_two, line_of, number_of, words_of};
+use scene_text::told::tell_answer;
 use scene_text::verbs::Call;
 use std::alloc::Global;
 use std::sync::Wait;
@@ -13,14 +15,30 @@ use std::thread::{Threads, yield_now};
 /// How many acts a call may have.
 pub const ACTS: usize = 8;
 
+/// What became of an act.
+#[derive(Clone, Copy, PartialEq, Eq)]
+enum Outcome {
+    /// It is still to come.
+    Ahead,
+    /// It was answered, and the answer lies there among the scene's texts.
+    Told(Span),
+    /// There was no memory for its answer.
+    Lost,
+}
+
+/// A part of the texts that a scene keeps of its acts.
+#[derive(Clone, Copy, PartialEq, Eq)]
+pub struct Span {
+    pub from: usize,
+    pub to: usize,
+}
+
 /// A line of the text that is played at the first visit of a point.
 #[derive(Clone, Copy)]
 struct Act {
     point: u64,
     line: usize,
-    number: u64,
-    answer: Answer,
-    played: bool,
+    outcome: Outcome,
 }
 
 /// The acts of the next call, or of the last one.
@@ -39,9 +57,7 @@ impl Acts {
         let act = Act {
             point: 0,
             line: 0,
-            number: 0,
-            answer: Answer::of("none"),
-            played: true,
+            outcome: Outcome::Lost,
         };
         Acts {
             rows: [act; ACTS],
@@ -56,11 +72,18 @@ impl Acts {
         self.stops.probed && self.owner.is_none()
     }
 
-    // Writes one more down for the next call, if there is room.
-    fn keep(&mut self, point: u64, line: usize, number: u64) -> bool {
-        if self.owner.is_some() {
-            *self = Acts::none();
+    // Whether one of them is still to come.
+    fn are_ahead(&self) -> bool {
+        for act in self.rows.iter() {
+            if act.outcome == Outcome::Ahead {
+                return true;
+            }
         }
+        false
+    }
+
+    // Writes one more down for the next call, if there is room.
+    fn keep(&mut self, point: u64, line: usize) -> bool {
         let at = self.kept;
         if at >= ACTS {
             return false;
@@ -68,9 +91,7 @@ impl Acts {
         self.rows[at] = Act {
             point,
             line,
-            number,
-            answer: Answer::of("not reached"),
-            played: false,
+            outcome: Outcome::Ahead,
         };
         self.kept = at + 1;
         self.stops.add(point);
@@ -88,16 +109,18 @@ impl Acts {
     }
 }
 
-/// An answer, and the number of the process whose bytes and points belong to it.
+/// What is printed after a line.
 #[derive(Clone, Copy)]
-pub struct Said {
-    pub answer: Answer,
-    pub number: u64,
+pub enum Said {
+    /// An answer, and the number of the process whose bytes and points belong to it.
+    Line(Answer, u64),
+    /// What an act was answered, as it was told then.
+    Act(Span),
 }
 
 // An answer of a line of this process.
 fn numbered(answer: Answer, number: u64) -> Option<Said> {
-    Some(Said { answer, number })
+    Some(Said::Line(answer, number))
 }
 
 /// Plays a line: the one with this number, counted from 0, in the text.
@@ -113,6 +136,7 @@ pub fn step_with_acts<R: Threads + Wait + Copy + Send + 'static>(
     match words.list[0] {
         "at" => numbered(keep_act(scene, acts, text, line, words)?, 0),
         "acted" => acted(acts, words),
+        "left" if is_alone(words) => { numbered(leave(rt, alloc, scene, acts, text).answer(), 0) }
         _ => {
             let number = number_of(words.list[0]).unwrap_or(0);
             let answer = step_served(rt, alloc, scene, acts, text, number, words)?;
@@ -123,7 +147,7 @@ pub fn step_with_acts<R: Threads + Wait + Copy + Send + 'static>(
 
 // Writes an act down: `at POINT LINE`, or `at POINT` for a visit at which nothing is done.
 fn keep_act(
-    scene: &Scene,
+    scene: &mut Scene,
     acts: &mut Acts,
     text: &str,
     line: usize,
@@ -139,11 +163,23 @@ fn keep_act(
         command_of(&inner)?;
         scene.place_of(number)?;
     }
-    if acts.keep(point, line, number) {
-        Some(Answer::of("kept"))
-    } else {
-        Some(Answer::of("too many"))
+    if !begin_anew(scene, acts) || !acts.keep(point, line) {
+        return Some(Answer::of("too many"));
     }
+    Some(Answer::of("kept"))
+}
+
+// Forgets the acts of the last call. They stay while it runs and has some still to come.
+fn begin_anew(scene: &mut Scene, acts: &mut Acts) -> bool {
+    let Some(owner) = acts.owner else {
+        return true;
+    };
+    if acts.are_ahead() && !has_come(scene, owner, Until::Ends) {
+        return false;
+    }
+    *acts = Acts::none();
+    scene.told.clear();
+    true
 }
 
 // The act in the line with this number.
@@ -159,8 +195,11 @@ fn acted(acts: &Acts, words: &Words<'_>) -> Option<Said> {
     if words.count != 2 {
         return None;
     }
-    let act = acts.row(number_of(words.list[1])?)?;
-    numbered(act.answer, act.number)
+    match acts.row(number_of(words.list[1])?)?.outcome {
+        Outcome::Ahead => numbered(Answer::of("not reached"), 0),
+        Outcome::Told(span) => Some(Said::Act(span)),
+        Outcome::Lost => numbered(refused(Fault::Memory), 0),
+    }
 }
 
 // A line without acts of its own. What it waits for may stand at a point, and is served there.
@@ -201,12 +240,12 @@ fn call_served<R: Threads + Wait + Copy + Send + 'static>(
     call: Call,
     words: &Words<'_>,
 ) -> Answer {
-    let mut stops = Stops::none();
-    if acts.are_kept() {
-        stops = acts.stops;
+    let has_acts = acts.are_kept();
+    let stops = if has_acts { acts.stops } else { Stops::none() };
+    let started = begin(rt, alloc, scene, at, call, stops, words);
+    if has_acts && started.word == "started" {
         acts.owner = Some(at);
     }
-    let started = begin(rt, alloc, scene, at, call, stops, words);
     if words.apart || started.word != "started" {
         return started;
     }
@@ -254,13 +293,9 @@ fn serve<R: Threads + Wait + Copy + Send + 'static>(
     }
     for at in 0..ACTS {
         let act = acts.rows[at];
-        if act.point == point && !act.played {
-            let answer = play_act(rt, alloc, scene, act_in(text, act.line));
-            acts.rows[at] = Act {
-                answer,
-                played: true,
-                ..act
-            };
+        if act.point == point && act.outcome == Outcome::Ahead {
+            let outcome = play_act(rt, alloc, scene, act_in(text, act.line));
+            acts.rows[at] = Act { outcome, ..act };
         }
     }
     let_go(scene, owner);
@@ -281,19 +316,80 @@ fn let_go(scene: &Scene, at: usize) {
     }
 }
 
-// Plays an act.
+// Plays an act, and keeps what it was answered as it is then: a later call has other bytes.
 fn play_act<R: Threads + Wait + Copy + Send + 'static>(
     rt: &R,
     alloc: Global,
     scene: &mut Scene,
     line: &str,
-) -> Answer {
-    match words_of(line) {
-        Some(words) if words.count == 0 => Answer::of("ok"),
-        Some(words) => match step(rt, alloc, scene, &words) {
-            Some(answer) => answer,
-            None => Answer::of("no line"),
-        },
-        None => Answer::of("no line"),
+) -> Outcome {
+    let Some(words) = words_of(line) else {
+        return told_in(scene, 0, Answer::of("no line"));
+    };
+    let answer = if words.count == 0 {
+        Answer::of("ok")
+    } else {
+        step(rt, alloc, scene, &words).unwrap_or(Answer::of("no line"))
+    };
+    told_in(scene, number_of(words.list[0]).unwrap_or(0), answer)
+}
+
+// The answer of a line of this process, among the scene's texts.
+fn told_in(scene: &mut Scene, number: u64, answer: Answer) -> Outcome {
+    let Scene { places, told, .. } = scene;
+    let from = told.len();
+    if tell_of(places, number, answer, told) {
+        Outcome::Told(Span {
+            from,
+            to: told.len(),
+        })
+    } else {
+        Outcome::Lost
     }
+}
+
+// Tells an answer with what its process has read and visited, where it is here.
+fn tell_of(places: &Vec<Place>, number: u64, answer: Answer, told: &mut Vec<u8>) -> bool {
+    let Some(at) = place_at(places, number) else {
+        return tell_answer(told, answer, &[], &[]);
+    };
+    match places.get(at) {
+        Some(
+            Place {
+                stay: Stay::Here(actor),
+                ..
+            },
+        ) => tell_answer(
+            told,
+            answer,
+            actor.bytes.as_slice(),
+            actor.visits.as_slice(),
+        ),
+        _ => tell_answer(told, answer, &[], &[]),
+    }
+}
+
+// ---- the end of a scene
+
+/// Ends each call that runs still by a note. The acts of the last call are played where it comes to
+/// their points.
+pub fn leave<R: Threads + Wait + Copy + Send + 'static>(
+    rt: &R,
+    alloc: Global,
+    scene: &mut Scene,
+    acts: &mut Acts,
+    text: &str,
+) -> Leftover {
+    let mut left = Leftover::none();
+    for at in 0..usize::MAX {
+        if at >= scene.places.len() {
+            break;
+        }
+        if interrupt_at(scene, at) {
+            let came = comes_served(rt, alloc, scene, acts, text, at, Until::Ends);
+            ending(rt, scene, at, came);
+            left.count(came);
+        }
+    }
+    left
 }

@@ -157,9 +157,46 @@ pub struct Leftover {
     pub stuck: u64,
 }
 
-/// Ends each call that runs still.
+impl Leftover {
+    /// Before any call was ended.
+    pub fn none() -> Leftover {
+        Leftover { ended: 0, stuck: 0 }
+    }
+
+    /// Counts one more.
+    pub fn count(&mut self, ended: bool) {
+        if ended {
+            self.ended = self.ended.saturating_add(1);
+        } else {
+            self.stuck = self.stuck.saturating_add(1);
+        }
+    }
+
+    /// What `left` is answered.
+    pub fn answer(&self) -> Answer {
+        if self.stuck > 0 {
+            Answer::counted("stuck", self.stuck)
+        } else {
+            Answer::counted("called off", self.ended)
+        }
+    }
+}
+
+/// Sends a note to the process at this place, if its call runs still. Whether it does.
+pub fn interrupt_at(scene: &mut Scene, at: usize) -> bool {
+    let Scene { places, zero, .. } = scene;
+    match places.get_mut(at) {
+        Some(place) if is_out(&place.stay) => {
+            interrupt(zero, place);
+            true
+        }
+        _ => false,
+    }
+}
+
+/// Ends each call that runs still, and lets it go at each point.
 pub fn call_off<R: Threads + Wait>(rt: &R, scene: &mut Scene) -> Leftover {
-    let mut left = Leftover { ended: 0, stuck: 0 };
+    let mut left = Leftover::none();
     let Scene {
         turns,
         places,
@@ -183,14 +220,12 @@ fn call_off_one<R: Threads + Wait>(
     if !is_out(&place.stay) {
         return;
     }
-    place.desk.let_go();
     interrupt(zero, place);
-    if ends(place, turns) {
+    let ended = ends(place, turns);
+    if ended {
         join(rt, place);
-        left.ended = left.ended.saturating_add(1);
-    } else {
-        left.stuck = left.stuck.saturating_add(1);
     }
+    left.count(ended);
 }
 
 // Whether its call runs on a thread.
@@ -210,12 +245,13 @@ fn interrupt(zero: &mut Proc<'static>, place: &mut Place) {
     let _ = sender.postnote(Pid(place.pid), NoteSet::of(Note::Interrupt));
 }
 
-// Whether its call ends within so many turns.
+// Whether its call ends within so many turns. It stands at no point longer than one.
 fn ends(place: &Place, turns: u64) -> bool {
     for _ in 0..turns {
         if !place.desk.runs() {
             return true;
         }
+        place.desk.let_go();
         yield_now();
     }
     false

@@ -1,15 +1,18 @@
 //! How a process is made and gets its role.
+ghost use Rattle.std.specs.Prelude.{◌≡◌, IfOk};
+ghost use Rattle.tag_space.specs.Spaces.{IsFirstMember};
+
 use crate::actor::{Actor, Beside, Role};
 use crate::desk::Desk;
-use crate::objects::{Direction, Stock};
+use crate::objects::{Direction, Stock, lent_at, take_at};
 use crate::roles::lone::lone_at;
 use crate::roles::peer::{Peer, first_of, fork_peer};
 use crate::roles::queue::{keeper_at, putter_at, taker_at};
 use crate::roles::sharer::first_sharer;
-use crate::scene::{Place, Scene, Setup, Stay, begin, keep, place_at, push, set};
+use crate::scene::{Place, Scene, Setup, Stay, begin, for_good, keep, place_at, push, set};
 use plan9::{
-    Fault, Flags, Guest, Holder, Kernel, NoteSet, OpenedSpace, Pid, Proc, ReadEnd, Reader, Roster,
-    Sharer, TagSpace, Unforked, WriteEnd, Writer, fork_writers,
+    Fault, Flags, Guest, Hall, Holder, Kernel, NoteSet, OpenedSpace, Pid, Pool, Proc, ReadEnd,
+    Reader, Refused, Roster, Sharer, TagSpace, Unforked, WriteEnd, Writer, fork_writers,
 };
 use scene_text::answer::{Answer, numbered, refused};
 use scene_text::lines::{WORDS, Words, number_of};
@@ -102,14 +105,12 @@ pub fn fork<R: Wait>(
     flags: Flags,
     casting: Casting,
 ) -> Answer {
-    if casting.part == Part::Sharer && has_sharer(scene, casting.object) {
-        return fork_sharer(rt, alloc, scene, casting.object);
+    let is_further = casting.part == Part::Sharer && has_sharer(scene, casting.object);
+    if is_further && is_for_child(flags) {
+        return fork_sharer(rt, alloc, scene, flags, casting.object);
     }
-    if casting.part == Part::Writers {
-        return fork_each_writer(alloc, scene, number, casting);
-    }
-    if casting.part == Part::Peer {
-        return fork_first_peer(alloc, scene, number, flags, casting.object);
+    if casting.part == Part::Writers && is_for_child(flags) {
+        return fork_each_writer(alloc, scene, number, flags, casting);
     }
     match child_of(scene, number, flags) {
         Ok(Some(proc)) => place(rt, alloc, scene, proc, casting),
@@ -118,9 +119,25 @@ pub fn fork<R: Wait>(
     }
 }
 
+// Whether these flags ask for a child, and for nothing that the roster refuses.
+fn is_for_child(flags: Flags) -> bool {
+    flags == Flags::RFPROC || is_apart(flags)
+}
+
+// Whether they ask for a child alone in its note group.
+fn is_apart(flags: Flags) -> bool {
+    flags == Flags::RFPROC.join(Flags::RFNOTEG)
+}
+
 // A child for each write end of a direction that nobody has, the first one's writer first. Where it
 // is refused no pid is used up.
-fn fork_each_writer(alloc: Global, scene: &mut Scene, number: u64, casting: Casting) -> Answer {
+fn fork_each_writer(
+    alloc: Global,
+    scene: &mut Scene,
+    number: u64,
+    flags: Flags,
+    casting: Casting,
+) -> Answer {
     let Scene {
         roster,
         zero,
@@ -135,8 +152,20 @@ fn fork_each_writer(alloc: Global, scene: &mut Scene, number: u64, casting: Cast
         return refused(Fault::NoProc);
     };
     match writers_of(alloc, roster, parent, &mut direction.writes) {
-        Ok(writers) => seat_each(alloc, scene, writers, casting.object),
+        Ok(mut writers) => {
+            if is_apart(flags) {
+                part_each(roster, &mut writers);
+            }
+            seat_each(alloc, scene, writers, casting.object)
+        }
         Err(fault) => refused(fault),
+    }
+}
+
+// Each of them leaves its note group, and is alone in a new one.
+fn part_each(roster: &mut Roster<'static>, writers: &mut Vec<Writer<'static, 'static>>) {
+    for writer in writers.iter_mut() {
+        let _ = roster.rfork(&mut writer.proc, Flags::RFNOTEG);
     }
 }
 
@@ -238,6 +267,15 @@ fn proc_of(role: &mut Role) -> Option<&mut Proc<'static>> {
         Role::Plain(proc) => Some(proc),
         Role::Reader(reader) => Some(&mut reader.proc),
         Role::Writer(writer) => Some(&mut writer.proc),
+        Role::Beside(beside) => proc_beside(beside),
+        _ => None,
+    }
+}
+
+// The process of such a role, where the role lends it.
+fn proc_beside(beside: &mut Beside) -> Option<&mut Proc<'static>> {
+    match beside {
+        Beside::Lone(lone) => Some(&mut lone.proc),
         _ => None,
     }
 }
@@ -285,6 +323,9 @@ fn place<R: Wait>(
     proc: Proc<'static>,
     casting: Casting,
 ) -> Answer {
+    if casting.part == Part::Peer {
+        return place_peer(alloc, scene, proc, casting.object);
+    }
     let pid = proc.pid().0;
     let kernel = scene.kernel;
     match cast(rt, scene, proc, casting) {
@@ -292,12 +333,17 @@ fn place<R: Wait>(
             let stay = Stay::Here(actor_of(alloc, role, casting.object));
             seat(alloc, scene, pid, kernel, pid, None, stay)
         }
-        // The pid of a child that got no role is used up.
         Err(fault) => {
-            seat(alloc, scene, pid, kernel, pid, None, Stay::Gone);
+            seat_gone(alloc, scene, Pid(pid));
             refused(fault)
         }
     }
+}
+
+// The pid of a child that got no role is used up.
+fn seat_gone(alloc: Global, scene: &mut Scene, pid: Pid) {
+    let kernel = scene.kernel;
+    seat(alloc, scene, pid.0, kernel, pid.0, None, Stay::Gone);
 }
 
 // ---- strangers
@@ -423,7 +469,11 @@ fn cast<R: Wait>(
         Part::Writer => write_with(direction_in(stock, casting), proc),
         Part::Holder => hold(rt, places, stock, proc, casting.object),
         Part::Guest => admit(rt, places, stock, proc, casting.object),
-        Part::Sharer => share_first(stock, proc, casting.object),
+        Part::Sharer => Ok(Role::Beside(Beside::Sharer(first_sharer(
+            &mut stock.sharings,
+            at(casting.object),
+            proc,
+        )?))),
         Part::Lone => Ok(Role::Beside(Beside::Lone(lone_at(
             &stock.lones,
             at(casting.object),
@@ -471,21 +521,22 @@ fn write_end_of(direction: Option<&mut Direction>) -> Option<WriteEnd<'static>> 
     direction?.writes.pop()
 }
 
-// The first that has turns at a shared end.
-fn share_first(stock: &mut Stock, proc: Proc<'static>, object: u64) -> Result<Role, Fault> {
-    match stock.sharings.get_mut(at(object)) {
-        Some(sharing) => Ok(Role::Beside(Beside::Sharer(first_sharer(sharing, proc)?))),
-        None => Err(Fault::NoProc),
-    }
-}
-
 // Whether somebody that is here has turns at this shared end.
 fn has_sharer(scene: &mut Scene, object: u64) -> bool {
     sharer_in(&mut scene.places, object).is_some()
 }
 
-// One more that shares the end, a child of one that does.
-fn fork_sharer<R: Wait>(rt: &R, alloc: Global, scene: &mut Scene, object: u64) -> Answer {
+// One more that shares the end, a child of one that does, in its note group.
+fn fork_sharer<R: Wait>(
+    rt: &R,
+    alloc: Global,
+    scene: &mut Scene,
+    flags: Flags,
+    object: u64,
+) -> Answer {
+    if is_apart(flags) {
+        return Answer::of("not its call");
+    }
     match sharer_beside(rt, &mut scene.places, &mut scene.roster, object) {
         Ok(sharer) => {
             let pid = sharer.pid();
@@ -531,32 +582,43 @@ fn sharer_of(beside: &mut Beside) -> Option<&mut Sharer<'static, 'static, 'stati
 
 // ---- who is a member of a tag space in its own hands
 
-// The first peer, of a new space of so many members. Where that is refused no pid is used up.
-fn fork_first_peer(
-    alloc: Global,
-    scene: &mut Scene,
-    number: u64,
-    flags: Flags,
-    members: u64,
-) -> Answer {
-    match first_peer(alloc, scene, number, flags, members) {
+// The first peer, of a new space of so many members. Where there is no such space the child is
+// gone.
+fn place_peer(alloc: Global, scene: &mut Scene, proc: Proc<'static>, members: u64) -> Answer {
+    let pid = proc.pid();
+    match first_peer(alloc, &mut scene.roster, proc, members) {
         Ok(peer) => seat_peer(alloc, scene, peer),
-        Err(fault) => refused(fault),
+        Err(fault) => {
+            seat_gone(alloc, scene, pid);
+            refused(fault)
+        }
     }
 }
 
 // A peer that is the first member of a new space of so many.
 fn first_peer(
     alloc: Global,
-    scene: &mut Scene,
-    number: u64,
-    flags: Flags,
+    roster: &mut Roster<'static>,
+    proc: Proc<'static>,
     members: u64,
 ) -> Result<Peer, Fault> {
-    let OpenedSpace { space, member } = TagSpace::new(alloc, &mut scene.roster, members)?;
-    match child_of(scene, number, flags)? {
-        Some(proc) => first_of(alloc, space, members, member, proc),
-        None => Err(Fault::BadFlags),
+    let OpenedSpace { space, member } = new_space(alloc, roster, members)?;
+    first_of(alloc, space, members, member, proc)
+}
+
+// A space of so many. Where it finds no memory it is made once more, since the child is there
+// already.
+fn new_space(
+    alloc: Global,
+    roster: &mut Roster<'static>,
+    members: u64,
+) -> Result<OpenedSpace, Fault>
+    ensures member { IfOk result (λ opened. IsFirstMember opened.space opened.member) }
+    ensures procs { IfOk result (λ opened. opened.space.procs ≡ members) }
+{
+    match TagSpace::new(alloc, roster, members) {
+        Err(Fault::Memory) => TagSpace::new(alloc, roster, members),
+        made => made,
     }
 }
 
@@ -604,7 +666,8 @@ fn seat_at_queue(stock: &mut Stock, casting: Casting) -> Result<Role, Fault> {
     }
 }
 
-// The first process at a pool, or one more beside one that is there.
+// The first process at a pool, or one more beside one that is there. Who is refused takes nothing
+// along.
 fn hold<R: Wait>(
     rt: &R,
     places: &mut Vec<Place>,
@@ -612,9 +675,20 @@ fn hold<R: Wait>(
     proc: Proc<'static>,
     object: u64,
 ) -> Result<Role, Fault> {
-    match take_at(&mut stock.pools, at(object)) {
-        Some(pool) => Ok(Role::Holder(pool.first(proc)?)),
-        None => hold_beside(rt, places, proc, object),
+    match take_at(&mut stock.pools, at(object), proc.rendez_count()) {
+        Some(pool) => Ok(Role::Holder(for_good(pool).first(proc)?)),
+        None => match lent_at(&mut stock.pools, at(object)) {
+            Some(pool) => Err(why_not_held(pool, proc)),
+            None => hold_beside(rt, places, proc, object),
+        },
+    }
+}
+
+// Why the process can't be the first at a pool: its kernel has too few Rendez.
+fn why_not_held<'k>(pool: &mut Pool, proc: Proc<'k>) -> Fault {
+    match pool.first(proc) {
+        Ok(_) => Fault::Device,
+        Err(Refused { proc: _, fault }) => fault,
     }
 }
 
@@ -631,15 +705,8 @@ fn hold_beside<R: Wait>(
     }
 }
 
-// What is still here of this number, which is then taken.
-fn take_at<T: Drop>(kept: &mut Vec<Option<T>>, at: usize) -> Option<T> {
-    match kept.get_mut(at) {
-        Some(place) => place.take(),
-        None => None,
-    }
-}
-
-// The first process in a tag space, or one more beside one that is there.
+// The first process in a tag space, or one more beside one that is there. Who is refused takes
+// nothing along.
 fn admit<R: Wait>(
     rt: &R,
     places: &mut Vec<Place>,
@@ -647,9 +714,20 @@ fn admit<R: Wait>(
     proc: Proc<'static>,
     object: u64,
 ) -> Result<Role, Fault> {
-    match take_at(&mut stock.halls, at(object)) {
-        Some(hall) => Ok(Role::Guest(hall.first(proc)?)),
-        None => admit_beside(rt, places, proc, object),
+    match take_at(&mut stock.halls, at(object), proc.rendez_count()) {
+        Some(hall) => Ok(Role::Guest(for_good(hall).first(proc)?)),
+        None => match lent_at(&mut stock.halls, at(object)) {
+            Some(hall) => Err(why_not_admitted(hall, proc)),
+            None => admit_beside(rt, places, proc, object),
+        },
+    }
+}
+
+// Why the process can't be the first in a space: its kernel has too few Rendez.
+fn why_not_admitted<'k>(hall: &mut Hall, proc: Proc<'k>) -> Fault {
+    match hall.first(proc) {
+        Ok(_) => Fault::Device,
+        Err(Refused { proc: _, fault }) => fault,
     }
 }
 

@@ -1,6 +1,6 @@
 //! Where the call of a process stands, as its thread and the player of the scene see it.
 use plan9::{Kernel, Probe, ProcStatus};
-use scene_text::page::Visit;
+use scene_text::answer::Visit;
 use std::sync::atomic::Ordering::SeqCst;
 use std::sync::atomic::{AtomicBool, AtomicU64};
 use std::thread::yield_now;

@@ -6,7 +6,8 @@ use crate::roles::queue::Seats;
 use crate::roles::sharer::Sharing;
 use crate::scene::{Scene, keep, push};
 use plan9::{
-    Clock, Ends, Fault, Hall, OpenedPipe, Parts, Pipe, Pool, ReadEnd, Roster, Watch, WriteEnd,
+    Clock, Ends, Fault, Hall, Kernel, OpenedPipe, Parts, Pipe, Pool, ReadEnd, Roster, Watch,
+    WriteEnd,
 };
 use scene_text::answer::{Answer, refused};
 use std::alloc::Global;
@@ -18,13 +19,20 @@ pub struct Direction {
     pub writes: Vec<WriteEnd<'static>>,
 }
 
+/// An object to which nobody has come yet, and the end of its Rendez: all of them are below it.
+#[derive(Drop)]
+pub struct Fresh<T: Drop> {
+    pub object: Box<T>,
+    pub end: u64,
+}
+
 /// What nobody has yet. A pool and a hall are here until their first process comes.
 #[derive(Drop)]
 pub struct Stock {
     /// Two of each pipe: from the second end to the first, and the other way back.
     pub directions: Vec<Direction>,
-    pub pools: Vec<Option<&'static mut Pool>>,
-    pub halls: Vec<Option<&'static mut Hall>>,
+    pub pools: Vec<Option<Fresh<Pool>>>,
+    pub halls: Vec<Option<Fresh<Hall>>>,
     pub clocks: Vec<Watch<'static>>,
     pub sharings: Vec<Sharing>,
     pub lones: Vec<Spot>,
@@ -46,7 +54,7 @@ impl Stock {
     }
 }
 
-// An object that was made has no answer.
+/// An object that was made has no answer.
 pub fn made(came: Result<(), Fault>) -> Answer {
     match came {
         Ok(()) => Answer::none(),
@@ -112,33 +120,78 @@ fn direction_of(read: ReadEnd<'static>, mut writes: Vec<WriteEnd<'static>>) -> D
 /// Makes a semaphore, at which nobody has a seat yet.
 pub fn make_sema(alloc: Global, scene: &mut Scene, units: u32, seats: u64) -> Answer {
     let opened = Pool::new(alloc, &mut scene.roster, units, seats);
-    made(lay(alloc, &mut scene.stock.pools, opened))
+    let end = end_of(scene.kernel, &scene.roster);
+    made(lay(alloc, &mut scene.stock.pools, opened, end))
 }
 
 /// Makes a tag space, to which nobody has come yet.
 pub fn make_space(alloc: Global, scene: &mut Scene, members: u64) -> Answer {
     let opened = Hall::new(alloc, &mut scene.roster, members);
-    made(lay(alloc, &mut scene.stock.halls, opened))
+    let end = end_of(scene.kernel, &scene.roster);
+    made(lay(alloc, &mut scene.stock.halls, opened, end))
 }
 
 /// Another space of the size of this one, to which nobody has come yet.
 pub fn make_group(alloc: Global, scene: &mut Scene, object: u64) -> Answer {
-    let Scene { stock, roster, .. } = scene;
+    let Scene {
+        stock,
+        roster,
+        kernel,
+        ..
+    } = scene;
     let opened = match stock.halls.get((object.max(1) - 1) as usize) {
-        Some(Some(hall)) => hall.new_group(alloc, roster),
+        Some(Some(hall)) => hall.object.new_group(alloc, roster),
         _ => return Answer::of("no space"),
     };
-    made(lay(alloc, &mut stock.halls, opened))
+    let end = end_of(kernel, roster);
+    made(lay(alloc, &mut stock.halls, opened, end))
 }
 
-// Keeps an object that was made.
-fn lay<'a, T: Drop + 'a>(
+/// The end of the Rendez that were given so far.
+pub fn end_of(kernel: &Kernel, roster: &Roster<'static>) -> u64 {
+    kernel.rendez_count().saturating_sub(roster.left().1)
+}
+
+/// Keeps an object that was made, whose Rendez are below this end.
+pub fn lay<T: Drop>(
     alloc: Global,
-    kept: &mut Vec<Option<&'a mut T>>,
+    kept: &mut Vec<Option<Fresh<T>>>,
     opened: Result<T, Fault>,
+    end: u64,
 ) -> Result<(), Fault> {
-    let object = keep(alloc, opened?)?;
-    told(push(kept, Some(object)))
+    let object = Box::new(alloc, opened?)?;
+    told(push(kept, Some(Fresh { object, end })))
+}
+
+/// What is still here of this number, which is then taken by a process whose kernel has so many
+/// Rendez, if all of the object's are among them.
+pub fn take_at<T: Drop>(
+    kept: &mut Vec<Option<Fresh<T>>>,
+    at: usize,
+    rendez: u64,
+) -> Option<Box<T>> {
+    let place = kept.get_mut(at)?;
+    if !is_known(place, rendez) {
+        return None;
+    }
+    let Fresh { object, .. } = place.take()?;
+    Some(object)
+}
+
+// Whether it is still here, and all its Rendez are among the first so many.
+fn is_known<T: Drop>(place: &Option<Fresh<T>>, rendez: u64) -> bool {
+    match place {
+        Some(fresh) => fresh.end <= rendez,
+        None => false,
+    }
+}
+
+/// What is still here of this number, and stays here.
+pub fn lent_at<T: Drop>(kept: &mut Vec<Option<Fresh<T>>>, at: usize) -> Option<&mut T> {
+    match kept.get_mut(at)? {
+        Some(fresh) => Some(&mut *fresh.object),
+        None => None,
+    }
 }
 
 /// Makes timers, whose first seat is that of process 0.

@@ -2,10 +2,8 @@
 ghost use Rattle.std.specs.Prelude.{IfOk, IfSome};
 ghost use Rattle.sleep_wakeup.specs.Starts.{IsStartOf};
 
-use crate::acts::{Acts, Said, step_with_acts};
-use crate::calling::call_off;
+use crate::acts::{Acts, Said, Span, leave, step_with_acts};
 use crate::scene::{Scene, Stay, begin, open, set};
-use crate::steps::leave;
 use plan9::{Fault, Kernel, OpenedKernel, Plan};
 use scene_text::answer::{Answer, fault_text, refused};
 use scene_text::lines::{Line, WORDS, Words, line_of, number_of, words_of};
@@ -37,7 +35,7 @@ pub fn play_text<R: Threads + Wait + Copy + Send + 'static>(
             page.write(out);
         }
     }
-    end_scene(rt, &mut scene, page);
+    end_scene(rt, alloc, &mut scene, &mut acts, text, page);
     page.write(out);
 }
 
@@ -54,8 +52,7 @@ fn play_line<R: Threads + Wait + Copy + Send + 'static>(
     page: &mut Page,
 ) -> bool {
     if line.is_empty() {
-        *acts = Acts::none();
-        end_scene(rt, scene, page);
+        end_scene(rt, alloc, scene, acts, text, page);
         page.put("\n");
         return true;
     }
@@ -115,15 +112,18 @@ fn step_again<R: Threads + Wait + Copy + Send + 'static>(
     words: &Words<'_>,
 ) -> Option<Said> {
     let said = step_with_acts(rt, alloc, scene, acts, text, at, words)?;
-    if lacks_memory(said.answer) && words.list[1] != "ends" && words.list[0] != "acted" {
+    if lacks_memory(said) && words.list[1] != "ends" && words.list[0] != "acted" {
         return step_with_acts(rt, alloc, scene, acts, text, at, words);
     }
     Some(said)
 }
 
 // Whether this answer is that memory ran out.
-fn lacks_memory(answer: Answer) -> bool {
-    answer.word == fault_text(Fault::Memory)
+fn lacks_memory(said: Said) -> bool {
+    match said {
+        Said::Line(answer, _) => answer.word == fault_text(Fault::Memory),
+        Said::Act(_) => false,
+    }
 }
 
 // The first line of a scene: `kernel PROCS RENDEZ`, or `plan` and what it counts. Where it finds no
@@ -203,35 +203,54 @@ fn planned(plan: Plan, kind: &str, count: u64) -> Option<Plan> {
     }
 }
 
-// Puts an answer, and what the process of the line has read or visited.
+// Puts what is printed after a line.
 fn put_said(page: &mut Page, scene: &Scene, said: Said) {
-    if said.answer.word.is_empty() {
+    match said {
+        Said::Line(answer, number) => put_line(page, scene, answer, number),
+        Said::Act(Span { from, to }) => match scene.told.as_slice().get(from..to) {
+            Some(told) => page.put_told(told),
+            None => page.end_line(),
+        },
+    }
+}
+
+// Puts an answer, and what the process of the line has read or visited.
+fn put_line(page: &mut Page, scene: &Scene, answer: Answer, number: u64) {
+    if answer.word.is_empty() {
         return page.end_line();
     }
-    let Some(at) = scene.place_of(said.number) else {
-        return page.put_answer(said.answer, &[], &[]);
+    let Some(at) = scene.place_of(number) else {
+        return page.put_answer(answer, &[], &[]);
     };
     match scene.places.get(at) {
         Some(place) => match &place.stay {
             Stay::Here(actor) => page.put_answer(
-                said.answer,
+                answer,
                 actor.bytes.as_slice(),
                 actor.visits.as_slice(),
             ),
-            _ => page.put_answer(said.answer, &[], &[]),
+            _ => page.put_answer(answer, &[], &[]),
         },
-        None => page.put_answer(said.answer, &[], &[]),
+        None => page.put_answer(answer, &[], &[]),
     }
 }
 
-// What runs still is called off; what even then doesn't end is told.
-fn end_scene<R: Threads + Wait>(rt: &R, scene: &mut Option<Scene>, page: &mut Page) {
+// What runs still is called off; what even then doesn't end is told. No act is left.
+fn end_scene<R: Threads + Wait + Copy + Send + 'static>(
+    rt: &R,
+    alloc: Global,
+    scene: &mut Option<Scene>,
+    acts: &mut Acts,
+    text: &str,
+    page: &mut Page,
+) {
     if let Some(opened) = scene {
-        let left = call_off(rt, opened);
+        let left = leave(rt, alloc, opened, acts, text);
         if left.stuck > 0 {
             page.put("left");
-            page.put_answer(leave(rt, opened), &[], &[]);
+            page.put_answer(left.answer(), &[], &[]);
         }
     }
     set(scene, None);
+    *acts = Acts::none();
 }

@@ -90,7 +90,7 @@ fn play_read<R: Threads + Wait + AllocGlobal + Copy + Send + 'static>(
     match text {
         Ok(text) => play_text(rt, rt.alloc(), turns, text.as_str(), page, out),
         Err(error) if error.kind() == ErrorKind::OutOfMemory => page.lack(),
-        Err(_) => page.fail(),
+        Err(_) => page.miss(),
     }
     let _ = page.report(name, err);
 }

@@ -45,6 +45,8 @@ pub struct Scene {
     pub places: Vec<Place>,
     pub strangers: u64,
     pub stock: Stock,
+    /// What the acts of the last call were answered.
+    pub told: Vec<u8>,
 }
 
 /// Keeps a value for as long as the program runs.
@@ -55,6 +57,11 @@ pub fn keep<'a, T: Drop + 'a>(alloc: Global, value: T) -> Result<&'a mut T, Faul
         Ok(kept) => Ok(Box::leak(kept)),
         Err(_) => Err(Fault::Memory),
     }
+}
+
+/// Keeps what has its memory for as long as the program runs.
+pub fn for_good<'a, T: Drop + 'a>(boxed: Box<T>) -> &'a mut T {
+    Box::leak(boxed)
 }
 
 /// Puts a value in the place of another. At a type parameter it is proved once, for whatever type.
@@ -107,6 +114,7 @@ pub fn open(alloc: Global, turns: u64, begun: Result<Setup, Fault>) -> Result<Sc
         places: Vec::new(alloc),
         strangers: 0,
         stock: Stock::new(alloc),
+        told: Vec::new(alloc),
     })
 }
 

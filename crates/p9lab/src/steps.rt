@@ -15,7 +15,7 @@ use crate::roles::plain::call_at_once;
 use crate::roles::queue::{QueueKind, make_queue};
 use crate::roles::sharer::make_shared;
 use crate::roles::writer::fill;
-use crate::scene::{Scene, Stay, set};
+use crate::scene::{Place, Scene, Stay, set};
 use plan9::{Fault, Flags, Mode, RendezId};
 use scene_text::answer::{Answer, numbered, refused};
 use scene_text::lines::{WORDS, Words, number_of};
@@ -108,7 +108,12 @@ fn share(alloc: Global, scene: &mut Scene, words: &Words<'_>) -> Option<Answer> 
     }
     let object = object_of(words, 2, words.count)?;
     let procs = number_of(words.list[1])?;
-    let Scene { roster, stock, .. } = scene;
+    let Scene {
+        kernel,
+        roster,
+        stock,
+        ..
+    } = scene;
     let Stock {
         directions,
         sharings,
@@ -118,7 +123,7 @@ fn share(alloc: Global, scene: &mut Scene, words: &Words<'_>) -> Option<Answer> 
     match directions.get_mut(place as usize) {
         Some(direction) => {
             let end = &mut direction.read;
-            Some(made(make_shared(alloc, roster, sharings, end, procs)))
+            Some(made(make_shared(alloc, kernel, roster, sharings, end, procs)))
         }
         None => Some(refused(Fault::NoProc)),
     }
@@ -221,22 +226,18 @@ fn look_at_rendez(alloc: Global, scene: &Scene, words: &Words<'_>) -> Option<Ans
     level_of(alloc, scene, number_of(words.list[1])?)
 }
 
-// `left`: ends what runs still.
+// `left`, where no line is kept for a call.
 fn left<R: Threads + Wait>(rt: &R, scene: &mut Scene, words: &Words<'_>) -> Option<Answer> {
-    if words.count != 1 || words.apart {
-        return None;
+    if is_alone(words) {
+        Some(call_off(rt, scene).answer())
+    } else {
+        None
     }
-    Some(leave(rt, scene))
 }
 
-/// Ends what runs still.
-pub fn leave<R: Threads + Wait>(rt: &R, scene: &mut Scene) -> Answer {
-    let left = call_off(rt, scene);
-    if left.stuck > 0 {
-        Answer::counted("stuck", left.stuck)
-    } else {
-        Answer::counted("called off", left.ended)
-    }
+/// Whether one word stands there.
+pub fn is_alone(words: &Words<'_>) -> bool {
+    words.count == 1 && !words.apart
 }
 
 // ---- the roster's calls, which any process may make
@@ -395,14 +396,27 @@ fn step_one<R: Threads + Wait + Copy + Send + 'static>(
             let came = comes(scene, at, Until::Ends);
             Some(ending(rt, scene, at, came))
         }
-        Command::Points => Some(Answer::points()),
-        Command::Posted => Some(Answer::posted()),
+        Command::Points => Some(seen(scene, at, Answer::points())),
+        Command::Posted => Some(seen(scene, at, Answer::posted())),
         Command::Look => Some(look_answer(scene, number)),
         Command::Fork => fork_as(rt, alloc, scene, number, words),
         Command::Rfork => rfork_as(rt, alloc, scene, number, words),
         Command::NoteGroup => note_group_as(scene, number, words),
         Command::Clock => take_seat(rt, scene, at, words),
         Command::Call(call) => Some(call_and_await(rt, alloc, scene, at, call, words)),
+    }
+}
+
+// What is seen of a process that is here.
+fn seen(scene: &Scene, at: usize, answer: Answer) -> Answer {
+    match scene.places.get(at) {
+        Some(
+            Place {
+                stay: Stay::Here(_),
+                ..
+            },
+        ) => answer,
+        _ => Answer::of("not here"),
     }
 }
 

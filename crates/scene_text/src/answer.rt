@@ -3,6 +3,13 @@ use pipe_dev::{Long, ReadAnswer, TryAnswer};
 use sleep_wakeup::{Done, ProcStatus, RendezStatus};
 use sync_base::{Fault, NoteSet};
 
+/// A point that a call has visited, and whether its process stood posted in a Rendez then.
+#[derive(Clone, Copy)]
+pub struct Visit {
+    pub point: u64,
+    pub posted: bool,
+}
+
 /// What stands behind the word of an answer.
 #[derive(Clone, Copy)]
 pub enum More {

@@ -73,3 +73,25 @@ pub fn number_of(word: &str) -> Option<u64> {
     }
     word.parse::<u64>().ok()
 }
+
+/// The most bytes that `N*x` stands for, and the most that a read has room for.
+pub const MOST_BYTES: u64 = 268_435_456;
+
+/// So many of one byte.
+#[derive(Clone, Copy)]
+pub struct Run {
+    pub count: u64,
+    pub byte: u8,
+}
+
+/// What a word such as `65536*x` stands for. Any other word has its own bytes.
+pub fn run_of(word: &str) -> Option<Run> {
+    let (count, text) = word.split_once('*')?;
+    match text.as_bytes() {
+        [byte] => Some(Run {
+            count: number_of(count)?,
+            byte: *byte,
+        }),
+        _ => None,
+    }
+}

@@ -1,23 +1,12 @@
 //! What is printed, and what of it was wanted otherwise.
-use crate::answer::{Answer, More};
-use sleep_wakeup::{ProcStatus, RendezStatus};
+use crate::answer::{Answer, Visit};
+use crate::told::{tell, tell_answer};
 use std::alloc::Global;
 use std::io;
 use std::io::Write;
-use sync_base::{Note, NoteSet};
-
-/// From how many bytes on a run of one byte is shown as `N*x`.
-const LONG: usize = 33;
 
 /// What stands before an answer.
 const MARK: &str = " = ";
-
-/// A point that a call has visited, and whether its process stood posted in a Rendez then.
-#[derive(Clone, Copy)]
-pub struct Visit {
-    pub point: u64,
-    pub posted: bool,
-}
 
 /// The lines so far of a scene, and how all lines went. What finds no memory is left out, and the
 /// page says so.
@@ -29,6 +18,7 @@ pub struct Page {
     wanted: Vec<u8>,
     came: Vec<u8>,
     fault: Option<u64>,
+    unread: bool,
     /// Of all texts.
     scenes: u64,
     agree: u64,
@@ -46,6 +36,7 @@ impl Page {
             wanted: Vec::new(alloc),
             came: Vec::new(alloc),
             fault: None,
+            unread: false,
             scenes: 0,
             agree: 0,
             good: true,
@@ -56,122 +47,8 @@ impl Page {
 
     /// Adds a text.
     pub fn put(&mut self, text: &str) {
-        self.put_bytes(text.as_bytes());
-    }
-
-    // Adds bytes.
-    fn put_bytes(&mut self, bytes: &[u8]) {
-        if self.text.extend_from_slice(bytes).is_err() {
+        if !tell(&mut self.text, text) {
             self.lacks = true;
-        }
-    }
-
-    // Adds a byte.
-    fn put_byte(&mut self, byte: u8) {
-        self.put_bytes(&[byte]);
-    }
-
-    // A number, its last digit first in a row that is filled from its end.
-    fn put_number(&mut self, number: u64) {
-        let mut digits = [0u8; 20];
-        let mut at = 20;
-        let mut left = number;
-        for place in 0..20 {
-            at = 19 - place;
-            digits[at] = b'0' + (left % 10) as u8;
-            left /= 10;
-            if left == 0 {
-                break;
-            }
-        }
-        self.put_bytes(&digits[at.min(20)..]);
-    }
-
-    // Kinds of notes with a comma between each two, or `-` for none.
-    fn put_notes(&mut self, notes: NoteSet) {
-        if notes.is_empty() {
-            self.put(" -");
-            return;
-        }
-        let mut mark = b' ';
-        mark = self.put_note(notes, Note::Interrupt, "interrupt", mark);
-        mark = self.put_note(notes, Note::Hangup, "hangup", mark);
-        mark = self.put_note(notes, Note::Alarm, "alarm", mark);
-        mark = self.put_note(notes, Note::ClosedPipe, "closed", mark);
-        self.put_note(notes, Note::Expired, "expired", mark);
-    }
-
-    // Adds a kind that is there, after this mark. The mark of the next one.
-    fn put_note(&mut self, notes: NoteSet, note: Note, text: &str, mark: u8) -> u8 {
-        if !notes.has(note) {
-            return mark;
-        }
-        self.put_byte(mark);
-        self.put(text);
-        b','
-    }
-
-    // The bytes that were read; `-` if there are none, and `N*x` for a long run of one.
-    fn put_read(&mut self, bytes: &[u8]) {
-        self.put(" ");
-        match bytes {
-            [] => self.put("-"),
-            [first, ..] if bytes.len() >= LONG && is_run(bytes, *first) => {
-                self.put_number(bytes.len() as u64);
-                self.put("*");
-                self.put_byte(*first);
-            }
-            _ => self.put_bytes(bytes),
-        }
-    }
-
-    // Adds each point that was visited.
-    fn put_points(&mut self, visits: &[Visit]) {
-        for visit in visits.iter() {
-            self.put_behind(visit.point);
-        }
-    }
-
-    // Those at which the process stood posted; `-` if it did at none.
-    fn put_posted(&mut self, visits: &[Visit]) {
-        let mut found = false;
-        for visit in visits.iter() {
-            if visit.posted {
-                found = true;
-                self.put_behind(visit.point);
-            }
-        }
-        if !found {
-            self.put(" -");
-        }
-    }
-
-    // Adds a space and a number.
-    fn put_behind(&mut self, number: u64) {
-        self.put(" ");
-        self.put_number(number);
-    }
-
-    // The Rendez of one that is posted, its mark, and the notes that are pending.
-    fn put_status(&mut self, status: ProcStatus) {
-        if let Some(rendez) = status.posted {
-            self.put_behind(rendez.0);
-        }
-        if status.marked {
-            self.put(" marked");
-        }
-        self.put_notes(status.notes);
-    }
-
-    // The level, and who is posted.
-    fn put_level(&mut self, status: RendezStatus) {
-        self.put_behind(status.level);
-        match status.posted {
-            Some(pid) => {
-                self.put(" posted");
-                self.put_behind(pid.0);
-            }
-            None => self.put(" nobody"),
         }
     }
 
@@ -183,19 +60,19 @@ impl Page {
     /// An answer, with what its process has read and visited, and the end of its line.
     pub fn put_answer(&mut self, answer: Answer, bytes: &[u8], visits: &[Visit]) {
         self.put(MARK);
-        self.put(answer.word);
-        match answer.more {
-            More::Nothing => {}
-            More::Number(number) => self.put_behind(number),
-            More::Bytes(count) => self.put_read(&bytes[..count.min(bytes.len())]),
-            More::Notes(notes) => self.put_notes(notes),
-            More::Points => self.put_points(visits),
-            More::Posted => self.put_posted(visits),
-            More::Status(status) => self.put_status(status),
-            More::Level(status) => self.put_level(status),
+        if !tell_answer(&mut self.text, answer, bytes, visits) {
+            self.lacks = true;
         }
-        if let Some(number) = answer.behind {
-            self.put_behind(number);
+        self.put("\n");
+    }
+
+    /// An answer that was told before, and the end of its line. No text is no answer.
+    pub fn put_told(&mut self, told: &[u8]) {
+        if !told.is_empty() {
+            self.put(MARK);
+            if self.text.extend_from_slice(told).is_err() {
+                self.lacks = true;
+            }
         }
         self.put("\n");
     }
@@ -238,9 +115,10 @@ impl Page {
         self.lacks = true;
     }
 
-    /// A text was not read, or a line not written.
-    pub fn fail(&mut self) {
-        self.failed = true;
+    /// The text can't be read.
+    pub fn miss(&mut self) {
+        self.unread = true;
+        self.good = false;
     }
 
     /// Writes the lines so far, and begins anew.
@@ -256,7 +134,8 @@ impl Page {
         self.good && !self.lacks && !self.failed
     }
 
-    /// Says where a text differs first, and which of its lines is none; and is ready for the next.
+    /// Says where a text differs first, which of its lines is none, or that it can't be read. Then
+    /// the page is ready for the next.
     pub fn report(&mut self, name: &str, to: &mut impl Write) -> io::Result<()> {
         if let Some(line) = self.first {
             write!(to, "p9lab: {name}: line {line}: wanted ")?;
@@ -268,8 +147,12 @@ impl Page {
         if let Some(line) = self.fault {
             write!(to, "p9lab: {name}: scene fault at line {line}\n")?;
         }
+        if self.unread {
+            write!(to, "p9lab: {name}: can't be read\n")?;
+        }
         self.first = None;
         self.fault = None;
+        self.unread = false;
         self.wanted.clear();
         self.came.clear();
         Ok(())
@@ -292,9 +175,4 @@ impl Page {
 fn answer_from(text: &[u8], from: usize) -> &[u8] {
     let from = from.saturating_add(MARK.len()).min(text.len());
     text[from..].trim_ascii()
-}
-
-// Whether each of them is this one.
-fn is_run(bytes: &[u8], first: u8) -> bool {
-    bytes.iter().all(|byte| *byte == first)
 }

@@ -1,6 +1,6 @@
 //! What a process may be told, and with which operands. A new call is a variant, a row of
 //! `entry_of` and an arm of the roles that make it.
-use crate::lines::{Words, number_of};
+use crate::lines::{MOST_BYTES, Words, number_of, run_of};
 use sync_base::{Flags, Note, NoteSet};
 
 /// A word behind a process.
@@ -54,6 +54,8 @@ pub enum Shape {
     Number,
     /// A number of 32 bits.
     Count,
+    /// A number of bytes that a read has room for.
+    Room,
     TwoNumbers,
     Kinds,
     NumberKinds,
@@ -105,12 +107,12 @@ fn entry_of_object(word: &str) -> Option<Entry> {
         "write" => row(Verb::Write, Shape::Text),
         "write_within" => row_within(Verb::WriteWithin, Shape::Text),
         "write_long" => row(Verb::WriteLong, Shape::Text),
-        "read" => row(Verb::Read, Shape::Number),
-        "read_within" => row_within(Verb::ReadWithin, Shape::Number),
-        "try_read" => row(Verb::TryRead, Shape::Number),
+        "read" => row(Verb::Read, Shape::Room),
+        "read_within" => row_within(Verb::ReadWithin, Shape::Room),
+        "try_read" => row(Verb::TryRead, Shape::Room),
         "read_block" => row(Verb::ReadBlock, Shape::Bare),
-        "next_piece" => row(Verb::NextPiece, Shape::Number),
-        "read_exact" => row(Verb::ReadExact, Shape::Number),
+        "next_piece" => row(Verb::NextPiece, Shape::Room),
+        "read_exact" => row(Verb::ReadExact, Shape::Room),
         "hangup" => row(Verb::Hangup, Shape::Bare),
         "hangup_read" => row(Verb::HangupRead, Shape::Bare),
         "hangup_write" => row(Verb::HangupWrite, Shape::Bare),
@@ -167,11 +169,17 @@ pub fn call_of(words: &Words<'_>) -> Option<Call> {
     if timed {
         call.deadline = deadline_of(words.list[2], words.list[3])?;
     }
-    let first = words.list[before];
-    let second = words.list[before + 1];
+    with_operands(call, shape, words.list[before], words.list[before + 1])
+}
+
+// The call with its operands, which are the words of this shape.
+fn with_operands(mut call: Call, shape: Shape, first: &str, second: &str) -> Option<Call> {
     match shape {
-        Shape::Bare | Shape::Text => {}
+        Shape::Bare => {}
+        Shape::Text if is_text(first) => {}
+        Shape::Text => return None,
         Shape::Number => call.first = number_of(first)?,
+        Shape::Room => call.first = room_of(first)?,
         Shape::Count => call.first = u64::from(count_of(first)?),
         Shape::TwoNumbers => {
             call.first = number_of(first)?;
@@ -194,6 +202,24 @@ fn deadline_of(now: &str, ms: &str) -> Option<Deadline> {
     })
 }
 
+// Whether its bytes are not too many.
+fn is_text(word: &str) -> bool {
+    match run_of(word) {
+        Some(run) => run.count <= MOST_BYTES,
+        None => true,
+    }
+}
+
+// So many bytes, if they are not too many.
+fn room_of(word: &str) -> Option<u64> {
+    let count = number_of(word)?;
+    if count <= MOST_BYTES {
+        Some(count)
+    } else {
+        None
+    }
+}
+
 // A number of 32 bits.
 fn count_of(word: &str) -> Option<u32> {
     u32::try_from(number_of(word)?).ok()
@@ -203,7 +229,7 @@ fn count_of(word: &str) -> Option<u32> {
 fn operands_of(shape: Shape) -> usize {
     match shape {
         Shape::Bare => 0,
-        Shape::Number | Shape::Count | Shape::Kinds | Shape::Text => 1,
+        Shape::Number | Shape::Count | Shape::Room | Shape::Kinds | Shape::Text => 1,
         Shape::TwoNumbers | Shape::NumberKinds => 2,
     }
 }

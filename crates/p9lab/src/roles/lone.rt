@@ -12,7 +12,7 @@ use crate::scene::{keep, push};
 use counted_slot::{Counted, FREE, Fits, TAKEN};
 use plan9::{
     Ends, Fault, Held, Long, Mode, OpenedPipe, Parts, Pipe, PipeStart, Proc, ReadEnd, Roster,
-    Unfinished, WriteEnd, finish,
+    Unfinished, Watch, WriteEnd, finish,
 };
 use scene_text::answer::{Answer, More, have_read, have_tried, have_written, numbered, refused};
 use scene_text::told::{tell, tell_bytes, tell_number};
@@ -181,6 +181,7 @@ pub fn call_lone<R: Wait>(
     alloc: Global,
     lone: &mut Lone,
     bytes: &mut Vec<u8>,
+    watch: &mut Option<Watch<'_>>,
     call: Call,
 ) -> Answer {
     match call.verb {
@@ -192,7 +193,7 @@ pub fn call_lone<R: Wait>(
             at_write_end(rt, alloc, lone, bytes.as_slice(), call)
         }
         Verb::Finish => finish_both(rt, alloc, lone.both, bytes),
-        _ => call_plain(rt, &mut lone.proc, &mut None, call),
+        _ => call_plain(rt, &mut lone.proc, watch, call),
     }
 }
 

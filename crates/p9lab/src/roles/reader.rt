@@ -5,9 +5,6 @@ use scene_text::answer::{Answer, have_piece, have_read, have_tried, refused};
 use scene_text::verbs::{Call, Deadline, Verb};
 use std::sync::Wait;
 
-/// The most bytes of a read.
-const MOST: u64 = 16_000_000;
-
 /// A call of a reader.
 pub fn call_reader<R: Wait>(
     rt: &R,
@@ -71,5 +68,5 @@ fn have_filled(answer: Result<(), ShortRead>, count: usize) -> Answer {
 /// So many bytes of room.
 pub fn make_room(bytes: &mut Vec<u8>, count: u64) -> bool {
     bytes.clear();
-    bytes.resize(count.min(MOST) as usize, 0).is_ok()
+    bytes.resize(count as usize, 0).is_ok()
 }

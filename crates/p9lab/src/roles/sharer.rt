@@ -1,7 +1,8 @@
 //! A process that shares a read end with others.
+use crate::objects::{Fresh, end_of, lay, lent_at, take_at};
 use crate::roles::reader::make_room;
-use crate::scene::{keep, push, set};
-use plan9::{Fault, Proc, ReadEnd, Roster, Shared, Sharer, Unshared};
+use crate::scene::{for_good, set};
+use plan9::{Fault, Kernel, Proc, ReadEnd, Refused, Roster, Shared, Sharer, Unshared};
 use scene_text::answer::{Answer, have_read, refused};
 use scene_text::verbs::{Call, Verb};
 use std::alloc::Global;
@@ -22,12 +23,13 @@ pub fn call_sharer<R: Wait>(
 }
 
 /// A shared end, until its first process comes.
-pub type Sharing = Option<&'static mut Shared<'static>>;
+pub type Sharing = Option<Fresh<Shared<'static>>>;
 
 /// Lets so many processes share a read end that nobody has. Where that is refused the end is there
 /// again.
 pub fn make_shared(
     alloc: Global,
+    kernel: &Kernel,
     roster: &mut Roster<'static>,
     sharings: &mut Vec<Sharing>,
     end: &mut Option<ReadEnd<'static>>,
@@ -37,7 +39,7 @@ pub fn make_shared(
         return Err(Fault::NoProc);
     };
     match Shared::new(alloc, roster, taken, procs) {
-        Ok(shared) => lay_shared(alloc, sharings, shared),
+        Ok(shared) => lay(alloc, sharings, Ok(shared), end_of(kernel, roster)),
         Err(Unshared { end: back, fault }) => {
             set(end, Some(back));
             Err(fault)
@@ -45,27 +47,25 @@ pub fn make_shared(
     }
 }
 
-// Keeps a shared end.
-fn lay_shared(
-    alloc: Global,
+/// The first that has turns at the end. Who is refused takes nothing along.
+pub fn first_sharer(
     sharings: &mut Vec<Sharing>,
-    shared: Shared<'static>,
-) -> Result<(), Fault> {
-    let shared = keep(alloc, shared)?;
-    if push(sharings, Some(shared)) {
-        Ok(())
-    } else {
-        Err(Fault::Memory)
+    at: usize,
+    proc: Proc<'static>,
+) -> Result<Sharer<'static, 'static, 'static>, Fault> {
+    match take_at(sharings, at, proc.rendez_count()) {
+        Some(shared) => Ok(for_good(shared).first(proc)?),
+        None => match lent_at(sharings, at) {
+            Some(shared) => Err(why_not_shared(shared, proc)),
+            None => Err(Fault::NoProc),
+        },
     }
 }
 
-/// The first that has turns at the end.
-pub fn first_sharer(
-    sharing: &mut Sharing,
-    proc: Proc<'static>,
-) -> Result<Sharer<'static, 'static, 'static>, Fault> {
-    match sharing.take() {
-        Some(shared) => Ok(shared.first(proc)?),
-        None => Err(Fault::NoProc),
+// Why the process can't be the first at a shared end: its kernel has too few Rendez.
+fn why_not_shared<'p, 'k>(shared: &mut Shared<'p>, proc: Proc<'k>) -> Fault {
+    match shared.first(proc) {
+        Ok(_) => Fault::Device,
+        Err(Refused { proc: _, fault }) => fault,
     }
 }

@@ -2,7 +2,7 @@
 use crate::roles::plain::call_plain;
 use plan9::{Watch, Writer};
 use scene_text::answer::{Answer, have_written, numbered};
-use scene_text::lines::number_of;
+use scene_text::lines::{Run, run_of};
 use scene_text::verbs::{Call, Deadline, Verb};
 use std::alloc::Global;
 use std::sync::Wait;
@@ -49,28 +49,14 @@ fn write_within<R: Wait>(
     }
 }
 
-/// The most bytes that `N*x` stands for.
-const MOST: u64 = 16_000_000;
-
 /// So many of one byte, as `65536*x`; no bytes as `-`; and else those of the word.
 pub fn fill(bytes: &mut Vec<u8>, word: &str) -> bool {
     bytes.clear();
     if word == "-" {
         return true;
     }
-    if let Some((count, text)) = word.split_once('*') {
-        if let Some(count) = number_of(count) {
-            return fill_many(bytes, count, text);
-        }
+    match run_of(word) {
+        Some(Run { count, byte }) => bytes.resize(count as usize, byte).is_ok(),
+        None => bytes.extend_from_slice(word.as_bytes()).is_ok(),
     }
-    bytes.extend_from_slice(word.as_bytes()).is_ok()
-}
-
-// So many of one byte.
-fn fill_many(bytes: &mut Vec<u8>, count: u64, text: &str) -> bool {
-    let byte = match text.as_bytes() {
-        [byte] => *byte,
-        _ => b'?',
-    };
-    bytes.resize(count.min(MOST) as usize, byte).is_ok()
 }
