@@ -1,4 +1,4 @@
-"""The goals at which the prover refuses a planted mistake, and of what kind they are."""
+"""The goals at which the prover refuses a mistake, and of what kind they are."""
 import re
 
 CLAUSE = "a clause of the edited function, what it ensures"
@@ -24,6 +24,8 @@ EMPTY = [("does not cover", "the borrow checker does not cover the edited functi
 KINDS = [(r"returns", CLAUSE), (r"invariant_of", TYPE), (r".*-requires", CALLED), (r".*-(preserved|init|kept|smaller)\b", LOOP), (r"", OTHER)]
 NOTE = re.compile(r"note: \S+:\d+:\d+: (?:it is not proved that .*?|`search` found no proof) \(`([^`]+)`\)")
 ANSWERED = re.compile(r"\S*proofs/\S+/Answers\.antt:\d+:\d+: error: `([^`]+)`")
+# What a mended answer leaves to the prover, and it finds no proof of.
+SEARCHED = "`search`: no proof of "
 LEMMA = re.compile(r".*: error: `([^`]+)`")
 OF_A_PLACE = re.compile(r"(?:note: )?\S+:\d+:\d+: ")
 # What a line begins with that says whether something is proved.
@@ -47,9 +49,10 @@ def why_nothing(told):
 
 def goal_of(told):
     """The kind of the goal at which these lines refuse a function, and its name: a clause before all others."""
-    found = [(next(kind for words, kind in KINDS if re.match(words, it[1])), it[1]) for it in map(NOTE.match, told) if it]
-    by_hand = [it[1] for it in map(ANSWERED.match, told) if it and not why_nothing([it.string])]
-    found += [(ANSWERED_CLAUSE if name.startswith("returns") else ANSWER, name) for name in by_hand]
+    by_hand = [it for it in map(ANSWERED.match, told) if it and not why_nothing([it.string])]
+    searched = [*filter(None, map(NOTE.match, told)), *(it for it in by_hand if SEARCHED in it.string)]
+    found = [(next(kind for words, kind in KINDS if re.match(words, it[1])), it[1]) for it in searched]
+    found += [(ANSWERED_CLAUSE if it[1].startswith("returns") else ANSWER, it[1]) for it in by_hand if it not in searched]
     return min(found, key=lambda it: STRONGEST.index(it[0]), default=None)
 
 

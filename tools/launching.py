@@ -100,7 +100,7 @@ def compile_aside(out):
 
 
 def compile_to(path, log, lock):
-    say(f"{NAME}: compiling it, which takes a minute or two the first time")
+    say(f"{NAME}: compiling it, which takes about a minute the first time")
     status = run_builder([NAME, "try", path], begin_log(log), lock, lambda _: None)
     for it in text_of(log).splitlines():
         # what else it says is of the run by which it was tried
@@ -197,11 +197,11 @@ class Progress:
 
     def __init__(self, log, crates):
         self.log, self.crates, self.shown, self.left, self.begun = log, crates, 0, "", time.monotonic()
-        rows = [it.split() for it in text_of(f"{TOP}/tools/shares").splitlines() if NAME == PROGRAMS[0] and not it.startswith("#")]
+        rows = [it.split() for it in text_of(f"{TOP}/tools/progress").splitlines() if NAME == PROGRAMS[0] and not it.startswith("#")]
         self.shares = {row[0]: int(row[1]) for row in rows if len(row) == 2}
 
     def left_after(self, crate):
-        """How long the rest will take, if it goes on as it did until this crate was proved; nothing where tools/shares doesn't say."""
+        """How long the rest will take, if it goes on as it did until this crate was proved; nothing where tools/progress doesn't say."""
         share = self.shares.get(crate)
         minutes = int((time.monotonic() - self.begun) * (100 - share) / share / 60) + 1 if share else 0
         return f", about {minutes} minutes left" if minutes > 1 else ", about a minute left" if minutes else ""

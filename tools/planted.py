@@ -1,15 +1,34 @@
-"""Planted mistakes: files NAME.edit, each with a wrong body for a place of a crate, and the functions that they edit."""
+"""Mistakes: files NAME.edit, each with a wrong edit of a crate, who refuses it, and whether each gate tries it. This reads them all.
+
+A file is lines, each text on one of its own:
+
+  file: PATH                 the file of the crate that it edits, below src/ or specs/
+  old: TEXT                  stands in that file once
+  new: TEXT                  stands in its place then; there may be several such pairs
+  file: PATH                 below proofs/, with pairs of its own: mends an answer that names what the wrong body no longer has, so
+                             that the prover refuses the mistake where its clause is false, not for a name
+  refused by: type WORDS     the compiler refuses it, with these words, before any proof
+  refused by: test NAME      this test fails, of the crate or of one of tests_*
+  refused by: scene NAME     this scene of scenes/ is answered otherwise
+  refused by: size PART N    this size of tests/programs/sizes is answered otherwise
+  gate: always               each gate tries it
+
+Without `refused by:` the prover refuses it. It stands in the crate's mistakes/, or in must-fail/, whose mistakes `rt ci` tries with
+the prover, whole crates at a time. A line that begins with # is a note.
+"""
 import functools
 import glob
 import os
 import re
 
-from rooms import TOP
+from common import TOP, read
+from copies import crates_below
 
+PROVER, TYPE, TESTS = "prover", "type", ("test", "scene", "size")
 # What stands before the name of a function, the head of an `impl`, and where a type is declared.
 FUNCTION = re.compile(r"\s*(?:pub(?:\([^)]*\))? )?(?:const )?(?:unsafe )?fn (\w+)")
 IMPL = re.compile(r"impl(?:<.*?>)? (?:(?:\w+::)*(\w+)(?:<.*>)? for )?(\w+)")
-TYPE = r"^(?:pub(?:\([^)]*\))? )?(?:struct|enum|union) {}\b"
+TYPE_HEAD = r"^(?:pub(?:\([^)]*\))? )?(?:struct|enum|union) {}\b"
 
 
 class Unfit(Exception):
@@ -20,49 +39,83 @@ class Mistake:
     """A mistake of a crate, as its file has it."""
 
     def __init__(self, crate, file):
-        self.crate, self.file, self.name = crate, file, os.path.relpath(file, TOP)
-        self.path, self.pairs = None, []
-        old = None
-        with open(file, encoding="utf-8") as text:
-            for line in text.read().splitlines():
-                word, _, rest = line.partition(": ")
-                if word == "file":
-                    self.path = rest
-                elif word == "old":
-                    old = rest
-                elif word == "new" or line == "new:":
-                    self.pairs.append((old, rest))
+        self.crate, self.file, self.place = crate, file, os.path.relpath(file, TOP)
+        self.name = os.path.basename(file).removesuffix(".edit")
+        self.in_must_fail = os.path.basename(os.path.dirname(file)) == "must-fail"
+        self.paths, self.pairs, self.refuser, self.words, self.is_always, self.odd = [], [], PROVER, "", False, None
+        self.old = None
+        for line in read(file).splitlines():
+            if line.strip() and not line.startswith("#"):
+                self.take(line)
+
+    def take(self, line):
+        """Takes a line of the file."""
+        word, colon, rest = line.partition(":")
+        rest = rest.removeprefix(" ")
+        if word == "file":
+            self.paths.append(rest)
+        elif word == "old":
+            self.old = rest
+        elif word == "new":
+            self.pairs.append((self.paths[-1] if self.paths else None, self.old, rest))
+            self.old = None
+        elif word == "refused by" and rest.split(" ", 1)[0] in (PROVER, TYPE, *TESTS):
+            self.refuser, _, self.words = rest.partition(" ")
+        elif line == "gate: always":
+            self.is_always = True
+        else:
+            self.odd = line
 
     def planted(self, texts):
         """These texts of files, by their paths, with the mistake in them."""
-        if not self.path or not self.pairs:
+        if self.odd:
+            raise Unfit(f"a line of no mistake: {self.odd}")
+        if not self.pairs or self.old is not None or not all(path and old for path, old, _ in self.pairs):
             raise Unfit("no file, or no pair of old and new")
-        text = texts.get(self.path) or text_of(self.crate, self.path)
-        for old, new in self.pairs:
+        if (self.refuser == PROVER) == bool(self.words):
+            raise Unfit("`refused by: prover` stands alone, and the other refusers are named")
+        for path, old, new in self.pairs:
+            text = texts.get(path) or text_of(self.crate, path)
             if text.count(old) != 1:
-                raise Unfit(f"{self.path} holds this {text.count(old)} times, not once: {old}")
-            text = text.replace(old, new)
-        return {**texts, self.path: text}
+                raise Unfit(f"{path} holds this {text.count(old)} times, not once: {old}")
+            texts = {**texts, path: text.replace(old, new)}
+        return texts
+
+    @property
+    def path(self):
+        """The file that it edits first."""
+        return self.paths[0] if self.paths else ""
 
     @functools.cached_property
     def functions(self):
         """The functions whose bodies it edits, by their paths below the crate; none where it edits something else too."""
-        if not (self.path or "").startswith("src/"):
+        edits = [(path, old) for path, old, _ in self.pairs if not path.startswith("proofs/")]
+        if not all(path.startswith("src/") for path, _ in edits):
             return frozenset()
-        text = text_of(self.crate, self.path)
         # A changed head of an `impl` is for the body that the mistake edits below it.
-        found = [function_at(self.crate, self.path, text, text.find(old)) for old, _ in self.pairs if not old.startswith("impl")]
+        found = [function_at(self.crate, path, text_of(self.crate, path), old) for path, old in edits if not old.startswith("impl")]
         return frozenset(found) if found and all(found) else frozenset()
+
+
+def mistakes_of(crate):
+    """All mistakes of a crate."""
+    files = [it for folder in ("mistakes", "must-fail") for it in sorted(glob.glob(f"{TOP}/crates/{crate}/{folder}/*.edit"))]
+    return [Mistake(crate, it) for it in files]
+
+
+def every_mistake():
+    """The mistakes of all crates, base first."""
+    return [it for crate in crates_below() for it in mistakes_of(crate)]
 
 
 @functools.lru_cache(maxsize=None)
 def text_of(crate, path):
-    with open(f"{TOP}/crates/{crate}/{path}", encoding="utf-8") as source:
-        return source.read()
+    return read(f"crates/{crate}/{path}")
 
 
-def function_at(crate, path, text, place):
-    """The function whose body holds this place of a file, if one does."""
+def function_at(crate, path, text, old):
+    """The function whose body holds this part of a file, if one does."""
+    place = text.find(old)
     above, line = text[:place].splitlines(), text[text.rfind("\n", 0, place) + 1 :].split("\n", 1)[0]
     at = next((i for i in range(len(above) - 1, -1, -1) if FUNCTION.match(above[i])), None)
     # Behind its end, a brace that stands as deep as its head, it is over. Its head is no part of its body.
@@ -96,7 +149,7 @@ def declared_in(crate, name):
     folder = f"{TOP}/crates/{crate}/"
     for file in sorted(glob.glob(f"{folder}src/**/*.rt", recursive=True)):
         path = file.removeprefix(folder)
-        if re.search(TYPE.format(name), text_of(crate, path), re.MULTILINE):
+        if re.search(TYPE_HEAD.format(name), text_of(crate, path), re.MULTILINE):
             return path
     return None
 

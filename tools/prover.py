@@ -5,7 +5,8 @@ import os
 import shutil
 import subprocess
 
-from rooms import TOP, crates_below
+from common import TOP, read, write
+from copies import crates_below
 
 KIT = os.path.dirname(os.path.dirname(os.path.realpath(shutil.which("rt") or "rt")))
 # Where it is kept what was refused, on this machine.
@@ -14,8 +15,7 @@ KEPT = f"{os.environ.get('XDG_CACHE_HOME') or os.path.expanduser('~/.cache')}/p9
 
 def stands_on(crate):
     """The crates that a line of crates.txt names for this one, those of the kit too."""
-    with open(f"{TOP}/crates.txt", encoding="utf-8") as listed:
-        return next(it.split(":", 1)[1].split() for it in listed if it.split(":")[0].split(" ")[0] == crate)
+    return next(it.split(":", 1)[1].split() for it in read("crates.txt").splitlines() if it.split(":")[0].split(" ")[0] == crate)
 
 
 def prover_of(crate):
@@ -62,12 +62,10 @@ class Refused:
     def keep(self, file, goal):
         """Keeps the kind and the name of the goal that refused it."""
         os.makedirs(KEPT, exist_ok=True)
-        with open(self.place_of(file), "w", encoding="utf-8") as kept:
-            kept.write("\n".join([os.path.relpath(file, TOP), *goal, ""]))
+        write(self.place_of(file), "\n".join([os.path.relpath(file, TOP), *goal, ""]))
 
     def kept(self, file):
         """The kind and the name of that goal, if it was refused."""
         if not self.is_kept(file):
             return None
-        with open(self.place_of(file), encoding="utf-8") as kept:
-            return tuple([*kept.read().splitlines()[1:3], "-", "-"][:2])
+        return tuple([*read(self.place_of(file)).splitlines()[1:3], "-", "-"][:2])

@@ -1,14 +1,17 @@
-//! A device driver. It shows `sleep`, `wakeup` and notes.
+//! A device driver. It shows `sleep`, `wakeup` and notes, and a look at who waits where.
 //!
 //! A user wants five blocks of a device, and a driver copies them. The device interrupts when a
 //! block is ready. An interrupt may not wait: it calls `wakeup`, which never does. The driver may:
-//! it sleeps until there is a block. Only three blocks come, so the user posts a note to the
-//! driver, which ends its sleep and with it the transfer.
+//! it sleeps until there is a block. Only three blocks come. The user sees by a look that the
+//! driver sleeps, and posts a note to it, which ends its sleep and with it the transfer.
 #![tactic(auto)]
 
-use plan9::{Fault, Kernel, Note, NoteSet, OpenedKernel, Pid, Proc, RendezId, Started, fork};
+use plan9::{
+    Fault, Kernel, Note, NoteSet, OpenedKernel, Pid, Proc, RendezId, RendezStatus, Started, fork,
+};
 use std::alloc::Global;
 use std::io;
+use std::io::Print;
 use std::sync::Wait;
 use std::sync::atomic::AtomicU64;
 use std::sync::atomic::Ordering::SeqCst;
@@ -19,6 +22,11 @@ const WANTED: u64 = 5;
 
 /// How many the device makes.
 const MADE: u64 = 3;
+
+/// The processes by their pids, and the Rendez by their numbers.
+const PROCS: [&str; 3] = ["user", "device", "driver"];
+
+const RENDEZ: [&str; 2] = ["ready", "copied"];
 
 /// A number that rises, and the Rendez where others sleep until it has.
 #[derive(Drop)]
@@ -88,17 +96,60 @@ fn copy_blocks<R: Wait>(rt: &R, driver: &mut Proc<'_>, transfer: &Transfer) -> R
     Ok(WANTED)
 }
 
-/// The user: waits until all that was made is copied, and cancels the rest. A note ends a sleep of
-/// the driver, or the next one if the driver is awake.
-fn cancel<R: Wait>(
+/// The Rendez of the kernel, once this process sleeps in one.
+fn look_at_sleeper<R: Wait>(rt: &R, kernel: &Kernel, sleeper: Pid) -> [RendezStatus; 2] {
+    let mut seen = [RendezStatus::default(); 2];
+    for _ in rt.forever() {
+        let _ = kernel.look(&mut [], &mut seen);
+        if seen.iter().any(|place| place.posted == Some(sleeper)) {
+            break;
+        }
+        thread::yield_now();
+    }
+    seen
+}
+
+/// Says who waits where, by the names that they have here.
+fn tell(rt: &impl Print, seen: &[RendezStatus]) -> io::Result<()> {
+    for (status, rendez) in seen.iter().zip(RENDEZ) {
+        let level = status.level;
+        let proc = match status.posted {
+            Some(Pid(pid)) => PROCS.get(pid as usize),
+            None => None,
+        };
+        match proc {
+            Some(proc) => println!(rt; "{proc} waits at {rendez}, whose level is {level}")?,
+            None => println!(rt; "nobody waits at {rendez}, whose level is {level}")?,
+        }
+    }
+    Ok(())
+}
+
+/// Waits until all that was made is copied and the driver sleeps, and says what is seen then.
+fn watch_driver<R: Wait + Print>(
     rt: &R,
+    kernel: &Kernel,
     user: &mut Proc<'_>,
     driver: Pid,
     transfer: &Transfer,
 ) -> Result<(), Fault> {
-    let copied = transfer.copied.wait_for(rt, user, MADE);
+    transfer.copied.wait_for(rt, user, MADE)?;
+    let seen = look_at_sleeper(rt, kernel, driver);
+    tell(rt, &seen).map_err(|_| Fault::Device)
+}
+
+/// The user: cancels what is not copied once the driver sleeps. A note ends that sleep, or the next
+/// one if the driver is awake.
+fn cancel<R: Wait + Print>(
+    rt: &R,
+    kernel: &Kernel,
+    user: &mut Proc<'_>,
+    driver: Pid,
+    transfer: &Transfer,
+) -> Result<(), Fault> {
+    let watched = watch_driver(rt, kernel, user, driver, transfer);
     user.postnote(driver, NoteSet::of(Note::Interrupt))?;
-    copied
+    watched
 }
 
 /// Three processes of a kernel.
@@ -111,8 +162,9 @@ struct Procs<'k> {
 
 /// The driver, which waits for the device, has a thread of its own; where none can be started
 /// nothing is begun. The device and the user take turns on this one.
-fn run_all<R: Threads + Wait + Sync>(
+fn run_all<R: Threads + Wait + Print + Sync>(
     rt: &R,
+    kernel: &Kernel,
     procs: Procs<'_>,
     transfer: &Transfer,
 ) -> Result<u64, Fault> {
@@ -130,14 +182,18 @@ fn run_all<R: Threads + Wait + Sync>(
                 return Err(Fault::Device);
             };
             let made = make_blocks(&mut device, transfer);
-            let cancelled = cancel(rt, &mut user, pid, transfer);
+            let cancelled = cancel(rt, kernel, &mut user, pid, transfer);
             made.and(cancelled).and(copying.join(rt))
         },
     )
 }
 
 /// The user is the first process, and the other two are its children.
-fn open<R: Threads + Wait + Sync>(rt: &R, started: Started<'_>) -> Result<u64, Fault> {
+fn open<R: Threads + Wait + Print + Sync>(
+    rt: &R,
+    kernel: &Kernel,
+    started: Started<'_>,
+) -> Result<u64, Fault> {
     let Started { roster, proc } = started;
     let (mut roster, mut user) = (roster, proc);
     let transfer = &Transfer {
@@ -151,12 +207,12 @@ fn open<R: Threads + Wait + Sync>(rt: &R, started: Started<'_>) -> Result<u64, F
         device,
         driver,
     };
-    run_all(rt, procs, transfer)
+    run_all(rt, kernel, procs, transfer)
 }
 
-fn run<R: Threads + Wait + Sync>(rt: &R, alloc: Global) -> Result<u64, Fault> {
+fn run<R: Threads + Wait + Print + Sync>(rt: &R, alloc: Global) -> Result<u64, Fault> {
     let OpenedKernel { kernel, start } = Kernel::new(alloc, 3, 2)?;
-    open(rt, kernel.start(start))
+    open(rt, &kernel, kernel.start(start))
 }
 
 fn main(rt: HostRuntime) -> io::Result<()> {

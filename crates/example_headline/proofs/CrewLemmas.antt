@@ -1,14 +1,17 @@
 -- How a reader and writers go on, by what their ends' calls answer.
-use Rattle.std.proofs.Common.{◌≡◌, ◌≢◌, ◌+◌, ◌++◌, ◌<◌, ℕ, suc, List, [], ◌∷◌, length, map}
-use Rattle.std.proofs.Common.{refl, false}
+use Rattle.std.proofs.Common.{◌≡◌, ◌≢◌, ◌⊎◌, ◌↔◌, inl, inr, ◌+◌, ◌++◌, ◌<◌, ℕ, suc, List, [], ◌∷◌}
+use Rattle.std.proofs.Common.{length, map, refl, false}
 use Rattle.std.proofs.Common.{reverse, sym, ◌∙◌, ap, subst, arith, Some, None}
 use Rattle.std.proofs.Common.{◌≤◌, Bool}
-use Rattle.std.specs.Prelude.{Result, Ok, Err, take, slice_index_or, vec_items}
+use Rattle.std.specs.Prelude.{Option, Result, Ok, Err, IsErrOf, take, slice_index_or, vec_items, ⊤}
 use Rattle.std.specs.List.{AllByRecursion, AllZip}
 use Rattle.std.proofs.lemmas.List.{append-nil, map-append, reverse-append}
 use Rattle.sync_base.specs.declared.fault.Fault.{Fault}
+use Rattle.sync_base.specs.declared.fault.Fault.TheVariants as fault
+use Rattle.sync_base.specs.declared.limits.TheConstants.{ATOMIC_SIZE}
 use Rattle.sync_base.specs.declared.mode.Mode.{Mode}
 use Rattle.sync_base.specs.declared.mode.Mode.TheVariants.{Message, Stream}
+use Rattle.rendez_words.specs.declared.words.Words.{Words}
 use Rattle.sleep_wakeup.specs.Kernel.{Running}
 use Rattle.histories.specs.declared.account.Account.{Account}
 use Rattle.block_queue.specs.declared.entry.Entry.{Entry}
@@ -25,15 +28,23 @@ use Rattle.pipe_dev.specs.Parts.{Part}
 use Rattle.pipe_dev.specs.declared.filling.Stop.TheVariants as stop
 use Rattle.pipe_dev.specs.ReadCalls.{AsksForBytes, FindsEnd, InMode, Reads, TriesOn}
 use Rattle.pipe_dev.specs.ReadCalls.{calling, came_to, lent_at, reader_of}
-use Rattle.pipe_dev.specs.Rendezes.{reader_rendez}
+use Rattle.pipe_dev.specs.Rendezes.{OwnsRow, WakesIfKnown, reader_rendez}
 use Rattle.pipe_dev.proofs.AskedLemmas.{LastAsked, last_asked}
 use Rattle.pipe_dev.specs.Sides.{HasWrittenJust}
-use Rattle.pipe_dev.specs.WriteCalls.{Writes, call_of, writer_of}
+use Rattle.pipe_dev.specs.WriteCalls.{HasHang, Writes, call_of, writer_of}
 use Rattle.pipe_dev.proofs.SideLemmas.{reads_add, read_ends_hang_up, writes_add, write_ends_hang_up}
 use Rattle.example_headline.specs.declared.reader.Reader.{Reader}
 use Rattle.example_headline.specs.declared.writer.Writer.{Writer}
-use Rattle.example_headline.specs.Crew.{HasReadOn, HasSeenEnd, HasWrittenOn, CountsAll}
-use Rattle.example_headline.specs.Crew.{HasEnded, ends_of, messages_of}
+use Rattle.example_headline.specs.Crew.{HasReadOn, HasSeenEnd, HasWrittenOn, CountsAll, EndsFor}
+use Rattle.example_headline.specs.Crew.{HasEnded, HasStopped, HaveWoken, IfItsReader, KeepsAll}
+use Rattle.example_headline.specs.Crew.{OfMine, SeesEnd, StaysEnded, StopsFor, WasRefused}
+use Rattle.example_headline.specs.Crew.{WasStopped, ends_of, messages_of}
+use Rattle.example_headline.specs.Refusals.{TellsWhyRefused, TellsWhyStopped}
+use Rattle.example_headline.proofs.MineLemmas.{of_mine_any, of_mine_more, of_mine_new}
+use Rattle.example_headline.proofs.ReadLemmas.{reads_tell_why, reads_wake}
+use Rattle.example_headline.proofs.RefusalLemmas.{hung_woken, refused_still, stops_still}
+use Rattle.example_headline.proofs.WakeLemmas.{all_more}
+use Rattle.example_headline.proofs.WriteLemmas.{writes_tell_why, writes_wake}
 
 -- ---- the reader
 
@@ -64,29 +75,108 @@ grown (Ok read.End) buffer parts parts' adds =
 grown (Err why) buffer parts parts' adds =
     ap bytes_of adds ∙ sym (append-nil (bytes_of parts))
 
+-- a reader of the pipe's kernel is still, where its end and its words stayed
+kernel_still : (old new : Reader) → new.proc.words ≡ old.proc.words
+    → IsSameReadEnd old.end new.end
+    → OwnsRow old.proc.words old.end.row → OwnsRow new.proc.words new.end.row
+kernel_still old new words same owns =
+    subst (λ (w : Words). OwnsRow w new.end.row) (sym words)
+    (subst (OwnsRow old.proc.words) (sym same.row) owns)
+
+-- what holds of such a reader held of it before
+back : (old new : Reader) → new.proc.words ≡ old.proc.words → IsSameReadEnd old.end new.end
+    → (Before After : Reader → Type 0)
+    → (old.end.row.mode ≡ Message → OwnsRow old.proc.words old.end.row → Before old → After new)
+    → IfItsReader Before old → IfItsReader After new
+back old new words same Before After step holds mode owns =
+    let was : OwnsRow old.proc.words old.end.row
+    = subst (λ (w : Words). OwnsRow w old.end.row) words
+    (subst (OwnsRow new.proc.words) same.row owns) in
+    let its : old.end.row.mode ≡ Message = sym (ap (λ (r : Row). r.mode) same.row) ∙ mode in
+    step its was (holds its was)
+
 -- a read whose part is kept
-pub read_on : (old new : Reader) (before after : Running) (buffer : List ℕ)
-    (answer : Result ReadAnswer Fault) (buffer' : List ℕ) → buffer ≢ []
-    → Reads (key_of old.end.queue) old.end.row (calling (reader_of old.end before) buffer) answer
-    (calling (reader_of new.end after) buffer') → IsSameReadEnd old.end new.end
+pub read_on : (old new : Reader) (buffer : List ℕ) (answer : Result ReadAnswer Fault)
+    (buffer' : List ℕ) → buffer ≢ []
+    → Reads (key_of old.end.queue) old.end.row (calling (reader_of old.end old.proc) buffer) answer
+    (calling (reader_of new.end new.proc) buffer') → IsSameReadEnd old.end new.end
+    → new.proc.words ≡ old.proc.words
     → new.got.items ≡ old.got.items ++ got_by answer buffer' → HasReadOn old new
-read_on old new before after buffer answer buffer' room reads same got =
-    record {
-      end = same;
-      keeps = λ kept.
-          let call =
-          reads_add old.end new.end before after buffer answer buffer' room reads same kept.parts
-          kept.just in
-          record {
-            mode = ap (λ (r : Row). r.mode) same.row ∙ kept.mode;
+read_on old new buffer answer buffer' room reads same words got =
+    record { end = same; keeps = keeps }
+  where
+    keeps : KeepsAll old → KeepsAll new
+    keeps kept =
+        let was = kept.got in
+        let call =
+        reads_add old.end new.end old.proc new.proc buffer answer buffer' room reads same was.parts
+        was.just in
+        record {
+          got = record {
+            mode = ap (λ (r : Row). r.mode) same.row ∙ was.mode;
             parts = call.parts';
             just = call.just;
-            bytes = grown answer buffer' kept.parts call.parts'
-                (subst (λ (m : Mode). AddsRead m answer buffer' kept.parts call.parts') kept.mode
+            bytes = grown answer buffer' was.parts call.parts'
+                (subst (λ (m : Mode). AddsRead m answer buffer' was.parts call.parts') was.mode
                 call.added)
-                ∙ (ap (λ (xs : List (List ℕ)). xs ++ got_by answer buffer') kept.bytes ∙ sym got);
+                ∙ (ap (λ (xs : List (List ℕ)). xs ++ got_by answer buffer') was.bytes ∙ sym got);
           };
+          kernel = kernel_still old new words same kept.kernel;
+          woken = subst (λ (r : Row).
+              OfMine 0 (HaveWoken new.proc.process.trace r) new.end.account) (sym same.row)
+              (reads_wake (key_of old.end.queue) old.end.row was.mode
+              (reader_of old.end old.proc) buffer answer
+              (calling (reader_of new.end new.proc) buffer') reads kept.woken);
+        }
+
+-- the answer of a read that is refused for this
+abbrev pub as_read : Fault → Result ReadAnswer Fault
+as_read why = Err why
+
+-- the answer of a write that is refused for this
+abbrev pub as_write : Fault → Result ℕ Fault
+as_write why = Err why
+
+-- a read that is refused tells why
+pub read_stops : (old new : Reader) (buffer : List ℕ) (why : Fault) (buffer' : List ℕ)
+    → Reads (key_of old.end.queue) old.end.row (calling (reader_of old.end old.proc) buffer)
+    (Err why) (calling (reader_of new.end new.proc) buffer') → IsSameReadEnd old.end new.end
+    → new.proc.words ≡ old.proc.words → ¬ IsErrOf (as_read why) fault.BadCount
+    → (OwnsRow old.proc.words old.end.row → ¬ IsErrOf (as_read why) fault.NoRendez)
+    → StopsFor why new
+read_stops old new buffer why buffer' reads same words some known =
+    record {
+      told = back old new words same (λ reader. ⊤) (WasStopped why)
+          (λ mode owns none.
+          reads_tell_why (key_of old.end.queue) old.end.row mode (reader_of old.end old.proc)
+          buffer (Err why) (calling (reader_of new.end new.proc) buffer') reads some (known owns))
+          (λ mode owns. tt);
     }
+
+-- the fault that is answered is the one that came
+abbrev fault_in : Result Bool Fault → Fault
+fault_in (Ok more) = fault.Memory
+fault_in (Err why) = why
+
+-- it is the same
+pub same_fault : (answer : Result Bool Fault) (came other why : Fault) → answer ≡ Err came
+    → came ≡ other → answer ≡ Err why → other ≡ why
+same_fault answer came other why is same told =
+    sym same ∙ (sym (ap fault_in is) ∙ ap fault_in told)
+
+-- so a reader stops for it
+pub stops_same : (reader : Reader) (came why : Fault) → came ≡ why → StopsFor came reader
+    → StopsFor why reader
+stops_same reader came why same stops =
+    subst (λ (f : Fault). StopsFor f reader) same stops
+
+-- one that has no memory for it was refused before its read
+pub stops_for_memory : (reader : Reader) (answer : Result Bool Fault) (came why : Fault)
+    → answer ≡ Err came → came ≡ fault.Memory → answer ≡ Err why → StopsFor why reader
+stops_for_memory reader answer came why is memory told =
+    stops_same reader fault.Memory why
+    (same_fault answer came fault.Memory why is memory told)
+    (record { told = λ mode owns. of_mine_any 0 reader.end.account })
 
 -- a read that was answered the end has seen it
 pub sees_end : (key : Key) (row : Row) (old end : ReadSide) (before after : Running)
@@ -118,32 +208,75 @@ sees_end key row old end before after buffer buffer' mode reads = by row.mode mo
         }
     by Stream is tries = cc
 
--- a reader that hung up has read on: its end has read no more, and it keeps what it had got
-pub hung_read : (old new : Reader)
-    → Enters (key_of old.end.queue) (Hung 0) old.end.account new.end.account
-    → new.end.rest ≡ old.end.rest → IsSameReadEnd old.end new.end → new.got.items ≡ old.got.items
-    → HasReadOn old new
-hung_read old new enters rest same got =
-    record {
-      end = same;
-      keeps = λ kept.
-          let call = read_ends_hang_up old.end new.end enters rest same kept.parts kept.just in
+-- a reader that hung up has read on: its end has read no more
+module _ (old new : Reader)
+    (enters : Enters (key_of old.end.queue) (Hung 0) old.end.account new.end.account)
+    (woken : WakesIfKnown old.end.row old.proc new.proc.process)
+    (same : IsSameReadEnd old.end new.end) (words : new.proc.words ≡ old.proc.words) where
+  -- it keeps what it had got
+  pub hung_read : new.end.rest ≡ old.end.rest → new.got.items ≡ old.got.items
+      → HasReadOn old new
+  hung_read rest got = record { end = same; keeps = keeps }
+    where
+      keeps : KeepsAll old → KeepsAll new
+      keeps kept =
+          let was = kept.got in
+          let call = read_ends_hang_up old.end new.end enters rest same was.parts was.just in
           record {
-            mode = ap (λ (r : Row). r.mode) same.row ∙ kept.mode;
-            parts = call.parts';
-            just = call.just;
-            bytes = ap bytes_of call.added ∙ (kept.bytes ∙ sym got);
-          };
+            got = record {
+              mode = ap (λ (r : Row). r.mode) same.row ∙ was.mode;
+              parts = call.parts';
+              just = call.just;
+              bytes = ap bytes_of call.added ∙ (was.bytes ∙ sym got);
+            };
+            kernel = kernel_still old new words same kept.kernel;
+            woken = subst (λ (r : Row).
+                OfMine 0 (HaveWoken new.proc.process.trace r) new.end.account) (sym same.row)
+                (hung_woken (key_of old.end.queue) old.end.row 0 old.end.account new.end.account
+                old.proc.process new.proc.process enters (woken.known kept.kernel) kept.woken);
+          }
+
+  -- and it tells why it stopped
+  pub hung_stops : (why : Fault) → new.stopped ≡ Some why → StopsFor why old → HasStopped new
+  hung_stops why is stops =
+      record {
+        ends = subst (λ (stopped : Option Fault). IfItsReader (EndsFor stopped) new) (sym is)
+            (back old new words same (WasStopped why) (EndsFor (Some why))
+            (λ mode owns was. (
+              of_mine_new (key_of old.end.queue) (Hung 0) 0 old.end.account new.end.account HasHang
+                  enters refl (λ mine. tt),
+              of_mine_more (key_of old.end.queue) (Hung 0) 0 old.end.account new.end.account
+                  (λ mine. TellsWhyStopped why mine old.proc.process.trace)
+                  (λ mine. TellsWhyStopped why mine new.proc.process.trace) enters refl
+                  (λ mine tells.
+                  stops_still 0 mine old.proc.process.trace new.proc.process.trace
+                  (all_more old.end.row old.proc.process new.proc.process (woken.known owns)) why
+                  tells) was,
+            )) stops.told);
+      }
+
+-- and so does one that has seen the end
+pub stops_at_end : (reader : Reader) → reader.stopped ≡ None → SeesEnd reader → HasStopped reader
+stops_at_end reader none sees =
+    record {
+      ends = subst (λ (stopped : Option Fault). IfItsReader (EndsFor stopped) reader) (sym none)
+          sees.seen;
     }
 
 -- a reader that made no call has read on
 pub same_reader : (reader : Reader) → HasReadOn reader reader
 same_reader reader = record { end = record { queue = refl; row = refl }; keeps = λ kept. kept }
 
--- so has one that says anew whether it came to the end
-pub said_anew : (old new : Reader) (said : Bool) → HasReadOn old new
-    → HasReadOn old (record new { to_end = said })
-said_anew old new said on = record { end = on.end; keeps = on.keeps }
+-- so has one that says anew why it stopped
+pub said_anew : (old new : Reader) (said : Option Fault) → HasReadOn old new
+    → HasReadOn old (record new { stopped = said })
+said_anew old new said on =
+    record {
+      end = on.end;
+      keeps = λ kept.
+          let keeps = on.keeps kept in
+          record { got = keeps.got; kernel = keeps.kernel; woken = keeps.woken };
+    }
 
 -- whoever read on, and then read on again, has read on
 pub read_then : (old between new : Reader) → HasReadOn old between → HasReadOn between new
@@ -157,65 +290,205 @@ read_then old between new first second =
       keeps = λ kept. second.keeps (first.keeps kept);
     }
 
--- some bytes
+-- a buffer of some bytes is not empty
 pub some_room : (xs : List ℕ) (count : ℕ) → length xs ≡ count → 0 < count → xs ≢ []
 some_room xs count many some none =
     let e : length xs ≡ 0 = ap length none in absurd (omega (arith, e, many, some))
 
 -- ---- a writer
 
+-- a writer of the pipe's kernel is still, where its end and its words stayed
+kernel_stays : (old new : Writer) → new.proc.words ≡ old.proc.words
+    → IsSameWriteEnd old.end new.end
+    → OwnsRow old.proc.words old.end.row → OwnsRow new.proc.words new.end.row
+kernel_stays old new words same owns =
+    subst (λ (w : Words). OwnsRow w new.end.row) (sym words)
+    (subst (OwnsRow old.proc.words) (sym same.row) owns)
+
+-- and was before
+kernel_was : (old new : Writer) → new.proc.words ≡ old.proc.words
+    → IsSameWriteEnd old.end new.end
+    → OwnsRow new.proc.words new.end.row → OwnsRow old.proc.words old.end.row
+kernel_was old new words same owns =
+    subst (λ (w : Words). OwnsRow w old.end.row) words
+    (subst (OwnsRow new.proc.words) same.row owns)
+
+-- its wakeups are those of the same end
+woken_there : (old new : Writer) → IsSameWriteEnd old.end new.end
+    → OfMine (old.end.writer + 1) (HaveWoken new.proc.process.trace old.end.row) new.end.account
+    → OfMine (new.end.writer + 1) (HaveWoken new.proc.process.trace new.end.row) new.end.account
+woken_there old new same woken =
+    subst (λ (r : Row).
+    OfMine (new.end.writer + 1) (HaveWoken new.proc.process.trace r) new.end.account)
+    (sym same.row)
+    (subst (λ (n : ℕ).
+    OfMine (n + 1) (HaveWoken new.proc.process.trace old.end.row) new.end.account)
+    (sym same.writer) woken)
+
 -- a write that is counted where it was accepted
-pub written_on : (old new : Writer) (before after : Running) (block : List ℕ)
-    (answer : Result ℕ Fault)
-    → Writes (call_of old.end block) (writer_of old.end before) answer (writer_of new.end after)
-    → IsSameWriteEnd old.end new.end → new.messages ≡ old.messages
+pub written_on : (old new : Writer) (block : List ℕ) (answer : Result ℕ Fault)
+    → Writes (call_of old.end block) (writer_of old.end old.proc) answer
+    (writer_of new.end new.proc)
+    → IsSameWriteEnd old.end new.end → new.proc.words ≡ old.proc.words
+    → new.messages ≡ old.messages
     → take new.accepted new.messages.items
     ≡ take old.accepted old.messages.items ++ written_by answer block
     → (old.accepted ≤ length old.messages.items → new.accepted ≤ length new.messages.items)
-    → (HasEnded old → HasEnded new) → HasWrittenOn old new
-written_on old new before after block answer writes same messages count within ended =
+    → HasWrittenOn old new
+written_on old new block answer writes same words messages count within =
+    record { end = same; messages = messages; counts = counts_on }
+  where
+    counts_on : CountsAll old → CountsAll new
+    counts_on counts =
+        record {
+          just = subst (HasWrittenJust new.end) (sym count)
+              ((writes_add old.end new.end old.proc new.proc block answer writes same).just
+              (take old.accepted old.messages.items) counts.just);
+          within = within counts.within;
+          kernel = kernel_stays old new words same counts.kernel;
+          woken = woken_there old new same
+              (writes_wake (call_of old.end block) (writer_of old.end old.proc) answer
+              (writer_of new.end new.proc) writes counts.woken);
+        }
+
+-- a write that was refused tells why
+pub write_refused : (old new : Writer) (block : List ℕ) (why : Fault)
+    → Writes (call_of old.end block) (writer_of old.end old.proc) (Err why)
+    (writer_of new.end new.proc)
+    → IsSameWriteEnd old.end new.end → new.proc.words ≡ old.proc.words
+    → new.messages ≡ old.messages → new.accepted ≡ old.accepted
+    → block ≡ slice_index_or old.messages.items old.accepted []
+    → old.accepted < length old.messages.items
+    → (IsErrOf (as_write why) fault.TooBig → ATOMIC_SIZE < length block)
+    → (OwnsRow old.proc.words old.end.row → ¬ IsErrOf (as_write why) fault.NoRendez)
+    → OwnsRow new.proc.words new.end.row → WasRefused why new
+write_refused old new block why writes same words messages accepted is left big known owns =
+    let next : block ≡ slice_index_or new.messages.items new.accepted []
+    = is
+    ∙ (ap (λ ms. slice_index_or (vec_items ms) old.accepted []) (sym messages)
+    ∙ ap (λ n. slice_index_or new.messages.items n []) (sym accepted)) in
     record {
-      end = same;
-      messages = messages;
-      counts = λ counts.
-          record {
-            just = subst (HasWrittenJust new.end) (sym count)
-                ((writes_add old.end new.end before after block answer writes same).just
-                (take old.accepted old.messages.items) counts.just);
-            within = within counts.within;
-          };
-      ended = ended;
+      left = let many : length new.messages.items ≡ length old.messages.items
+          = ap (λ ms. length (vec_items ms)) messages in
+          omega (arith, many, accepted, left);
+      told = subst (λ (n : ℕ). OfMine (n + 1)
+          (λ mine. TellsWhyRefused why n (slice_index_or new.messages.items new.accepted []) mine
+          new.proc.process.trace) new.end.account) (sym same.writer)
+          (subst (λ (b : List ℕ). OfMine (old.end.writer + 1)
+          (λ mine. TellsWhyRefused why old.end.writer b mine new.proc.process.trace)
+          new.end.account) next
+          (writes_tell_why (call_of old.end block) (writer_of old.end old.proc) (Err why)
+          (writer_of new.end new.proc) writes big
+          (known (kernel_was old new words same owns))));
     }
+
+-- a process of the pipe's kernel is not refused as a foreign one
+pub is_not_foreign : (count : ℕ) (Owns : Type 0) (why : Fault)
+    → (IsErrOf (as_write why) fault.TooBig ↔ (ATOMIC_SIZE < count))
+    → (count ≤ ATOMIC_SIZE → (IsErrOf (as_write why) fault.NoRendez ↔ ¬ Owns))
+    → Owns → ¬ IsErrOf (as_write why) fault.NoRendez
+is_not_foreign count Owns why big foreign owns is = by (either count ATOMIC_SIZE)
+  where
+    either : (a b : ℕ) → (a ≤ b) ⊎ (b < a)
+    either a b = grind arith
+
+    by : (count ≤ ATOMIC_SIZE) ⊎ (ATOMIC_SIZE < count) → ⊥
+    by (inl small) = (foreign small).0 is owns
+    by (inr large) = let too_big = big.1 large in cc
 
 -- a writer one of whose writes was refused has ended
-pub refused_ends : (fault : Fault) (most counted : ℕ) → Some fault ≡ None → most ≤ counted
-refused_ends fault most counted none = cc
+pub ends_refused : (writer : Writer) (why : Fault) → writer.refused ≡ Some why
+    → (OwnsRow writer.proc.words writer.end.row → WasRefused why writer) → HasEnded writer
+ends_refused writer why is told =
+    record {
+      all = λ none. let refused : Some why ≡ None = sym is ∙ none in absurd (cc);
+      refused = λ other other_is owns.
+          let same : Some why ≡ Some other = sym is ∙ other_is in
+          subst (λ (f : Fault). WasRefused f writer) (cc) (told owns);
+    }
+
+-- and so has one all of whose messages are accepted
+pub ends_with_all : (writer : Writer) → writer.refused ≡ None
+    → length writer.messages.items ≤ writer.accepted → HasEnded writer
+ends_with_all writer none most =
+    record {
+      all = λ same. most;
+      refused = λ why is owns.
+          let refused : None ≡ Some why = sym none ∙ is in absurd (cc);
+    }
 
 -- a writer that hung up has written on: its messages are the same, and no more are accepted
-pub hung_write : (old new : Writer)
-    → Enters (key_of old.end.queue) (Hung (old.end.writer + 1)) old.end.account new.end.account
-    → IsSameWriteEnd old.end new.end → new.messages ≡ old.messages
-    → new.accepted ≡ old.accepted → new.refused ≡ old.refused → HasWrittenOn old new
-hung_write old new enters same messages accepted refused =
-    let taken : take new.accepted new.messages.items ≡ take old.accepted old.messages.items
-    = ap (λ n. take n new.messages.items) accepted
-    ∙ ap (λ ms. take old.accepted (vec_items ms)) messages in
-    let many : length new.messages.items ≡ length old.messages.items
-    = ap (λ ms. length (vec_items ms)) messages in
-    record {
-      end = same;
-      messages = messages;
-      counts = λ counts.
-          record {
-            just = subst (HasWrittenJust new.end)
-                (append-nil (take old.accepted old.messages.items) ∙ sym taken)
-                ((write_ends_hang_up old.end new.end enters same).just
-                (take old.accepted old.messages.items) counts.just);
-            within = let least = counts.within in omega (arith, accepted, many, least);
-          };
-      ended = λ ended none.
-          let least = ended (sym refused ∙ none) in omega (arith, accepted, many, least);
-    }
+module _ (old new : Writer)
+    (enters : Enters (key_of old.end.queue) (Hung (old.end.writer + 1)) old.end.account
+    new.end.account)
+    (woken : WakesIfKnown old.end.row old.proc new.proc.process)
+    (same : IsSameWriteEnd old.end new.end) (words : new.proc.words ≡ old.proc.words)
+    (messages : new.messages ≡ old.messages) (accepted : new.accepted ≡ old.accepted) where
+  many : length new.messages.items ≡ length old.messages.items
+  many = ap (λ ms. length (vec_items ms)) messages
+
+  -- it counts what it counted
+  pub hung_write : HasWrittenOn old new
+  hung_write =
+      let taken : take new.accepted new.messages.items ≡ take old.accepted old.messages.items
+      = ap (λ n. take n new.messages.items) accepted
+      ∙ ap (λ ms. take old.accepted (vec_items ms)) messages in
+      record {
+        end = same;
+        messages = messages;
+        counts = λ counts.
+            record {
+              just = subst (HasWrittenJust new.end)
+                  (append-nil (take old.accepted old.messages.items) ∙ sym taken)
+                  ((write_ends_hang_up old.end new.end enters same).just
+                  (take old.accepted old.messages.items) counts.just);
+              within = let least = counts.within in omega (arith, accepted, many, least);
+              kernel = kernel_stays old new words same counts.kernel;
+              woken = woken_there old new same
+                  (hung_woken (key_of old.end.queue) old.end.row (old.end.writer + 1)
+                  old.end.account new.end.account old.proc.process new.proc.process enters
+                  (woken.known counts.kernel) counts.woken);
+            };
+      }
+
+  -- and it has ended if it had
+  pub hung_ended : new.refused ≡ old.refused → StaysEnded old new
+  hung_ended refused ended =
+      record {
+        all = λ none.
+            let least = ended.all (sym refused ∙ none) in omega (arith, accepted, many, least);
+        refused = λ why is owns.
+            let was = kernel_was old new words same owns in
+            let told = ended.refused why (sym refused ∙ is) was in
+            let next : slice_index_or old.messages.items old.accepted []
+            ≡ slice_index_or new.messages.items new.accepted []
+            = ap (λ ms. slice_index_or (vec_items ms) old.accepted []) (sym messages)
+            ∙ ap (λ n. slice_index_or new.messages.items n []) (sym accepted) in
+            record {
+              left = let left = told.left in omega (arith, many, accepted, left);
+              told = subst (λ (n : ℕ). OfMine (n + 1)
+                  (λ mine. TellsWhyRefused why n
+                  (slice_index_or new.messages.items new.accepted []) mine
+                  new.proc.process.trace) new.end.account) (sym same.writer)
+                  (subst (λ (b : List ℕ). OfMine (old.end.writer + 1)
+                  (λ mine. TellsWhyRefused why old.end.writer b mine new.proc.process.trace)
+                  new.end.account) next
+                  (of_mine_more (key_of old.end.queue) (Hung (old.end.writer + 1))
+                  (old.end.writer + 1) old.end.account new.end.account
+                  (λ mine. TellsWhyRefused why old.end.writer
+                  (slice_index_or old.messages.items old.accepted []) mine
+                  old.proc.process.trace)
+                  (λ mine. TellsWhyRefused why old.end.writer
+                  (slice_index_or old.messages.items old.accepted []) mine
+                  new.proc.process.trace) enters refl
+                  (λ mine tells.
+                  refused_still (old.end.writer + 1) mine old.proc.process.trace
+                  new.proc.process.trace
+                  (all_more old.end.row old.proc.process new.proc.process (woken.known was))
+                  old.end.writer (slice_index_or old.messages.items old.accepted []) why
+                  tells) told.told));
+            };
+      }
 
 -- a writer that made no call has written on
 pub same_writer : (writer : Writer) → HasWrittenOn writer writer
@@ -224,7 +497,21 @@ same_writer writer =
       end = record { queue = refl; row = refl; writer = refl };
       messages = refl;
       counts = λ counts. counts;
-      ended = λ ended. ended;
+    }
+
+-- so has one that tells no refusal
+pub tells_none : (writer : Writer) → HasWrittenOn writer (record writer { refused = None })
+tells_none writer =
+    record {
+      end = record { queue = refl; row = refl; writer = refl };
+      messages = refl;
+      counts = λ counts.
+          record {
+            just = counts.just;
+            within = counts.within;
+            kernel = counts.kernel;
+            woken = counts.woken;
+          };
     }
 
 -- whoever wrote on, and then wrote on again, has written on
@@ -239,7 +526,6 @@ write_then old between new first second =
       };
       messages = second.messages ∙ first.messages;
       counts = λ counts. second.counts (first.counts counts);
-      ended = λ ended. second.ended (first.ended ended);
     }
 
 -- ---- all writers
@@ -268,14 +554,18 @@ ended_at_each (old ∷ olds) (new ∷ news) many each = (
   ended_at_each olds news (omega (arith, many)) (λ i d low. each (suc i) d (omega (arith, low))),
 )
 
--- writers that had ended have ended when they have written on
-pub still_ended : (olds news : List Writer) → AllZip HasWrittenOn olds news
+-- writers that had ended have ended still, where that is true at each place
+pub still_ended : (olds news : List Writer) → length news ≡ length olds
+    → ((i : ℕ) (d : Writer) → i < length olds
+    → StaysEnded (slice_index_or olds i d) (slice_index_or news i d))
     → AllByRecursion HasEnded olds → AllByRecursion HasEnded news
-still_ended [] [] on ended = tt
-still_ended [] (new ∷ news) on ended = absurd on
-still_ended (old ∷ olds) [] on ended = absurd on
-still_ended (old ∷ olds) (new ∷ news) on ended =
-    (on.0.ended ended.0, still_ended olds news on.1 ended.1)
+still_ended olds [] many each ended = tt
+still_ended [] (new ∷ news) many each ended = cc
+still_ended (old ∷ olds) (new ∷ news) many each ended = (
+  each 0 old (omega arith) ended.0,
+  still_ended olds news (omega (arith, many))
+      (λ i d low. each (suc i) d (omega (arith, low))) ended.1,
+)
 
 -- writers that have written on have the same messages
 pub same_messages : (olds news : List Writer) → AllZip HasWrittenOn olds news

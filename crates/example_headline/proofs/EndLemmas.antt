@@ -13,6 +13,7 @@ use Rattle.block_queue.specs.declared.entry.Entry.TheVariants.{Block, NotYet, En
 use Rattle.block_queue.specs.History.{QueueState, IsRight, after_entry, opening_state}
 use Rattle.block_queue.specs.Meaning.{queue_meaning, queue_after}
 use Rattle.block_queue.specs.Seats.{key_of}
+use Rattle.block_queue.specs.declared.view.Key.{Key}
 use Rattle.pipe_dev.specs.declared.closing.Held.{Held}
 use Rattle.pipe_dev.specs.Ends.{ReadSide, WriteSide}
 use Rattle.pipe_dev.specs.Finishing.{FinishesEnds, rest_bytes}
@@ -61,23 +62,36 @@ is_over first opening (entry ∷ since) past legal =
     stays_over first (state_after (queue_meaning first) opening (since ++ End ∷ past)) entry
     (is_over first opening since past legal.1) legal.0
 
--- and a finish behind it finds nothing
-pub nothing_is_held : (read : ReadSide) (parts : List Part) (writes : List WriteSide) (held : Held)
-    → HasSeenEnd read → FinishesEnds read parts writes held → HoldsNothing held
-nothing_is_held read parts writes held seen ends =
-    let key = key_of read.queue in
-    let found = ends.finishes in
-    let since = found.seen.since in
-    let history : found.history ≡ since ++ End ∷ seen.past
-    = found.seen.new_is ∙ ap (λ (entries : List Entry). since ++ entries) seen.newest in
-    let over : IsOver (queue_after key found.history).pipe
-    = subst (λ (entries : List Entry). IsOver (queue_after key entries).pipe) (sym history)
-    (is_over key.first (opening_state key.limit) since seen.past
-    (subst (IsLegal (queue_meaning key.first) (opening_state key.limit)) history
-    found.legal.legal)) in
-    record {
-      rest = found.rest ∙ ap rest_bytes seen.rest;
-      writes = found.writes
-          ∙ none_is_left (queue_after key found.history).pipe.accepted
-          (queue_after key found.history).pipe.read_whole over.none;
-    }
+-- so the history in which a finish finds it
+module _ (read : ReadSide) (parts : List Part) (writes : List WriteSide) (held : Held)
+    (seen : HasSeenEnd read) (ends : FinishesEnds read parts writes held) where
+  abbrev key : Key
+  key = key_of read.queue
+
+  abbrev history : List Entry
+  history = ends.finishes.history
+
+  left_over : IsOver (queue_after key history).pipe
+  left_over =
+      let since = ends.finishes.seen.since in
+      let is : history ≡ since ++ End ∷ seen.past
+      = ends.finishes.seen.new_is
+      ∙ ap (λ (entries : List Entry). since ++ entries) seen.newest in
+      subst (λ (entries : List Entry). IsOver (queue_after key entries).pipe) (sym is)
+      (is_over key.first (opening_state key.limit) since seen.past
+      (subst (IsLegal (queue_meaning key.first) (opening_state key.limit)) is
+      ends.finishes.legal.legal))
+
+  -- nothing is held
+  pub nothing_is_held : HoldsNothing held
+  nothing_is_held =
+      record {
+        rest = ends.finishes.rest ∙ ap rest_bytes seen.rest;
+        writes = ends.finishes.writes
+            ∙ none_is_left (queue_after key history).pipe.accepted
+            (queue_after key history).pipe.read_whole left_over.none;
+      }
+
+  -- and the direction is hung up
+  pub is_held_hung : held.hung ≡ true
+  is_held_hung = ends.finishes.hung ∙ left_over.hung

@@ -1,16 +1,34 @@
 -- What is known of a reader and of writers, before and after threads have them.
-use Rattle.std.specs.Prelude.{◌≡◌, ◌≤◌, List, ◌∷◌, ℕ, true, map, length, reverse, take, None}
+use Rattle.std.specs.Prelude.{◌≡◌, ◌+◌, ◌≤◌, ◌<◌, List, [], ◌∷◌, ℕ, map, length, reverse, take}
+use Rattle.std.specs.Prelude.{slice_index_or, Option, Some, None}
 use Rattle.std.specs.List.{AllByRecursion}
+use Rattle.histories.specs.declared.account.Account.{Account}
+use Rattle.sync_base.specs.declared.fault.Fault.{Fault}
 use Rattle.sync_base.specs.declared.mode.Mode.TheVariants.{Message}
+use Rattle.sleep_core.specs.Runs as core
 use Rattle.block_queue.specs.declared.entry.Entry.{Entry}
 use Rattle.block_queue.specs.declared.entry.Entry.TheVariants.{End}
 use Rattle.block_queue.specs.Seats.{key_of}
 use Rattle.pipe_dev.specs.Ends.{ReadSide, WriteSide, AreAllEnds, IsSameReadEnd, IsSameWriteEnd}
+use Rattle.pipe_dev.specs.declared.row.Row.{Row}
 use Rattle.pipe_dev.specs.Parts.{Part}
+use Rattle.pipe_dev.specs.Rendezes.{OwnsRow}
 use Rattle.pipe_dev.specs.Sides.{HasReadJust, HasWrittenJust, AreUnused}
+use Rattle.pipe_dev.specs.WriteCalls.{HasHang}
 use Rattle.example_headline.specs.declared.crew.Crew.{Crew}
 use Rattle.example_headline.specs.declared.reader.Reader.{Reader}
 use Rattle.example_headline.specs.declared.writer.Writer.{Writer}
+use Rattle.example_headline.specs.Refusals.{TellsWhyRefused, TellsWhyStopped}
+use Rattle.example_headline.specs.Wakes.{Wakes, HasReturnedIn}
+
+-- this holds of the entries that the seat with this number has made, the newest first
+abbrev pub OfMine : ℕ → (List Entry → Type 0) → Account Entry → Type 0
+OfMine number Holds account =
+    AllByRecursion (λ share. share.number ≡ number → Holds share.mine) account.shares
+
+-- the wakeup of each entry has returned in these steps
+abbrev pub HaveWoken : List core.Entry → Row → List Entry → Type 0
+HaveWoken steps row mine = AllByRecursion (Wakes (HasReturnedIn steps) row) mine
 
 -- the end has read just these parts of messages, the oldest first
 pub record HasGot (read : ReadSide) (got : List (List ℕ)) : Type 0 where
@@ -25,46 +43,95 @@ pub record HasSeenEnd (read : ReadSide) : Type 0 where
   pub newest : read.account.seen ≡ End ∷ past
   pub rest : read.rest ≡ None
 
--- the end of the reader has, whose reads stop at the end of a write
-abbrev pub IsAtEnd : Reader → Type 0
-IsAtEnd reader = reader.end.row.mode ≡ Message → HasSeenEnd reader.end
+-- the reader keeps just what its end has read, is of the kernel that has the Rendez of the pipe,
+-- and has made the wakeups that its calls owe
+pub record KeepsAll (reader : Reader) : Type 0 where
+  pub got : HasGot reader.end reader.got.items
+  pub kernel : OwnsRow reader.proc.words reader.end.row
+  pub woken : OfMine 0 (HaveWoken reader.proc.process.trace reader.end.row) reader.end.account
 
--- the reader keeps just what its end has read
-abbrev pub KeepsAll : Reader → Type 0
-KeepsAll reader = HasGot reader.end reader.got.items
+-- a read of it was refused for this
+abbrev pub WasStopped : Fault → Reader → Type 0
+WasStopped why reader =
+    OfMine 0 (λ mine. TellsWhyStopped why mine reader.proc.process.trace) reader.end.account
 
--- the writer counts just what its end has written: the first so many of its messages
+-- the reader came to the end; or it stopped for this, and then hung up
+abbrev pub EndsFor : Option Fault → Reader → Type 0
+EndsFor None reader = HasSeenEnd reader.end
+EndsFor (Some why) reader = OfMine 0 HasHang reader.end.account × WasStopped why reader
+
+-- this holds of a reader of the pipe's kernel, whose reads stop at the end of a write
+abbrev pub IfItsReader : (Reader → Type 0) → Reader → Type 0
+IfItsReader Holds reader =
+    reader.end.row.mode ≡ Message → OwnsRow reader.proc.words reader.end.row → Holds reader
+
+-- it has seen the end
+pub record SeesEnd (reader : Reader) : Type 0 where
+  pub seen : IfItsReader (λ reader. HasSeenEnd reader.end) reader
+
+-- a read of it was refused for this
+pub record StopsFor (why : Fault) (reader : Reader) : Type 0 where
+  pub told : IfItsReader (WasStopped why) reader
+
+-- it came to the end, or says why not
+pub record HasStopped (reader : Reader) : Type 0 where
+  pub ends : IfItsReader (EndsFor reader.stopped) reader
+
+-- the writer counts just what its end has written, the first so many of its messages; it is of the
+-- kernel that has the Rendez of the pipe, and has made the wakeups that its calls owe
 pub record CountsAll (writer : Writer) : Type 0 where
   pub just : HasWrittenJust writer.end (take writer.accepted writer.messages.items)
   pub within : writer.accepted ≤ length writer.messages.items
+  pub kernel : OwnsRow writer.proc.words writer.end.row
+  pub woken : OfMine (writer.end.writer + 1) (HaveWoken writer.proc.process.trace writer.end.row)
+      writer.end.account
 
--- the writer has written all its messages, if no write was refused
-abbrev pub HasEnded : Writer → Type 0
-HasEnded writer = writer.refused ≡ None → length writer.messages.items ≤ writer.accepted
+-- the write of the next of its messages was refused for this
+pub record WasRefused (why : Fault) (writer : Writer) : Type 0 where
+  pub left : writer.accepted < length writer.messages.items
+  pub told : OfMine (writer.end.writer + 1)
+      (λ mine. TellsWhyRefused why writer.end.writer
+      (slice_index_or writer.messages.items writer.accepted []) mine writer.proc.process.trace)
+      writer.end.account
+
+-- the writer has written all its messages, or says why not, if it is of the pipe's kernel
+pub record HasEnded (writer : Writer) : Type 0 where
+  pub all : writer.refused ≡ None → length writer.messages.items ≤ writer.accepted
+  pub refused : (why : Fault) → writer.refused ≡ Some why
+      → OwnsRow writer.proc.words writer.end.row → WasRefused why writer
 
 -- the reader has read on: its end stays where it is, and it keeps all if it did
 pub record HasReadOn (old new : Reader) : Type 0 where
   pub end : IsSameReadEnd old.end new.end
   pub keeps : KeepsAll old → KeepsAll new
 
--- the writer has written on: its end stays where it is, its messages are the same, it counts all if
--- it did, and has ended if it had
+-- the writer has written on: its end stays where it is, its messages are the same, and it counts
+-- all if it did
 pub record HasWrittenOn (old new : Writer) : Type 0 where
   pub end : IsSameWriteEnd old.end new.end
   pub messages : new.messages ≡ old.messages
   pub counts : CountsAll old → CountsAll new
-  pub ended : HasEnded old → HasEnded new
+
+-- it has ended if it had
+abbrev pub StaysEnded : Writer → Writer → Type 0
+StaysEnded old new = HasEnded old → HasEnded new
 
 -- these are all ends of one direction, which knows how many writers it has
 pub record AreEnds (read : ReadSide) (writes : List WriteSide) : Type 0 where
   pub all : AreAllEnds read writes
   pub known : read.row.writers ≡ (key_of read.queue).writers
 
+-- the seat with this number has made no entry
+abbrev pub HasMadeNone : ℕ → Account Entry → Type 0
+HasMadeNone number account = OfMine number (λ mine. mine ≡ []) account
+
 -- on which nothing was called, and whose reads stop at the end of a write
 pub record IsFresh (read : ReadSide) (writes : List WriteSide) : Type 0 where
   pub ends : AreEnds read writes
   pub mode : read.row.mode ≡ Message
   pub unused : AreUnused read writes
+  pub reader : HasMadeNone 0 read.account
+  pub writers : AllByRecursion (λ write. HasMadeNone (write.writer + 1) write.account) writes
 
 abbrev pub ends_of : List Writer → List WriteSide
 ends_of writers = map (λ writer. writer.end) writers
@@ -78,8 +145,12 @@ pub record IsReady (crew : Crew) : Type 0 where
   pub keeps : KeepsAll crew.reader
   pub counts : AllByRecursion CountsAll crew.writers.items
 
--- such a crew whose writers have ended, and whose reader came to the end if it says so
+-- its reader has this end
+pub record HasReadEnd (read : ReadSide) (crew : Crew) : Type 0 where
+  pub same : crew.reader.end ≡ read
+
+-- such a crew whose writers have ended, and whose reader has stopped
 pub record HasWorked (crew : Crew) : Type 0 where
   pub ready : IsReady crew
-  pub end : crew.reader.to_end ≡ true → IsAtEnd crew.reader
+  pub stopped : HasStopped crew.reader
   pub ended : AllByRecursion HasEnded crew.writers.items

@@ -1,13 +1,29 @@
 -- The headline, of what a run gives back.
 use Rattle.std.specs.Prelude.{◌≡◌, ◌+◌, ◌++◌, ◌<◌, ◌≤◌, ℕ, ⊤, List, [], ◌∷◌, map, length, reverse}
-use Rattle.std.specs.Prelude.{Option, None, true, take}
+use Rattle.std.specs.Prelude.{Option, Some, None, true, take, slice_index_or}
 use Rattle.std.specs.List.{AllByRecursion}
+use Rattle.histories.specs.History.{IsHistory, entries_by}
+use Rattle.sync_base.specs.declared.fault.Fault.{Fault}
 use Rattle.sync_base.specs.Write.{Write}
+use Rattle.rendez_words.specs.Process.{Process}
+use Rattle.block_queue.specs.declared.entry.Entry.{Entry}
+use Rattle.block_queue.specs.declared.view.Key.{Key}
+use Rattle.block_queue.specs.History.{opening_state, seat_of}
+use Rattle.block_queue.specs.Meaning.{queue_meaning}
 use Rattle.pipe_dev.specs.declared.closing.Held.{Held}
-use Rattle.pipe_dev.specs.Finishing.{rest_bytes}
+use Rattle.pipe_dev.specs.declared.row.Row.{Row}
+use Rattle.pipe_dev.specs.Finishing.{accepted_in, left_state, rest_bytes}
+use Rattle.pipe_dev.specs.Laws.{NoWriteAfterHangup}
 use Rattle.pipe_dev.specs.Parts.{Part, pieces_of, continued, whole_from, bytes_by}
+use Rattle.pipe_dev.specs.WaitLaws.{AreReadersWokenAbove, AreWritersWokenAbove}
+use Rattle.pipe_dev.specs.WriteCalls.{HasHang}
 use Rattle.example_headline.specs.declared.settling.Outcome.{Outcome}
 use Rattle.example_headline.specs.declared.settling.Written.{Written}
+use Rattle.example_headline.specs.Refusals.{EachHungupIsAfterHangup}
+use Rattle.example_headline.specs.Refusals.{TellsWhyRefused, TellsWhyStopped}
+use Rattle.example_headline.specs.Wakes.{Wakes, HasWoken}
+
+-- ---- what was read and is held
 
 -- what was accepted of a writer, the oldest first
 abbrev pub accepted_of : Written → List (List ℕ)
@@ -48,4 +64,77 @@ pub record IsWholeAndOnce (given : List (List (List ℕ))) (outcome : Outcome) :
   pub theirs : AreTheirs 0 outcome.writers.items (whole_from 0 accepted)
   pub own : map (λ written. written.messages.items) outcome.writers.items ≡ given
   pub first : AllByRecursion AreFirst outcome.writers.items
-  pub all_read : outcome.to_end ≡ true → HoldsNothing outcome.held
+  pub all_read : outcome.stopped ≡ None → HoldsNothing outcome.held
+
+-- Where no write was refused, every message that was given was accepted.
+abbrev pub AllAreAccepted : List (List (List ℕ)) → Outcome → Type 0
+AllAreAccepted given outcome =
+    AllByRecursion (λ written. written.refused ≡ None) outcome.writers.items
+    → map accepted_of outcome.writers.items ≡ given
+
+-- ---- what the history of the direction tells
+
+-- The write of the next message of a writer was refused for this: so its own entries and the steps
+-- of its process tell.
+pub record WasRefusedFor (why : Fault) (writer : ℕ) (written : Written) (mine : List Entry)
+    (process : Process) : Type 0 where
+  pub left : written.accepted < length written.messages.items
+  pub told : TellsWhyRefused why writer
+      (slice_index_or written.messages.items written.accepted []) mine process.trace
+
+-- A writer: its entries are that just these of its messages were accepted; where it tells a
+-- refusal, its write was refused just so; and each wakeup that its calls owe has returned.
+pub record IsWriterOf (history : List Entry) (row : Row) (writer : ℕ) (written : Written)
+    (process : Process) : Type 0 where
+  pub accepted : accepted_in (entries_by seat_of (writer + 1) history) ≡ accepted_of written
+  pub refused : (why : Fault) → written.refused ≡ Some why
+      → WasRefusedFor why writer written (entries_by seat_of (writer + 1) history) process
+  pub woken : AllByRecursion (Wakes (HasWoken process) row)
+      (entries_by seat_of (writer + 1) history)
+
+-- these are the writers from this one on, each with its process
+abbrev pub AreWritersOf : List Entry → Row → ℕ → List Written → List Process → Type 0
+AreWritersOf history row writer [] [] = ⊤
+AreWritersOf history row writer (written ∷ others) (process ∷ processes) =
+    IsWriterOf history row writer written process
+    × AreWritersOf history row (writer + 1) others processes
+AreWritersOf history row writer writtens processes = ⊥
+
+-- The reader came to the end of a direction that was hung up; or it tells why it stopped, a read
+-- was refused just so, and it hung up. Each wakeup that its calls owe has returned.
+pub record IsReaderOf (history : List Entry) (row : Row) (outcome : Outcome) (process : Process)
+    : Type 0 where
+  pub ended : outcome.stopped ≡ None → outcome.held.hung ≡ true
+  pub stopped : (why : Fault) → outcome.stopped ≡ Some why
+      → TellsWhyStopped why (entries_by seat_of 0 history) process.trace
+  pub hung : (why : Fault) → outcome.stopped ≡ Some why
+      → HasHang (entries_by seat_of 0 history)
+  pub woken : AllByRecursion (Wakes (HasWoken process) row) (entries_by seat_of 0 history)
+
+-- The one history of the direction, newest first, of which all calls of the run are the entries.
+pub record HasHistory (key : Key) (first : ℕ) (outcome : Outcome) : Type 0 where
+  pub history : List Entry
+  pub legal : IsHistory (queue_meaning key.first) (opening_state key.limit) (key.writers + 1)
+      history
+  -- no write is accepted after a hangup, and none is told of a hangup before one
+  pub accepted : NoWriteAfterHangup history
+  pub hungup : EachHungupIsAfterHangup history
+  pub hung : outcome.held.hung ≡ (left_state key history).hung
+  -- who was told to wait is woken above the number that it was told
+  pub reader_above : AreReadersWokenAbove history
+  pub writers_above : AreWritersWokenAbove history
+  -- who made it: the Rendez of the direction from this one on, the reader, and each writer
+  pub row : Row
+  pub row_first : row.first ≡ first
+  pub row_writers : row.writers ≡ length outcome.writers.items
+  pub reader : Process
+  pub writers : List Process
+  pub is_reader : IsReaderOf history row outcome reader
+  pub are_writers : AreWritersOf history row 0 outcome.writers.items writers
+
+-- The headline, of a run on a direction of this queue, whose Rendez are those from this one on.
+pub record KeepsHeadline (key : Key) (first : ℕ) (given : List (List (List ℕ)))
+    (outcome : Outcome) : Type 0 where
+  pub whole : IsWholeAndOnce given outcome
+  pub complete : AllAreAccepted given outcome
+  pub made : HasHistory key first outcome

@@ -1,2 +1,4 @@
 pub mod Crew
 pub mod Headline
+pub mod Refusals
+pub mod Wakes

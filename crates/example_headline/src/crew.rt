@@ -1,8 +1,9 @@
 //! A reader and writers who have all ends of one direction.
-ghost use Rattle.std.specs.Prelude.{◌≡◌, true, IfOk, map, vec_items};
+ghost use Rattle.std.specs.Prelude.{◌≡◌, IfOk, map, vec_items};
 ghost use Rattle.std.specs.List.{AllByRecursion, AllZip};
+ghost use Rattle.pipe_dev.specs.Rendezes.{OwnsRow};
 ghost use Rattle.example_headline.specs.Crew.{IsFresh, IsReady, HasReadOn, HasWrittenOn, HasEnded};
-ghost use Rattle.example_headline.specs.Crew.{IsAtEnd, messages_of};
+ghost use Rattle.example_headline.specs.Crew.{HasReadEnd, HasStopped, messages_of};
 
 use crate::reader::Reader;
 use crate::writer::Writer;
@@ -32,7 +33,10 @@ pub fn muster<'p>(
     messages: Vec<Vec<Piece>>,
 ) -> Result<Crew<'p>, Fault>
     requires fresh { IsFresh read writes.items }
+    requires kernel { OwnsRow reader.words read.row }
+    requires roster { roster.words ≡ reader.words }
     ensures ready { IfOk result IsReady }
+    ensures read { IfOk result (HasReadEnd read.entry) }
     ensures given { IfOk result (λ crew.
         messages_of crew.writers.items ≡ map vec_items messages.items) }
 {
@@ -59,7 +63,7 @@ pub fn muster<'p>(
         end: read,
         proc: parent,
         got: Vec::new(alloc),
-        to_end: false,
+        stopped: None,
     };
     Ok(Crew { reader, writers })
 }
@@ -68,7 +72,7 @@ pub fn muster<'p>(
 /// it.
 pub fn work<'p, R: Threads + Wait + Sync>(rt: &R, alloc: Global, crew: Crew<'p>) -> Crew<'p>
     ensures reader { HasReadOn crew.entry.reader result.reader }
-    ensures end { result.reader.to_end ≡ true → IsAtEnd result.reader }
+    ensures stopped { HasStopped result.reader }
     ensures writers { AllZip HasWrittenOn crew.entry.writers.items result.writers.items }
     ensures ended { AllByRecursion HasEnded result.writers.items }
 {
@@ -84,7 +88,7 @@ pub fn work<'p, R: Threads + Wait + Sync>(rt: &R, alloc: Global, crew: Crew<'p>)
         { write_and_hang_up(rt, alloc, writers.as_mut_slice()) },
         &mut ||
             ensures on { HasReadOn reader.entry reader.exit }
-            ensures end { reader.exit.to_end ≡ true → IsAtEnd reader.exit }
+            ensures stopped { HasStopped reader.exit }
         { reader.read_all(rt, alloc) },
     );
     Crew { reader, writers }

@@ -49,6 +49,14 @@ fn count(pieces: &[Piece]) -> u64 {
     bytes
 }
 
+/// Tells why somebody stopped early, if it did.
+fn tell_why(rt: &HostRuntime, who: &str, why: Option<Fault>) -> io::Result<()> {
+    match why {
+        Some(fault) => println!(rt; "{who} stopped: {fault}"),
+        None => Ok(()),
+    }
+}
+
 /// Tells what came of a run.
 fn tell(rt: &HostRuntime, told: Result<Outcome, Fault>) -> io::Result<()> {
     match told {
@@ -56,14 +64,16 @@ fn tell(rt: &HostRuntime, told: Result<Outcome, Fault>) -> io::Result<()> {
             Outcome {
                 writers,
                 got,
-                to_end: _,
+                stopped,
                 held,
             },
         ) => {
             let (read, left) = (count(got.as_slice()), held.writes.len());
             for written in writers.as_slice() {
                 println!(rt; "{} messages of a writer were accepted", written.accepted)?;
+                tell_why(rt, "the writer", written.refused)?;
             }
+            tell_why(rt, "the reader", stopped)?;
             println!(rt; "{read} bytes were read, and {left} messages are held")
         }
         Err(fault) => println!(rt; "the run failed: {fault}"),

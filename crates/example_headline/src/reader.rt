@@ -8,25 +8,28 @@ use sync_base::{Fault, Piece};
 /// How many bytes a read has room for.
 const ROOM: usize = 4;
 
-/// The reader: its end and its process, what it got, part by part, and whether it came to the end.
+/// The reader: its end and its process, what it got, part by part, and why it stopped where it did
+/// not come to the end.
 #[derive(Drop)]
 pub struct Reader<'p> {
     pub(crate) end: ReadEnd<'p>,
     pub(crate) proc: Proc<'p>,
     pub(crate) got: Vec<Piece>,
-    pub(crate) to_end: bool,
+    pub(crate) stopped: Option<Fault>,
 }
 
 impl<'p> Reader<'p> {
-    ghost use Rattle.std.specs.Prelude.{◌≡◌, true, false, Ok};
-    ghost use Rattle.example_headline.specs.Crew.{HasReadOn, IsAtEnd};
+    ghost use Rattle.std.specs.Prelude.{◌≡◌, false, Ok, Err};
+    ghost use Rattle.sync_base.specs.declared.fault.Fault.{Fault};
+    ghost use Rattle.example_headline.specs.Crew.{HasReadOn, HasStopped, SeesEnd, StopsFor};
 
     /// Reads one part, and keeps it; `false` at the end. Memory is taken before the read, so that
     /// what was read is surely kept.
     fn read_once<R: Wait>(&mut self, rt: &R, alloc: Global) -> Result<bool, Fault>
         ensures on { HasReadOn self.old self.new }
-        ensures end { result ≡ Ok false → IsAtEnd self.new }
-        ensures still { self.new.to_end ≡ self.old.to_end }
+        ensures end { result ≡ Ok false → SeesEnd self.new }
+        ensures stops { (why : Fault) → result ≡ Err why → StopsFor why self.new }
+        ensures still { self.new.stopped ≡ self.old.stopped }
     {
         let mut buffer = vec![in alloc; 0; ROOM]?;
         self.got.reserve(1)?;
@@ -40,29 +43,27 @@ impl<'p> Reader<'p> {
         }
     }
 
-    /// Hangs the direction up.
-    fn hangup(&mut self)
+    /// Hangs the direction up, since a read was refused for this.
+    fn hang_up_for(&mut self, why: Fault)
         ensures on { HasReadOn self.old self.new }
-        ensures still { self.new.to_end ≡ self.old.to_end }
+        ensures stopped { StopsFor why self.old → HasStopped self.new }
     {
         self.end.hangup(&mut self.proc);
+        self.stopped = Some(why);
     }
 
     /// Reads to the end. Where it can read no more it hangs up, so that no writer waits for ever.
     pub fn read_all<R: Wait>(&mut self, rt: &R, alloc: Global)
         ensures on { HasReadOn self.old self.new }
-        ensures end { self.new.to_end ≡ true → IsAtEnd self.new }
+        ensures stopped { HasStopped self.new }
     {
-        self.to_end = false;
+        self.stopped = None;
         'reading: for _ in rt.forever() {
             match self.read_once(rt, alloc) {
                 Ok(true) => {}
-                Ok(false) => {
-                    self.to_end = true;
-                    return;
-                }
-                Err(_) => {
-                    self.hangup();
+                Ok(false) => return,
+                Err(why) => {
+                    self.hang_up_for(why);
                     return;
                 }
             }

@@ -1,6 +1,7 @@
 //! The whole run, and its one contract.
-ghost use Rattle.std.specs.Prelude.{IfOk, map, vec_items};
-ghost use Rattle.example_headline.specs.Headline.{IsWholeAndOnce};
+ghost use Rattle.std.specs.Prelude.{IfOk, length, map, vec_items};
+ghost use Rattle.pipe_dev.specs.Openings.{key_for};
+ghost use Rattle.example_headline.specs.Headline.{KeepsHeadline};
 
 use crate::crew::{muster, work};
 use crate::settling::{Outcome, settle};
@@ -21,9 +22,11 @@ pub fn run<R: Threads + Wait + Sync>(
     messages: Vec<Vec<Piece>>,
 ) -> Result<Outcome, Fault>
     // For each writer, what was read and what is held is what was accepted, and this is the first
-    // of the messages that it was given: all of them, if none of its writes was refused. Where the
-    // reader came to the end, nothing is held.
-    ensures whole { IfOk result (IsWholeAndOnce (map vec_items messages.items)) }
+    // of the messages that it was given: all of them, if none of its writes was refused. No write
+    // was accepted after a hangup; whoever fell asleep below a wakeup that has returned is posted
+    // no more; and a refusal that is told was one, but for one as out of memory.
+    ensures headline { IfOk result (KeepsHeadline (key_for limit (length messages.items)) 0
+        (map vec_items messages.items)) }
 {
     let writers = messages.len() as u64;
     if writers > MAX_WRITERS {

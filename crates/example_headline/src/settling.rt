@@ -1,7 +1,8 @@
 //! How all ends are given back, and what is told of it.
 ghost use Rattle.std.specs.Prelude.{IfOk};
 ghost use Rattle.example_headline.specs.Crew.{HasWorked, messages_of};
-ghost use Rattle.example_headline.specs.Headline.{IsWholeAndOnce};
+ghost use Rattle.block_queue.specs.Seats.{key_of};
+ghost use Rattle.example_headline.specs.Headline.{KeepsHeadline};
 
 use crate::crew::Crew;
 use crate::reader::Reader;
@@ -19,27 +20,28 @@ pub struct Written {
     pub refused: Option<Fault>,
 }
 
-/// What came of a run: what was accepted of each writer, what the reader got, part by part, whether
-/// it came to the end, and what the direction still holds.
+/// What came of a run: what was accepted of each writer, what the reader got, part by part, why it
+/// stopped where it did not come to the end, and what the direction still holds.
 #[derive(Drop)]
 pub struct Outcome {
     pub writers: Vec<Written>,
     pub got: Vec<Piece>,
-    pub to_end: bool,
+    pub stopped: Option<Fault>,
     pub held: Held,
 }
 
 /// Gives all ends back.
 pub fn settle(alloc: Global, crew: Crew<'_>) -> Result<Outcome, Fault>
     requires worked { HasWorked crew }
-    ensures whole { IfOk result (IsWholeAndOnce (messages_of crew.entry.writers.items)) }
+    ensures headline { IfOk result (KeepsHeadline (key_of crew.entry.reader.end.queue)
+        crew.entry.reader.end.row.first (messages_of crew.entry.writers.items)) }
 {
     let Crew { reader, writers } = crew;
     let Reader {
         end: read,
         proc: _,
         got,
-        to_end,
+        stopped,
     } = reader;
     let mut ends = Vec::with_capacity(alloc, writers.len())?;
     let mut told = Vec::with_capacity(alloc, writers.len())?;
@@ -62,7 +64,7 @@ pub fn settle(alloc: Global, crew: Crew<'_>) -> Result<Outcome, Fault>
         Ok(held) => Ok(Outcome {
             writers: told,
             got,
-            to_end,
+            stopped,
             held,
         }),
         Err(_) => Err(Fault::Memory),

@@ -17,13 +17,14 @@ pub struct Writer<'p> {
 }
 
 impl<'p> Writer<'p> {
-    ghost use Rattle.example_headline.specs.Crew.{HasWrittenOn, HasEnded};
+    ghost use Rattle.example_headline.specs.Crew.{HasWrittenOn, HasEnded, StaysEnded};
 
     /// Writes its messages in their order, until one is not accepted.
     pub fn write_all<R: Wait>(&mut self, rt: &R, alloc: Global)
         ensures on { HasWrittenOn self.old self.new }
         ensures ended { HasEnded self.new }
     {
+        self.refused = None;
         'writing: while let Some(message) = self.messages.get(self.accepted) {
             match self
                 .end
@@ -41,6 +42,7 @@ impl<'p> Writer<'p> {
     /// Hangs the direction up.
     pub fn hangup(&mut self)
         ensures on { HasWrittenOn self.old self.new }
+        ensures ended { StaysEnded self.old self.new }
     {
         self.end.hangup(&mut self.proc);
     }

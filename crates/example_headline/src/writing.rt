@@ -1,7 +1,7 @@
 //! All writers at once.
 ghost use Rattle.std.specs.Prelude.{◌<◌, ℕ, length, slice_index_or};
 ghost use Rattle.std.specs.List.{AllByRecursion, AllZip};
-ghost use Rattle.example_headline.specs.Crew.{HasWrittenOn, HasEnded};
+ghost use Rattle.example_headline.specs.Crew.{HasWrittenOn, HasEnded, StaysEnded};
 
 use crate::writer::Writer;
 use std::alloc::Global;
@@ -26,6 +26,8 @@ pub fn write_each<R: Threads + Wait + Sync>(rt: &R, alloc: Global, writers: &mut
 /// Each writer hangs up, one after the other.
 pub fn hangup_each<R: Threads + Sync>(rt: &R, writers: &mut [Writer<'_>])
     ensures on { (place : ℕ) (other : _) → place < length writers.old → HasWrittenOn
+        (slice_index_or writers.old place other) (slice_index_or writers.new place other) }
+    ensures ended { (place : ℕ) (other : _) → place < length writers.old → StaysEnded
         (slice_index_or writers.old place other) (slice_index_or writers.new place other) }
 {
     for_each_mut(rt, writers, 1, &|_, writer: &mut Writer| writer.hangup());

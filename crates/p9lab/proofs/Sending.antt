@@ -27,9 +27,6 @@ use Rattle.p9lab.specs.contracts.actor.Back as Back
 use Rattle.p9lab.specs.contracts.actor.Beside as Beside
 use Rattle.p9lab.specs.contracts.actor.Role as Role
 use Rattle.p9lab.proofs.roles.peer.Peer.TheSendSync as peer
-use Rattle.p9lab.proofs.roles.queue.Keeper.TheSendSync as keeper
-use Rattle.p9lab.proofs.roles.queue.Putter.TheSendSync as putter
-use Rattle.p9lab.proofs.roles.queue.Taker.TheSendSync as taker
 use Rattle.p9lab.specs.contracts.roles.lone.Both as Both
 use Rattle.p9lab.specs.contracts.roles.lone.Lone as Lone
 
@@ -104,9 +101,6 @@ ruleset beside_parts = (
   crosses,
   sharer_field,
   lone_field,
-  putter.the_field_send,
-  taker.the_field_send,
-  keeper.the_field_send,
   peer.the_send,
 )
 

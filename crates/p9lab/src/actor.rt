@@ -5,7 +5,6 @@ use crate::roles::holder::{call_holder, call_holder_probed};
 use crate::roles::lone::{Lone, call_lone};
 use crate::roles::peer::{Peer, call_peer};
 use crate::roles::plain::{call_plain, call_proc_probed};
-use crate::roles::queue::{Keeper, Putter, Taker, call_keeper, call_putter, call_taker};
 use crate::roles::reader::call_reader;
 use crate::roles::sharer::call_sharer;
 use crate::roles::writer::call_writer;
@@ -26,15 +25,12 @@ pub enum Role {
     Beside(Beside),
 }
 
-/// Who has an end in turn with others, a member in its own hands, or a seat below processes.
+/// Who has an end in turn with others, or an end or a member in its own hands.
 #[derive(Drop)]
 pub enum Beside {
     Sharer(Sharer<'static, 'static, 'static>),
     Lone(Lone),
     Peer(Option<Peer>),
-    Putter(Putter),
-    Taker(Taker),
-    Keeper(Option<Keeper>),
 }
 
 /// A process, the bytes that it writes or has read, and the points that its last probed call has
@@ -65,7 +61,7 @@ pub fn run<R: Wait>(
     desk: &'static Desk,
 ) -> Back {
     let answer = if stops.probed {
-        make_probed(rt, alloc, &mut actor, call, stops, desk)
+        make_probed(rt, &mut actor, call, stops, desk)
     } else {
         make_call(rt, alloc, &mut actor, call)
     };
@@ -91,7 +87,7 @@ fn make_call<R: Wait>(rt: &R, alloc: Global, actor: &mut Actor, call: Call) -> A
     }
 }
 
-// A call of a role that is in turn with others, in its own hands, or below processes.
+// A call of a role that is in turn with others, or in its own hands.
 fn call_beside<R: Wait>(
     rt: &R,
     alloc: Global,
@@ -104,16 +100,12 @@ fn call_beside<R: Wait>(
         Beside::Sharer(sharer) => call_sharer(rt, sharer, bytes, call),
         Beside::Lone(lone) => call_lone(rt, alloc, lone, bytes, watch, call),
         Beside::Peer(kept) => call_peer(rt, kept, call, &mut NoProbe),
-        Beside::Putter(putter) => call_putter(rt, alloc, putter, bytes, call, &mut NoProbe),
-        Beside::Taker(taker) => call_taker(taker, bytes, call, &mut NoProbe),
-        Beside::Keeper(kept) => call_keeper(rt, alloc, kept, bytes, call),
     }
 }
 
 // The same, at whose points the thread stands.
 fn make_probed<R: Wait>(
     rt: &R,
-    alloc: Global,
     actor: &mut Actor,
     call: Call,
     stops: Stops,
@@ -121,7 +113,6 @@ fn make_probed<R: Wait>(
 ) -> Answer {
     let Actor {
         role,
-        bytes,
         visits,
         watch,
         ..
@@ -138,22 +129,18 @@ fn make_probed<R: Wait>(
         Role::Writer(writer) => call_proc_probed(rt, &mut writer.proc, call, &mut probe),
         Role::Holder(holder) => call_holder_probed(rt, holder, watch, call, &mut probe),
         Role::Guest(guest) => call_guest_probed(rt, guest, watch, call, &mut probe),
-        Role::Beside(beside) => probe_beside(rt, alloc, beside, bytes, call, &mut probe),
+        Role::Beside(beside) => probe_beside(rt, beside, call, &mut probe),
     }
 }
 
-// The same of these roles, of which some take no probe.
+// The same of these roles, of which most take no probe.
 fn probe_beside<R: Wait>(
     rt: &R,
-    alloc: Global,
     beside: &mut Beside,
-    bytes: &mut Vec<u8>,
     call: Call,
     probe: &mut Visitor<'_>,
 ) -> Answer {
     match beside {
-        Beside::Putter(putter) => call_putter(rt, alloc, putter, bytes, call, probe),
-        Beside::Taker(taker) => call_taker(taker, bytes, call, probe),
         Beside::Peer(kept) => call_peer(rt, kept, call, probe),
         _ => Answer::of("not probed"),
     }

@@ -1,7 +1,7 @@
 //! Calls at whose points other lines are played.
 use crate::calling::{Leftover, Until, can_come, ending, has_come, interrupt_at, waiting};
 use crate::desk::Stops;
-use crate::scene::{Place, Scene, Stay, place_at};
+use crate::scene::{Scene, Shown, shown_of};
 use crate::steps::{Command, begin, command_of, is_alone, step};
 use plan9::Fault;
 use scene_text::answer::{Answer, refused};
@@ -338,34 +338,14 @@ fn play_act<R: Threads + Wait + Copy + Send + 'static>(
 fn told_in(scene: &mut Scene, number: u64, answer: Answer) -> Outcome {
     let Scene { places, told, .. } = scene;
     let from = told.len();
-    if tell_of(places, number, answer, told) {
+    let Shown { bytes, visits } = shown_of(places, number);
+    if tell_answer(told, answer, bytes, visits) {
         Outcome::Told(Span {
             from,
             to: told.len(),
         })
     } else {
         Outcome::Lost
-    }
-}
-
-// Tells an answer with what its process has read and visited, where it is here.
-fn tell_of(places: &Vec<Place>, number: u64, answer: Answer, told: &mut Vec<u8>) -> bool {
-    let Some(at) = place_at(places, number) else {
-        return tell_answer(told, answer, &[], &[]);
-    };
-    match places.get(at) {
-        Some(
-            Place {
-                stay: Stay::Here(actor),
-                ..
-            },
-        ) => tell_answer(
-            told,
-            answer,
-            actor.bytes.as_slice(),
-            actor.visits.as_slice(),
-        ),
-        _ => tell_answer(told, answer, &[], &[]),
     }
 }
 

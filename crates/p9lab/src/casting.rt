@@ -7,7 +7,6 @@ use crate::desk::Desk;
 use crate::objects::{Direction, Stock, lent_at, take_at};
 use crate::roles::lone::lone_at;
 use crate::roles::peer::{Peer, first_of, fork_peer};
-use crate::roles::queue::{keeper_at, putter_at, taker_at};
 use crate::roles::sharer::first_sharer;
 use crate::scene::{Place, Scene, Setup, Stay, begin, for_good, keep, place_at, push, set};
 use plan9::{
@@ -33,9 +32,6 @@ pub enum Part {
     Sharer,
     Lone,
     Peer,
-    Putter,
-    Taker,
-    Keeper,
 }
 
 /// A role with its object, and whether it is at the direction back.
@@ -89,9 +85,6 @@ fn part_of(word: &str) -> Option<Part> {
         "sharer" => Some(Part::Sharer),
         "lone" => Some(Part::Lone),
         "peer" => Some(Part::Peer),
-        "putter" => Some(Part::Putter),
-        "taker" => Some(Part::Taker),
-        "keeper" => Some(Part::Keeper),
         _ => None,
     }
 }
@@ -479,7 +472,7 @@ fn cast<R: Wait>(
             at(casting.object),
             proc,
         )?))),
-        _ => seat_at_queue(stock, casting),
+        Part::Writers | Part::Peer => Err(Fault::NoProc),
     }
 }
 
@@ -649,20 +642,6 @@ pub fn rfork_peer<R: Wait>(
         Ok(Some(child)) => Some(seat_peer(alloc, scene, child)),
         Ok(None) => Some(Answer::of("nobody")),
         Err(fault) => Some(refused(fault)),
-    }
-}
-
-// A seat of a queue, at which no process calls.
-fn seat_at_queue(stock: &mut Stock, casting: Casting) -> Result<Role, Fault> {
-    let place = at(casting.object);
-    match casting.part {
-        Part::Putter => Ok(Role::Beside(Beside::Putter(putter_at(&mut stock.queues, place)?))),
-        Part::Taker => Ok(Role::Beside(Beside::Taker(taker_at(&mut stock.queues, place)?))),
-        Part::Keeper => Ok(Role::Beside(Beside::Keeper(Some(keeper_at(
-            &mut stock.queues,
-            place,
-        )?)))),
-        _ => Err(Fault::NoProc),
     }
 }
 

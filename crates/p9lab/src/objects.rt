@@ -2,7 +2,6 @@
 ghost use Rattle.plan9.specs.Openings.{IsStartOf};
 
 use crate::roles::lone::Spot;
-use crate::roles::queue::Seats;
 use crate::roles::sharer::Sharing;
 use crate::scene::{Scene, keep, push};
 use plan9::{
@@ -36,7 +35,6 @@ pub struct Stock {
     pub clocks: Vec<Watch<'static>>,
     pub sharings: Vec<Sharing>,
     pub lones: Vec<Spot>,
-    pub queues: Vec<Seats>,
 }
 
 impl Stock {
@@ -49,7 +47,6 @@ impl Stock {
             clocks: Vec::new(alloc),
             sharings: Vec::new(alloc),
             lones: Vec::new(alloc),
-            queues: Vec::new(alloc),
         }
     }
 }

@@ -3,7 +3,7 @@ ghost use Rattle.std.specs.Prelude.{IfOk, IfSome};
 ghost use Rattle.sleep_wakeup.specs.Starts.{IsStartOf};
 
 use crate::acts::{Acts, Said, Span, leave, step_with_acts};
-use crate::scene::{Scene, Stay, begin, open, set};
+use crate::scene::{Scene, Shown, begin, open, set, shown_of};
 use plan9::{Fault, Kernel, OpenedKernel, Plan};
 use scene_text::answer::{Answer, fault_text, refused};
 use scene_text::lines::{Line, WORDS, Words, line_of, number_of, words_of};
@@ -219,20 +219,8 @@ fn put_line(page: &mut Page, scene: &Scene, answer: Answer, number: u64) {
     if answer.word.is_empty() {
         return page.end_line();
     }
-    let Some(at) = scene.place_of(number) else {
-        return page.put_answer(answer, &[], &[]);
-    };
-    match scene.places.get(at) {
-        Some(place) => match &place.stay {
-            Stay::Here(actor) => page.put_answer(
-                answer,
-                actor.bytes.as_slice(),
-                actor.visits.as_slice(),
-            ),
-            _ => page.put_answer(answer, &[], &[]),
-        },
-        None => page.put_answer(answer, &[], &[]),
-    }
+    let Shown { bytes, visits } = shown_of(&scene.places, number);
+    page.put_answer(answer, bytes, visits);
 }
 
 // What runs still is called off; what even then doesn't end is told. No act is left.

@@ -6,7 +6,6 @@ pub mod holder;
 pub mod lone;
 pub mod peer;
 pub mod plain;
-pub mod queue;
 pub mod reader;
 pub mod sharer;
 pub mod writer;

@@ -90,7 +90,18 @@ fn play_read<R: Threads + Wait + AllocGlobal + Copy + Send + 'static>(
     match text {
         Ok(text) => play_text(rt, rt.alloc(), turns, text.as_str(), page, out),
         Err(error) if error.kind() == ErrorKind::OutOfMemory => page.lack(),
-        Err(_) => page.miss(),
+        Err(error) => page.miss(why_unread(error.kind())),
     }
     let _ = page.report(name, err);
+}
+
+// Why a text can't be read, in words.
+fn why_unread(kind: ErrorKind) -> &'static str {
+    match kind {
+        ErrorKind::NotFound => "there is no such file",
+        ErrorKind::PermissionDenied => "no permission",
+        ErrorKind::IsADirectory => "it is a folder",
+        ErrorKind::InvalidData => "it has a byte that is no UTF-8",
+        _ => "a device fault",
+    }
 }

@@ -8,6 +8,7 @@ use crate::actor::{Actor, Back};
 use crate::desk::Desk;
 use crate::objects::Stock;
 use plan9::{Fault, Kernel, OpenedKernel, Proc, ProcStatus, Roster, Started};
+use scene_text::answer::Visit;
 use std::alloc::Global;
 use std::mem;
 use std::thread::JoinHandle;
@@ -131,6 +132,37 @@ impl Scene {
     /// The place of the process with this number, if it has one. Process 0 has none.
     pub fn place_of(&self, number: u64) -> Option<usize> {
         place_at(&self.places, number)
+    }
+}
+
+/// What an answer shows of a process: the bytes that it has read, and the points that its last call
+/// has visited.
+#[derive(Clone, Copy)]
+pub struct Shown<'a> {
+    pub bytes: &'a [u8],
+    pub visits: &'a [Visit],
+}
+
+/// What is shown of the process with this number; nothing where it is not here.
+pub fn shown_of(places: &Vec<Place>, number: u64) -> Shown<'_> {
+    let nothing = Shown {
+        bytes: &[],
+        visits: &[],
+    };
+    let Some(at) = place_at(places, number) else {
+        return nothing;
+    };
+    match places.get(at) {
+        Some(
+            Place {
+                stay: Stay::Here(actor),
+                ..
+            },
+        ) => Shown {
+            bytes: actor.bytes.as_slice(),
+            visits: actor.visits.as_slice(),
+        },
+        _ => nothing,
     }
 }
 

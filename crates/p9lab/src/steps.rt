@@ -12,13 +12,12 @@ use crate::objects::{
 };
 use crate::roles::lone::make_lone;
 use crate::roles::plain::call_at_once;
-use crate::roles::queue::{QueueKind, make_queue};
 use crate::roles::sharer::make_shared;
 use crate::roles::writer::fill;
 use crate::scene::{Place, Scene, Stay, set};
 use plan9::{Fault, Flags, Mode, RendezId};
 use scene_text::answer::{Answer, numbered, refused};
-use scene_text::lines::{WORDS, Words, number_of};
+use scene_text::lines::{Words, number_of};
 use scene_text::verbs::{Call, Verb, call_of, flags_of, kinds_of};
 use std::alloc::Global;
 use std::sync::Wait;
@@ -78,7 +77,6 @@ pub fn step<R: Threads + Wait + Copy + Send + 'static>(
         "stranger" => admit_stranger(rt, alloc, scene, words),
         "rendez" => look_at_rendez(alloc, scene, words),
         "lone" | "lone_stream" => make_pair(alloc, scene, words),
-        "queue" | "lone_queue" => make_seats(alloc, scene, words),
         "share" => share(alloc, scene, words),
         "left" => left(rt, scene, words),
         "0" => step_zero(rt, alloc, scene, words),
@@ -127,32 +125,6 @@ fn share(alloc: Global, scene: &mut Scene, words: &Words<'_>) -> Option<Answer> 
         }
         None => Some(refused(Fault::NoProc)),
     }
-}
-
-// A queue of blocks: `queue LIMIT WRITERS FIRST` or `lone_queue LIMIT FIRST`, where FIRST may be
-// left out.
-fn make_seats(alloc: Global, scene: &mut Scene, words: &Words<'_>) -> Option<Answer> {
-    let kind = kind_of(words)?;
-    Some(made(make_queue(alloc, &mut scene.stock.queues, kind)))
-}
-
-// The queue that a line asks for.
-fn kind_of(words: &Words<'_>) -> Option<QueueKind> {
-    let lone = words.list[0] == "lone_queue";
-    let known = if lone { 2 } else { 3 };
-    if words.apart || words.count < known || words.count > known + 1 {
-        return None;
-    }
-    Some(QueueKind {
-        limit: number_of(words.list[1])?,
-        writers: if lone { 1 } else { number_of(words.list[2])? },
-        first: if words.count == known {
-            None
-        } else {
-            Some(number_of(words.list[known.min(WORDS - 1)])?)
-        },
-        lone,
-    })
 }
 
 // A line that makes an object.
@@ -461,7 +433,7 @@ pub fn begin<R: Threads + Wait + Copy + Send + 'static>(
 // Lays the bytes that a call writes where its process has its bytes.
 fn prepare(actor: &mut Actor, call: Call, words: &Words<'_>) -> bool {
     match call.verb {
-        Verb::Write | Verb::WriteLong | Verb::Put => fill(&mut actor.bytes, words.list[2]),
+        Verb::Write | Verb::WriteLong => fill(&mut actor.bytes, words.list[2]),
         Verb::WriteWithin => fill(&mut actor.bytes, words.list[4]),
         _ => true,
     }

@@ -16,7 +16,7 @@ use Rattle.pipe_dev.specs.Rendezes.{reader_rendez}
 use Rattle.waiting.specs.declared.call.Reply.{Reply}
 use Rattle.waiting.specs.declared.call.Reply.TheVariants.{Done, Refused}
 use Rattle.waiting.specs.Waiting.{Point, Waited, reply_of}
-use Rattle.pipe_dev.proofs.SightLemmas.{refused_for, waited_ends}
+use Rattle.pipe_dev.proofs.OutcomeLemmas.{refused_for, waited_ends}
 
 -- a failed sleep has other reasons than what comes before the first request
 failed : (before after : Process) (rendez : RendezId) (number : ℕ) (why : Fault)

@@ -15,7 +15,7 @@ use Rattle.pipe_dev.specs.Rendezes.{writer_rendez}
 use Rattle.pipe_dev.specs.WriteCalls.{Writes, writing, call_with}
 use Rattle.waiting.specs.declared.call.Reply.TheVariants.{Refused}
 use Rattle.waiting.specs.Waiting.{Waited}
-use Rattle.pipe_dev.proofs.SightLemmas.{refused_for}
+use Rattle.pipe_dev.proofs.OutcomeLemmas.{refused_for}
 
 -- the queue refuses a write for two reasons
 refused : (call : WriteCall) (old : Writer) (why : Fault) (new : Writer)

@@ -47,7 +47,7 @@ use Rattle.pipe_dev.proofs.LawLemmas.{each_share_is_read_whole_and_once}
 use Rattle.pipe_dev.proofs.ReadingLemmas.{what_is_read_is_right}
 use Rattle.pipe_dev.proofs.RoundLemmas.{has_room}
 use Rattle.pipe_dev.proofs.SeatingLemmas.{either}
-use Rattle.pipe_dev.proofs.SightLemmas.{waited_ends}
+use Rattle.pipe_dev.proofs.OutcomeLemmas.{waited_ends}
 
 -- ---- one step
 

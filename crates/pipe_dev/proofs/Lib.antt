@@ -1,5 +1,5 @@
 pub mod PartLemmas
-pub mod SightLemmas
+pub mod OutcomeLemmas
 mod TimedLemmas
 pub mod AskedLemmas
 pub mod LawLemmas

@@ -10,13 +10,12 @@ use Rattle.block_queue.specs.declared.entry.Entry.{Entry}
 use Rattle.block_queue.specs.declared.entry.Entry.TheVariants as entry
 use Rattle.block_queue.specs.declared.view.Key.{Key}
 use Rattle.block_queue.specs.Meaning.{Enters}
+use Rattle.pipe_dev.specs.declared.answers.ReadAnswer.{ReadAnswer}
 use Rattle.pipe_dev.specs.declared.answers.ReadAnswer.TheVariants as read
 use Rattle.pipe_dev.specs.declared.answers.TryAnswer.TheVariants as try
 use Rattle.pipe_dev.specs.declared.filling.ReadOutcome.{ReadOutcome}
 use Rattle.pipe_dev.specs.declared.filling.Stop.{Stop}
 use Rattle.pipe_dev.specs.declared.filling.Stop.TheVariants as stop
-use Rattle.pipe_dev.specs.declared.reading.Found.{Found}
-use Rattle.pipe_dev.specs.declared.reading.Found.TheVariants as found
 use Rattle.pipe_dev.specs.declared.row.Row.{Row}
 use Rattle.pipe_dev.specs.Filling.{Taker, TakesPart, TakesMore, Filling, Lending, begins}
 use Rattle.pipe_dev.specs.Filling.{IsFilledBy, IsLeft, IsTakenOut, StopsAt, has_none, last_number}
@@ -24,11 +23,12 @@ use Rattle.pipe_dev.specs.Filling.{number_of}
 use Rattle.pipe_dev.specs.Parts.{Part, bytes_of, part_of, rest_of}
 use Rattle.pipe_dev.specs.ReadCalls.{AsksForBytes, Calling, FindsEnd, FindsNotYet, Gets, GoesOn}
 use Rattle.pipe_dev.specs.ReadCalls.{TakesOut, Tries, TriesOn, came_to, lending_of}
-use Rattle.pipe_dev.specs.ReadSteps.{found_at, found_of, told_by}
+use Rattle.pipe_dev.specs.ReadSteps.{found_at, found_of}
 use Rattle.pipe_dev.specs.Rendezes.{WakesWith}
 use Rattle.pipe_dev.specs.Rounds.{Rounds}
-use Rattle.waiting.specs.declared.call.Reply.TheVariants.{Wait}
-use Rattle.waiting.specs.Waiting.{IsLow}
+use Rattle.waiting.specs.declared.call.Reply.{Reply}
+use Rattle.waiting.specs.declared.call.Reply.TheVariants.{Done, Wait, Refused}
+use Rattle.waiting.specs.Waiting.{IsLow, StandsSo}
 use Rattle.pipe_dev.proofs.RoundLemmas.{not_yet_low}
 
 -- one part was read
@@ -196,57 +196,57 @@ module _ (key : Key) (row : Row) (old new : Calling) where
   -- ---- by what a try is answered
 
   -- it gave bytes, or else this is told
-  some_or_none : (P : Found → Type 0) (count : ℕ) (none : Found)
-      → (nat_lt 0 count ≡ true → P (found.Answered (read.Got count))) → (count ≡ 0 → P none)
-      → P (if nat_lt 0 count then found.Answered (read.Got count) else none)
+  some_or_none : (P : Reply ReadAnswer → Type 0) (count : ℕ) (none : Reply ReadAnswer)
+      → (nat_lt 0 count ≡ true → P (Done (read.Got count))) → (count ≡ 0 → P none)
+      → P (if nat_lt 0 count then Done (read.Got count) else none)
   some_or_none P count none some zero_so = by (nat_lt 0 count) refl
     where
       no_count : (n : ℕ) → nat_lt 0 n ≡ false → n ≡ 0
       no_count n is = grind (arith, nat_tests)
 
       by : (b : Bool) → nat_lt 0 count ≡ b
-          → P (if b then found.Answered (read.Got count) else none)
+          → P (if b then Done (read.Got count) else none)
       by true is = some is
       by false is = zero_so (no_count count is)
 
   -- what a try tells a read
   asks : (mode : Mode) (count : ℕ) (why : Stop)
       → TriesOn key (record row { mode = mode }) old (came_to count why) new
-      → AsksForBytes key (record row { mode = mode }) old (told_by (found_at count why)) new
+      → AsksForBytes key (record row { mode = mode }) old (found_at count why) new
   unfolding Said
   asks Message count stop.Enough tried = of_messages count stop.Enough tried
   asks Message count (stop.NotYet number) tried =
       let told = of_messages count (stop.NotYet number) tried in
-      some_or_none (λ f. AsksForBytes key (record row { mode = Message }) old (told_by f) new) count
-      (found.NotYet number)
+      some_or_none (λ told. AsksForBytes key (record row { mode = Message }) old told new) count
+      (Wait number)
       (λ some. let no : false ≡ true = ap (nat_lt 0) (sym told.2) ∙ some in cc)
       (λ zero. (told.0, told.1))
   asks Message count stop.End tried =
       let told = of_messages count stop.End tried in
-      some_or_none (λ f. AsksForBytes key (record row { mode = Message }) old (told_by f) new) count
-      (found.Answered read.End)
+      some_or_none (λ told. AsksForBytes key (record row { mode = Message }) old told new) count
+      (Done read.End)
       (λ some. let no : false ≡ true = ap (nat_lt 0) (sym told.2) ∙ some in cc)
       (λ zero. (told.0, told.1))
   asks Stream count stop.Enough tried =
       record { why = stop.Enough; tried = tried; got = refl }
   asks Stream count (stop.NotYet number) tried =
-      some_or_none (λ f. AsksForBytes key (record row { mode = Stream }) old (told_by f) new) count
-      (found.NotYet number)
+      some_or_none (λ told. AsksForBytes key (record row { mode = Stream }) old told new) count
+      (Wait number)
       (λ some. record { why = stop.NotYet number; tried = tried; got = some })
       (λ zero. subst (λ n. TriesOn key (record row { mode = Stream }) old
       (came_to n (stop.NotYet number)) new) zero tried)
   asks Stream count stop.End tried =
-      some_or_none (λ f. AsksForBytes key (record row { mode = Stream }) old (told_by f) new) count
-      (found.Answered read.End)
+      some_or_none (λ told. AsksForBytes key (record row { mode = Stream }) old told new) count
+      (Done read.End)
       (λ some. record { why = stop.End; tried = tried; got = some })
       (λ zero. subst (λ n. TriesOn key (record row { mode = Stream }) old (came_to n stop.End) new)
       zero tried)
 
   -- one request of a read
-  pub asks_by_mode : (came : ReadOutcome) (told : Found) → TriesOn key row old came new
-      → told ≡ found_of came → AsksForBytes key row old (told_by told) new
+  pub asks_by_mode : (came : ReadOutcome) (told : Reply ReadAnswer)
+      → TriesOn key row old came new → told ≡ found_of came → AsksForBytes key row old told new
   asks_by_mode came told tried is =
-      subst (λ f. AsksForBytes key row old (told_by f) new) (sym is)
+      subst (λ told. AsksForBytes key row old told new) (sym is)
       (asks row.mode came.count came.stop tried)
 
   -- a read that does not wait is answered NotYet where it would wait
@@ -260,19 +260,26 @@ module _ (key : Key) (row : Row) (old new : Calling) where
       by Stream asked = record { number = number; tried = asked }
 
   -- the number that it is told is low
-  pub told_low : (told : Found) → key.first ≡ 0 → AsksForBytes key row old (told_by told) new
-      → IsLow (told_by told)
+  pub told_low : (told : Reply ReadAnswer) → key.first ≡ 0
+      → AsksForBytes key row old told new → IsLow told
   told_low told first asked = by row.mode told asked
     where
-      by : (mode : Mode) (told : Found)
-          → AsksForBytes key (record row { mode = mode }) old (told_by told) new
-          → IsLow (told_by told)
-      by mode (found.Answered answer) asked = tt
-      by Message (found.NotYet number) asked =
+      by : (mode : Mode) (told : Reply ReadAnswer)
+          → AsksForBytes key (record row { mode = mode }) old told new → IsLow told
+      by mode (Done answer) asked = tt
+      by mode (Refused why) asked = tt
+      by Message (Wait number) asked =
           not_yet_low key number old.reader.account new.reader.account first asked.0.none.entered
-      by Stream (found.NotYet number) asked =
+      by Stream (Wait number) asked =
           not_yet_low key number asked.fills.filling.taker.account new.reader.account first
           asked.fills.stopped.1.nothing.entered
+
+-- a seat that stands so whatever it is told
+pub stands_so : {Seat Out : Type 0} (Stands : Seat → Type 0) (told : Reply Out) (seat : Seat)
+    → Stands seat → StandsSo Stands Stands told seat
+stands_so Stands (Done out) seat stands = stands
+stands_so Stands (Wait number) seat stands = stands
+stands_so Stands (Refused why) seat stands = stands
 
 -- a buffer with room stays one
 pub still_some : (xs ys : List ℕ) → length ys ≡ length xs → xs ≢ [] → ys ≢ []

@@ -1,5 +1,5 @@
--- A wait with a deadline as whoever sees less of the seat knows it, and that it is a call.
-use Rattle.std.proofs.Common.{◌≡◌, ℕ, Some, None, Result, Err, inl, inr, refl, ap, sym, subst}
+-- A call with a deadline is a call.
+use Rattle.std.proofs.Common.{◌≡◌, Some, None, Result, Err, inl, inr, refl, ap, sym, subst}
 use Rattle.histories.specs.declared.account.Account.{Account}
 use Rattle.histories.specs.History.{IsPast}
 use Rattle.histories.proofs.ListLemmas.{past_refl}
@@ -8,8 +8,7 @@ use Rattle.block_queue.specs.declared.entry.Entry.{Entry}
 use Rattle.sync_base.specs.declared.fault.Fault.{Fault}
 use Rattle.sync_base.specs.declared.fault.Fault.TheVariants as fault
 use Rattle.sync_base.specs.declared.ids.RendezId.{RendezId}
-use Rattle.timer_list.specs.declared.timers.Timers.{Timers}
-use Rattle.timer_list.specs.Timing.{ComesToSame, TimedPoint, WaitedInTime, over_at}
+use Rattle.timer_list.specs.Timing.{ComesToSame, TimedPoint, over_at}
 use Rattle.timer_list.proofs.UntimedLemmas.{untimed}
 use Rattle.waiting.specs.declared.wait.WaitEnd.{WaitEnd}
 use Rattle.waiting.specs.declared.wait.WaitEnd.TheVariants.{Answered, Stopped}
@@ -17,36 +16,8 @@ use Rattle.waiting.specs.Waiting.{Ends, Point, Promise, Returns, Waited}
 use Rattle.pipe_dev.specs.ReadCalls.{ReadsInTimeAreReads, calling_at, reading}
 use Rattle.pipe_dev.specs.Rendezes.{reader_rendez, writer_rendez}
 use Rattle.pipe_dev.specs.WriteCalls.{WritesInTimeAreWrites, writing}
-use Rattle.pipe_dev.specs.WriteSteps.{seen_at, seen_by}
 use Rattle.pipe_dev.proofs.AskedLemmas.{reads_so}
 use Rattle.pipe_dev.proofs.CallLemmas.{writes_so}
-use Rattle.pipe_dev.proofs.SightLemmas.{slept_seen, told_at}
-
-module _ {Seat Seen Out : Type 0} (see : Seat → Seen) (promise : Promise Seen Out)
-    (rendez : RendezId) where
-  abbrev timed_at : TimedPoint Seat → TimedPoint Seen
-  timed_at point = record { at = seen_at see point.at; timer = point.timer }
-
-  -- the wait
-  pub in_time_seen : (timers : Timers) (moment : ℕ) (before : TimedPoint Seat)
-      (answer : Result Out Fault) (after : TimedPoint Seat)
-      → WaitedInTime (seen_by see promise) rendez timers moment before answer after
-      → WaitedInTime promise rendez timers moment (timed_at before) answer (timed_at after)
-  in_time_seen timers moment before answer after (inl at_once) =
-      inl (record { begun = at_once.begun; timer = at_once.timer })
-  in_time_seen timers moment before answer after (inr waits) =
-      inr (record {
-        first = told_at see promise rendez waits.first;
-        set = waits.set;
-        ending = waits.ending;
-        process = waits.process;
-        begun = waits.begun;
-        added = waits.added;
-        slept = slept_seen see promise rendez waits.first waits.ending
-            (record { seat = after.at.seat; process = waits.process }) waits.slept;
-        ended = waits.ended;
-        taken = waits.taken;
-      })
 
 -- a call that comes to nothing where it leaves puts no notes back: it returns where it is over
 module _ {Seat Out : Type 0} (promise : Promise Seat Out) (rendez : RendezId)

@@ -27,7 +27,7 @@ use Rattle.pipe_dev.specs.Rendezes.{writer_rendez}
 use Rattle.pipe_dev.specs.WriteCalls.{WriteCall, Writer, AsksForRoom, GivesUp, HasHang, writing}
 use Rattle.waiting.specs.declared.call.Reply.TheVariants.{Wait}
 use Rattle.waiting.specs.Waiting.{Waited, reply_of}
-use Rattle.pipe_dev.proofs.SightLemmas.{waited_ends}
+use Rattle.pipe_dev.proofs.OutcomeLemmas.{waited_ends}
 
 -- the seat knows these of the shares of this writer
 abbrev Are : ℕ → List (List ℕ) → List (Share Entry) → Type 0

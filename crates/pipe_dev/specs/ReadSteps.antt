@@ -6,28 +6,21 @@ use Rattle.pipe_dev.specs.declared.block_reading.Lending as block_reading
 use Rattle.pipe_dev.specs.declared.filling.ReadOutcome.{ReadOutcome}
 use Rattle.pipe_dev.specs.declared.filling.Stop.{Stop}
 use Rattle.pipe_dev.specs.declared.filling.Stop.TheVariants as stop
-use Rattle.pipe_dev.specs.declared.reading.Found.{Found}
-use Rattle.pipe_dev.specs.declared.reading.Found.TheVariants as found
 use Rattle.pipe_dev.specs.Filling.{Lending}
 use Rattle.pipe_dev.specs.FillSteps.{taker_with}
 use Rattle.waiting.specs.declared.call.Reply.{Reply}
 use Rattle.waiting.specs.declared.call.Reply.TheVariants.{Done, Wait}
 
 -- what a try is answered: bytes, or why there are none
-abbrev pub found_at : ℕ → Stop → Found
-found_at count stop.Enough = found.Answered (read.Got count)
+abbrev pub found_at : ℕ → Stop → Reply ReadAnswer
+found_at count stop.Enough = Done (read.Got count)
 found_at count (stop.NotYet number) =
-    if nat_lt 0 count then found.Answered (read.Got count) else found.NotYet number
+    if nat_lt 0 count then Done (read.Got count) else Wait number
 found_at count stop.End =
-    if nat_lt 0 count then found.Answered (read.Got count) else found.Answered read.End
+    if nat_lt 0 count then Done (read.Got count) else Done read.End
 
-abbrev pub found_of : ReadOutcome → Found
+abbrev pub found_of : ReadOutcome → Reply ReadAnswer
 found_of came = found_at came.count came.stop
-
--- what a try tells a read that waits
-abbrev pub told_by : Found → Reply ReadAnswer
-told_by (found.Answered answer) = Done answer
-told_by (found.NotYet number) = Wait number
 
 -- what a read of a block has with it, as its contract sees it
 abbrev pub lending_in : block_reading.Lending → Lending

@@ -3,11 +3,11 @@ ghost use Rattle.std.specs.Prelude.{◌≡◌};
 ghost use Rattle.block_queue.specs.Seats.{key_of};
 ghost use Rattle.pipe_dev.specs.BlockReads.{AsksForBlock};
 ghost use Rattle.pipe_dev.specs.Ends.{IsReadCursor};
+ghost use Rattle.pipe_dev.specs.Filling.{Lending as Lent};
 ghost use Rattle.pipe_dev.specs.FillSteps.{lending_with};
 ghost use Rattle.pipe_dev.specs.ReadCalls.{IsAskedRead, waits_by};
 ghost use Rattle.pipe_dev.specs.ReadSteps.{lending_in};
 ghost use Rattle.pipe_dev.specs.Rendezes.{OwnsRow, reader_rendez};
-ghost use Rattle.pipe_dev.specs.WriteSteps.{seen_by};
 ghost use Rattle.waiting.specs.Waiting.{Waited, point};
 
 use crate::answers::ReadAnswer;
@@ -105,7 +105,7 @@ fn block_with<R: Wait>(
     };
     let call = BlockReading { queue, row };
     let rendez = row.reader();
-    let answer = wait_for(rt, proc, rendez, &call, &mut lending, &mut NoProbe);
+    let answer = wait_for(rt, proc, rendez, &call, &mut lending, &mut [], &mut NoProbe);
     let Lending {
         cursor,
         block: back,
@@ -141,16 +141,20 @@ impl<'q> WaitingCall for BlockReading<'q> {
 
     ghost knows = { λ call words. OwnsRow words call.row.now };
 
-    ghost promise = { λ call. seen_by lending_in
-        (waits_by (AsksForBlock (key_of call.queue.now) call.row.now)) };
+    ghost Sight = { Lent };
+
+    ghost sight = { λ lending buffer. lending_in lending };
+
+    ghost promise = { λ call. waits_by (AsksForBlock (key_of call.queue.now) call.row.now) };
 
     fn begin<R: Wait>(
         &self,
         rt: &R,
         proc: &mut Proc<'_>,
         lending: &mut Lending,
+        buffer: &mut [u8],
     ) -> Reply<ReadAnswer> {
-        self.ask(rt, proc, lending)
+        self.ask(rt, proc, lending, buffer)
     }
 
     // What is left of a write that was begun, or else the next write, whose writers are woken.
@@ -160,6 +164,7 @@ impl<'q> WaitingCall for BlockReading<'q> {
         _rt: &R,
         proc: &mut Proc<'_>,
         lending: &mut Lending,
+        _buffer: &mut [u8],
     ) -> Reply<ReadAnswer> {
         if let Some(begun) = lending.cursor.rest.take() {
             let spare = begun.hand_over(&mut lending.block);

@@ -1,14 +1,14 @@
 //! How a direction is read.
-ghost use Rattle.std.specs.Prelude.{◌≡◌, ◌≢◌, ◌<◌, []};
-ghost use Rattle.sync_base.specs.declared.limits.TheConstants.{TOP_LEVEL};
+ghost use Rattle.std.specs.Prelude.{◌≡◌, ◌≢◌, []};
 ghost use Rattle.block_queue.specs.Seats.{key_of};
 ghost use Rattle.pipe_dev.specs.Ends.{IsReadCursor};
+ghost use Rattle.pipe_dev.specs.Filling.{Lending};
 ghost use Rattle.pipe_dev.specs.FillSteps.{lending_with};
 ghost use Rattle.pipe_dev.specs.ReadCalls.{AsksForBytes, IsAskedRead, Tries, reading};
 ghost use Rattle.pipe_dev.specs.ReadCalls.{calling_at};
-ghost use Rattle.pipe_dev.specs.ReadSteps.{found_of, told_by};
+ghost use Rattle.pipe_dev.specs.ReadSteps.{found_of};
 ghost use Rattle.pipe_dev.specs.Rendezes.{OwnsRow, reader_rendez};
-ghost use Rattle.waiting.specs.Waiting.{IsLow, SleepsOn, Waited, point, told};
+ghost use Rattle.waiting.specs.Waiting.{IsLow, Waited, point};
 
 use crate::answers::{ReadAnswer, TryAnswer};
 use crate::cursor::ReadCursor;
@@ -19,8 +19,8 @@ use crate::waking::wake_writers;
 use block_queue::Queue;
 use sleep_wakeup::Proc;
 use std::sync::Wait;
-use sync_base::Fault;
-use waiting::{WaitEnd, end_wait};
+use sync_base::{Fault, NoProbe};
+use waiting::{Reply, WaitingCall, wait_for};
 
 impl<'p> ReadEnd<'p> {
     ghost use Rattle.std.specs.Prelude.{◌≡◌, ◌≢◌, ◌↔◌, ◌⊎◌, [], IsErrOf, IfOk, IfErr, OnErr};
@@ -110,13 +110,6 @@ impl<'p> ReadEnd<'p> {
     }
 }
 
-// What one try found. `NotYet` has the number with which to sleep.
-#[derive(Drop)]
-pub(crate) enum Found {
-    Answered(ReadAnswer),
-    NotYet(u64),
-}
-
 // Tries until it is answered.
 fn read_with<R: Wait>(
     queue: &Queue,
@@ -136,68 +129,86 @@ fn read_with<R: Wait>(
         (point (lending_with cursor.new buffer.new) proc.new) }
     ensures answer { IsAskedRead result }
 {
-    match ask_for_bytes(queue, row, cursor, proc, buffer) {
-        Found::Answered(answer) => Ok(answer),
-        Found::NotYet(number) => {
-            let ending = sleep_for_bytes(queue, row, rt, cursor, proc, buffer, number);
-            end_wait(proc, ending)
-        }
-    }
+    let call = Reading { queue, row };
+    let rendez = row.reader();
+    wait_for(rt, proc, rendez, &call, cursor, buffer, &mut NoProbe)
 }
 
-// The sleeps of a read that was told to wait with this number, and its requests after them: the
-// loop of `waiting`, with the buffer that is lent.
-pub(crate) fn sleep_for_bytes<R: Wait>(
-    queue: &Queue,
-    row: &Row,
-    rt: &R,
-    cursor: &mut ReadCursor,
-    proc: &mut Proc<'_>,
-    buffer: &mut [u8],
-    number: u64,
-) -> WaitEnd<ReadAnswer>
-    requires cursor { IsReadCursor queue.now row.now cursor.old }
-    requires kernel { OwnsRow proc.old.words row.now }
-    requires room { buffer.old ≢ [] }
-    requires low { number < TOP_LEVEL }
-    ensures cursor { IsReadCursor queue.now row.now cursor.new }
-    ensures words { proc.new.words ≡ proc.old.words }
-    ensures slept { SleepsOn (reading (key_of queue.now) row.now) (reader_rendez row.now)
-        (told (lending_with cursor.old buffer.old) proc.old number) result
-        (point (lending_with cursor.new buffer.new) proc.new) }
-{
-    let mut number = number;
-    'reading: for _ in rt.forever() {
-        match proc.sleep(rt, row.reader(), number) {
-            Err(why) => return WaitEnd::Stopped(why, None),
-            Ok(()) => match ask_for_bytes(queue, row, cursor, proc, buffer) {
-                Found::Answered(answer) => return WaitEnd::Answered(Ok(answer)),
-                Found::NotYet(again) => number = again,
-            },
-        }
+/// A call of read: what it asks of its queue.
+#[derive(Drop)]
+pub(crate) struct Reading<'q> {
+    pub(crate) queue: &'q Queue,
+    pub(crate) row: &'q Row,
+}
+
+impl<'q> WaitingCall for Reading<'q> {
+    type Seat = ReadCursor;
+
+    type Out = ReadAnswer;
+
+    ghost ready = { λ call cursor. IsReadCursor call.queue.now call.row.now cursor };
+
+    ghost waits = { λ call cursor. IsReadCursor call.queue.now call.row.now cursor };
+
+    ghost rests = { λ call cursor. IsReadCursor call.queue.now call.row.now cursor };
+
+    ghost fits = { λ call buffer. buffer ≢ [] };
+
+    ghost knows = { λ call words. OwnsRow words call.row.now };
+
+    ghost Sight = { Lending };
+
+    ghost sight = { λ cursor buffer. lending_with cursor buffer };
+
+    ghost promise = { λ call. reading (key_of call.queue.now) call.row.now };
+
+    fn begin<R: Wait>(
+        &self,
+        rt: &R,
+        proc: &mut Proc<'_>,
+        cursor: &mut ReadCursor,
+        buffer: &mut [u8],
+    ) -> Reply<ReadAnswer> {
+        self.ask(rt, proc, cursor, buffer)
     }
-    unreachable!()
+
+    // A try. Where it took writes out, it wakes each writer.
+    #[inline(always)]
+    fn ask<R: Wait>(
+        &self,
+        _rt: &R,
+        proc: &mut Proc<'_>,
+        cursor: &mut ReadCursor,
+        buffer: &mut [u8],
+    ) -> Reply<ReadAnswer> {
+        ask_for_bytes(self.queue, self.row, cursor, proc, buffer)
+    }
+
+    // It reads nothing more.
+    fn leave<R: Wait>(&self, _rt: &R, _cursor: &mut ReadCursor) -> Option<ReadAnswer> {
+        None
+    }
 }
 
 // One request, a try: what is left of a write that was begun, or else the next write, and so on as
 // far as it goes. Then it wakes each writer with the number of the last write that it took out.
 #[inline(always)]
-pub(crate) fn ask_for_bytes(
+fn ask_for_bytes(
     queue: &Queue,
     row: &Row,
     cursor: &mut ReadCursor,
     proc: &mut Proc<'_>,
     buffer: &mut [u8],
-) -> Found
+) -> Reply<ReadAnswer>
     requires cursor { IsReadCursor queue.now row.now cursor.old }
     requires kernel { OwnsRow proc.old.words row.now }
     requires room { buffer.old ≢ [] }
     ensures cursor { IsReadCursor queue.now row.now cursor.new }
     ensures words { proc.new.words ≡ proc.old.words }
     ensures room { buffer.new ≢ [] }
-    ensures low { IsLow (told_by result) }
+    ensures low { IsLow result }
     ensures asked { AsksForBytes (key_of queue.now) row.now
-        (calling_at (point (lending_with cursor.old buffer.old) proc.old)) (told_by result)
+        (calling_at (point (lending_with cursor.old buffer.old) proc.old)) result
         (calling_at (point (lending_with cursor.new buffer.new) proc.new)) }
 {
     let FillResult { took, came } = fill(queue, row, cursor, buffer);
@@ -209,13 +220,13 @@ pub(crate) fn ask_for_bytes(
 
 // What a try that came so far found: it got what it has read, and if that is nothing it is told why
 // it went no further.
-fn found_by(came: ReadOutcome) -> Found
+fn found_by(came: ReadOutcome) -> Reply<ReadAnswer>
     ensures { result ≡ found_of came }
 {
     match came.stop {
-        Stop::NotYet(number) if came.count == 0 => Found::NotYet(number),
-        Stop::End if came.count == 0 => Found::Answered(ReadAnswer::End),
-        _ => Found::Answered(ReadAnswer::Got(came.count)),
+        Stop::NotYet(number) if came.count == 0 => Reply::Wait(number),
+        Stop::End if came.count == 0 => Reply::Done(ReadAnswer::End),
+        _ => Reply::Done(ReadAnswer::Got(came.count)),
     }
 }
 
@@ -237,8 +248,9 @@ fn try_once(
         (calling_at (point (lending_with cursor.new buffer.new) proc.new)) }
 {
     match ask_for_bytes(queue, row, cursor, proc, buffer) {
-        Found::Answered(ReadAnswer::Got(count)) => TryAnswer::Got(count),
-        Found::Answered(ReadAnswer::End) => TryAnswer::End,
-        Found::NotYet(_) => TryAnswer::NotYet,
+        Reply::Done(ReadAnswer::Got(count)) => TryAnswer::Got(count),
+        Reply::Done(ReadAnswer::End) => TryAnswer::End,
+        Reply::Wait(_) => TryAnswer::NotYet,
+        Reply::Refused(_) => unreachable!(),
     }
 }

@@ -13,14 +13,13 @@ ghost use Rattle.timer_list.specs.Timing.{timed_point};
 use crate::answers::ReadAnswer;
 use crate::cursor::ReadCursor;
 use crate::read_end::ReadEnd;
-use crate::reading::{Found, ask_for_bytes, sleep_for_bytes};
+use crate::reading::Reading;
 use crate::row::Row;
 use block_queue::Queue;
 use sleep_wakeup::Proc;
 use std::sync::Wait;
-use sync_base::Fault;
-use timer_list::timer_object::deadline;
-use timer_list::{TimerSeat, Timers, end_within};
+use sync_base::{Fault, NoProbe};
+use timer_list::{Deadline, TimerSeat, Timers, wait_within};
 
 impl<'p> ReadEnd<'p> {
     ghost use Rattle.std.specs.Prelude.{◌≡◌, ◌≢◌, []};
@@ -85,6 +84,11 @@ impl<'p> ReadEnd<'p> {
         let Some(mut cursor) = self.cursor.take() else {
             unreachable!()
         };
+        let until = Deadline {
+            timers,
+            from: now,
+            ms,
+        };
         let answer = read_in_time(
             self.queue,
             &self.row,
@@ -92,10 +96,8 @@ impl<'p> ReadEnd<'p> {
             &mut cursor,
             proc,
             buffer,
-            timers,
             timer,
-            now,
-            ms,
+            until,
         );
         self.cursor = Some(cursor);
         answer
@@ -110,30 +112,33 @@ fn read_in_time<R: Wait>(
     cursor: &mut ReadCursor,
     proc: &mut Proc<'_>,
     buffer: &mut [u8],
-    timers: &Timers,
     timer: &mut TimerSeat,
-    now: u64,
-    ms: u32,
+    until: Deadline<'_>,
 ) -> Result<ReadAnswer, Fault>
     requires cursor { IsReadCursor queue.now row.now cursor.old }
     requires kernel { OwnsRow proc.old.words row.now }
     requires room { buffer.old ≢ [] }
-    requires timer { IsTimerSeatOf timers.now timer.old }
+    requires timer { IsTimerSeatOf until.timers.now timer.old }
     ensures cursor { IsReadCursor queue.now row.now cursor.new }
     ensures words { proc.new.words ≡ proc.old.words }
-    ensures waited { ReadsInTime (key_of queue.now) row.now timers.now (deadline_of now ms)
+    ensures waited { ReadsInTime (key_of queue.now) row.now until.entry.timers.now
+        (deadline_of until.entry.from until.entry.ms)
         (timed_point (lending_with cursor.old buffer.old) timer.old proc.old) result
         (timed_point (lending_with cursor.new buffer.new) timer.new proc.new) }
-    ensures timer { IsTimerSeatOf timers.now timer.new }
+    ensures timer { IsTimerSeatOf until.entry.timers.now timer.new }
     ensures timer_number { number_of timer.new.seat ≡ number_of timer.old.seat }
 {
-    let pid = proc.pid();
-    match ask_for_bytes(queue, row, cursor, proc, buffer) {
-        Found::Answered(answer) => Ok(answer),
-        Found::NotYet(number) => {
-            timers.add(rt, timer, pid, deadline(now, ms));
-            let ending = sleep_for_bytes(queue, row, rt, cursor, proc, buffer, number);
-            end_within(rt, proc, row.reader(), timers, timer, ending)
-        }
-    }
+    let call = Reading { queue, row };
+    let rendez = row.reader();
+    wait_within(
+        rt,
+        proc,
+        rendez,
+        &call,
+        cursor,
+        buffer,
+        timer,
+        until,
+        &mut NoProbe,
+    )
 }

@@ -1,10 +1,12 @@
 //! How a direction is written.
 ghost use Rattle.std.specs.Prelude.{◌≡◌};
-ghost use Rattle.block_queue.specs.Seats.{key_of};
+ghost use Rattle.histories.specs.declared.account.Account.{Account};
+ghost use Rattle.block_queue.specs.declared.entry.Entry.{Entry};
+ghost use Rattle.block_queue.specs.Seats.{key_of, put_account};
 ghost use Rattle.pipe_dev.specs.Ends.{IsWriteSeat};
 ghost use Rattle.pipe_dev.specs.Rendezes.{OwnsRow, writer_rendez};
 ghost use Rattle.pipe_dev.specs.WriteCalls.{IsAsked, call_with, writer_with, writing};
-ghost use Rattle.pipe_dev.specs.WriteSteps.{IsPutting, account_in, seen_by};
+ghost use Rattle.pipe_dev.specs.WriteSteps.{IsPutting};
 ghost use Rattle.waiting.specs.Waiting.{Waited};
 
 use crate::row::Row;
@@ -107,7 +109,7 @@ fn write_with<R: Wait>(
         writer,
         bytes,
     };
-    wait_for(rt, proc, rendez, &call, putting, &mut NoProbe)
+    wait_for(rt, proc, rendez, &call, putting, &mut [], &mut NoProbe)
 }
 
 /// The seat of a write, and its block while the queue has not taken it.
@@ -142,20 +144,36 @@ impl<'q> WaitingCall for Writing<'q> {
 
     ghost knows = { λ call words. OwnsRow words call.row.now };
 
-    ghost promise = { λ call. seen_by account_in (writing (record {
+    ghost Sight = { Account Entry };
+
+    ghost sight = { λ putting buffer. put_account putting.seat };
+
+    ghost promise = { λ call. writing (record {
       key = key_of call.queue.now;
       row = call.row.now;
       writer = call.writer;
       bytes = call.bytes.now;
-    })) };
+    }) };
 
-    fn begin<R: Wait>(&self, rt: &R, proc: &mut Proc<'_>, putting: &mut Putting) -> Reply<u64> {
-        self.ask(rt, proc, putting)
+    fn begin<R: Wait>(
+        &self,
+        rt: &R,
+        proc: &mut Proc<'_>,
+        putting: &mut Putting,
+        buffer: &mut [u8],
+    ) -> Reply<u64> {
+        self.ask(rt, proc, putting, buffer)
     }
 
     // A put; where it was accepted the reader is woken with its number.
     #[inline(always)]
-    fn ask<R: Wait>(&self, rt: &R, proc: &mut Proc<'_>, putting: &mut Putting) -> Reply<u64> {
+    fn ask<R: Wait>(
+        &self,
+        rt: &R,
+        proc: &mut Proc<'_>,
+        putting: &mut Putting,
+        _buffer: &mut [u8],
+    ) -> Reply<u64> {
         let Some(block) = putting.block.take() else {
             unreachable!()
         };

@@ -19,7 +19,7 @@ use std::alloc::Global;
 use std::sync::Wait;
 use sync_base::limits::ATOMIC_SIZE;
 use sync_base::{Fault, NoProbe};
-use timer_list::{TimerSeat, Timers, wait_within};
+use timer_list::{Deadline, TimerSeat, Timers, wait_within};
 
 impl<'p> WriteEnd<'p> {
     ghost use Rattle.std.specs.Prelude.{◌≡◌, ◌<◌, ◌≤◌, length};
@@ -88,16 +88,19 @@ impl<'p> WriteEnd<'p> {
             Ok(block) => {
                 let block = Some(block);
                 let mut putting = Putting { seat, block };
+                let until = Deadline {
+                    timers,
+                    from: now,
+                    ms,
+                };
                 let answer = write_in_time(
                     self.queue,
                     &self.row,
                     rt,
                     &mut putting,
                     proc,
-                    timers,
                     timer,
-                    now,
-                    ms,
+                    until,
                     bytes,
                 );
                 let Putting { seat, block: _ } = putting;
@@ -120,22 +123,21 @@ fn write_in_time<R: Wait>(
     rt: &R,
     putting: &mut Putting,
     proc: &mut Proc<'_>,
-    timers: &Timers,
     timer: &mut TimerSeat,
-    now: u64,
-    ms: u32,
+    until: Deadline<'_>,
     bytes: &[u8],
 ) -> Result<u64, Fault>
     requires putting { IsPutting queue.now row.now putting.old.seat.writer bytes.now putting.old }
     requires kernel { OwnsRow proc.old.words row.now }
-    requires timer { IsTimerSeatOf timers.now timer.old }
+    requires timer { IsTimerSeatOf until.timers.now timer.old }
     ensures seat { IsWriteSeat queue.now row.now putting.old.seat.writer putting.new.seat }
     ensures words { proc.new.words ≡ proc.old.words }
     ensures waited { WaitedInTime (writing (call_with queue.now row.now putting.old.seat bytes.now))
-        (writer_rendez row.now putting.old.seat.writer) timers.now (deadline_of now ms)
+        (writer_rendez row.now putting.old.seat.writer) until.entry.timers.now
+        (deadline_of until.entry.from until.entry.ms)
         (timed_point (put_account putting.old.seat) timer.old proc.old) result
         (timed_point (put_account putting.new.seat) timer.new proc.new) }
-    ensures timer { IsTimerSeatOf timers.now timer.new }
+    ensures timer { IsTimerSeatOf until.entry.timers.now timer.new }
     ensures timer_number { number_of timer.new.seat ≡ number_of timer.old.seat }
 {
     let writer = putting.seat.writer();
@@ -152,10 +154,9 @@ fn write_in_time<R: Wait>(
         rendez,
         &call,
         putting,
-        timers,
+        &mut [],
         timer,
-        now,
-        ms,
+        until,
         &mut NoProbe,
     )
 }

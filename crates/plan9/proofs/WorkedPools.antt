@@ -19,7 +19,7 @@ use Rattle.plan9.specs.Pools.{AreChildren, IsFirstSeat, TakesSeat, gathering}
 use Rattle.plan9.specs.Pools.{procs_of_holders, without_spare}
 use Rattle.plan9.specs.Pools.{IsFilled, AreHolders, MayHold, ForksOneMore, StopsForking, forking}
 use Rattle.plan9.specs.Pools.{Gathering, AsksTooMany, LacksMemory, HasNoFirst, HasTooFew}
-use Rattle.plan9.specs.Pools.{WhyNoHolders, IsFurtherVacancy}
+use Rattle.plan9.specs.Pools.{WhyNoHolders, WhyNoneBegin, IsFurtherVacancy}
 use Rattle.plan9.specs.Vacancies.{Vacancy}
 
 -- ---- the first
@@ -385,3 +385,19 @@ module _ (asked : Gathering) (after : Unused) where
   no_holders_for_a_bad_argument (inr (inr (inr few))) =
       no_fork_for_a_bad_argument few.stops.before (forking after few.last) few.stops.unseated
       few.stops.stopped
+
+module _ (asked : Gathering) where
+  -- nor is there one before a child is made
+  no_memory_for_a_list_of_too_many : ¬ MayHold asked.pool asked.roster asked.count
+      → ¬ WhyNoneBegin asked fault.Memory
+  no_memory_for_a_list_of_too_many many (inl asks) =
+      too_many_for_the_memory asked asked.roster fault.Memory asks
+  no_memory_for_a_list_of_too_many many (inr (inl lacks)) = many lacks.may
+  no_memory_for_a_list_of_too_many many (inr (inr none)) = many none.may
+
+  none_begin_for_a_bad_argument : ¬ WhyNoneBegin asked fault.BadArg
+  none_begin_for_a_bad_argument (inl asks) =
+      let no : fault.BadArg ≡ fault.NoProc = asks.why_is in cc
+  none_begin_for_a_bad_argument (inr (inl lacks)) =
+      let no : fault.BadArg ≡ fault.Memory = lacks.why_is in cc
+  none_begin_for_a_bad_argument (inr (inr none)) = none.why_is

@@ -84,6 +84,10 @@ pub record IsFirstSeat (pool : Pooled) (running : Running) (seat : SemaSeat) : T
   pub at_sema : IsSemaSeatOf pool.sema seat
   pub row : OwnsRow pool.sema running.words
 
+-- the pool is as it was: nobody took its first seat
+abbrev pub IsSamePool : Pooled → Pooled → Type 0
+IsSamePool old new = new ≡ old
+
 -- the pool without the seat that nobody had
 abbrev pub without_spare : Pooled → Pooled
 without_spare pool = record pool { spare = None }
@@ -91,7 +95,7 @@ without_spare pool = record pool { spare = None }
 -- the seat was taken, or it was refused and the pool is as it was
 abbrev pub TakesSeat : Pooled → Running → Result SemaSeat Fault → Pooled → Type 0
 TakesSeat old running (Ok seat) new = IsFirstSeat old running seat × (new ≡ without_spare old)
-TakesSeat old running (Err why) new = WhyNotFirst old running why × (new ≡ old)
+TakesSeat old running (Err why) new = WhyNotFirst old running why × IsSamePool old new
 
 -- the process has the seat that nobody had
 pub record IsFirstHolder (pool : Pooled) (running : Running) (holding : Holding) : Type 0 where
@@ -252,6 +256,13 @@ pub record HasTooFew (asked : Gathering) (after : Unused) (why : Fault) : Type 0
   pub last : Holding
   pub first_is : IsFirstHolder asked.pool asked.running first
   pub stops : StopsForking asked.count (forking asked.roster first) why (forking after last)
+
+-- what stands against it before a child is made, in this order
+abbrev pub WhyNoneBegin : Gathering → Fault → Type 0
+WhyNoneBegin asked why =
+    AsksTooMany asked asked.roster why
+    ⊎ (LacksMemory asked asked.roster why
+    ⊎ HasNoFirst asked asked.roster why)
 
 -- what stands against it, in this order
 abbrev pub WhyNoHolders : Gathering → Unused → Fault → Type 0

@@ -1,10 +1,10 @@
 //! A clock that is told the time, and seats at its timers: each has the timers with it.
-use semaphore::{OpenedTimers, TimerSeat, Timers};
 use sleep_wakeup::Proc;
 use std::alloc::Global;
 use std::marker::Model;
 use std::sync::Wait;
 use sync_base::{Fault, RendezId};
+use timer_list::{OpenedTimers, TimerSeat, Timers};
 
 /// A clock: timers, and their first seat as long as nobody has it.
 #[derive(Drop)]

@@ -57,7 +57,7 @@ pub use semaphore::{OpenedSema, Sema, SemaSeat, Semacquired};
 // Timers, for waits that end, and seats that have them.
 pub use crate::clock::{Clock, Watch};
 pub use crate::ticker::{Beat, RealTime, TickSource, Ticker};
-pub use semaphore::{OpenedTimers, TimerSeat, Timers};
+pub use timer_list::{OpenedTimers, TimerSeat, Timers};
 
 // Tag spaces: rendezvous, rfork of them, and processes that are members of one.
 pub use crate::hall::{Guest, Hall};

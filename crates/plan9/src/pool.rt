@@ -78,11 +78,15 @@ impl Pool {
     ghost use Rattle.plan9.specs.Pools.{
       AreHolders,
       IsFirstHolder,
+      IsFirstSeat,
       IsNewPool,
+      IsSamePool,
       TakesSeat,
       WhyNoHolders,
+      WhyNoneBegin,
       WhyNotFirst,
       gathering,
+      without_spare,
     };
 
     /// A pool of so many units for so many processes. It takes as many Rendez as there are
@@ -169,19 +173,17 @@ impl Pool {
         ensures holders { IfOk result (λ holders. AreHolders
             (gathering self.old proc.entry roster.old count) holders.items roster.new) }
     {
-        if !may_hold(self, roster, count) {
-            return Err(Refused {
-                proc,
-                fault: Fault::NoProc,
-            });
-        }
-        let Ok(mut holders) = Vec::with_capacity(alloc, count as usize) else {
-            return Err(Refused {
-                proc,
-                fault: Fault::Memory,
-            });
+        let Begun { seat, mut holders } = match self.begin_holders(alloc, roster, &proc, count) {
+            Ok(begun) => begun,
+            Err(fault) => return Err(Refused { proc, fault }),
         };
-        let mut first = self.first(proc)?;
+        let mut first = Holder {
+            sema: &self.sema,
+            first: self.first,
+            procs: self.procs,
+            seat,
+            proc,
+        };
         match fork_others(&mut first, rt, roster, &mut holders, count) {
             Ok(()) => {
                 holders.push_reserved(first);
@@ -193,6 +195,43 @@ impl Pool {
             }),
         }
     }
+
+    // Takes the seat that nobody has, and memory for a list of so many, before a child is made.
+    fn begin_holders<'s, 'k>(
+        &mut self,
+        alloc: Global,
+        roster: &Roster<'k>,
+        proc: &Proc<'k>,
+        count: u64,
+    ) -> Result<Begun<'s, 'k>, Fault>
+        // Refused, in this order, and then the pool is as it was.
+        ensures fault { IfErr result
+            (WhyNoneBegin (gathering self.old proc.now roster.now count)) }
+        ensures pool_stays { OnErr result (IsSamePool self.old self.new) }
+
+        // Otherwise nobody finds the seat there any more, and there is room for all.
+        ensures may { OnOk result (MayHold self.old roster.now count) }
+        ensures seat { IfOk result (λ begun. IsFirstSeat self.old proc.now begun.seat) }
+        ensures gone { OnOk result (self.new ≡ without_spare self.old) }
+        ensures none { IfOk result (λ begun. begun.holders.items ≡ []) }
+        ensures room { IfOk result (λ begun. count ≤ vec_capacity begun.holders) }
+    {
+        if !may_hold(self, roster, count) {
+            return Err(Fault::NoProc);
+        }
+        let Ok(holders) = Vec::with_capacity(alloc, count as usize) else {
+            return Err(Fault::Memory);
+        };
+        let seat = self.take_seat(proc)?;
+        Ok(Begun { seat, holders })
+    }
+}
+
+/// The seat that nobody had, and a list with room for those who will hold.
+#[derive(Drop)]
+struct Begun<'s, 'k> {
+    seat: SemaSeat,
+    holders: Vec<Holder<'s, 'k>>,
 }
 
 // Whether one or more are asked for, and there are seats for so many, and pids for all but one.

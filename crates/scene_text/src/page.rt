@@ -18,7 +18,8 @@ pub struct Page {
     wanted: Vec<u8>,
     came: Vec<u8>,
     fault: Option<u64>,
-    unread: bool,
+    /// Why it can't be read.
+    unread: Option<&'static str>,
     /// Of all texts.
     scenes: u64,
     agree: u64,
@@ -36,7 +37,7 @@ impl Page {
             wanted: Vec::new(alloc),
             came: Vec::new(alloc),
             fault: None,
-            unread: false,
+            unread: None,
             scenes: 0,
             agree: 0,
             good: true,
@@ -115,9 +116,9 @@ impl Page {
         self.lacks = true;
     }
 
-    /// The text can't be read.
-    pub fn miss(&mut self) {
-        self.unread = true;
+    /// The text can't be read, for this reason.
+    pub fn miss(&mut self, why: &'static str) {
+        self.unread = Some(why);
         self.good = false;
     }
 
@@ -147,12 +148,12 @@ impl Page {
         if let Some(line) = self.fault {
             write!(to, "p9lab: {name}: scene fault at line {line}\n")?;
         }
-        if self.unread {
-            write!(to, "p9lab: {name}: can't be read\n")?;
+        if let Some(why) = self.unread {
+            write!(to, "p9lab: {name}: can't be read: {why}\n")?;
         }
         self.first = None;
         self.fault = None;
-        self.unread = false;
+        self.unread = None;
         self.wanted.clear();
         self.came.clear();
         Ok(())

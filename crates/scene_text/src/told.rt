@@ -2,6 +2,7 @@
 //! says whether there was memory.
 use crate::answer::{Answer, More, Visit};
 use sleep_wakeup::{ProcStatus, RendezStatus};
+use std::io::Write;
 use sync_base::{Note, NoteSet};
 
 /// From how many bytes on a run of one byte is shown as `N*x`.
@@ -28,20 +29,9 @@ fn is_run(bytes: &[u8], first: u8) -> bool {
     bytes.iter().all(|byte| *byte == first)
 }
 
-/// The number, its last digit first in a row that is filled from its end.
+/// Adds a number.
 pub fn tell_number(told: &mut Vec<u8>, number: u64) -> bool {
-    let mut digits = [0u8; 20];
-    let mut at = 20;
-    let mut left = number;
-    for place in 0..20 {
-        at = 19 - place;
-        digits[at] = b'0' + (left % 10) as u8;
-        left /= 10;
-        if left == 0 {
-            break;
-        }
-    }
-    told.extend_from_slice(&digits[at.min(20)..]).is_ok()
+    write!(told, "{number}").is_ok()
 }
 
 // A space and a number.

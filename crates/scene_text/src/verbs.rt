@@ -1,9 +1,9 @@
-//! What a process may be told, and with which operands. A new call is a variant, a row of
-//! `entry_of` and an arm of the roles that make it.
+//! What a process may be told, and with which operands. A new call is a variant, a row of `VERBS`
+//! and an arm of the roles that make it.
 use crate::lines::{MOST_BYTES, Words, number_of, run_of};
 use sync_base::{Flags, Note, NoteSet};
 
-/// A word behind a process.
+/// A word after a process.
 #[derive(Clone, Copy, PartialEq, Eq)]
 pub enum Verb {
     // sleep(2), postnote(2)
@@ -27,12 +27,6 @@ pub enum Verb {
     HangupRead,
     HangupWrite,
     Finish,
-    // a queue of blocks
-    Put,
-    Take,
-    TakeBack,
-    Room,
-    Gather,
     // semacquire(2)
     Acquire,
     TryAcquire,
@@ -47,7 +41,7 @@ pub enum Verb {
     Rendez,
 }
 
-/// What stands behind a verb, or behind the deadline that it has.
+/// What stands after a verb, or after the deadline that it has.
 #[derive(Clone, Copy, PartialEq, Eq)]
 pub enum Shape {
     Bare,
@@ -62,77 +56,69 @@ pub enum Shape {
     Text,
 }
 
+/// Each word, the verb that it names, whether a deadline stands after it, a moment and
+/// milliseconds, and the shape of its operands.
+const VERBS: [(&str, Verb, bool, Shape); 28] = [
+    ("sleep", Verb::Sleep, false, Shape::TwoNumbers),
+    ("sleep_within", Verb::SleepWithin, true, Shape::TwoNumbers),
+    ("wakeup", Verb::Wakeup, false, Shape::TwoNumbers),
+    ("note", Verb::Note, false, Shape::NumberKinds),
+    ("notes", Verb::Notes, false, Shape::Bare),
+    ("put_back", Verb::PutBack, false, Shape::Kinds),
+    ("write", Verb::Write, false, Shape::Text),
+    ("write_within", Verb::WriteWithin, true, Shape::Text),
+    ("write_long", Verb::WriteLong, false, Shape::Text),
+    ("read", Verb::Read, false, Shape::Room),
+    ("read_within", Verb::ReadWithin, true, Shape::Room),
+    ("try_read", Verb::TryRead, false, Shape::Room),
+    ("read_block", Verb::ReadBlock, false, Shape::Bare),
+    ("next_piece", Verb::NextPiece, false, Shape::Room),
+    ("read_exact", Verb::ReadExact, false, Shape::Room),
+    ("hangup", Verb::Hangup, false, Shape::Bare),
+    ("hangup_read", Verb::HangupRead, false, Shape::Bare),
+    ("hangup_write", Verb::HangupWrite, false, Shape::Bare),
+    ("finish", Verb::Finish, false, Shape::Bare),
+    ("acquire", Verb::Acquire, false, Shape::Bare),
+    ("try_acquire", Verb::TryAcquire, false, Shape::Bare),
+    ("acquire_within", Verb::AcquireWithin, true, Shape::Bare),
+    ("release", Verb::Release, false, Shape::Count),
+    ("tick", Verb::Tick, false, Shape::Number),
+    ("rendezvous", Verb::Rendezvous, false, Shape::TwoNumbers),
+    (
+        "rendezvous_within",
+        Verb::RendezvousWithin,
+        true,
+        Shape::TwoNumbers,
+    ),
+    (
+        "rendezvous_word",
+        Verb::RendezvousWord,
+        false,
+        Shape::TwoNumbers,
+    ),
+    ("rendez", Verb::Rendez, false, Shape::Bare),
+];
+
+/// A verb with what stands after it.
 #[derive(Clone, Copy)]
 pub struct Entry {
     pub verb: Verb,
-    /// Whether a deadline stands behind the verb: a moment, and milliseconds.
     pub timed: bool,
     pub shape: Shape,
 }
 
-// A verb with operands of this shape.
-fn row(verb: Verb, shape: Shape) -> Option<Entry> {
-    Some(Entry {
-        verb,
-        timed: false,
-        shape,
-    })
-}
-
-// A verb with a deadline, and then operands of this shape.
-fn row_within(verb: Verb, shape: Shape) -> Option<Entry> {
-    Some(Entry {
-        verb,
-        timed: true,
-        shape,
-    })
-}
-
 // The verb that a word names.
 fn entry_of(word: &str) -> Option<Entry> {
-    match word {
-        "sleep" => row(Verb::Sleep, Shape::TwoNumbers),
-        "sleep_within" => row_within(Verb::SleepWithin, Shape::TwoNumbers),
-        "wakeup" => row(Verb::Wakeup, Shape::TwoNumbers),
-        "note" => row(Verb::Note, Shape::NumberKinds),
-        "notes" => row(Verb::Notes, Shape::Bare),
-        "put_back" => row(Verb::PutBack, Shape::Kinds),
-        _ => entry_of_object(word),
+    for (name, verb, timed, shape) in VERBS.iter() {
+        if *name == word {
+            return Some(Entry {
+                verb: *verb,
+                timed: *timed,
+                shape: *shape,
+            });
+        }
     }
-}
-
-// The verb of an object that a word names.
-fn entry_of_object(word: &str) -> Option<Entry> {
-    match word {
-        "write" => row(Verb::Write, Shape::Text),
-        "write_within" => row_within(Verb::WriteWithin, Shape::Text),
-        "write_long" => row(Verb::WriteLong, Shape::Text),
-        "read" => row(Verb::Read, Shape::Room),
-        "read_within" => row_within(Verb::ReadWithin, Shape::Room),
-        "try_read" => row(Verb::TryRead, Shape::Room),
-        "read_block" => row(Verb::ReadBlock, Shape::Bare),
-        "next_piece" => row(Verb::NextPiece, Shape::Room),
-        "read_exact" => row(Verb::ReadExact, Shape::Room),
-        "hangup" => row(Verb::Hangup, Shape::Bare),
-        "hangup_read" => row(Verb::HangupRead, Shape::Bare),
-        "hangup_write" => row(Verb::HangupWrite, Shape::Bare),
-        "finish" => row(Verb::Finish, Shape::Bare),
-        "put" => row(Verb::Put, Shape::Text),
-        "take" => row(Verb::Take, Shape::Bare),
-        "take_back" => row(Verb::TakeBack, Shape::Bare),
-        "room" => row(Verb::Room, Shape::Bare),
-        "gather" => row(Verb::Gather, Shape::Bare),
-        "acquire" => row(Verb::Acquire, Shape::Bare),
-        "try_acquire" => row(Verb::TryAcquire, Shape::Bare),
-        "acquire_within" => row_within(Verb::AcquireWithin, Shape::Bare),
-        "release" => row(Verb::Release, Shape::Count),
-        "tick" => row(Verb::Tick, Shape::Number),
-        "rendezvous" => row(Verb::Rendezvous, Shape::TwoNumbers),
-        "rendezvous_within" => row_within(Verb::RendezvousWithin, Shape::TwoNumbers),
-        "rendezvous_word" => row(Verb::RendezvousWord, Shape::TwoNumbers),
-        "rendez" => row(Verb::Rendez, Shape::Bare),
-        _ => None,
-    }
+    None
 }
 
 /// By when a call with a deadline ends: so many milliseconds from this moment on.

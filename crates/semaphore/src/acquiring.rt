@@ -1,6 +1,7 @@
 //! How a process takes a unit, and what such a call asks of its semaphore while it waits.
 ghost use Rattle.std.specs.Prelude.{◌≡◌, ⊤, true};
 ghost use Rattle.kernel_lock.specs.Seats.{number_of};
+ghost use Rattle.semaphore.specs.declared.sema.SemaSeat.{SemaSeat};
 ghost use Rattle.semaphore.specs.Acquiring.{Semacquires, acquiring};
 ghost use Rattle.semaphore.specs.Seats.{OwnsRow, IsSeatAt, IsSemaSeatOf};
 ghost use Rattle.waiting.specs.Waiting.{point};
@@ -42,9 +43,19 @@ impl<'s> WaitingCall for Acquiring<'s> {
     // It wakes nobody.
     ghost knows = { λ call words. ⊤ };
 
+    ghost Sight = { SemaSeat };
+
+    ghost sight = { λ seat buffer. seat };
+
     ghost promise = { λ call. acquiring call.sema.now };
 
-    fn begin<R: Wait>(&self, rt: &R, _proc: &mut Proc<'_>, seat: &mut SemaSeat) -> Reply<()> {
+    fn begin<R: Wait>(
+        &self,
+        rt: &R,
+        _proc: &mut Proc<'_>,
+        seat: &mut SemaSeat,
+        _buffer: &mut [u8],
+    ) -> Reply<()> {
         let number = seat.seat.number();
         match self.sema.ask(rt, seat, SemaCall::Acquire { seat: number }) {
             SemaReply::Acquired => Reply::Done(()),
@@ -55,7 +66,13 @@ impl<'s> WaitingCall for Acquiring<'s> {
     }
 
     // Asks whether the wait was granted its unit. Where it waits on, it is told for which grant.
-    fn ask<R: Wait>(&self, rt: &R, _proc: &mut Proc<'_>, seat: &mut SemaSeat) -> Reply<()> {
+    fn ask<R: Wait>(
+        &self,
+        rt: &R,
+        _proc: &mut Proc<'_>,
+        seat: &mut SemaSeat,
+        _buffer: &mut [u8],
+    ) -> Reply<()> {
         let number = seat.seat.number();
         match self.sema.ask(rt, seat, SemaCall::Collect { seat: number }) {
             SemaReply::Granted => Reply::Done(()),
@@ -146,7 +163,7 @@ impl Sema {
         }
         let rendez = self.rendez(seat);
         let call = Acquiring { sema: self };
-        match wait_for(rt, proc, rendez, &call, seat, probe) {
+        match wait_for(rt, proc, rendez, &call, seat, &mut [], probe) {
             Ok(()) => Ok(Semacquired::Acquired),
             Err(why) => Err(why),
         }

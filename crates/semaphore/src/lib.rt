@@ -18,6 +18,3 @@ mod wait_queue;
 pub use acquiring::Semacquired;
 pub use sema::{OpenedSema, Sema, SemaSeat};
 pub use sema_object::{SemaCall, SemaObject, SemaReply, Stage};
-pub use timer_list::{
-    Due, OpenedTimers, Timer, TimerCall, TimerObject, TimerReply, TimerSeat, Timers,
-};

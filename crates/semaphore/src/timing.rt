@@ -12,7 +12,7 @@ use crate::sema::{Sema, SemaSeat};
 use sleep_wakeup::Proc;
 use std::sync::Wait;
 use sync_base::{Fault, NoProbe, Probe};
-use timer_list::{TimerSeat, Timers, wait_within};
+use timer_list::{Deadline, TimerSeat, Timers, wait_within};
 
 impl Sema {
     /// Takes a unit. Where there is none it waits until a tick at the moment `now` + `ms` or later;
@@ -79,6 +79,11 @@ impl Sema {
     {
         let rendez = self.rendez(seat);
         let call = Acquiring { sema: self };
-        wait_within(rt, proc, rendez, &call, seat, timers, timer, now, ms, probe)
+        let until = Deadline {
+            timers,
+            from: now,
+            ms,
+        };
+        wait_within(rt, proc, rendez, &call, seat, &mut [], timer, until, probe)
     }
 }

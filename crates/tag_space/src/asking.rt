@@ -2,6 +2,7 @@
 ghost use Rattle.std.specs.Prelude.{◌≡◌, ◌<◌};
 ghost use Rattle.sleep_wakeup.specs.Actions.{WakesOne};
 ghost use Rattle.tag_space.specs.declared.calls.GroupCall.TheVariants.{Call, Collect, Leave};
+ghost use Rattle.tag_space.specs.declared.member.Member.{Member};
 ghost use Rattle.tag_space.specs.Asking.{Asks, Requests, IsCalled, IsCollected, IsLeft, meeting};
 ghost use Rattle.tag_space.specs.GroupObject.{member_of};
 ghost use Rattle.tag_space.specs.Members.{OwnsRow, IsMemberOf, IsOneOf, IsSameMember};
@@ -110,11 +111,21 @@ impl<'s> WaitingCall for Meeting<'s> {
 
     ghost knows = { λ call words. OwnsRow call.space.now words };
 
+    ghost Sight = { Member };
+
+    ghost sight = { λ member buffer. member };
+
     ghost promise = { λ call. meeting call.space.now
         (record { tag = call.tag; value = call.value }) };
 
     // Calls, and wakes the partner that it finds.
-    fn begin<R: Wait>(&self, rt: &R, proc: &mut Proc<'_>, member: &mut Member) -> Reply<u64> {
+    fn begin<R: Wait>(
+        &self,
+        rt: &R,
+        proc: &mut Proc<'_>,
+        member: &mut Member,
+        _buffer: &mut [u8],
+    ) -> Reply<u64> {
         match self.space.call(rt, member, self.tag, self.value) {
             GroupReply::Met {
                 value,
@@ -133,7 +144,13 @@ impl<'s> WaitingCall for Meeting<'s> {
     }
 
     // Whoever met the call has woken the process.
-    fn ask<R: Wait>(&self, rt: &R, _proc: &mut Proc<'_>, member: &mut Member) -> Reply<u64> {
+    fn ask<R: Wait>(
+        &self,
+        rt: &R,
+        _proc: &mut Proc<'_>,
+        member: &mut Member,
+        _buffer: &mut [u8],
+    ) -> Reply<u64> {
         match self.space.collect(rt, member) {
             GroupReply::WasMet { value } => Reply::Done(value),
             GroupReply::Wait { count } => Reply::Wait(count),

@@ -82,7 +82,7 @@ impl TagSpace {
             tag,
             value,
         };
-        let answer = wait_for(rt, proc, rendez, &call, member, probe);
+        let answer = wait_for(rt, proc, rendez, &call, member, &mut [], probe);
         probe.at(4);
         answer
     }

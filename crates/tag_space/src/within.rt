@@ -14,7 +14,7 @@ use crate::space::TagSpace;
 use sleep_wakeup::Proc;
 use std::sync::Wait;
 use sync_base::{Fault, NoProbe, Probe, Tag};
-use timer_list::{TimerSeat, Timers, wait_within};
+use timer_list::{Deadline, TimerSeat, Timers, wait_within};
 
 impl TagSpace {
     /// A `rendezvous` that waits until a tick at the moment `now` + `ms` or later; that moment is
@@ -117,8 +117,21 @@ impl TagSpace {
             tag,
             value,
         };
+        let until = Deadline {
+            timers,
+            from: now,
+            ms,
+        };
         wait_within(
-            rt, proc, rendez, &call, member, timers, timer, now, ms, probe,
+            rt,
+            proc,
+            rendez,
+            &call,
+            member,
+            &mut [],
+            timer,
+            until,
+            probe,
         )
     }
 }

@@ -4,6 +4,7 @@ ghost use Rattle.sleep_wakeup.specs.Starts.{IsStartOf};
 ghost use Rattle.semaphore.specs.Seats.{OwnsRow, IsSemaSeatOf};
 ghost use Rattle.timer_list.specs.Seats.{IsTimerSeatOf};
 
+use crate::dice::{Dice, seed_of};
 use crate::kernels::{forked, kernel_of, push};
 use plan9::{
     Clock, Fault, Holder, Kernel, Note, NoteSet, OpenedKernel, OpenedSema, OpenedTimers, Pid, Pool,
@@ -27,6 +28,7 @@ const OPENING: u32 = 3;
 /// What the processes tell each other, outside the pool.
 #[derive(Drop)]
 struct Board {
+    seed: u64,
     /// The moment of the last tick.
     now: AtomicU64,
     /// How many have acquired all their units.
@@ -50,8 +52,8 @@ struct Work {
 }
 
 // One acquire of one of the three kinds. Says whether it got a unit.
-fn acquire<R: Wait>(rt: &R, job: &mut Job, board: &Board, round: u64) -> Result<bool, Fault> {
-    let waited = match round % 3 {
+fn acquire<R: Wait>(rt: &R, job: &mut Job, board: &Board, kind: u64) -> Result<bool, Fault> {
+    let waited = match kind {
         0 => job.holder.acquire(rt),
         1 => return Ok(job.holder.try_acquire(rt)),
         _ => {
@@ -66,10 +68,9 @@ fn acquire<R: Wait>(rt: &R, job: &mut Job, board: &Board, round: u64) -> Result<
     }
 }
 
-// An acquire, the release of its unit, and a note to one of the crowd now and then, in a scattered
-// choice, the same in each run.
-fn turn<R: Wait>(rt: &R, job: &mut Job, board: &Board, round: u64, work: &mut Work) {
-    match acquire(rt, job, board, round) {
+// An acquire, the release of its unit, and a note to one of the crowd now and then.
+fn turn<R: Wait>(rt: &R, job: &mut Job, board: &Board, dice: &mut Dice, work: &mut Work) {
+    match acquire(rt, job, board, dice.roll(3)) {
         Ok(true) => {
             work.acquired = work.acquired.saturating_add(1);
             match job.holder.release(rt, 1) {
@@ -80,7 +81,7 @@ fn turn<R: Wait>(rt: &R, job: &mut Job, board: &Board, round: u64, work: &mut Wo
         Ok(false) => {}
         Err(_) => work.wrong = work.wrong.saturating_add(1),
     }
-    let noted = round.wrapping_mul(2_654_435_761) % 64;
+    let noted = dice.roll(64);
     let interrupt = NoteSet::of(Note::Interrupt);
     if noted < HOLDERS && job.holder.postnote(Pid(noted + 2), interrupt).is_err() {
         work.wrong = work.wrong.saturating_add(1);
@@ -93,13 +94,12 @@ fn works<R: Wait>(rt: &R, mut job: Job, board: &Board) -> Work {
         released: 0,
         wrong: 0,
     };
-    let mut round = job.number;
+    let mut dice = Dice::of(board.seed, job.number);
     for _ in rt.forever() {
         if work.acquired >= UNITS {
             break;
         }
-        round = round.saturating_add(1);
-        turn(rt, &mut job, board, round, &mut work);
+        turn(rt, &mut job, board, &mut dice, &mut work);
     }
     board.ended.fetch_add(1, SeqCst);
     work
@@ -155,15 +155,15 @@ fn units_left<R: Wait>(rt: &R, last: &mut Holder) -> u64 {
 }
 
 // Each acquired what it wanted, and the units that are left are those that nobody has.
-fn count_units(rt: &impl Abort, done: &[Work], left: u64) {
+fn count_units(rt: &impl Abort, done: &[Work], left: u64, seed: u64) {
     let mut wanted = OPENING as u64;
     for work in done.iter() {
-        assert!(rt; (work.wrong, work.acquired) == (0, UNITS));
+        assert!(rt; (work.wrong, work.acquired) == (0, UNITS), "seed {seed}");
         wanted = wanted
             .saturating_add(work.released)
             .saturating_sub(work.acquired);
     }
-    assert_eq!(rt; left, wanted);
+    assert_eq!(rt; left, wanted, "seed {seed}");
 }
 
 // Runs the crowd, beside one that ticks.
@@ -172,8 +172,10 @@ fn run_crowd<'s, 't, 'k, R: Threads + Wait + Abort + Sync>(
     jobs: Vec<Job<'s, 't, 'k>>,
     watch: Watch<'t>,
     ticker: Proc<'k>,
+    seed: u64,
 ) -> Vec<Work> {
     let board = Board {
+        seed,
         now: AtomicU64::new(0),
         ended: AtomicU64::new(0),
     };
@@ -196,6 +198,7 @@ fn hold<'k, R: Threads + Wait + Abort + Sync>(
     pool: &mut Pool,
     clock: &mut Clock,
     started: Started<'k>,
+    seed: u64,
 ) {
     let mut started = started;
     let ticker = forked(rt, &mut started);
@@ -207,8 +210,8 @@ fn hold<'k, R: Threads + Wait + Abort + Sync>(
         panic!(rt; "nobody holds")
     };
     let jobs = jobs_of(rt, alloc, holders, &mut watch);
-    let done = run_crowd(rt, jobs, watch, ticker);
-    count_units(rt, done.as_slice(), units_left(rt, &mut last));
+    let done = run_crowd(rt, jobs, watch, ticker, seed);
+    count_units(rt, done.as_slice(), units_left(rt, &mut last), seed);
 }
 
 #[test]
@@ -217,7 +220,14 @@ fn no_unit_is_lost_and_none_is_given_twice(rt: HostRuntime) {
     let mut started = kernel.start(start);
     let mut pool = pool_of(&rt, rt.alloc(), &mut started.roster, OPENING, HOLDERS + 1);
     match Clock::new(rt.alloc(), HOLDERS + 1) {
-        Ok(mut clock) => hold(&rt, rt.alloc(), &mut pool, &mut clock, started),
+        Ok(mut clock) => hold(
+            &rt,
+            rt.alloc(),
+            &mut pool,
+            &mut clock,
+            started,
+            seed_of(&rt),
+        ),
         Err(_) => panic!(rt; "no clock"),
     }
 }

@@ -1,6 +1,7 @@
 //! Eight processes that meet at random tags, every other time until a moment, while a ninth ticks
 //! and posts notes at random. Each exchange is told by both sides, each once, with the other's
 //! value.
+use crate::dice::{Dice, seed_of};
 use crate::kernels::{forked, kernel_of, push};
 use plan9::{
     Clock, Fault, Guest, Hall, Note, NoteSet, OpenedKernel, Pid, Proc, Started, Tag, Watch,
@@ -26,28 +27,13 @@ const MOMENTS: u32 = 8;
 /// What the callers and the poster tell each other, outside the hall.
 #[derive(Drop)]
 struct Board {
+    seed: u64,
     /// The moment of the last tick.
     now: AtomicU64,
     /// How many calls were answered with a value.
     told: AtomicU64,
     /// How many callers have ended.
     ended: AtomicU64,
-}
-
-/// Numbers in no order that a reader could tell, the same in each run.
-#[derive(Drop)]
-struct Dice {
-    state: u64,
-}
-
-impl Dice {
-    fn roll(&mut self, below: u64) -> u64 {
-        self.state = self
-            .state
-            .wrapping_mul(6_364_136_223_846_793_005)
-            .wrapping_add(1_442_695_040_888_963_407);
-        (self.state >> 33) % below.max(1)
-    }
 }
 
 /// The value of a caller and the value that it got for it.
@@ -119,7 +105,7 @@ fn works<R: Wait + Abort>(rt: &R, alloc: Global, mut job: Job, board: &Board) ->
         refused: 0,
     };
     let number = job.number;
-    let mut dice = Dice { state: number };
+    let mut dice = Dice::of(board.seed, number);
     for call in 0..u64::MAX {
         let are_enough = board.told.load(SeqCst) >= 2 * MEETINGS;
         if are_enough && work.interrupted > 0 && work.timed_out > 0 {
@@ -141,7 +127,7 @@ fn works<R: Wait + Abort>(rt: &R, alloc: Global, mut job: Job, board: &Board) ->
 // and no tick ended more waits than there may be.
 fn posts<R: Wait>(rt: &R, mut proc: Proc, mut watch: Watch, board: &Board) -> bool {
     let mut good = true;
-    let mut dice = Dice { state: CALLERS };
+    let mut dice = Dice::of(board.seed, CALLERS);
     for _ in rt.forever() {
         if board.ended.load(SeqCst) >= CALLERS {
             break;
@@ -205,31 +191,34 @@ fn jobs_of<'s, 't, 'k, R: Wait + Abort>(
 }
 
 // No value was given twice, and each exchange has its other half, under the same tag.
-fn are_halves(rt: &impl Abort, all: &[Exchange]) {
+fn are_halves(rt: &impl Abort, all: &[Exchange], seed: u64) {
     let mut last = None;
     for exchange in all.iter() {
         let half = Exchange {
             given: exchange.got,
             got: exchange.given,
         };
-        assert!(rt; last != Some(exchange.given), "{exchange:?} stands once");
+        assert!(rt;
+            last != Some(exchange.given),
+            "seed {seed}: {exchange:?} stands once"
+        );
         assert!(rt;
             all.binary_search(&half).is_ok(),
-            "{exchange:?} has its other half"
+            "seed {seed}: {exchange:?} has its other half"
         );
-        assert_eq!(rt; exchange.given % 256, exchange.got % 256);
+        assert_eq!(rt; exchange.given % 256, exchange.got % 256, "seed {seed}");
         last = Some(exchange.given);
     }
 }
 
 // Nothing was refused, some notes and some ticks ended a wait, and each exchange has its other
 // half.
-fn meet_in_pairs(rt: &impl Abort, alloc: Global, done: &[Work]) {
+fn meet_in_pairs(rt: &impl Abort, alloc: Global, done: &[Work], seed: u64) {
     let mut all = Vec::new(alloc);
     let mut interrupted = 0u64;
     let mut timed_out = 0u64;
     for work in done.iter() {
-        assert_eq!(rt; work.refused, 0);
+        assert_eq!(rt; work.refused, 0, "seed {seed}");
         interrupted = interrupted.saturating_add(work.interrupted);
         timed_out = timed_out.saturating_add(work.timed_out);
         if all.extend_from_slice(work.exchanges.as_slice()).is_err() {
@@ -240,7 +229,7 @@ fn meet_in_pairs(rt: &impl Abort, alloc: Global, done: &[Work]) {
     assert!(rt; interrupted > 0, "some notes came in time");
     assert!(rt; timed_out > 0, "some ticks came in time");
     all.sort_unstable();
-    are_halves(rt, all.as_slice());
+    are_halves(rt, all.as_slice(), seed);
 }
 
 // Runs the crowd, beside one that posts notes and ticks.
@@ -250,8 +239,10 @@ fn run_crowd<'s, 't, 'k, R: Threads + Wait + Abort + Sync>(
     jobs: Vec<Job<'s, 't, 'k>>,
     poster: Proc<'k>,
     watch: Watch<'t>,
+    seed: u64,
 ) -> Vec<Work> {
     let board = Board {
+        seed,
         now: AtomicU64::new(0),
         told: AtomicU64::new(0),
         ended: AtomicU64::new(0),
@@ -278,14 +269,15 @@ fn meet<'k, R: Threads + Wait + Abort + Sync>(
     hall: &mut Hall,
     clock: &mut Clock,
     started: Started<'k>,
+    seed: u64,
 ) {
     let mut started = started;
     let Ok(mut watch) = clock.first() else {
         panic!(rt; "no seat at the clock")
     };
     let jobs = jobs_of(rt, alloc, &mut started, hall, &mut watch);
-    let done = run_crowd(rt, alloc, jobs, started.proc, watch);
-    meet_in_pairs(rt, alloc, done.as_slice());
+    let done = run_crowd(rt, alloc, jobs, started.proc, watch, seed);
+    meet_in_pairs(rt, alloc, done.as_slice(), seed);
 }
 
 #[test]
@@ -294,7 +286,16 @@ fn a_crowd_meets_in_pairs(rt: HostRuntime) {
     let mut started = kernel.start(start);
     let hall = Hall::new(rt.alloc(), &mut started.roster, CALLERS);
     match (hall, Clock::new(rt.alloc(), CALLERS + 1)) {
-        (Ok(mut hall), Ok(mut clock)) => meet(&rt, rt.alloc(), &mut hall, &mut clock, started),
+        (Ok(mut hall), Ok(mut clock)) => {
+            meet(
+                &rt,
+                rt.alloc(),
+                &mut hall,
+                &mut clock,
+                started,
+                seed_of(&rt),
+            )
+        }
         _ => panic!(rt; "no hall"),
     }
 }

@@ -1,8 +1,9 @@
 //! Tests of the library by its public calls, above all of its crates, so that none of them is
 //! proved once more for its tests.
-//! Read `kernels`, which opens them for all others; `sleepers`, who sleep and are woken, and
-//! `looks` at them; `queues`, `pipes` and `streams`, at queues and pipes; `partners`, two
-//! who meet, and `guests`, who meet in a crowd; `acquirers` of units, and `tickers`; `crews`,
+//! Read `kernels`, which opens them for all others, and `dice`, the choices of a crowd; `sleepers`,
+//! who sleep and are woken, and `looks` at them; `queues`, `pipes` and `streams`, at queues and
+//! pipes; `partners`, two who meet, and `guests`, who meet in a crowd; `acquirers` of units, and
+//! `tickers`; `timed`, a crowd at a pipe and one of sleepers, whose calls have deadlines; `crews`,
 //! writers and a reader; and `pages`, the examples of the manual.
 #![tactic(auto)]
 
@@ -10,6 +11,8 @@
 mod acquirers;
 #[cfg(test)]
 mod crews;
+#[cfg(test)]
+mod dice;
 #[cfg(test)]
 mod guests;
 #[cfg(test)]
@@ -30,3 +33,5 @@ mod sleepers;
 mod streams;
 #[cfg(test)]
 mod tickers;
+#[cfg(test)]
+mod timed;

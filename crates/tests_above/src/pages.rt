@@ -1,4 +1,5 @@
-//! The examples of the manual pages, line for line. `tests/pages` compares them with the pages.
+//! The examples of the manual pages, line for line. `tests/pages/manual_calls` compares them with
+//! the pages.
 use crate::kernels::{forked, kernel_of};
 use plan9::{
     Clock, Fault, Flags, Kernel, Note, NoteSet, OpenedKernel as Opened, Pid, Proc, RendezId,

@@ -3,6 +3,7 @@
 ghost use Rattle.std.specs.Prelude.{⊤};
 ghost use Rattle.pipe_dev.specs.Openings.{IsStartOf as IsPipeStart};
 
+use crate::dice::{Dice, seed_of};
 use crate::kernels::{forked, kernel_of, push};
 use plan9::{
     Ends, Fault, Note, NoteSet, OpenedKernel, OpenedPipe, Pid, Pipe, Proc, ReadAnswer, ReadEnd,
@@ -34,6 +35,7 @@ pub fn pipe_of<'p>(
 /// What is to be done.
 #[derive(Clone, Copy, Debug)]
 struct Plan {
+    seed: u64,
     limit: u64,
     writers: u64,
     /// How many bytes each message has.
@@ -239,13 +241,12 @@ fn writes<R: Wait>(
 // has ended.
 fn posts<R: Wait>(rt: &R, board: &Board, proc: &mut Proc<'_>, plan: Plan) -> Tally {
     let mut tally = Tally::new();
-    let mut turn = 0u64;
+    let mut dice = Dice::of(plan.seed, 0);
     for _ in rt.forever() {
         if board.read.load(SeqCst) {
             break;
         }
-        turn = turn.wrapping_add(2_654_435_761);
-        let pid = Pid((turn % plan.writers.saturating_add(1).max(1)).saturating_add(1));
+        let pid = Pid(dice.roll(plan.writers.saturating_add(1)).saturating_add(1));
         if proc.postnote(pid, NoteSet::of(Note::Alarm)).is_ok() {
             tally.posted = tally.posted.saturating_add(1);
         }
@@ -356,6 +357,7 @@ fn run<R: Threads + Wait + Abort + Sync>(rt: &R, alloc: Global, plan: Plan) -> u
 }
 
 const QUIET: Plan = Plan {
+    seed: 0,
     limit: 2,
     writers: 3,
     size: 20,
@@ -395,15 +397,18 @@ fn writes_of_all_writers_are_read_in_order(rt: HostRuntime) {
 
 #[test]
 fn hangups_at_scattered_moments_lose_nothing(rt: HostRuntime) {
+    let seed = seed_of(&rt);
+    let mut dice = Dice::of(seed, 0);
     for turn in 0..40u64 {
-        let by_writer = turn.wrapping_mul(7) % QUIET.writes;
-        let by_reader = turn.wrapping_mul(11) % (2 * QUIET.writes);
+        let by_writer = dice.roll(QUIET.writes);
+        let by_reader = dice.roll(2 * QUIET.writes);
         for (writer_hangs, reader_hangs) in [
             (by_writer, u64::MAX),
             (u64::MAX, by_reader),
             (by_writer, by_reader),
         ] {
             let plan = Plan {
+                seed,
                 limit: [1, 2, 3, 16, 64][(turn % 5) as usize],
                 writers: turn % 8 + 1,
                 writer_hangs,
@@ -419,6 +424,7 @@ fn hangups_at_scattered_moments_lose_nothing(rt: HostRuntime) {
 fn notes_at_scattered_moments_lose_nothing(rt: HostRuntime) {
     for limit in [1, 2] {
         let plan = Plan {
+            seed: seed_of(&rt),
             limit,
             size: 24,
             writes: 200,

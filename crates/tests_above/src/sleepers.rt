@@ -1,5 +1,6 @@
 //! Eight sleepers on a Rendez each, three wakers, and notes between; and two processes that wake
 //! each other.
+use crate::dice::{Dice, seed_of};
 use crate::kernels::{forked, kernel_of, push};
 use plan9::{Fault, Note, NoteSet, OpenedKernel, Pid, Proc, RendezId, Started};
 use std::alloc::Global;
@@ -48,16 +49,15 @@ fn sleeps<R: Wait>(rt: &R, proc: &mut Proc, own: RendezId) -> Work {
     work
 }
 
-// A note to one of the sleepers now and then, in a scattered choice, the same in each run. Says
-// whether it was refused.
-fn note_is_refused(proc: &mut Proc, level: u64, number: u64) -> bool {
-    let noted = level.wrapping_mul(2_654_435_761).wrapping_add(number) % 64;
+// A note to one of the sleepers now and then. Says whether it was refused.
+fn note_is_refused(proc: &mut Proc, dice: &mut Dice) -> bool {
+    let noted = dice.roll(64);
     let alarm = NoteSet::of(Note::Alarm);
     noted < SLEEPERS && proc.postnote(Pid(WAKERS + noted + 1), alarm).is_err()
 }
 
 // Raises every level of every sleeper, and posts notes between.
-fn wakes(proc: &mut Proc, number: u64) -> Work {
+fn wakes(proc: &mut Proc, mut dice: Dice) -> Work {
     let mut work = Work {
         good: 0,
         refused: 0,
@@ -69,7 +69,7 @@ fn wakes(proc: &mut Proc, number: u64) -> Work {
                 Err(_) => work.refused = work.refused.saturating_add(1),
             }
         }
-        if note_is_refused(proc, level, number) {
+        if note_is_refused(proc, &mut dice) {
             work.refused = work.refused.saturating_add(1);
         }
     }
@@ -77,10 +77,13 @@ fn wakes(proc: &mut Proc, number: u64) -> Work {
 }
 
 // Whether all calls of a process of the crowd are answered well.
-fn works<R: Wait>(rt: &R, mut job: Job) -> bool {
+fn works<R: Wait>(rt: &R, mut job: Job, seed: u64) -> bool {
     let number = job.number;
     let (work, good) = if number < WAKERS {
-        (wakes(&mut job.proc, number), LEVELS * SLEEPERS)
+        (
+            wakes(&mut job.proc, Dice::of(seed, number)),
+            LEVELS * SLEEPERS,
+        )
     } else {
         (sleeps(rt, &mut job.proc, RendezId(number - WAKERS)), LEVELS)
     };
@@ -107,8 +110,9 @@ fn a_crowd_is_woken_to_the_last(rt: HostRuntime) {
     );
     let mut started = kernel.start(start);
     let jobs = jobs_of(&rt, rt.alloc(), &mut started);
-    match thread::map_vec(&rt, jobs, &|job: Job| -> bool { works(&rt, job) }) {
-        Ok(done) => assert!(rt; done.iter().all(|good| *good)),
+    let seed = seed_of(&rt);
+    match thread::map_vec(&rt, jobs, &|job: Job| -> bool { works(&rt, job, seed) }) {
+        Ok(done) => assert!(rt; done.iter().all(|good| *good), "seed {seed}"),
         Err(_) => panic!(rt; "no memory for the answers"),
     }
 }

@@ -82,7 +82,7 @@ fn pair_of<'p, 'k>(rt: &impl Abort, started: &mut Started<'k>, ends: Ends<'p>) -
     }
 }
 
-// `tests/pages` compares it with the page.
+// `tests/pages/manual_calls` compares it with the page.
 #[test]
 fn pipe_page(rt: HostRuntime) {
     let alloc = rt.alloc();

@@ -1,5 +1,5 @@
 //! Scripts on streams that fail as those of the system can't: with each kind of error, also in a
-//! flush. `tests/devices` tries what the system can do, on the program.
+//! flush. `tests/programs/devices` tries what the system can do, on the program.
 use scripts::device::write_whole;
 use scripts::{run_pipe, run_replay};
 use std::alloc::Global;

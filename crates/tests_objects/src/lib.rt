@@ -1,9 +1,10 @@
 //! Tests of the layers below processes by their public calls, above all of them, so that none is
 //! proved once more for its tests.
 //! Read `plain`, a pipe for one thread; `worlds`, the machine of sleep and wakeup; `words`, the
-//! same on shared words; `locks` and `rooms`, objects under a lock; `spaces`, where calls meet by
-//! tags; `units` and `timers`, of semaphores; `devices`, scripts on streams that fail; and `sizes`,
-//! what no program makes at each size.
+//! same on shared words; `locks` and `rooms`, objects under a lock; `rings`, who plays calls at a
+//! queue of blocks, with `ring_rows` and `lone_rings`; `spaces`, where calls meet by tags; `units`
+//! and `timers`, of semaphores; `devices`, scripts on streams that fail; and `sizes`, what no
+//! program makes at each size.
 #![tactic(auto)]
 
 #[cfg(test)]
@@ -11,7 +12,13 @@ mod devices;
 #[cfg(test)]
 mod locks;
 #[cfg(test)]
+mod lone_rings;
+#[cfg(test)]
 mod plain;
+#[cfg(test)]
+mod ring_rows;
+#[cfg(test)]
+mod rings;
 #[cfg(test)]
 mod rooms;
 #[cfg(test)]

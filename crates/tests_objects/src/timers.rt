@@ -1,12 +1,12 @@
 //! Calls of timers with their answers. Where memory is refused the timers are asked for once more.
 ghost use Rattle.sleep_core.specs.Limits.{IsProcCount};
 
-use semaphore::TimerCall::{Add, Cancel, Expire};
-use semaphore::TimerReply::{Absent, Added, Ended, Expired, NoneDue};
-use semaphore::{TimerCall, TimerObject, TimerReply};
 use std::alloc::Global;
 use std::process::Abort;
 use sync_base::{Fault, Pid};
+use timer_list::TimerCall::{Add, Cancel, Expire};
+use timer_list::TimerReply::{Absent, Added, Ended, Expired, NoneDue};
+use timer_list::{TimerCall, TimerObject, TimerReply};
 
 // Timers of which none is set.
 fn timers_of(rt: &impl Abort, alloc: Global, procs: u64) -> TimerObject

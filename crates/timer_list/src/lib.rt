@@ -20,4 +20,4 @@ mod within;
 pub use due::Due;
 pub use timer_object::{Timer, TimerCall, TimerObject, TimerReply};
 pub use timers::{OpenedTimers, TimerSeat, Timers};
-pub use within::{end_within, wait_within};
+pub use within::{Deadline, wait_within};

@@ -10,7 +10,7 @@ ghost use Rattle.timer_list.specs.Timers.{deadline_of};
 ghost use Rattle.timer_list.specs.Timing.{WaitedInTime, timed_point};
 
 use crate::timers::{TimerSeat, Timers};
-use crate::within::wait_within;
+use crate::within::{Deadline, wait_within};
 use sleep_wakeup::Proc;
 use std::sync::Wait;
 use sync_base::limits::TOP_LEVEL;
@@ -68,16 +68,20 @@ impl Timers {
             return Err(Fault::BadLevel);
         }
         let call = Sleeping { threshold };
+        let until = Deadline {
+            timers: self,
+            from: now,
+            ms,
+        };
         wait_within(
             rt,
             proc,
             rendez,
             &call,
             &mut (),
-            self,
+            &mut [],
             timer,
-            now,
-            ms,
+            until,
             &mut NoProbe,
         )
     }
@@ -102,13 +106,29 @@ impl WaitingCall for Sleeping {
 
     ghost knows = { λ call words. ⊤ };
 
+    ghost Sight = { ⊤ };
+
+    ghost sight = { λ seat buffer. seat };
+
     ghost promise = { λ call. sleeping call.threshold };
 
-    fn begin<R: Wait>(&self, _rt: &R, _proc: &mut Proc<'_>, _seat: &mut ()) -> Reply<()> {
+    fn begin<R: Wait>(
+        &self,
+        _rt: &R,
+        _proc: &mut Proc<'_>,
+        _seat: &mut (),
+        _buffer: &mut [u8],
+    ) -> Reply<()> {
         Reply::Wait(self.threshold)
     }
 
-    fn ask<R: Wait>(&self, _rt: &R, _proc: &mut Proc<'_>, _seat: &mut ()) -> Reply<()> {
+    fn ask<R: Wait>(
+        &self,
+        _rt: &R,
+        _proc: &mut Proc<'_>,
+        _seat: &mut (),
+        _buffer: &mut [u8],
+    ) -> Reply<()> {
         Reply::Done(())
     }
 

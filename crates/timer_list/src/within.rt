@@ -15,7 +15,6 @@ ghost use Rattle.timer_list.specs.Timing.{
   PutsBackAny,
   WaitedInTime,
   awaiting,
-  notes_in,
   notes_of,
   timed_point,
   without_expired,
@@ -31,9 +30,17 @@ use std::thread::yield_now;
 use sync_base::{Fault, Note, NoteSet, Probe, RendezId};
 use waiting::{Reply, WaitEnd, WaitingCall, sleep_for};
 
-/// Makes a call, as `wait_for` of `waiting` does, which waits until a tick at the moment `now` +
-/// `ms` or later; that moment is at most `u64::MAX`. After tsemacquire in semacquire(2) and tsleep
-/// of the kernel; the tick is the library's own.
+/// When a wait ends at these timers: by a tick at the moment `from` + `ms` or later. That moment is
+/// at most `u64::MAX`.
+#[derive(Clone, Copy, Drop)]
+pub struct Deadline<'t> {
+    pub timers: &'t Timers,
+    pub from: u64,
+    pub ms: u32,
+}
+
+/// Makes a call, as `wait_for` of `waiting` does, which waits until its deadline. After tsemacquire
+/// in semacquire(2) and tsleep of the kernel; the tick is the library's own.
 ///
 /// A call that is told to wait sets its timer first. Where notes end its wait, and it has come to
 /// nothing by then, it is refused as `TimedOut` where a tick took its timer and no other note came,
@@ -47,45 +54,52 @@ pub fn wait_within<R: Wait, C: WaitingCall, P: Probe>(
     rendez: RendezId,
     call: &C,
     seat: &mut C::Seat,
-    timers: &Timers,
+    buffer: &mut [u8],
     timer: &mut TimerSeat,
-    now: u64,
-    ms: u32,
+    until: Deadline<'_>,
     probe: &mut P,
 ) -> Result<C::Out, Fault>
     requires ready { C.ready call.now seat.old }
     requires row { C.knows call.now proc.old.words }
+    requires fits { C.fits call.now buffer.old }
     requires rendez { rendez.0 < rendez_of proc.old.words }
-    requires timer { IsTimerSeatOf timers.now timer.old }
+    requires timer { IsTimerSeatOf until.timers.now timer.old }
     ensures rests { C.rests call.now seat.new }
     ensures words { proc.new.words ≡ proc.old.words }
 
     // When it returns, its timer is cancelled.
-    ensures timer { IsTimerSeatOf timers.now timer.new }
+    ensures timer { IsTimerSeatOf until.entry.timers.now timer.new }
     ensures timer_number { number_of timer.new.seat ≡ number_of timer.old.seat }
-    ensures waited { WaitedInTime (C.promise call.now) rendez timers.now (deadline_of now ms)
-        (timed_point seat.old timer.old proc.old) result
-        (timed_point seat.new timer.new proc.new) }
+    ensures waited { WaitedInTime (C.promise call.now) rendez until.entry.timers.now
+        (deadline_of until.entry.from until.entry.ms)
+        (timed_point (C.sight seat.old buffer.old) timer.old proc.old) result
+        (timed_point (C.sight seat.new buffer.new) timer.new proc.new) }
 
     // So what holds of a call without a deadline holds of it.
-    ensures is_call { IsACall (C.promise call.now) rendez (point seat.old proc.old) result
-        (point seat.new proc.new) }
+    ensures is_call { IsACall (C.promise call.now) rendez
+        (point (C.sight seat.old buffer.old) proc.old) result
+        (point (C.sight seat.new buffer.new) proc.new) }
 {
+    let Deadline {
+        timers,
+        from: now,
+        ms,
+    } = until;
     let pid = proc.pid();
-    match call.begin(rt, proc, seat) {
+    match call.begin(rt, proc, seat, buffer) {
         Reply::Done(out) => Ok(out),
         Reply::Refused(why) => Err(why),
         Reply::Wait(number) => {
             timers.add(rt, timer, pid, deadline(now, ms));
-            let ending = sleep_for(rt, proc, rendez, call, seat, number, probe);
+            let ending = sleep_for(rt, proc, rendez, call, seat, buffer, number, probe);
             end_within(rt, proc, rendez, timers, timer, ending)
         }
     }
 }
 
-/// The rest of a call with a deadline, behind its sleeps: it cancels its timer, awaits the note of
-/// a tick that has taken it, and answers. It waits for the timers' lock. Takes no memory.
-pub fn end_within<R: Wait, T: Drop>(
+// The rest of a call with a deadline, behind its sleeps: it cancels its timer, awaits the note of a
+// tick that has taken it, and answers.
+fn end_within<R: Wait, T: Drop>(
     rt: &R,
     proc: &mut Proc<'_>,
     rendez: RendezId,
@@ -111,16 +125,7 @@ fn taken_by<T>(ending: &WaitEnd<T>) -> NoteSet
     ensures { result ≡ notes_of ending.now }
 {
     match ending {
-        WaitEnd::Answered(_) => NoteSet::empty(),
-        WaitEnd::Stopped(why, _) => taken(*why),
-    }
-}
-
-fn taken(why: Fault) -> NoteSet
-    ensures { result ≡ notes_in why }
-{
-    match why {
-        Fault::Interrupted(notes) => notes,
+        WaitEnd::Stopped(Fault::Interrupted(notes), _) => *notes,
         _ => NoteSet::empty(),
     }
 }

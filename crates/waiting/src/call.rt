@@ -15,9 +15,10 @@ pub enum Reply<T> {
 }
 
 /// A call that may have to wait, as its three requests. Each of the first two wakes whom it lets go
-/// on; none of them sleeps.
+/// on, and is lent the buffer of the caller: no bytes where the call reads none. None of them
+/// sleeps.
 pub trait WaitingCall {
-    ghost use Rattle.std.specs.Prelude.{◌≡◌, Option};
+    ghost use Rattle.std.specs.Prelude.{◌≡◌, ⊤, ℕ, List, Option};
     ghost use Rattle.rendez_words.specs.declared.words.Words.{Words};
     ghost use Rattle.waiting.specs.Waiting.{Promise, StandsSo, IsLow, point};
 
@@ -34,35 +35,60 @@ pub trait WaitingCall {
 
     ghost rests: { Self → Self.Seat → Type 0 };
 
+    /// A buffer that the call may be lent.
+    ghost fits: { Self → List ℕ → Type 0 } = { λ call buffer. ⊤ };
+
     /// These words have each Rendez that the call may wake.
     ghost knows: { Self → Words → Type 0 };
 
-    /// What each request does to the seat and its process, by its answer.
-    ghost promise: { Self → Promise Self.Seat Self.Out };
+    /// What a caller sees of the seat and the buffer.
+    ghost Sight: { Type 0 };
+
+    ghost sight: { Self.Seat → List ℕ → Sight };
+
+    /// What each request does to that and to the process, by its answer.
+    ghost promise: { Self → Promise Sight Self.Out };
 
     /// The first request.
-    fn begin<R: Wait>(&self, rt: &R, proc: &mut Proc<'_>, seat: &mut Self::Seat) -> Reply<Self::Out>
+    fn begin<R: Wait>(
+        &self,
+        rt: &R,
+        proc: &mut Proc<'_>,
+        seat: &mut Self::Seat,
+        buffer: &mut [u8],
+    ) -> Reply<Self::Out>
         requires ready { ready self.now seat.old }
         requires row { knows self.now proc.old.words }
+        requires fits { fits self.now buffer.old }
+        ensures fits { fits self.now buffer.new }
         ensures words { proc.new.words ≡ proc.old.words }
         ensures stands { StandsSo (rests self.now) (waits self.now) result seat.new }
         ensures low { IsLow result }
-        ensures asked { (promise self.now).begun (point seat.old proc.old) result
-            (point seat.new proc.new) };
+        ensures asked { (promise self.now).begun (point (sight seat.old buffer.old) proc.old) result
+            (point (sight seat.new buffer.new) proc.new) };
 
     /// The request after a sleep that ended well.
-    fn ask<R: Wait>(&self, rt: &R, proc: &mut Proc<'_>, seat: &mut Self::Seat) -> Reply<Self::Out>
+    fn ask<R: Wait>(
+        &self,
+        rt: &R,
+        proc: &mut Proc<'_>,
+        seat: &mut Self::Seat,
+        buffer: &mut [u8],
+    ) -> Reply<Self::Out>
         requires waits { waits self.now seat.old }
         requires row { knows self.now proc.old.words }
+        requires fits { fits self.now buffer.old }
+        ensures fits { fits self.now buffer.new }
         ensures words { proc.new.words ≡ proc.old.words }
         ensures stands { StandsSo (rests self.now) (waits self.now) result seat.new }
         ensures low { IsLow result }
-        ensures asked { (promise self.now).asked (point seat.old proc.old) result
-            (point seat.new proc.new) };
+        ensures asked { (promise self.now).asked (point (sight seat.old buffer.old) proc.old) result
+            (point (sight seat.new buffer.new) proc.new) };
 
     /// The last request, after a sleep that failed: what the call had come to by then, if it had.
     fn leave<R: Wait>(&self, rt: &R, seat: &mut Self::Seat) -> Option<Self::Out>
         requires waits { waits self.now seat.old }
         ensures rests { rests self.now seat.new }
-        ensures left { (promise self.now).left seat.old result seat.new };
+        ensures left { (buffer : List ℕ)
+            → (promise self.now).left (sight seat.old buffer) result (sight seat.new buffer) };
 }

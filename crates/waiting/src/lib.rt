@@ -8,4 +8,4 @@ pub mod laws;
 pub mod wait;
 
 pub use call::{Reply, WaitingCall};
-pub use wait::{WaitEnd, end_wait, sleep_for, wait_for, wait_on};
+pub use wait::{WaitEnd, sleep_for, wait_for};

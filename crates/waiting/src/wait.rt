@@ -3,67 +3,50 @@ ghost use Rattle.std.specs.Prelude.{◌≡◌, ◌<◌, IfErr, OnOk};
 ghost use Rattle.sync_base.specs.declared.limits.TheConstants.{TOP_LEVEL};
 ghost use Rattle.rendez_words.specs.Words.{rendez_of};
 ghost use Rattle.sleep_wakeup.specs.Actions.{SleepsWell, FailsAsleep, PutsBack};
-ghost use Rattle.waiting.specs.Waiting.{Returns, SleepsOn, Waited, WaitsOn, answer_of, point, told};
+ghost use Rattle.waiting.specs.Waiting.{Returns, SleepsOn, Waited, answer_of, point, told};
 
 use crate::call::{Reply, WaitingCall};
 use sleep_wakeup::Proc;
 use std::sync::Wait;
 use sync_base::{Fault, Probe, RendezId};
 
-/// Makes a call. It asks; while it is told to wait, it sleeps on this Rendez with the number that
-/// it was told last, and asks again. A sleep that notes ended, or that found another process on the
-/// Rendez, is the call's last: it leaves, and is refused with that fault. Where it had come to
-/// something by then it answers that, and the notes are pending again.
-/// The probe is told 2 before each sleep and 3 after it. Takes no memory of its own.
+/// Makes a call, whose requests are lent this buffer. It asks; while it is told to wait, it sleeps
+/// on this Rendez with the number that it was told last, and asks again. A sleep that notes ended,
+/// or that found another process on the Rendez, is the call's last: it leaves, and is refused with
+/// that fault. Where it had come to something by then it answers that, and the notes are pending
+/// again. The probe is told 2 before each sleep and 3 after it. Takes no memory of its own.
 pub fn wait_for<R: Wait, C: WaitingCall, P: Probe>(
     rt: &R,
     proc: &mut Proc<'_>,
     rendez: RendezId,
     call: &C,
     seat: &mut C::Seat,
+    buffer: &mut [u8],
     probe: &mut P,
 ) -> Result<C::Out, Fault>
     requires ready { C.ready call.now seat.old }
     requires row { C.knows call.now proc.old.words }
+    requires fits { C.fits call.now buffer.old }
     requires rendez { rendez.0 < rendez_of proc.old.words }
     ensures rests { C.rests call.now seat.new }
     ensures words { proc.new.words ≡ proc.old.words }
-    ensures waited { Waited (C.promise call.now) rendez (point seat.old proc.old) result
-        (point seat.new proc.new) }
+    ensures waited { Waited (C.promise call.now) rendez
+        (point (C.sight seat.old buffer.old) proc.old) result
+        (point (C.sight seat.new buffer.new) proc.new) }
 {
-    match call.begin(rt, proc, seat) {
+    match call.begin(rt, proc, seat, buffer) {
         Reply::Done(out) => Ok(out),
         Reply::Refused(why) => Err(why),
-        Reply::Wait(number) => wait_on(rt, proc, rendez, call, seat, number, probe),
+        Reply::Wait(number) => {
+            let ending = sleep_for(rt, proc, rendez, call, seat, buffer, number, probe);
+            end_wait(proc, ending)
+        }
     }
 }
 
-/// The rest of a call that was told to wait with this number.
-pub fn wait_on<R: Wait, C: WaitingCall, P: Probe>(
-    rt: &R,
-    proc: &mut Proc<'_>,
-    rendez: RendezId,
-    call: &C,
-    seat: &mut C::Seat,
-    number: u64,
-    probe: &mut P,
-) -> Result<C::Out, Fault>
-    requires waits { C.waits call.now seat.old }
-    requires row { C.knows call.now proc.old.words }
-    requires rendez { rendez.0 < rendez_of proc.old.words }
-    requires low { number < TOP_LEVEL }
-    ensures rests { C.rests call.now seat.new }
-    ensures words { proc.new.words ≡ proc.old.words }
-    ensures waited { WaitsOn (C.promise call.now) rendez (told seat.old proc.old number) result
-        (point seat.new proc.new) }
-{
-    let ending = sleep_for(rt, proc, rendez, call, seat, number, probe);
-    end_wait(proc, ending)
-}
-
-/// What a call answers whose sleeps ended so. Where it had come to something by then, the notes
-/// that ended its last sleep are pending again. Takes no memory and doesn't wait.
-pub fn end_wait<T: Drop>(proc: &mut Proc<'_>, ending: WaitEnd<T>) -> Result<T, Fault>
+// What a call answers whose sleeps ended so. Where it had come to something by then, the notes that
+// ended its last sleep are pending again.
+fn end_wait<T: Drop>(proc: &mut Proc<'_>, ending: WaitEnd<T>) -> Result<T, Fault>
     ensures answer { result ≡ answer_of ending }
     ensures returned { Returns ending proc.old.process proc.new.process }
     ensures words { proc.new.words ≡ proc.old.words }
@@ -95,17 +78,20 @@ pub fn sleep_for<R: Wait, C: WaitingCall, P: Probe>(
     rendez: RendezId,
     call: &C,
     seat: &mut C::Seat,
+    buffer: &mut [u8],
     number: u64,
     probe: &mut P,
 ) -> WaitEnd<C::Out>
     requires waits { C.waits call.now seat.old }
     requires row { C.knows call.now proc.old.words }
+    requires fits { C.fits call.now buffer.old }
     requires rendez { rendez.0 < rendez_of proc.old.words }
     requires low { number < TOP_LEVEL }
     ensures rests { C.rests call.now seat.new }
     ensures words { proc.new.words ≡ proc.old.words }
-    ensures slept { SleepsOn (C.promise call.now) rendez (told seat.old proc.old number) result
-        (point seat.new proc.new) }
+    ensures slept { SleepsOn (C.promise call.now) rendez
+        (told (C.sight seat.old buffer.old) proc.old number) result
+        (point (C.sight seat.new buffer.new) proc.new) }
 {
     let mut number = number;
     for _ in rt.forever() {
@@ -117,7 +103,7 @@ pub fn sleep_for<R: Wait, C: WaitingCall, P: Probe>(
                 let left = call.leave(rt, seat);
                 return WaitEnd::Stopped(why, left);
             }
-            Ok(()) => match call.ask(rt, proc, seat) {
+            Ok(()) => match call.ask(rt, proc, seat, buffer) {
                 Reply::Done(out) => return WaitEnd::Answered(Ok(out)),
                 Reply::Refused(why) => return WaitEnd::Answered(Err(why)),
                 Reply::Wait(again) => number = again,

@@ -12,6 +12,9 @@ invariant-mustering l =
     record {
       given : ends_of l.writers.items ++ into_iter_items l.end-iterator ≡ l.fn.writes.items;
       none : AllByRecursion (λ writer. writer.accepted ≡ 0) l.writers.items;
+      roster : l.roster.words ≡ l.fn.reader.words;
+      parent : l.parent ≡ l.fn.reader;
+      kernel : AllByRecursion (λ writer. writer.proc.words ≡ l.fn.reader.words) l.writers.items;
       lists : messages_of l.writers.items ++ map vec_items (into_iter_items l.lists)
           ≡ map vec_items l.fn.messages.items;
       as_many : length (into_iter_items l.lists) ≡ length (into_iter_items l.end-iterator);

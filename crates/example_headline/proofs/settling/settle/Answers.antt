@@ -6,7 +6,7 @@ use Rattle.pipe_dev.specs.Ends.{WriteSide, AreAllEnds}
 use Rattle.pipe_dev.specs.Finishing.{GivesHeld}
 use Rattle.example_headline.specs.Crew.{ends_of}
 use Rattle.example_headline.specs.declared.writer.Writer.{Writer}
-use Rattle.example_headline.proofs.HeadlineLemmas.{written_of, whole_and_once, nothing_left}
+use Rattle.example_headline.proofs.HeadlineLemmas.{written_of, keeps_headline, nothing_left}
 use Rattle.example_headline.proofs.settling.settle.Goals as goal
 
 pub finish-requires : goal.finish-requires
@@ -36,7 +36,7 @@ returns-in-Ok c =
     ∙ (ap (λ (xs : List Writer). c.parting.told.items ++ map written_of xs) (sym ended)
     ∙ c.parting.invariant.told) in
     record {
-      whole = whole_and_once c.args.crew _ c.requires.worked told refl refl
+      headline = keeps_headline c.args.crew _ c.requires.worked told refl refl
           (subst (λ (ends : List WriteSide). GivesHeld c.args.crew.reader.end ends c.in-Ok.held)
           all c.in-Ok.ensures.held);
     }

@@ -11,8 +11,7 @@ returns g c =
           (at_each c.write_each.new.writers c.hangup_each.new.writers c.hangup_each.auto.writers
           c.hangup_each.ensures.on);
       ended = still_ended c.write_each.new.writers c.hangup_each.new.writers
-          (at_each c.write_each.new.writers c.hangup_each.new.writers c.hangup_each.auto.writers
-          c.hangup_each.ensures.on)
+          c.hangup_each.auto.writers c.hangup_each.ensures.ended
           (ended_at_each c.args.writers.now c.write_each.new.writers c.write_each.auto.writers
           c.write_each.ensures.ended);
     }

@@ -44,16 +44,17 @@ returns-in-Wait-clause-timer_number g c =
 
 pub returns-in-Wait-clause-waited : goal.returns-in-Wait-clause-waited
 returns-in-Wait-clause-waited g c =
-    let timers = c.args.timers.now in
+    let timers = c.args.until.timers.now in
     let set = c.add.new.seat in
     let ended = c.end_within.ensures.ended in
     let pid : Pid = record { 0 = c.args.proc.now.process.pid } in
-    let moment = deadline_of c.args.now c.args.ms in
+    let moment = deadline_of c.args.until.from c.args.until.ms in
     let added : AsksTimers timers true (Add (number_of c.args.timer.now.seat) pid moment) Added
     c.args.timer.now set =
     rw (c.pid-pid.ensures, c.deadline.ensures) at c.add.ensures.asks in
     inr (record {
-      first = told c.begin.new.seat c.begin.new.proc c.in-Wait.number;
+      first = told (g.C.WaitingCall.sight c.begin.new.seat c.begin.new.buffer) c.begin.new.proc
+          c.in-Wait.number;
       set = set;
       ending = c.sleep_for-ending.result;
       process = c.sleep_for-ending.new.proc.process;

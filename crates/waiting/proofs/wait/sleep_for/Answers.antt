@@ -8,9 +8,12 @@ returns-in-Err-clause-slept g c =
     let kept = c.loop.invariant in
     record {
       times = kept.times;
-      last = told c.loop.seat c.loop.proc c.loop.number;
+      last = told (g.C.WaitingCall.sight c.loop.seat c.loop.buffer) c.loop.proc c.loop.number;
       rounds = kept.rounds;
-      ends = record { failed = c.in-Err.ensures.failed; left = c.leave-left.ensures.left };
+      ends = record {
+        failed = c.in-Err.ensures.failed;
+        left = c.leave-left.ensures.left c.loop.buffer;
+      };
     }
 
 pub returns-in-Done-clause-slept : goal.returns-in-Done-clause-slept
@@ -18,7 +21,7 @@ returns-in-Done-clause-slept g c =
     let kept = c.loop.invariant in
     record {
       times = kept.times;
-      last = told c.loop.seat c.loop.proc c.loop.number;
+      last = told (g.C.WaitingCall.sight c.loop.seat c.loop.buffer) c.loop.proc c.loop.number;
       rounds = kept.rounds;
       ends = record {
         woken = c.sleep_waiting-slept.new.proc.process;
@@ -32,7 +35,7 @@ returns-in-Refused-clause-slept g c =
     let kept = c.loop.invariant in
     record {
       times = kept.times;
-      last = told c.loop.seat c.loop.proc c.loop.number;
+      last = told (g.C.WaitingCall.sight c.loop.seat c.loop.buffer) c.loop.proc c.loop.number;
       rounds = kept.rounds;
       ends = record {
         woken = c.sleep_waiting-slept.new.proc.process;
@@ -49,10 +52,11 @@ loop-preserved g c =
       waits = c.in-Wait.ensures.stands;
       row = subst (g.C.WaitingCall.knows c.args.call.now) (sym same) kept.row;
       words = same ∙ kept.words;
+      fits = c.in-Wait.ensures.fits;
       low = c.in-Wait.ensures.low;
       times = suc kept.times;
       rounds = record {
-        between = told c.loop.seat c.loop.proc c.loop.number;
+        between = told (g.C.WaitingCall.sight c.loop.seat c.loop.buffer) c.loop.proc c.loop.number;
         rounds = kept.rounds;
         last = record {
           woken = c.sleep_waiting-slept.new.proc.process;

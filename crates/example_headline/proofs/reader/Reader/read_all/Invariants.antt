@@ -1,5 +1,6 @@
--- what was read so far is kept, and it did not come to the end
-use Rattle.std.proofs.Common.{◌≡◌, false}
+-- what was read so far is kept, and nothing was refused
+use Rattle.std.proofs.Common.{◌≡◌}
+use Rattle.std.specs.Prelude.{None}
 use Rattle.example_headline.specs.Crew.{HasReadOn}
 use Rattle.example_headline.proofs.reader.Reader.read_all.Given as goal
 
@@ -7,5 +8,5 @@ abbrev pub invariant-reading : goal.invariant-reading
 invariant-reading g l =
     record {
       on : HasReadOn l.fn.self l.self;
-      not_yet : l.self.to_end ≡ false;
+      none : l.self.stopped ≡ None;
     }

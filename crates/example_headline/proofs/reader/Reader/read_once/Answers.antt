@@ -1,6 +1,6 @@
--- the part that was read is kept, and where none was read nothing is
-use Rattle.std.proofs.Common.{◌≡◌, ◌∷◌, ◌++◌, [], List, ℕ, arith, sym, ◌∙◌, ap, refl, subst, take}
-use Rattle.std.proofs.Common.{drop, length}
+-- the part that was read is kept, and where none was read nothing is; a refusal is told as it was
+use Rattle.std.proofs.Common.{◌≡◌, ◌≢◌, ◌∷◌, ◌++◌, [], List, ℕ, arith, sym, ◌∙◌, ap, refl, subst}
+use Rattle.std.proofs.Common.{take, drop, length}
 use Rattle.std.specs.Prelude.{Ok, Err}
 use Rattle.std.proofs.lemmas.List.{append-nil, take_at}
 use Rattle.std.proofs.lemmas.Result.{err_from_is_err_and}
@@ -8,23 +8,44 @@ use Rattle.block_queue.specs.Seats.{key_of}
 use Rattle.pipe_dev.specs.declared.answers.ReadAnswer.{ReadAnswer}
 use Rattle.pipe_dev.specs.declared.answers.ReadAnswer.TheVariants as read
 use Rattle.pipe_dev.specs.ReadCalls.{Reads, calling, reader_of}
-use Rattle.example_headline.proofs.CrewLemmas.{read_on, refusal_is_no_answer, some_room}
-use Rattle.example_headline.proofs.CrewLemmas.{sees_end}
+use Rattle.example_headline.proofs.CrewLemmas.{read_on, read_stops, refusal_is_no_answer}
+use Rattle.example_headline.proofs.CrewLemmas.{same_fault, sees_end, some_room, stops_for_memory}
+use Rattle.example_headline.proofs.CrewLemmas.{stops_same}
 use Rattle.pipe_dev.specs.declared.row.Row.{Row}
 use Rattle.example_headline.proofs.reader.Reader.read_once.Goals as goal
+
+pub returns-in_err-buffer-clause-stops : goal.returns-in_err-buffer-clause-stops
+returns-in_err-buffer-clause-stops g c why is =
+    let failed = err_from_is_err_and c.from_residual.result c.from_residual.ensures.1 in
+    stops_for_memory _ _ failed.0 why failed.1 failed.2 is
+
+pub returns-in_err-reserve-clause-stops : goal.returns-in_err-reserve-clause-stops
+returns-in_err-reserve-clause-stops g c why is =
+    let failed = err_from_is_err_and c.from_residual-in_err-reserve.result
+    c.from_residual-in_err-reserve.ensures.1 in
+    stops_for_memory _ _ failed.0 why failed.1 failed.2 is
 
 pub returns-in_err-count : goal.returns-in_err-count
 returns-in_err-count g c =
     let failed = err_from_is_err_and c.from_residual-in_err-count.result
     c.from_residual-in_err-count.ensures.1 in
+    let room : c.as_mut_slice.result.now ≢ []
+    = some_room c.as_mut_slice.result.now 4
+    (c.as_mut_slice.ensures.len ∙ c.in_ok-buffer.ensures.len) (omega arith) in
     record {
-      on = read_on c.args.self.now _ c.args.self.now.proc c.read.new.proc
-          c.as_mut_slice.result.now (Err c.in_err-count.field-0.0) c.read.new.buffer
-          (some_room c.as_mut_slice.result.now 4
-          (c.as_mut_slice.ensures.len ∙ c.in_ok-buffer.ensures.len) (omega arith))
-          c.in_err-count.ensures.read c.in_err-count.ensures.end
+      on = read_on c.args.self.now _ c.as_mut_slice.result.now (Err c.in_err-count.field-0.0)
+          c.read.new.buffer room c.in_err-count.ensures.read c.in_err-count.ensures.end
+          c.in_err-count.ensures.words
           (c.in_ok-reserve.ensures.items ∙ sym (append-nil c.args.self.now.got.items));
       end = λ is. refusal_is_no_answer failed.0 (sym failed.1 ∙ is);
+      stops = λ why is.
+          stops_same _ c.in_err-count.field-0.0 why
+          (same_fault _ failed.0 c.in_err-count.field-0.0 why failed.1 failed.2 is)
+          (read_stops c.args.self.now _ c.as_mut_slice.result.now c.in_err-count.field-0.0
+          c.read.new.buffer c.in_err-count.ensures.read c.in_err-count.ensures.end
+          c.in_err-count.ensures.words
+          (λ bad. room (c.in_err-count.ensures.bad_count.0 bad))
+          (λ owns foreign. (c.in_err-count.ensures.no_rendez room).0 foreign owns));
       still = refl;
     }
 
@@ -37,8 +58,8 @@ returns-in-Got g c =
     (take_at c.read.new.buffer (drop (length c.read.new.buffer) c.in_ok-buffer.buffer.items)
     c.in_ok-buffer.buffer.len (c.read.auto.buffer ∙ c.as_mut_slice.ensures.len))) in
     record {
-      on = read_on c.args.self.now _ c.args.self.now.proc c.read.new.proc
-          c.as_mut_slice.result.now (Ok (read.Got c.in-Got.count)) c.read.new.buffer
+      on = read_on c.args.self.now _ c.as_mut_slice.result.now (Ok (read.Got c.in-Got.count))
+          c.read.new.buffer
           (some_room c.as_mut_slice.result.now 4
           (c.as_mut_slice.ensures.len ∙ c.in_ok-buffer.ensures.len) (omega arith))
           (subst (λ (answer : ReadAnswer).
@@ -46,11 +67,12 @@ returns-in-Got g c =
           (calling (reader_of c.args.self.now.end c.args.self.now.proc) c.as_mut_slice.result.now)
           (Ok answer) (calling (reader_of c.read.new.self c.read.new.proc) c.read.new.buffer))
           c.in-Got.is
-          c.in_ok-count.ensures.read) c.in_ok-count.ensures.end
+          c.in_ok-count.ensures.read) c.in_ok-count.ensures.end c.in_ok-count.ensures.words
           (c.push_reserved.ensures.items
           ∙ (ap (λ (xs : List (List ℕ)). xs ++ c.of.result ∷ []) c.in_ok-reserve.ensures.items
           ∙ ap (λ (p : List ℕ). c.args.self.now.got.items ++ p ∷ []) piece));
       end = λ is. absurd (cc);
+      stops = λ why is. absurd (cc);
       still = refl;
     }
 
@@ -63,14 +85,16 @@ returns-in-End g c =
     (calling (reader_of c.read.new.self c.read.new.proc) c.read.new.buffer)) c.in-End.is
     c.in_ok-count.ensures.read in
     record {
-      on = read_on old _ old.proc c.read.new.proc c.as_mut_slice.result.now (Ok read.End)
-          c.read.new.buffer
+      on = read_on old _ c.as_mut_slice.result.now (Ok read.End) c.read.new.buffer
           (some_room c.as_mut_slice.result.now 4
           (c.as_mut_slice.ensures.len ∙ c.in_ok-buffer.ensures.len) (omega arith)) reads
-          c.in_ok-count.ensures.end
+          c.in_ok-count.ensures.end c.in_ok-count.ensures.words
           (c.in_ok-reserve.ensures.items ∙ sym (append-nil old.got.items));
-      end = λ is mode. sees_end (key_of old.end.queue) old.end.row old.end c.read.new.self old.proc
-          c.read.new.proc c.as_mut_slice.result.now c.read.new.buffer
-          (sym (ap (λ (row : Row). row.mode) c.in_ok-count.ensures.end.row) ∙ mode) reads;
+      end = λ is. record {
+        seen = λ mode owns. sees_end (key_of old.end.queue) old.end.row old.end c.read.new.self
+            old.proc c.read.new.proc c.as_mut_slice.result.now c.read.new.buffer
+            (sym (ap (λ (row : Row). row.mode) c.in_ok-count.ensures.end.row) ∙ mode) reads;
+      };
+      stops = λ why is. absurd (cc);
       still = refl;
     }

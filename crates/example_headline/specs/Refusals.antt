@@ -1,0 +1,68 @@
+-- Why a write was refused, and why a reader stopped: what the entries of the seat that made the
+-- call, and the steps of its process, tell of it.
+use Rattle.std.specs.Prelude.{◌≡◌, ◌≢◌, ◌⊎◌, ◌<◌, ⊤, ℕ, List, [], ◌∷◌, length}
+use Rattle.std.specs.Prelude.{Option, Some, None}
+use Rattle.sync_base.specs.declared.fault.Fault.{Fault}
+use Rattle.sync_base.specs.declared.fault.Fault.TheVariants as fault
+use Rattle.sync_base.specs.declared.limits.TheConstants.{ATOMIC_SIZE}
+use Rattle.sync_base.specs.NoteSet.{no_notes}
+use Rattle.sleep_core.specs.declared.answer.Answer.{Answer}
+use Rattle.sleep_core.specs.declared.answer.Answer.TheVariants as answer
+use Rattle.sleep_core.specs.Runs as core
+use Rattle.sleep_core.specs.Table.{ending_of}
+use Rattle.block_queue.specs.declared.entry.Entry.{Entry}
+use Rattle.block_queue.specs.declared.entry.Entry.TheVariants.{Full, Hungup, Worn, NotYet, Hung}
+use Rattle.pipe_dev.specs.WriteCalls.{HasHang}
+
+-- the newest of a seat's entries but for its hangups: what its last put or take was told
+abbrev pub last_told : List Entry → Option Entry
+last_told [] = None
+last_told (Hung seat ∷ past) = last_told past
+last_told (entry ∷ past) = Some entry
+
+-- one of these steps was answered so
+abbrev pub WasAnswered : Answer → List core.Entry → Type 0
+WasAnswered told [] = ⊥
+WasAnswered told (step ∷ past) = (step.answer ≡ told) ⊎ WasAnswered told past
+
+-- it was told last that there is no room for this block
+abbrev pub WaitsForRoom : ℕ → List ℕ → List Entry → Type 0
+WaitsForRoom writer block mine =
+    (number : ℕ) × (last_told mine ≡ Some (Full writer block number))
+
+-- it was told last that nothing is there to read
+abbrev pub WaitsForWrite : List Entry → Type 0
+WaitsForWrite mine = (number : ℕ) × (last_told mine ≡ Some (NotYet number))
+
+-- Why a write of this block by this writer was refused. It was too big; there was no memory, of
+-- which nothing tells; the direction was hung up; the last number was given; or it waited for room,
+-- and its sleep took notes or found another process asleep there. No other fault is told.
+abbrev pub TellsWhyRefused : Fault → ℕ → List ℕ → List Entry → List core.Entry → Type 0
+TellsWhyRefused fault.TooBig writer block mine steps = ATOMIC_SIZE < length block
+TellsWhyRefused fault.Memory writer block mine steps = ⊤
+TellsWhyRefused fault.Hungup writer block mine steps =
+    last_told mine ≡ Some (Hungup writer block)
+TellsWhyRefused fault.Worn writer block mine steps = last_told mine ≡ Some (Worn writer block)
+TellsWhyRefused (fault.Interrupted notes) writer block mine steps =
+    WaitsForRoom writer block mine
+    × ((notes ≢ no_notes) × WasAnswered (ending_of notes) steps)
+TellsWhyRefused fault.DoubleSleep writer block mine steps =
+    WaitsForRoom writer block mine × WasAnswered answer.DoubleSleep steps
+TellsWhyRefused other writer block mine steps = ⊥
+
+-- Why a reader stopped before the end: there was no memory; or it waited for a write, and its sleep
+-- took notes or found another process asleep there. No other fault is told.
+abbrev pub TellsWhyStopped : Fault → List Entry → List core.Entry → Type 0
+TellsWhyStopped fault.Memory mine steps = ⊤
+TellsWhyStopped (fault.Interrupted notes) mine steps =
+    WaitsForWrite mine × ((notes ≢ no_notes) × WasAnswered (ending_of notes) steps)
+TellsWhyStopped fault.DoubleSleep mine steps =
+    WaitsForWrite mine × WasAnswered answer.DoubleSleep steps
+TellsWhyStopped other mine steps = ⊥
+
+-- behind each write that was refused as hungup stands a hangup
+abbrev pub EachHungupIsAfterHangup : List Entry → Type 0
+EachHungupIsAfterHangup [] = ⊤
+EachHungupIsAfterHangup (Hungup writer block ∷ past) =
+    HasHang past × EachHungupIsAfterHangup past
+EachHungupIsAfterHangup (entry ∷ past) = EachHungupIsAfterHangup past

@@ -1,6 +1,0 @@
--- Each new writer's seat is a seat of the queue.
-use Rattle.block_queue.proofs.AllSeatsLemmas.{new_are_seats}
-use Rattle.p9lab.proofs.roles.queue.opened_from.Goals as goal
-
-pub returns-in-Ok-clause-puts : goal.returns-in-Ok-clause-puts
-returns-in-Ok-clause-puts c = new_are_seats _ _ _ c.in-Ok.ensures.opened.puts_are

@@ -1,0 +1,265 @@
+//! A queue of blocks whose seats are all in one hand: blocks whose memory comes back, what is left
+//! at its end, and the sizes that there are.
+ghost use Rattle.std.specs.Prelude.{◌≡◌, ◌≤◌, ◌∷◌, [], IfSome};
+ghost use Rattle.std.specs.List.{AllByRecursion};
+ghost use Rattle.std.specs.Vec.{vec_capacity};
+ghost use Rattle.block_queue.specs.Gather.{AreAllSeats};
+ghost use Rattle.block_queue.specs.Seats.{IsPutSeatOf, IsTakeSeatOf};
+
+use crate::rings::Reply::{self, Block, Full, Hungup, Taken};
+use crate::rings::{block_of, is_put, is_take, opened};
+use block_queue::{Gathered, Opened, PutSeat, Queue, Spare, TakeAnswer, TakeSeat, Ungathered};
+use std::alloc::Global;
+use std::process::Abort;
+use std::sync::Wait;
+use sync_base::limits::LAST_WRITE;
+use sync_base::{Fault, Piece};
+
+/// A queue with one writer, and its seats.
+#[derive(Drop)]
+struct Lone {
+    queue: Queue,
+    take: TakeSeat,
+    put: PutSeat,
+    ghost take_is: { IsTakeSeatOf queue take },
+    ghost put_is: { IsPutSeatOf queue put },
+    ghost all: { AreAllSeats take (put ∷ []) },
+}
+
+/// What is done with it.
+#[derive(Clone, Copy, Debug, PartialEq, Eq)]
+enum Deed {
+    Puts(&'static [u8], Reply),
+    Takes(Reply),
+    /// A take whose block's memory is given back.
+    TakesBack(Reply),
+    HangsUp,
+    /// The memory that its writer keeps has room for so many bytes.
+    HasRoom(usize),
+}
+
+use Deed::{HangsUp, HasRoom, Puts, Takes, TakesBack};
+
+/// What is left of it at last: whether it was hung up, and each block that stands.
+#[derive(Clone, Copy, Debug)]
+struct Left {
+    hung: bool,
+    blocks: &'static [&'static [u8]],
+}
+
+/// A queue with one writer, what is done with it, and what is left.
+#[derive(Clone, Copy, Debug)]
+struct Life {
+    limit: u64,
+    first: u64,
+    deeds: &'static [Deed],
+    left: Left,
+}
+
+impl Lone {
+    // Whether it comes to what it is to.
+    fn does<R: Wait>(&mut self, rt: &R, alloc: Global, deed: Deed) -> bool {
+        match deed {
+            Puts(bytes, wanted) => match block_of(alloc, bytes) {
+                Some(block) => is_put(&self.queue.put(rt, &mut self.put, block), bytes, wanted),
+                None => false,
+            },
+            Takes(wanted) => is_take(&self.queue.take(&mut self.take), wanted),
+            TakesBack(wanted) => self.takes_back(wanted),
+            HangsUp => {
+                self.queue.hang_put(&mut self.put);
+                true
+            }
+            HasRoom(wanted) => room_in(&mut self.put, alloc) == wanted,
+        }
+    }
+
+    // A take whose block's memory is given back. Whether it was answered so.
+    fn takes_back(&mut self, wanted: Reply) -> bool {
+        let answer = self.queue.take(&mut self.take);
+        let is_so = is_take(&answer, wanted);
+        if let TakeAnswer::Block(block, _, _) = answer {
+            self.take.spare.keep(Spare::of(block));
+        }
+        is_so
+    }
+
+    // Whether just this is left. Where memory is refused the seats that come back are gathered
+    // again.
+    fn leaves(self, alloc: Global, left: Left) -> bool {
+        let Lone { queue, take, put } = self;
+        let Some(mut puts) = room_for_one(alloc) else {
+            return false;
+        };
+        puts.push_reserved(put);
+        match queue.gather(alloc, take, puts) {
+            Ok(gathered) => is_left(&gathered, left),
+            Err(Ungathered { take, puts }) => match queue.gather(alloc, take, puts) {
+                Ok(gathered) => is_left(&gathered, left),
+                Err(_) => false,
+            },
+        }
+    }
+}
+
+// Room for a seat.
+fn room_for_one(alloc: Global) -> Option<Vec<PutSeat>>
+    ensures none { IfSome result (λ puts. puts.items ≡ []) }
+    ensures room { IfSome result (λ puts. 1 ≤ vec_capacity puts) }
+{
+    match Vec::with_capacity(alloc, 1) {
+        Ok(puts) => Some(puts),
+        Err(_) => match Vec::with_capacity(alloc, 1) {
+            Ok(puts) => Some(puts),
+            Err(_) => None,
+        },
+    }
+}
+
+// How many bytes the memory has room for that the writer keeps. It stays there.
+fn room_in(seat: &mut PutSeat, alloc: Global) -> usize
+    ensures { seat.new ≡ seat.old }
+{
+    match seat.spare.take().filled(alloc, b"") {
+        Ok(block) => {
+            let bytes = block.into_vec();
+            let room = bytes.capacity();
+            seat.spare.keep(Spare::of(Piece::of(bytes)));
+            room
+        }
+        Err(_) => usize::MAX,
+    }
+}
+
+// Whether it was hung up so, and just these blocks of its writer stand.
+fn is_left(gathered: &Gathered, left: Left) -> bool {
+    let mut is_so = gathered.hung == left.hung && gathered.blocks.len() == left.blocks.len();
+    for (stored, bytes) in gathered.blocks.iter().zip(left.blocks.iter()) {
+        is_so = is_so && stored.writer == 0 && stored.block.as_slice() == *bytes;
+    }
+    is_so
+}
+
+// All seats of a queue with one writer.
+fn lone_of(queue: Queue, take: TakeSeat, mut puts: Vec<PutSeat>) -> Option<Lone>
+    requires take { IsTakeSeatOf queue take }
+    requires puts { AllByRecursion (IsPutSeatOf queue) puts.items }
+    requires all { AreAllSeats take puts.items }
+{
+    if puts.len() == 1 {
+        if let Some(put) = puts.pop() {
+            return Some(Lone { queue, take, put });
+        }
+    }
+    None
+}
+
+// Lives it.
+fn live<R: Wait + Abort>(rt: &R, alloc: Global, life: &Life) {
+    let Opened { queue, take, puts } = opened(rt, alloc, life.limit, 1, life.first);
+    let Some(mut lone) = lone_of(queue, take, puts) else {
+        panic!(rt; "no writer's seat")
+    };
+    for deed in life.deeds.iter() {
+        assert!(rt; lone.does(rt, alloc, *deed), "{deed:?} of {life:?}");
+    }
+    assert!(rt; lone.leaves(alloc, life.left), "{life:?}");
+}
+
+const ONE_PLACE: Life = Life {
+    limit: 1,
+    first: 0,
+    deeds: &[
+        Puts(b"a", Taken(1)),
+        Puts(b"b", Full(0)),
+        Takes(Block(0, 1, b"a")),
+        Puts(b"b", Taken(2)),
+    ],
+    left: Left {
+        hung: false,
+        blocks: &[b"b"],
+    },
+};
+
+#[test]
+fn a_queue_of_one_place_is_full_with_one_block(rt: HostRuntime) {
+    live(&rt, rt.alloc(), &ONE_PLACE);
+}
+
+const READ_AND_BACK: Life = Life {
+    limit: 1,
+    first: 0,
+    deeds: &[
+        Puts(b"abcdef", Taken(1)),
+        TakesBack(Block(0, 1, b"abcdef")),
+        Puts(b"g", Taken(2)),
+        TakesBack(Block(0, 2, b"g")),
+        HasRoom(0),
+        Puts(b"h", Taken(3)),
+        HasRoom(6),
+        Puts(b"i", Full(2)),
+        HasRoom(6),
+        Takes(Block(0, 3, b"h")),
+    ],
+    left: Left {
+        hung: false,
+        blocks: &[],
+    },
+};
+
+#[test]
+fn a_block_that_was_read_comes_back(rt: HostRuntime) {
+    live(&rt, rt.alloc(), &READ_AND_BACK);
+}
+
+const HUNG_UP: Life = Life {
+    limit: 3,
+    first: 7,
+    deeds: &[
+        Puts(b"a", Taken(8)),
+        Puts(b"", Taken(9)),
+        Takes(Block(0, 8, b"a")),
+        HangsUp,
+        Puts(b"c", Hungup),
+    ],
+    left: Left {
+        hung: true,
+        blocks: &[b""],
+    },
+};
+
+#[test]
+fn what_stands_is_gathered_after_a_hangup(rt: HostRuntime) {
+    live(&rt, rt.alloc(), &HUNG_UP);
+}
+
+// ---- sizes
+
+/// A limit, how many writers and how many blocks before, and why there is no such queue.
+const NO_QUEUES: [(u64, u64, u64, Fault); 6] = [
+    (0, 1, 0, Fault::BadSize),
+    (1_025, 1, 0, Fault::BadSize),
+    (1, 0, 0, Fault::BadSize),
+    (1, 65, 0, Fault::BadSize),
+    (1, 1, LAST_WRITE + 1, Fault::BadArg),
+    (0, 1, LAST_WRITE + 1, Fault::BadSize),
+];
+
+#[test]
+fn sizes_out_of_range_are_refused(rt: HostRuntime) {
+    for (limit, writers, first, fault) in NO_QUEUES.iter() {
+        match Queue::new_from(rt.alloc(), *limit, *writers, *first) {
+            Ok(_) => panic!(rt; "a queue of {limit} for {writers}"),
+            Err(why) => assert_eq!(rt; why, *fault, "{limit} for {writers}"),
+        }
+    }
+}
+
+#[test]
+fn the_largest_sizes_are_taken(rt: HostRuntime) {
+    let Opened { puts, .. } = opened(&rt, rt.alloc(), 1_024, 64, 0);
+    assert_eq!(rt; puts.len(), 64);
+    for (writer, seat) in puts.iter().enumerate() {
+        assert_eq!(rt; seat.writer(), writer as u64);
+    }
+}

@@ -1,0 +1,681 @@
+"""Plays scenes on the model, by docs/SCENES.md: a line in, its answer out.
+
+Where several processes may go on, `pick` chooses which of them makes the next step. `raced` says whether it ever had a choice.
+"""
+import re
+
+from modelled import devices as dev
+from modelled.layer import NO_PROC, NO_RENDEZ, RFNOTEG, RFPROC, RFREND, Kernel, Proc, Roster, kinds_word, sleep, wakeup
+
+NOT_ITS, NOT_HERE, NO_CLOCK, WAITS_STILL = "not its call", "not here", "no clock", "waits still"
+FLAGS = {"proc": RFPROC, "rend": RFREND, "noteg": RFNOTEG}
+ALONE = {"sleep", "sleep_within", "wakeup", "tick", "note", "notes", "put_back", "notepg"}
+CALLS = {
+    "zero": {"wakeup", "tick", "note", "notes", "put_back", "notepg", "rendez", "row", "pids_left", "rendez_left"},
+    "plain": ALONE,
+    "reader": ALONE | {"read", "read_within", "try_read", "read_block", "next_piece", "read_exact", "hangup"},
+    "writer": ALONE | {"write", "write_within", "write_long", "hangup"},
+    "lone": ALONE | {"read", "try_read", "read_block", "write", "write_long", "hangup_read", "hangup_write", "finish"},
+    "holder": {"acquire", "try_acquire", "acquire_within", "release", "rendez", "note", "notes"},
+    "guest": {"rendezvous", "rendezvous_within", "rendezvous_word", "rendez", "note", "notes"},
+    "sharer": {"read"},
+    "peer": {"rfork", "rendezvous", "rendez", "note", "notes", "put_back"},
+}
+FORKS = {"zero", "plain", "reader", "writer", "lone"}
+PROBED = {"sleep": {"plain", "reader", "writer"}, "acquire": {"holder"}, "try_acquire": {"holder"}, "acquire_within": {"holder"},
+          "rendezvous": {"guest"}, "rendezvous_within": {"guest"}}
+ALWAYS_PROBED = {"peer"}
+MOST_STEPS, MOST_KEPT = 3000, 8
+
+
+class NotAScene(Exception):
+    """A line that is none."""
+
+
+class Spins(Exception):
+    """A wait goes round and round, since the level of its Rendez was raised by somebody else."""
+
+
+class Waits(Exception):
+    """A line is answered once all turns have passed."""
+
+
+def bytes_of(word):
+    found = re.fullmatch(r"([1-9]\d*)\*(.)", word)
+    return b"" if word == "-" else found[2].encode() * int(found[1]) if found else word.encode()
+
+
+def planned(words):
+    """The processes and the Rendez that a plan's kernel has."""
+    sizes = list(zip(words[::2], map(int, words[1::2])))
+    rendez = {"rendez": (1, 0), "pipe": (2, 2), "space": (1, 0), "sema": (1, 0)}
+    row = [rendez[kind][0] * size + rendez[kind][1] for kind, size in sizes if kind in rendez]
+    return max([1] + [size for kind, size in sizes if kind != "rendez"]), sum(row)
+
+
+def notes_of(word):
+    return frozenset() if word == "-" else frozenset(word.split(","))
+
+
+def flags_of(word):
+    return int(word) if word.isdigit() else sum(FLAGS[it] for it in word.split(",")) if word != "-" else 0
+
+
+class Run:
+    """A call under way: its generator, the lines that are kept for it, and what it has visited."""
+
+    def __init__(self, call, kept):
+        self.call, self.kept = call, kept
+        self.points, self.posted, self.parked, self.is_stopped, self.answer = [], [], None, False, None
+        self.ends, self.moves = [], 0  # what is given back when it has ended, and how many steps it has made
+
+    def is_ready(self):
+        return self.answer is None and not self.is_stopped and (self.parked is None or bool(self.parked()))
+
+
+class Actor:
+    """A process of a scene: its number, its role, and what it has a seat at."""
+
+    def __init__(self, proc, number, role, thing=None, seat=None):
+        self.proc, self.number, self.role, self.thing, self.seat = proc, number, role, thing, seat
+        self.run, self.is_gone, self.points, self.posted = None, False, [], []
+
+
+class Lone:
+    """A pipe with both ends of its first direction lying there: which of them a call has, or that both were given back."""
+
+    def __init__(self, pipe):
+        self.pipe, self.out, self.is_finished = pipe, set(), False
+
+    def lend(self, run, ends):
+        if self.is_finished or self.out & ends:
+            return False
+        self.out |= ends
+        run.ends = [(self, ends)]
+        return True
+
+
+class Lab:
+    def __init__(self, pick=None, may_wait=False):
+        self.pick, self.may_wait, self.raced, self.steps = pick or (lambda ready: ready[0]), may_wait, False, 0
+        self.is_eager = pick is None
+        self.kernel = self.roster = None
+        self.actors, self.strangers = {}, 0
+        self.pipes, self.semas, self.clocks, self.spaces, self.turns, self.lones = ([] for _ in range(6))
+        self.kept, self.acted, self.is_fresh = [], [], True
+
+    # ---- lines
+
+    def play(self, line):
+        """The answer of a line; none of a comment, and of a line that makes its object."""
+        words = line.split(" ")
+        if not line or line.startswith("#"):
+            return None
+        if self.roster is None:
+            return self.open(words)
+        if words[0].isdigit() and not (int(words[0]) in self.actors):
+            raise NotAScene(line)
+        self.steps = 0
+        answer = self.actor_line(words) if words[0].isdigit() else self.other_line(words)
+        self.go_on()
+        return answer
+
+    def go_on(self):
+        """Lets those that may go on do so: all that they can, or some of it."""
+        if self.is_eager:
+            self.run_until(lambda: False)
+        else:
+            for _ in range(self.pick(range(6))):
+                self.step()
+
+    def open(self, words):
+        procs, rendez = planned(words[1:]) if words[0] == "plan" else map(int, words[1:])
+        self.roster = Roster(Kernel(0, 0))
+        if not 1 <= procs <= 1024:
+            return NO_PROC
+        if not 1 <= rendez <= 8192:
+            return NO_RENDEZ
+        self.kernel = Kernel(procs, rendez)
+        self.roster = Roster(self.kernel)
+        self.actors[0] = Actor(Proc(self.kernel, 0), 0, "zero")
+        return None
+
+    def other_line(self, words):
+        verb, rest = words[0], words[1:]
+        if verb == "at":
+            return self.keep(int(rest[0]), " ".join(rest[1:]))
+        if verb == "acted":
+            number = int(rest[0]) - 1
+            if not 0 <= number < len(self.acted):
+                raise NotAScene(words)
+            return self.acted[number][2] or "not reached"
+        if verb == "left":
+            return self.left()
+        if verb == "rendez":
+            return self.look_at_rendez(int(rest[0]))
+        if verb == "stranger":
+            return self.stranger(rest)
+        return getattr(self, f"make_{verb}")(*rest)
+
+    def actor_line(self, words):
+        actor, verb, rest = self.actors[int(words[0])], words[1], words[2:]
+        is_apart = rest[-1:] == ["&"]
+        if verb == "waits":
+            return self.waits(actor)
+        if verb == "ends":
+            return self.ends(actor)
+        if verb == "look":
+            return self.look(actor)
+        if verb in ("points", "posted"):
+            return self.visited(actor, verb)
+        if actor.is_gone or actor.run:
+            return NOT_HERE
+        if verb in ("fork", "rfork", "clock") and (actor.role, verb) != ("peer", "rfork"):
+            return getattr(self, verb)(actor, rest)
+        return self.start(actor, verb, rest[:-1] if is_apart else rest, is_apart)
+
+    # ---- threads
+
+    def ready(self):
+        return [it for it in self.actors.values() if it.run and it.run.is_ready()]
+
+    def step(self):
+        """One step of one process. Whether there was one."""
+        ready = self.ready()
+        if not ready:
+            return False
+        self.raced |= len(ready) > 1
+        self.steps += 1
+        if self.steps > MOST_STEPS:
+            raise Spins()
+        self.advance(self.pick(ready))
+        return True
+
+    def run_until(self, is_done):
+        while not is_done():
+            if not self.step():
+                return False
+        return True
+
+    def advance(self, actor):
+        run = actor.run
+        run.parked, run.moves = None, run.moves + 1
+        try:
+            what = next(run.call)
+        except StopIteration as end:
+            run.answer = end.value
+            for lone, ends in run.ends:
+                lone.out -= ends
+            return
+        if callable(what):
+            run.parked = what
+        elif what is not None and run.kept is not None:
+            self.visit(actor, run, what)
+
+    def visit(self, actor, run, point):
+        """A probed call stops at a point, and the lines that are kept for it are played at its first visit."""
+        is_first = point not in run.points
+        run.points.append(point)
+        if actor.proc.posted_in() is not None:
+            run.posted.append(point)
+        actor.points, actor.posted = run.points, run.posted
+        for kept in run.kept if is_first else []:
+            if kept[0] == point:
+                run.is_stopped = True
+                self.raced |= len(self.ready()) > 0
+                kept[2] = self.play_kept(kept[1])
+                run.is_stopped = False
+
+    def play_kept(self, line):
+        try:
+            return self.play(line) or "ok"
+        except NotAScene:
+            return "no line"
+
+    def start(self, actor, verb, rest, is_apart):
+        """Makes a call of a process: it is begun, and without `&` it is also ended."""
+        call = self.call(actor, verb, rest) if verb in CALLS[actor.role] else NOT_ITS
+        has_kept = bool(actor.number and self.kept and self.is_fresh)
+        is_probed = actor.role in PROBED.get(verb, ()) or actor.role in ALWAYS_PROBED
+        if has_kept:
+            self.is_fresh = False
+            call = call if is_probed or isinstance(call, str) else "not probed"
+        run = Run(at_once(call) if isinstance(call, str) else call, None)
+        if has_kept and not isinstance(call, str):
+            run.kept = self.kept
+            actor.points, actor.posted = run.points, run.posted
+        if actor.role == "lone" and not isinstance(call, str) and not self.lend(actor, verb, run):
+            run = Run(at_once(NOT_HERE), None)
+        actor.run = run
+        if is_apart and actor.number:
+            return "started"
+        if not self.run_until(lambda: run.answer is not None):
+            return self.after_all_turns(WAITS_STILL)
+        actor.run = None
+        return run.answer
+
+    def lend(self, actor, verb, run):
+        ends = {"read": "r", "try_read": "r", "read_block": "r", "hangup_read": "r", "write": "w", "write_long": "w",
+                "hangup_write": "w", "finish": "rw"}.get(verb, "")
+        return not ends or actor.thing.lend(run, set(ends))
+
+    def after_all_turns(self, answer):
+        if not self.may_wait:
+            raise Waits()
+        return answer
+
+    def waits(self, actor):
+        if not actor.run:
+            return "no"
+        kernel, pid = actor.proc.kernel, actor.proc.pid
+        if self.run_until(lambda: actor.proc.posted_in() is not None and not kernel.marks[pid] and not actor.run.is_stopped):
+            return "yes"
+        return self.after_all_turns("no")
+
+    def ends(self, actor):
+        run = actor.run
+        if not run:
+            return "not started"
+        if not self.run_until(lambda: run.answer is not None):
+            return self.after_all_turns(WAITS_STILL)
+        actor.run = None
+        return run.answer
+
+    def left(self):
+        count = 0
+        while running := [it for it in self.actors.values() if it.run]:
+            for it in running:
+                if it.run.answer is None:
+                    it.proc.kernel.post_notes(it.proc.pid, {"interrupt"})
+            if not self.run_until(lambda: all(it.run.answer is not None for it in running)):
+                return self.after_all_turns(f"stuck {sum(it.run.answer is None for it in running)}")
+            for it in running:
+                it.run = None
+            count += len(running)
+        return f"called off {count}"
+
+    # ---- points
+
+    def keep(self, point, line):
+        to_come = [it.run for it in self.actors.values() if it.run and it.run.answer is None and it.run.kept]
+        if any(kept[2] is None and kept[1] for run in to_come for kept in run.kept if kept[0] not in run.points):
+            return "too many"
+        if not self.is_fresh:
+            self.kept, self.is_fresh = [], True
+        if len(self.kept) == MOST_KEPT:
+            return "too many"
+        self.kept.append([point, line, None])
+        self.acted = self.kept
+        return "kept"
+
+    def visited(self, actor, verb):
+        if actor.run or actor.is_gone:
+            return NOT_HERE
+        if verb == "points":
+            return " ".join(["points", *map(str, actor.points)])
+        return f"posted {' '.join(map(str, actor.posted)) if actor.posted and actor.proc.pid < 64 else '-'}"
+
+    # ---- looks
+
+    def look(self, actor):
+        kernel, pid = actor.proc.kernel, actor.proc.pid
+        place = actor.proc.posted_in()
+        state = ["Ready"] if place is None else ["Wakeme", str(place)]
+        return " ".join(state + ["marked"] * kernel.marks[pid] + [kinds_word(kernel.notes[pid])])
+
+    def look_at_rendez(self, rendez):
+        if rendez >= self.kernel.rendez:
+            raise NotAScene(rendez)
+        posted = self.kernel.posted[rendez]
+        return f"level {self.kernel.levels[rendez]} " + ("nobody" if posted is None else f"posted {posted}")
+
+    # ---- objects
+
+    def make_pipe(self, limit, writers, stream=False, kind=None):
+        limit, writers = int(limit), int(writers)
+        if not 1 <= limit <= 1024 or not 1 <= writers <= 64:
+            return "bad size"
+        first = self.roster.row(2 * (1 + writers))
+        if first is None:
+            return NO_RENDEZ
+        ways = [dev.Direction(limit, writers, stream, first), dev.Direction(limit, writers, stream, first + 1 + writers)]
+        (self.pipes if kind is None else kind).append(ways)
+        return None
+
+    def make_stream(self, limit, writers):
+        return self.make_pipe(limit, writers, True)
+
+    def make_lone(self, limit, stream=False):
+        made = []
+        answer = self.make_pipe(limit, "1", stream, made)
+        self.lones += [Lone(ways[0]) for ways in made]
+        return answer
+
+    def make_lone_stream(self, limit):
+        return self.make_lone(limit, True)
+
+    def make_sema(self, units, seats):
+        units, seats = int(units), int(seats)
+        if units > dev.MOST_UNITS:
+            return dev.BAD_ARG
+        return self.make_row(self.semas, seats, lambda first: dev.Sema(units, seats, first))
+
+    def make_space(self, members):
+        return self.make_row(self.spaces, int(members), lambda first: dev.Space(int(members), first))
+
+    def make_row(self, kind, count, make):
+        if not 1 <= count <= 1024:
+            return NO_PROC
+        first = self.roster.row(count)
+        if first is None:
+            return NO_RENDEZ
+        kind.append(make(first))
+        return None
+
+    def make_new_group(self, number):
+        number = int(number)
+        if not 1 <= number <= len(self.spaces) or self.spaces[number - 1].given:
+            return "no space"
+        return self.make_space(self.spaces[number - 1].members)
+
+    def make_clock(self, seats):
+        if not 1 <= int(seats) <= 1024:
+            return NO_PROC
+        self.clocks.append(dev.Timers(int(seats)))
+        return None
+
+    def make_share(self, procs, number="1"):
+        way = self.way(number)
+        if way is None or way.is_read:
+            return NO_PROC
+        answer = self.make_row(self.turns, int(procs), lambda first: dev.Turns(way, int(procs), first))
+        way.is_read |= answer is None
+        return answer
+
+    def way(self, number, is_back=False):
+        return self.pipes[int(number) - 1][is_back] if 1 <= int(number) <= len(self.pipes) else None
+
+    # ---- processes
+
+    def fork(self, actor, words):
+        if actor.role == "holder":
+            return self.rfork(actor, ["proc", "holder"]) if not words else NOT_ITS
+        return self.rfork(actor, ["proc", *words])
+
+    def rfork(self, actor, words):
+        role, rest = (words[1:2] or ["plain"])[0], words[2:]
+        if actor.role == "holder":
+            return self.fork_holder(actor)
+        if actor.role not in FORKS:
+            return NOT_ITS
+        flags = flags_of(words[0])
+        if role == "writers":
+            return self.fork_writers(actor, flags, rest)
+        if role == "sharer" and self.is_apart_beside(flags, rest):
+            return NOT_ITS
+        first = self.first_sharer(rest) if role == "sharer" else None
+        child = self.roster.rfork(first.proc if first and flags & RFPROC else actor.proc, flags)
+        if not isinstance(child, Proc):
+            return child or "nobody"
+        made = self.cast(child, child.pid, role, rest)
+        if isinstance(made, str):
+            self.actors[child.pid] = Actor(child, child.pid, role)
+            self.actors[child.pid].is_gone = True
+            return made
+        self.actors[child.pid] = made
+        return f"process {child.pid}"
+
+    def is_apart_beside(self, flags, rest):
+        """Whether a sharer beside the first is to begin a note group."""
+        return flags == RFPROC | RFNOTEG and self.first_sharer(rest) is not None
+
+    def first_sharer(self, rest):
+        number = int((rest or ["1"])[0])
+        turns = self.turns[number - 1] if 1 <= number <= len(self.turns) else None
+        return next((it for it in self.actors.values() if it.role == "sharer" and it.thing is turns), None)
+
+    def fork_holder(self, actor):
+        sema = actor.thing
+        if sema.given == sema.seats or not self.roster.pids_left():
+            return NO_PROC
+        child = self.roster.rfork(actor.proc, RFPROC)
+        self.actors[child.pid] = self.cast_at(child, child.pid, "holder", sema)
+        return f"process {child.pid}"
+
+    def fork_writers(self, actor, flags, rest):
+        way = self.way(rest[0] if rest and rest[0] != "back" else "1", rest[-1:] == ["back"])
+        if flags & ~(RFPROC | RFNOTEG) or not flags & RFPROC:
+            return self.roster.rfork(actor.proc, flags) or "nobody"
+        if way is None or way.writers - way.written > self.roster.pids_left():
+            return NO_PROC
+        count = way.writers - way.written
+        for _ in range(count):
+            child = self.roster.rfork(actor.proc, flags)
+            self.actors[child.pid] = self.cast(child, child.pid, "writer", rest)
+        return f"process {child.pid}" if count else "nobody"
+
+    def stranger(self, words):
+        procs, rendez, role, rest = int(words[0]), int(words[1]), words[2], words[3:]
+        if not 1 <= procs <= 1024:
+            return NO_PROC
+        if not 1 <= rendez <= 8192:
+            return NO_RENDEZ
+        number = 1024 + self.strangers
+        made = self.cast(Proc(Kernel(procs, rendez), 0), number, role, rest)
+        if isinstance(made, str):
+            return made
+        self.actors[number], self.strangers = made, self.strangers + 1
+        return f"process {number}"
+
+    def cast(self, proc, number, role, rest):
+        """The process in its role at its object, or why it can't have it."""
+        is_back = rest[-1:] == ["back"]
+        which = int(next(iter(rest), "1") if rest[:1] != ["back"] else "1")
+        if role == "plain":
+            return Actor(proc, number, role)
+        if number >= 1024 and role in ("peer", "writers"):
+            return NO_PROC
+        if role == "peer":
+            return self.cast_peer(proc, number, which)
+        if role in ("reader", "writer"):
+            return self.cast_at_pipe(proc, number, role, self.way(which, is_back))
+        kind = {"holder": self.semas, "guest": self.spaces, "sharer": self.turns, "lone": self.lones}[role]
+        if not 1 <= which <= len(kind):
+            return NO_PROC
+        return self.cast_at(proc, number, role, kind[which - 1])
+
+    def cast_at_pipe(self, proc, number, role, way):
+        if way is None or (way.is_read if role == "reader" else way.written == way.writers):
+            return NO_PROC
+        if role == "reader":
+            way.is_read = True
+            return Actor(proc, number, role, way)
+        way.written += 1
+        return Actor(proc, number, role, way, way.written - 1)
+
+    def cast_peer(self, proc, number, members):
+        if not 1 <= members <= 1024:
+            return NO_PROC
+        first = self.roster.row(members)
+        if first is None:
+            return NO_RENDEZ
+        return self.cast_at(proc, number, "peer", dev.Space(members, first))
+
+    def cast_at(self, proc, number, role, thing):
+        if role in ("holder", "guest", "sharer", "peer"):
+            row = thing.line if role == "sharer" else thing
+            size = row.members if role in ("guest", "peer") else row.seats
+            if row.given == size:
+                return NO_PROC
+            if proc.kernel.rendez < row.first + size:
+                return NO_RENDEZ
+            row.given += 1
+            return Actor(proc, number, role, thing, row.given - 1)
+        return Actor(proc, number, role, thing, 0)
+
+    def clock(self, actor, words):
+        number = int((words or ["1"])[0])
+        if not 1 <= number <= len(self.clocks):
+            return NO_CLOCK
+        timers = self.clocks[number - 1]
+        if timers.given == timers.seats:
+            return NO_PROC
+        timers.given += 1
+        actor.proc.timer = dev.TimerSeat(timers, timers.given - 1)
+        return "ok"
+
+    def fork_peer(self, actor, word):
+        """The rfork of a peer: flags, pid, Rendez and member, in this order."""
+        flags, space = flags_of(word), actor.thing
+        if flags & ~7:
+            return "bad flags"
+        if flags & RFPROC and not self.roster.pids_left():
+            return NO_PROC
+        if flags & RFREND and self.roster.rendez_left() < space.members:
+            return NO_RENDEZ
+        if flags & RFPROC and not flags & RFREND and space.given == space.members:
+            return NO_PROC
+        child = self.roster.rfork(actor.proc, flags & ~RFREND)
+        if flags & RFREND:
+            space = dev.Space(space.members, self.roster.row(space.members))
+        if child is None:
+            if flags & RFREND:
+                actor.thing, actor.seat, space.given = space, 0, 1
+            return "nobody"
+        self.actors[child.pid] = self.cast_at(child, child.pid, "peer", space)
+        return f"process {child.pid}"
+
+    # ---- calls
+
+    def call(self, actor, verb, words):
+        """The call as a generator, or why it is not made."""
+        numbers = [int(it) if it.isdigit() else it for it in words]
+        if verb == "tick":
+            timers = self.ticks(actor, numbers)
+            return dev.tick(actor.proc, timers, numbers[0]) if timers else NO_CLOCK
+        if verb.endswith("_within") and not actor.proc.timer:
+            return NO_CLOCK
+        if verb == "room":
+            raise NotAScene("the model knows no memory")
+        return getattr(self, f"call_{verb}")(actor, words, numbers)
+
+    def ticks(self, actor, numbers):
+        if actor.number:
+            return actor.proc.timer and actor.proc.timer.timers
+        which = numbers[1] if numbers[1:] else 1
+        return self.clocks[which - 1] if 1 <= which <= len(self.clocks) else None
+
+    def call_sleep(self, actor, _, numbers):
+        return texts(sleep(actor.proc, *numbers))
+
+    def call_sleep_within(self, actor, _, numbers):
+        return dev.sleep_within(actor.proc, *numbers)
+
+    def call_wakeup(self, actor, _, numbers):
+        return wakeup(actor.proc, *numbers)
+
+    def call_note(self, actor, words, numbers):
+        return done(lambda: actor.proc.kernel.post_notes(numbers[0], notes_of(words[1])))
+
+    def call_notes(self, actor, *_):
+        return done(lambda: f"notes {kinds_word(actor.proc.take_notes())}")
+
+    def call_put_back(self, actor, words, _):
+        return done(lambda: actor.proc.put_back(notes_of(words[0])) or "ok")
+
+    def call_notepg(self, actor, words, numbers):
+        return done(lambda: self.roster.note_group(actor.proc, numbers[0], notes_of(words[1])))
+
+    def call_read(self, actor, _, numbers):
+        if actor.role == "sharer":
+            return dev.read_in_turn(actor.proc, actor.thing, actor.seat, numbers[0])
+        return dev.read(actor.proc, self.pipe_of(actor), numbers[0])
+
+    call_next_piece = call_read
+
+    def call_try_read(self, actor, _, numbers):
+        return dev.read(actor.proc, self.pipe_of(actor), numbers[0], False)
+
+    def call_read_within(self, actor, _, numbers):
+        return dev.read_within(actor.proc, actor.thing, *numbers)
+
+    def call_read_block(self, actor, *_):
+        return dev.read(actor.proc, self.pipe_of(actor), None)
+
+    def call_read_exact(self, actor, _, numbers):
+        return dev.read_exact(actor.proc, actor.thing, numbers[0])
+
+    def call_write(self, actor, words, _):
+        return dev.write(actor.proc, self.pipe_of(actor), actor.seat or 0, bytes_of(words[0]))
+
+    def call_write_within(self, actor, words, numbers):
+        return dev.write_within(actor.proc, actor.thing, actor.seat, *numbers[:2], bytes_of(words[2]))
+
+    def call_write_long(self, actor, words, _):
+        return dev.write_long(actor.proc, self.pipe_of(actor), actor.seat or 0, bytes_of(words[0]))
+
+    def call_hangup(self, actor, *_):
+        return dev.hangup(actor.proc, self.pipe_of(actor))
+
+    call_hangup_read = call_hangup_write = call_hangup
+
+    def call_finish(self, actor, *_):
+        return done(lambda: setattr(actor.thing, "is_finished", True) or dev.finish(actor.thing.pipe))
+
+    def call_acquire(self, actor, *_):
+        return dev.acquire(actor.proc, actor.thing, actor.seat)
+
+    def call_try_acquire(self, actor, *_):
+        return dev.acquire(actor.proc, actor.thing, actor.seat, False)
+
+    def call_acquire_within(self, actor, _, numbers):
+        return dev.acquire_within(actor.proc, actor.thing, actor.seat, *numbers)
+
+    def call_release(self, actor, _, numbers):
+        return dev.release(actor.proc, actor.thing, numbers[0])
+
+    def call_rendezvous(self, actor, _, numbers):
+        return dev.rendezvous(actor.proc, actor.thing, actor.seat, *numbers)
+
+    def call_rendezvous_word(self, actor, _, numbers):
+        return dev.rendezvous_word(actor.proc, actor.thing, actor.seat, *numbers)
+
+    def call_rendezvous_within(self, actor, _, numbers):
+        return dev.rendezvous_within(actor.proc, actor.thing, actor.seat, *numbers)
+
+    def call_rendez(self, actor, *_):
+        if actor.role == "zero":
+            return self.call_row(actor, None, [1])
+        return done(lambda: f"rendez {actor.thing.first + actor.seat}")
+
+    def call_rfork(self, actor, words, _):
+        return done(lambda: self.fork_peer(actor, words[0]))
+
+    def call_row(self, _, __, numbers):
+        first = self.roster.row(numbers[0])
+        return done(lambda: NO_RENDEZ if first is None else f"rendez {first}")
+
+    def call_pids_left(self, *_):
+        return done(lambda: f"pids {self.roster.pids_left()}")
+
+    def call_rendez_left(self, *_):
+        return done(lambda: f"rendez {self.roster.rendez_left()}")
+
+    def pipe_of(self, actor):
+        return actor.thing.pipe if actor.role == "lone" else actor.thing
+
+
+def at_once(answer):
+    """A call that does nothing, and is answered so."""
+    return answer
+    yield
+
+
+def done(act):
+    """A call of one step."""
+    yield None
+    return act()
+
+
+def texts(call):
+    return (yield from call).text()

@@ -1,0 +1,374 @@
+"""Makes scenes at random: objects, processes with a role at them, and then lines that the model answers in one way alone.
+
+Each line is played on the model first. One that would end by all turns, or in a wait that goes round and round, is left out.
+After each line whoever it let go on is met by `N ends` or `N waits`, so that no two lines overlap. What the model answers
+differently where other processes go first is cut off.
+"""
+import random
+
+from modelled.lab import ALONE, ALWAYS_PROBED, CALLS, PROBED, Lab, NotAScene, Spins, Waits
+from modelled.layer import KINDS, TOP_LEVEL
+
+ORDERS, MOST_CALLS = 6, 30
+WAITING = {"sleep", "sleep_within", "read", "read_within", "read_block", "next_piece", "read_exact", "write", "write_within",
+           "write_long", "acquire", "acquire_within", "rendezvous", "rendezvous_within", "rendezvous_word"}
+# What a role calls more often than the rest of its calls.
+OFTEN = {"reader": ["read", "read_within", "try_read", "read_block"], "writer": ["write", "write_within"], "lone": ["read", "write"],
+         "plain": ["sleep", "sleep_within"], "holder": ["acquire", "acquire_within", "release"],
+         "guest": ["rendezvous", "rendezvous_within"], "peer": ["rendezvous", "rfork"], "zero": ["note", "tick"], "sharer": ["read"]}
+# How many points a call has.
+POINTS = {"sleep": 6, "acquire": 4, "try_acquire": 4, "acquire_within": 4, "rendezvous": 4, "rendezvous_within": 4}
+
+
+# The kinds of objects, each with how often a scene has one.
+KINDS_OF_OBJECTS = {"pipe": 6, "stream": 4, "sema": 6, "space": 6, "lone": 2, "share": 1, "peer": 2, "plain": 4, "clock": 3}
+
+
+class Scene:
+    """Its lines, each with the answer of the model, and whether one of them is answered once all turns have passed."""
+
+    def __init__(self, name, lines, waits=False):
+        self.name, self.lines, self.waits = name, lines, waits
+
+    def asked(self):
+        return "".join(f"{line}\n" for line in [f"# {self.name}", *(line for line, _ in self.lines)])
+
+    def answered(self):
+        return [f"# {self.name}", *(line if answer is None else f"{line} = {answer}" for line, answer in self.lines)]
+
+
+def answers(lines, pick=None, waits=False):
+    """What the model answers, with whether it had a choice. None where the lines are no scene or have no such end."""
+    lab = Lab(pick, waits)
+    try:
+        return [(line, lab.play(line)) for line in lines], lab.raced
+    except (NotAScene, Spins, Waits, KeyError):
+        return None, False
+
+
+def settled(lines, seed, waits=False, orders=ORDERS):
+    """The lines with their answers, up to the first whose answer depends on who goes first."""
+    first, raced = answers(lines, None, waits)
+    if first is None or not raced:
+        return first
+    for order in range(orders):
+        other, _ = answers(lines, random.Random(f"{seed} {order}").choice, waits)
+        same = next((at for at, pair in enumerate(first) if not other or other[at] != pair), len(first))
+        first = first[:same]
+    return first
+
+
+class Maker:
+    def __init__(self, seed):
+        self.seed, self.dice = seed, random.Random(seed)
+        self.lab, self.lines, self.now = Lab(), [], 100
+        self.calls = {}
+
+    def scene(self):
+        self.open()
+        for _ in range(self.dice.randint(8, MOST_CALLS)):
+            if self.lab.kernel:
+                self.turn()
+        return Scene(f"seed {self.seed}", settled([line for line, _ in self.lines], self.seed) or [])
+
+    # ---- lines
+
+    def say(self, line):
+        """Plays a line on the model and keeps it. Its answer, or none where it can't be told."""
+        try:
+            answer = self.lab.play(line)
+        except (NotAScene, Spins, Waits):
+            self.lab = Lab()
+            for kept, _ in self.lines:
+                self.lab.play(kept)
+            return None
+        self.lines.append((line, answer))
+        return answer or "made"
+
+    def meet(self, before):
+        """Meets each process that went on since, until none has."""
+        while True:
+            moved = [it for it in self.lab.actors.values() if it.run and before.get(it.number) != (it.run, it.run.moves)]
+            if not moved:
+                return
+            actor = self.dice.choice(moved)
+            before[actor.number] = actor.run, actor.run.moves
+            if actor.run.answer is not None:
+                self.say(f"{actor.number} ends")
+            elif actor.proc.posted_in() is not None:
+                self.say(f"{actor.number} waits")
+
+    def moves(self):
+        return {it.number: (it.run, it.run.moves) for it in self.lab.actors.values() if it.run}
+
+    def tell(self, line):
+        before = self.moves()
+        self.say(line)
+        self.meet(before)
+
+    def make_call(self, actor, words):
+        """A call of a process, with `&` where it waits, and else mostly without."""
+        before, line = self.moves(), " ".join([str(actor.number), *words])
+        if actor.number == 0 or words[0] in ("rfork", "notepg"):
+            return self.tell(line)
+        if self.say(f"{line} &") is None:
+            return None
+        if not actor.run:  # it was refused before it began
+            self.lines[-1] = line, self.lines[-1][1]
+        elif actor.run.answer is not None and self.dice.random() < 0.8 and not self.has_lines_to_come(actor):
+            self.lines[-1] = line, actor.run.answer
+            actor.run = None
+        self.calls[actor.number] = words
+        return self.meet(before)
+
+    def has_lines_to_come(self, actor):
+        """Whether another call has lines that are kept for it, which may find this process here or not."""
+        return any(it.run and it.run.kept for it in self.lab.actors.values() if it is not actor)
+
+    # ---- the opening
+
+    def open(self):
+        dice = self.dice
+        made, forks, procs, rendez = [], [], 1, 0
+        kinds = dice.choices([*KINDS_OF_OBJECTS], [*KINDS_OF_OBJECTS.values()], k=dice.choice([1, 1, 2, 2, 3]))
+        for kind in kinds + ["clock", "plain"][:dice.randint(0, 2)]:
+            lines, roles, size = self.objects(kind)
+            made += lines
+            forks += roles
+            rendez += size
+            procs += len(roles)
+        spare = dice.choice([0, 0, 1, 3])
+        is_short = dice.random() < 0.08
+        self.say(f"kernel {max(1, procs + spare - 2 * is_short)} {max(1, rendez + dice.choice([1, 1, 2]) - 3 * is_short)}")
+        if self.lab.kernel is None:
+            return
+        clocks = [line for line in made if line.startswith("clock")]
+        dice.shuffle(forks)
+        for line in made + forks:
+            self.tell(line)
+        for actor in list(self.lab.actors.values())[1:] if clocks else []:
+            if dice.random() < 0.85:
+                self.tell(f"{actor.number} clock")
+        if dice.random() < 0.06:
+            self.tell(f"stranger {dice.randint(1, 3)} {dice.randint(1, 9)} {self.role()}")
+
+    def role(self):
+        return self.dice.choice(["plain", "reader", "writer", "holder", "guest", "sharer", "reader back", "writer back", "lone"])
+
+    def objects(self, kind):
+        """The lines that make an object, those that make processes at it, and how many Rendez it takes."""
+        dice = self.dice
+        count = dice.choice([2, 3, 3])
+        if kind in ("pipe", "stream"):
+            writers, limit = dice.choice([1, 1, 2, 3]), dice.choice([1, 2, 3, 4])
+            forks = ["0 fork reader"] + (["0 fork writers"] if dice.random() < 0.2 else ["0 fork writer"] * writers)
+            forks += ["0 fork reader back", "0 fork writer back"] if dice.random() < 0.2 else []
+            return [f"{kind} {limit} {writers}"], forks, 2 + 2 * writers
+        if kind == "share":
+            return ["pipe 2 1", f"share {count}"], ["0 fork writer"] + ["0 fork sharer"] * count, 4 + count
+        if kind == "peer":
+            return [], [f"0 fork peer {count}"], count * dice.choice([1, 2])
+        if kind == "plain":
+            return [], ["0 fork plain"] * dice.choice([1, 2]), 1
+        if kind == "clock":
+            return ["clock 9"], [], 0
+        if kind == "lone":
+            return [f"{dice.choice(['lone', 'lone_stream'])} {dice.choice([1, 2, 3])}"], ["0 fork lone"] * count, 4
+        role, line = ("holder", f"sema {dice.choice([0, 0, 1, 2])} {count}") if kind == "sema" else ("guest", f"space {count}")
+        forks = ["0 fork " + role] * count
+        if kind == "space" and dice.random() < 0.2:
+            return [line, "new_group 1"], forks + ["0 fork guest 2"] * count, 2 * count
+        return [line], forks, count
+
+    # ---- one turn
+
+    def turn(self):
+        dice, idle = self.dice, self.idle()
+        parked = [it for it in self.lab.actors.values() if it.run]
+        if parked and dice.random() < 0.4:
+            return self.end_a_wait(dice.choice(parked))
+        actor = dice.choice(idle[1:] if idle[1:] and dice.random() < 0.8 else idle)
+        if dice.random() < 0.04:
+            return self.tell(dice.choice(self.rare_lines()))
+        if dice.random() < 0.12:
+            return self.tell(self.looks())
+        verb = self.verb(actor)
+        if actor.role in ("reader", "writer", "lone") and dice.random() < 0.6:
+            verb = self.filling(actor)
+        is_probed = actor.role in PROBED.get(verb, ()) or actor.role in ALWAYS_PROBED
+        if verb in POINTS and is_probed and dice.random() < 0.3:
+            return self.call_with_kept(actor, verb)
+        if actor.role != "zero" and dice.random() < 0.15:
+            self.tell(f"0 note {actor.proc.pid} {self.kinds()}")
+        return self.make_call(actor, [verb, *self.operands(actor, verb)])
+
+    def idle(self):
+        return [it for it in self.lab.actors.values() if not it.run and not it.is_gone]
+
+    def verb(self, actor):
+        dice = self.dice
+        if actor.role in OFTEN and dice.random() < 0.6:
+            return dice.choice(OFTEN[actor.role])
+        if actor.role != "zero" and dice.random() < 0.03:
+            return dice.choice(sorted(ALONE | {"read", "write", "hangup", "acquire", "release", "rendezvous", "finish"}))
+        return dice.choice(sorted(CALLS[actor.role] - {"room"}))
+
+    def filling(self, actor):
+        """A read where something is there, and a write where there is room: so a pipe has more than one write now and then."""
+        pipe = self.lab.pipe_of(actor)
+        is_full = len(pipe.blocks) >= pipe.limit
+        reads = ["read", "read", "try_read", "read_block"] + ["next_piece", "read_exact", "read_within"] * (actor.role == "reader")
+        writes = ["write", "write", "write_long"] + ["write_within"] * (actor.role == "writer")
+        if actor.role == "lone":
+            return self.dice.choice(reads if is_full else writes)
+        if actor.role == "reader":
+            return self.dice.choice(reads if is_full or self.dice.random() < 0.4 else ["sleep", "notes", "wakeup", "try_read"])
+        return self.dice.choice(["sleep", "notes", "hangup", "write"] if is_full else writes)
+
+    def looks(self):
+        dice = self.dice
+        actor = dice.choice(list(self.lab.actors.values()))
+        return dice.choice([f"{actor.number} look", f"rendez {dice.randrange(self.lab.kernel.rendez)}",
+                            f"{actor.number if actor.number else 1} notes" if actor.number else "0 notes"])
+
+    def rare_lines(self):
+        """Lines that make more, or are refused."""
+        dice = self.dice
+        size = dice.choice([0, 1, 2, 1024, 1025])
+        forker = dice.choice([it for it in self.idle() if it.role in ("zero", "plain", "reader", "writer", "lone", "holder")])
+        back = dice.choice(["", "", " back"])
+        number = forker.number
+        fork = f"{number} fork {self.role()}" if forker.role != "holder" else f"{number} fork"
+        flags = dice.choice(["-", "proc", "noteg", "noteg", "proc,noteg", "proc,noteg", "rend", "proc,rend", "8", "15", "1"])
+        rfork = f"{number} rfork {flags}{dice.choice(['', ' plain', ' writers', ' guest', ' sharer'])}"
+        others = [] if forker.role == "holder" else [rfork]
+        return [fork, *others, "0 fork writers" + back, f"pipe {size} {dice.choice([0, 1, 64, 65])}", f"stream {size} 1",
+                f"sema {dice.choice([0, 1, 2147483647, 2147483648])} {size}", f"space {size}", f"clock {size}", "new_group 1",
+                "lone 1", f"share {size}", f"0 row {dice.choice([0, 1, 2, 9])}", "0 pids_left", "0 rendez_left", "left",
+                f"{dice.choice(self.idle()).number} rendez", f"{dice.choice(self.idle()[-1:]).number} clock" if self.idle()[1:] else "left",
+                f"stranger {dice.choice([0, 1, 2, 1025])} {dice.choice([0, 1, 9, 8193])} {self.role()}"]
+
+    # ---- a wait that ends
+
+    def end_a_wait(self, waiting):
+        dice, number, pid = self.dice, waiting.number, waiting.proc.pid
+        words, place = self.calls.get(number, ["sleep"]), waiting.proc.posted_in()
+        ways = [f"0 note {pid} {self.kinds()}"]
+        if words[0].endswith("_within"):
+            deadline = min(int(words[1]) + int(words[2]), 2**64 - 1)
+            ways += [f"0 tick {deadline}", f"0 tick {max(0, deadline - 1)}", f"0 tick {min(deadline + 1, 2**64 - 1)}"]
+        if place is not None and words[0].startswith("sleep"):
+            ways += [f"0 wakeup {place} {self.level()}", f"0 wakeup {place} 1"]
+        others = [it for it in self.idle() if it.thing is waiting.thing and it.thing is not None]
+        if others and dice.random() < 0.75:
+            return self.partner(dice.choice(others), words)
+        if number < 1024:
+            return self.tell(dice.choice(ways))
+        return None
+
+    def partner(self, other, words):
+        """A call of a process at the same object, mostly the one that is waited for."""
+        if self.dice.random() < 0.8:
+            return self.make_call(other, self.answering(other, words))
+        verb = self.verb(other)
+        return self.make_call(other, [verb, *self.operands(other, verb)])
+
+    def answering(self, other, words):
+        """The call of another process at the same object for which this one waits."""
+        if other.role in ("guest", "peer"):
+            return ["rendezvous", words[-2], str(self.dice.randrange(9))] if words[0].startswith("rendezvous") else ["notes"]
+        if other.role == "holder":
+            return ["release", str(self.dice.choice([1, 1, 2]))]
+        verb = {"reader": "read", "writer": "write", "sharer": "read",
+                "lone": "write" if words[0].startswith("read") else "read"}.get(other.role, "notes")
+        return [verb, *self.operands(other, verb)]
+
+    # ---- kept lines
+
+    def call_with_kept(self, actor, verb):
+        """A call that is stopped at points, and what its lines were answered."""
+        dice, count = self.dice, 0
+        kept = dice.choice([1, 1, 2, 3])
+        saved, size, words = self.now, len(self.lines), [verb, *self.operands(actor, verb)]
+        for point in sorted(dice.randint(1, POINTS[verb] + (dice.random() < 0.1)) for _ in range(kept)):
+            count += self.say(f"at {point} {self.kept_line(actor, words)}".strip()) == "kept"
+        self.make_call(actor, words)
+        if self.lab.is_fresh and self.lab.kept:  # the call was left out: so are its lines
+            del self.lines[size:]
+            self.lab, self.now = Lab(), saved
+            for line, _ in self.lines:
+                self.lab.play(line)
+            return
+        if not actor.run:
+            for at in range(count):
+                self.say(f"acted {at + 1}")
+            self.say(f"{actor.number} {dice.choice(['points', 'points', 'posted'])}")
+
+    def kept_line(self, actor, words):
+        dice, others = self.dice, [it for it in self.idle() if it is not actor]
+        pid = actor.proc.pid
+        if dice.random() < 0.1:
+            return dice.choice(["", f"{actor.number} look", f"rendez {dice.randrange(self.lab.kernel.rendez)}", f"{actor.number} notes"])
+        if dice.random() < 0.35 and actor.number < 1024:
+            return f"0 note {pid} {self.kinds()}"
+        if actor.proc.timer and dice.random() < 0.4:
+            return f"0 tick {self.now + dice.choice([0, 49, 50, 51])}"
+        same = [it for it in others if it.thing is actor.thing and it.thing is not None]
+        other = dice.choice(same if same and dice.random() < 0.8 else others)
+        if other in same and dice.random() < 0.5:
+            return " ".join([str(other.number), *self.answering(other, words)])
+        verb = self.verb(other)
+        return " ".join([str(other.number), verb, *self.operands(other, verb)])
+
+    # ---- operands
+
+    def kinds(self):
+        dice = self.dice
+        return dice.choice(["-", "expired", "closed", "interrupt,alarm", "hangup", "alarm,closed", *KINDS[:3] * 3,
+                            ",".join(dice.sample(KINDS, dice.randint(1, 5)))])
+
+    def level(self):
+        return self.dice.choice([0, 0, 0, 1, 1, 2, 3, 7, TOP_LEVEL - 1, TOP_LEVEL])
+
+    def place(self, actor):
+        rendez = actor.proc.kernel.rendez
+        return self.dice.choice([rendez - 1] * 6 + [self.dice.randrange(rendez)] * 3 + [rendez])
+
+    def data(self):
+        dice = self.dice
+        return dice.choice(["-", "a", "bc", "def", "-", "ghijk", "".join(dice.choices("lmnopq", k=dice.randint(1, 9))), "33*x", "40*y",
+                            "65537*w", dice.choice(["65536*z", "2*v", "100*"])])
+
+    def moment(self):
+        dice = self.dice
+        self.now += dice.choice([0, 0, 1, 10])
+        late = [(2**64 - 16, 4294967295)] if dice.random() < 0.1 else []
+        return map(str, dice.choice(late or [(self.now, dice.choice([0, 5, 50, 50]))]))
+
+    def operands(self, actor, verb):
+        dice = self.dice
+        tagged = [str(dice.choice([7, 7, 7, 8])), str(dice.choice([0, 1, 5, 9, 2**64 - 1]))]
+        count = [str(dice.choice([0, 1, 1, 2, 3, 4, 8, 8, 8, 99, 65536]))]
+        makes = {
+            "sleep": lambda: [str(self.place(actor)), str(self.level())],
+            "sleep_within": lambda: [*self.moment(), str(self.place(actor)), str(self.level())],
+            "wakeup": lambda: [str(self.place(actor)), str(self.level())],
+            "tick": lambda: [str(self.now + dice.choice([0, 0, 5, 49, 50, 51, 2**63]))],
+            "note": lambda: [str(dice.randrange(actor.proc.kernel.procs + 1)), self.kinds()],
+            "put_back": lambda: [self.kinds()],
+            "notepg": lambda: [str(dice.randrange(self.lab.kernel.procs + 1)), self.kinds()],
+            "read_within": lambda: [*self.moment(), *count],
+            "write": lambda: [self.data()],
+            "write_within": lambda: [*self.moment(), self.data()],
+            "write_long": lambda: [dice.choice([self.data(), "65537*x", "131072*x", "140000*x"])],
+            "acquire_within": lambda: [*self.moment()],
+            "release": lambda: [str(dice.choice([0, 1, 1, 1, 2, 3, 2147483647]))],
+            "rendezvous": lambda: tagged,
+            "rendezvous_word": lambda: tagged,
+            "rendezvous_within": lambda: [*self.moment(), *tagged],
+            "rfork": lambda: [dice.choice(["-", "proc", "proc", "noteg", "proc,noteg", "rend", "proc,rend", "proc,rend,noteg", "8"])],
+            "row": lambda: [str(dice.choice([0, 1, 2, 9]))],
+        }
+        if verb in ("read", "try_read", "next_piece", "read_exact"):
+            return count
+        return makes[verb]() if verb in makes else []
