@@ -1,18 +1,16 @@
 -- Who waits at a pipe is woken with a number above the one that it was told.
-use Rattle.std.proofs.Common.{◌≡◌, ◌≢◌, ◌⊎◌, inl, inr, ℕ, ◌+◌, ◌<◌, ◌≤◌, Bool, true, false, eqb}
-use Rattle.std.proofs.Common.{if◌then◌else◌, List, [], ◌∷◌, ◌++◌, length, Option, Some, None}
-use Rattle.std.proofs.Common.{refl, sym, subst, arith, length-append}
-use Rattle.std.proofs.lemmas.Bool.Decides.{nat_tests}
+use Rattle.std.proofs.Common.{◌≡◌, ◌⊎◌, inl, inr, ℕ, ◌+◌, ◌<◌, ◌≤◌, Bool, true, false, eqb}
+use Rattle.std.proofs.Common.{if◌then◌else◌, List, [], ◌∷◌, ◌++◌, Option, Some, None}
+use Rattle.std.proofs.Common.{refl, subst, arith}
 use Rattle.histories.proofs.HistoryLemmas.{legal_past}
 use Rattle.sync_base.specs.Pipe.{begun_of}
-use Rattle.sync_base.specs.Write.{Write}
 use Rattle.block_queue.specs.declared.entry.Entry.{Entry}
 use Rattle.block_queue.specs.declared.entry.Entry.TheVariants.{Taken, Stood, Full, Block, NotYet}
 use Rattle.block_queue.specs.declared.view.Key.{Key}
 use Rattle.block_queue.specs.History.{opening_state}
 use Rattle.block_queue.specs.Meaning.{queue_meaning, queue_after}
 use Rattle.block_queue.proofs.StateLemmas.{begun_is}
-use Rattle.timer_list.proofs.Cases.{below_or_not}
+use Rattle.waiting.proofs.Cases.{below_or_not}
 use Rattle.pipe_dev.specs.Finishing.{left_state}
 use Rattle.pipe_dev.specs.WaitLaws.{IsUnread, WaitingReadersAreWokenAbove}
 use Rattle.pipe_dev.specs.WaitLaws.{WaitingWritersAreWokenAbove}

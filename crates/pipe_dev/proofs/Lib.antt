@@ -1,6 +1,7 @@
 pub mod PartLemmas
 pub mod OutcomeLemmas
-mod TimedLemmas
+mod RunLemmas
+mod ForeverLemmas
 pub mod AskedLemmas
 pub mod LawLemmas
 pub mod RoundLemmas
@@ -15,7 +16,7 @@ pub mod WrittenLemmas
 pub mod ChainLemmas
 pub mod WaitLemmas
 pub mod AboveLemmas
-mod TimedWakeLemmas
+mod RunWakeLemmas
 pub mod OwnLemmas
 pub mod WorkedPipes
 pub mod WorkedEntries
@@ -28,7 +29,7 @@ pub mod BlockLemmas
 pub mod WorkedOpenings
 pub mod WorkedEnds
 mod WorkedDirections
-mod WorkedTimes
+mod WorkedRuns
 mod WorkedChains
 mod WorkedSteps
 mod WorkedNumbers

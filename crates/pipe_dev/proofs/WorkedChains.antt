@@ -1,5 +1,5 @@
 -- What no call adds to the parts that an end has read: each against one row.
-use Rattle.std.proofs.Common.{◌≡◌, ◌≢◌, ℕ, List, [], take, Ok, Err}
+use Rattle.std.proofs.Common.{◌≢◌, ℕ, List, [], take, Ok, Err}
 use Rattle.sync_base.specs.declared.fault.Fault.{Fault}
 use Rattle.sync_base.specs.declared.mode.Mode.TheVariants.{Message, Stream}
 use Rattle.block_queue.specs.declared.view.Key.{Key}

@@ -1,11 +1,10 @@
 -- Histories in which a number that was told is below those of the wakeups that follow, and broken
 -- ones in which it is not: each against one row.
-use Rattle.std.proofs.Common.{◌≡◌, ◌<◌, ℕ, List, [], ◌∷◌, refl, arith}
+use Rattle.std.proofs.Common.{◌≡◌, ◌<◌, List, [], ◌∷◌, refl, arith}
 use Rattle.sync_base.specs.declared.limits.TheConstants.{LAST_WRITE}
 use Rattle.block_queue.specs.declared.entry.Entry.{Entry}
 use Rattle.block_queue.specs.declared.entry.Entry.TheVariants as entry
-use Rattle.block_queue.specs.declared.view.Key.{Key}
-use Rattle.block_queue.specs.History.{IsNotYet, IsFull, opening_state}
+use Rattle.block_queue.specs.History.{IsNotYet, IsFull}
 use Rattle.block_queue.specs.Meaning.{queue_after}
 use Rattle.pipe_dev.specs.WaitLaws.{IsUnread, AreReadersWokenAbove, AreWritersWokenAbove}
 use Rattle.pipe_dev.proofs.AboveLemmas.{readers_above, writers_above}

@@ -1,5 +1,5 @@
 -- What is no step of a fill, and no fill: each against one row.
-use Rattle.std.proofs.Common.{◌≡◌, ◌≢◌, ℕ, Option, length}
+use Rattle.std.proofs.Common.{◌≢◌, ℕ, Option, length}
 use Rattle.block_queue.specs.declared.entry.Entry.TheVariants as entry
 use Rattle.block_queue.specs.declared.view.Key.{Key}
 use Rattle.sync_base.specs.declared.mode.Mode.{Mode}

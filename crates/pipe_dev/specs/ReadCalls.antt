@@ -28,11 +28,9 @@ use Rattle.pipe_dev.specs.Ends.{ReadSide}
 use Rattle.pipe_dev.specs.Filling.{Lending, FillsUp, last_number}
 use Rattle.pipe_dev.specs.Parts.{Part, part_of, rest_of}
 use Rattle.pipe_dev.specs.Rendezes.{reader_rendez, WakesWriters, WakesWith}
-use Rattle.timer_list.specs.declared.timers.Timers.{Timers}
-use Rattle.timer_list.specs.declared.timers.TimerSeat.{TimerSeat}
-use Rattle.timer_list.specs.Timing.{ComesToSame, TimedPoint, WaitedInTime}
 use Rattle.waiting.specs.declared.call.Reply.{Reply}
 use Rattle.waiting.specs.declared.call.Reply.TheVariants as reply
+use Rattle.waiting.specs.Runners.{ComesToSame, IsACall, RunPoint, Runs}
 use Rattle.waiting.specs.Waiting.{Promise, Point, Waited}
 
 -- the reader between two steps of a call: what its seat knows, what is left of a write that was
@@ -132,6 +130,10 @@ calling_at at =
       buffer = at.seat.buffer;
     }
 
+-- the same call, with this process
+abbrev pub gone_on : Calling → Process → Calling
+gone_on call process = calling_at (record { seat = lending_of call; process = process })
+
 -- where a sleep of it failed it asks nothing more, and reads nothing more
 abbrev pub GivesUp : Lending → Option ReadAnswer → Lending → Type 0
 GivesUp old (Some answer) new = ⊥
@@ -229,34 +231,37 @@ Reads key row old (Err fault.NoRendez) new =
 Reads key row old answer new =
     Waited (reading key row) (reader_rendez row) (lent_at old) answer (lent_at new)
 
--- ---- a read until a moment
+-- ---- a read as it is run
 
--- where a read with a deadline stands
-abbrev pub timed_call : Calling → TimerSeat → TimedPoint Lending
-timed_call call timer = record { at = lent_at call; timer = timer }
+-- where a read stands, and the timer that its runner is lent
+abbrev pub run_call : {Timer : Type 0} → Calling → Timer → RunPoint Timer Lending
+run_call call timer = record { at = lent_at call; timer = timer }
 
 -- what one that is not refused at once did
-abbrev pub ReadsInTime : Key → Row → Timers → ℕ → TimedPoint Lending → Result ReadAnswer Fault
-    → TimedPoint Lending → Type 0
-ReadsInTime key row timers moment = WaitedInTime (reading key row) (reader_rendez row) timers moment
+abbrev pub ReadsBy : {Timer : Type 0} → Runs Timer → Key → Row → RunPoint Timer Lending
+    → Result ReadAnswer Fault → RunPoint Timer Lending → Type 0
+ReadsBy runs key row = runs.ran (reading key row) (reader_rendez row)
+
+-- and whatever its runner is, it was a call
+abbrev pub RunsARead : Key → Row → Calling → Result ReadAnswer Fault → Calling → Type 0
+RunsARead key row old answer new =
+    IsACall (reading key row) (reader_rendez row) (lent_at old) answer (lent_at new)
 
 -- Of its direction it did what a read does that waits as long as it takes, and it comes to the
 -- same.
 pub record IsARead (key : Key) (row : Row) (old : Calling) (answer : Result ReadAnswer Fault)
-    (new : Point Lending) : Type 0 where
+    (new : Calling) : Type 0 where
   pub told : Result ReadAnswer Fault
   pub process : Process
-  pub read : Reads key row old told (calling_at (record { seat = new.seat; process = process }))
+  pub read : Reads key row old told (gone_on new process)
   pub same : ComesToSame told answer
   -- its steps are the caller's own, which has gone on since
-  pub own : IsPast process.trace new.process.trace
+  pub own : IsPast process.trace new.reader.process.trace
 
-abbrev pub ReadsInTimeAreReads : Type 0
-ReadsInTimeAreReads =
-    (key : Key) (row : Row) (timers : Timers) (moment : ℕ) (old new : TimedPoint Lending)
-    (answer : Result ReadAnswer Fault)
-    → ReadsInTime key row timers moment old answer new
-    → IsARead key row (calling_at old.at) answer new.at
+abbrev pub RunsOfReadsAreReads : Type 0
+RunsOfReadsAreReads =
+    (key : Key) (row : Row) (old new : Calling) (answer : Result ReadAnswer Fault)
+    → RunsARead key row old answer new → IsARead key row old answer new
 
 -- ---- what comes from the wait
 

@@ -2,7 +2,6 @@
 -- wakeup of the call that made its condition true, once that call has returned; and that wakeup is
 -- above the number with which it was told to wait.
 use Rattle.std.specs.Prelude.{◌≡◌, ◌≢◌, ◌+◌, ◌<◌, ℕ, ⊤, List, [], ◌∷◌, ◌++◌, Some, Ok}
-use Rattle.histories.specs.declared.account.Account.{Account}
 use Rattle.histories.specs.History.{IsHistory}
 use Rattle.sync_base.specs.declared.limits.TheConstants.{TOP_LEVEL}
 use Rattle.sleep_core.specs.Laws.{ReleasesBelow}
@@ -20,13 +19,11 @@ use Rattle.pipe_dev.specs.declared.answers.ReadAnswer.{ReadAnswer}
 use Rattle.pipe_dev.specs.declared.row.Row.{Row}
 use Rattle.pipe_dev.specs.Parts.{Part}
 use Rattle.pipe_dev.specs.declared.filling.ReadOutcome.{ReadOutcome}
-use Rattle.pipe_dev.specs.Filling.{Lending, last_number}
-use Rattle.pipe_dev.specs.ReadCalls.{AsksForBytes, Reader, ReadsInTime, TakesOut, Calling, TriesOn}
-use Rattle.pipe_dev.specs.ReadCalls.{calling_at}
+use Rattle.pipe_dev.specs.Filling.{last_number}
+use Rattle.pipe_dev.specs.ReadCalls.{AsksForBytes, Reader, RunsARead, TakesOut, Calling, TriesOn}
+use Rattle.pipe_dev.specs.ReadCalls.{gone_on}
 use Rattle.pipe_dev.specs.Rendezes.{WakesAll, reader_rendez, writer_rendez}
-use Rattle.pipe_dev.specs.WriteCalls.{WriteCall, Writer, Accepts, WritesInTime}
-use Rattle.timer_list.specs.declared.timers.Timers.{Timers}
-use Rattle.timer_list.specs.Timing.{TimedPoint}
+use Rattle.pipe_dev.specs.WriteCalls.{WriteCall, Writer, Accepts, RunsAWrite}
 use Rattle.waiting.specs.declared.call.Reply.TheVariants.{Done}
 use Rattle.waiting.specs.Wakeups.{HasGoneOn}
 
@@ -112,16 +109,15 @@ WaitingWritersAreWokenAbove =
     → IsHistory (queue_meaning key.first) (opening_state key.limit) (key.writers + 1) history
     → AreWritersWokenAbove history
 
--- ---- a call until a moment
+-- ---- a call as it is run
 
--- A write that was accepted until a moment wakes the reader as any other does, and its caller goes
--- on from there.
-abbrev pub TimedWritesWakeTheReader : Type 0
-TimedWritesWakeTheReader =
+-- A write that was accepted wakes the reader, whatever its runner is, and its caller goes on from
+-- there.
+abbrev pub RunWritesWakeTheReader : Type 0
+RunWritesWakeTheReader =
     (sizes : Sizes) (s : _) (shows : ShowsCore sizes s)
-    → (call : WriteCall) (timers : Timers) (moment number : ℕ)
-    → (old new : TimedPoint (Account Entry))
-    → WritesInTime call timers moment old (Ok number) new → HasGoneOn s.views new.at.process
+    → (call : WriteCall) (number : ℕ) (old new : Writer)
+    → RunsAWrite call old (Ok number) new → HasGoneOn s.views new.process
     → ReleasesBelow (world_of sizes.procs sizes.rendez shows.run) (reader_rendez call.row) number
 
 -- each writer is released below this number
@@ -132,26 +128,22 @@ ReleasesWriters state row number =
 -- The last try of a read that was answered so: the writers are released below the number of the
 -- last write that it took out.
 pub record LastTryReleases (state : State) (key : Key) (row : Row) (answer : ReadAnswer)
-    (seat : Lending) : Type 0 where
+    (new : Calling) : Type 0 where
   pub before : Calling
   pub process : Process
-  pub asked : AsksForBytes key row before (Done answer)
-      (calling_at (record { seat = seat; process = process }))
+  pub asked : AsksForBytes key row before (Done answer) (gone_on new process)
   pub taken : (left : Part)
-      → TakesOut key row before.reader left
-      (calling_at (record { seat = seat; process = process })).reader
+      → TakesOut key row before.reader left (gone_on new process).reader
       → ReleasesWriters state row (left.place + 1)
   pub tried : (came : ReadOutcome) (number : ℕ)
-      → (tries : TriesOn key row before came
-      (calling_at (record { seat = seat; process = process })))
+      → (tries : TriesOn key row before came (gone_on new process))
       → last_number before.reader.rest tries.fills.filling.parts ≡ Some number
       → ReleasesWriters state row number
 
--- So with a read until a moment, and the writers.
-abbrev pub TimedReadsWakeEachWriter : Type 0
-TimedReadsWakeEachWriter =
+-- So with a read, and the writers.
+abbrev pub RunReadsWakeEachWriter : Type 0
+RunReadsWakeEachWriter =
     (sizes : Sizes) (s : _) (shows : ShowsCore sizes s)
-    → (key : Key) (row : Row) (timers : Timers) (moment : ℕ) (answer : ReadAnswer)
-    → (old new : TimedPoint Lending)
-    → ReadsInTime key row timers moment old (Ok answer) new → HasGoneOn s.views new.at.process
-    → LastTryReleases (world_of sizes.procs sizes.rendez shows.run) key row answer new.at.seat
+    → (key : Key) (row : Row) (answer : ReadAnswer) (old new : Calling)
+    → RunsARead key row old (Ok answer) new → HasGoneOn s.views new.reader.process
+    → LastTryReleases (world_of sizes.procs sizes.rendez shows.run) key row answer new

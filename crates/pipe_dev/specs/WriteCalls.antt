@@ -27,11 +27,9 @@ use Rattle.pipe_dev.specs.declared.row.Row.{Row}
 use Rattle.pipe_dev.specs.Ends.{WriteSide}
 use Rattle.pipe_dev.specs.Rendezes.{reader_rendez, writer_rendez}
 use Rattle.pipe_dev.specs.Rounds.{OneMore}
-use Rattle.timer_list.specs.declared.timers.Timers.{Timers}
-use Rattle.timer_list.specs.declared.timers.TimerSeat.{TimerSeat}
-use Rattle.timer_list.specs.Timing.{ComesToSame, TimedPoint, WaitedInTime, timed_point}
 use Rattle.waiting.specs.declared.call.Reply.{Reply}
 use Rattle.waiting.specs.declared.call.Reply.TheVariants as reply
+use Rattle.waiting.specs.Runners.{ComesToSame, IsACall, RunPoint, Runs, run_point}
 use Rattle.waiting.specs.Waiting.{Promise, Point, Waited, point}
 
 -- the writer between two steps of a call: what its seat knows, and the process that calls
@@ -112,11 +110,12 @@ Writes call old (Err fault.Memory) new = new ≡ old
 Writes call old answer new =
     Waited (writing call) (writer_rendez call.row call.writer) old answer new
 
--- ---- a write until a moment
+-- ---- a write as it is run
 
--- where the write of an end with a deadline stands
-abbrev pub timed_writer : WriteSide → TimerSeat → Running → TimedPoint (Account Entry)
-timed_writer side timer proc = timed_point side.account timer proc
+-- where the write of an end stands, and the timer that its runner is lent
+abbrev pub run_writer : {Timer : Type 0} → WriteSide → Timer → Running
+    → RunPoint Timer (Account Entry)
+run_writer side timer proc = run_point side.account timer proc
 
 -- it was refused for this before its first request, and did nothing
 pub record IsRefusedAs {Out At : Type 0} (why : Fault) (old : At) (answer : Result Out Fault)
@@ -125,12 +124,18 @@ pub record IsRefusedAs {Out At : Type 0} (why : Fault) (old : At) (answer : Resu
   pub same : new ≡ old
 
 -- what one that is neither too big nor by a process of another kernel did: there was no memory for
--- its block, or it waited so
-abbrev pub WritesInTime : WriteCall → Timers → ℕ → TimedPoint (Account Entry) → Result ℕ Fault
-    → TimedPoint (Account Entry) → Type 0
-WritesInTime call timers moment old answer new =
+-- its block, or its runner ran it so
+abbrev pub WritesBy : {Timer : Type 0} → Runs Timer → WriteCall → RunPoint Timer (Account Entry)
+    → Result ℕ Fault → RunPoint Timer (Account Entry) → Type 0
+WritesBy runs call old answer new =
     IsRefusedAs fault.Memory old answer new
-    ⊎ WaitedInTime (writing call) (writer_rendez call.row call.writer) timers moment old answer new
+    ⊎ runs.ran (writing call) (writer_rendez call.row call.writer) old answer new
+
+-- and whatever its runner is, it wanted memory, or was a call
+abbrev pub RunsAWrite : WriteCall → Writer → Result ℕ Fault → Writer → Type 0
+RunsAWrite call old answer new =
+    IsRefusedAs fault.Memory old answer new
+    ⊎ IsACall (writing call) (writer_rendez call.row call.writer) old answer new
 
 -- Of its direction it did what a write does that waits as long as it takes, and it comes to the
 -- same.
@@ -143,11 +148,10 @@ pub record IsAWrite (call : WriteCall) (old : Writer) (answer : Result ℕ Fault
   -- its steps are the caller's own, which has gone on since
   pub own : IsPast process.trace new.process.trace
 
-abbrev pub WritesInTimeAreWrites : Type 0
-WritesInTimeAreWrites =
-    (call : WriteCall) (timers : Timers) (moment : ℕ) (old new : TimedPoint (Account Entry))
-    (answer : Result ℕ Fault)
-    → WritesInTime call timers moment old answer new → IsAWrite call old.at answer new.at
+abbrev pub RunsOfWritesAreWrites : Type 0
+RunsOfWritesAreWrites =
+    (call : WriteCall) (old new : Writer) (answer : Result ℕ Fault)
+    → RunsAWrite call old answer new → IsAWrite call old answer new
 
 -- ---- a long write
 

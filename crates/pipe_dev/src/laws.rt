@@ -23,11 +23,11 @@ ghost use Rattle.pipe_dev.specs.WaitLaws.{
   HangupsWakeAll,
   WaitingReadersAreWokenAbove,
   WaitingWritersAreWokenAbove,
-  TimedWritesWakeTheReader,
-  TimedReadsWakeEachWriter,
+  RunWritesWakeTheReader,
+  RunReadsWakeEachWriter,
 };
-ghost use Rattle.pipe_dev.specs.ReadCalls.{ReadsInTimeAreReads};
-ghost use Rattle.pipe_dev.specs.WriteCalls.{WritesInTimeAreWrites};
+ghost use Rattle.pipe_dev.specs.ReadCalls.{RunsOfReadsAreReads};
+ghost use Rattle.pipe_dev.specs.WriteCalls.{RunsOfWritesAreWrites};
 
 /// A process of the kernel whose roster made a pipe is never answered `NoRendez` at its ends.
 pub fn own_processes_are_never_refused()
@@ -70,16 +70,17 @@ pub fn each_write_is_read_whole_and_once()
     ensures writers_above { WaitingWritersAreWokenAbove }
 {}
 
-/// A call with a deadline does to its direction what one without does, by steps of its caller, and
-/// comes to the same or to nothing: so the laws of writes and reads hold of it.
-pub fn calls_in_time_are_calls()
-    ensures writes { WritesInTimeAreWrites }
-    ensures reads { ReadsInTimeAreReads }
+/// A call does to its direction what one does that waits as long as it takes, whatever its runner
+/// is, by steps of its caller, and comes to the same or to nothing: so the laws of writes and reads
+/// hold of it.
+pub fn runs_are_calls()
+    ensures writes { RunsOfWritesAreWrites }
+    ensures reads { RunsOfReadsAreReads }
 {}
 
-/// No wakeup of a call with a deadline is lost: once it has returned, the process that its last
-/// request woke is no longer posted.
-pub fn timed_calls_wake()
-    ensures reader_woken { TimedWritesWakeTheReader }
-    ensures writers_woken { TimedReadsWakeEachWriter }
+/// No wakeup of a call is lost, whatever its runner is: once it has returned, the process that its
+/// last request woke is no longer posted.
+pub fn runs_wake()
+    ensures reader_woken { RunWritesWakeTheReader }
+    ensures writers_woken { RunReadsWakeEachWriter }
 {}

@@ -1,7 +1,7 @@
 //! Two-way pipes between processes, after pipe(2) and pipe(3).
 //! Read `row`, `waking`; `remainder`, `cursor`, `answers`; `read_end`, `filling`, `reading`,
-//! `reading_within`, `block_reading`; `write_end`, `writing`, `write_long`, `writing_within`;
-//! `hanging`; `pipe`, `end`; `closing`; and then `laws`, the headline, and `side_laws`.
+//! `block_reading`; `write_end`, `writing`, `write_long`; `hanging`; `pipe`, `end`; `closing`; and
+//! then `laws`, the headline, and `side_laws`.
 #![tactic(auto)]
 
 pub mod answers;
@@ -15,7 +15,6 @@ pub mod laws;
 pub mod pipe;
 pub mod read_end;
 mod reading;
-mod reading_within;
 pub mod remainder;
 pub mod row;
 pub mod side_laws;
@@ -23,7 +22,6 @@ mod waking;
 pub mod write_end;
 mod write_long;
 mod writing;
-mod writing_within;
 
 pub use answers::{Long, ReadAnswer, TryAnswer};
 pub use block_queue::StoredBlock;

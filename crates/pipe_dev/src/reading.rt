@@ -4,11 +4,12 @@ ghost use Rattle.block_queue.specs.Seats.{key_of};
 ghost use Rattle.pipe_dev.specs.Ends.{IsReadCursor};
 ghost use Rattle.pipe_dev.specs.Filling.{Lending};
 ghost use Rattle.pipe_dev.specs.FillSteps.{lending_with};
-ghost use Rattle.pipe_dev.specs.ReadCalls.{AsksForBytes, IsAskedRead, Tries, reading};
+ghost use Rattle.pipe_dev.specs.ReadCalls.{AsksForBytes, ReadsBy, Tries, reading};
 ghost use Rattle.pipe_dev.specs.ReadCalls.{calling_at};
 ghost use Rattle.pipe_dev.specs.ReadSteps.{found_of};
 ghost use Rattle.pipe_dev.specs.Rendezes.{OwnsRow, reader_rendez};
-ghost use Rattle.waiting.specs.Waiting.{IsLow, Waited, point};
+ghost use Rattle.waiting.specs.Runners.{IsACall, run_point};
+ghost use Rattle.waiting.specs.Waiting.{IsLow, point};
 
 use crate::answers::{ReadAnswer, TryAnswer};
 use crate::cursor::ReadCursor;
@@ -20,15 +21,17 @@ use block_queue::Queue;
 use sleep_wakeup::Proc;
 use std::sync::Wait;
 use sync_base::{Fault, NoProbe};
-use waiting::{Reply, WaitingCall, wait_for};
+use waiting::{Forever, Reply, Runner, WaitingCall};
 
 impl<'p> ReadEnd<'p> {
     ghost use Rattle.std.specs.Prelude.{◌≡◌, ◌≢◌, ◌↔◌, ◌⊎◌, [], IsErrOf, IfOk, IfErr, OnErr};
     ghost use Rattle.sync_base.specs.declared.fault.Fault.TheVariants.{BadCount, NoRendez};
     ghost use Rattle.block_queue.specs.Seats.{key_of};
     ghost use Rattle.pipe_dev.specs.Ends.{IsSameReadEnd};
-    ghost use Rattle.pipe_dev.specs.ReadCalls.{Reads, Tries, IsUntouchedRead, calling, reader_of};
+    ghost use Rattle.pipe_dev.specs.ReadCalls.{IsUntouchedRead, Reads, ReadsBy, RunsARead, Tries};
+    ghost use Rattle.pipe_dev.specs.ReadCalls.{calling, reader_of, run_call};
     ghost use Rattle.pipe_dev.specs.Rendezes.{OwnsRow};
+    ghost use Rattle.pipe_dev.specs.WriteCalls.{IsRefusedAs};
 
     /// Reads what is next: fills the buffer, up to its end or to the end of one write, whichever
     /// comes first. In stream mode it goes on from write to write while its buffer has room, and
@@ -58,6 +61,48 @@ impl<'p> ReadEnd<'p> {
         ensures end { IsSameReadEnd self.old self.new }
         ensures words { proc.new.words ≡ proc.old.words }
     {
+        self.read_by(rt, proc, buffer, &Forever, &mut ())
+    }
+
+    /// A `read` that waits as its runner does. Takes no memory. Own; read(2) waits as long as it
+    /// takes.
+    ///
+    /// Refuses, in this order, as `BadCount` and `NoRendez` as `read` does, and where it would wait
+    /// as its runner does; a refused read got nothing.
+    pub fn read_by<R: Wait, W: Runner>(
+        &mut self,
+        rt: &R,
+        proc: &mut Proc<'_>,
+        buffer: &mut [u8],
+        runner: &W,
+        timer: &mut W::Timer,
+    ) -> Result<ReadAnswer, Fault>
+        requires timer { W.rests runner.now timer.old }
+
+        // A buffer of no bytes is refused first, and then a process of a kernel that does not own
+        // all the Rendez of the direction.
+        ensures bad_count { buffer.old ≡ [] → IsRefusedAs BadCount
+            (run_call (calling (reader_of self.old proc.old) buffer.old) timer.old) result
+            (run_call (calling (reader_of self.new proc.new) buffer.new) timer.new) }
+        ensures no_rendez { buffer.old ≢ [] → ¬ OwnsRow proc.old.words self.old.row
+            → IsRefusedAs NoRendez
+            (run_call (calling (reader_of self.old proc.old) buffer.old) timer.old) result
+            (run_call (calling (reader_of self.new proc.new) buffer.new) timer.new) }
+
+        // Else it was run so; and whatever its runner is, it was a read.
+        ensures read { buffer.old ≢ [] → OwnsRow proc.old.words self.old.row
+            → ReadsBy (W.runs runner.now) (key_of self.old.queue) self.old.row
+            (run_call (calling (reader_of self.old proc.old) buffer.old) timer.old) result
+            (run_call (calling (reader_of self.new proc.new) buffer.new) timer.new) }
+        ensures is_read { buffer.old ≢ [] → OwnsRow proc.old.words self.old.row
+            → RunsARead (key_of self.old.queue) self.old.row
+            (calling (reader_of self.old proc.old) buffer.old) result
+            (calling (reader_of self.new proc.new) buffer.new) }
+        ensures end { IsSameReadEnd self.old self.new }
+        ensures words { proc.new.words ≡ proc.old.words }
+        ensures timer { W.rests runner.now timer.new }
+        ensures kept { W.kept timer.new ≡ W.kept timer.old }
+    {
         // The refusals come before the cursor is taken, so they leave the end as it was.
         if buffer.is_empty() {
             return Err(Fault::BadCount);
@@ -68,7 +113,16 @@ impl<'p> ReadEnd<'p> {
         let Some(mut cursor) = self.cursor.take() else {
             unreachable!()
         };
-        let answer = read_with(self.queue, &self.row, rt, &mut cursor, proc, buffer);
+        let answer = run_read(
+            self.queue,
+            &self.row,
+            rt,
+            &mut cursor,
+            proc,
+            buffer,
+            runner,
+            timer,
+        );
         self.cursor = Some(cursor);
         answer
     }
@@ -110,28 +164,35 @@ impl<'p> ReadEnd<'p> {
     }
 }
 
-// Tries until it is answered.
-fn read_with<R: Wait>(
+// Tries, as its runner does, until it is answered.
+fn run_read<R: Wait, W: Runner>(
     queue: &Queue,
     row: &Row,
     rt: &R,
     cursor: &mut ReadCursor,
     proc: &mut Proc<'_>,
     buffer: &mut [u8],
+    runner: &W,
+    timer: &mut W::Timer,
 ) -> Result<ReadAnswer, Fault>
     requires cursor { IsReadCursor queue.now row.now cursor.old }
     requires kernel { OwnsRow proc.old.words row.now }
     requires room { buffer.old ≢ [] }
+    requires timer { W.rests runner.now timer.old }
     ensures cursor { IsReadCursor queue.now row.now cursor.new }
     ensures words { proc.new.words ≡ proc.old.words }
-    ensures asked { Waited (reading (key_of queue.now) row.now) (reader_rendez row.now)
+    ensures timer { W.rests runner.now timer.new }
+    ensures kept { W.kept timer.new ≡ W.kept timer.old }
+    ensures ran { ReadsBy (W.runs runner.now) (key_of queue.now) row.now
+        (run_point (lending_with cursor.old buffer.old) timer.old proc.old) result
+        (run_point (lending_with cursor.new buffer.new) timer.new proc.new) }
+    ensures is_call { IsACall (reading (key_of queue.now) row.now) (reader_rendez row.now)
         (point (lending_with cursor.old buffer.old) proc.old) result
         (point (lending_with cursor.new buffer.new) proc.new) }
-    ensures answer { IsAskedRead result }
 {
     let call = Reading { queue, row };
     let rendez = row.reader();
-    wait_for(rt, proc, rendez, &call, cursor, buffer, &mut NoProbe)
+    runner.run(rt, proc, rendez, &call, cursor, buffer, timer, &mut NoProbe)
 }
 
 /// A call of read: what it asks of its queue.

@@ -5,9 +5,9 @@ ghost use Rattle.block_queue.specs.declared.entry.Entry.{Entry};
 ghost use Rattle.block_queue.specs.Seats.{key_of, put_account};
 ghost use Rattle.pipe_dev.specs.Ends.{IsWriteSeat};
 ghost use Rattle.pipe_dev.specs.Rendezes.{OwnsRow, writer_rendez};
-ghost use Rattle.pipe_dev.specs.WriteCalls.{IsAsked, call_with, writer_with, writing};
+ghost use Rattle.pipe_dev.specs.WriteCalls.{call_with, writer_with, writing};
 ghost use Rattle.pipe_dev.specs.WriteSteps.{IsPutting};
-ghost use Rattle.waiting.specs.Waiting.{Waited};
+ghost use Rattle.waiting.specs.Runners.{IsACall, run_point};
 
 use crate::row::Row;
 use crate::waking::wake;
@@ -18,7 +18,7 @@ use std::alloc::Global;
 use std::sync::Wait;
 use sync_base::limits::ATOMIC_SIZE;
 use sync_base::{Fault, NoProbe, Note, NoteSet, Piece};
-use waiting::{Reply, WaitingCall, wait_for};
+use waiting::{Forever, Reply, Runner, WaitingCall};
 
 impl<'p> WriteEnd<'p> {
     ghost use Rattle.std.specs.Prelude.{◌≡◌, ◌<◌, ◌≤◌, ◌↔◌, length, IsErrOf};
@@ -26,7 +26,8 @@ impl<'p> WriteEnd<'p> {
     ghost use Rattle.sync_base.specs.declared.limits.TheConstants.{ATOMIC_SIZE};
     ghost use Rattle.pipe_dev.specs.Ends.{IsSameWriteEnd};
     ghost use Rattle.pipe_dev.specs.Rendezes.{OwnsRow};
-    ghost use Rattle.pipe_dev.specs.WriteCalls.{Writes, call_of, writer_of};
+    ghost use Rattle.pipe_dev.specs.WriteCalls.{IsRefusedAs, RunsAWrite, Writes, WritesBy};
+    ghost use Rattle.pipe_dev.specs.WriteCalls.{call_of, run_writer, writer_of};
 
     /// Writes these bytes as one write, which is read whole and in one piece, and answers its
     /// number. Where there is no room it waits. Memory is taken for the bytes.
@@ -56,6 +57,47 @@ impl<'p> WriteEnd<'p> {
         ensures end { IsSameWriteEnd self.old self.new }
         ensures words { proc.new.words ≡ proc.old.words }
     {
+        self.write_by(alloc, rt, proc, bytes, &Forever, &mut ())
+    }
+
+    /// A `write` that waits as its runner does. Memory is taken for the bytes. Own; write(2) waits
+    /// as long as it takes.
+    ///
+    /// Refuses, in this order, as `TooBig`, `NoRendez`, `Memory`, `Hungup` and `Worn` as `write`
+    /// does, and where it would wait as its runner does; a refused write took nothing.
+    pub fn write_by<R: Wait, W: Runner>(
+        &mut self,
+        alloc: Global,
+        rt: &R,
+        proc: &mut Proc<'_>,
+        bytes: &[u8],
+        runner: &W,
+        timer: &mut W::Timer,
+    ) -> Result<u64, Fault>
+        requires timer { W.rests runner.now timer.old }
+
+        // A write above the atomic size is refused first, and then a process of a kernel that does
+        // not own all the Rendez of the direction.
+        ensures too_big { ATOMIC_SIZE < length bytes.now
+            → IsRefusedAs TooBig (run_writer self.old timer.old proc.old) result
+            (run_writer self.new timer.new proc.new) }
+        ensures no_rendez { length bytes.now ≤ ATOMIC_SIZE → ¬ OwnsRow proc.old.words self.old.row
+            → IsRefusedAs NoRendez (run_writer self.old timer.old proc.old) result
+            (run_writer self.new timer.new proc.new) }
+
+        // Else it was run so, or wanted memory; and whatever its runner is, it was a write.
+        ensures wrote { length bytes.now ≤ ATOMIC_SIZE → OwnsRow proc.old.words self.old.row
+            → WritesBy (W.runs runner.now) (call_of self.old bytes.now)
+            (run_writer self.old timer.old proc.old) result
+            (run_writer self.new timer.new proc.new) }
+        ensures is_write { length bytes.now ≤ ATOMIC_SIZE → OwnsRow proc.old.words self.old.row
+            → RunsAWrite (call_of self.old bytes.now)
+            (writer_of self.old proc.old) result (writer_of self.new proc.new) }
+        ensures end { IsSameWriteEnd self.old self.new }
+        ensures words { proc.new.words ≡ proc.old.words }
+        ensures timer { W.rests runner.now timer.new }
+        ensures kept { W.kept timer.new ≡ W.kept timer.old }
+    {
         if bytes.len() > ATOMIC_SIZE {
             return Err(Fault::TooBig);
         }
@@ -69,7 +111,16 @@ impl<'p> WriteEnd<'p> {
             Ok(block) => {
                 let block = Some(block);
                 let mut putting = Putting { seat, block };
-                let answer = write_with(self.queue, &self.row, rt, &mut putting, proc, bytes);
+                let answer = run_write(
+                    self.queue,
+                    &self.row,
+                    rt,
+                    &mut putting,
+                    proc,
+                    bytes,
+                    runner,
+                    timer,
+                );
                 let Putting { seat, block: _ } = putting;
                 self.seat = Some(seat);
                 answer
@@ -83,23 +134,32 @@ impl<'p> WriteEnd<'p> {
     }
 }
 
-// Asks and sleeps until it is answered.
-fn write_with<R: Wait>(
+// Asks and sleeps, as its runner does, until it is answered.
+fn run_write<R: Wait, W: Runner>(
     queue: &Queue,
     row: &Row,
     rt: &R,
     putting: &mut Putting,
     proc: &mut Proc<'_>,
     bytes: &[u8],
+    runner: &W,
+    timer: &mut W::Timer,
 ) -> Result<u64, Fault>
     requires putting { IsPutting queue.now row.now putting.old.seat.writer bytes.now putting.old }
     requires kernel { OwnsRow proc.old.words row.now }
+    requires timer { W.rests runner.now timer.old }
     ensures seat { IsWriteSeat queue.now row.now putting.old.seat.writer putting.new.seat }
     ensures words { proc.new.words ≡ proc.old.words }
-    ensures asked { Waited (writing (call_with queue.now row.now putting.old.seat bytes.now))
+    ensures timer { W.rests runner.now timer.new }
+    ensures kept { W.kept timer.new ≡ W.kept timer.old }
+    ensures ran { (W.runs runner.now).ran
+        (writing (call_with queue.now row.now putting.old.seat bytes.now))
+        (writer_rendez row.now putting.old.seat.writer)
+        (run_point (put_account putting.old.seat) timer.old proc.old) result
+        (run_point (put_account putting.new.seat) timer.new proc.new) }
+    ensures is_call { IsACall (writing (call_with queue.now row.now putting.old.seat bytes.now))
         (writer_rendez row.now putting.old.seat.writer) (writer_with putting.old.seat proc.old)
         result (writer_with putting.new.seat proc.new) }
-    ensures answer { IsAsked result }
 {
     let writer = putting.seat.writer();
     let rendez = row.writer(writer);
@@ -109,7 +169,16 @@ fn write_with<R: Wait>(
         writer,
         bytes,
     };
-    wait_for(rt, proc, rendez, &call, putting, &mut [], &mut NoProbe)
+    runner.run(
+        rt,
+        proc,
+        rendez,
+        &call,
+        putting,
+        &mut [],
+        timer,
+        &mut NoProbe,
+    )
 }
 
 /// The seat of a write, and its block while the queue has not taken it.

@@ -1,11 +1,16 @@
 -- What is no clock, no watch and no reason to refuse one: each against one row of what the calls of
 -- a clock say. And where a call with a watch stands.
 use Rattle.std.proofs.Common.{◌≡◌, ◌≢◌, ◌<◌, [], ◌∷◌, length, ap, arith, Some}
-use Rattle.std.proofs.Common.{None, refl}
+use Rattle.std.proofs.Common.{None, Result, refl, ℕ}
 use Rattle.kernel_lock.specs.Seats.{number_of, account_of, given_of, limit_of}
+use Rattle.sync_base.specs.declared.fault.Fault.{Fault}
 use Rattle.sync_base.specs.declared.fault.Fault.TheVariants as fault
+use Rattle.sync_base.specs.declared.ids.RendezId.{RendezId}
 use Rattle.sleep_wakeup.specs.Kernel.{Running}
 use Rattle.timer_list.specs.declared.timers.TimerSeat.{TimerSeat}
+use Rattle.timer_list.specs.Timers.{deadline_of}
+use Rattle.timer_list.specs.Timing.{TimedPoint, WaitedInTime}
+use Rattle.waiting.specs.Waiting.{Promise}
 use Rattle.plan9.specs.declared.pipes.Reader.{Reader}
 use Rattle.plan9.specs.declared.pipes.Writer.{Writer}
 use Rattle.plan9.specs.Halls.{Visiting}
@@ -14,6 +19,7 @@ use Rattle.plan9.specs.Watches.{Clocked, Watching, IsNewClock, IsTaken, IsFirstW
 use Rattle.plan9.specs.Watches.{IsSameWatch, IsFurtherWatch, WhyNoWatch}
 use Rattle.plan9.specs.Watches.{watched_point, watched_guest, watched_sleeper}
 use Rattle.plan9.specs.Watches.{watched_read, watched_write}
+use Rattle.plan9.specs.Watches.{until}
 
 module _ (clock : Clocked) (watch : Watching) where
   -- somebody has the first seat of a new clock
@@ -103,3 +109,13 @@ module _ (watch : Watching) where
         timer = watch.seat;
       }
   writer_stands writer = refl
+
+-- ---- a call with a watch
+
+module _ (watch : Watching) (now ms : ℕ) where
+  -- it did not wait until that moment at those timers
+  runs_in_no_way : {Seat Out : Type 0} (promise : Promise Seat Out) (rendez : RendezId)
+      (old new : TimedPoint Seat) (answer : Result Out Fault)
+      → ¬ WaitedInTime promise rendez watch.timers (deadline_of now ms) old answer new
+      → ¬ (until watch now ms).ran promise rendez old answer new
+  runs_in_no_way promise rendez old new answer waited ran = waited ran

@@ -8,13 +8,15 @@ use Rattle.sleep_wakeup.specs.Kernel.{Running}
 use Rattle.timer_list.specs.declared.timers.Timers.{Timers}
 use Rattle.timer_list.specs.declared.timers.TimerSeat.{TimerSeat}
 use Rattle.timer_list.specs.Seats.{AreNewTimers, IsTimerSeatOf}
-use Rattle.timer_list.specs.Timing.{TimedPoint, timed_point}
+use Rattle.timer_list.specs.Timers.{deadline_of}
+use Rattle.timer_list.specs.Timing.{TimedPoint, until_a_moment}
+use Rattle.waiting.specs.Runners.{Runs, run_point}
 use Rattle.semaphore.specs.declared.sema.SemaSeat.{SemaSeat}
 use Rattle.tag_space.specs.declared.member.Member.{Member}
 use Rattle.block_queue.specs.declared.entry.Entry.{Entry}
 use Rattle.pipe_dev.specs.Filling.{Lending}
-use Rattle.pipe_dev.specs.ReadCalls.{calling, reader_of, timed_call}
-use Rattle.pipe_dev.specs.WriteCalls.{timed_writer}
+use Rattle.pipe_dev.specs.ReadCalls.{calling, reader_of, run_call}
+use Rattle.pipe_dev.specs.WriteCalls.{run_writer}
 use Rattle.plan9.specs.declared.pipes.Reader.{Reader}
 use Rattle.plan9.specs.declared.pipes.Writer.{Writer}
 use Rattle.plan9.specs.Halls.{Visiting}
@@ -69,21 +71,27 @@ WhyNoWatch old new other = ⊥
 
 -- that of a holder
 abbrev pub watched_point : Holding → Watching → TimedPoint SemaSeat
-watched_point holding watch = timed_point holding.seat watch.seat holding.running
+watched_point holding watch = run_point holding.seat watch.seat holding.running
 
 -- that of a guest
 abbrev pub watched_guest : Visiting → Watching → TimedPoint Member
-watched_guest guest watch = timed_point guest.member watch.seat guest.running
+watched_guest guest watch = run_point guest.member watch.seat guest.running
 
 -- that of a process alone, which sleeps
 abbrev pub watched_sleeper : Running → Watching → TimedPoint Unit
-watched_sleeper proc watch = timed_point tt watch.seat proc
+watched_sleeper proc watch = run_point tt watch.seat proc
 
 -- that of a reader, with what its buffer holds
 abbrev pub watched_read : Reader → Watching → List ℕ → TimedPoint Lending
 watched_read reader watch buffer =
-    timed_call (calling (reader_of reader.end reader.proc) buffer) watch.seat
+    run_call (calling (reader_of reader.end reader.proc) buffer) watch.seat
 
 -- that of a writer
 abbrev pub watched_write : Writer → Watching → TimedPoint (Account Entry)
-watched_write writer watch = timed_writer writer.end watch.seat writer.proc
+watched_write writer watch = run_writer writer.end watch.seat writer.proc
+
+-- ---- a call with a watch
+
+-- it waits until this many milliseconds after now, at the timers of the watch
+abbrev pub until : Watching → ℕ → ℕ → Runs TimerSeat
+until watch now ms = until_a_moment watch.timers (deadline_of now ms)

@@ -9,6 +9,7 @@ use std::marker::Model;
 use std::sync::Wait;
 use sync_base::{Fault, NoProbe, NoteSet, Pid, Probe, RendezId, Tag};
 use tag_space::{Member, Opened, TagSpace};
+use timer_list::Deadline;
 
 /// A hall: a tag space, and its first member as long as no process has it.
 #[derive(Drop)]
@@ -159,9 +160,9 @@ impl<'s, 'k> Guest<'s, 'k> {
     ghost use Rattle.rendez_words.specs.Words.{procs_of};
     ghost use Rattle.tag_space.specs.Members.{number_of, party_of, rendez_of_member, seen_of};
     ghost use Rattle.tag_space.specs.Outcome.{Exchange};
-    ghost use Rattle.tag_space.specs.Asking.{Meets, MeetsInTime, RendezvousesInWords};
-    ghost use Rattle.timer_list.specs.Timers.{deadline_of};
-    ghost use Rattle.plan9.specs.Watches.{IsSameWatch, watched_guest};
+    ghost use Rattle.tag_space.specs.Asking.{Meets, MeetsBy, RendezvousesInWords, meeting};
+    ghost use Rattle.waiting.specs.Runners.{IsACall};
+    ghost use Rattle.plan9.specs.Watches.{IsSameWatch, until, watched_guest};
     ghost use Rattle.plan9.specs.Refusals.{ComesBack};
     ghost use Rattle.plan9.specs.Halls.{
       IsAdmittedGuest,
@@ -258,15 +259,19 @@ impl<'s, 'k> Guest<'s, 'k> {
 
         // What the member asked, how its process slept and woke its partner, and what it asked its
         // timers.
-        ensures waited { MeetsInTime self.old.space watch.old.timers (deadline_of now ms)
+        ensures waited { MeetsBy (until watch.old now ms) self.old.space
             (record { tag = tag; value = value }) (watched_guest self.old watch.old) result
             (watched_guest self.new watch.new) }
+
+        // And what holds of a rendezvous without a deadline holds of it.
+        ensures is_call { IsACall (meeting self.old.space (record { tag = tag; value = value }))
+            self.old.member.rendez (guest_point self.old) result (guest_point self.new) }
     {
         self.rendezvous_within_probed(rt, watch, now, ms, tag, value, &mut NoProbe)
     }
 
-    /// A `rendezvous_within` that tells a probe of its points, as
-    /// `TagSpace::rendezvous_within_probed` does: 2 before and 3 after each sleep for a partner.
+    /// A `rendezvous_within` that tells a probe of its points: 2 before and 3 after each sleep for
+    /// a partner.
     pub fn rendezvous_within_probed<R: Wait, P: Probe>(
         &mut self,
         rt: &R,
@@ -287,20 +292,27 @@ impl<'s, 'k> Guest<'s, 'k> {
 
         // What the member asked, how its process slept and woke its partner, and what it asked its
         // timers.
-        ensures waited { MeetsInTime self.old.space watch.old.timers (deadline_of now ms)
+        ensures waited { MeetsBy (until watch.old now ms) self.old.space
             (record { tag = tag; value = value }) (watched_guest self.old watch.old) result
             (watched_guest self.new watch.new) }
+
+        // And what holds of a rendezvous without a deadline holds of it.
+        ensures is_call { IsACall (meeting self.old.space (record { tag = tag; value = value }))
+            self.old.member.rendez (guest_point self.old) result (guest_point self.new) }
     {
-        self.space.rendezvous_within_probed(
+        let until = Deadline {
+            timers: watch.timers,
+            from: now,
+            ms,
+        };
+        self.space.rendezvous_by(
             rt,
             &mut self.proc,
             &mut self.member,
-            watch.timers,
-            &mut watch.seat,
-            now,
-            ms,
             tag,
             value,
+            &until,
+            &mut watch.seat,
             probe,
         )
     }

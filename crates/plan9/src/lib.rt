@@ -57,7 +57,10 @@ pub use semaphore::{OpenedSema, Sema, SemaSeat, Semacquired};
 // Timers, for waits that end, and seats that have them.
 pub use crate::clock::{Clock, Watch};
 pub use crate::ticker::{Beat, RealTime, TickSource, Ticker};
-pub use timer_list::{OpenedTimers, TimerSeat, Timers};
+pub use timer_list::{Deadline, OpenedTimers, TimerSeat, Timers};
+
+// How a call of an end or of a tag space is run: as long as it takes, or until a deadline.
+pub use waiting::{Forever, Runner};
 
 // Tag spaces: rendezvous, rfork of them, and processes that are members of one.
 pub use crate::hall::{Guest, Hall};

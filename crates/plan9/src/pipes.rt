@@ -11,6 +11,7 @@ use sleep_wakeup::{Proc, Roster};
 use std::alloc::Global;
 use std::sync::Wait;
 use sync_base::{Fault, Flags};
+use timer_list::Deadline;
 
 /// A process that has a read end. One thread has it at a time, and may hand it to another.
 #[derive(Drop)]
@@ -35,11 +36,10 @@ impl<'p, 'k> Reader<'p, 'k> {
     ghost use Rattle.pipe_dev.specs.BlockReads.{ReadsBlock};
     ghost use Rattle.pipe_dev.specs.Ends.{IsSameReadEnd};
     ghost use Rattle.pipe_dev.specs.ReadCalls.{Reads, Tries, IsUntouchedRead, calling, reader_of};
-    ghost use Rattle.pipe_dev.specs.ReadCalls.{ReadsInTime};
+    ghost use Rattle.pipe_dev.specs.ReadCalls.{ReadsBy, RunsARead};
     ghost use Rattle.pipe_dev.specs.Rendezes.{OwnsRow, WakesIfKnown};
     ghost use Rattle.pipe_dev.specs.WriteCalls.{IsRefusedAs};
-    ghost use Rattle.timer_list.specs.Timers.{deadline_of};
-    ghost use Rattle.plan9.specs.Watches.{IsSameWatch, watched_read};
+    ghost use Rattle.plan9.specs.Watches.{IsSameWatch, until, watched_read};
 
     /// A process with a read end. Takes no memory and doesn't wait.
     pub fn new(end: ReadEnd<'p>, proc: Proc<'k>) -> Reader<'p, 'k>
@@ -103,22 +103,26 @@ impl<'p, 'k> Reader<'p, 'k> {
 
         // Else it read, slept and woke so, and asked its timers so.
         ensures read { buffer.old ≢ [] → OwnsRow self.old.proc.words self.old.end.row
-            → ReadsInTime (key_of self.old.end.queue) self.old.end.row watch.old.timers
-            (deadline_of now ms) (watched_read self.old watch.old buffer.old) result
+            → ReadsBy (until watch.old now ms) (key_of self.old.end.queue) self.old.end.row
+            (watched_read self.old watch.old buffer.old) result
             (watched_read self.new watch.new buffer.new) }
+
+        // And what holds of a read without a deadline holds of it.
+        ensures is_read { buffer.old ≢ [] → OwnsRow self.old.proc.words self.old.end.row
+            → RunsARead (key_of self.old.end.queue) self.old.end.row
+            (calling (reader_of self.old.end self.old.proc) buffer.old) result
+            (calling (reader_of self.new.end self.new.proc) buffer.new) }
         ensures end { IsSameReadEnd self.old.end self.new.end }
         ensures words { self.new.proc.words ≡ self.old.proc.words }
         ensures watch { IsSameWatch watch.old watch.new }
     {
-        self.end.read_within(
-            rt,
-            &mut self.proc,
-            watch.timers,
-            &mut watch.seat,
-            now,
+        let until = Deadline {
+            timers: watch.timers,
+            from: now,
             ms,
-            buffer,
-        )
+        };
+        self.end
+            .read_by(rt, &mut self.proc, buffer, &until, &mut watch.seat)
     }
 
     /// A `read` that does not wait: `NotYet` where nothing is there yet. Takes no memory.
@@ -197,11 +201,11 @@ impl<'p, 'k> Writer<'p, 'k> {
     ghost use Rattle.block_queue.specs.Seats.{key_of};
     ghost use Rattle.pipe_dev.specs.Ends.{IsSameWriteEnd};
     ghost use Rattle.pipe_dev.specs.Rendezes.{OwnsRow, WakesIfKnown};
-    ghost use Rattle.pipe_dev.specs.WriteCalls.{IsRefusedAs, Writes, WritesInTime, WritesLong};
+    ghost use Rattle.pipe_dev.specs.WriteCalls.{IsRefusedAs, RunsAWrite, Writes, WritesBy};
+    ghost use Rattle.pipe_dev.specs.WriteCalls.{WritesLong};
     ghost use Rattle.pipe_dev.specs.WriteCalls.{call_of, writer_of};
-    ghost use Rattle.timer_list.specs.Timers.{deadline_of};
     ghost use Rattle.plan9.specs.Notings.{WritesUnnoted};
-    ghost use Rattle.plan9.specs.Watches.{IsSameWatch, watched_write};
+    ghost use Rattle.plan9.specs.Watches.{IsSameWatch, until, watched_write};
 
     /// A process with a write end. Takes no memory and doesn't wait.
     pub fn new(end: WriteEnd<'p>, proc: Proc<'k>) -> Writer<'p, 'k>
@@ -287,22 +291,26 @@ impl<'p, 'k> Writer<'p, 'k> {
         // Else it wrote, slept and woke so, and asked its timers so, or wanted memory.
         ensures wrote { length bytes.now ≤ ATOMIC_SIZE
             → OwnsRow self.old.proc.words self.old.end.row
-            → WritesInTime (call_of self.old.end bytes.now) watch.old.timers (deadline_of now ms)
+            → WritesBy (until watch.old now ms) (call_of self.old.end bytes.now)
             (watched_write self.old watch.old) result (watched_write self.new watch.new) }
+
+        // And what holds of a write without a deadline holds of it.
+        ensures is_write { length bytes.now ≤ ATOMIC_SIZE
+            → OwnsRow self.old.proc.words self.old.end.row
+            → RunsAWrite (call_of self.old.end bytes.now)
+            (writer_of self.old.end self.old.proc) result
+            (writer_of self.new.end self.new.proc) }
         ensures end { IsSameWriteEnd self.old.end self.new.end }
         ensures words { self.new.proc.words ≡ self.old.proc.words }
         ensures watch { IsSameWatch watch.old watch.new }
     {
-        self.end.write_within(
-            alloc,
-            rt,
-            &mut self.proc,
-            watch.timers,
-            &mut watch.seat,
-            now,
+        let until = Deadline {
+            timers: watch.timers,
+            from: now,
             ms,
-            bytes,
-        )
+        };
+        self.end
+            .write_by(alloc, rt, &mut self.proc, bytes, &until, &mut watch.seat)
     }
 
     /// Writes these bytes as writes of the atomic size, and one of the rest; no bytes are one empty

@@ -24,7 +24,7 @@ use Rattle.semaphore.specs.Asking.{Asks, now_reply}
 use Rattle.semaphore.specs.Seats.{IsSeatAt, IsSemaSeatOf, own_of, units_given}
 use Rattle.semaphore.specs.SemaHistory.{SemaEntry, taken, taken_by}
 use Rattle.semaphore.specs.Timing.{timed_units_of}
-use Rattle.timer_list.specs.Timing.{ComesToSame}
+use Rattle.waiting.specs.Runners.{ComesToSame}
 use Rattle.waiting.specs.declared.call.Reply.TheVariants.{Wait}
 use Rattle.waiting.specs.Waiting.{Point, Waited, reply_of}
 use Rattle.waiting.proofs.FoldLemmas.{wait_ends}

@@ -5,7 +5,7 @@ ghost use Rattle.semaphore.specs.Seats.{OwnsRow, IsSemaSeatOf};
 ghost use Rattle.semaphore.specs.Timing.{AcquiresInTime};
 ghost use Rattle.timer_list.specs.Seats.{IsTimerSeatOf};
 ghost use Rattle.timer_list.specs.Timers.{deadline_of};
-ghost use Rattle.timer_list.specs.Timing.{timed_point};
+ghost use Rattle.waiting.specs.Runners.{run_point};
 
 use crate::acquiring::Acquiring;
 use crate::sema::{Sema, SemaSeat};
@@ -45,8 +45,8 @@ impl Sema {
         ensures timer { IsTimerSeatOf timers.now timer.new }
         ensures timer_number { number_of timer.new.seat ≡ number_of timer.old.seat }
         ensures called { AcquiresInTime self.now timers.now (deadline_of now ms)
-            (timed_point seat.old timer.old proc.old) result
-            (timed_point seat.new timer.new proc.new) }
+            (run_point seat.old timer.old proc.old) result
+            (run_point seat.new timer.new proc.new) }
     {
         self.tsemacquire_probed(rt, proc, seat, timers, timer, now, ms, &mut NoProbe)
     }
@@ -74,8 +74,8 @@ impl Sema {
         ensures timer { IsTimerSeatOf timers.now timer.new }
         ensures timer_number { number_of timer.new.seat ≡ number_of timer.old.seat }
         ensures called { AcquiresInTime self.now timers.now (deadline_of now ms)
-            (timed_point seat.old timer.old proc.old) result
-            (timed_point seat.new timer.new proc.new) }
+            (run_point seat.old timer.old proc.old) result
+            (run_point seat.new timer.new proc.new) }
     {
         let rendez = self.rendez(seat);
         let call = Acquiring { sema: self };

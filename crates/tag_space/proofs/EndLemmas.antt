@@ -25,7 +25,7 @@ use Rattle.tag_space.proofs.OtherLemmas.{IsUnder}
 use Rattle.tag_space.proofs.PromiseLemmas.{is_space, IsOut, stays_out, left_is_out, refused_is_out}
 use Rattle.tag_space.proofs.PartnerLemmas.{found_is_in_pair}
 use Rattle.tag_space.proofs.WaitLemmas.{yes}
-use Rattle.timer_list.specs.Timing.{ComesToSame}
+use Rattle.waiting.specs.Runners.{ComesToSame}
 use Rattle.waiting.specs.Waiting.{Point, Waited, reply_of}
 use Rattle.waiting.proofs.FoldLemmas.{wait_ends}
 

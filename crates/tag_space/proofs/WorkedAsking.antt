@@ -18,7 +18,7 @@ use Rattle.tag_space.specs.declared.calls.GroupReply.TheVariants as group
 use Rattle.tag_space.specs.declared.member.Member.{Member}
 use Rattle.tag_space.specs.declared.space.TagSpace.{TagSpace}
 use Rattle.tag_space.specs.Asking.{Asks, Requests, OnlyRequests, Finds, Begins, Collects, Leaves}
-use Rattle.tag_space.specs.Asking.{IsCalled, IsCollected, IsLeft, meeting, Meets, MeetsInTime}
+use Rattle.tag_space.specs.Asking.{IsCalled, IsCollected, IsLeft, meeting, Meets, MeetsBy}
 use Rattle.tag_space.specs.Asking.{RendezvousesInWords}
 use Rattle.tag_space.specs.Forks.{rfork_of, WhyNotForked}
 use Rattle.tag_space.specs.Members.{IsOneOf, IsSameMember}
@@ -27,9 +27,8 @@ use Rattle.tag_space.specs.Outcome.{calls_by, word_of}
 use Rattle.tag_space.specs.Rendezvous.{Entry, Offered, Offer, stage_of}
 use Rattle.tag_space.specs.Rendezvous.Stage.{Over}
 use Rattle.tag_space.specs.Spaces.{WhyNoGroup, WhyNoSpace}
-use Rattle.timer_list.specs.declared.timers.Timers.{Timers}
-use Rattle.timer_list.specs.Timing.{TimedPoint, WaitedInTime}
 use Rattle.waiting.specs.declared.call.Reply.TheVariants as reply
+use Rattle.waiting.specs.Runners.{RunPoint, Runs}
 use Rattle.waiting.specs.Waiting.{Point, Waited}
 
 -- ---- each request is one entry more
@@ -88,10 +87,10 @@ module _ (space : TagSpace) (offered : Offered) (answer : Result ℕ Fault) wher
       → Waited (meeting space offered) before.seat.rendez before answer after
   waits_in_its_own_rendez before after meets = meets
 
-  waits_there_in_time : (timers : Timers) (moment : ℕ) (before after : TimedPoint Member)
-      → MeetsInTime space timers moment offered before answer after
-      → WaitedInTime (meeting space offered) before.at.seat.rendez timers moment before answer after
-  waits_there_in_time timers moment before after meets = meets
+  is_run_in_its_own_rendez : {Timer : Type 0} (runs : Runs Timer)
+      (before after : RunPoint Timer Member) → MeetsBy runs space offered before answer after
+      → runs.ran (meeting space offered) before.at.seat.rendez before answer after
+  is_run_in_its_own_rendez runs before after meets = meets
 
 -- ---- for what a request is refused
 

@@ -19,10 +19,9 @@ use Rattle.tag_space.specs.Members.{IsMemberOf, IsOneOf, IsSameMember, IsWaiting
 use Rattle.tag_space.specs.Members.{rendez_of_member, account_of, number_of, party_of, seen_of}
 use Rattle.tag_space.specs.Outcome.{Exchange, word_of}
 use Rattle.tag_space.specs.Rendezvous.{Entry, Offered}
-use Rattle.timer_list.specs.declared.timers.Timers.{Timers}
-use Rattle.timer_list.specs.Timing.{TimedPoint, WaitedInTime}
 use Rattle.waiting.specs.declared.call.Reply.{Reply}
 use Rattle.waiting.specs.declared.call.Reply.TheVariants as reply
+use Rattle.waiting.specs.Runners.{RunPoint, Runs}
 use Rattle.waiting.specs.Waiting.{Promise, Point, Waited}
 
 -- ---- one request
@@ -116,11 +115,11 @@ abbrev pub Meets : TagSpace → Offered → Point Member → Result ℕ Fault �
 Meets space offered before answer after =
     Waited (meeting space offered) before.seat.rendez before answer after
 
--- Own: the same call until this moment.
-abbrev pub MeetsInTime : TagSpace → Timers → ℕ → Offered → TimedPoint Member → Result ℕ Fault
-    → TimedPoint Member → Type 0
-MeetsInTime space timers moment offered before answer after =
-    WaitedInTime (meeting space offered) before.at.seat.rendez timers moment before answer after
+-- the same call, as its runner runs it
+abbrev pub MeetsBy : {Timer : Type 0} → Runs Timer → TagSpace → Offered → RunPoint Timer Member
+    → Result ℕ Fault → RunPoint Timer Member → Type 0
+MeetsBy runs space offered before answer after =
+    runs.ran (meeting space offered) before.at.seat.rendez before answer after
 
 -- the same call, and the word for its answer
 pub record RendezvousesInWords (space : TagSpace) (offered : Offered) (before : Point Member)

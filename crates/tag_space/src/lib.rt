@@ -1,7 +1,7 @@
 //! Rendezvous in tag spaces, after rendezvous(2): two members of a space that call with one tag
 //! exchange their values. Read `calls`, what a member asks and is answered, `limits`, `place`, what
 //! is kept of a member, `table` and `tag_table`, how a tag is found, `group_object`, the space as
-//! an object for one thread; then `member`, `space`, `asking`, `meeting`, `within` and `forking`,
+//! an object for one thread; then `member`, `space`, `asking`, `meeting` and `forking`,
 //! the space between threads; and then `laws`.
 #![tactic(auto)]
 
@@ -17,7 +17,6 @@ pub mod place;
 pub mod space;
 mod table;
 mod tag_table;
-mod within;
 
 pub use calls::{GroupCall, GroupReply};
 pub use forking::{Forked, NotForked, SpentMember, rfork};

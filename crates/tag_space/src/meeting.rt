@@ -1,8 +1,9 @@
 //! The call of rendezvous(2).
 ghost use Rattle.std.specs.Prelude.{◌≡◌};
-ghost use Rattle.tag_space.specs.Asking.{Meets, RendezvousesInWords};
+ghost use Rattle.tag_space.specs.Asking.{Meets, MeetsBy, RendezvousesInWords, meeting};
 ghost use Rattle.tag_space.specs.Members.{IsMemberOf, IsSameMember, OwnsRow, party_of, seen_of};
 ghost use Rattle.tag_space.specs.Outcome.{Exchange};
+ghost use Rattle.waiting.specs.Runners.{IsACall, run_point};
 ghost use Rattle.waiting.specs.Waiting.{point};
 
 use crate::asking::Meeting;
@@ -11,7 +12,7 @@ use crate::space::TagSpace;
 use sleep_wakeup::Proc;
 use std::sync::Wait;
 use sync_base::{Fault, NoProbe, Probe, Tag};
-use waiting::wait_for;
+use waiting::{Forever, Runner};
 
 /// What `rendezvous_word` answers where notes ended the wait. rendezvous(2) answers ~0.
 pub const INTERRUPTED: u64 = u64::MAX;
@@ -76,15 +77,54 @@ impl TagSpace {
             (point member.old proc.old) result (point member.new proc.new) }
     {
         probe.at(1);
+        let answer = self.rendezvous_by(rt, proc, member, tag, value, &Forever, &mut (), probe);
+        probe.at(4);
+        answer
+    }
+
+    /// A `rendezvous` that waits as its runner does. The probe is told 2 before and 3 after each
+    /// sleep for a partner. Takes no memory. Own; rendezvous(2) waits as long as it takes.
+    ///
+    /// Refuses as `Worn` as `rendezvous` does, and then as its runner does where it waits; a
+    /// refused call is in no exchange, and nobody meets it later.
+    pub fn rendezvous_by<R: Wait, W: Runner, P: Probe>(
+        &self,
+        rt: &R,
+        proc: &mut Proc<'_>,
+        member: &mut Member,
+        tag: Tag,
+        value: u64,
+        runner: &W,
+        timer: &mut W::Timer,
+        probe: &mut P,
+    ) -> Result<u64, Fault>
+        requires member { IsMemberOf self.now member.old }
+        requires row { OwnsRow self.now proc.old.words }
+        requires timer { W.rests runner.now timer.old }
+        ensures member { IsMemberOf self.now member.new }
+        ensures same { IsSameMember member.old member.new }
+        ensures words { proc.new.words ≡ proc.old.words }
+        ensures timer { W.rests runner.now timer.new }
+        ensures kept { W.kept timer.new ≡ W.kept timer.old }
+
+        // The member made one call, which is in a pair exactly where a value is answered.
+        ensures exchange { Exchange (party_of self.now member.old)
+            (record { tag = tag; value = value }) (seen_of member.old) (seen_of member.new) result }
+
+        // It was run so; and whatever its runner is, it was a call.
+        ensures waited { MeetsBy (W.runs runner.now) self.now (record { tag = tag; value = value })
+            (run_point member.old timer.old proc.old) result
+            (run_point member.new timer.new proc.new) }
+        ensures is_call { IsACall (meeting self.now (record { tag = tag; value = value }))
+            member.old.rendez (point member.old proc.old) result (point member.new proc.new) }
+    {
         let rendez = member.rendez;
         let call = Meeting {
             space: self,
             tag,
             value,
         };
-        let answer = wait_for(rt, proc, rendez, &call, member, &mut [], probe);
-        probe.at(4);
-        answer
+        runner.run(rt, proc, rendez, &call, member, &mut [], timer, probe)
     }
 
     /// A `rendezvous` that answers `Ok(INTERRUPTED)` in place of `Interrupted`, after

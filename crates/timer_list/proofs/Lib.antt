@@ -1,5 +1,4 @@
 pub mod AskLemmas
-pub mod Cases
 mod EarlierLemmas
 mod NoteLemmas
 pub mod OwnStepLemmas

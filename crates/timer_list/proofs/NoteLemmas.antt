@@ -17,14 +17,14 @@ use Rattle.sleep_core.specs.Runs.{Entry, is_kept, kept, own}
 use Rattle.sync_base.specs.declared.ids.Pid.{Pid}
 use Rattle.sync_base.specs.declared.note.Note.TheVariants.{Expired}
 use Rattle.sync_base.specs.declared.note.NoteSet.{NoteSet}
-use Rattle.sync_base.specs.NoteSet.{no_notes, holds, only}
+use Rattle.sync_base.specs.NoteSet.{no_notes, holds}
 use Rattle.rendez_words.proofs.LawLemmas.{threads_keep}
 use Rattle.timer_list.specs.declared.timers.Timers.{Timers}
 use Rattle.timer_list.specs.declared.timers.TimerSeat.{TimerSeat}
 use Rattle.timer_list.specs.Ticking.{Expires, FindsNone}
 use Rattle.timer_list.specs.WakeLaws.{HasTaken, telling, IsToldSince, AreToldSince}
 use Rattle.timer_list.specs.WakeLaws.{TickingTellsEach}
-use Rattle.timer_list.proofs.Cases.{same_or_not}
+use Rattle.waiting.proofs.Cases.{same_or_not}
 use Rattle.waiting.specs.Waiting.{Point}
 use Rattle.waiting.specs.Wakeups.{HasGoneOn}
 

@@ -1,6 +1,6 @@
 -- What a call with a deadline does behind its sleeps are steps more of the same process.
-use Rattle.std.proofs.Common.{◌≡◌, ◌⊎◌, inl, inr, ℕ, zero, suc, Bool, [], ◌∷◌, ◌++◌, Some, None}
-use Rattle.std.proofs.Common.{Result, refl}
+use Rattle.std.proofs.Common.{inl, inr, ℕ, zero, suc, Bool, ◌++◌, Some, None}
+use Rattle.std.proofs.Common.{Result}
 use Rattle.histories.specs.History.{IsPast}
 use Rattle.histories.proofs.ListLemmas.{past_refl, past_cons, past_append, past_trans}
 use Rattle.rendez_words.specs.Process.{Process, made, pid_in}

@@ -23,7 +23,7 @@ use Rattle.timer_list.specs.Timers.{after_first, timers_after, seat_named}
 use Rattle.timer_list.specs.TimerHistory.{TimerEntry, timer_meaning, sets_after, has_timer}
 use Rattle.timer_list.specs.TimerHistory.{AreByOthersThan, WasTaken}
 use Rattle.timer_list.specs.TimerLaws.{IsTaken}
-use Rattle.timer_list.proofs.Cases.{same_or_not}
+use Rattle.waiting.proofs.Cases.{same_or_not}
 use Rattle.timer_list.proofs.TimerLemmas.{IsSet, first_of_all, earliest_is_set}
 use Rattle.histories.proofs.HistoryLemmas.{legal_past}
 

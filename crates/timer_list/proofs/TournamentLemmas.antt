@@ -7,7 +7,7 @@ use Rattle.std.proofs.lemmas.List.{get_or-drop, get_or-set_other}
 use Rattle.timer_list.specs.declared.due.Due.{Due}
 use Rattle.timer_list.specs.Due.{earlier_of, earliest}
 use Rattle.timer_list.specs.Tournament.{IsTournament, IsWon, node_at}
-use Rattle.timer_list.proofs.Cases.{same_or_not, below_or_not}
+use Rattle.waiting.proofs.Cases.{same_or_not, below_or_not}
 use Rattle.timer_list.proofs.EarlierLemmas.{IsFirst, first-trans, first-antisym, first-left}
 use Rattle.timer_list.proofs.EarlierLemmas.{first-right, first-both, earlier-idem, earliest-first}
 use Rattle.timer_list.proofs.EarlierLemmas.{earliest-last}

@@ -8,11 +8,13 @@ use Rattle.sync_base.specs.declared.fault.Fault.TheVariants as fault
 use Rattle.sync_base.specs.declared.ids.RendezId.{RendezId}
 use Rattle.sync_base.specs.declared.note.NoteSet.{NoteSet}
 use Rattle.timer_list.specs.declared.timers.Timers.{Timers}
-use Rattle.timer_list.specs.Timing.{ComesToSame, IsACall, IsEndedByNotes, Keeps, TimedPoint}
+use Rattle.timer_list.specs.Timing.{IsEndedByNotes, Keeps, TimedPoint}
 use Rattle.timer_list.specs.Timing.{WaitedInTime}
 use Rattle.waiting.specs.declared.wait.WaitEnd.{WaitEnd}
 use Rattle.waiting.specs.declared.wait.WaitEnd.TheVariants.{Answered, Stopped}
+use Rattle.waiting.specs.Runners.{ComesToSame, IsACall}
 use Rattle.waiting.specs.Waiting.{Promise, Returns, answer_of}
+use Rattle.waiting.proofs.RunnerLemmas.{same_answer}
 use Rattle.histories.proofs.ListLemmas.{past_refl}
 use Rattle.timer_list.proofs.OwnStepLemmas.{ended_own}
 
@@ -39,10 +41,6 @@ module _ {Out : Type 0} where
   returns (Stopped why (Some out)) before = late why out before
   returns (Stopped why None) before = refl
 
-  same_answer : (answer : Result Out Fault) → ComesToSame answer answer
-  same_answer (Ok out) = refl
-  same_answer (Err why) = tt
-
   -- notes that ended a call are no answer
   ended : (why : Fault) (expired : Bool) (others : NoteSet) (answer : Result Out Fault)
       → IsEndedByNotes expired others answer → ComesToSame (Err why) answer
@@ -54,13 +52,13 @@ module _ {Out : Type 0} where
       (before after : Process) → Keeps expired others ending answer before after
       → ComesToSame (answer_of ending) answer
   same (Answered told) expired others answer before after kept =
-      subst (ComesToSame told) (sym kept.0) (same_answer told)
+      subst (ComesToSame told) (sym kept.0) (same_answer {Out = Out} told)
   same (Stopped why (Some out)) expired others answer before after kept =
-      subst (ComesToSame (Ok out)) (sym kept.0) (same_answer (Ok out))
+      subst (ComesToSame (Ok out)) (sym kept.0) (same_answer {Out = Out} (Ok out))
   same (Stopped (fault.Interrupted set) None) expired others answer before after kept =
       ended (fault.Interrupted set) expired others answer kept.0
   same (Stopped why None) expired others answer before after kept =
-      subst (ComesToSame (Err why)) (sym kept.0) (same_answer (Err why))
+      subst (ComesToSame (Err why)) (sym kept.0) (same_answer {Out = Out} (Err why))
 
 -- a call with a deadline is a call
 pub untimed : {Seat Out : Type 0} (promise : Promise Seat Out) (rendez : RendezId)

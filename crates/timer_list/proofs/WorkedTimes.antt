@@ -1,7 +1,6 @@
 -- Calls with a deadline that did what none may do, each against one row.
 use Rattle.std.proofs.Common.{◌≡◌, ◌≢◌, ℕ, Bool, true, false, Some, None, Result, Ok, Err, inl}
 use Rattle.std.proofs.Common.{inr, refl, sym, ap, ◌∙◌, arith, length}
-use Rattle.histories.specs.History.{IsPast}
 use Rattle.kernel_lock.specs.Seats.{number_of, opening_of, seen_of}
 use Rattle.rendez_words.specs.Process.{Process}
 use Rattle.rendez_words.specs.Steps.{notes}
@@ -15,15 +14,15 @@ use Rattle.timer_list.specs.declared.limits.TheConstants.{LAST_THRESHOLD}
 use Rattle.timer_list.specs.declared.timers.Timers.{Timers}
 use Rattle.timer_list.specs.Definitions.{timer_definition}
 use Rattle.timer_list.specs.TimerHistory.{WasTaken}
-use Rattle.timer_list.specs.Timing.{AwaitsTick, Awaiting, BegunAtOnce, ComesToSame, IsACall}
+use Rattle.timer_list.specs.Timing.{AwaitsTick, Awaiting, BegunAtOnce}
 use Rattle.timer_list.specs.Timing.{IsEndedByNotes, Keeps, Looks, LooksForTick, PutsBackAny}
 use Rattle.timer_list.specs.Timing.{TimedPoint, WaitedInTime, WaitsInTime, notes_in, notes_of}
-use Rattle.timer_list.specs.Timing.{over_at, without_expired}
+use Rattle.timer_list.specs.Timing.{without_expired}
 use Rattle.timer_list.specs.Sleeping.{sleeping}
 use Rattle.waiting.specs.declared.call.Reply.TheVariants.{Done, Wait}
 use Rattle.waiting.specs.declared.wait.WaitEnd.{WaitEnd}
 use Rattle.waiting.specs.declared.wait.WaitEnd.TheVariants.{Answered, Stopped}
-use Rattle.waiting.specs.Waiting.{BeginsToWait, Point, Promise, Waited, reply_of}
+use Rattle.waiting.specs.Waiting.{Point, Promise, reply_of}
 
 -- the steps of a process, counted
 abbrev steps_of : Process → ℕ
@@ -145,50 +144,6 @@ module _ {Seat : Type 0} (promise : Promise Seat Unit) (rendez : RendezId) (watc
       → ¬ WasTaken (opening_of timer_definition watch.lock) (number_of before.timer.seat)
       moment (seen_of after.timer.seat) → ⊥
   times_out_too_early waits is none = none (waits.taken is)
-
--- ---- as a call without a deadline
-
-the_same_comes : ComesToSame {Out = ℕ} (Ok 7) (Ok 7)
-    × ComesToSame {Out = ℕ} (Err fault.TimedOut) (Err fault.Worn)
-the_same_comes = (refl, tt)
-
-another_comes : ¬ ComesToSame {Out = ℕ} (Ok 7) (Ok 8)
-another_comes same = omega (arith, same)
-
-nothing_comes : ¬ ComesToSame {Out = ℕ} (Ok 7) (Err fault.TimedOut)
-nothing_comes same = same
-
-something_comes : ¬ ComesToSame {Out = ℕ} (Err fault.TimedOut) (Ok 7)
-something_comes same = same
-
-module _ {Seat Out : Type 0} (promise : Promise Seat Out) (rendez : RendezId) (before : Point Seat)
-    (answer : Result Out Fault) (after : Point Seat) where
-  -- what no call did is no call
-  is_no_call : ((told : Result Out Fault) (process : Process)
-      → ¬ Waited promise rendez before told (record { seat = after.seat; process = process }))
-      → ¬ IsACall promise rendez before answer after
-  is_no_call none is = none is.told is.process is.waited
-
-  comes_to_another : ((told : Result Out Fault) → ¬ ComesToSame told answer)
-      → ¬ IsACall promise rendez before answer after
-  comes_to_another none is = none is.told is.same
-
-  -- another process made the steps of its requests
-  is_the_call_of_another : (is : IsACall promise rendez before answer after)
-      → IsPast
-      (over_at promise rendez before is.told (record { seat = after.seat; process = is.process })
-      is.waited).trace after.process.trace
-  is_the_call_of_another is = is.own
-
-  -- one that is answered at once is over where it returns, and one that waits before notes are put
-  -- back
-  is_over_at_once : (begun : promise.begun before (reply_of answer) after)
-      → over_at promise rendez before answer after (inl begun) ≡ after.process
-  is_over_at_once begun = refl
-
-  is_over_behind_its_sleeps : (waits : BeginsToWait promise rendez before answer after)
-      → over_at promise rendez before answer after (inr waits) ≡ waits.waited.process
-  is_over_behind_its_sleeps waits = refl
 
 -- ---- a sleep as a call
 

@@ -3,10 +3,8 @@
 -- note of a tick that took its timer, and which notes are put back, are own. The steps of a process
 -- and the requests at its timers are two histories: which step comes before which request is not
 -- said.
-use Rattle.std.specs.Prelude.{◌≡◌, ◌≢◌, ◌⊎◌, ⊤, ℕ, zero, suc, Bool, true, false, Some, None}
+use Rattle.std.specs.Prelude.{◌≡◌, ◌≢◌, ◌⊎◌, ℕ, zero, suc, Bool, true, false, Some, None}
 use Rattle.std.specs.Prelude.{Result, Ok, Err}
-use Rattle.std.proofs.Common.{inl, inr}
-use Rattle.histories.specs.History.{IsPast}
 use Rattle.kernel_lock.specs.Seats.{number_of, opening_of, seen_of}
 use Rattle.rendez_words.specs.Process.{Process, pid_in}
 use Rattle.rendez_words.specs.Steps.{posts, drains, notes}
@@ -30,7 +28,8 @@ use Rattle.timer_list.specs.TimerHistory.{WasTaken}
 use Rattle.waiting.specs.declared.call.Reply.TheVariants.{Wait}
 use Rattle.waiting.specs.declared.wait.WaitEnd.{WaitEnd}
 use Rattle.waiting.specs.declared.wait.WaitEnd.TheVariants.{Answered, Stopped}
-use Rattle.waiting.specs.Waiting.{Promise, Point, WaitPoint, SleepsOn, Waited, point, reply_of}
+use Rattle.waiting.specs.Runners.{RunPoint, Runs}
+use Rattle.waiting.specs.Waiting.{Promise, WaitPoint, SleepsOn, reply_of}
 
 -- ---- the note of a tick
 
@@ -116,12 +115,8 @@ module _ {Out : Type 0} (expired : Bool) (others : NoteSet) where
 -- ---- the call
 
 -- where a call with a deadline stands: its seats, and the steps of its process
-pub record TimedPoint (Seat : Type 0) : Type 0 where
-  pub at : Point Seat
-  pub timer : TimerSeat
-
-abbrev pub timed_point : {Seat : Type 0} → Seat → TimerSeat → Running → TimedPoint Seat
-timed_point seat timer proc = record { at = point seat proc; timer = timer }
+abbrev pub TimedPoint : Type 0 → Type 0
+TimedPoint Seat = RunPoint TimerSeat Seat
 
 -- A call cancelled its timer; behind its sleeps it awaited the note of a tick that had taken the
 -- timer, and kept what came.
@@ -171,32 +166,7 @@ module _ {Seat Out : Type 0} (promise : Promise Seat Out) (rendez : RendezId) (t
   WaitedInTime before answer after =
       BegunAtOnce before answer after ⊎ WaitsInTime before answer after
 
--- ---- as a call without a deadline
-
--- the two answers came to the same, or both to nothing
-abbrev pub ComesToSame : {Out : Type 0} → Result Out Fault → Result Out Fault → Type 0
-ComesToSame (Ok one) (Ok other) = other ≡ one
-ComesToSame (Err why) (Err other) = ⊤
-ComesToSame one other = ⊥
-
-module _ {Seat Out : Type 0} (promise : Promise Seat Out) (rendez : RendezId)
-    (before : Point Seat) where
-  -- where the process of a call stood when its last request or its last sleep was over: it has put
-  -- no notes back
-  abbrev pub over_at : (answer : Result Out Fault) (after : Point Seat)
-      → Waited promise rendez before answer after → Process
-  over_at answer after (inl begun) = after.process
-  over_at answer after (inr waits) = waits.waited.process
-
-  -- What it did to its seat, a call without a deadline does, and comes to the same: so the laws of
-  -- a device's calls hold of it.
-  pub record IsACall (answer : Result Out Fault) (after : Point Seat) : Type 0 where
-    pub told : Result Out Fault
-    pub process : Process
-    pub waited : Waited promise rendez before told
-        (record { seat = after.seat; process = process })
-    pub same : ComesToSame told answer
-    -- the steps of its requests and sleeps are the caller's own, which has gone on since
-    pub own : IsPast
-        (over_at told (record { seat = after.seat; process = process }) waited).trace
-        after.process.trace
+-- it waits until this moment at these timers
+abbrev pub until_a_moment : Timers → ℕ → Runs TimerSeat
+until_a_moment timers moment =
+    record { ran = λ promise rendez. WaitedInTime promise rendez timers moment }

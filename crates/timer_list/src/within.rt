@@ -8,7 +8,6 @@ ghost use Rattle.timer_list.specs.Seats.{IsSeatAtTimers, IsTimerSeatOf};
 ghost use Rattle.timer_list.specs.Timers.{deadline_of};
 ghost use Rattle.timer_list.specs.Timing.{
   EndsInTime,
-  IsACall,
   Keeps,
   Looks,
   LooksForTick,
@@ -16,9 +15,9 @@ ghost use Rattle.timer_list.specs.Timing.{
   WaitedInTime,
   awaiting,
   notes_of,
-  timed_point,
   without_expired,
 };
+ghost use Rattle.waiting.specs.Runners.{IsACall, run_point};
 ghost use Rattle.waiting.specs.Waiting.{point};
 
 use crate::limits::LAST_THRESHOLD;
@@ -28,7 +27,7 @@ use sleep_wakeup::Proc;
 use std::sync::Wait;
 use std::thread::yield_now;
 use sync_base::{Fault, Note, NoteSet, Probe, RendezId};
-use waiting::{Reply, WaitEnd, WaitingCall, sleep_for};
+use waiting::{Reply, Runner, WaitEnd, WaitingCall, sleep_for};
 
 /// When a wait ends at these timers: by a tick at the moment `from` + `ms` or later. That moment is
 /// at most `u64::MAX`.
@@ -37,6 +36,39 @@ pub struct Deadline<'t> {
     pub timers: &'t Timers,
     pub from: u64,
     pub ms: u32,
+}
+
+/// It runs a call by `wait_within`.
+impl<'t> Runner for Deadline<'t> {
+    ghost use Rattle.std.specs.Prelude.{ℕ};
+    ghost use Rattle.kernel_lock.specs.Seats.{number_of};
+    ghost use Rattle.timer_list.specs.Seats.{IsTimerSeatOf};
+    ghost use Rattle.timer_list.specs.Timers.{deadline_of};
+    ghost use Rattle.timer_list.specs.Timing.{until_a_moment};
+
+    type Timer = TimerSeat;
+
+    ghost rests = { λ until timer. IsTimerSeatOf until.timers.now timer };
+
+    ghost Kept = { ℕ };
+
+    ghost kept = { λ timer. number_of timer.seat };
+
+    ghost runs = { λ until. until_a_moment until.timers.now (deadline_of until.from until.ms) };
+
+    fn run<R: Wait, C: WaitingCall, P: Probe>(
+        &self,
+        rt: &R,
+        proc: &mut Proc<'_>,
+        rendez: RendezId,
+        call: &C,
+        seat: &mut C::Seat,
+        buffer: &mut [u8],
+        timer: &mut TimerSeat,
+        probe: &mut P,
+    ) -> Result<C::Out, Fault> {
+        wait_within(rt, proc, rendez, call, seat, buffer, timer, *self, probe)
+    }
 }
 
 /// Makes a call, as `wait_for` of `waiting` does, which waits until its deadline. After tsemacquire
@@ -72,8 +104,8 @@ pub fn wait_within<R: Wait, C: WaitingCall, P: Probe>(
     ensures timer_number { number_of timer.new.seat ≡ number_of timer.old.seat }
     ensures waited { WaitedInTime (C.promise call.now) rendez until.entry.timers.now
         (deadline_of until.entry.from until.entry.ms)
-        (timed_point (C.sight seat.old buffer.old) timer.old proc.old) result
-        (timed_point (C.sight seat.new buffer.new) timer.new proc.new) }
+        (run_point (C.sight seat.old buffer.old) timer.old proc.old) result
+        (run_point (C.sight seat.new buffer.new) timer.new proc.new) }
 
     // So what holds of a call without a deadline holds of it.
     ensures is_call { IsACall (C.promise call.now) rendez

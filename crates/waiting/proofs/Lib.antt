@@ -1,5 +1,8 @@
+pub mod Cases
 pub mod RoundLemmas
 pub mod FoldLemmas
 pub mod WakeupLemmas
+pub mod RunnerLemmas
+mod WorkedRuns
 mod WorkedWaits
 mod WorkedWakeups

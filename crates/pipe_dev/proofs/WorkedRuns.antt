@@ -1,30 +1,29 @@
--- Calls of the ends with a deadline that did what none may do, each against one row.
+-- Runs of calls of the ends that did what none may do, each against one row.
 use Rattle.std.proofs.Common.{◌≡◌, ◌≢◌, ◌+◌, ◌<◌, ℕ, Some, Result, Ok, Err, inl, inr, refl}
 use Rattle.histories.specs.declared.account.Account.{Account}
 use Rattle.histories.specs.History.{IsPast}
 use Rattle.sync_base.specs.declared.fault.Fault.{Fault}
 use Rattle.sync_base.specs.declared.fault.Fault.TheVariants as fault
 use Rattle.rendez_words.specs.Process.{Process}
+use Rattle.sleep_wakeup.specs.Kernel.{Running}
 use Rattle.block_queue.specs.declared.entry.Entry.{Entry}
 use Rattle.block_queue.specs.declared.view.Key.{Key}
 use Rattle.pipe_dev.specs.declared.answers.ReadAnswer.{ReadAnswer}
 use Rattle.pipe_dev.specs.declared.row.Row.{Row}
 use Rattle.pipe_dev.specs.declared.filling.ReadOutcome.{ReadOutcome}
+use Rattle.pipe_dev.specs.Ends.{WriteSide}
 use Rattle.pipe_dev.specs.Filling.{Lending, last_number}
 use Rattle.pipe_dev.specs.Parts.{Part}
-use Rattle.pipe_dev.specs.ReadCalls.{Calling, IsARead, Reads, ReadsInTime, calling_at, lent_at}
-use Rattle.pipe_dev.specs.ReadCalls.{AsksForBytes, TakesOut, TriesOn, reading, timed_call}
+use Rattle.pipe_dev.specs.ReadCalls.{AsksForBytes, Calling, IsARead, Reads, ReadsBy, RunsARead}
+use Rattle.pipe_dev.specs.ReadCalls.{TakesOut, TriesOn, gone_on, lent_at, reading, run_call}
 use Rattle.pipe_dev.specs.WaitLaws.{LastTryReleases, ReleasesWriters}
 use Rattle.sleep_core.specs.Laws.{ReleasesBelow}
 use Rattle.sleep_core.specs.State.{State}
 use Rattle.waiting.specs.declared.call.Reply.TheVariants.{Done}
 use Rattle.pipe_dev.specs.Rendezes.{reader_rendez, writer_rendez}
-use Rattle.pipe_dev.specs.WriteCalls.{IsAWrite, IsRefusedAs, WriteCall, Writer, Writes}
-use Rattle.pipe_dev.specs.WriteCalls.{WritesInTime, writing}
-use Rattle.timer_list.specs.declared.timers.Timers.{Timers}
-use Rattle.timer_list.specs.declared.timers.TimerSeat.{TimerSeat}
-use Rattle.timer_list.specs.Timing.{ComesToSame, TimedPoint, WaitedInTime}
-use Rattle.waiting.specs.Waiting.{Point}
+use Rattle.pipe_dev.specs.WriteCalls.{IsAWrite, IsRefusedAs, RunsAWrite, WriteCall, Writer, Writes}
+use Rattle.pipe_dev.specs.WriteCalls.{WritesBy, run_writer, writer_of, writing}
+use Rattle.waiting.specs.Runners.{ComesToSame, IsACall, RunPoint, Runs}
 
 -- ---- at once
 
@@ -41,31 +40,55 @@ module _ {At : Type 0} (old new : At) where
   refused_and_does_it : new ≢ old → ¬ IsRefusedAs {Out = ℕ} fault.TooBig old (Err fault.TooBig) new
   refused_and_does_it other is = other is.same
 
--- ---- until a moment
+-- ---- as it is run
 
-module _ (call : WriteCall) (timers : Timers) (moment : ℕ) (old new : TimedPoint (Account Entry))
-    (answer : Result ℕ Fault) where
-  -- it neither wanted memory nor waited
+module _ {Timer : Type 0} (runs : Runs Timer) (call : WriteCall)
+    (old new : RunPoint Timer (Account Entry)) (answer : Result ℕ Fault) where
+  -- it neither wanted memory nor was run
   writes_in_no_way : ¬ IsRefusedAs fault.Memory old answer new
-      → ¬ WaitedInTime (writing call) (writer_rendez call.row call.writer) timers moment old answer
-      new → ¬ WritesInTime call timers moment old answer new
-  writes_in_no_way none waited (inl wants) = none wants
-  writes_in_no_way none waited (inr waits) = waited waits
+      → ¬ runs.ran (writing call) (writer_rendez call.row call.writer) old answer new
+      → ¬ WritesBy runs call old answer new
+  writes_in_no_way none ran (inl wants) = none wants
+  writes_in_no_way none ran (inr runs) = ran runs
+
+module _ (call : WriteCall) (old new : Writer) (answer : Result ℕ Fault) where
+  -- nor was it a call
+  writes_as_no_call : ¬ IsRefusedAs fault.Memory old answer new
+      → ¬ IsACall (writing call) (writer_rendez call.row call.writer) old answer new
+      → ¬ RunsAWrite call old answer new
+  writes_as_no_call none other (inl wants) = none wants
+  writes_as_no_call none other (inr is) = other is
 
 -- where a read stands with a timer is where it stands, and the timer
-the_timer_goes_along : (call : Calling) (timer : TimerSeat)
-    → ((timed_call call timer).at ≡ lent_at call) × ((timed_call call timer).timer ≡ timer)
+the_timer_goes_along : {Timer : Type 0} (call : Calling) (timer : Timer)
+    → ((run_call call timer).at ≡ lent_at call) × ((run_call call timer).timer ≡ timer)
 the_timer_goes_along call timer = (refl, refl)
 
-module _ (key : Key) (row : Row) (timers : Timers) (moment : ℕ) (old new : TimedPoint Lending)
-    (answer : Result ReadAnswer Fault) where
-  -- it did not wait on the reader's Rendez
-  reads_in_no_way :
-      ¬ WaitedInTime (reading key row) (reader_rendez row) timers moment old answer new
-      → ¬ ReadsInTime key row timers moment old answer new
-  reads_in_no_way waited reads = waited reads
+-- and so of a write
+the_writer_goes_along : {Timer : Type 0} (side : WriteSide) (timer : Timer) (proc : Running)
+    → ((run_writer side timer proc).at ≡ writer_of side proc)
+    × ((run_writer side timer proc).timer ≡ timer)
+the_writer_goes_along side timer proc = (refl, refl)
 
--- ---- as a call without a deadline
+-- a call that goes on has the new process, and its bytes and its buffer
+it_goes_on : (call : Calling) (process : Process)
+    → gone_on call process
+    ≡ record call { reader = record call.reader { process = process } }
+it_goes_on call process = refl
+
+module _ (key : Key) (row : Row) (old new : Calling) (answer : Result ReadAnswer Fault) where
+  -- it was not run on the reader's Rendez
+  reads_in_no_way : {Timer : Type 0} (runs : Runs Timer) (first last : RunPoint Timer Lending)
+      → ¬ runs.ran (reading key row) (reader_rendez row) first answer last
+      → ¬ ReadsBy runs key row first answer last
+  reads_in_no_way runs first last ran reads = ran reads
+
+  reads_as_no_call :
+      ¬ IsACall (reading key row) (reader_rendez row) (lent_at old) answer (lent_at new)
+      → ¬ RunsARead key row old answer new
+  reads_as_no_call other is = other is
+
+-- ---- as a call that waits as long as it takes
 
 module _ (call : WriteCall) (old new : Writer) where
   accepted_as_another : ((told : Result ℕ Fault) → ¬ ComesToSame told (Ok 7))
@@ -84,18 +107,17 @@ module _ (call : WriteCall) (old new : Writer) where
       → ¬ IsAWrite call old answer new
   is_the_write_of_another answer none is = none is.process is.own
 
-module _ (key : Key) (row : Row) (old : Calling) (new : Point Lending)
-    (answer : Result ReadAnswer Fault) where
+module _ (key : Key) (row : Row) (old new : Calling) (answer : Result ReadAnswer Fault) where
   reads_another : ((told : Result ReadAnswer Fault) → ¬ ComesToSame told answer)
       → ¬ IsARead key row old answer new
   reads_another none is = none is.told is.same
 
   is_no_read : ((told : Result ReadAnswer Fault) (process : Process)
-      → ¬ Reads key row old told (calling_at (record { seat = new.seat; process = process })))
+      → ¬ Reads key row old told (gone_on new process))
       → ¬ IsARead key row old answer new
   is_no_read none is = none is.told is.process is.read
 
-  is_the_read_of_another : ((process : Process) → ¬ IsPast process.trace new.process.trace)
+  is_the_read_of_another : ((process : Process) → ¬ IsPast process.trace new.reader.process.trace)
       → ¬ IsARead key row old answer new
   is_the_read_of_another none is = none is.process is.own
 
@@ -106,11 +128,11 @@ module _ (state : State) (row : Row) (number : ℕ) where
       → ¬ ReleasesBelow state (writer_rendez row writer) number → ¬ ReleasesWriters state row number
   leaves_a_writer_asleep writer one none releases = none (releases writer one)
 
-module _ (state : State) (key : Key) (row : Row) (answer : ReadAnswer) (seat : Lending)
-    (last : LastTryReleases state key row answer seat) where
+module _ (state : State) (key : Key) (row : Row) (answer : ReadAnswer) (new : Calling)
+    (last : LastTryReleases state key row answer new) where
   -- where the last try ended
   abbrev behind : Calling
-  behind = calling_at (record { seat = seat; process = last.process })
+  behind = gone_on new last.process
 
   it_answers_what_it_was_told_last : AsksForBytes key row last.before (Done answer) behind
   it_answers_what_it_was_told_last = last.asked

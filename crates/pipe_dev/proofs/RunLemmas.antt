@@ -1,21 +1,18 @@
--- A call with a deadline is a call.
-use Rattle.std.proofs.Common.{◌≡◌, Some, None, Result, Err, inl, inr, refl, ap, sym, subst}
-use Rattle.histories.specs.declared.account.Account.{Account}
+-- A call is one that waits as long as it takes, whatever its runner is.
+use Rattle.std.proofs.Common.{◌≡◌, Some, None, Result, Err, inl, inr, refl, sym, subst}
 use Rattle.histories.specs.History.{IsPast}
 use Rattle.histories.proofs.ListLemmas.{past_refl}
 use Rattle.rendez_words.specs.Process.{Process}
-use Rattle.block_queue.specs.declared.entry.Entry.{Entry}
 use Rattle.sync_base.specs.declared.fault.Fault.{Fault}
 use Rattle.sync_base.specs.declared.fault.Fault.TheVariants as fault
 use Rattle.sync_base.specs.declared.ids.RendezId.{RendezId}
-use Rattle.timer_list.specs.Timing.{ComesToSame, TimedPoint, over_at}
-use Rattle.timer_list.proofs.UntimedLemmas.{untimed}
 use Rattle.waiting.specs.declared.wait.WaitEnd.{WaitEnd}
 use Rattle.waiting.specs.declared.wait.WaitEnd.TheVariants.{Answered, Stopped}
+use Rattle.waiting.specs.Runners.{ComesToSame, over_at}
 use Rattle.waiting.specs.Waiting.{Ends, Point, Promise, Returns, Waited}
-use Rattle.pipe_dev.specs.ReadCalls.{ReadsInTimeAreReads, calling_at, reading}
+use Rattle.pipe_dev.specs.ReadCalls.{RunsOfReadsAreReads, gone_on, lent_at, reading}
 use Rattle.pipe_dev.specs.Rendezes.{reader_rendez, writer_rendez}
-use Rattle.pipe_dev.specs.WriteCalls.{WritesInTimeAreWrites, writing}
+use Rattle.pipe_dev.specs.WriteCalls.{RunsOfWritesAreWrites, writing}
 use Rattle.pipe_dev.proofs.AskedLemmas.{reads_so}
 use Rattle.pipe_dev.proofs.CallLemmas.{writes_so}
 
@@ -38,42 +35,38 @@ module _ {Seat Out : Type 0} (promise : Promise Seat Out) (rendez : RendezId)
           absurd (never waits.waited.slept.last.at.seat after.seat out ends.left)
       by (Stopped why None) same ends = sym same
 
--- a write with a deadline is a write
-pub timed_write : WritesInTimeAreWrites
-timed_write call timers moment old new answer (inl none) =
+-- whatever ran it, a write is a write
+pub run_write : RunsOfWritesAreWrites
+run_write call old new answer (inl none) =
     record {
       told = Err fault.Memory;
-      process = new.at.process;
-      wrote = ap (λ (t : TimedPoint (Account Entry)). t.at) none.same;
+      process = new.process;
+      wrote = none.same;
       same = subst (ComesToSame (Err fault.Memory)) (sym none.answer_is) tt;
-      own = past_refl new.at.process.trace;
+      own = past_refl new.process.trace;
     }
-timed_write call timers moment old new answer (inr waited) =
-    let is = untimed (writing call) (writer_rendez call.row call.writer) timers moment old answer
-    new waited in
+run_write call old new answer (inr is) =
     record {
       told = is.told;
       process = is.process;
-      wrote = writes_so call old.at is.told
-          (record { seat = new.at.seat; process = is.process }) is.waited;
+      wrote = writes_so call old is.told (record { seat = new.seat; process = is.process })
+          is.waited;
       same = is.same;
-      own = subst (λ (p : Process). IsPast p.trace new.at.process.trace)
+      own = subst (λ (p : Process). IsPast p.trace new.process.trace)
           (is_over (writing call) (writer_rendez call.row call.writer)
-          (λ old new out late. late) old.at is.told
-          (record { seat = new.at.seat; process = is.process }) is.waited) is.own;
+          (λ old new out late. late) old is.told
+          (record { seat = new.seat; process = is.process }) is.waited) is.own;
     }
 
--- and a read is a read
-pub timed_read : ReadsInTimeAreReads
-timed_read key row timers moment old new answer waited =
-    let is = untimed (reading key row) (reader_rendez row) timers moment old answer new waited in
+-- whatever ran it, a read is a read
+pub run_read : RunsOfReadsAreReads
+run_read key row old new answer is =
     record {
       told = is.told;
       process = is.process;
-      read = reads_so key row (calling_at old.at) is.told
-          (calling_at (record { seat = new.at.seat; process = is.process })) is.waited;
+      read = reads_so key row old is.told (gone_on new is.process) is.waited;
       same = is.same;
-      own = subst (λ (p : Process). IsPast p.trace new.at.process.trace)
-          (is_over (reading key row) (reader_rendez row) (λ old new out late. late) old.at is.told
-          (record { seat = new.at.seat; process = is.process }) is.waited) is.own;
+      own = subst (λ (p : Process). IsPast p.trace new.reader.process.trace)
+          (is_over (reading key row) (reader_rendez row) (λ old new out late. late)
+          (lent_at old) is.told (lent_at (gone_on new is.process)) is.waited) is.own;
     }
