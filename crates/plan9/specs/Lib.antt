@@ -59,6 +59,7 @@ pub use Rattle.semaphore.specs.Seats as SemaSeats
 pub use Rattle.semaphore.specs.SemaLaws
 pub use Rattle.semaphore.specs.Timing
 -- how a call waits
+pub use Rattle.waiting.specs.Runners
 pub use Rattle.waiting.specs.Waiting
 -- tag spaces
 pub use Rattle.tag_space.specs.Asking as SpaceAsking
