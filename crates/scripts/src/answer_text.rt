@@ -45,13 +45,11 @@ fn push_hex(output: &mut Vec<u8>, bytes: &[u8]) -> Result<(), AllocError>
         return output.extend_from_slice(b"-");
     }
     let start = output.len();
-    let Some(end) = start.checked_add(2 * bytes.len()) else {
-        return Err(AllocError);
-    };
     // The digits are written where they stay. The room is as long as they are.
-    output.resize(end, 0)?;
+    output.reserve(2 * bytes.len())?;
+    output.resize(start + 2 * bytes.len(), 0)?;
     match hex::encode_to_slice(bytes, output.slice_mut(start..)) {
         Ok(()) => Ok(()),
-        Err(_) => Err(AllocError),
+        Err(_) => unreachable!(),
     }
 }
