@@ -1,7 +1,8 @@
 """Plays scenes on the model, by docs/SCENES.md: a line in, its answer out.
 
-Where several processes may go on, `pick` chooses which of them makes the next step. `raced` says whether it ever had a choice.
+Where several processes may go on, an `Order` says which of them makes the next step. `raced` says whether it ever had a choice.
 """
+import random
 import re
 
 from modelled import devices as dev
@@ -28,16 +29,24 @@ ALWAYS_PROBED = {"peer"}
 MOST_STEPS, MOST_KEPT = 3000, 8
 
 
-class NotAScene(Exception):
-    """A line that is none."""
+class NoAnswer(Exception):
+    """The model can't say what a line is answered."""
 
 
-class Spins(Exception):
+class NotAScene(NoAnswer):
+    """It is no line."""
+
+
+class Spins(NoAnswer):
     """A wait goes round and round, since the level of its Rendez was raised by somebody else."""
 
 
-class Waits(Exception):
-    """A line is answered once all turns have passed."""
+class Unsettled(NoAnswer):
+    """The program is known to answer it otherwise than the pages say."""
+
+
+class Waits(NoAnswer):
+    """It is answered once all turns have passed."""
 
 
 def bytes_of(word):
@@ -64,8 +73,8 @@ def flags_of(word):
 class Run:
     """A call under way: its generator, the lines that are kept for it, and what it has visited."""
 
-    def __init__(self, call, kept):
-        self.call, self.kept = call, kept
+    def __init__(self, call):
+        self.call, self.kept = call, None
         self.points, self.posted, self.parked, self.is_stopped, self.answer = [], [], None, False, None
         self.ends, self.moves = [], 0  # what is given back when it has ended, and how many steps it has made
 
@@ -95,14 +104,33 @@ class Lone:
         return True
 
 
+class Order:
+    """Who goes first, by chance: each process has a rank, and the ranks are drawn anew as often as this order does so. So one may be
+    ahead of another for a whole call, as threads are."""
+
+    def __init__(self, seed):
+        self.dice, self.ranks = random.Random(seed), {}
+        self.change = self.dice.choice([0, 0.02, 0.1, 0.3, 1])
+
+    def first(self, ready):
+        if self.dice.random() < self.change:
+            self.ranks.clear()
+        return max(ready, key=lambda it: self.ranks.setdefault(it.number, self.dice.random()))
+
+    def steps(self):
+        """How many steps are made between two lines."""
+        return self.dice.choice([0, 0, 1, 2, 3, 5, 8, 40])
+
+
 class Lab:
-    def __init__(self, pick=None, may_wait=False):
-        self.pick, self.may_wait, self.raced, self.steps = pick or (lambda ready: ready[0]), may_wait, False, 0
-        self.is_eager = pick is None
+    """With no order all go on as far as they can, the first one first."""
+
+    def __init__(self, order=None, may_wait=False):
+        self.order, self.may_wait, self.raced, self.steps = order, may_wait, False, 0
         self.kernel = self.roster = None
         self.actors, self.strangers = {}, 0
         self.pipes, self.semas, self.clocks, self.spaces, self.turns, self.lones = ([] for _ in range(6))
-        self.kept, self.acted, self.is_fresh = [], [], True
+        self.kept, self.acted, self.is_fresh, self.keeper = [], [], True, None
 
     # ---- lines
 
@@ -122,10 +150,11 @@ class Lab:
 
     def go_on(self):
         """Lets those that may go on do so: all that they can, or some of it."""
-        if self.is_eager:
+        self.raced |= bool(self.ready())
+        if self.order is None:
             self.run_until(lambda: False)
         else:
-            for _ in range(self.pick(range(6))):
+            for _ in range(self.order.steps()):
                 self.step()
 
     def open(self, words):
@@ -188,7 +217,7 @@ class Lab:
         self.steps += 1
         if self.steps > MOST_STEPS:
             raise Spins()
-        self.advance(self.pick(ready))
+        self.advance(self.order.first(ready) if self.order else ready[0])
         return True
 
     def run_until(self, is_done):
@@ -234,25 +263,29 @@ class Lab:
 
     def start(self, actor, verb, rest, is_apart):
         """Makes a call of a process: it is begun, and without `&` it is also ended."""
-        call = self.call(actor, verb, rest) if verb in CALLS[actor.role] else NOT_ITS
-        has_kept = bool(actor.number and self.kept and self.is_fresh)
-        is_probed = actor.role in PROBED.get(verb, ()) or actor.role in ALWAYS_PROBED
-        if has_kept:
-            self.is_fresh = False
-            call = call if is_probed or isinstance(call, str) else "not probed"
-        run = Run(at_once(call) if isinstance(call, str) else call, None)
-        if has_kept and not isinstance(call, str):
-            run.kept = self.kept
-            actor.points, actor.posted = run.points, run.posted
-        if actor.role == "lone" and not isinstance(call, str) and not self.lend(actor, verb, run):
-            run = Run(at_once(NOT_HERE), None)
-        actor.run = run
+        run = self.begun(actor, verb, rest)
         if is_apart and actor.number:
             return "started"
         if not self.run_until(lambda: run.answer is not None):
             return self.after_all_turns(WAITS_STILL)
         actor.run = None
         return run.answer
+
+    def begun(self, actor, verb, rest):
+        """The call, which takes the lines that are kept; or one that is answered at once."""
+        has_kept = bool(actor.number and self.kept and self.is_fresh)
+        is_probed = actor.role in PROBED.get(verb, ()) or actor.role in ALWAYS_PROBED
+        if has_kept and not is_probed:
+            call = "not probed"
+        else:
+            call = self.call(actor, verb, rest) if verb in CALLS[actor.role] else NOT_ITS
+        run = actor.run = Run(at_once(call) if isinstance(call, str) else call)
+        if has_kept:
+            self.is_fresh, self.keeper, run.kept = False, actor, self.kept
+            actor.points, actor.posted = run.points, run.posted
+        if actor.role == "lone" and not isinstance(call, str) and not self.lend(actor, verb, run):
+            run.call = at_once(NOT_HERE)
+        return run
 
     def lend(self, actor, verb, run):
         ends = {"read": "r", "try_read": "r", "read_block": "r", "hangup_read": "r", "write": "w", "write_long": "w",
@@ -285,8 +318,8 @@ class Lab:
         count = 0
         while running := [it for it in self.actors.values() if it.run]:
             for it in running:
-                if it.run.answer is None:
-                    it.proc.kernel.post_notes(it.proc.pid, {"interrupt"})
+                if it.run.answer is None and it.proc.kernel is self.kernel:
+                    self.kernel.post_notes(it.proc.pid, {"interrupt"})
             if not self.run_until(lambda: all(it.run.answer is not None for it in running)):
                 return self.after_all_turns(f"stuck {sum(it.run.answer is None for it in running)}")
             for it in running:
@@ -297,8 +330,12 @@ class Lab:
     # ---- points
 
     def keep(self, point, line):
-        to_come = [it.run for it in self.actors.values() if it.run and it.run.answer is None and it.run.kept]
-        if any(kept[2] is None and kept[1] for run in to_come for kept in run.kept if kept[0] not in run.points):
+        if line[:1].isdigit() and int(line.split(" ")[0]) not in self.actors:
+            raise NotAScene(line)
+        under_way = not self.is_fresh and self.keeper.run
+        if under_way and any(kept[2] is None for kept in self.kept):
+            if under_way.kept is not self.kept:
+                raise Unsettled("too many")
             return "too many"
         if not self.is_fresh:
             self.kept, self.is_fresh = [], True
@@ -480,7 +517,7 @@ class Lab:
         if role in ("reader", "writer"):
             return self.cast_at_pipe(proc, number, role, self.way(which, is_back))
         kind = {"holder": self.semas, "guest": self.spaces, "sharer": self.turns, "lone": self.lones}[role]
-        if not 1 <= which <= len(kind):
+        if not 1 <= which <= len(kind) or number >= 1024 and role == "sharer" and kind[which - 1].line.given:
             return NO_PROC
         return self.cast_at(proc, number, role, kind[which - 1])
 
@@ -505,10 +542,10 @@ class Lab:
         if role in ("holder", "guest", "sharer", "peer"):
             row = thing.line if role == "sharer" else thing
             size = row.members if role in ("guest", "peer") else row.seats
-            if row.given == size:
-                return NO_PROC
             if proc.kernel.rendez < row.first + size:
                 return NO_RENDEZ
+            if row.given == size:
+                return NO_PROC
             row.given += 1
             return Actor(proc, number, role, thing, row.given - 1)
         return Actor(proc, number, role, thing, 0)

@@ -6,10 +6,12 @@ differently where other processes go first is cut off.
 """
 import random
 
-from modelled.lab import ALONE, ALWAYS_PROBED, CALLS, PROBED, Lab, NotAScene, Spins, Waits
+from modelled.lab import ALONE, ALWAYS_PROBED, CALLS, PROBED, Lab, NoAnswer, Order
 from modelled.layer import KINDS, TOP_LEVEL
+from modelled.moves import SLEEPERS, move
+from modelled.opening import ROLES, Opening
 
-ORDERS, MOST_CALLS = 6, 30
+ORDERS, MOST_CALLS, STRANGERS = 16, 34, 1024
 WAITING = {"sleep", "sleep_within", "read", "read_within", "read_block", "next_piece", "read_exact", "write", "write_within",
            "write_long", "acquire", "acquire_within", "rendezvous", "rendezvous_within", "rendezvous_word"}
 # What a role calls more often than the rest of its calls.
@@ -18,10 +20,6 @@ OFTEN = {"reader": ["read", "read_within", "try_read", "read_block"], "writer": 
          "guest": ["rendezvous", "rendezvous_within"], "peer": ["rendezvous", "rfork"], "zero": ["note", "tick"], "sharer": ["read"]}
 # How many points a call has.
 POINTS = {"sleep": 6, "acquire": 4, "try_acquire": 4, "acquire_within": 4, "rendezvous": 4, "rendezvous_within": 4}
-
-
-# The kinds of objects, each with how often a scene has one.
-KINDS_OF_OBJECTS = {"pipe": 6, "stream": 4, "sema": 6, "space": 6, "lone": 2, "share": 1, "peer": 2, "plain": 4, "clock": 3}
 
 
 class Scene:
@@ -37,25 +35,28 @@ class Scene:
         return [f"# {self.name}", *(line if answer is None else f"{line} = {answer}" for line, answer in self.lines)]
 
 
-def answers(lines, pick=None, waits=False):
-    """What the model answers, with whether it had a choice. None where the lines are no scene or have no such end."""
-    lab = Lab(pick, waits)
+def answers(lines, order=None, waits=False):
+    """What the model answers, up to a line that has no answer, and whether it had a choice."""
+    lab, told = Lab(order, waits), []
     try:
-        return [(line, lab.play(line)) for line in lines], lab.raced
-    except (NotAScene, Spins, Waits, KeyError):
-        return None, False
+        for line in lines:
+            told.append((line, lab.play(line)))
+    except NoAnswer:
+        pass
+    return told, lab.raced
 
 
 def settled(lines, seed, waits=False, orders=ORDERS):
     """The lines with their answers, up to the first whose answer depends on who goes first."""
     first, raced = answers(lines, None, waits)
-    if first is None or not raced:
-        return first
-    for order in range(orders):
-        other, _ = answers(lines, random.Random(f"{seed} {order}").choice, waits)
-        same = next((at for at, pair in enumerate(first) if not other or other[at] != pair), len(first))
-        first = first[:same]
+    for order in range(orders if raced else 0):
+        other, _ = answers(lines, Order(f"{seed} {order}"), waits)
+        first = first[:next((at for at, pair in enumerate(first) if other[at:at + 1] != [pair]), len(first))]
     return first
+
+
+class LeftOut(Exception):
+    """A line that has no answer was left out, and with it the rest of its turn."""
 
 
 class Maker:
@@ -66,24 +67,46 @@ class Maker:
 
     def scene(self):
         self.open()
-        for _ in range(self.dice.randint(8, MOST_CALLS)):
-            if self.lab.kernel:
-                self.turn()
-        return Scene(f"seed {self.seed}", settled([line for line, _ in self.lines], self.seed) or [])
+        for _ in range(self.dice.randint(8, MOST_CALLS) if self.lab.kernel else 0):
+            self.attempt(self.turn)
+        return Scene(f"seed {self.seed}", settled([line for line, _ in self.lines], self.seed))
+
+    def attempt(self, turn, *operands):
+        """Does so, as far as it goes. What was kept for a call that was left out is left out too."""
+        try:
+            turn(*operands)
+        except LeftOut:
+            while self.lab.kernel and self.lab.is_fresh and self.lab.kept:
+                del self.lines[max(at for at, (line, _) in enumerate(self.lines) if line.startswith("at ")):]
+                self.play_again()
 
     # ---- lines
 
     def say(self, line):
-        """Plays a line on the model and keeps it. Its answer, or none where it can't be told."""
+        """Plays a line on the model and keeps it: its answer."""
         try:
             answer = self.lab.play(line)
-        except (NotAScene, Spins, Waits):
-            self.lab = Lab()
-            for kept, _ in self.lines:
-                self.lab.play(kept)
-            return None
+        except NoAnswer as why:
+            self.play_again()
+            raise LeftOut() from why
         self.lines.append((line, answer))
-        return answer or "made"
+        return answer
+
+    def leave_out(self):
+        self.lines.pop()
+        self.play_again()
+        raise LeftOut()
+
+    def play_again(self):
+        """Plays what is kept on a new model, as far as that goes."""
+        self.lab = Lab()
+        for at, (line, _) in enumerate(self.lines):
+            try:
+                self.lab.play(line)
+            except NoAnswer:
+                del self.lines[at:]
+                return self.play_again()
+        return None
 
     def meet(self, before):
         """Meets each process that went on since, until none has."""
@@ -111,8 +134,9 @@ class Maker:
         before, line = self.moves(), " ".join([str(actor.number), *words])
         if actor.number == 0 or words[0] in ("rfork", "notepg"):
             return self.tell(line)
-        if self.say(f"{line} &") is None:
-            return None
+        self.say(f"{line} &")
+        if actor.number >= STRANGERS and actor.run and actor.run.answer is None:
+            return self.leave_out()  # no note ends it, so the scene would end once all turns have passed
         if not actor.run:  # it was refused before it began
             self.lines[-1] = line, self.lines[-1][1]
         elif actor.run.answer is not None and self.dice.random() < 0.8 and not self.has_lines_to_come(actor):
@@ -129,56 +153,18 @@ class Maker:
 
     def open(self):
         dice = self.dice
-        made, forks, procs, rendez = [], [], 1, 0
-        kinds = dice.choices([*KINDS_OF_OBJECTS], [*KINDS_OF_OBJECTS.values()], k=dice.choice([1, 1, 2, 2, 3]))
-        for kind in kinds + ["clock", "plain"][:dice.randint(0, 2)]:
-            lines, roles, size = self.objects(kind)
-            made += lines
-            forks += roles
-            rendez += size
-            procs += len(roles)
-        spare = dice.choice([0, 0, 1, 3])
-        is_short = dice.random() < 0.08
-        self.say(f"kernel {max(1, procs + spare - 2 * is_short)} {max(1, rendez + dice.choice([1, 1, 2]) - 3 * is_short)}")
-        if self.lab.kernel is None:
-            return
-        clocks = [line for line in made if line.startswith("clock")]
-        dice.shuffle(forks)
-        for line in made + forks:
-            self.tell(line)
-        for actor in list(self.lab.actors.values())[1:] if clocks else []:
+        first, *others = Opening(dice).lines()
+        self.say(first)
+        for line in others if self.lab.kernel else []:
+            self.attempt(self.tell, line)
+        for number in list(self.lab.actors)[1:] if self.lab.clocks else []:
             if dice.random() < 0.85:
-                self.tell(f"{actor.number} clock")
-        if dice.random() < 0.06:
-            self.tell(f"stranger {dice.randint(1, 3)} {dice.randint(1, 9)} {self.role()}")
+                self.attempt(self.tell, f"{number} clock")
+        if self.lab.kernel and dice.random() < 0.06:
+            self.attempt(self.tell, f"stranger {dice.randint(1, 3)} {dice.randint(1, 9)} {self.role()}")
 
     def role(self):
-        return self.dice.choice(["plain", "reader", "writer", "holder", "guest", "sharer", "reader back", "writer back", "lone"])
-
-    def objects(self, kind):
-        """The lines that make an object, those that make processes at it, and how many Rendez it takes."""
-        dice = self.dice
-        count = dice.choice([2, 3, 3])
-        if kind in ("pipe", "stream"):
-            writers, limit = dice.choice([1, 1, 2, 3]), dice.choice([1, 2, 3, 4])
-            forks = ["0 fork reader"] + (["0 fork writers"] if dice.random() < 0.2 else ["0 fork writer"] * writers)
-            forks += ["0 fork reader back", "0 fork writer back"] if dice.random() < 0.2 else []
-            return [f"{kind} {limit} {writers}"], forks, 2 + 2 * writers
-        if kind == "share":
-            return ["pipe 2 1", f"share {count}"], ["0 fork writer"] + ["0 fork sharer"] * count, 4 + count
-        if kind == "peer":
-            return [], [f"0 fork peer {count}"], count * dice.choice([1, 2])
-        if kind == "plain":
-            return [], ["0 fork plain"] * dice.choice([1, 2]), 1
-        if kind == "clock":
-            return ["clock 9"], [], 0
-        if kind == "lone":
-            return [f"{dice.choice(['lone', 'lone_stream'])} {dice.choice([1, 2, 3])}"], ["0 fork lone"] * count, 4
-        role, line = ("holder", f"sema {dice.choice([0, 0, 1, 2])} {count}") if kind == "sema" else ("guest", f"space {count}")
-        forks = ["0 fork " + role] * count
-        if kind == "space" and dice.random() < 0.2:
-            return [line, "new_group 1"], forks + ["0 fork guest 2"] * count, 2 * count
-        return [line], forks, count
+        return self.dice.choice(ROLES)
 
     # ---- one turn
 
@@ -187,6 +173,8 @@ class Maker:
         parked = [it for it in self.lab.actors.values() if it.run]
         if parked and dice.random() < 0.4:
             return self.end_a_wait(dice.choice(parked))
+        if dice.random() < 0.4:
+            return move(self)
         actor = dice.choice(idle[1:] if idle[1:] and dice.random() < 0.8 else idle)
         if dice.random() < 0.04:
             return self.tell(dice.choice(self.rare_lines()))
@@ -198,12 +186,36 @@ class Maker:
         is_probed = actor.role in PROBED.get(verb, ()) or actor.role in ALWAYS_PROBED
         if verb in POINTS and is_probed and dice.random() < 0.3:
             return self.call_with_kept(actor, verb)
+        if actor.number and not is_probed and verb not in POINTS and verb != "notepg" and dice.random() < 0.02:
+            return self.call_with_lines(actor, [verb, *self.operands(actor, verb)], ["at 1 0 notes"])
         if actor.role != "zero" and dice.random() < 0.15:
             self.tell(f"0 note {actor.proc.pid} {self.kinds()}")
         return self.make_call(actor, [verb, *self.operands(actor, verb)])
 
     def idle(self):
         return [it for it in self.lab.actors.values() if not it.run and not it.is_gone]
+
+    def forkers(self):
+        return [it for it in self.idle() if it.role in SLEEPERS or it.number == 0]
+
+    def timed(self):
+        """Who can call until a moment."""
+        return [it for it in self.idle() if it.proc.timer and it.role not in ("sharer", "peer")]
+
+    def deadline(self, actor):
+        """The moment of the call until a moment that this process makes."""
+        return min(sum(map(int, self.calls[actor.number][1:3])), 2**64 - 1)
+
+    def timed_call(self, actor):
+        own = {"reader": "read_within", "writer": "write_within", "holder": "acquire_within", "guest": "rendezvous_within"}.get(actor.role)
+        verb = own if own and (actor.role not in SLEEPERS or self.dice.random() < 0.7) else "sleep_within"
+        return [verb, *self.operands(actor, verb)]
+
+    def pair(self):
+        """A holder or a guest, and another at the same object; nobody where there are none."""
+        idle = [it for it in self.idle() if it.role in ("holder", "guest")]
+        pairs = [(it, other) for it in idle for other in idle if it is not other and it.thing is other.thing]
+        return self.dice.choice(pairs) if pairs else (None, None)
 
     def verb(self, actor):
         dice = self.dice
@@ -255,7 +267,7 @@ class Maker:
         words, place = self.calls.get(number, ["sleep"]), waiting.proc.posted_in()
         ways = [f"0 note {pid} {self.kinds()}"]
         if words[0].endswith("_within"):
-            deadline = min(int(words[1]) + int(words[2]), 2**64 - 1)
+            deadline = self.deadline(waiting)
             ways += [f"0 tick {deadline}", f"0 tick {max(0, deadline - 1)}", f"0 tick {min(deadline + 1, 2**64 - 1)}"]
         if place is not None and words[0].startswith("sleep"):
             ways += [f"0 wakeup {place} {self.level()}", f"0 wakeup {place} 1"]
@@ -286,23 +298,26 @@ class Maker:
     # ---- kept lines
 
     def call_with_kept(self, actor, verb):
-        """A call that is stopped at points, and what its lines were answered."""
-        dice, count = self.dice, 0
-        kept = dice.choice([1, 1, 2, 3])
-        saved, size, words = self.now, len(self.lines), [verb, *self.operands(actor, verb)]
-        for point in sorted(dice.randint(1, POINTS[verb] + (dice.random() < 0.1)) for _ in range(kept)):
-            count += self.say(f"at {point} {self.kept_line(actor, words)}".strip()) == "kept"
+        """A call that is stopped at points."""
+        dice = self.dice
+        words = [verb, *self.operands(actor, verb)]
+        points = sorted(dice.randint(1, POINTS[verb] + (dice.random() < 0.1)) for _ in range(dice.choice([1, 1, 2, 3])))
+        self.call_with_lines(actor, words, [f"at {point} {self.kept_line(actor, words)}".strip() for point in points])
+
+    def call_with_lines(self, actor, words, lines):
+        """A call for which lines are kept, and what these were answered."""
+        count = self.keep_lines(lines)
         self.make_call(actor, words)
-        if self.lab.is_fresh and self.lab.kept:  # the call was left out: so are its lines
-            del self.lines[size:]
-            self.lab, self.now = Lab(), saved
-            for line, _ in self.lines:
-                self.lab.play(line)
-            return
         if not actor.run:
-            for at in range(count):
-                self.say(f"acted {at + 1}")
-            self.say(f"{actor.number} {dice.choice(['points', 'points', 'posted'])}")
+            self.tell_acted(actor, count)
+
+    def keep_lines(self, lines):
+        return sum(self.say(line) == "kept" for line in lines)
+
+    def tell_acted(self, actor, count):
+        for at in range(count):
+            self.say(f"acted {at + 1}")
+        self.say(f"{actor.number} {self.dice.choice(['points', 'points', 'posted'])}")
 
     def kept_line(self, actor, words):
         dice, others = self.dice, [it for it in self.idle() if it is not actor]
@@ -318,7 +333,8 @@ class Maker:
         if other in same and dice.random() < 0.5:
             return " ".join([str(other.number), *self.answering(other, words)])
         verb = self.verb(other)
-        return " ".join([str(other.number), verb, *self.operands(other, verb)])
+        apart = ["&"] * (verb in WAITING and other.number < STRANGERS and dice.random() < 0.6)
+        return " ".join([str(other.number), verb, *self.operands(other, verb), *apart])
 
     # ---- operands
 
@@ -342,7 +358,7 @@ class Maker:
     def moment(self):
         dice = self.dice
         self.now += dice.choice([0, 0, 1, 10])
-        late = [(2**64 - 16, 4294967295)] if dice.random() < 0.1 else []
+        late = [(2**64 - 16, 4294967295)] if dice.random() < 0.22 else []
         return map(str, dice.choice(late or [(self.now, dice.choice([0, 5, 50, 50]))]))
 
     def operands(self, actor, verb):

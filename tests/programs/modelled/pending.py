@@ -1,10 +1,11 @@
 """Scenes for each call by a caller whose note is pending, and by one whose note comes while it waits, in both modes of a pipe."""
 import itertools
 
+from modelled.lab import CALLS
 from modelled.maker import Maker, Scene, answers, settled
 
 KINDS = ("alarm", "interrupt,expired")
-# What is made first, in which process 1 is the caller; the states that it can find; and its calls.
+# What is made first, in which process 1 is the caller, or 0 where there is none; the states that it can find; and its calls.
 PIPE = ["kernel 5 9", "{mode} 1 1", "0 fork reader", "0 fork writer", "0 fork plain", "clock 4", "1 clock", "2 clock"]
 WRITER = [*PIPE[:2], "0 fork writer", "0 fork reader", *PIPE[4:]]
 LONE = ["kernel 5 9", "{lone} 1", *["0 fork lone"] * 3]
@@ -14,38 +15,54 @@ SPACE = ["kernel 4 4", "space 2", *["0 fork guest"] * 2, "0 fork plain", "clock 
 PEER = ["kernel 4 4", "0 fork peer 2", "1 rfork proc"]
 SHARED = ["kernel 5 9", "pipe 1 1", "share 2", *["0 fork sharer"] * 2, "0 fork writer"]
 ANYBODY = ["wakeup 0 1", "tick 100", "note 0 alarm", "notes", "put_back hangup", "sleep 8 0", "sleep_within 100 50 8 0"]
+ZERO = ["kernel 2 4", "0 fork plain", "clock 4", "1 clock"]
+SEEN = ["rendez", "note 0 alarm", "notes"]
 SLEEPS = ["sleep 0 0", "sleep_within 100 50 0 0", "sleep 0 18446744073709551615", "sleep_within 100 50 0 18446744073709551615"]
 READS = ["read 3", "read_within 100 50 3", "try_read 3", "read_block", "next_piece 3", "read_exact 4", "read 0", "read_within 100 50 0"]
 WRITES = ["write x", "write -", "write_within 100 50 x", "write_long x", "write_long 65537*x", "write 65537*x", "hangup"]
 READ_STATES = [[], ["2 write abc"], ["2 write -"], ["2 hangup"], ["3 sleep 0 0 &"]]
 WRITE_STATES = [[], ["1 write abc"], ["2 hangup"], ["1 write abc", "3 sleep 1 0 &"]]
-UNITS = ["acquire", "try_acquire", "acquire_within 100 50", "release 1", "release 2147483647"]
-MEETS = ["rendezvous 7 5", "rendezvous_within 100 50 7 5", "rendezvous_word 7 5"]
+UNITS = ["acquire", "try_acquire", "acquire_within 100 50", "release 1", "release 2147483647", *SEEN]
+MEETS = ["rendezvous 7 5", "rendezvous_within 100 50 7 5", "rendezvous_word 7 5", *SEEN]
 MODES = [("a pipe", {"mode": "pipe", "lone": "lone"}), ("a stream", {"mode": "stream", "lone": "lone_stream"})]
 
 
-def settings():
-    """Each opening with a state that it is brought to, and a call of process 1."""
-    rows = []
+def rows():
+    """Where each of the settings plays, with the words of its mode, what is made first, the states and the calls."""
+    anybody = [*ANYBODY, *SLEEPS, "notepg 0 hangup"]
     for mode, names in MODES:
-        rows += [(mode, names, PIPE, READ_STATES, [*READS, "hangup"]), (mode, names, WRITER, WRITE_STATES, WRITES),
-                 (mode, names, PIPE, [[]], [*ANYBODY, *SLEEPS]), (mode, names, WRITER, [[]], [*ANYBODY, *SLEEPS]),
-                 (mode, names, LONE, [[], ["2 write abc"], ["2 write abc", "1 read 1"], ["2 hangup_write"]],
-                  ["read 3", "try_read 3", "read_block", "write x", "write_long x", "finish", "hangup_read", "hangup_write"])]
-    rows.append(("alone", {}, PLAIN, [[], ["2 wakeup 0 1"], ["2 sleep 0 0 &"]], [*ANYBODY, *SLEEPS, "notepg 0 hangup"]))
+        yield mode, names, PIPE, READ_STATES, [*READS, "hangup"]
+        yield mode, names, WRITER, WRITE_STATES, WRITES
+        yield mode, names, PIPE, [[]], anybody
+        yield mode, names, WRITER, [[]], anybody
+        yield (mode, names, LONE, [[], ["2 write abc"], ["2 write abc", "1 read 1"], ["2 hangup_write"]],
+               ["read 3", "try_read 3", "read_block", "write x", "write_long x", "finish", "hangup_read", "hangup_write"])
+        yield mode, names, [*LONE, "clock 4", "1 clock", "2 clock"], [[]], anybody
+    yield "alone", {}, PLAIN, [[], ["2 wakeup 0 1"], ["2 sleep 0 0 &"]], anybody
+    yield "process 0", {}, ZERO, [[], ["1 sleep 0 0 &"]], [*ANYBODY[:5], "notepg 0 hangup", "rendez", "row 2", "pids_left", "rendez_left"]
     for units in "0", "1":
-        rows.append(("a semaphore", {"units": units}, SEMA, [[], ["3 sleep 0 0 &"]], UNITS))
-    rows.append(("a space", {}, SPACE, [[], ["2 rendezvous 7 9 &"], ["3 sleep 0 0 &"]], MEETS))
-    rows.append(("a peer", {}, PEER, [[], ["2 rendezvous 7 9 &"]], ["rendezvous 7 5", "rfork noteg", "rfork rend", "put_back closed"]))
-    rows.append(("turns", {}, SHARED, [[], ["3 write abc"], ["2 read 3 &"], ["3 hangup"]], ["read 3", "read 0"]))
-    for place, names, opening, states, calls in rows:
+        yield "a semaphore", {"units": units}, SEMA, [[], ["3 sleep 0 0 &"]], UNITS
+    yield "a space", {}, SPACE, [[], ["2 rendezvous 7 9 &"], ["3 sleep 0 0 &"]], MEETS
+    yield "a peer", {}, PEER, [[], ["2 rendezvous 7 9 &"]], ["rendezvous 7 5", "rfork noteg", "rfork rend", "put_back closed", *SEEN]
+    yield "turns", {}, SHARED, [[], ["3 write abc"], ["2 read 3 &"], ["3 hangup"]], ["read 3", "read 0"]
+
+
+def settings():
+    """Each opening with a state that it is brought to, the caller, and a call of it."""
+    for place, names, opening, states, calls in rows():
         for state, call in itertools.product(states, calls):
             lines = [line.format(**names) for line in opening]
             if "_within" not in call and "tick" not in call:
                 lines = [line for line in lines if "clock" not in line]
-            if opening is not PLAIN and lines[-1] == "0 fork plain" and not any(line.startswith("3 ") for line in state):
+            if opening not in (PLAIN, ZERO) and lines[-1] == "0 fork plain" and not any(line.startswith("3 ") for line in state):
                 lines.pop()
-            yield place, [*lines, *state], call
+            yield place, [*lines, *state], int(opening is not ZERO), call
+
+
+def missing():
+    """The calls of a role that no setting has."""
+    found = {(begun(lines).lab.actors[caller].role, call.split(" ")[0]) for _, lines, caller, call in settings()}
+    return sorted({(role, call) for role, calls in CALLS.items() for call in calls} - found)
 
 
 def begun(lines):
@@ -60,29 +77,29 @@ def begun(lines):
     return maker
 
 
-def closed(maker, name):
+def closed(maker, name, caller):
     """What is left behind the call: the notes, and what its Rendez and its object are."""
-    for line in ["1 look", "rendez 0", "left"]:
+    for line in [f"{caller} look", "rendez 0", "left"]:
         maker.tell(line)
     lines = [line for line, _ in maker.lines]
     found = settled(lines, name)
-    return Scene(name, found) if found and len(found) == len(lines) else None
+    return Scene(name, found) if len(found) == len(lines) else None
 
 
 def written(part=0, parts=1):
     """All of these scenes, or one of so many parts of them."""
     yield from [*in_vain()][part::parts]
-    for number, (place, lines, call) in itertools.islice(enumerate(settings()), part, None, parts):
+    for number, (place, lines, caller, call) in itertools.islice(enumerate(settings()), part, None, parts):
         about, kinds = f"{place}: {call}, behind {'; '.join(lines[1:])}", KINDS[number % 2]
-        maker = begun([*lines, f"0 note 1 {kinds}"])
-        maker.make_call(maker.lab.actors[1], call.split(" "))
-        yield closed(maker, f"{kinds} is pending, {about}")
+        maker = begun([*lines, f"0 note {caller} {kinds}"])
+        maker.make_call(maker.lab.actors[caller], call.split(" "))
+        yield closed(maker, f"{kinds} is pending, {about}", caller)
         for kinds in KINDS:
             maker = begun(lines)
-            maker.make_call(maker.lab.actors[1], call.split(" "))
-            if maker.lab.actors[1].run:
-                maker.tell(f"0 note 1 {kinds}")
-                yield closed(maker, f"{kinds} comes, {about}")
+            maker.make_call(maker.lab.actors[caller], call.split(" "))
+            if maker.lab.actors[caller].run:
+                maker.tell(f"0 note {caller} {kinds}")
+                yield closed(maker, f"{kinds} comes, {about}", caller)
 
 
 def in_vain():

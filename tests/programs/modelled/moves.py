@@ -1,0 +1,285 @@
+"""Short runs of lines that bring an object where its rules matter: a full pipe, a stream of empty writes, a line of waiters, a deadline.
+
+Each is played by a maker with those who are idle, and makes nothing where somebody that it needs is missing.
+"""
+SLEEPERS = {"plain", "reader", "writer", "lone"}
+
+
+def at_direction(maker):
+    """A direction with its idle reader and its idle writers, if there is one."""
+    ways = {}
+    for actor in maker.idle():
+        if actor.role in ("reader", "writer", "lone"):
+            ways.setdefault(maker.lab.pipe_of(actor), []).append(actor)
+    rows = []
+    for way, actors in ways.items():
+        readers, writers = ([it for it in actors if it.role in (role, "lone")] for role in ("reader", "writer"))
+        rows += [(way, readers[0], [it for it in writers if it is not readers[0]] or writers)] if readers and writers else []
+    return maker.dice.choice(rows) if rows else (None, None, [])
+
+
+def write(maker, writers, data):
+    writers = [it for it in writers if not it.run]
+    if writers:
+        maker.make_call(maker.dice.choice(writers), ["write", data])
+
+
+def hang_up(maker, actor):
+    verb = {"lone": maker.dice.choice(["hangup_read", "hangup_write"])}.get(actor.role, "hangup")
+    if not actor.run:
+        maker.make_call(actor, [verb])
+
+
+def fill_a_pipe(maker):
+    """Writes until there is no room, one or all writers more; then a read, a note, or a hangup that ends them all."""
+    dice, (way, reader, writers) = maker.dice, at_direction(maker)
+    if not way:
+        return
+    for _ in range(way.limit - len(way.blocks) + dice.choice([1, 1, len(writers)])):
+        write(maker, writers, dice.choice(["a", "bc", "-", "def"]))
+    for _ in range(dice.choice([1, 1, 2])):
+        how = dice.choice(["hang up", "hang up", "read", "read", "note", "read a part"])
+        if how == "hang up":
+            hang_up(maker, dice.choice([reader, reader, *writers]))
+        elif how == "note" and writers[-1].number < 1024:
+            maker.tell(f"0 note {writers[-1].proc.pid} {maker.kinds()}")
+        elif not reader.run:
+            maker.make_call(reader, ["read", "1" if how == "read a part" else "8"])
+    for actor in dice.sample([reader, *writers], 2) if dice.random() < 0.5 else []:
+        maker.tell(f"{actor.number} look")
+
+
+def pass_empty_writes(maker):
+    """Empty writes before, between and behind bytes, read up to the last byte, before it and past it. The level of a writer's Rendez
+    says how far a read went."""
+    dice, (way, reader, writers) = maker.dice, at_direction(maker)
+    if not way or not way.stream and dice.random() < 0.8:
+        return
+    room = way.limit - len(way.blocks)
+    data = dice.choice([["ab", "-", "-"], ["-", "a", "-"], ["a", "-", "b"], ["-", "-"], ["a", "-"], ["abc", "-", "de"]])
+    for it in data[:max(1, room)]:
+        write(maker, writers, it)
+    for _ in range(dice.choice([1, 2])):
+        held = len(way.rest) + sum(len(block[1] or b"") for block in way.blocks)
+        count = dice.choice([held, held, held, held - 1, held + 1, 8])
+        if not reader.run:
+            maker.make_call(reader, [dice.choice(["try_read", "try_read", "read"]), str(max(1, count))])
+        maker.tell(f"rendez {way.first + 1 + dice.randrange(way.writers)}")
+        write(maker, writers, dice.choice(["-", "g", "hi"]))
+    if not reader.run and way.blocks and dice.random() < 0.6:
+        maker.make_call(reader, [dice.choice(["try_read 8", "read_block", "read_block"])])
+
+
+def send_whole_blocks(maker):
+    """Writes about as long as the atomic size, and reads of as many bytes."""
+    dice, (way, reader, writers) = maker.dice, at_direction(maker)
+    writer = next((it for it in writers if not it.run), None)
+    if not writer:
+        return
+    size = dice.choice([65535, 65536, 65536, 65537])
+    verb = dice.choice(["write", "write", "write_long"] + ["write_within"] * (writer.role == "writer"))
+    if verb == "write_long":
+        size = dice.choice([65536, 65537, 65540, 131072, 131073])
+    maker.make_call(writer, [verb, *(maker.moment() if "within" in verb else []), f"{size}*{dice.choice('xyz')}"])
+    for _ in range(dice.choice([1, 2, 3])):
+        if not reader.run:
+            verb = dice.choice(["read", "try_read", "read_block"] + ["read_exact"] * (reader.role == "reader"))
+            maker.make_call(reader, [verb] + [str(dice.choice([65535, 65536, 65537, 70000]))] * (verb != "read_block"))
+
+
+def hang_up_and_go_on(maker):
+    """A hangup, then a write of each kind, and reads up to the end and past it."""
+    dice, (way, reader, writers) = maker.dice, at_direction(maker)
+    if not way or len(maker.lines) < 12 and dice.random() < 0.5:
+        return
+    if dice.random() < 0.5:
+        write(maker, writers, dice.choice(["ab", "-", "cde"]))
+    hang_up(maker, dice.choice([reader, *writers]))
+    for data in dice.sample(["x", "-", "65537*w", "65536*v"], 2):
+        write(maker, writers, data)
+    for _ in range(dice.choice([1, 2, 3])):
+        if not reader.run:
+            exact = ["read_exact"] * (reader.role == "reader")
+            maker.make_call(reader, [dice.choice(["read", "try_read", *exact]), str(dice.choice([1, 2, 8, 0]))])
+
+
+def meet_a_deadline(maker):
+    """One to three calls until a moment, ticks before it and at it, and now and then a note or what they wait for."""
+    dice = maker.dice
+    waiting = []
+    for actor in dice.sample(maker.timed(), min(len(maker.timed()), dice.choice([1, 2, 2, 3]))):
+        maker.make_call(actor, maker.timed_call(actor))
+        if actor.run:
+            waiting.append((maker.deadline(actor), actor))
+    if not waiting:
+        return
+    moments = sorted(moment for moment, _ in waiting)
+    how = dice.random()
+    if how < 0.5:
+        maker.tell(f"0 tick {max(0, moments[0] - 1)}")
+    if 0.4 < how < 0.7 and waiting[0][1].number < 1024:
+        maker.tell(f"0 note {waiting[0][1].proc.pid} {maker.kinds()}")
+    maker.tell(f"0 tick {dice.choice([moments[0], moments[-1], moments[-1], min(moments[-1] + 7, 2**64 - 1)])}")
+    if dice.random() < 0.4:
+        maker.tell(f"0 tick {2**64 - 1}")
+        maker.tell(f"{waiting[0][1].number} look")
+
+
+def note_a_group(maker):
+    """A process that leaves its group or makes another, and notes to a group."""
+    dice, forkers = maker.dice, maker.forkers()
+    if forkers:
+        forker = dice.choice(forkers)
+        maker.tell(f"{forker.number} rfork {dice.choice(['noteg', 'noteg', 'proc,noteg', 'proc'])}")
+    posters = [it for it in maker.idle() if it.role in SLEEPERS or it.number == 0]
+    made = [it for it in maker.lab.actors.values() if it.number < 1024]
+    for _ in range(dice.choice([1, 1, 2])):
+        poster = dice.choice(posters)
+        pid = dice.choice([poster.proc.pid, *(it.number for it in made), maker.lab.kernel.procs - 1])
+        maker.tell(f"{poster.number} notepg {pid} {maker.kinds()}")
+    for actor in dice.sample(made, min(len(made), 3)):
+        maker.tell(f"{actor.number} {dice.choice(['look', 'notes']) if actor in maker.idle() and actor.role != 'sharer' else 'look'}")
+
+
+def line_up(maker):
+    """Acquires that wait in a line, of which one may leave, and releases of one unit or more."""
+    dice = maker.dice
+    semas = {}
+    for actor in maker.idle():
+        if actor.role == "holder":
+            semas.setdefault(actor.thing, []).append(actor)
+    rows = [row for sema, row in semas.items() if len(row) > 1 and sema.value < 4]
+    if not rows:
+        return
+    row = dice.choice(rows)
+    dice.shuffle(row)
+    for _ in range(row[0].thing.value):
+        maker.make_call(row[0], ["try_acquire"])
+    for actor in row[1:]:
+        timed = actor.proc.timer and dice.random() < 0.3
+        maker.make_call(actor, ["acquire_within", *maker.moment()] if timed else ["acquire"])
+    if dice.random() < 0.4 and row[1].number < 1024:
+        maker.tell(f"0 note {row[1].proc.pid} {maker.kinds()}")
+    for count in dice.choice([[1], [1, 1], [2], [0, 1], [3], [1, 2**31 - 1, 0], [2, 2**31 - 1, 0]]):
+        maker.make_call(row[0], ["release", str(count)])
+    if dice.random() < 0.5:
+        maker.make_call(row[0], ["try_acquire"])
+
+
+def grant_at_a_point(maker):
+    """What a call waits for, with notes or a tick, between its steps: behind its sleep, or before it."""
+    dice = maker.dice
+    actor, partner = maker.pair()
+    if not actor:
+        return
+    timed = actor.proc.timer and dice.random() < 0.65
+    verb = ("acquire" if actor.role == "holder" else "rendezvous") + ("_within" if timed else "")
+    words = [verb, *maker.operands(actor, verb)]
+    if actor.role == "holder" and actor.thing.value:
+        maker.make_call(partner, ["try_acquire"])
+    lines = [f"{partner.number} {' '.join(maker.answering(partner, words))}"] if dice.random() < (0.5 if timed else 0.85) else []
+    lines += [f"{partner.number} try_acquire"] * (partner.role == "holder" and dice.random() < 0.55)
+    lines += [f"0 note {actor.proc.pid} {maker.kinds()}"] if dice.random() < 0.7 or not lines else []
+    lines += [f"0 tick {min(int(words[1]) + int(words[2]), 2**64 - 1)}"] if timed and dice.random() < 0.7 else []
+    if dice.random() < 0.5:
+        dice.shuffle(lines)
+    points = [dice.choice([2, 3]) for _ in lines]
+    kept = [f"at {point} {line}" for point, line in zip(points if dice.random() < 0.5 else [3] * len(lines), lines)]
+    maker.call_with_lines(actor, words, kept + [f"at {dice.choice([2, 3])} {actor.number} look"] * (dice.random() < 0.3))
+    if not actor.run:
+        maker.tell(f"{actor.number} notes")
+
+
+def wake_at_a_point(maker):
+    """A wakeup, a note and looks between the steps of a sleep, and then another sleep."""
+    dice = maker.dice
+    sleepers = [it for it in maker.idle() if it.role in {"plain", "reader", "writer"} and it.number < 1024]
+    if not sleepers:
+        return
+    actor = dice.choice(sleepers)
+    place = dice.randrange(maker.lab.kernel.rendez)
+    level = maker.lab.kernel.levels[place]
+    if level > 2**63:
+        return
+    lines = [f"0 wakeup {place} {dice.choice([level, level, level + 1])}", f"0 note {actor.proc.pid} {maker.kinds()}",
+             f"{actor.number} look", f"rendez {place}"]
+    points = sorted(dice.choice([2, 2, 3, 4, 5]) for _ in range(3))
+    kept = [f"at {point} {line}" for point, line in zip(points, dice.sample(lines, 3))]
+    maker.call_with_lines(actor, ["sleep", str(place), str(level)], kept)
+    if not actor.run:
+        maker.make_call(actor, ["sleep", str(place), str(level + 1)])
+
+
+def wake_in_vain(maker):
+    """Wakeups of a level that is too low, which take a waiter out again and again, and then what it waits for."""
+    dice = maker.dice
+    actor, partner = maker.pair()
+    if not actor or actor.role == "holder" and actor.thing.value:
+        return
+    words = ["acquire"] if actor.role == "holder" else ["rendezvous", "7", "3"]
+    place = actor.thing.first + actor.seat
+    lines = [f"at 3 {actor.number} look", f"at {dice.choice([2, 3])} 0 notes", f"at 3 rendez {place}"]
+    count = maker.keep_lines(lines[:dice.choice([1, 2, 3])])
+    maker.make_call(actor, words)
+    for _ in range(dice.choice([1, 2])):
+        maker.tell(f"0 note 0 {maker.kinds()}")
+        maker.tell(f"0 wakeup {place} 0")
+    maker.make_call(partner, maker.answering(partner, words))
+    if not actor.run:
+        maker.tell_acted(actor, count)
+
+
+def move_to_a_space(maker):
+    """An rfork of a peer, and calls with one tag in the spaces that there are then."""
+    dice = maker.dice
+    peers = [it for it in maker.idle() if it.role == "peer"]
+    if not peers:
+        return
+    forker = dice.choice(peers)
+    flags = ["proc", "proc", "rend", "rend", "rend,noteg", "proc,rend", "proc,rend", "proc,rend,noteg", "proc,noteg", "noteg"]
+    maker.make_call(forker, ["rfork", dice.choice(flags)])
+    peers = [it for it in maker.idle() if it.role == "peer"]
+    for actor in dice.sample(peers, min(len(peers), 3)):
+        maker.make_call(actor, ["rendezvous", "7", str(dice.randrange(9))])
+    if dice.random() < 0.5:
+        maker.tell(f"0 notepg {dice.choice(peers).number} {maker.kinds()}")
+    for actor in {forker.number: forker, peers[-1].number: peers[-1]}.values():
+        if not actor.run:
+            maker.tell(f"{actor.number} rendez")
+
+
+def raise_a_level(maker):
+    """Who sleeps with a level, and wakeups below, at and above it."""
+    dice, sleepers = maker.dice, [it for it in maker.idle() if it.role in SLEEPERS]
+    if not sleepers:
+        return
+    actor = dice.choice(sleepers)
+    place = maker.place(actor)
+    for level in dice.sample(["0", "1", "2", "3"], dice.choice([0, 0, 1])):
+        maker.tell(f"0 wakeup {place} {level}")
+    if dice.random() < 0.4:
+        maker.make_call(actor, ["put_back", maker.kinds()])
+    maker.make_call(actor, ["sleep", str(place), dice.choice(["0", "1", "2"])])
+    if actor.run and dice.random() < 0.5 and len(sleepers) > 1:
+        other = dice.choice([it for it in sleepers if it is not actor])
+        maker.make_call(other, ["put_back", maker.kinds()])
+        maker.make_call(other, ["sleep", str(place), "0"])
+        maker.tell(f"{other.number} look")
+    maker.tell(f"0 wakeup {place} {dice.choice(['0', '1', '2', '3'])}")
+    maker.tell(f"{actor.number} look")
+    maker.tell(f"rendez {place}" if place < maker.lab.kernel.rendez else "0 notes")
+
+
+PIPES, UNITS, TAGS = {"reader", "lone"}, {"holder"}, {"guest"}
+# Each with how often it is made, and the roles of which it needs one.
+MOVES = [(2, fill_a_pipe, PIPES), (3, pass_empty_writes, PIPES), (1, send_whole_blocks, PIPES), (1, hang_up_and_go_on, PIPES),
+         (1, meet_a_deadline, {"plain", "reader"}), (2, meet_a_deadline, UNITS | TAGS), (1, note_a_group, {"zero"}), (2, line_up, UNITS),
+         (2, grant_at_a_point, UNITS | TAGS), (1, grant_at_a_point, UNITS), (1, wake_in_vain, UNITS | TAGS), (2, move_to_a_space, {"peer"}),
+         (1, raise_a_level, {"plain", "reader"}), (1, wake_at_a_point, {"plain", "reader"})]
+
+
+def move(maker):
+    """One of these that fits the roles that there are."""
+    roles = {it.role for it in maker.idle()}
+    fits = [(often, made) for often, made, needed in MOVES if needed & roles]
+    maker.dice.choices([made for _, made in fits], [often for often, _ in fits])[0](maker)
