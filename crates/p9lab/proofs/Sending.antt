@@ -22,10 +22,11 @@ use Rattle.plan9.proofs.pool.Holder.TheSendSync as holder
 use Rattle.plan9.proofs.hall.Guest.TheSendSync as guest
 use Rattle.plan9.proofs.clock.Watch.TheSendSync as watch
 use Rattle.plan9.specs.contracts.sharing.Sharer as Sharer
-use Rattle.p9lab.specs.contracts.actor.Actor as Actor
-use Rattle.p9lab.specs.contracts.actor.Back as Back
-use Rattle.p9lab.specs.contracts.actor.Beside as Beside
-use Rattle.p9lab.specs.contracts.actor.Role as Role
+use Rattle.scene_text.proofs.answer.Answer.TheSendSync as answer
+use Rattle.p9lab.specs.contracts.caller.Caller as Caller
+use Rattle.p9lab.specs.contracts.caller.Means as Means
+use Rattle.p9lab.specs.contracts.caller.Reply as Reply
+use Rattle.p9lab.specs.contracts.caller.Role as Role
 use Rattle.p9lab.proofs.roles.peer.Peer.TheSendSync as peer
 use Rattle.p9lab.specs.contracts.roles.lone.Both as Both
 use Rattle.p9lab.specs.contracts.roles.lone.Lone as Lone
@@ -96,17 +97,6 @@ sharer_field s p k = search sharer_parts depth 20
 
 -- ---- a process in whatever role
 
-ruleset beside_parts = (
-  sendable,
-  crosses,
-  sharer_field,
-  lone_field,
-  peer.the_send,
-)
-
-beside_field : IsSend Beside.the_field.row
-beside_field = search beside_parts depth 40
-
 ruleset role_parts = (
   sendable,
   crosses,
@@ -115,23 +105,30 @@ ruleset role_parts = (
   writer.the_field_send,
   holder.the_send,
   guest.the_send,
-  beside_field,
+  sharer_field,
+  lone_field,
+  peer.the_send,
 )
 
 role_field : IsSend Role.the_field.row
 role_field = search role_parts depth 40
 
-ruleset actor_parts = (sendable, crosses, role_field, watch.the_send)
+ruleset means_parts = (sendable, crosses, watch.the_send)
+
+means_field : IsSend Means.the_field.row
+means_field = search means_parts depth 40
+
+ruleset caller_parts = (sendable, crosses, role_field, means_field)
 
 -- it may go to another thread
-pub actor_field : IsSend Actor.the_field.row
-actor_field = search actor_parts depth 40
+pub caller_field : IsSend Caller.the_field.row
+caller_field = search caller_parts depth 40
 
-pub actor_send : IsSend Actor.the_row
-actor_send = search actor_parts depth 40
+pub caller_send : IsSend Caller.the_row
+caller_send = search caller_parts depth 40
 
-ruleset back_parts = (sendable, crosses, actor_field)
+ruleset reply_parts = (sendable, crosses, caller_field, answer.the_field_send)
 
 -- and come back with its answer
-pub back_send : IsSend Back.the_row
-back_send = search back_parts depth 40
+pub reply_send : IsSend Reply.the_row
+reply_send = search reply_parts depth 40

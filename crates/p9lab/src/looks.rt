@@ -1,8 +1,7 @@
 //! What a look at a kernel shows: look(2).
-use crate::scene::Scene;
+use crate::scene::{Scene, place_of};
 use plan9::{Fault, Kernel, ProcStatus, RendezStatus};
-use scene_text::answer::{Answer, refused};
-use std::alloc::Global;
+use scene_text::answer::Answer;
 
 /// Whether the process with this pid is posted, and nobody has marked it.
 pub fn is_posted(kernel: &Kernel, statuses: &mut Vec<ProcStatus>, pid: u64) -> bool {
@@ -22,44 +21,32 @@ fn status_of(kernel: &Kernel, statuses: &mut Vec<ProcStatus>, pid: u64) -> Optio
 }
 
 /// How the process with this number stands.
-pub fn look_answer(scene: &mut Scene, number: u64) -> Answer {
-    let at = scene.place_of(number);
-    let Scene {
-        kernel,
-        places,
-        statuses,
-        ..
-    } = scene;
-    let seen = match at {
-        Some(at) => match places.get(at) {
-            Some(place) => status_of(place.kernel, statuses, place.pid),
-            None => None,
-        },
-        None => status_of(kernel, statuses, number),
+pub fn look_answer(scene: &mut Scene<'_>, number: u64) -> Answer {
+    let at = place_of(&scene.processes, number).unwrap_or(usize::MAX);
+    let (kernel, pid) = match scene.processes.get(at) {
+        Some(process) => (process.kernel, process.pid),
+        None => (scene.kernel, number),
     };
-    match seen {
-        Some(status) => Answer::status(status),
-        None => refused(Fault::NoProc),
+    match status_of(kernel, &mut scene.statuses, pid) {
+        Some(status) => Answer::Status(status),
+        None => Answer::Fault(Fault::NoProc),
     }
 }
 
 /// How a Rendez of the scene's kernel stands. One that is none has no answer.
-pub fn level_of(alloc: Global, scene: &Scene, rendez: u64) -> Option<Answer> {
+pub fn level_of(scene: &Scene<'_>, rendez: u64) -> Option<Answer> {
     if rendez >= scene.kernel.rendez_count() {
         return None;
     }
-    let mut seen = Vec::new(alloc);
-    for _ in 0..rendez {
+    let mut seen = Vec::new(scene.alloc);
+    for _ in 0..=rendez {
         if seen.push(RendezStatus::default()).is_err() {
-            return Some(refused(Fault::Memory));
+            return Some(Answer::Fault(Fault::Memory));
         }
-    }
-    if seen.push(RendezStatus::default()).is_err() {
-        return Some(refused(Fault::Memory));
     }
     let look = scene.kernel.look(&mut [], seen.as_mut_slice());
     match look.rendez.get(rendez as usize) {
-        Some(status) => Some(Answer::level(*status)),
+        Some(status) => Some(Answer::Level(*status)),
         None => None,
     }
 }

@@ -1,14 +1,15 @@
 //! The objects of a scene, each kind numbered from 1 in the order of its lines.
+ghost use Rattle.std.specs.Prelude.{IfOk};
 ghost use Rattle.plan9.specs.Openings.{IsStartOf};
 
-use crate::roles::lone::Spot;
-use crate::roles::sharer::Sharing;
-use crate::scene::{Scene, keep, push};
+use crate::roles::lone::LonePipe;
+use crate::scene::{Scene, keep, push, set};
 use plan9::{
-    Clock, Ends, Fault, Hall, Kernel, OpenedPipe, Parts, Pipe, Pool, ReadEnd, Roster, Watch,
-    WriteEnd,
+    Clock, Ends, Fault, Hall, Kernel, Mode, OpenedPipe, Parts, Pipe, Pool, ReadEnd, Roster, Shared,
+    Unshared, Watch, WriteEnd,
 };
-use scene_text::answer::{Answer, refused};
+use scene_text::answer::Answer;
+use scene_text::line::RoleAt;
 use std::alloc::Global;
 
 /// The ends of one direction that nobody has yet.
@@ -21,63 +22,81 @@ pub struct Direction {
 /// An object to which nobody has come yet, and the end of its Rendez: all of them are below it.
 #[derive(Drop)]
 pub struct Fresh<T: Drop> {
-    pub object: Box<T>,
-    pub end: u64,
+    object: Box<T>,
+    end: u64,
 }
 
-/// What nobody has yet. A pool and a hall are here until their first process comes.
+/// What nobody has yet.
 #[derive(Drop)]
-pub struct Stock {
+pub struct Objects {
     /// Two of each pipe: from the second end to the first, and the other way back.
     pub directions: Vec<Direction>,
     pub pools: Vec<Option<Fresh<Pool>>>,
     pub halls: Vec<Option<Fresh<Hall>>>,
     pub clocks: Vec<Watch<'static>>,
-    pub sharings: Vec<Sharing>,
-    pub lones: Vec<Spot>,
+    pub shared: Vec<Option<Fresh<Shared<'static>>>>,
+    pub lones: Vec<LonePipe>,
 }
 
-impl Stock {
+impl Objects {
     /// No objects.
-    pub fn new(alloc: Global) -> Stock {
-        Stock {
+    pub fn new(alloc: Global) -> Objects {
+        Objects {
             directions: Vec::new(alloc),
             pools: Vec::new(alloc),
             halls: Vec::new(alloc),
             clocks: Vec::new(alloc),
-            sharings: Vec::new(alloc),
+            shared: Vec::new(alloc),
             lones: Vec::new(alloc),
         }
     }
+
+    /// The direction at which a role is.
+    pub fn direction(&mut self, role: RoleAt) -> Option<&mut Direction> {
+        let back = if role.back { 1 } else { 0 };
+        let at = index_of(role.object).saturating_mul(2).saturating_add(back);
+        self.directions.get_mut(at)
+    }
+}
+
+/// Where the object with this number lies, which is counted from 1.
+pub fn index_of(object: u64) -> usize {
+    (object.max(1) - 1) as usize
 }
 
 /// An object that was made has no answer.
 pub fn made(came: Result<(), Fault>) -> Answer {
     match came {
-        Ok(()) => Answer::none(),
-        Err(fault) => refused(fault),
+        Ok(()) => Answer::Nothing,
+        Err(fault) => Answer::Fault(fault),
     }
 }
 
-// Whether there was memory, as an answer.
-fn told(has_room: bool) -> Result<(), Fault> {
-    if has_room { Ok(()) } else { Err(Fault::Memory) }
+/// Whether there was memory, as an answer.
+pub fn has_room(pushed: bool) -> Result<(), Fault> {
+    if pushed { Ok(()) } else { Err(Fault::Memory) }
 }
 
-/// Makes a pipe in message mode, whose ends nobody has yet.
-pub fn make_pipe(alloc: Global, scene: &mut Scene, limit: u64, writers: u64) -> Answer {
-    match Pipe::new(alloc, &mut scene.roster, limit, writers) {
-        Ok(opened) => made(lay_pipe(alloc, &mut scene.stock.directions, opened)),
-        Err(fault) => refused(fault),
+/// A pipe of this mode.
+pub fn open_pipe(
+    alloc: Global,
+    roster: &mut Roster<'static>,
+    limit: u64,
+    writers: u64,
+    mode: Mode,
+) -> Result<OpenedPipe<'static>, Fault>
+    ensures { IfOk result (λ opened. IsStartOf opened.pipe opened.start) }
+{
+    match mode {
+        Mode::Message => Pipe::new(alloc, roster, limit, writers),
+        Mode::Stream => Pipe::new_stream(alloc, roster, limit, writers),
     }
 }
 
-/// Makes a pipe in stream mode, whose ends nobody has yet.
-pub fn make_stream(alloc: Global, scene: &mut Scene, limit: u64, writers: u64) -> Answer {
-    match Pipe::new_stream(alloc, &mut scene.roster, limit, writers) {
-        Ok(opened) => made(lay_pipe(alloc, &mut scene.stock.directions, opened)),
-        Err(fault) => refused(fault),
-    }
+/// Makes a pipe of this mode, whose ends nobody has yet.
+pub fn make_pipe(scene: &mut Scene<'_>, limit: u64, writers: u64, mode: Mode) -> Result<(), Fault> {
+    let opened = open_pipe(scene.alloc, &mut scene.roster, limit, writers, mode)?;
+    lay_pipe(scene.alloc, &mut scene.objects.directions, opened)
 }
 
 // Lays the ends of both directions of a pipe with those that nobody has yet.
@@ -91,8 +110,8 @@ fn lay_pipe(
     let Ends { first, second } = ends_of(alloc, opened)?;
     let Parts { read, writes: back } = first.parts();
     let Parts { read: away, writes } = second.parts();
-    let has_room = push(directions, direction_of(read, writes));
-    told(push(directions, direction_of(away, back)) && has_room)
+    let pushed = push(directions, direction_of(read, writes));
+    has_room(push(directions, direction_of(away, back)) && pushed)
 }
 
 // Keeps a pipe, and takes its two ends.
@@ -115,64 +134,98 @@ fn direction_of(read: ReadEnd<'static>, mut writes: Vec<WriteEnd<'static>>) -> D
 }
 
 /// Makes a semaphore, at which nobody has a seat yet.
-pub fn make_sema(alloc: Global, scene: &mut Scene, units: u32, seats: u64) -> Answer {
-    let opened = Pool::new(alloc, &mut scene.roster, units, seats);
+pub fn make_sema(scene: &mut Scene<'_>, units: u32, seats: u64) -> Result<(), Fault> {
+    let opened = Pool::new(scene.alloc, &mut scene.roster, units, seats)?;
     let end = end_of(scene.kernel, &scene.roster);
-    made(lay(alloc, &mut scene.stock.pools, opened, end))
+    lay(scene.alloc, &mut scene.objects.pools, opened, end)
 }
 
 /// Makes a tag space, to which nobody has come yet.
-pub fn make_space(alloc: Global, scene: &mut Scene, members: u64) -> Answer {
-    let opened = Hall::new(alloc, &mut scene.roster, members);
+pub fn make_space(scene: &mut Scene<'_>, members: u64) -> Result<(), Fault> {
+    let opened = Hall::new(scene.alloc, &mut scene.roster, members)?;
     let end = end_of(scene.kernel, &scene.roster);
-    made(lay(alloc, &mut scene.stock.halls, opened, end))
+    lay(scene.alloc, &mut scene.objects.halls, opened, end)
 }
 
 /// Another space of the size of this one, to which nobody has come yet.
-pub fn make_group(alloc: Global, scene: &mut Scene, object: u64) -> Answer {
-    let Scene {
-        stock,
-        roster,
-        kernel,
-        ..
-    } = scene;
-    let opened = match stock.halls.get((object.max(1) - 1) as usize) {
-        Some(Some(hall)) => hall.object.new_group(alloc, roster),
-        _ => return Answer::of("no space"),
+pub fn make_group(scene: &mut Scene<'_>, object: u64) -> Answer {
+    let opened = match scene.objects.halls.get(index_of(object)) {
+        Some(Some(hall)) => hall.object.new_group(scene.alloc, &mut scene.roster),
+        _ => return Answer::Word("no space"),
     };
-    let end = end_of(kernel, roster);
-    made(lay(alloc, &mut stock.halls, opened, end))
+    match opened {
+        Ok(opened) => {
+            let end = end_of(scene.kernel, &scene.roster);
+            made(lay(scene.alloc, &mut scene.objects.halls, opened, end))
+        }
+        Err(fault) => Answer::Fault(fault),
+    }
 }
 
-/// The end of the Rendez that were given so far.
-pub fn end_of(kernel: &Kernel, roster: &Roster<'static>) -> u64 {
+/// Lets so many processes share the read end of a pipe, if nobody has it. Where that is refused the
+/// end is there again.
+pub fn share(scene: &mut Scene<'_>, object: u64, procs: u64) -> Result<(), Fault> {
+    let place = index_of(object).saturating_mul(2);
+    let Some(direction) = scene.objects.directions.get_mut(place) else {
+        return Err(Fault::NoProc);
+    };
+    let Some(taken) = direction.read.take() else {
+        return Err(Fault::NoProc);
+    };
+    match Shared::new(scene.alloc, &mut scene.roster, taken, procs) {
+        Ok(opened) => {
+            let end = end_of(scene.kernel, &scene.roster);
+            lay(scene.alloc, &mut scene.objects.shared, opened, end)
+        }
+        Err(Unshared { end: back, fault }) => {
+            set(&mut direction.read, Some(back));
+            Err(fault)
+        }
+    }
+}
+
+// The end of the Rendez that were given so far.
+fn end_of(kernel: &Kernel, roster: &Roster<'static>) -> u64 {
     kernel.rendez_count().saturating_sub(roster.left().1)
 }
 
-/// Keeps an object that was made, whose Rendez are below this end.
-pub fn lay<T: Drop>(
+// Keeps an object that was made, whose Rendez are below this end.
+fn lay<T: Drop>(
     alloc: Global,
     kept: &mut Vec<Option<Fresh<T>>>,
-    opened: Result<T, Fault>,
+    opened: T,
     end: u64,
 ) -> Result<(), Fault> {
-    let object = Box::new(alloc, opened?)?;
-    told(push(kept, Some(Fresh { object, end })))
+    let object = Box::new(alloc, opened)?;
+    has_room(push(kept, Some(Fresh { object, end })))
 }
 
-/// What is still here of this number, which is then taken by a process whose kernel has so many
-/// Rendez, if all of the object's are among them.
-pub fn take_at<T: Drop>(
-    kept: &mut Vec<Option<Fresh<T>>>,
-    at: usize,
-    rendez: u64,
-) -> Option<Box<T>> {
-    let place = kept.get_mut(at)?;
-    if !is_known(place, rendez) {
-        return None;
+/// What a process finds that comes to an object.
+#[derive(Drop)]
+pub enum Found<'a, T: Drop> {
+    /// Nobody came before it.
+    Mine(Box<T>),
+    /// Its kernel has not all Rendez of the object, which stays where it is.
+    Foreign(&'a mut T),
+    /// Somebody came before it, or there is no such object.
+    Nothing,
+}
+
+/// What a process finds whose kernel has so many Rendez.
+pub fn find<T: Drop>(kept: &mut Vec<Option<Fresh<T>>>, object: u64, rendez: u64) -> Found<'_, T> {
+    let Some(place) = kept.get_mut(index_of(object)) else {
+        return Found::Nothing;
+    };
+    if is_known(place, rendez) {
+        return match place.take() {
+            Some(Fresh { object, .. }) => Found::Mine(object),
+            None => Found::Nothing,
+        };
     }
-    let Fresh { object, .. } = place.take()?;
-    Some(object)
+    match place {
+        Some(fresh) => Found::Foreign(&mut *fresh.object),
+        None => Found::Nothing,
+    }
 }
 
 // Whether it is still here, and all its Rendez are among the first so many.
@@ -183,25 +236,8 @@ fn is_known<T: Drop>(place: &Option<Fresh<T>>, rendez: u64) -> bool {
     }
 }
 
-/// What is still here of this number, and stays here.
-pub fn lent_at<T: Drop>(kept: &mut Vec<Option<Fresh<T>>>, at: usize) -> Option<&mut T> {
-    match kept.get_mut(at)? {
-        Some(fresh) => Some(&mut *fresh.object),
-        None => None,
-    }
-}
-
 /// Makes timers, whose first seat is that of process 0.
-pub fn make_clock(alloc: Global, scene: &mut Scene, seats: u64) -> Answer {
-    made(lay_clock(alloc, &mut scene.stock.clocks, Clock::new(alloc, seats)))
-}
-
-// Keeps timers, and takes their first seat.
-fn lay_clock(
-    alloc: Global,
-    clocks: &mut Vec<Watch<'static>>,
-    opened: Result<Clock, Fault>,
-) -> Result<(), Fault> {
-    let clock = keep(alloc, opened?)?;
-    told(push(clocks, clock.first()?))
+pub fn make_clock(scene: &mut Scene<'_>, seats: u64) -> Result<(), Fault> {
+    let clock = keep(scene.alloc, Clock::new(scene.alloc, seats)?)?;
+    has_room(push(&mut scene.objects.clocks, clock.first()?))
 }

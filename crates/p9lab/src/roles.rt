@@ -1,5 +1,5 @@
-//! What each role makes of a call. A new role is a file here, a variant of `actor`'s `Role` with an
-//! arm of its `make_call`, and an arm of `casting`'s `cast`.
+//! What each role makes of a call. A new role is a file here, a variant of `caller`'s `Role` with
+//! an arm of its `make_call`, and an arm of `seating`'s `role_for`.
 
 pub mod guest;
 pub mod holder;

@@ -1,7 +1,7 @@
 //! The program on its words: which texts it plays, and the status that says how that went.
 use crate::play::play_text;
-use scene_text::lines::number_of;
 use scene_text::page::Page;
+use scene_text::words::number_of;
 use std::fs::Files;
 use std::io::{ErrorKind, Read, Write};
 use std::sync::Wait;

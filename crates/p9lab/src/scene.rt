@@ -4,21 +4,22 @@
 ghost use Rattle.std.specs.Prelude.{◌≡◌, IfOk};
 ghost use Rattle.sleep_wakeup.specs.Starts.{IsStartOf};
 
-use crate::actor::{Actor, Back};
-use crate::desk::Desk;
-use crate::objects::Stock;
+use crate::caller::{Caller, Reply};
+use crate::kept::KeptLines;
+use crate::objects::Objects;
+use crate::progress::Progress;
 use plan9::{Fault, Kernel, OpenedKernel, Proc, ProcStatus, Roster, Started};
-use scene_text::answer::Visit;
+use scene_text::answer::Shown;
 use std::alloc::Global;
 use std::mem;
 use std::thread::JoinHandle;
 
-/// Where a process is.
+/// Whether a process may make a call.
 #[derive(Drop)]
-pub enum Stay {
-    Here(Actor),
+pub enum State {
+    Here(Caller),
     /// Its call runs on a thread.
-    Out(JoinHandle<Back>),
+    Calls(JoinHandle<Reply>),
     Gone,
 }
 
@@ -26,27 +27,29 @@ pub enum Stay {
 /// own each, and the numbers that no pid has. A stranger's kernel has one more process, which sends
 /// it notes.
 #[derive(Drop)]
-pub struct Place {
+pub struct Process {
     pub number: u64,
     pub kernel: &'static Kernel,
     pub pid: u64,
     pub sender: Option<Proc<'static>>,
-    pub desk: &'static Desk,
-    pub stay: Stay,
+    pub progress: &'static Progress,
+    pub state: State,
 }
 
 #[derive(Drop)]
-pub struct Scene {
+pub struct Scene<'t> {
+    pub alloc: Global,
     /// For how many turns anything is awaited. At each turn others may run.
     pub turns: u64,
     pub kernel: &'static Kernel,
     pub statuses: Vec<ProcStatus>,
     pub roster: Roster<'static>,
     pub zero: Proc<'static>,
-    pub places: Vec<Place>,
+    pub processes: Vec<Process>,
     pub strangers: u64,
-    pub stock: Stock,
-    /// What the acts of the last call were answered.
+    pub objects: Objects,
+    /// The lines that are kept for points of a call, and what the last ones were answered.
+    pub kept: KeptLines<'t>,
     pub told: Vec<u8>,
 }
 
@@ -99,7 +102,11 @@ pub fn begin(alloc: Global, made: Result<OpenedKernel, Fault>) -> Result<Setup, 
 }
 
 /// A scene with this kernel, and nobody but process 0.
-pub fn open(alloc: Global, turns: u64, begun: Result<Setup, Fault>) -> Result<Scene, Fault> {
+pub fn open<'t>(
+    alloc: Global,
+    turns: u64,
+    begun: Result<Setup, Fault>,
+) -> Result<Scene<'t>, Fault> {
     let Setup {
         kernel,
         roster,
@@ -107,14 +114,16 @@ pub fn open(alloc: Global, turns: u64, begun: Result<Setup, Fault>) -> Result<Sc
     } = begun?;
     let statuses = room_for(alloc, kernel.proc_count())?;
     Ok(Scene {
+        alloc,
         turns,
         kernel,
         statuses,
         roster,
         zero,
-        places: Vec::new(alloc),
+        processes: Vec::new(alloc),
         strangers: 0,
-        stock: Stock::new(alloc),
+        objects: Objects::new(alloc),
+        kept: KeptLines::none(),
         told: Vec::new(alloc),
     })
 }
@@ -128,50 +137,40 @@ fn room_for(alloc: Global, procs: u64) -> Result<Vec<ProcStatus>, Fault> {
     Ok(statuses)
 }
 
-impl Scene {
-    /// The place of the process with this number, if it has one. Process 0 has none.
-    pub fn place_of(&self, number: u64) -> Option<usize> {
-        place_at(&self.places, number)
-    }
-}
-
-/// What an answer shows of a process: the bytes that it has read, and the points that its last call
-/// has visited.
-#[derive(Clone, Copy)]
-pub struct Shown<'a> {
-    pub bytes: &'a [u8],
-    pub visits: &'a [Visit],
-}
-
-/// What is shown of the process with this number; nothing where it is not here.
-pub fn shown_of(places: &Vec<Place>, number: u64) -> Shown<'_> {
-    let nothing = Shown {
-        bytes: &[],
-        visits: &[],
-    };
-    let Some(at) = place_at(places, number) else {
-        return nothing;
-    };
-    match places.get(at) {
-        Some(
-            Place {
-                stay: Stay::Here(actor),
-                ..
-            },
-        ) => Shown {
-            bytes: actor.bytes.as_slice(),
-            visits: actor.visits.as_slice(),
-        },
-        _ => nothing,
-    }
-}
-
-/// The place of the process with this number among these.
-pub fn place_at(places: &Vec<Place>, number: u64) -> Option<usize> {
-    for (at, place) in places.iter().enumerate() {
-        if place.number == number {
+/// The place of the process with this number among these, if it has one. Process 0 has none.
+pub fn place_of(processes: &Vec<Process>, number: u64) -> Option<usize> {
+    for (at, process) in processes.iter().enumerate() {
+        if process.number == number {
             return Some(at);
         }
     }
     None
+}
+
+/// What is shown of the process with this number; nothing where it is not here.
+pub fn shown_of(processes: &Vec<Process>, number: u64) -> Shown<'_> {
+    match here_of(processes, number) {
+        Some(caller) => Shown {
+            bytes: caller.means.bytes.as_slice(),
+            visits: caller.visits.as_slice(),
+            told: &[],
+        },
+        None => Shown::nothing(),
+    }
+}
+
+// The process with this number, if it is here.
+fn here_of(processes: &Vec<Process>, number: u64) -> Option<&Caller> {
+    match &processes.get(place_of(processes, number)?)?.state {
+        State::Here(caller) => Some(caller),
+        _ => None,
+    }
+}
+
+/// The process at this place, if it is here.
+pub fn caller_at(processes: &mut Vec<Process>, at: usize) -> Option<&mut Caller> {
+    match &mut processes.get_mut(at)?.state {
+        State::Here(caller) => Some(caller),
+        _ => None,
+    }
 }

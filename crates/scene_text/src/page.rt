@@ -1,6 +1,6 @@
 //! What is printed, and what of it was wanted otherwise.
-use crate::answer::{Answer, Visit};
-use crate::told::{tell, tell_answer};
+use crate::answer::{Answer, Shown};
+use crate::told::tell_answer;
 use std::alloc::Global;
 use std::io;
 use std::io::Write;
@@ -48,34 +48,38 @@ impl Page {
 
     /// Adds a text.
     pub fn put(&mut self, text: &str) {
-        if !tell(&mut self.text, text) {
+        self.put_bytes(text.as_bytes());
+    }
+
+    // Adds bytes.
+    fn put_bytes(&mut self, bytes: &[u8]) {
+        if self.text.extend_from_slice(bytes).is_err() {
             self.lacks = true;
         }
     }
 
-    /// The end of a line that has no answer.
-    pub fn end_line(&mut self) {
-        self.put("\n");
-    }
-
-    /// An answer, with what its process has read and visited, and the end of its line.
-    pub fn put_answer(&mut self, answer: Answer, bytes: &[u8], visits: &[Visit]) {
-        self.put(MARK);
-        if !tell_answer(&mut self.text, answer, bytes, visits) {
-            self.lacks = true;
-        }
-        self.put("\n");
-    }
-
-    /// An answer that was told before, and the end of its line. No text is no answer.
-    pub fn put_told(&mut self, told: &[u8]) {
-        if !told.is_empty() {
-            self.put(MARK);
-            if self.text.extend_from_slice(told).is_err() {
-                self.lacks = true;
+    /// An answer, with what its process has read and visited, or what was told before, and the end
+    /// of the line.
+    pub fn put_answer(&mut self, answer: Answer, shown: Shown<'_>) {
+        match answer {
+            Answer::Nothing => {}
+            Answer::Told(from, to) => self.put_told(shown.told.get(from..to).unwrap_or(&[])),
+            _ => {
+                self.put(MARK);
+                if !tell_answer(&mut self.text, answer, shown) {
+                    self.lacks = true;
+                }
             }
         }
         self.put("\n");
+    }
+
+    // An answer that was told before. No text is no answer.
+    fn put_told(&mut self, told: &[u8]) {
+        if !told.is_empty() {
+            self.put(MARK);
+            self.put_bytes(told);
+        }
     }
 
     /// Where the next answer begins.

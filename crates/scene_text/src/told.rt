@@ -1,9 +1,9 @@
-//! Answers as text, and texts that a call leaves where its process has its bytes. Each function
-//! says whether there was memory.
-use crate::answer::{Answer, More, Visit};
+//! Answers as text. Each function says whether there was memory.
+use crate::answer::{Answer, Shown, Visit};
+use crate::words::{KINDS, word_of};
 use sleep_wakeup::{ProcStatus, RendezStatus};
 use std::io::Write;
-use sync_base::{Note, NoteSet};
+use sync_base::{Fault, NoteSet};
 
 /// From how many bytes on a run of one byte is shown as `N*x`.
 const LONG: usize = 33;
@@ -34,34 +34,39 @@ pub fn tell_number(told: &mut Vec<u8>, number: u64) -> bool {
     write!(told, "{number}").is_ok()
 }
 
-// A space and a number.
-fn tell_after(told: &mut Vec<u8>, number: u64) -> bool {
-    tell(told, " ") && tell_number(told, number)
+// A word, and a number after it.
+fn tell_numbered(told: &mut Vec<u8>, word: &str, number: u64) -> bool {
+    tell(told, word) && tell(told, " ") && tell_number(told, number)
 }
 
-/// An answer, with what its process has read and visited.
-pub fn tell_answer(told: &mut Vec<u8>, answer: Answer, bytes: &[u8], visits: &[Visit]) -> bool {
-    tell(told, answer.word)
-        && tell_more(told, answer.more, bytes, visits)
-        && match answer.behind {
-            Some(number) => tell_after(told, number),
-            None => true,
+/// Adds an answer, with what its process has read and visited.
+pub fn tell_answer(told: &mut Vec<u8>, answer: Answer, shown: Shown<'_>) -> bool {
+    let Shown { bytes, visits, .. } = shown;
+    match answer {
+        Answer::Nothing | Answer::Told(_, _) => true,
+        Answer::Word(word) => tell(told, word),
+        Answer::Number(word, number) => tell_numbered(told, word, number),
+        Answer::Bytes(word, count) => {
+            tell(told, word)
+                && tell(told, " ")
+                && tell_bytes(told, &bytes[..count.min(bytes.len())])
         }
+        Answer::Notes(word, notes) => tell(told, word) && tell_notes(told, notes),
+        Answer::Fault(fault) => tell_fault(told, fault),
+        Answer::Behind(fault, count) => tell_fault(told, fault) && tell_numbered(told, "", count),
+        Answer::Points => tell(told, "points") && tell_points(told, visits, false),
+        Answer::Posted => tell(told, "posted") && tell_points(told, visits, true),
+        Answer::Status(status) => tell_status(told, status),
+        Answer::Level(status) => tell_level(told, status),
+    }
 }
 
-// What comes after the word.
-fn tell_more(told: &mut Vec<u8>, more: More, bytes: &[u8], visits: &[Visit]) -> bool {
-    match more {
-        More::Nothing => true,
-        More::Number(number) => tell_after(told, number),
-        More::Bytes(count) => {
-            tell(told, " ") && tell_bytes(told, &bytes[..count.min(bytes.len())])
-        }
-        More::Notes(notes) => tell_notes(told, notes),
-        More::Points => tell_points(told, visits),
-        More::Posted => tell_posted(told, visits),
-        More::Status(status) => tell_status(told, status),
-        More::Level(status) => tell_level(told, status),
+// A fault by its text, with the notes of an interruption.
+fn tell_fault(told: &mut Vec<u8>, fault: Fault) -> bool {
+    let has_room = write!(told, "{fault}").is_ok();
+    match fault {
+        Fault::Interrupted(notes) => has_room && tell_notes(told, notes),
+        _ => has_room,
     }
 }
 
@@ -70,62 +75,46 @@ fn tell_notes(told: &mut Vec<u8>, notes: NoteSet) -> bool {
     if notes.is_empty() {
         return tell(told, " -");
     }
-    let from = told.len();
-    tell_kind(told, from, notes, Note::Interrupt, "interrupt")
-        && tell_kind(told, from, notes, Note::Hangup, "hangup")
-        && tell_kind(told, from, notes, Note::Alarm, "alarm")
-        && tell_kind(told, from, notes, Note::ClosedPipe, "closed")
-        && tell_kind(told, from, notes, Note::Expired, "expired")
-}
-
-// A kind that is there: after a space if it is the first, and else after a comma.
-fn tell_kind(told: &mut Vec<u8>, from: usize, notes: NoteSet, note: Note, text: &str) -> bool {
-    if !notes.has(note) {
-        return true;
-    }
-    let mark = if told.len() == from { " " } else { "," };
-    tell(told, mark) && tell(told, text)
-}
-
-// Each point that was visited.
-fn tell_points(told: &mut Vec<u8>, visits: &[Visit]) -> bool {
+    let mut mark = " ";
     let mut has_room = true;
-    for visit in visits.iter() {
-        has_room = has_room && tell_after(told, visit.point);
+    for note in KINDS {
+        if notes.has(note) {
+            has_room = has_room && tell(told, mark) && tell(told, word_of(note));
+            mark = ",";
+        }
     }
     has_room
 }
 
-// Those at which the process stood posted; `-` if it did at none.
-fn tell_posted(told: &mut Vec<u8>, visits: &[Visit]) -> bool {
-    let mut found = false;
+// Each point that was visited, or those at which the process stood posted; `-` if it did at none.
+fn tell_points(told: &mut Vec<u8>, visits: &[Visit], posted: bool) -> bool {
+    let mut found = !posted;
     let mut has_room = true;
     for visit in visits.iter() {
-        if visit.posted {
+        if visit.posted || !posted {
             found = true;
-            has_room = has_room && tell_after(told, visit.point);
+            has_room = has_room && tell_numbered(told, "", visit.point);
         }
     }
     if found { has_room } else { tell(told, " -") }
 }
 
-// The Rendez of a process that is posted, its mark, and the notes that are pending.
+// After ps(1): `Wakeme` is posted, and its Rendez stands behind it; any other is `Ready`. Then its
+// mark, and the notes that are pending.
 fn tell_status(told: &mut Vec<u8>, status: ProcStatus) -> bool {
-    let mut has_room = true;
-    if let Some(rendez) = status.posted {
-        has_room = tell_after(told, rendez.0);
-    }
-    if status.marked {
-        has_room = has_room && tell(told, " marked");
-    }
-    has_room && tell_notes(told, status.notes)
+    let has_room = match status.posted {
+        Some(rendez) => tell_numbered(told, "Wakeme", rendez.0),
+        None => tell(told, "Ready"),
+    };
+    let mark = if status.marked { " marked" } else { "" };
+    has_room && tell(told, mark) && tell_notes(told, status.notes)
 }
 
 // The level, and who is posted.
 fn tell_level(told: &mut Vec<u8>, status: RendezStatus) -> bool {
-    let has_room = tell_after(told, status.level);
+    let has_room = tell_numbered(told, "level", status.level);
     match status.posted {
-        Some(pid) => has_room && tell(told, " posted") && tell_after(told, pid.0),
+        Some(pid) => has_room && tell_numbered(told, " posted", pid.0),
         None => has_room && tell(told, " nobody"),
     }
 }

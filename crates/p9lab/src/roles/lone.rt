@@ -1,22 +1,25 @@
 //! A process at a direction with one writer whose two ends lie between calls: whoever calls takes
 //! one up, and lays it down again. So both can be given back at last, whatever threads had them.
-ghost use Rattle.std.specs.Prelude.{◌≡◌, ◌≤◌, [], ◌∷◌, IfOk, IfErr, IfSome};
+ghost use Rattle.std.specs.Prelude.{◌≡◌, ◌≤◌, [], ◌∷◌, IfErr, IfSome};
 ghost use Rattle.std.specs.List.{AllByRecursion};
 ghost use Rattle.std.specs.Vec.{vec_capacity};
 ghost use Rattle.pipe_dev.specs.Ends.{AreAllEnds, IsSameReadEnd, IsSameWriteEnd};
 ghost use Rattle.pipe_dev.specs.Openings.{IsStartOf};
 
+use crate::caller::Means;
+use crate::objects::{has_room, index_of, open_pipe};
 use crate::roles::plain::call_plain;
 use crate::roles::reader::make_room;
-use crate::scene::{keep, push};
+use crate::scene::{Scene, keep, push};
 use counted_slot::{Counted, FREE, Fits, TAKEN};
 use plan9::{
-    Ends, Fault, Held, Long, Mode, OpenedPipe, Parts, Pipe, PipeStart, Proc, ReadEnd, Roster,
-    Unfinished, Watch, WriteEnd, finish,
+    Ends, Fault, Held, Long, Mode, NoProbe, OpenedPipe, Parts, Pipe, PipeStart, Proc, ReadEnd,
+    Unfinished, WriteEnd, finish,
 };
-use scene_text::answer::{Answer, More, have_read, have_tried, have_written, numbered, refused};
+use scene_text::answer::{Answer, NOT_HERE, OK, have_read, have_tried, have_written, numbered};
+use scene_text::line::Call;
 use scene_text::told::{tell, tell_bytes, tell_number};
-use scene_text::verbs::{Call, Verb};
+use scene_text::verbs::Verb;
 use std::alloc::Global;
 use std::snapshot::Snapshot;
 use std::sync::Wait;
@@ -60,7 +63,7 @@ pub struct Both {
 
 /// What the scene keeps of a direction, for each process that is to call there.
 #[derive(Drop)]
-pub struct Spot {
+pub struct LonePipe {
     both: &'static Both,
 }
 
@@ -74,44 +77,20 @@ pub struct Lone {
 // ---- how it is made
 
 /// A pipe with one writer, of whose first direction both ends lie between calls.
-pub fn make_lone(
-    alloc: Global,
-    roster: &mut Roster<'static>,
-    lones: &mut Vec<Spot>,
-    limit: u64,
-    mode: Mode,
-) -> Result<(), Fault> {
-    let both = kept_both(alloc, opened_in(alloc, roster, limit, mode)?)?;
-    if push(lones, Spot { both }) {
-        Ok(())
-    } else {
-        Err(Fault::Memory)
-    }
+pub fn make_lone(scene: &mut Scene<'_>, limit: u64, mode: Mode) -> Result<(), Fault> {
+    let opened = open_pipe(scene.alloc, &mut scene.roster, limit, 1, mode)?;
+    let both = kept_both(scene.alloc, opened)?;
+    has_room(push(&mut scene.objects.lones, LonePipe { both }))
 }
 
 /// Each process at the direction may call at both of its ends.
-pub fn lone_at(lones: &Vec<Spot>, at: usize, proc: Proc<'static>) -> Result<Lone, Fault> {
-    match lones.get(at) {
-        Some(spot) => Ok(Lone {
+pub fn lone_at(lones: &Vec<LonePipe>, object: u64, proc: Proc<'static>) -> Result<Lone, Fault> {
+    match lones.get(index_of(object)) {
+        Some(pipe) => Ok(Lone {
             proc,
-            both: spot.both,
+            both: pipe.both,
         }),
         None => Err(Fault::NoProc),
-    }
-}
-
-// A pipe with one writer, in this mode.
-fn opened_in(
-    alloc: Global,
-    roster: &mut Roster<'static>,
-    limit: u64,
-    mode: Mode,
-) -> Result<OpenedPipe<'static>, Fault>
-    ensures { IfOk result (λ opened. IsStartOf opened.pipe opened.start) }
-{
-    match mode {
-        Mode::Message => Pipe::new(alloc, roster, limit, 1),
-        Mode::Stream => Pipe::new_stream(alloc, roster, limit, 1),
     }
 }
 
@@ -176,31 +155,27 @@ fn swap<X: Fits + Drop, R: Wait>(rt: &R, place: &Counted<Option<X>>, lying: Opti
 }
 
 /// A call of a lone.
-pub fn call_lone<R: Wait>(
-    rt: &R,
-    alloc: Global,
-    lone: &mut Lone,
-    bytes: &mut Vec<u8>,
-    watch: &mut Option<Watch<'_>>,
-    call: Call,
-) -> Answer {
+pub fn call_lone<R: Wait>(rt: &R, lone: &mut Lone, means: &mut Means, call: Call) -> Answer {
+    let Means { alloc, bytes, .. } = means;
     match call.verb {
-        Verb::Read | Verb::TryRead if !make_room(bytes, call.first) => refused(Fault::Memory),
+        Verb::Read | Verb::TryRead if !make_room(bytes, call.first) => {
+            Answer::Fault(Fault::Memory)
+        }
         Verb::Read | Verb::TryRead | Verb::ReadBlock | Verb::HangupRead => {
             at_read_end(rt, lone, bytes, call)
         }
         Verb::Write | Verb::WriteLong | Verb::HangupWrite => {
-            at_write_end(rt, alloc, lone, bytes.as_slice(), call)
+            at_write_end(rt, *alloc, lone, bytes.as_slice(), call)
         }
-        Verb::Finish => finish_both(rt, alloc, lone.both, bytes),
-        _ => call_plain(rt, &mut lone.proc, watch, call),
+        Verb::Finish => finish_both(rt, *alloc, lone.both, bytes),
+        _ => call_plain(rt, &mut lone.proc, means, call, &mut NoProbe),
     }
 }
 
 // A call at the read end, which is taken up for it.
 fn at_read_end<R: Wait>(rt: &R, lone: &mut Lone, bytes: &mut Vec<u8>, call: Call) -> Answer {
     let Some(LyingRead { mut end }) = swap(rt, &lone.both.read, None) else {
-        return Answer::of("not here");
+        return NOT_HERE;
     };
     let answer = call_read_end(rt, &mut lone.proc, &mut end, bytes, call);
     swap(rt, &lone.both.read, Some(LyingRead { end }));
@@ -223,7 +198,7 @@ fn call_read_end<R: Wait>(
         Verb::ReadBlock => have_read(end.read_block(rt, proc, bytes)),
         _ => {
             end.hangup(proc);
-            Answer::of("ok")
+            OK
         }
     }
 }
@@ -237,7 +212,7 @@ fn at_write_end<R: Wait>(
     call: Call,
 ) -> Answer {
     let Some(LyingWrite { mut end }) = swap(rt, &lone.both.write, None) else {
-        return Answer::of("not here");
+        return NOT_HERE;
     };
     let answer = call_write_end(rt, alloc, &mut lone.proc, &mut end, bytes, call);
     swap(rt, &lone.both.write, Some(LyingWrite { end }));
@@ -260,7 +235,7 @@ fn call_write_end<R: Wait>(
         Verb::WriteLong => have_written(write_on(rt, alloc, proc, end, bytes)),
         _ => {
             end.hangup(proc);
-            Answer::of("ok")
+            OK
         }
     }
 }
@@ -297,20 +272,20 @@ fn write_on<R: Wait>(
 #[tactic(auto, using(crate::proofs::LoneLemmas::still_both))]
 fn finish_both<R: Wait>(rt: &R, alloc: Global, both: &Both, told: &mut Vec<u8>) -> Answer {
     let Ok(writes) = Vec::with_capacity(alloc, 1) else {
-        return refused(Fault::Memory);
+        return Answer::Fault(Fault::Memory);
     };
     let Some(LyingRead { end: read }) = swap(rt, &both.read, None) else {
-        return Answer::of("not here");
+        return NOT_HERE;
     };
     let Some(LyingWrite { end: write }) = swap(rt, &both.write, None) else {
         swap(rt, &both.read, Some(LyingRead { end: read }));
-        return Answer::of("not here");
+        return NOT_HERE;
     };
     match give_back(alloc, read, write, writes) {
         Ok(held) => tell_held(&held, told),
         Err(unfinished) => {
             lay_again(rt, both, unfinished);
-            refused(Fault::Memory)
+            Answer::Fault(Fault::Memory)
         }
     }
 }
@@ -359,11 +334,7 @@ fn tell_held(held: &Held, told: &mut Vec<u8>) -> Answer {
             && tell_bytes(told, stored.block.as_slice());
     }
     if !has_room {
-        return refused(Fault::Memory);
+        return Answer::Fault(Fault::Memory);
     }
-    Answer {
-        word: if held.hung { "hungup" } else { "open" },
-        more: More::Bytes(told.len()),
-        behind: None,
-    }
+    Answer::Bytes(if held.hung { "hungup" } else { "open" }, told.len())
 }

@@ -10,8 +10,9 @@ use plan9::{
     Fault, Flags, Forked, Member, NotForked, Pid, Probe, Proc, RendezId, Roster, Tag, TagSpace,
     rfork,
 };
-use scene_text::answer::{Answer, done, numbered};
-use scene_text::verbs::{Call, Verb};
+use scene_text::answer::{Answer, NOT_HERE, NOT_ITS_CALL, OK, done, numbered};
+use scene_text::line::Call;
+use scene_text::verbs::Verb;
 use std::alloc::Global;
 use std::marker::Model;
 use std::sync::Wait;
@@ -96,7 +97,7 @@ pub fn call_peer<R: Wait, P: Probe>(
 ) -> Answer {
     match kept {
         Some(peer) => peer.call(rt, call, probe),
-        None => Answer::of("not here"),
+        None => NOT_HERE,
     }
 }
 
@@ -111,13 +112,13 @@ impl Peer {
         match call.verb {
             Verb::Rendezvous => numbered("met", self.meet(rt, Tag(call.first), call.second, probe)),
             Verb::Note => done("ok", self.proc.postnote(Pid(call.first), call.notes)),
-            Verb::Notes => Answer::noted("notes", self.proc.notes()),
+            Verb::Notes => Answer::Notes("notes", self.proc.notes()),
             Verb::PutBack => {
                 self.proc.put_back(call.notes);
-                Answer::of("ok")
+                OK
             }
-            Verb::Rendez => Answer::counted("rendez", self.member.rendez().0),
-            _ => Answer::of("not its call"),
+            Verb::Rendez => Answer::Number("rendez", self.member.rendez().0),
+            _ => NOT_ITS_CALL,
         }
     }
 

@@ -1,4 +1,4 @@
-//! Where the call of a process stands, as its thread and the player of the scene see it.
+//! How far the call of a process is, as its thread and the player of the scene see it.
 use plan9::{Kernel, Probe, ProcStatus};
 use scene_text::answer::Visit;
 use std::sync::atomic::Ordering::SeqCst;
@@ -13,7 +13,7 @@ const SEEN: usize = 64;
 
 /// What a thread and the player tell each other of a process.
 #[derive(Drop)]
-pub struct Desk {
+pub struct Progress {
     /// For how many turns a call stands at a point. At each turn others may run.
     turns: u64,
     kernel: &'static Kernel,
@@ -23,10 +23,10 @@ pub struct Desk {
     point: AtomicU64,
 }
 
-impl Desk {
+impl Progress {
     /// Of a process that makes no call, for this many turns at a point.
-    pub fn new(turns: u64, kernel: &'static Kernel, pid: u64) -> Desk {
-        Desk {
+    pub fn new(turns: u64, kernel: &'static Kernel, pid: u64) -> Progress {
+        Progress {
             turns,
             kernel,
             pid,
@@ -122,7 +122,7 @@ impl Stops {
 /// The probe of a call on a thread: it writes each visit down, and stands where it is to.
 #[derive(Drop)]
 pub struct Visitor<'a> {
-    pub desk: &'a Desk,
+    pub progress: &'a Progress,
     pub stops: Stops,
     pub visits: &'a mut Vec<Visit>,
 }
@@ -130,10 +130,10 @@ pub struct Visitor<'a> {
 impl<'a> Probe for Visitor<'a> {
     // Writes the visit down, and stands there where it is to.
     fn at(&mut self, point: u64) {
-        let posted = self.desk.is_posted();
+        let posted = self.progress.is_posted();
         let _ = self.visits.push(Visit { point, posted });
         if self.stops.takes(point) {
-            self.desk.stand_at(point);
+            self.progress.stand_at(point);
         }
     }
 }

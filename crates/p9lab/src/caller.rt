@@ -1,0 +1,129 @@
+//! A process in its role, and the calls that a line may make of it.
+use crate::progress::{Progress, Stops, Visitor};
+use crate::roles::guest::call_guest;
+use crate::roles::holder::call_holder;
+use crate::roles::lone::{Lone, call_lone};
+use crate::roles::peer::{Peer, call_peer};
+use crate::roles::plain::call_plain;
+use crate::roles::reader::call_reader;
+use crate::roles::sharer::call_sharer;
+use crate::roles::writer::call_writer;
+use plan9::{Guest, Holder, NoProbe, Probe, Proc, Reader, Sharer, Watch, Writer};
+use scene_text::answer::{Answer, Visit};
+use scene_text::line::Call;
+use scene_text::verbs::Verb;
+use std::alloc::Global;
+use std::sync::Wait;
+
+/// Who a process is.
+#[derive(Drop)]
+pub enum Role {
+    Plain(Proc<'static>),
+    Reader(Reader<'static, 'static>),
+    Writer(Writer<'static, 'static>),
+    Holder(Holder<'static, 'static>),
+    Guest(Guest<'static, 'static>),
+    Sharer(Sharer<'static, 'static, 'static>),
+    Lone(Lone),
+    Peer(Option<Peer>),
+}
+
+/// What a process has for its calls: memory, the bytes that it writes or has read, and its seat at
+/// timers.
+#[derive(Drop)]
+pub struct Means {
+    pub alloc: Global,
+    pub bytes: Vec<u8>,
+    pub watch: Option<Watch<'static>>,
+}
+
+/// A process, the points that its last probed call has visited, and the number of its object.
+#[derive(Drop)]
+pub struct Caller {
+    pub role: Role,
+    pub means: Means,
+    pub visits: Vec<Visit>,
+    pub object: u64,
+}
+
+/// A process behind a call that it made on a thread.
+#[derive(Drop)]
+pub struct Reply {
+    pub caller: Caller,
+    pub answer: Answer,
+}
+
+/// A call on a thread. That it has ended is told last.
+pub fn run<R: Wait>(
+    rt: &R,
+    mut caller: Caller,
+    call: Call,
+    stops: Stops,
+    progress: &'static Progress,
+) -> Reply {
+    let answer = answer_to(rt, &mut caller, call, stops, progress);
+    progress.end();
+    Reply { caller, answer }
+}
+
+// A call of its role. Where it is probed the thread stands at its points.
+fn answer_to<R: Wait>(
+    rt: &R,
+    caller: &mut Caller,
+    call: Call,
+    stops: Stops,
+    progress: &Progress,
+) -> Answer {
+    let Caller {
+        role,
+        means,
+        visits,
+        ..
+    } = caller;
+    if !stops.probed {
+        return make_call(rt, role, means, call, &mut NoProbe);
+    }
+    visits.clear();
+    if !takes_probe(role, call.verb) {
+        return Answer::Word("not probed");
+    }
+    let mut probe = Visitor {
+        progress,
+        stops,
+        visits,
+    };
+    make_call(rt, role, means, call, &mut probe)
+}
+
+// Whether this call of a role takes a probe.
+fn takes_probe(role: &Role, verb: Verb) -> bool {
+    match role {
+        Role::Plain(_) | Role::Reader(_) | Role::Writer(_) => verb == Verb::Sleep,
+        Role::Holder(_) => {
+            verb == Verb::Acquire || verb == Verb::TryAcquire || verb == Verb::AcquireWithin
+        }
+        Role::Guest(_) => verb == Verb::Rendezvous || verb == Verb::RendezvousWithin,
+        Role::Peer(_) => true,
+        Role::Sharer(_) | Role::Lone(_) => false,
+    }
+}
+
+// A call of a role with this probe.
+fn make_call<R: Wait, P: Probe>(
+    rt: &R,
+    role: &mut Role,
+    means: &mut Means,
+    call: Call,
+    probe: &mut P,
+) -> Answer {
+    match role {
+        Role::Plain(proc) => call_plain(rt, proc, means, call, probe),
+        Role::Reader(reader) => call_reader(rt, reader, means, call, probe),
+        Role::Writer(writer) => call_writer(rt, writer, means, call, probe),
+        Role::Holder(holder) => call_holder(rt, holder, means, call, probe),
+        Role::Guest(guest) => call_guest(rt, guest, means, call, probe),
+        Role::Sharer(sharer) => call_sharer(rt, sharer, &mut means.bytes, call),
+        Role::Lone(lone) => call_lone(rt, lone, means, call),
+        Role::Peer(kept) => call_peer(rt, kept, call, probe),
+    }
+}
