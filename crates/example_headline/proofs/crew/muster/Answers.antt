@@ -12,8 +12,8 @@ use Rattle.sleep_wakeup.specs.Kernel.{Running}
 use Rattle.example_headline.specs.declared.writer.Writer.{Writer}
 use Rattle.example_headline.specs.Crew.{AreEnds, HasMadeNone, HasRoom, HaveWoken, ends_of}
 use Rattle.example_headline.specs.Crew.{messages_of}
-use Rattle.example_headline.proofs.HeadlineLemmas.{all_and_one, all_clear, all_count, as_many_writers}
-use Rattle.example_headline.proofs.HeadlineLemmas.{child_of_kernel}
+use Rattle.example_headline.proofs.HeadlineLemmas.{all_and_one, all_clear, all_count}
+use Rattle.example_headline.proofs.HeadlineLemmas.{as_many_writers, child_of_kernel}
 use Rattle.example_headline.proofs.HeadlineLemmas.{none_is_clear, nothing_left, one_pid_gone}
 use Rattle.example_headline.proofs.MineLemmas.{of_mine_weaker}
 use Rattle.example_headline.proofs.crew.muster.Goals as goal
