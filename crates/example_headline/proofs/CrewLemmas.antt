@@ -1,9 +1,9 @@
 -- How a reader and writers go on, by what their ends' calls answer.
 use Rattle.std.proofs.Common.{◌≡◌, ◌≢◌, ◌⊎◌, ◌↔◌, inl, inr, ◌+◌, ◌++◌, ◌<◌, ℕ, suc, List, [], ◌∷◌}
-use Rattle.std.proofs.Common.{length, map, refl, false}
+use Rattle.std.proofs.Common.{length, map, refl, true, false}
 use Rattle.std.proofs.Common.{reverse, sym, ◌∙◌, ap, subst, arith, Some, None}
 use Rattle.std.proofs.Common.{◌≤◌, Bool}
-use Rattle.std.specs.Prelude.{Option, Result, Ok, Err, IsErrOf, take, slice_index_or, vec_items, ⊤}
+use Rattle.std.specs.Prelude.{Option, Result, Ok, Err, IsErrOf, take, slice_index_or, vec_items}
 use Rattle.std.specs.List.{AllByRecursion, AllZip}
 use Rattle.std.proofs.lemmas.List.{append-nil, map-append, reverse-append}
 use Rattle.sync_base.specs.declared.fault.Fault.{Fault}
@@ -23,7 +23,7 @@ use Rattle.pipe_dev.specs.declared.answers.ReadAnswer.{ReadAnswer}
 use Rattle.pipe_dev.specs.declared.answers.ReadAnswer.TheVariants as read
 use Rattle.pipe_dev.specs.declared.row.Row.{Row}
 use Rattle.pipe_dev.specs.Chain.{AddsRead, written_by}
-use Rattle.pipe_dev.specs.Ends.{ReadSide, IsSameReadEnd, IsSameWriteEnd}
+use Rattle.pipe_dev.specs.Ends.{ReadSide, WriteSide, IsSameReadEnd, IsSameWriteEnd}
 use Rattle.pipe_dev.specs.Parts.{Part}
 use Rattle.pipe_dev.specs.declared.filling.Stop.TheVariants as stop
 use Rattle.pipe_dev.specs.ReadCalls.{AsksForBytes, FindsEnd, InMode, Reads, TriesOn}
@@ -36,21 +36,30 @@ use Rattle.pipe_dev.proofs.SideLemmas.{reads_add, read_ends_hang_up, writes_add,
 use Rattle.example_headline.specs.declared.reader.Reader.{Reader}
 use Rattle.example_headline.specs.declared.writer.Writer.{Writer}
 use Rattle.example_headline.specs.Crew.{HasReadOn, HasSeenEnd, HasWrittenOn, CountsAll, EndsFor}
-use Rattle.example_headline.specs.Crew.{HasEnded, HasStopped, HaveWoken, IfItsReader, KeepsAll}
-use Rattle.example_headline.specs.Crew.{OfMine, SeesEnd, StaysEnded, StopsFor, WasRefused}
+use Rattle.example_headline.specs.Crew.{EndsFrom, HasEnded, HasStopped, HaveWoken, IfItsReader}
+use Rattle.example_headline.specs.Crew.{IsClearReader, IsClearWriter, IsQuiet, KeepsAll, OfMine}
+use Rattle.example_headline.specs.Crew.{SeesEnd, StaysEnded, StopsFor, WasRefused}
 use Rattle.example_headline.specs.Crew.{WasStopped, ends_of, messages_of}
-use Rattle.example_headline.specs.Refusals.{TellsWhyRefused, TellsWhyStopped}
-use Rattle.example_headline.proofs.MineLemmas.{of_mine_any, of_mine_more, of_mine_new}
-use Rattle.example_headline.proofs.ReadLemmas.{reads_tell_why, reads_wake}
-use Rattle.example_headline.proofs.RefusalLemmas.{hung_woken, refused_still, stops_still}
+use Rattle.example_headline.specs.Refusals.{HangsUpLast, HasHungUp, IsClear, TellsWhyRefused}
+use Rattle.example_headline.specs.Refusals.{TellsWhyStopped, WasGiven, last_told}
+use Rattle.example_headline.proofs.MineLemmas.{of_mine_more, of_mine_weaker}
+use Rattle.example_headline.proofs.ReadLemmas.{gets_are_clear, reads_quiet, reads_tell_why}
+use Rattle.example_headline.proofs.ReadLemmas.{reads_wake}
+use Rattle.example_headline.proofs.RefusalLemmas.{hung_woken, quiet_is_last, refused_still}
+use Rattle.example_headline.proofs.RefusalLemmas.{stops_still}
 use Rattle.example_headline.proofs.WakeLemmas.{all_more}
-use Rattle.example_headline.proofs.WriteLemmas.{writes_tell_why, writes_wake}
+use Rattle.example_headline.proofs.WriteLemmas.{accepts_clear, writes_quiet, writes_tell_why}
+use Rattle.example_headline.proofs.WriteLemmas.{writes_wake}
 
 -- ---- the reader
 
 -- a refusal is no answer
 pub refusal_is_no_answer : {P : Type 0} (why : Fault) → Err why ≡ Ok false → P
 refusal_is_no_answer why is = cc
+
+-- nor one of bytes
+pub refusal_gets_nothing : {P : Type 0} (why : Fault) → Err why ≡ Ok true → P
+refusal_gets_nothing why is = cc
 
 -- what an answer adds to what was got
 abbrev pub got_by : Result ReadAnswer Fault → List ℕ → List (List ℕ)
@@ -137,20 +146,46 @@ as_read why = Err why
 abbrev pub as_write : Fault → Result ℕ Fault
 as_write why = Err why
 
+-- what was refused nothing has hung nothing up
+quiet_reader : (reader : Reader) → OfMine 0 IsClear reader.end.account → IsQuiet reader
+quiet_reader reader clear =
+    of_mine_weaker 0 reader.end.account IsClear (λ mine. ¬ HasHang mine)
+    (λ mine clear. clear.quiet) clear
+
 -- a read that is refused tells why
 pub read_stops : (old new : Reader) (buffer : List ℕ) (why : Fault) (buffer' : List ℕ)
     → Reads (key_of old.end.queue) old.end.row (calling (reader_of old.end old.proc) buffer)
     (Err why) (calling (reader_of new.end new.proc) buffer') → IsSameReadEnd old.end new.end
     → new.proc.words ≡ old.proc.words → ¬ IsErrOf (as_read why) fault.BadCount
     → (OwnsRow old.proc.words old.end.row → ¬ IsErrOf (as_read why) fault.NoRendez)
-    → StopsFor why new
-read_stops old new buffer why buffer' reads same words some known =
+    → IsClearReader old → StopsFor why new
+read_stops old new buffer why buffer' reads same words some known clear =
     record {
-      told = back old new words same (λ reader. ⊤) (WasStopped why)
-          (λ mode owns none.
-          reads_tell_why (key_of old.end.queue) old.end.row mode (reader_of old.end old.proc)
-          buffer (Err why) (calling (reader_of new.end new.proc) buffer') reads some (known owns))
-          (λ mode owns. tt);
+      told = back old new words same (λ reader. OfMine 0 IsClear reader.end.account)
+          (λ reader. IsQuiet reader × WasStopped why reader)
+          (λ mode owns clear. (
+            reads_quiet (key_of old.end.queue) old.end.row mode (reader_of old.end old.proc)
+                buffer (Err why) (calling (reader_of new.end new.proc) buffer') reads
+                (quiet_reader old clear),
+            reads_tell_why (key_of old.end.queue) old.end.row mode (reader_of old.end old.proc)
+                buffer (Err why) (calling (reader_of new.end new.proc) buffer') reads some
+                (known owns),
+          )) clear.clear;
+    }
+
+-- one that got bytes is still clear
+pub read_clear : (old new : Reader) (buffer : List ℕ) (count : ℕ) (buffer' : List ℕ)
+    → Reads (key_of old.end.queue) old.end.row (calling (reader_of old.end old.proc) buffer)
+    (Ok (read.Got count)) (calling (reader_of new.end new.proc) buffer')
+    → IsSameReadEnd old.end new.end → new.proc.words ≡ old.proc.words → IsClearReader old
+    → IsClearReader new
+read_clear old new buffer count buffer' reads same words clear =
+    record {
+      clear = back old new words same (λ reader. OfMine 0 IsClear reader.end.account)
+          (λ reader. OfMine 0 IsClear reader.end.account)
+          (λ mode owns clear.
+          gets_are_clear (key_of old.end.queue) old.end.row mode (reader_of old.end old.proc)
+          buffer count (calling (reader_of new.end new.proc) buffer') reads clear) clear.clear;
     }
 
 -- the fault that is answered is the one that came
@@ -172,18 +207,25 @@ stops_same reader came why same stops =
 
 -- one that has no memory for it was refused before its read
 pub stops_for_memory : (reader : Reader) (answer : Result Bool Fault) (came why : Fault)
-    → answer ≡ Err came → came ≡ fault.Memory → answer ≡ Err why → StopsFor why reader
-stops_for_memory reader answer came why is memory told =
+    → answer ≡ Err came → came ≡ fault.Memory → answer ≡ Err why → IsClearReader reader
+    → StopsFor why reader
+stops_for_memory reader answer came why is memory told clear =
     stops_same reader fault.Memory why
     (same_fault answer came fault.Memory why is memory told)
-    (record { told = λ mode owns. of_mine_any 0 reader.end.account })
+    (record {
+      told = λ mode owns. (
+        quiet_reader reader (clear.clear mode owns),
+        of_mine_weaker 0 reader.end.account IsClear (λ mine. WasGiven (last_told mine))
+            (λ mine clear. clear.given) (clear.clear mode owns),
+      );
+    })
 
 -- a read that was answered the end has seen it
-pub sees_end : (key : Key) (row : Row) (old end : ReadSide) (before after : Running)
+its_end : (key : Key) (row : Row) (old end : ReadSide) (before after : Running)
     (buffer buffer' : List ℕ) → row.mode ≡ Message
     → Reads key row (calling (reader_of old before) buffer) (Ok read.End)
     (calling (reader_of end after) buffer') → HasSeenEnd end
-sees_end key row old end before after buffer buffer' mode reads = by row.mode mode last.asked
+its_end key row old end before after buffer buffer' mode reads = by row.mode mode last.asked
   where
     last : LastAsked (AsksForBytes key row) (reader_rendez row) read.End
         (lent_at (calling (reader_of end after) buffer')).seat
@@ -207,6 +249,24 @@ sees_end key row old end before after buffer buffer' mode reads = by row.mode mo
           rest = finds.0.rest;
         }
     by Stream is tries = cc
+
+-- and has not hung up, where it was clear
+pub sees_end : (old new : Reader) (buffer buffer' : List ℕ)
+    → Reads (key_of old.end.queue) old.end.row (calling (reader_of old.end old.proc) buffer)
+    (Ok read.End) (calling (reader_of new.end new.proc) buffer')
+    → IsSameReadEnd old.end new.end → new.proc.words ≡ old.proc.words → IsClearReader old
+    → SeesEnd new
+sees_end old new buffer buffer' reads same words clear =
+    record {
+      seen = back old new words same (λ reader. OfMine 0 IsClear reader.end.account) (EndsFor None)
+          (λ mode owns clear. (
+            its_end (key_of old.end.queue) old.end.row old.end new.end old.proc new.proc buffer
+                buffer' mode reads,
+            reads_quiet (key_of old.end.queue) old.end.row mode (reader_of old.end old.proc)
+                buffer (Ok read.End) (calling (reader_of new.end new.proc) buffer') reads
+                (quiet_reader old clear),
+          )) clear.clear;
+    }
 
 -- a reader that hung up has read on: its end has read no more
 module _ (old new : Reader)
@@ -241,17 +301,19 @@ module _ (old new : Reader)
   hung_stops why is stops =
       record {
         ends = subst (λ (stopped : Option Fault). IfItsReader (EndsFor stopped) new) (sym is)
-            (back old new words same (WasStopped why) (EndsFor (Some why))
+            (back old new words same (λ reader. IsQuiet reader × WasStopped why reader)
+            (EndsFor (Some why))
             (λ mode owns was. (
-              of_mine_new (key_of old.end.queue) (Hung 0) 0 old.end.account new.end.account HasHang
-                  enters refl (λ mine. tt),
+              of_mine_more (key_of old.end.queue) (Hung 0) 0 old.end.account new.end.account
+                  (λ mine. ¬ HasHang mine) HasHungUp enters refl
+                  (λ mine quiet. record { hung = tt; last = quiet_is_last mine quiet }) was.0,
               of_mine_more (key_of old.end.queue) (Hung 0) 0 old.end.account new.end.account
                   (λ mine. TellsWhyStopped why mine old.proc.process.trace)
                   (λ mine. TellsWhyStopped why mine new.proc.process.trace) enters refl
                   (λ mine tells.
                   stops_still 0 mine old.proc.process.trace new.proc.process.trace
                   (all_more old.end.row old.proc.process new.proc.process (woken.known owns)) why
-                  tells) was,
+                  tells) was.1,
             )) stops.told);
       }
 
@@ -361,8 +423,8 @@ pub write_refused : (old new : Writer) (block : List ℕ) (why : Fault)
     → old.accepted < length old.messages.items
     → (IsErrOf (as_write why) fault.TooBig → ATOMIC_SIZE < length block)
     → (OwnsRow old.proc.words old.end.row → ¬ IsErrOf (as_write why) fault.NoRendez)
-    → OwnsRow new.proc.words new.end.row → WasRefused why new
-write_refused old new block why writes same words messages accepted is left big known owns =
+    → IsClearWriter old → OwnsRow new.proc.words new.end.row → WasRefused why new
+write_refused old new block why writes same words messages accepted is left big known clear owns =
     let next : block ≡ slice_index_or new.messages.items new.accepted []
     = is
     ∙ (ap (λ ms. slice_index_or (vec_items ms) old.accepted []) (sym messages)
@@ -379,8 +441,38 @@ write_refused old new block why writes same words messages accepted is left big 
           new.end.account) next
           (writes_tell_why (call_of old.end block) (writer_of old.end old.proc) (Err why)
           (writer_of new.end new.proc) writes big
-          (known (kernel_was old new words same owns))));
+          (known (kernel_was old new words same owns)) clear));
     }
+
+-- its seat's own entries are those of the same writer
+there : (old new : WriteSide) (P : List Entry → Type 0) → IsSameWriteEnd old new
+    → OfMine (old.writer + 1) P new.account → OfMine (new.writer + 1) P new.account
+there old new P same of = subst (λ (n : ℕ). OfMine (n + 1) P new.account) (sym same.writer) of
+
+-- a writer whose write was accepted is still clear
+pub accepted_clear : (old : Writer) (end : WriteSide) (proc : Running) (block : List ℕ)
+    (number : ℕ)
+    → Writes (call_of old.end block) (writer_of old.end old.proc) (Ok number) (writer_of end proc)
+    → IsSameWriteEnd old.end end → IsClearWriter old → OfMine (end.writer + 1) IsClear end.account
+accepted_clear old end proc block number writes same clear =
+    there old.end end IsClear same
+    (accepts_clear (call_of old.end block) (writer_of old.end old.proc) number
+    (writer_of end proc) writes clear)
+
+-- and one whose write was refused has hung nothing up
+pub refused_last : (old : Writer) (end : WriteSide) (proc : Running) (block : List ℕ)
+    (why : Fault)
+    → Writes (call_of old.end block) (writer_of old.end old.proc) (Err why) (writer_of end proc)
+    → IsSameWriteEnd old.end end → IsClearWriter old
+    → OfMine (end.writer + 1) HangsUpLast end.account
+refused_last old end proc block why writes same clear =
+    there old.end end HangsUpLast same
+    (of_mine_weaker (old.end.writer + 1) end.account (λ mine. ¬ HasHang mine) HangsUpLast
+    quiet_is_last
+    (writes_quiet (call_of old.end block) (writer_of old.end old.proc) (Err why)
+    (writer_of end proc) writes
+    (of_mine_weaker (old.end.writer + 1) old.end.account IsClear (λ mine. ¬ HasHang mine)
+    (λ mine clear. clear.quiet) clear)))
 
 -- a process of the pipe's kernel is not refused as a foreign one
 pub is_not_foreign : (count : ℕ) (Owns : Type 0) (why : Fault)
@@ -398,9 +490,11 @@ is_not_foreign count Owns why big foreign owns is = by (either count ATOMIC_SIZE
 
 -- a writer one of whose writes was refused has ended
 pub ends_refused : (writer : Writer) (why : Fault) → writer.refused ≡ Some why
-    → (OwnsRow writer.proc.words writer.end.row → WasRefused why writer) → HasEnded writer
-ends_refused writer why is told =
+    → (OwnsRow writer.proc.words writer.end.row → WasRefused why writer)
+    → OfMine (writer.end.writer + 1) HangsUpLast writer.end.account → HasEnded writer
+ends_refused writer why is told last =
     record {
+      last = last;
       all = λ none. let refused : Some why ≡ None = sym is ∙ none in absurd (cc);
       refused = λ other other_is owns.
           let same : Some why ≡ Some other = sym is ∙ other_is in
@@ -408,10 +502,13 @@ ends_refused writer why is told =
     }
 
 -- and so has one all of whose messages are accepted
-pub ends_with_all : (writer : Writer) → writer.refused ≡ None
-    → length writer.messages.items ≤ writer.accepted → HasEnded writer
-ends_with_all writer none most =
+pub ends_with_all : (start writer : Writer) → writer.refused ≡ None
+    → length writer.messages.items ≤ writer.accepted
+    → (IsClearWriter start → IsClearWriter writer) → EndsFrom start writer
+ends_with_all start writer none most clear began =
     record {
+      last = of_mine_weaker (writer.end.writer + 1) writer.end.account IsClear HangsUpLast
+          (λ mine clear. quiet_is_last mine clear.quiet) (clear began);
       all = λ same. most;
       refused = λ why is owns.
           let refused : None ≡ Some why = sym none ∙ is in absurd (cc);
@@ -455,6 +552,10 @@ module _ (old new : Writer)
   pub hung_ended : new.refused ≡ old.refused → StaysEnded old new
   hung_ended refused ended =
       record {
+        last = there old.end new.end HangsUpLast same
+            (of_mine_more (key_of old.end.queue) (Hung (old.end.writer + 1)) (old.end.writer + 1)
+            old.end.account new.end.account HangsUpLast HangsUpLast enters refl
+            (λ mine last. last) ended.last);
         all = λ none.
             let least = ended.all (sym refused ∙ none) in omega (arith, accepted, many, least);
         refused = λ why is owns.
@@ -545,27 +646,41 @@ at_each (old ∷ olds) (new ∷ news) many each = (
 
 -- what is true at each place of what writers have become is true of each of them
 pub ended_at_each : (olds news : List Writer) → length news ≡ length olds
-    → ((i : ℕ) (d : Writer) → i < length olds → HasEnded (slice_index_or news i d))
-    → AllByRecursion HasEnded news
-ended_at_each olds [] many each = tt
+    → ((i : ℕ) (d : Writer) → i < length olds
+    → EndsFrom (slice_index_or olds i d) (slice_index_or news i d))
+    → AllZip EndsFrom olds news
+ended_at_each [] [] many each = tt
 ended_at_each [] (new ∷ news) many each = cc
+ended_at_each (old ∷ olds) [] many each = cc
 ended_at_each (old ∷ olds) (new ∷ news) many each = (
   each 0 old (omega arith),
   ended_at_each olds news (omega (arith, many)) (λ i d low. each (suc i) d (omega (arith, low))),
 )
 
--- writers that had ended have ended still, where that is true at each place
-pub still_ended : (olds news : List Writer) → length news ≡ length olds
+-- writers that have ended have ended still, where that is true at each place
+pub still_ended : (starts olds news : List Writer) → length news ≡ length olds
     → ((i : ℕ) (d : Writer) → i < length olds
     → StaysEnded (slice_index_or olds i d) (slice_index_or news i d))
-    → AllByRecursion HasEnded olds → AllByRecursion HasEnded news
-still_ended olds [] many each ended = tt
-still_ended [] (new ∷ news) many each ended = cc
-still_ended (old ∷ olds) (new ∷ news) many each ended = (
-  each 0 old (omega arith) ended.0,
-  still_ended olds news (omega (arith, many))
+    → AllZip EndsFrom starts olds → AllZip EndsFrom starts news
+still_ended [] [] [] many each ended = tt
+still_ended [] [] (new ∷ news) many each ended = cc
+still_ended [] (old ∷ olds) news many each ended = absurd ended
+still_ended (start ∷ starts) [] news many each ended = absurd ended
+still_ended (start ∷ starts) (old ∷ olds) [] many each ended = cc
+still_ended (start ∷ starts) (old ∷ olds) (new ∷ news) many each ended = (
+  λ clear. each 0 old (omega arith) (ended.0 clear),
+  still_ended starts olds news (omega (arith, many))
       (λ i d low. each (suc i) d (omega (arith, low))) ended.1,
 )
+
+-- writers that began clear have ended
+pub all_ended : (starts news : List Writer) → AllZip EndsFrom starts news
+    → AllByRecursion IsClearWriter starts → AllByRecursion HasEnded news
+all_ended [] [] ended clear = tt
+all_ended [] (new ∷ news) ended clear = absurd ended
+all_ended (start ∷ starts) [] ended clear = absurd ended
+all_ended (start ∷ starts) (new ∷ news) ended clear =
+    (ended.0 clear.0, all_ended starts news ended.1 clear.1)
 
 -- writers that have written on have the same messages
 pub same_messages : (olds news : List Writer) → AllZip HasWrittenOn olds news

@@ -9,10 +9,14 @@ use Rattle.histories.specs.Account.{HasItsEntries, numbers_from}
 use Rattle.histories.specs.History.{entries_by}
 use Rattle.histories.proofs.ListLemmas.{all_past, all_since, all_weaker}
 use Rattle.sync_base.specs.declared.fault.Fault.{Fault}
+use Rattle.sync_base.specs.declared.flags.Flags.{Flags}
 use Rattle.sync_base.specs.declared.mode.Mode.TheVariants.{Message}
 use Rattle.sync_base.specs.Write.{Write}
 use Rattle.rendez_words.specs.declared.words.Words.{Words}
 use Rattle.rendez_words.specs.Process.{Process}
+use Rattle.sleep_wakeup.specs.Forks.{Forks}
+use Rattle.sleep_wakeup.specs.Kernel.{Running, Unused}
+use Rattle.histories.specs.declared.account.Account.{Account}
 use Rattle.block_queue.specs.declared.entry.Entry.{Entry}
 use Rattle.block_queue.specs.declared.entry.Entry.TheVariants.{Hung, Hungup}
 use Rattle.block_queue.specs.declared.queue.Queue.{Queue}
@@ -24,7 +28,7 @@ use Rattle.pipe_dev.specs.declared.row.Row.{Row}
 use Rattle.pipe_dev.specs.Ends.{AreOfOne, ReadSide, WriteSide, reading_of}
 use Rattle.pipe_dev.specs.Finishing.{GivesHeld, accepted_in, left_state, shares_of}
 use Rattle.pipe_dev.specs.Laws.{IsAllWritten}
-use Rattle.pipe_dev.specs.Openings.{IsDirectionStartOf, AreNewEnds, IsNewWriteEnd}
+use Rattle.pipe_dev.specs.Openings.{IsDirectionStartOf, AreNewEnds, IsNewWriteEnd, key_for}
 use Rattle.pipe_dev.specs.Parts.{Part, whole_from, bytes_by}
 use Rattle.pipe_dev.specs.Reading.{IsReading, seen_state}
 use Rattle.pipe_dev.specs.Rendezes.{OwnsRow}
@@ -41,11 +45,13 @@ use Rattle.example_headline.specs.declared.settling.Written.{Written}
 use Rattle.example_headline.specs.declared.writer.Writer.{Writer}
 use Rattle.example_headline.specs.Crew.{IsReady, IsFresh, HasReadOn, HasWrittenOn, OfMine}
 use Rattle.example_headline.specs.Crew.{EndsFor, HasEnded, HasMadeNone, HasWorked, HaveWoken}
-use Rattle.example_headline.specs.Crew.{CountsAll, ends_of, messages_of}
+use Rattle.example_headline.specs.Crew.{CountsAll, HasRoom, IsClearWriter, ends_of, messages_of}
+use Rattle.example_headline.specs.Crew.{written_of}
 use Rattle.example_headline.specs.Headline.{AreFirst, AreTheirs, AreWritersOf, HasHistory}
 use Rattle.example_headline.specs.Headline.{IsReaderOf, IsWholeAndOnce, IsWriterOf, KeepsHeadline}
 use Rattle.example_headline.specs.Headline.{accepted_of}
-use Rattle.example_headline.specs.Refusals.{EachHungupIsAfterHangup}
+use Rattle.example_headline.specs.Refusals.{EachHungupIsAfterHangup, HangsUpLast, HasHungUp}
+use Rattle.example_headline.specs.Refusals.{IsClear}
 use Rattle.example_headline.specs.Refusals.{TellsWhyRefused, TellsWhyStopped}
 use Rattle.example_headline.specs.Wakes.{HasWoken, Wakes}
 use Rattle.example_headline.proofs.CrewLemmas.{same_ends, still_counts}
@@ -80,11 +86,21 @@ fresh_ends queue start read writes is_start mode new =
       each others unwritten.1,
     )
 
+-- as many writers have written on
+as_many : (olds news : List Writer) → AllZip HasWrittenOn olds news → length news ≡ length olds
+as_many [] [] on = refl
+as_many [] (new ∷ news) on = absurd on
+as_many (old ∷ olds) [] on = absurd on
+as_many (old ∷ olds) (new ∷ news) on = ap suc (as_many olds news on.1)
+
 -- a crew that has worked is still ready
 pub still_ready : (old new : Crew) → IsReady old → HasReadOn old.reader new.reader
-    → AllZip HasWrittenOn old.writers.items new.writers.items → IsReady new
-still_ready old new ready reader writers =
+    → AllZip HasWrittenOn old.writers.items new.writers.items → new.room ≡ old.room → IsReady new
+still_ready old new ready reader writers room =
     record {
+      room = subst (HasRoom (length new.writers.items)) (sym room)
+          (subst (λ (n : ℕ). HasRoom n old.room)
+          (sym (as_many old.writers.items new.writers.items writers)) ready.room);
       ends = record {
         all = calls_keep_all_ends old.reader.end new.reader.end (ends_of old.writers.items)
             (ends_of new.writers.items) reader.end
@@ -94,15 +110,6 @@ still_ready old new ready reader writers =
       };
       keeps = reader.keeps ready.keeps;
       counts = still_counts old.writers.items new.writers.items writers ready.counts;
-    }
-
--- what is told of a writer
-abbrev pub written_of : Writer → Written
-written_of writer =
-    record {
-      messages = writer.messages;
-      accepted = writer.accepted;
-      refused = writer.refused;
     }
 
 abbrev first_of : List ℕ → ℕ
@@ -222,6 +229,7 @@ writer_of_history history row writer row_is its counts ended =
                 (slice_index_or writer.messages.items writer.accepted []) mine
                 writer.proc.process.trace) was.told;
           };
+      last = of_writer HangsUpLast ended.last;
       woken = subst (λ (r : Row). AllByRecursion (Wakes (HasWoken (process_of writer)) r)
           (entries_by seat_of number history)) row_is
           (have_woken (process_of writer) writer.end.row (entries_by seat_of number history)
@@ -318,7 +326,7 @@ module _ (crew : Crew) (outcome : Outcome) (worked : HasWorked crew)
         own = given;
         first = firsts;
         all_read = λ none.
-            nothing_is_held read parts writes outcome.held (ends_for None none) (gives parts);
+            nothing_is_held read parts writes outcome.held (ends_for None none).0 (gives parts);
       }
 
   -- what the one history tells
@@ -366,11 +374,12 @@ module _ (crew : Crew) (outcome : Outcome) (worked : HasWorked crew)
       reader_of_history =
           record {
             ended = λ none.
-                is_held_hung read parts writes outcome.held (ends_for None none) (gives parts);
+                is_held_hung read parts writes outcome.held (ends_for None none).0 (gives parts);
+            quiet = λ none. of_reader (λ mine. ¬ HasHang mine) (ends_for None none).1;
             stopped = λ why is.
                 of_reader (λ mine. TellsWhyStopped why mine crew.reader.proc.process.trace)
                 (ends_for (Some why) is).1;
-            hung = λ why is. of_reader HasHang (ends_for (Some why) is).0;
+            hung = λ why is. of_reader HasHungUp (ends_for (Some why) is).0;
             woken = have_woken crew.reader.proc.process read.row (entries_by seat_of 0 history)
                 (of_reader (HaveWoken crew.reader.proc.process.trace read.row)
                 ready.keeps.woken);
@@ -425,7 +434,63 @@ all_count words read writes writers fresh owns ends none kernel =
       each others unused.1 made.1 one.1 zeros.1 kernel.1,
     )
 
+-- a seat that has made no entry is clear
+pub none_is_clear : (number : ℕ) (account : Account Entry) → HasMadeNone number account
+    → OfMine number IsClear account
+none_is_clear number account none =
+    of_mine_weaker number account (λ mine. mine ≡ []) IsClear
+    (λ mine none. subst IsClear (sym none) (record { given = tt; quiet = λ hang. hang })) none
+
+-- so are all writers
+pub all_clear : (writers : List Writer)
+    → AllByRecursion (λ write. HasMadeNone (write.writer + 1) write.account) (ends_of writers)
+    → AllByRecursion IsClearWriter writers
+all_clear [] none = tt
+all_clear (writer ∷ writers) none =
+    (none_is_clear (writer.end.writer + 1) writer.end.account none.0, all_clear writers none.1)
+
 -- a list of no elements
 pub nothing_left : {A : Type 0} (xs : List A) → length xs ≡ 0 → xs ≡ []
 nothing_left [] none = refl
 nothing_left (x ∷ xs) none = cc
+
+-- as many writers as have these ends
+pub as_many_writers : (writers : List Writer) (writes : List WriteSide) → ends_of writers ≡ writes
+    → length writes ≡ length writers
+as_many_writers writers writes are =
+    sym (ap length are) ∙ length-map writers (λ (writer : Writer). writer.end)
+
+-- a new direction has as many write ends as its queue has writers
+pub as_many_ends : (queue : Queue) (start : DirectionStart) (read : ReadSide)
+    (writes : List WriteSide) (limit count : ℕ) → IsDirectionStartOf queue start
+    → AreNewEnds queue start.row read writes → key_of queue ≡ key_for limit count
+    → length writes ≡ count
+as_many_ends queue start read writes limit count is_start new key =
+    sym (length-map writes (λ (write : WriteSide). write.writer))
+    ∙ (ap length new.all.order
+    ∙ (length_numbers 0 read.row.writers
+    ∙ (ap (λ (row : Row). row.writers) new.row_is
+    ∙ (is_start.row_is.writers ∙ ap (λ (k : Key). k.writers) key))))
+
+-- a child takes one pid of the roster
+pub one_pid_gone : (parent : ℕ) (before after : Unused) (flags : Flags) (child : Option Running)
+    (proc : Running) → child ≡ Some proc → Forks parent before flags child after
+    → after.pids.next ≡ before.pids.next + 1
+one_pid_gone parent before after flags None proc is forks = absurd cc
+one_pid_gone parent before after flags (Some child) proc is forks =
+    ap (λ (left : Unused). left.pids.next) forks.2
+
+-- and is a process of the kernel of the roster
+pub child_of_kernel : (parent : ℕ) (before after : Unused) (flags : Flags) (child : Option Running)
+    (proc : Running) → child ≡ Some proc → Forks parent before flags child after
+    → proc.words ≡ before.words
+child_of_kernel parent before after flags None proc is forks = absurd cc
+child_of_kernel parent before after flags (Some child) proc is forks =
+    let same : child ≡ proc = cc in
+    ap (λ (it : Running). it.words) (sym same ∙ forks.1)
+
+-- what holds of each and of one more holds of them and of that
+pub all_and_one : {A : Type 0} (Holds : A → Type 0) (xs : List A) (x : A)
+    → AllByRecursion Holds xs → Holds x → AllByRecursion Holds (xs ++ x ∷ [])
+all_and_one Holds [] x all one = (one, tt)
+all_and_one Holds (y ∷ ys) x all one = (all.0, all_and_one Holds ys x all.1 one)

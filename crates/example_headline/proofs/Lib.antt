@@ -7,4 +7,5 @@ pub mod RefusalLemmas
 pub mod CrewLemmas
 pub mod EndLemmas
 pub mod HeadlineLemmas
+pub mod RunLemmas
 mod WorkedOutcomes

@@ -1,6 +1,6 @@
 -- What holds of a seat's own entries, as they become more, and of the same entries in the history.
-use Rattle.std.proofs.Common.{◌≡◌, ◌||◌, eqb, ℕ, ◌+◌, Bool, true, false, if◌then◌else◌, arith, refl}
-use Rattle.std.proofs.Common.{List, [], ◌∷◌, ◌++◌, map, sym, subst}
+use Rattle.std.proofs.Common.{◌≡◌, ◌||◌, eqb, ℕ, Bool, true, false, if◌then◌else◌, arith, refl}
+use Rattle.std.proofs.Common.{List, [], ◌∷◌, map, sym, subst}
 use Rattle.std.specs.Prelude.{IsTrue, ⊤}
 use Rattle.std.specs.List.{AllByRecursion}
 use Rattle.std.proofs.lemmas.Bool.Decides.{nat_tests}

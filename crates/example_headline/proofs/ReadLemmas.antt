@@ -1,7 +1,7 @@
 -- What a read of messages leaves: the wakeups that it owes have returned, and a refusal is told as
 -- it was.
-use Rattle.std.proofs.Common.{◌≡◌, ◌⊎◌, ◌+◌, inl, inr, ℕ, List, ◌∷◌, refl, sym, subst}
-use Rattle.std.specs.Prelude.{Result, Ok, Err, IsErrOf, ⊤, Some}
+use Rattle.std.proofs.Common.{◌≡◌, ◌⊎◌, ◌+◌, inl, inr, ℕ, List, ◌∷◌, refl, sym, ◌∙◌, subst}
+use Rattle.std.specs.Prelude.{Result, Ok, Err, IsErrOf, ⊤, Some, None}
 use Rattle.histories.specs.declared.account.Account.{Account}
 use Rattle.histories.proofs.ListLemmas.{past_refl}
 use Rattle.sync_base.specs.declared.fault.Fault.{Fault}
@@ -29,10 +29,11 @@ use Rattle.pipe_dev.specs.ReadCalls.{AsksForBytes, Calling, FindsEnd, FindsNone,
 use Rattle.pipe_dev.specs.ReadCalls.{GivesBytes, GoesOn, InMode, Reader, Reads, TakesOut, TriesOn}
 use Rattle.pipe_dev.specs.ReadCalls.{calling_at, came_to, lent_at, reading}
 use Rattle.pipe_dev.specs.Rendezes.{reader_rendez}
+use Rattle.pipe_dev.specs.WriteCalls.{HasHang}
 use Rattle.waiting.specs.Waiting.{Point, Waited, WaitPoint, reply_of}
 use Rattle.waiting.specs.declared.call.Reply.TheVariants.{Wait}
 use Rattle.example_headline.specs.Crew.{HaveWoken, OfMine}
-use Rattle.example_headline.specs.Refusals.{TellsWhyStopped, WasAnswered, last_told}
+use Rattle.example_headline.specs.Refusals.{IsClear, TellsWhyStopped, WasAnswered, last_told}
 use Rattle.example_headline.specs.Wakes.{HasReturnedIn, Wakes}
 use Rattle.example_headline.proofs.MineLemmas.{of_mine_more, of_mine_new}
 use Rattle.example_headline.proofs.MineLemmas.{of_mine_weaker}
@@ -53,6 +54,19 @@ module _ (key : Key) (row : Row) (mode : row.mode ≡ Message) (start : Reader) 
   Why (Ok its) at = ⊤
   Why (Err why) at = Mine (λ mine. TellsWhyStopped why mine at.process.trace) at
 
+  -- its seat has hung nothing up
+  abbrev pub Quiet : Reader → Type 0
+  Quiet at = Mine (λ mine. ¬ HasHang mine) at
+
+  -- nor was it refused anything
+  abbrev pub Clear : Reader → Type 0
+  Clear at = Mine IsClear at
+
+  -- so it is behind a read that got bytes
+  abbrev pub Went : Result ReadAnswer Fault → Reader → Type 0
+  Went (Ok (read.Got count)) at = Clear at
+  Went other at = ⊤
+
   -- the reader of a call
   abbrev who : Point Lending → Reader
   who at = (calling_at at).reader
@@ -60,12 +74,18 @@ module _ (key : Key) (row : Row) (mode : row.mode ≡ Message) (start : Reader) 
   -- while it waits
   record IsWaiting (at : WaitPoint Lending) : Type 0 where
     woken : Woken start → Woken (who at.at)
+    quiet : Quiet start → Quiet (who at.at)
+    rest : (who at.at).rest ≡ None
     told : Mine (λ mine. last_told mine ≡ Some (entry.NotYet at.number)) (who at.at)
 
   -- and when it is answered
   pub record IsAnswered (answer : Result ReadAnswer Fault) (at : Point Lending) : Type 0 where
     -- its wakeups have returned, if they had
     pub woken : Woken start → Woken (who at)
+    -- it has hung up no more than before
+    pub quiet : Quiet start → Quiet (who at)
+    -- and is clear where it got bytes and was so
+    pub went : Clear start → Went answer (who at)
     -- and a refusal is told
     pub why : Why answer (who at)
 
@@ -125,6 +145,69 @@ module _ (key : Key) (row : Row) (mode : row.mode ≡ Message) (start : Reader) 
       finds entry.End old.reader new.reader found.0 refl tt
   answered old new (Err why) asks = absurd asks
 
+  -- an entry more, which is no hangup
+  enters_quiet : (made : Entry) (old new : Reader) → Enters key made old.account new.account
+      → seat_of made ≡ 0 → ((mine : List Entry) → ¬ HasHang mine → ¬ HasHang (made ∷ mine))
+      → Quiet old → Quiet new
+  enters_quiet made old new entered by_it still quiet =
+      of_mine_more key made 0 old.account new.account (λ mine. ¬ HasHang mine)
+      (λ mine. ¬ HasHang mine) entered by_it still quiet
+
+  -- so of a read that got bytes
+  gets_quiet : (old new : Reader) (left : Part)
+      → GoesOn old left new ⊎ TakesOut key row old left new → Quiet old → Quiet new
+  gets_quiet old new left (inl goes) quiet =
+      subst (λ (account : Account Entry). OfMine 0 (λ mine. ¬ HasHang mine) account)
+      (sym goes.account) quiet
+  gets_quiet old new left (inr takes) quiet =
+      enters_quiet (entry.Block left.writer left.bytes (left.place + 1)) old new takes.taken refl
+      (λ mine none. none) quiet
+
+  -- it was refused nothing, where it had not been while it went on with a write
+  gets_clear : (old new : Reader) (left : Part)
+      → GoesOn old left new ⊎ TakesOut key row old left new
+      → (old.rest ≡ Some left → Clear old) → Quiet old → Clear new
+  gets_clear old new left (inl goes) clear quiet =
+      subst (λ (account : Account Entry). OfMine 0 IsClear account) (sym goes.account)
+      (clear goes.left_is)
+  gets_clear old new left (inr takes) clear quiet =
+      of_mine_more key (entry.Block left.writer left.bytes (left.place + 1)) 0 old.account
+      new.account (λ mine. ¬ HasHang mine) IsClear takes.taken refl
+      (λ mine none. record { given = tt; quiet = none }) quiet
+
+  answered_quiet : (old new : Calling) (told : Result ReadAnswer Fault)
+      → AsksForBytes key row old (reply_of told) new → Quiet old.reader → Quiet new.reader
+  answered_quiet old new (Ok (read.Got count)) asks =
+      let got : Gets key row old count new
+      = subst (λ (m : Mode). InMode m (Gets key row old count new)
+      (GivesBytes key row old count new)) mode asks in
+      gets_quiet old.reader new.reader got.left got.next
+  answered_quiet old new (Ok read.End) asks =
+      let found : FindsEnd key old.reader new.reader × (new.buffer ≡ old.buffer)
+      = subst (λ (m : Mode).
+      InMode m (FindsEnd key old.reader new.reader × (new.buffer ≡ old.buffer))
+      (TriesOn key row old (came_to 0 stop.End) new)) mode asks in
+      enters_quiet entry.End old.reader new.reader found.0.entered refl (λ mine none. none)
+  answered_quiet old new (Err why) asks = absurd asks
+
+  went : (old new : Calling) (told : Result ReadAnswer Fault)
+      → AsksForBytes key row old (reply_of told) new
+      → ((left : Part) → old.reader.rest ≡ Some left → Clear old.reader) → Quiet old.reader
+      → Went told new.reader
+  went old new (Ok (read.Got count)) asks clear quiet =
+      let got : Gets key row old count new
+      = subst (λ (m : Mode). InMode m (Gets key row old count new)
+      (GivesBytes key row old count new)) mode asks in
+      gets_clear old.reader new.reader got.left got.next (clear got.left) quiet
+  went old new (Ok read.End) asks clear quiet = tt
+  went old new (Err why) asks clear quiet = tt
+
+  -- what was refused nothing has hung nothing up
+  is_quiet : (at : Reader) → Clear at → Quiet at
+  is_quiet at clear =
+      of_mine_weaker 0 at.account IsClear (λ mine. ¬ HasHang mine) (λ mine clear. clear.quiet)
+      clear
+
   over : (old new : Calling) (told : Result ReadAnswer Fault)
       → AsksForBytes key row old (reply_of told) new → Why told new.reader
   over old new (Ok its) asks = tt
@@ -139,11 +222,15 @@ module _ (key : Key) (row : Row) (mode : row.mode ≡ Message) (start : Reader) 
       (TriesOn key row old (came_to 0 (stop.NotYet told)) new)) mode asks).0
 
   waits : (old new : Point Lending) (told : ℕ) → (Woken start → Woken (who old))
+      → (Quiet start → Quiet (who old))
       → AsksForBytes key row (calling_at old) (Wait told) (calling_at new)
       → IsWaiting (record { at = new; number = told })
-  waits old new told woken asks =
+  waits old new told woken quiet asks =
       let found = not_yet (calling_at old) (calling_at new) told asks in
       record {
+        quiet = λ had. enters_quiet (entry.NotYet told) (who old) (who new) found.none.entered refl
+            (λ mine none. none) (quiet had);
+        rest = found.none.rest;
         woken = λ had. finds (entry.NotYet told) (who old) (who new) found.none refl tt (woken had);
         told = of_mine_new key (entry.NotYet told) 0 (who old).account (who new).account
             (λ mine. last_told mine ≡ Some (entry.NotYet told)) found.none.entered refl
@@ -164,6 +251,8 @@ module _ (key : Key) (row : Row) (mode : row.mode ≡ Message) (start : Reader) 
             steps (who old.at) after refl
             (sleep_more old.at.process (reader_rendez row) old.number notes new failed.0)
             (on.woken had);
+        quiet = on.quiet;
+        went = λ had. tt;
         why = of_mine_weaker 0 after.account
             (λ mine. last_told mine ≡ Some (entry.NotYet old.number))
             (λ mine. TellsWhyStopped (fault.Interrupted notes) mine new.trace)
@@ -180,6 +269,8 @@ module _ (key : Key) (row : Row) (mode : row.mode ≡ Message) (start : Reader) 
             (step_more old.at.process old.at.process
             (Post (pid_in old.at.process) (reader_rendez row) old.number) answer.DoubleSleep
             (past_refl old.at.process.trace))) (on.woken had);
+        quiet = on.quiet;
+        went = λ had. tt;
         why = of_mine_weaker 0 after.account
             (λ mine. last_told mine ≡ Some (entry.NotYet old.number))
             (λ mine. TellsWhyStopped fault.DoubleSleep mine new.trace)
@@ -205,19 +296,29 @@ module _ (key : Key) (row : Row) (mode : row.mode ≡ Message) (start : Reader) 
     waited told new (inl begun) =
         record {
           woken = answered (calling_at first) (calling_at new) told begun;
+          quiet = answered_quiet (calling_at first) (calling_at new) told begun;
+          went = λ clear.
+              went (calling_at first) (calling_at new) told begun (λ left is. clear)
+              (is_quiet start clear);
           why = over (calling_at first) (calling_at new) told begun;
         }
     waited told new (inr begins) =
         wait_over (reading key row) (reader_rendez row) IsWaiting IsAnswered
         (λ old its new on asks.
         waits (record { seat = old.at.seat; process = asks.woken }) new its
-        (slept old asks.woken on asks.slept) asks.asked)
+        (slept old asks.woken on asks.slept) on.quiet asks.asked)
         (λ old its new on asks.
         let woken : Point Lending = record { seat = old.at.seat; process = asks.woken } in
         record {
           woken = λ had.
               answered (calling_at woken) (calling_at new) its asks.asked
               (slept old asks.woken on asks.slept had);
+          quiet = λ had.
+              answered_quiet (calling_at woken) (calling_at new) its asks.asked (on.quiet had);
+          went = λ clear.
+              went (calling_at woken) (calling_at new) its asks.asked
+              (λ left is. let some : None ≡ Some left = sym on.rest ∙ is in absurd (cc))
+              (on.quiet (is_quiet start clear));
           why = over (calling_at woken) (calling_at new) its asks.asked;
         })
         (λ old why new on leaves.
@@ -225,7 +326,8 @@ module _ (key : Key) (row : Row) (mode : row.mode ≡ Message) (start : Reader) 
         IsAnswered (Err why) (record { seat = seat; process = new.process })) (sym leaves.left)
         (fails old why new.process on leaves.failed))
         (λ old new out late. late) begins.first told new
-        (waits first begins.first.at begins.first.number (λ had. had) begins.begun) begins.waited
+        (waits first begins.first.at begins.first.number (λ had. had) (λ had. had) begins.begun)
+        begins.waited
 
     abbrev Reading : Result ReadAnswer Fault → Calling → Type 0
     Reading told new = Reads key row (record { reader = start; buffer = buffer }) told new
@@ -239,6 +341,22 @@ module _ (key : Key) (row : Row) (mode : row.mode ≡ Message) (start : Reader) 
     reads_wake (Err fault.NoRendez) new none =
         subst (λ (r : Reader). Woken start → Woken r) (sym none.same) (λ had. had)
     reads_wake (Err why) new reads = (waited (Err why) (lent_at new) reads).woken
+
+    -- a read is no hangup
+    pub reads_quiet : (told : Result ReadAnswer Fault) (new : Calling) → Reading told new
+        → Quiet start → Quiet new.reader
+    reads_quiet (Ok its) new reads = (waited (Ok its) (lent_at new) reads).quiet
+    reads_quiet (Err fault.BadCount) new none =
+        subst (λ (r : Reader). Quiet start → Quiet r) (sym none.same) (λ had. had)
+    reads_quiet (Err fault.NoRendez) new none =
+        subst (λ (r : Reader). Quiet start → Quiet r) (sym none.same) (λ had. had)
+    reads_quiet (Err why) new reads = (waited (Err why) (lent_at new) reads).quiet
+
+    -- and one that got bytes is no refusal
+    pub gets_are_clear : (count : ℕ) (new : Calling) → Reading (Ok (read.Got count)) new
+        → Clear start → Clear new.reader
+    gets_are_clear count new reads =
+        (waited (Ok (read.Got count)) (lent_at new) reads).went
 
     -- and a refusal is told as it was
     pub reads_tell_why : (told : Result ReadAnswer Fault) (new : Calling) → Reading told new

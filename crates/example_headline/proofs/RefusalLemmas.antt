@@ -1,5 +1,5 @@
 -- What is told of a refusal stays told when the seat hangs up, and its wakeups have returned.
-use Rattle.std.proofs.Common.{ℕ, List, ◌∷◌, refl}
+use Rattle.std.proofs.Common.{ℕ, List, [], ◌∷◌, refl}
 use Rattle.histories.specs.declared.account.Account.{Account}
 use Rattle.histories.specs.History.{IsPast}
 use Rattle.sync_base.specs.declared.fault.Fault.{Fault}
@@ -14,8 +14,9 @@ use Rattle.block_queue.specs.declared.view.Key.{Key}
 use Rattle.block_queue.specs.Meaning.{Enters}
 use Rattle.pipe_dev.specs.declared.row.Row.{Row}
 use Rattle.pipe_dev.specs.Rendezes.{WakesAll}
+use Rattle.pipe_dev.specs.WriteCalls.{HasHang}
 use Rattle.example_headline.specs.Crew.{HaveWoken, OfMine}
-use Rattle.example_headline.specs.Refusals.{TellsWhyRefused, TellsWhyStopped}
+use Rattle.example_headline.specs.Refusals.{HangsUpLast, TellsWhyRefused, TellsWhyStopped}
 use Rattle.example_headline.proofs.MineLemmas.{of_mine_more}
 use Rattle.example_headline.proofs.WakeLemmas.{all_more, all_returned, answered_still, woken_still}
 
@@ -23,7 +24,7 @@ module _ (seat : ℕ) (mine : List Entry) (old new : List core.Entry) (past : Is
   -- a hangup leaves it so that a reader tells why it stopped
   pub stops_still : (why : Fault) → TellsWhyStopped why mine old
       → TellsWhyStopped why (Hung seat ∷ mine) new
-  stops_still fault.Memory tells = tt
+  stops_still fault.Memory tells = tells
   stops_still (fault.Interrupted notes) tells =
       (tells.0, (tells.1.0, answered_still (ending_of notes) old new past tells.1.1))
   stops_still fault.DoubleSleep tells =
@@ -35,7 +36,7 @@ module _ (seat : ℕ) (mine : List Entry) (old new : List core.Entry) (past : Is
       → TellsWhyRefused why writer block mine old
       → TellsWhyRefused why writer block (Hung seat ∷ mine) new
   refused_still writer block fault.TooBig tells = tells
-  refused_still writer block fault.Memory tells = tt
+  refused_still writer block fault.Memory tells = tells
   refused_still writer block fault.Hungup tells = tells
   refused_still writer block fault.Worn tells = tells
   refused_still writer block (fault.Interrupted notes) tells =
@@ -43,6 +44,12 @@ module _ (seat : ℕ) (mine : List Entry) (old new : List core.Entry) (past : Is
   refused_still writer block fault.DoubleSleep tells =
       (tells.0, answered_still answer.DoubleSleep old new past tells.1)
   refused_still writer block other tells = absurd tells
+
+-- a seat that has hung nothing up has asked for nothing behind a hangup of it
+pub quiet_is_last : (mine : List Entry) → ¬ HasHang mine → HangsUpLast mine
+quiet_is_last [] quiet = tt
+quiet_is_last (Hung seat ∷ past) quiet = absurd (quiet tt)
+quiet_is_last (entry ∷ past) quiet = quiet
 
 -- whoever hung up has woken everybody
 pub hung_woken : (key : Key) (row : Row) (number : ℕ) (old new : Account Entry)

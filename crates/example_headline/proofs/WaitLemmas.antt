@@ -1,6 +1,6 @@
 -- What holds of a call that waits and at its end, of its seat and of its process, where a sleep
 -- that fails is answered as such.
-use Rattle.std.proofs.Common.{◌≡◌, ℕ, zero, suc, Option, Some, None, Result, Ok, Err, sym, subst}
+use Rattle.std.proofs.Common.{◌≡◌, ℕ, zero, suc, Some, None, Result, Err, sym, subst}
 use Rattle.sync_base.specs.declared.fault.Fault.{Fault}
 use Rattle.sync_base.specs.declared.ids.RendezId.{RendezId}
 use Rattle.rendez_words.specs.Process.{Process}

@@ -1,6 +1,6 @@
 -- The steps of a process become more, and a wakeup that has returned in them stays so.
-use Rattle.std.proofs.Common.{◌≡◌, ◌⊎◌, ◌<◌, inl, inr, ℕ, zero, suc, List, [], ◌∷◌, ◌++◌, refl, sym}
-use Rattle.std.proofs.Common.{Option, None, Some, ap, subst, arith}
+use Rattle.std.proofs.Common.{◌≡◌, ◌⊎◌, ◌<◌, inl, inr, ℕ, zero, suc, List, [], ◌∷◌, ◌++◌, sym}
+use Rattle.std.proofs.Common.{Option, None, Some, subst, arith}
 use Rattle.std.specs.List.{cons_option, AllByRecursion}
 use Rattle.histories.specs.History.{IsPast}
 use Rattle.histories.proofs.ListLemmas.{all_weaker, past_refl, past_cons, past_append, past_trans}
@@ -27,7 +27,7 @@ use Rattle.pipe_dev.specs.declared.row.Row.{Row}
 use Rattle.pipe_dev.specs.Rendezes.{WakesAll, WakesWriters, reader_rendez, writer_rendez}
 use Rattle.example_headline.specs.Crew.{HaveWoken}
 use Rattle.example_headline.specs.Refusals.{WasAnswered}
-use Rattle.example_headline.specs.Wakes.{EachWriter, HasReturnedIn, HasWoken, Wakes}
+use Rattle.example_headline.specs.Wakes.{HasReturnedIn, HasWoken, Wakes}
 
 -- ---- steps become more
 

@@ -1,8 +1,9 @@
 -- What is told of a refusal, what wakes whom, and outcomes that break the headline, each against
 -- one row or clause.
-use Rattle.std.proofs.Common.{◌≡◌, ◌≢◌, ◌+◌, ◌<◌, eqb, ℕ, Bool, true, false, ap, arith, refl}
+use Rattle.std.proofs.Common.{◌≡◌, ◌≢◌, ◌↔◌, inl, inr, ◌+◌, ◌<◌, ◌≤◌, eqb, ℕ, Bool}
+use Rattle.std.proofs.Common.{true, false, ap, arith, refl, map}
 use Rattle.std.proofs.Common.{if◌then◌else◌, List, [], ◌∷◌, length, Some, None, sym, ◌∙◌, subst}
-use Rattle.std.specs.Prelude.{Option, slice_index_or}
+use Rattle.std.specs.Prelude.{Option, Result, Err, IsErrOf, slice_index_or}
 use Rattle.std.specs.List.{AllByRecursion}
 use Rattle.histories.specs.History.{entries_by}
 use Rattle.sync_base.specs.declared.fault.Fault.{Fault}
@@ -12,21 +13,32 @@ use Rattle.sync_base.specs.declared.note.Note.TheVariants.{Alarm}
 use Rattle.sync_base.specs.NoteSet.{no_notes, only}
 use Rattle.sleep_core.specs.Runs as core
 use Rattle.rendez_words.specs.Process.{Process}
+use Rattle.rendez_words.specs.Words.{procs_of}
+use Rattle.sleep_wakeup.specs.Kernel.{Unused}
 use Rattle.block_queue.specs.declared.entry.Entry.{Entry}
-use Rattle.block_queue.specs.declared.entry.Entry.TheVariants.{Taken, Stood, Full, Hungup, Worn}
+use Rattle.block_queue.specs.declared.entry.Entry.TheVariants.{Taken, Stood, Full, Hungup}
 use Rattle.block_queue.specs.declared.entry.Entry.TheVariants.{Block, NotYet, End, Hung}
 use Rattle.block_queue.specs.declared.view.Key.{Key}
 use Rattle.block_queue.specs.History.{seat_of}
+use Rattle.block_queue.specs.Opening.{IsBadQueue}
 use Rattle.pipe_dev.specs.declared.row.Row.{Row}
 use Rattle.pipe_dev.specs.Finishing.{left_state}
 use Rattle.pipe_dev.specs.Rendezes.{reader_rendez}
 use Rattle.pipe_dev.specs.WriteCalls.{HasHang}
+use Rattle.example_headline.specs.declared.settling.Ending.{Ending}
 use Rattle.example_headline.specs.declared.settling.Outcome.{Outcome}
+use Rattle.example_headline.specs.declared.settling.Told.{Told}
 use Rattle.example_headline.specs.declared.settling.Written.{Written}
-use Rattle.example_headline.specs.Headline.{AreFirst, AreWritersOf, KeepsHeadline}
-use Rattle.example_headline.specs.Refusals.{EachHungupIsAfterHangup, TellsWhyRefused}
-use Rattle.example_headline.specs.Refusals.{TellsWhyStopped, last_told}
+use Rattle.example_headline.specs.declared.writer.Writer.{Writer}
+use Rattle.example_headline.specs.Crew.{HasEnded, WhyNotMustered, written_of}
+use Rattle.example_headline.specs.Headline.{AreFirst, AreWritersOf, HasHistory, IsToldOfWork}
+use Rattle.example_headline.specs.Headline.{KeepsHeadline}
+use Rattle.example_headline.specs.Refusals.{EachHungupIsAfterHangup, HangsUpLast, HasHungUp}
+use Rattle.example_headline.specs.Refusals.{TellsWhyRefused, TellsWhyStopped, last_told}
 use Rattle.example_headline.specs.Wakes.{HasReturnedIn, Wakes}
+
+abbrev as_refused : Fault → Result Ending Fault
+as_refused why = Err why
 
 abbrev byte : List ℕ
 byte = 1 ∷ []
@@ -50,6 +62,19 @@ module _ (steps : List core.Entry) where
 
   another_write_was_hungup : ¬ TellsWhyRefused fault.Hungup 0 byte (Hungup 0 [] ∷ []) steps
   another_write_was_hungup tells = cc
+
+  hungup_is_told_as_memory : ¬ TellsWhyRefused fault.Memory 0 byte (Hungup 0 byte ∷ []) steps
+  hungup_is_told_as_memory tells = tells
+
+  full_is_told_as_memory : ¬ TellsWhyRefused fault.Memory 0 byte (Full 0 byte 1 ∷ []) steps
+  full_is_told_as_memory tells = tells
+
+  there_is_no_memory_for_the_first : TellsWhyRefused fault.Memory 0 byte [] steps
+  there_is_no_memory_for_the_first = tt
+
+  there_is_no_memory_for_the_next :
+      TellsWhyRefused fault.Memory 0 byte (Stood 0 1 ∷ Taken 0 [] 1 ∷ []) steps
+  there_is_no_memory_for_the_next = tt
 
   hungup_is_told_as_worn : ¬ TellsWhyRefused fault.Worn 0 byte (Hungup 0 byte ∷ []) steps
   hungup_is_told_as_worn tells = cc
@@ -80,6 +105,15 @@ module _ (steps : List core.Entry) where
   reader_finds_another_that_did_not_wait : ¬ TellsWhyStopped fault.DoubleSleep (End ∷ []) steps
   reader_finds_another_that_did_not_wait tells = let not_yet = tells.0.1 in cc
 
+  wait_is_told_as_memory : ¬ TellsWhyStopped fault.Memory (NotYet 0 ∷ []) steps
+  wait_is_told_as_memory tells = tells
+
+  end_is_told_as_memory : ¬ TellsWhyStopped fault.Memory (End ∷ []) steps
+  end_is_told_as_memory tells = tells
+
+  there_is_no_memory_to_read_on : TellsWhyStopped fault.Memory (Block 0 byte 1 ∷ []) steps
+  there_is_no_memory_to_read_on = tt
+
   reader_is_hungup : ¬ TellsWhyStopped fault.Hungup [] steps
   reader_is_hungup tells = tells
 
@@ -102,6 +136,53 @@ hungup_is_told_too_soon each = each.0
 
 hungup_is_told_in_time : EachHungupIsAfterHangup (Hungup 0 byte ∷ Hung 0 ∷ [])
 hungup_is_told_in_time = (tt, tt)
+
+-- ---- who hangs up when
+
+-- a writer hangs up, and then writes
+writer_hangs_up_first : ¬ HangsUpLast (Hungup 0 byte ∷ Hung 1 ∷ [])
+writer_hangs_up_first last = last tt
+
+-- it writes between two hangups
+writer_hangs_up_between : ¬ HangsUpLast (Hung 1 ∷ Stood 0 1 ∷ Hung 1 ∷ [])
+writer_hangs_up_between last = last tt
+
+writer_hangs_up_last : HangsUpLast (Hung 1 ∷ Hung 1 ∷ Stood 0 1 ∷ [])
+writer_hangs_up_last = λ hang. hang
+
+reader_never_hangs_up : ¬ HasHungUp (NotYet 0 ∷ [])
+reader_never_hangs_up up = up.hung
+
+reader_reads_on_behind_its_hangup : ¬ HasHungUp (Block 0 byte 1 ∷ Hung 0 ∷ [])
+reader_reads_on_behind_its_hangup up = up.last tt
+
+-- ---- runs that are refused
+
+-- a run that is always refused as out of memory
+always_memory : ¬ (IsErrOf (as_refused fault.Memory) fault.BadSize ↔ IsBadQueue 0 1)
+always_memory tells = let bad = tells.1 (inl (inl refl)) in cc
+
+-- or for its size
+always_bad_size : ¬ (IsErrOf (as_refused fault.BadSize) fault.BadSize ↔ IsBadQueue 1 1)
+always_bad_size tells = by (tells.0 refl)
+  where
+    by : IsBadQueue 1 1 → ⊥
+    by (inl (inl none)) = cc
+    by (inl (inr many)) = absurd (omega (arith, many))
+    by (inr (inl none)) = cc
+    by (inr (inr many)) = absurd (omega (arith, many))
+
+-- no crew is mustered, for no reason
+module _ (roster : Unused) where
+  as_many_lists : ¬ WhyNotMustered roster 1 1 fault.BadSize
+  as_many_lists differ = differ refl
+
+  a_pid_is_left : roster.pids.next ≡ 1 → procs_of roster.words ≡ 2
+      → ¬ WhyNotMustered roster 1 1 fault.NoProc
+  a_pid_is_left next many less = absurd (omega (arith, next, many, less))
+
+  mustering_has_no_rendez : ¬ WhyNotMustered roster 1 1 fault.NoRendez
+  mustering_has_no_rendez why = why
 
 -- ---- wakeups that were not made
 
@@ -219,6 +300,32 @@ module _ (key : Key) (first : ℕ) (given : List (List (List ℕ))) (outcome : O
   no_write_has_it refused keeps =
       let made = keeps.made in
       (the_writer made.history made.row made.writers made.are_writers fault.NoRendez refused).1
+
+-- it is told of no crew either that it was so
+nothing_ran_and_is_told : (key : Key) (first : ℕ) (given : List (List (List ℕ))) (told : Told)
+    (written : Written) → told.writers.items ≡ written ∷ [] → written.messages.items ≡ byte ∷ []
+    → written.accepted ≡ 0 → written.refused ≡ None → ¬ IsToldOfWork key first given told
+nothing_ran_and_is_told key first given told written one messages none unrefused work =
+    by work.crew.writers.items (sym work.told_is.writers ∙ one) work.worked.ended
+  where
+    counted : length written.messages.items ≡ 1
+    counted = subst (λ (ms : List (List ℕ)). length ms ≡ 1) (sym messages) refl
+
+    by : (writers : List Writer) → map written_of writers ≡ written ∷ []
+        → AllByRecursion HasEnded writers → ⊥
+    by [] are ended = cc
+    by (writer ∷ writers) are ended =
+        let same : written_of writer ≡ written = cc in
+        let all = ended.0.all (ap (λ (w : Written). w.refused) same ∙ unrefused) in
+        let least : length written.messages.items ≤ written.accepted
+        = subst (λ (w : Written). length w.messages.items ≤ w.accepted) same all in
+        absurd (omega (arith, least, counted, none))
+
+-- the reader came to the end, and yet had hung up
+reader_hung_up_early : (key : Key) (first : ℕ) (outcome : Outcome)
+    (made : HasHistory key first outcome) → outcome.stopped ≡ None
+    → ¬ HasHang (entries_by seat_of 0 made.history)
+reader_hung_up_early key first outcome made none = made.is_reader.quiet none
 
 -- the reader tells that it came to the end of a direction that was not hung up
 no_end_is_there : (key : Key) (first : ℕ) (given : List (List (List ℕ))) (outcome : Outcome)

@@ -1,11 +1,15 @@
 -- What is known of a reader and of writers, before and after threads have them.
-use Rattle.std.specs.Prelude.{◌≡◌, ◌+◌, ◌≤◌, ◌<◌, List, [], ◌∷◌, ℕ, map, length, reverse, take}
-use Rattle.std.specs.Prelude.{slice_index_or, Option, Some, None}
+use Rattle.std.specs.Prelude.{◌≡◌, ◌≢◌, ◌+◌, ◌≤◌, ◌<◌, ⊤, List, [], ◌∷◌, ℕ, map, length, reverse}
+use Rattle.std.specs.Prelude.{take, slice_index_or, Option, Some, None}
 use Rattle.std.specs.List.{AllByRecursion}
+use Rattle.std.specs.Vec.{vec_capacity}
 use Rattle.histories.specs.declared.account.Account.{Account}
 use Rattle.sync_base.specs.declared.fault.Fault.{Fault}
+use Rattle.sync_base.specs.declared.fault.Fault.TheVariants as fault
 use Rattle.sync_base.specs.declared.mode.Mode.TheVariants.{Message}
 use Rattle.sleep_core.specs.Runs as core
+use Rattle.rendez_words.specs.Words.{procs_of}
+use Rattle.sleep_wakeup.specs.Kernel.{Unused}
 use Rattle.block_queue.specs.declared.entry.Entry.{Entry}
 use Rattle.block_queue.specs.declared.entry.Entry.TheVariants.{End}
 use Rattle.block_queue.specs.Seats.{key_of}
@@ -17,7 +21,11 @@ use Rattle.pipe_dev.specs.Sides.{HasReadJust, HasWrittenJust, AreUnused}
 use Rattle.pipe_dev.specs.WriteCalls.{HasHang}
 use Rattle.example_headline.specs.declared.crew.Crew.{Crew}
 use Rattle.example_headline.specs.declared.reader.Reader.{Reader}
+use Rattle.example_headline.specs.declared.settling.Room.{Room}
+use Rattle.example_headline.specs.declared.settling.Told.{Told}
+use Rattle.example_headline.specs.declared.settling.Written.{Written}
 use Rattle.example_headline.specs.declared.writer.Writer.{Writer}
+use Rattle.example_headline.specs.Refusals.{HangsUpLast, HasHungUp, IsClear}
 use Rattle.example_headline.specs.Refusals.{TellsWhyRefused, TellsWhyStopped}
 use Rattle.example_headline.specs.Wakes.{Wakes, HasReturnedIn}
 
@@ -55,27 +63,39 @@ abbrev pub WasStopped : Fault → Reader → Type 0
 WasStopped why reader =
     OfMine 0 (λ mine. TellsWhyStopped why mine reader.proc.process.trace) reader.end.account
 
--- the reader came to the end; or it stopped for this, and then hung up
+-- its seat has hung nothing up
+abbrev pub IsQuiet : Reader → Type 0
+IsQuiet reader = OfMine 0 (λ mine. ¬ HasHang mine) reader.end.account
+
+-- the reader came to the end, and has not hung up; or it stopped for this, and then hung up
 abbrev pub EndsFor : Option Fault → Reader → Type 0
-EndsFor None reader = HasSeenEnd reader.end
-EndsFor (Some why) reader = OfMine 0 HasHang reader.end.account × WasStopped why reader
+EndsFor None reader = HasSeenEnd reader.end × IsQuiet reader
+EndsFor (Some why) reader = OfMine 0 HasHungUp reader.end.account × WasStopped why reader
 
 -- this holds of a reader of the pipe's kernel, whose reads stop at the end of a write
 abbrev pub IfItsReader : (Reader → Type 0) → Reader → Type 0
 IfItsReader Holds reader =
     reader.end.row.mode ≡ Message → OwnsRow reader.proc.words reader.end.row → Holds reader
 
--- it has seen the end
-pub record SeesEnd (reader : Reader) : Type 0 where
-  pub seen : IfItsReader (λ reader. HasSeenEnd reader.end) reader
+-- so far its seat was refused nothing, and has hung nothing up
+pub record IsClearReader (reader : Reader) : Type 0 where
+  pub clear : IfItsReader (λ reader. OfMine 0 IsClear reader.end.account) reader
 
--- a read of it was refused for this
+-- it has seen the end, and has not hung up
+pub record SeesEnd (reader : Reader) : Type 0 where
+  pub seen : IfItsReader (EndsFor None) reader
+
+-- a read of it was refused for this, and it has not hung up
 pub record StopsFor (why : Fault) (reader : Reader) : Type 0 where
-  pub told : IfItsReader (WasStopped why) reader
+  pub told : IfItsReader (λ reader. IsQuiet reader × WasStopped why reader) reader
 
 -- it came to the end, or says why not
 pub record HasStopped (reader : Reader) : Type 0 where
   pub ends : IfItsReader (EndsFor reader.stopped) reader
+
+-- so it is of a reader that began so
+abbrev pub StopsFrom : Reader → Reader → Type 0
+StopsFrom start reader = IsClearReader start → HasStopped reader
 
 -- the writer counts just what its end has written, the first so many of its messages; it is of the
 -- kernel that has the Rendez of the pipe, and has made the wakeups that its calls owe
@@ -94,11 +114,21 @@ pub record WasRefused (why : Fault) (writer : Writer) : Type 0 where
       (slice_index_or writer.messages.items writer.accepted []) mine writer.proc.process.trace)
       writer.end.account
 
--- the writer has written all its messages, or says why not, if it is of the pipe's kernel
+-- so far its seat was refused nothing, and has hung nothing up
+abbrev pub IsClearWriter : Writer → Type 0
+IsClearWriter writer = OfMine (writer.end.writer + 1) IsClear writer.end.account
+
+-- the writer has written all its messages, or says why not, if it is of the pipe's kernel; and
+-- where it hung up, it did so behind its last write
 pub record HasEnded (writer : Writer) : Type 0 where
   pub all : writer.refused ≡ None → length writer.messages.items ≤ writer.accepted
   pub refused : (why : Fault) → writer.refused ≡ Some why
       → OwnsRow writer.proc.words writer.end.row → WasRefused why writer
+  pub last : OfMine (writer.end.writer + 1) HangsUpLast writer.end.account
+
+-- so it is of a writer that began so
+abbrev pub EndsFrom : Writer → Writer → Type 0
+EndsFrom start writer = IsClearWriter start → HasEnded writer
 
 -- the reader has read on: its end stays where it is, and it keeps all if it did
 pub record HasReadOn (old new : Reader) : Type 0 where
@@ -139,11 +169,25 @@ ends_of writers = map (λ writer. writer.end) writers
 abbrev pub messages_of : List Writer → List (List (List ℕ))
 messages_of writers = map (λ writer. writer.messages.items) writers
 
--- the crew has all ends, the reader keeps all and each writer counts all
+-- there is room for the ends of so many writers, and for what is told of each
+pub record HasRoom (writers : ℕ) (room : Room) : Type 0 where
+  pub no_ends : room.ends.items ≡ []
+  pub none_told : room.told.items ≡ []
+  pub ends : writers ≤ vec_capacity room.ends
+  pub told : writers ≤ vec_capacity room.told
+
+-- the crew has all ends, the reader keeps all and each writer counts all; and there is room for
+-- when they are taken apart
 pub record IsReady (crew : Crew) : Type 0 where
   pub ends : AreEnds crew.reader.end (ends_of crew.writers.items)
   pub keeps : KeepsAll crew.reader
   pub counts : AllByRecursion CountsAll crew.writers.items
+  pub room : HasRoom (length crew.writers.items) crew.room
+
+-- nobody of it has asked for anything yet
+pub record IsClearCrew (crew : Crew) : Type 0 where
+  pub reader : IsClearReader crew.reader
+  pub writers : AllByRecursion IsClearWriter crew.writers.items
 
 -- its reader has this end
 pub record HasReadEnd (read : ReadSide) (crew : Crew) : Type 0 where
@@ -154,3 +198,27 @@ pub record HasWorked (crew : Crew) : Type 0 where
   pub ready : IsReady crew
   pub stopped : HasStopped crew.reader
   pub ended : AllByRecursion HasEnded crew.writers.items
+
+-- what is told of a writer
+abbrev pub written_of : Writer → Written
+written_of writer =
+    record {
+      messages = writer.messages;
+      accepted = writer.accepted;
+      refused = writer.refused;
+    }
+
+-- this is told of the crew
+pub record IsToldOf (crew : Crew) (told : Told) : Type 0 where
+  pub writers : told.writers.items ≡ map written_of crew.writers.items
+  pub got : told.got.items ≡ crew.reader.got.items
+  pub stopped : told.stopped ≡ crew.reader.stopped
+
+-- Why no crew was mustered of so many writers: there are other than so many lists of messages;
+-- there was no memory; or the roster has not so many pids left.
+abbrev pub WhyNotMustered : Unused → ℕ → ℕ → Fault → Type 0
+WhyNotMustered roster writers lists fault.BadSize = lists ≢ writers
+WhyNotMustered roster writers lists fault.Memory = ⊤
+WhyNotMustered roster writers lists fault.NoProc =
+    procs_of roster.words < roster.pids.next + writers
+WhyNotMustered roster writers lists other = ⊥

@@ -10,6 +10,7 @@ use Rattle.block_queue.specs.declared.entry.Entry.{Entry}
 use Rattle.block_queue.specs.declared.view.Key.{Key}
 use Rattle.block_queue.specs.History.{opening_state, seat_of}
 use Rattle.block_queue.specs.Meaning.{queue_meaning}
+use Rattle.block_queue.specs.Seats.{key_of}
 use Rattle.pipe_dev.specs.declared.closing.Held.{Held}
 use Rattle.pipe_dev.specs.declared.row.Row.{Row}
 use Rattle.pipe_dev.specs.Finishing.{accepted_in, left_state, rest_bytes}
@@ -17,9 +18,14 @@ use Rattle.pipe_dev.specs.Laws.{NoWriteAfterHangup}
 use Rattle.pipe_dev.specs.Parts.{Part, pieces_of, continued, whole_from, bytes_by}
 use Rattle.pipe_dev.specs.WaitLaws.{AreReadersWokenAbove, AreWritersWokenAbove}
 use Rattle.pipe_dev.specs.WriteCalls.{HasHang}
+use Rattle.example_headline.specs.declared.crew.Crew.{Crew}
+use Rattle.example_headline.specs.declared.settling.Ending.{Ending}
+use Rattle.example_headline.specs.declared.settling.Ending.TheVariants.{Settled, Unsettled}
 use Rattle.example_headline.specs.declared.settling.Outcome.{Outcome}
+use Rattle.example_headline.specs.declared.settling.Told.{Told}
 use Rattle.example_headline.specs.declared.settling.Written.{Written}
-use Rattle.example_headline.specs.Refusals.{EachHungupIsAfterHangup}
+use Rattle.example_headline.specs.Crew.{HasWorked, IsToldOf, messages_of}
+use Rattle.example_headline.specs.Refusals.{EachHungupIsAfterHangup, HangsUpLast, HasHungUp}
 use Rattle.example_headline.specs.Refusals.{TellsWhyRefused, TellsWhyStopped}
 use Rattle.example_headline.specs.Wakes.{Wakes, HasWoken}
 
@@ -83,12 +89,14 @@ pub record WasRefusedFor (why : Fault) (writer : ℕ) (written : Written) (mine 
       (slice_index_or written.messages.items written.accepted []) mine process.trace
 
 -- A writer: its entries are that just these of its messages were accepted; where it tells a
--- refusal, its write was refused just so; and each wakeup that its calls owe has returned.
+-- refusal, its write was refused just so; where it hung up, it did so behind its last write; and
+-- each wakeup that its calls owe has returned.
 pub record IsWriterOf (history : List Entry) (row : Row) (writer : ℕ) (written : Written)
     (process : Process) : Type 0 where
   pub accepted : accepted_in (entries_by seat_of (writer + 1) history) ≡ accepted_of written
   pub refused : (why : Fault) → written.refused ≡ Some why
       → WasRefusedFor why writer written (entries_by seat_of (writer + 1) history) process
+  pub last : HangsUpLast (entries_by seat_of (writer + 1) history)
   pub woken : AllByRecursion (Wakes (HasWoken process) row)
       (entries_by seat_of (writer + 1) history)
 
@@ -100,15 +108,16 @@ AreWritersOf history row writer (written ∷ others) (process ∷ processes) =
     × AreWritersOf history row (writer + 1) others processes
 AreWritersOf history row writer writtens processes = ⊥
 
--- The reader came to the end of a direction that was hung up; or it tells why it stopped, a read
--- was refused just so, and it hung up. Each wakeup that its calls owe has returned.
+-- The reader came to the end of a direction that others hung up; or it tells why it stopped, a read
+-- was refused just so, and behind that it hung up. Each wakeup that its calls owe has returned.
 pub record IsReaderOf (history : List Entry) (row : Row) (outcome : Outcome) (process : Process)
     : Type 0 where
   pub ended : outcome.stopped ≡ None → outcome.held.hung ≡ true
+  pub quiet : outcome.stopped ≡ None → ¬ HasHang (entries_by seat_of 0 history)
   pub stopped : (why : Fault) → outcome.stopped ≡ Some why
       → TellsWhyStopped why (entries_by seat_of 0 history) process.trace
   pub hung : (why : Fault) → outcome.stopped ≡ Some why
-      → HasHang (entries_by seat_of 0 history)
+      → HasHungUp (entries_by seat_of 0 history)
   pub woken : AllByRecursion (Wakes (HasWoken process) row) (entries_by seat_of 0 history)
 
 -- The one history of the direction, newest first, of which all calls of the run are the entries.
@@ -138,3 +147,19 @@ pub record KeepsHeadline (key : Key) (first : ℕ) (given : List (List (List ℕ
   pub whole : IsWholeAndOnce given outcome
   pub complete : AllAreAccepted given outcome
   pub made : HasHistory key first outcome
+
+-- What is told of a run where no memory was left to take its ends back: what a crew tells that has
+-- all ends of a direction of this queue, and has worked with these messages.
+pub record IsToldOfWork (key : Key) (first : ℕ) (given : List (List (List ℕ))) (told : Told)
+    : Type 0 where
+  pub crew : Crew
+  pub worked : HasWorked crew
+  pub key_is : key_of crew.reader.end.queue ≡ key
+  pub first_is : crew.reader.end.row.first ≡ first
+  pub given_is : messages_of crew.writers.items ≡ given
+  pub told_is : IsToldOf crew told
+
+-- how a run may end
+abbrev pub IsEnding : Key → ℕ → List (List (List ℕ)) → Ending → Type 0
+IsEnding key first given (Settled outcome) = KeepsHeadline key first given outcome
+IsEnding key first given (Unsettled told) = IsToldOfWork key first given told

@@ -11,7 +11,8 @@ use Rattle.sleep_core.specs.declared.answer.Answer.TheVariants as answer
 use Rattle.sleep_core.specs.Runs as core
 use Rattle.sleep_core.specs.Table.{ending_of}
 use Rattle.block_queue.specs.declared.entry.Entry.{Entry}
-use Rattle.block_queue.specs.declared.entry.Entry.TheVariants.{Full, Hungup, Worn, NotYet, Hung}
+use Rattle.block_queue.specs.declared.entry.Entry.TheVariants.{Stood, Full, Hungup, Worn}
+use Rattle.block_queue.specs.declared.entry.Entry.TheVariants.{Block, NotYet, Hung}
 use Rattle.pipe_dev.specs.WriteCalls.{HasHang}
 
 -- the newest of a seat's entries but for its hangups: what its last put or take was told
@@ -19,6 +20,30 @@ abbrev pub last_told : List Entry → Option Entry
 last_told [] = None
 last_told (Hung seat ∷ past) = last_told past
 last_told (entry ∷ past) = Some entry
+
+-- what it was told last was no refusal, no wait and no end: its write stands, or it took a write
+-- out; or it has asked for nothing yet
+abbrev pub WasGiven : Option Entry → Type 0
+WasGiven None = ⊤
+WasGiven (Some (Stood writer number)) = ⊤
+WasGiven (Some (Block writer block number)) = ⊤
+WasGiven other = ⊥
+
+-- a seat asks for nothing more once it has hung up
+abbrev pub HangsUpLast : List Entry → Type 0
+HangsUpLast [] = ⊤
+HangsUpLast (Hung seat ∷ past) = HangsUpLast past
+HangsUpLast (entry ∷ past) = ¬ HasHang past
+
+-- so far it was refused nothing, and has hung nothing up
+pub record IsClear (mine : List Entry) : Type 0 where
+  pub given : WasGiven (last_told mine)
+  pub quiet : ¬ HasHang mine
+
+-- it has hung up, behind its last request
+pub record HasHungUp (mine : List Entry) : Type 0 where
+  pub hung : HasHang mine
+  pub last : HangsUpLast mine
 
 -- one of these steps was answered so
 abbrev pub WasAnswered : Answer → List core.Entry → Type 0
@@ -34,12 +59,13 @@ WaitsForRoom writer block mine =
 abbrev pub WaitsForWrite : List Entry → Type 0
 WaitsForWrite mine = (number : ℕ) × (last_told mine ≡ Some (NotYet number))
 
--- Why a write of this block by this writer was refused. It was too big; there was no memory, of
--- which nothing tells; the direction was hung up; the last number was given; or it waited for room,
--- and its sleep took notes or found another process asleep there. No other fault is told.
+-- Why a write of this block by this writer was refused. It was too big; there was no memory, before
+-- the queue was asked: what the writer asked last was given; the direction was hung up; the last
+-- number was given; or it waited for room, and its sleep took notes or found another process asleep
+-- there. No other fault is told.
 abbrev pub TellsWhyRefused : Fault → ℕ → List ℕ → List Entry → List core.Entry → Type 0
 TellsWhyRefused fault.TooBig writer block mine steps = ATOMIC_SIZE < length block
-TellsWhyRefused fault.Memory writer block mine steps = ⊤
+TellsWhyRefused fault.Memory writer block mine steps = WasGiven (last_told mine)
 TellsWhyRefused fault.Hungup writer block mine steps =
     last_told mine ≡ Some (Hungup writer block)
 TellsWhyRefused fault.Worn writer block mine steps = last_told mine ≡ Some (Worn writer block)
@@ -50,10 +76,11 @@ TellsWhyRefused fault.DoubleSleep writer block mine steps =
     WaitsForRoom writer block mine × WasAnswered answer.DoubleSleep steps
 TellsWhyRefused other writer block mine steps = ⊥
 
--- Why a reader stopped before the end: there was no memory; or it waited for a write, and its sleep
--- took notes or found another process asleep there. No other fault is told.
+-- Why a reader stopped before the end: there was no memory, before the queue was asked; or it
+-- waited for a write, and its sleep took notes or found another process asleep there. No other
+-- fault is told.
 abbrev pub TellsWhyStopped : Fault → List Entry → List core.Entry → Type 0
-TellsWhyStopped fault.Memory mine steps = ⊤
+TellsWhyStopped fault.Memory mine steps = WasGiven (last_told mine)
 TellsWhyStopped (fault.Interrupted notes) mine steps =
     WaitsForWrite mine × ((notes ≢ no_notes) × WasAnswered (ending_of notes) steps)
 TellsWhyStopped fault.DoubleSleep mine steps =

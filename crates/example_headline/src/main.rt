@@ -15,7 +15,7 @@ mod writer;
 mod writing;
 
 use crate::run::run;
-use crate::settling::Outcome;
+use crate::settling::{Ending, Written};
 use std::alloc::Global;
 use std::io;
 use sync_base::{Fault, Piece};
@@ -57,24 +57,27 @@ fn tell_why(rt: &HostRuntime, who: &str, why: Option<Fault>) -> io::Result<()> {
     }
 }
 
+/// Tells what each writer did, and why the reader stopped early, if it did.
+fn tell_ends(rt: &HostRuntime, writers: &[Written], stopped: Option<Fault>) -> io::Result<()> {
+    for written in writers {
+        println!(rt; "{} messages of a writer were accepted", written.accepted)?;
+        tell_why(rt, "the writer", written.refused)?;
+    }
+    tell_why(rt, "the reader", stopped)
+}
+
 /// Tells what came of a run.
-fn tell(rt: &HostRuntime, told: Result<Outcome, Fault>) -> io::Result<()> {
+fn tell(rt: &HostRuntime, told: Result<Ending, Fault>) -> io::Result<()> {
     match told {
-        Ok(
-            Outcome {
-                writers,
-                got,
-                stopped,
-                held,
-            },
-        ) => {
-            let (read, left) = (count(got.as_slice()), held.writes.len());
-            for written in writers.as_slice() {
-                println!(rt; "{} messages of a writer were accepted", written.accepted)?;
-                tell_why(rt, "the writer", written.refused)?;
-            }
-            tell_why(rt, "the reader", stopped)?;
+        Ok(Ending::Settled(outcome)) => {
+            let (read, left) = (count(outcome.got.as_slice()), outcome.held.writes.len());
+            tell_ends(rt, outcome.writers.as_slice(), outcome.stopped)?;
             println!(rt; "{read} bytes were read, and {left} messages are held")
+        }
+        Ok(Ending::Unsettled(told)) => {
+            let read = count(told.got.as_slice());
+            tell_ends(rt, told.writers.as_slice(), told.stopped)?;
+            println!(rt; "{read} bytes were read, and no memory was left to see what is held")
         }
         Err(fault) => println!(rt; "the run failed: {fault}"),
     }

@@ -19,16 +19,19 @@ pub struct Reader<'p> {
 }
 
 impl<'p> Reader<'p> {
-    ghost use Rattle.std.specs.Prelude.{◌≡◌, false, Ok, Err};
+    ghost use Rattle.std.specs.Prelude.{◌≡◌, true, false, Ok, Err};
     ghost use Rattle.sync_base.specs.declared.fault.Fault.{Fault};
-    ghost use Rattle.example_headline.specs.Crew.{HasReadOn, HasStopped, SeesEnd, StopsFor};
+    ghost use Rattle.example_headline.specs.Crew.{HasReadOn, HasStopped, IsClearReader, SeesEnd};
+    ghost use Rattle.example_headline.specs.Crew.{StopsFor, StopsFrom};
 
     /// Reads one part, and keeps it; `false` at the end. Memory is taken before the read, so that
     /// what was read is surely kept.
     fn read_once<R: Wait>(&mut self, rt: &R, alloc: Global) -> Result<bool, Fault>
         ensures on { HasReadOn self.old self.new }
-        ensures end { result ≡ Ok false → SeesEnd self.new }
-        ensures stops { (why : Fault) → result ≡ Err why → StopsFor why self.new }
+        ensures clear { result ≡ Ok true → IsClearReader self.old → IsClearReader self.new }
+        ensures end { result ≡ Ok false → IsClearReader self.old → SeesEnd self.new }
+        ensures stops { (why : Fault) → result ≡ Err why → IsClearReader self.old
+            → StopsFor why self.new }
         ensures still { self.new.stopped ≡ self.old.stopped }
     {
         let mut buffer = vec![in alloc; 0; ROOM]?;
@@ -55,7 +58,7 @@ impl<'p> Reader<'p> {
     /// Reads to the end. Where it can read no more it hangs up, so that no writer waits for ever.
     pub fn read_all<R: Wait>(&mut self, rt: &R, alloc: Global)
         ensures on { HasReadOn self.old self.new }
-        ensures stopped { HasStopped self.new }
+        ensures stopped { StopsFrom self.old self.new }
     {
         self.stopped = None;
         'reading: for _ in rt.forever() {

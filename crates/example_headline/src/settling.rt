@@ -1,13 +1,12 @@
 //! How all ends are given back, and what is told of it.
-ghost use Rattle.std.specs.Prelude.{IfOk};
 ghost use Rattle.example_headline.specs.Crew.{HasWorked, messages_of};
 ghost use Rattle.block_queue.specs.Seats.{key_of};
-ghost use Rattle.example_headline.specs.Headline.{KeepsHeadline};
+ghost use Rattle.example_headline.specs.Headline.{IsEnding};
 
 use crate::crew::Crew;
 use crate::reader::Reader;
 use crate::writer::Writer;
-use pipe_dev::{Held, finish};
+use pipe_dev::{Held, WriteEnd, finish};
 use std::alloc::Global;
 use sync_base::{Fault, Piece};
 
@@ -30,21 +29,62 @@ pub struct Outcome {
     pub held: Held,
 }
 
+/// What is told of a run where no memory was left to take its ends back: all but what the direction
+/// still holds.
+#[derive(Drop)]
+pub struct Told {
+    pub writers: Vec<Written>,
+    pub got: Vec<Piece>,
+    pub stopped: Option<Fault>,
+}
+
+/// How a run ended. It can't be dropped: whoever has it answers it.
+pub enum Ending {
+    Settled(Outcome),
+    Unsettled(Told),
+}
+
+/// Room for the ends of a crew, and for what is told of its writers. It is taken before they run.
+#[derive(Drop)]
+pub struct Room<'p> {
+    ends: Vec<WriteEnd<'p>>,
+    told: Vec<Written>,
+}
+
+impl<'p> Room<'p> {
+    ghost use Rattle.std.specs.Prelude.{◌≡◌, IfOk, IfErr};
+    ghost use Rattle.sync_base.specs.declared.fault.Fault.TheVariants.{Memory};
+    ghost use Rattle.example_headline.specs.Crew.{HasRoom};
+
+    /// Room for so many writers. Refuses as `Memory` alone.
+    pub fn new(alloc: Global, writers: usize) -> Result<Room<'p>, Fault>
+        ensures room { IfOk result (HasRoom writers) }
+        ensures fault { IfErr result (λ fault. fault ≡ Memory) }
+    {
+        let ends = Vec::with_capacity(alloc, writers)?;
+        let told = Vec::with_capacity(alloc, writers)?;
+        Ok(Room { ends, told })
+    }
+}
+
 /// Gives all ends back.
-pub fn settle(alloc: Global, crew: Crew<'_>) -> Result<Outcome, Fault>
+pub fn settle(alloc: Global, crew: Crew<'_>) -> Ending
     requires worked { HasWorked crew }
-    ensures headline { IfOk result (KeepsHeadline (key_of crew.entry.reader.end.queue)
-        crew.entry.reader.end.row.first (messages_of crew.entry.writers.items)) }
+    ensures ending { IsEnding (key_of crew.entry.reader.end.queue)
+        crew.entry.reader.end.row.first (messages_of crew.entry.writers.items) result }
 {
-    let Crew { reader, writers } = crew;
+    let Crew {
+        reader,
+        writers,
+        room,
+    } = crew;
+    let Room { mut ends, mut told } = room;
     let Reader {
         end: read,
         proc: _,
         got,
         stopped,
     } = reader;
-    let mut ends = Vec::with_capacity(alloc, writers.len())?;
-    let mut told = Vec::with_capacity(alloc, writers.len())?;
     'parting: for writer in writers {
         let Writer {
             end,
@@ -61,12 +101,16 @@ pub fn settle(alloc: Global, crew: Crew<'_>) -> Result<Outcome, Fault>
         });
     }
     match finish(alloc, read, ends) {
-        Ok(held) => Ok(Outcome {
+        Ok(held) => Ending::Settled(Outcome {
             writers: told,
             got,
             stopped,
             held,
         }),
-        Err(_) => Err(Fault::Memory),
+        Err(_) => Ending::Unsettled(Told {
+            writers: told,
+            got,
+            stopped,
+        }),
     }
 }

@@ -17,12 +17,12 @@ pub struct Writer<'p> {
 }
 
 impl<'p> Writer<'p> {
-    ghost use Rattle.example_headline.specs.Crew.{HasWrittenOn, HasEnded, StaysEnded};
+    ghost use Rattle.example_headline.specs.Crew.{HasWrittenOn, EndsFrom, StaysEnded};
 
     /// Writes its messages in their order, until one is not accepted.
     pub fn write_all<R: Wait>(&mut self, rt: &R, alloc: Global)
         ensures on { HasWrittenOn self.old self.new }
-        ensures ended { HasEnded self.new }
+        ensures ended { EndsFrom self.old self.new }
     {
         self.refused = None;
         'writing: while let Some(message) = self.messages.get(self.accepted) {

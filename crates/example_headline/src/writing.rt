@@ -1,7 +1,7 @@
 //! All writers at once.
 ghost use Rattle.std.specs.Prelude.{◌<◌, ℕ, length, slice_index_or};
-ghost use Rattle.std.specs.List.{AllByRecursion, AllZip};
-ghost use Rattle.example_headline.specs.Crew.{HasWrittenOn, HasEnded, StaysEnded};
+ghost use Rattle.std.specs.List.{AllZip};
+ghost use Rattle.example_headline.specs.Crew.{HasWrittenOn, EndsFrom, StaysEnded};
 
 use crate::writer::Writer;
 use std::alloc::Global;
@@ -12,8 +12,8 @@ use std::thread::{Threads, for_each_mut};
 pub fn write_each<R: Threads + Wait + Sync>(rt: &R, alloc: Global, writers: &mut [Writer<'_>])
     ensures on { (place : ℕ) (other : _) → place < length writers.old → HasWrittenOn
         (slice_index_or writers.old place other) (slice_index_or writers.new place other) }
-    ensures ended { (place : ℕ) (other : _) → place < length writers.old → HasEnded
-        (slice_index_or writers.new place other) }
+    ensures ended { (place : ℕ) (other : _) → place < length writers.old → EndsFrom
+        (slice_index_or writers.old place other) (slice_index_or writers.new place other) }
 {
     for_each_mut(
         rt,
@@ -40,7 +40,7 @@ pub fn write_and_hang_up<R: Threads + Wait + Sync>(
     writers: &mut [Writer<'_>],
 )
     ensures on { AllZip HasWrittenOn writers.old writers.new }
-    ensures ended { AllByRecursion HasEnded writers.new }
+    ensures ended { AllZip EndsFrom writers.old writers.new }
 {
     write_each(rt, alloc, writers);
     hangup_each(rt, writers);

@@ -18,6 +18,8 @@ invariant-mustering l =
       lists : messages_of l.writers.items ++ map vec_items (into_iter_items l.lists)
           ≡ map vec_items l.fn.messages.items;
       as_many : length (into_iter_items l.lists) ≡ length (into_iter_items l.end-iterator);
+      pids : l.roster.pids.next + length (into_iter_items l.end-iterator)
+          ≡ l.fn.roster.pids.next + length l.fn.writes.items;
       room : length l.writers.items + length (into_iter_items l.end-iterator)
           ≤ vec_capacity l.writers;
     }

@@ -4,9 +4,9 @@ use Rattle.std.specs.Vec.Iter.{into_iter_items}
 use Rattle.std.proofs.lemmas.List.{append-nil}
 use Rattle.pipe_dev.specs.Ends.{WriteSide, AreAllEnds}
 use Rattle.pipe_dev.specs.Finishing.{GivesHeld}
-use Rattle.example_headline.specs.Crew.{ends_of}
+use Rattle.example_headline.specs.Crew.{ends_of, written_of}
 use Rattle.example_headline.specs.declared.writer.Writer.{Writer}
-use Rattle.example_headline.proofs.HeadlineLemmas.{written_of, keeps_headline, nothing_left}
+use Rattle.example_headline.proofs.HeadlineLemmas.{keeps_headline, nothing_left}
 use Rattle.example_headline.proofs.settling.settle.Goals as goal
 
 pub finish-requires : goal.finish-requires
@@ -36,7 +36,27 @@ returns-in-Ok c =
     ∙ (ap (λ (xs : List Writer). c.parting.told.items ++ map written_of xs) (sym ended)
     ∙ c.parting.invariant.told) in
     record {
-      headline = keeps_headline c.args.crew _ c.requires.worked told refl refl
+      ending = keeps_headline c.args.crew _ c.requires.worked told refl refl
           (subst (λ (ends : List WriteSide). GivesHeld c.args.crew.reader.end ends c.in-Ok.held)
           all c.in-Ok.ensures.held);
+    }
+
+pub returns : goal.returns
+returns c =
+    let none : length (into_iter_items c.parting.writer-iterator) ≡ 0 = search rules in
+    let ended : into_iter_items c.parting.writer-iterator ≡ []
+    = nothing_left (into_iter_items c.parting.writer-iterator) none in
+    let told : c.parting.told.items ≡ map written_of c.args.crew.writers.items
+    = sym (append-nil c.parting.told.items)
+    ∙ (ap (λ (xs : List Writer). c.parting.told.items ++ map written_of xs) (sym ended)
+    ∙ c.parting.invariant.told) in
+    record {
+      ending = record {
+        crew = c.args.crew;
+        worked = c.requires.worked;
+        key_is = refl;
+        first_is = refl;
+        given_is = refl;
+        told_is = record { writers = told; got = refl; stopped = refl };
+      };
     }

@@ -2,8 +2,7 @@
 use Rattle.std.proofs.Common.{◌≡◌, ◌≤◌, ◌+◌, ◌++◌, length, map}
 use Rattle.std.specs.Vec.{vec_capacity}
 use Rattle.std.specs.Vec.Iter.{into_iter_items}
-use Rattle.example_headline.specs.Crew.{ends_of}
-use Rattle.example_headline.proofs.HeadlineLemmas.{written_of}
+use Rattle.example_headline.specs.Crew.{ends_of, written_of}
 use Rattle.example_headline.proofs.settling.settle.Given as goal
 
 abbrev pub invariant-parting : goal.invariant-parting

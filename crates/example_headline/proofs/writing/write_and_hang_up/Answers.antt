@@ -10,7 +10,7 @@ returns g c =
           c.write_each.ensures.on)
           (at_each c.write_each.new.writers c.hangup_each.new.writers c.hangup_each.auto.writers
           c.hangup_each.ensures.on);
-      ended = still_ended c.write_each.new.writers c.hangup_each.new.writers
+      ended = still_ended c.args.writers.now c.write_each.new.writers c.hangup_each.new.writers
           c.hangup_each.auto.writers c.hangup_each.ensures.ended
           (ended_at_each c.args.writers.now c.write_each.new.writers c.write_each.auto.writers
           c.write_each.ensures.ended);

@@ -8,22 +8,21 @@ use Rattle.block_queue.specs.Seats.{key_of}
 use Rattle.pipe_dev.specs.declared.answers.ReadAnswer.{ReadAnswer}
 use Rattle.pipe_dev.specs.declared.answers.ReadAnswer.TheVariants as read
 use Rattle.pipe_dev.specs.ReadCalls.{Reads, calling, reader_of}
-use Rattle.example_headline.proofs.CrewLemmas.{read_on, read_stops, refusal_is_no_answer}
-use Rattle.example_headline.proofs.CrewLemmas.{same_fault, sees_end, some_room, stops_for_memory}
-use Rattle.example_headline.proofs.CrewLemmas.{stops_same}
-use Rattle.pipe_dev.specs.declared.row.Row.{Row}
+use Rattle.example_headline.proofs.CrewLemmas.{read_clear, read_on, read_stops, same_fault}
+use Rattle.example_headline.proofs.CrewLemmas.{refusal_gets_nothing, refusal_is_no_answer, sees_end}
+use Rattle.example_headline.proofs.CrewLemmas.{some_room, stops_for_memory, stops_same}
 use Rattle.example_headline.proofs.reader.Reader.read_once.Goals as goal
 
 pub returns-in_err-buffer-clause-stops : goal.returns-in_err-buffer-clause-stops
-returns-in_err-buffer-clause-stops g c why is =
+returns-in_err-buffer-clause-stops g c why is clear =
     let failed = err_from_is_err_and c.from_residual.result c.from_residual.ensures.1 in
-    stops_for_memory _ _ failed.0 why failed.1 failed.2 is
+    stops_for_memory _ _ failed.0 why failed.1 failed.2 is clear
 
 pub returns-in_err-reserve-clause-stops : goal.returns-in_err-reserve-clause-stops
-returns-in_err-reserve-clause-stops g c why is =
+returns-in_err-reserve-clause-stops g c why is clear =
     let failed = err_from_is_err_and c.from_residual-in_err-reserve.result
     c.from_residual-in_err-reserve.ensures.1 in
-    stops_for_memory _ _ failed.0 why failed.1 failed.2 is
+    stops_for_memory _ _ failed.0 why failed.1 failed.2 is (record { clear = clear.clear })
 
 pub returns-in_err-count : goal.returns-in_err-count
 returns-in_err-count g c =
@@ -37,15 +36,17 @@ returns-in_err-count g c =
           c.read.new.buffer room c.in_err-count.ensures.read c.in_err-count.ensures.end
           c.in_err-count.ensures.words
           (c.in_ok-reserve.ensures.items ∙ sym (append-nil c.args.self.now.got.items));
+      clear = λ is. refusal_gets_nothing failed.0 (sym failed.1 ∙ is);
       end = λ is. refusal_is_no_answer failed.0 (sym failed.1 ∙ is);
-      stops = λ why is.
+      stops = λ why is clear.
           stops_same _ c.in_err-count.field-0.0 why
           (same_fault _ failed.0 c.in_err-count.field-0.0 why failed.1 failed.2 is)
           (read_stops c.args.self.now _ c.as_mut_slice.result.now c.in_err-count.field-0.0
           c.read.new.buffer c.in_err-count.ensures.read c.in_err-count.ensures.end
           c.in_err-count.ensures.words
           (λ bad. room (c.in_err-count.ensures.bad_count.0 bad))
-          (λ owns foreign. (c.in_err-count.ensures.no_rendez room).0 foreign owns));
+          (λ owns foreign. (c.in_err-count.ensures.no_rendez room).0 foreign owns)
+          (record { clear = clear.clear }));
       still = refl;
     }
 
@@ -71,6 +72,14 @@ returns-in-Got g c =
           (c.push_reserved.ensures.items
           ∙ (ap (λ (xs : List (List ℕ)). xs ++ c.of.result ∷ []) c.in_ok-reserve.ensures.items
           ∙ ap (λ (p : List ℕ). c.args.self.now.got.items ++ p ∷ []) piece));
+      clear = λ is clear.
+          read_clear c.args.self.now _ c.as_mut_slice.result.now c.in-Got.count c.read.new.buffer
+          (subst (λ (answer : ReadAnswer).
+          Reads (key_of c.args.self.now.end.queue) c.args.self.now.end.row
+          (calling (reader_of c.args.self.now.end c.args.self.now.proc) c.as_mut_slice.result.now)
+          (Ok answer) (calling (reader_of c.read.new.self c.read.new.proc) c.read.new.buffer))
+          c.in-Got.is c.in_ok-count.ensures.read) c.in_ok-count.ensures.end
+          c.in_ok-count.ensures.words clear;
       end = λ is. absurd (cc);
       stops = λ why is. absurd (cc);
       still = refl;
@@ -90,11 +99,10 @@ returns-in-End g c =
           (c.as_mut_slice.ensures.len ∙ c.in_ok-buffer.ensures.len) (omega arith)) reads
           c.in_ok-count.ensures.end c.in_ok-count.ensures.words
           (c.in_ok-reserve.ensures.items ∙ sym (append-nil old.got.items));
-      end = λ is. record {
-        seen = λ mode owns. sees_end (key_of old.end.queue) old.end.row old.end c.read.new.self
-            old.proc c.read.new.proc c.as_mut_slice.result.now c.read.new.buffer
-            (sym (ap (λ (row : Row). row.mode) c.in_ok-count.ensures.end.row) ∙ mode) reads;
-      };
+      clear = λ is. absurd (cc);
+      end = λ is clear.
+          sees_end old _ c.as_mut_slice.result.now c.read.new.buffer reads
+          c.in_ok-count.ensures.end c.in_ok-count.ensures.words clear;
       stops = λ why is. absurd (cc);
       still = refl;
     }

@@ -1,15 +1,19 @@
 -- one message more is counted, or none where it was not accepted
-use Rattle.std.proofs.Common.{◌≡◌, ◌<◌, ◌∷◌, ◌++◌, [], ℕ, List, ◌∙◌, ap, refl, subst, sym, take}
+use Rattle.std.proofs.Common.{◌≡◌, ◌<◌, ◌≤◌, ◌∷◌, ◌++◌, [], ℕ, List, ◌∙◌, ap, refl, subst, sym}
+use Rattle.std.proofs.Common.{take, rules}
 use Rattle.std.proofs.Common.{length, arith, get_or}
 use Rattle.std.proofs.lemmas.List.{append-nil, take_more}
 use Rattle.std.specs.Prelude.{Ok, Err}
 use Rattle.pipe_dev.specs.Rendezes.{OwnsRow}
-use Rattle.example_headline.proofs.CrewLemmas.{ends_refused, is_not_foreign, tells_none}
-use Rattle.example_headline.proofs.CrewLemmas.{write_refused, write_then, written_on}
+use Rattle.example_headline.proofs.CrewLemmas.{accepted_clear, ends_refused, ends_with_all}
+use Rattle.example_headline.proofs.CrewLemmas.{is_not_foreign}
+use Rattle.example_headline.proofs.CrewLemmas.{refused_last, tells_none, write_refused, write_then}
+use Rattle.example_headline.proofs.CrewLemmas.{written_on}
 use Rattle.example_headline.proofs.writer.Writer.write_all.Goals as goal
 
 pub writing-init : goal.writing-init
-writing-init g c = record { on = tells_none c.args.self.now; none = refl }
+writing-init g c =
+    record { on = tells_none c.args.self.now; none = refl; clear = λ clear. clear }
 
 pub writing-preserved : goal.writing-preserved
 writing-preserved g c =
@@ -28,6 +32,10 @@ writing-preserved g c =
           ∙ (found.3.1 [] ∙ ap (λ (xs : List (List ℕ)). get_or xs at []) c.deref.ensures.value))))
           (λ counted. omega (arith, low)));
       none = c.writing.invariant.none;
+      clear = λ began.
+          accepted_clear c.writing.self c.write.new.self c.write.new.proc c.as_slice.result.now
+          c.in-Ok.field-0 c.in-Ok.ensures.wrote c.in-Ok.ensures.end
+          (c.writing.invariant.clear began);
     }
 
 pub returns-in-Err : goal.returns-in-Err
@@ -47,11 +55,21 @@ returns-in-Err g c =
           (written_on old _ c.as_slice.result.now (Err why) c.in-Err.ensures.wrote
           c.in-Err.ensures.end c.in-Err.ensures.words refl
           (sym (append-nil (take at messages))) (λ counted. counted));
-      ended = ends_refused _ why refl
+      ended = λ began.
+          let clear = c.writing.invariant.clear began in
+          ends_refused _ why refl
           (write_refused old _ c.as_slice.result.now why c.in-Err.ensures.wrote
           c.in-Err.ensures.end c.in-Err.ensures.words refl refl next low
           c.in-Err.ensures.too_big.0
           (is_not_foreign (length c.as_slice.result.now)
           (OwnsRow old.proc.words old.end.row) why c.in-Err.ensures.too_big
-          c.in-Err.ensures.no_rendez));
+          c.in-Err.ensures.no_rendez) clear)
+          (refused_last old c.write.new.self c.write.new.proc c.as_slice.result.now why
+          c.in-Err.ensures.wrote c.in-Err.ensures.end clear);
     }
+
+pub returns-clause-ended : goal.returns-clause-ended
+returns-clause-ended g c =
+    let most : length c.writing.self.messages.items ≤ c.writing.self.accepted = search rules in
+    ends_with_all c.args.self.now c.writing.self c.writing.invariant.none most
+    c.writing.invariant.clear
