@@ -31,6 +31,8 @@ pub struct KeptLines<'t> {
     stops: Stops,
     /// The place of the process whose call has them.
     owner: Option<usize>,
+    /// That call has ended: a later one of the process has begun.
+    is_over: bool,
 }
 
 impl<'t> KeptLines<'t> {
@@ -47,6 +49,7 @@ impl<'t> KeptLines<'t> {
             count: 0,
             stops: Stops::none(),
             owner: None,
+            is_over: false,
         }
     }
 
@@ -58,10 +61,13 @@ impl<'t> KeptLines<'t> {
         }
     }
 
-    /// The call of this place, which has started, has those that are kept for the next one.
+    /// The call of this place, which has started, has those that are kept for the next one. Those of
+    /// an earlier call of the same place are over.
     pub fn take(&mut self, at: usize) {
-        if self.next_stops().probed {
-            self.owner = Some(at);
+        match self.owner {
+            None if self.stops.probed => self.owner = Some(at),
+            Some(owner) if owner == at => self.is_over = true,
+            _ => {}
         }
     }
 
@@ -151,7 +157,8 @@ fn begin_anew(scene: &mut Scene<'_>) -> bool {
     let Some(owner) = scene.kept.owner else {
         return true;
     };
-    if scene.kept.are_ahead() && outcome(scene, owner, Until::Ends) != Some(true) {
+    let runs = !scene.kept.is_over && outcome(scene, owner, Until::Ends) != Some(true);
+    if runs && scene.kept.are_ahead() {
         return false;
     }
     set(&mut scene.kept, KeptLines::none());

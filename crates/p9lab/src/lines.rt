@@ -48,6 +48,8 @@ pub fn begin<R: Threads + Wait + Copy + Send + 'static>(
         Verb::Points => Some(Step::Answered(seen(scene, at, Answer::Points))),
         Verb::Posted => Some(Step::Answered(seen(scene, at, Answer::Posted))),
         Verb::TakeSeat => Some(Step::Answered(take_seat(rt, scene, at, line.object))),
+        Verb::Fork | Verb::Rfork | Verb::NoteGroup
+            if caller_at(&mut scene.processes, at).is_none() => { Some(Step::Answered(NOT_HERE)) }
         _ => Some(Step::Answered(answer(rt, scene, number, line)?)),
     }
 }
