@@ -41,10 +41,6 @@ class Spins(NoAnswer):
     """A wait goes round and round, since the level of its Rendez was raised by somebody else."""
 
 
-class Unsettled(NoAnswer):
-    """The program is known to answer it otherwise than the pages say."""
-
-
 class Waits(NoAnswer):
     """It is answered once all turns have passed."""
 
@@ -333,9 +329,7 @@ class Lab:
         if line[:1].isdigit() and int(line.split(" ")[0]) not in self.actors:
             raise NotAScene(line)
         under_way = not self.is_fresh and self.keeper.run
-        if under_way and any(kept[2] is None for kept in self.kept):
-            if under_way.kept is not self.kept:
-                raise Unsettled("too many")
+        if under_way and under_way.kept is self.kept and any(kept[2] is None for kept in self.kept):
             return "too many"
         if not self.is_fresh:
             self.kept, self.is_fresh = [], True

@@ -247,7 +247,8 @@ class Maker:
         """Lines that make more, or are refused."""
         dice = self.dice
         size = dice.choice([0, 1, 2, 1024, 1025])
-        forker = dice.choice([it for it in self.idle() if it.role in ("zero", "plain", "reader", "writer", "lone", "holder")])
+        here = self.idle() if dice.random() < 0.9 else [it for it in self.lab.actors.values() if not it.is_gone]
+        forker = dice.choice([it for it in here if it.role in ("zero", "plain", "reader", "writer", "lone", "holder")])
         back = dice.choice(["", "", " back"])
         number = forker.number
         fork = f"{number} fork {self.role()}" if forker.role != "holder" else f"{number} fork"
