@@ -3,6 +3,7 @@ mod ReadingLemmas
 pub mod Sending
 mod SharingLemmas
 mod StreamLemmas
+mod WorkedGuestForks
 mod WorkedHalls
 mod WorkedNotings
 mod WorkedOthers

@@ -15,6 +15,7 @@ pub mod Streams
 pub mod Watches
 pub mod Tickers
 pub mod Halls
+pub mod GuestForks
 -- notes and flags, and where a process is
 pub use Rattle.sync_base.specs.NoteSet
 pub use Rattle.sync_base.specs.Flags

@@ -3,7 +3,7 @@ ghost use Rattle.std.specs.Prelude.{◌≡◌};
 ghost use Rattle.plan9.specs.Forkings.{ForksOne};
 
 use sleep_wakeup::{Proc, Roster};
-use sync_base::{Fault, Flags};
+use sync_base::Fault;
 
 /// A child of this process, in its note group: what `rfork` makes with RFPROC alone. After fork(2).
 /// Refuses as `NoProc` where no pid is left. Takes no memory and doesn't wait.
@@ -14,8 +14,5 @@ pub fn fork<'k>(roster: &mut Roster<'k>, parent: &mut Proc<'k>) -> Result<Proc<'
     // The parent is as it was.
     ensures parent { parent.new ≡ parent.old }
 {
-    match roster.rfork(parent, Flags::RFPROC)? {
-        Some(child) => Ok(child),
-        None => unreachable!(),
-    }
+    roster.make_child(parent, false)
 }

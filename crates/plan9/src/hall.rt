@@ -1,5 +1,9 @@
 //! A hall in which processes meet by tags: each guest has its process, its member and the tag space
 //! together.
+ghost use Rattle.std.specs.Prelude.{◌≡◌, Some};
+ghost use Rattle.tag_space.specs.Spaces.{IsFirstMember};
+ghost use Rattle.plan9.specs.Halls.{IsAdmitted, IsRowOfSpace};
+
 use crate::clock::Watch;
 use crate::pool::has_row;
 use crate::refusals::Refused;
@@ -37,11 +41,11 @@ impl Model for Hall {
 /// to another.
 #[derive(Drop)]
 pub struct Guest<'s, 'k> {
-    space: &'s TagSpace,
-    first: u64,
-    procs: u64,
-    member: Member,
-    proc: Proc<'k>,
+    pub(crate) space: &'s TagSpace,
+    pub(crate) first: u64,
+    pub(crate) procs: u64,
+    pub(crate) member: Member,
+    pub(crate) proc: Proc<'k>,
 }
 
 impl<'s, 'k> Model for Guest<'s, 'k> {
@@ -59,6 +63,46 @@ impl<'s, 'k> Model for Guest<'s, 'k> {
       row : IsRowOfSpace guest.space.now guest.first guest.procs;
       admitted : IsAdmitted guest.space.now guest.proc.words guest.member;
     } };
+}
+
+// A hall of a new space for so many processes, whose first member no process has.
+pub(crate) fn hall_of(space: TagSpace, member: Member, procs: u64) -> Hall
+    requires procs { space.procs ≡ procs }
+    requires first { IsFirstMember space member }
+    ensures { result ≡ record { space = space; spare = Some member } }
+{
+    let RendezId(first) = member.rendez();
+    Hall {
+        space,
+        spare: Some(member),
+        first,
+        procs,
+    }
+}
+
+// The process as a member of the space of a hall, whose Rendez are so many from this one on.
+pub(crate) fn guest_of<'s, 'k>(
+    space: &'s TagSpace,
+    first: u64,
+    procs: u64,
+    member: Member,
+    proc: Proc<'k>,
+) -> Guest<'s, 'k>
+    requires row { IsRowOfSpace space.now first procs }
+    requires admitted { IsAdmitted space.now proc.words member }
+    ensures { result ≡ record {
+      space = space.now;
+      running = proc.entry;
+      member = member;
+    } }
+{
+    Guest {
+        space,
+        first,
+        procs,
+        member,
+        proc,
+    }
 }
 
 impl Hall {
@@ -87,13 +131,7 @@ impl Hall {
         ensures opened { IfOk result (IsNewHall roster.old procs) }
     {
         let Opened { space, member } = TagSpace::new(alloc, roster, procs)?;
-        let RendezId(first) = member.rendez();
-        Ok(Hall {
-            space,
-            spare: Some(member),
-            first,
-            procs,
-        })
+        Ok(hall_of(space, member, procs))
     }
 
     /// Another hall, for as many processes: calls of the two never meet. It takes as many Rendez.
@@ -109,13 +147,7 @@ impl Hall {
         ensures opened { IfOk result (IsNewHall roster.old self.now.space.procs) }
     {
         let Opened { space, member } = self.space.new_group(alloc, roster)?;
-        let RendezId(first) = member.rendez();
-        Ok(Hall {
-            space,
-            spare: Some(member),
-            first,
-            procs: self.procs,
-        })
+        Ok(hall_of(space, member, self.procs))
     }
 
     /// The first guest. Refuses, in this order, as `NoRendez` a process of another kernel, which

@@ -4,7 +4,7 @@
 //! `plan` and `forking`; what comes back where a process is refused, with `refusals`, and faults in
 //! words, with `texts`; pipes, with `pipes`, `noting`, `reading`, `sharing`, `place` and `streams`;
 //! semaphores, with `pool` and `vacant`; timers, with `clock` and `ticker`; tag spaces, with
-//! `hall`; and what else a caller may prove.
+//! `hall` and `rforking`; and what else a caller may prove.
 #![tactic(auto)]
 
 pub mod clock;
@@ -17,6 +17,7 @@ pub mod plan;
 pub mod pool;
 pub mod reading;
 pub mod refusals;
+pub mod rforking;
 pub mod sharing;
 pub mod streams;
 pub mod texts;
@@ -24,7 +25,7 @@ pub mod ticker;
 pub mod vacant;
 
 // What every call speaks of.
-pub use sync_base::{Fault, Flags, Mode, Note, NoteSet, Pid, Piece, RendezId, Tag, limits};
+pub use sync_base::{Fault, Flags, Mode, Note, NoteSet, Pid, Piece, RendezId, Tag, Wants, limits};
 
 // A kernel, counted from what will be made, and its processes: sleep, wakeup, notes and rfork.
 pub use crate::forking::fork;
@@ -64,6 +65,7 @@ pub use waiting::{Forever, Runner};
 
 // Tag spaces: rendezvous, rfork of them, and processes that are members of one.
 pub use crate::hall::{Guest, Hall};
+pub use crate::rforking::{ForkedGuest, UnforkedGuest};
 pub use tag_space::meeting::INTERRUPTED;
 pub use tag_space::{
     Forked, Member, NotForked, Opened as OpenedSpace, SpentMember, TagSpace, rfork,

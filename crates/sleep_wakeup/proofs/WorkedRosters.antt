@@ -1,6 +1,7 @@
 -- What no kernel begins with, what a roster has not left, what no rfork, sleep or wakeup answers,
 -- and what no look shows: each against one row.
-use Rattle.std.proofs.Common.{◌≡◌, ◌≢◌, ◌<◌, ℕ, List, [], ◌∷◌, length, inl, inr, refl, ap, arith}
+use Rattle.std.proofs.Common.{◌≡◌, ◌≢◌, ◌<◌, ℕ, List, [], ◌∷◌, length, inl, inr, true, false, refl}
+use Rattle.std.proofs.Common.{ap, arith}
 use Rattle.sync_base.specs.declared.fault.Fault.TheVariants as fault
 use Rattle.sync_base.specs.declared.flags.Flags.{Flags}
 use Rattle.sync_base.specs.declared.ids.RendezId.{RendezId}
@@ -89,8 +90,7 @@ module _ (words : Words) where
 
   -- RFPROC is 1, and RFNOTEG is 4
   no_child_without_a_pid : ¬ MayFork (left words (procs_of words) 0 first_group) (flags_of 1)
-  no_child_without_a_pid (inl (inl nobody)) = omega (arith, nobody)
-  no_child_without_a_pid (inl (inr nobody)) = omega (arith, nobody)
+  no_child_without_a_pid (inl none) = let nobody : true ≡ false = none.nobody in cc
   no_child_without_a_pid (inr may) = no_pid_is_left may.1
 
 -- ---- what is no start, and no roster of these words
@@ -152,7 +152,7 @@ no_pid_was_given numbers = let some = numbers.some in omega (arith, some)
 
 module _ (unused : Unused) where
   known_flags_are_no_reason : ¬ WhyNotForked unused (flags_of 4) fault.BadFlags
-  known_flags_are_no_reason why = why.0 (inr refl)
+  known_flags_are_no_reason why = why (record { known = omega arith; no_space = refl })
 
   a_pid_that_is_left_is_no_reason : HasPid unused → ¬ WhyNotForked unused (flags_of 1) fault.NoProc
   a_pid_that_is_left_is_no_reason has why = why.1 has

@@ -1,23 +1,27 @@
--- What rfork does, after fork(2). Of its flags only RFPROC and RFNOTEG are known here.
-use Rattle.std.specs.Prelude.{◌≡◌, ◌<◌, ◌⊎◌, ℕ, Bool, nat_lt, Option, Some, None}
+-- What rfork does, after fork(2). Of its flags only RFPROC and RFNOTEG are a roster's: RFREND is
+-- one of tag spaces.
+use Rattle.std.specs.Prelude.{◌≡◌, ◌<◌, ◌⊎◌, ℕ, true, false, Option, Some, None}
 use Rattle.sync_base.specs.declared.fault.Fault.{Fault}
 use Rattle.sync_base.specs.declared.fault.Fault.TheVariants as fault
 use Rattle.sync_base.specs.declared.flags.Flags.{Flags}
-use Rattle.sync_base.specs.Flags.{bits_of}
+use Rattle.sync_base.specs.Flags.{AreKnown, asks_child, asks_group, asks_space}
 use Rattle.rendez_words.specs.Words.{procs_of}
 use Rattle.sleep_wakeup.specs.Kernel.{Running, Unused, next_process, one_pid_less, regrouped}
 
+-- no flag is set but RFPROC and RFNOTEG
+pub record AreOfRoster (flags : Flags) : Type 0 where
+  pub known : AreKnown flags
+  pub no_space : asks_space flags ≡ false
+
 -- RFPROC isn't set, and no flag but RFNOTEG
-abbrev pub AsksNobody : Flags → Type 0
-AsksNobody flags = (bits_of flags ≡ 0) ⊎ (bits_of flags ≡ 4)
+pub record AsksNobody (flags : Flags) : Type 0 where
+  pub of_roster : AreOfRoster flags
+  pub nobody : asks_child flags ≡ false
 
 -- RFPROC is set, alone or with RFNOTEG
-abbrev pub AsksChild : Flags → Type 0
-AsksChild flags = (bits_of flags ≡ 1) ⊎ (bits_of flags ≡ 5)
-
--- of flags that are known: RFNOTEG, the highest, is set
-abbrev pub asks_group : Flags → Bool
-asks_group flags = nat_lt 3 (bits_of flags)
+pub record AsksChild (flags : Flags) : Type 0 where
+  pub of_roster : AreOfRoster flags
+  pub child : asks_child flags ≡ true
 
 abbrev pub HasPid : Unused → Type 0
 HasPid unused = unused.pids.next < procs_of unused.words
@@ -28,7 +32,7 @@ MayFork unused flags = AsksNobody flags ⊎ (AsksChild flags × HasPid unused)
 
 -- the flags are tested first
 abbrev pub WhyNotForked : Unused → Flags → Fault → Type 0
-WhyNotForked unused flags fault.BadFlags = (¬ AsksNobody flags) × (¬ AsksChild flags)
+WhyNotForked unused flags fault.BadFlags = ¬ AreOfRoster flags
 WhyNotForked unused flags fault.NoProc = AsksChild flags × (¬ HasPid unused)
 WhyNotForked unused flags other = ⊥
 

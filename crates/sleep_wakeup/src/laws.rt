@@ -1,8 +1,9 @@
 //! What the definitions of the calls forbid, and what they allow.
-ghost use Rattle.std.specs.Prelude.{◌≡◌, ◌≢◌, ◌+◌, ℕ, [], ◌∷◌, Some, None, true, not, length};
+ghost use Rattle.std.specs.Prelude.{◌≡◌, ◌≢◌, ◌+◌, ℕ, [], ◌∷◌, Some, None, true, false, not};
+ghost use Rattle.std.specs.Prelude.{length};
 ghost use Rattle.rendez_words.specs.Process.{TableId};
 ghost use Rattle.sync_base.specs.declared.flags.Flags.{Flags};
-ghost use Rattle.sync_base.specs.Flags.{bits_of};
+ghost use Rattle.sync_base.specs.Flags.{asks_child, asks_group};
 ghost use Rattle.sync_base.specs.declared.fault.Fault.TheVariants.{Interrupted, Worn, NoRendez};
 ghost use Rattle.sync_base.specs.declared.fault.Fault.TheVariants.{BadFlags, BadLevel, NoProc};
 ghost use Rattle.sync_base.specs.declared.fault.Fault.TheVariants.{DoubleSleep};
@@ -21,7 +22,7 @@ ghost use Rattle.sleep_wakeup.specs.Broken.{takes_twice, never_marks, marks_anot
 ghost use Rattle.sleep_wakeup.specs.Broken.{raises_elsewhere, raises_to_another_level};
 ghost use Rattle.sleep_wakeup.specs.Broken.{finds_nobody, marks_the_sleeper};
 ghost use Rattle.sleep_wakeup.specs.Calls.{Sleeps, Wakes, WhyNotSlept};
-ghost use Rattle.sleep_wakeup.specs.Forks.{AsksNobody, AsksChild, asks_group, Forks, HasPid};
+ghost use Rattle.sleep_wakeup.specs.Forks.{AsksNobody, AsksChild, Forks, HasPid};
 ghost use Rattle.sleep_wakeup.specs.Forks.{WhyNotForked};
 ghost use Rattle.sleep_wakeup.specs.Groups.{AreGroups, first_group, group_of, begins, follows};
 ghost use Rattle.sleep_wakeup.specs.Groups.{leaves, notes_each};
@@ -123,7 +124,7 @@ pub fn refusals_can_be_broken()
         → ¬ (WhyNotForked unused flags BadFlags) }
     ensures nobody_has_bad_flags { (unused : Unused) (flags : Flags) → AsksNobody flags
         → ¬ (WhyNotForked unused flags BadFlags) }
-    ensures nobody_wants_a_pid { (unused : Unused) (flags : Flags) → bits_of flags ≡ 0
+    ensures nobody_wants_a_pid { (unused : Unused) (flags : Flags) → asks_child flags ≡ false
         → ¬ (WhyNotForked unused flags NoProc) }
     ensures pid_is_left { (unused : Unused) (flags : Flags) → HasPid unused
         → ¬ (WhyNotForked unused flags NoProc) }
@@ -155,9 +156,9 @@ pub fn forks_can_be_broken()
     ensures child_is_in_another_group { (unused : Unused) (flags : Flags) → AsksChild flags
         → unused.groups ≡ first_group → ¬ (Forks 0 unused flags (Some (next_process unused))
         (one_pid_less 0 (not (asks_group flags)) unused)) }
-    ensures caller_stays { (unused : Unused) (flags : Flags) → bits_of flags ≡ 4
+    ensures caller_stays { (unused : Unused) (flags : Flags) → asks_group flags ≡ true
         → unused.groups ≡ four_in_two → ¬ (Forks 1 unused flags None unused) }
-    ensures caller_leaves_unasked { (unused : Unused) (flags : Flags) → bits_of flags ≡ 0
+    ensures caller_leaves_unasked { (unused : Unused) (flags : Flags) → asks_group flags ≡ false
         → unused.groups ≡ four_in_two
         → ¬ (Forks 1 unused flags None (regrouped 1 true unused)) }
     ensures row_is_one_too_short { (unused : Unused) (count : ℕ)

@@ -40,11 +40,12 @@ impl<'k> Model for Roster<'k> {
 
 impl<'k> Roster<'k> {
     ghost use Rattle.std.specs.Prelude.{◌≡◌, ◌+◌, ◌^◌, ◌<◌, ◌≤◌, ◌⊎◌, length};
-    ghost use Rattle.std.specs.Prelude.{IfOk, IfErr, OnOk, OnErr};
+    ghost use Rattle.std.specs.Prelude.{IfOk, IfErr, OnOk, OnErr, true};
     ghost use Rattle.sync_base.specs.declared.fault.Fault.TheVariants.{NoProc, NoRendez};
     ghost use Rattle.rendez_words.specs.Words.{ArePidsOf, procs_of, rendez_of};
-    ghost use Rattle.sleep_wakeup.specs.Forks.{MayFork, WhyNotForked, Forks};
+    ghost use Rattle.sleep_wakeup.specs.Forks.{HasPid, MayFork, WhyNotForked, Forks};
     ghost use Rattle.sleep_wakeup.specs.Kernel.{HasSizes, HasGroup, HasRendez, rendez_less};
+    ghost use Rattle.sleep_wakeup.specs.Kernel.{next_process, one_pid_less, regrouped};
     ghost use Rattle.sleep_wakeup.specs.Groups.{AreGroups, group_of, notes_each};
 
     // The pids from 1 on and all Rendez.
@@ -94,27 +95,52 @@ impl<'k> Roster<'k> {
         // The parent is as it was.
         ensures parent { parent.new ≡ parent.old }
     {
-        let caller = parent.pid();
-        let child_apart = Flags::RFPROC.bits() + Flags::RFNOTEG.bits();
-        if flags.bits() == Flags::NONE.bits() {
-            return Ok(None);
-        }
-        if flags.bits() == Flags::RFNOTEG.bits() {
-            self.groups.leave(caller);
-            return Ok(None);
-        }
-        if flags.bits() != Flags::RFPROC.bits() && flags.bits() != child_apart {
+        let Some(wants) = flags.wants() else {
+            return Err(Fault::BadFlags);
+        };
+        if wants.space {
             return Err(Fault::BadFlags);
         }
+        if wants.process {
+            return Ok(Some(self.make_child(parent, wants.note_group)?));
+        }
+        if wants.note_group {
+            self.leave_group(parent);
+        }
+        Ok(None)
+    }
+
+    /// The child that `rfork` makes with RFPROC. It is in its parent's note group, or `apart`, as
+    /// with RFNOTEG too, in a new one.
+    /// Refuses as `NoProc` where no pid is left. Takes no memory and doesn't wait.
+    pub fn make_child(&mut self, parent: &Proc<'k>, apart: bool) -> Result<Proc<'k>, Fault>
+        // Refused first, and then no pid is used up.
+        ensures allowed { OnOk result (HasPid self.old) }
+        ensures fault { IfErr result (λ fault. (fault ≡ NoProc) × (¬ HasPid self.old)) }
+        ensures refused { OnErr result (self.new ≡ self.old) }
+
+        // Otherwise the child has the next pid, and has made no step.
+        ensures child { IfOk result (λ child. child ≡ next_process self.old) }
+        ensures left { OnOk result
+            (self.new ≡ one_pid_less parent.now.process.pid apart self.old) }
+    {
         let seat = self.words.split(&mut self.pids)?;
         let pid = Pid(self.next_pid);
         self.next_pid += 1;
-        if flags.bits() == child_apart {
+        if apart {
             self.groups.begin();
         } else {
-            self.groups.follow(caller);
+            self.groups.follow(parent.pid());
         }
-        Ok(Some(Proc::new(self.words, seat, pid)))
+        Ok(Proc::new(self.words, seat, pid))
+    }
+
+    /// The caller leaves its note group, and is the first of a new one: what `rfork` does with
+    /// RFNOTEG alone. Takes no memory and doesn't wait.
+    pub fn leave_group(&mut self, caller: &Proc<'k>)
+        ensures { self.new ≡ regrouped caller.now.process.pid true self.old }
+    {
+        self.groups.leave(caller.pid());
     }
 
     /// Posts notes to each process of the note group that holds this one, the caller too where it
@@ -189,6 +215,14 @@ impl<'k> Roster<'k> {
         }
         self.next_rendez = first + count;
         Ok(RendezId(first))
+    }
+
+    /// How many Rendez its kernel has: their numbers are those below. Takes no memory and doesn't
+    /// wait.
+    pub fn rendez_count(&self) -> u64
+        ensures { result ≡ rendez_of self.now.words }
+    {
+        self.rendez
     }
 
     /// How many pids are left, and how many Rendez. Takes no memory and doesn't wait.

@@ -1,5 +1,6 @@
 mod PlainPipeLemmas
 mod StreamLawLemmas
 mod StreamLemmas
+mod WorkedFlags
 mod WorkedPipes
 mod WorkedStreams

@@ -1,13 +1,24 @@
-//! The flags of rfork after fork(2).
-ghost use Rattle.std.specs.Prelude.{◌≡◌, ℕ, max};
+//! The flags of rfork after fork(2), and what they ask for.
+ghost use Rattle.std.specs.Prelude.{◌≡◌, ◌↔◌, ℕ, max, IsSome, IfSome};
 ghost use Rattle.std.specs.Int.{bit_at};
-ghost use Rattle.sync_base.specs.Flags.{bits_of};
+ghost use Rattle.sync_base.specs.Flags.{AreKnown, bits_of, wants_of};
 
 /// A set of flags of rfork. Bit 0 is RFPROC, bit 1 RFREND and bit 2 RFNOTEG; the numbers are the
 /// library's own. Any other bit may be set, so that a call can refuse it.
 #[derive(Clone, Copy, Debug, PartialEq, Eq)]
 pub struct Flags {
     bits: u32,
+}
+
+/// What flags of rfork ask for: a field for each flag.
+#[derive(Clone, Copy, Debug, PartialEq, Eq)]
+pub struct Wants {
+    /// RFPROC: a new process.
+    pub process: bool,
+    /// RFREND: a new tag space.
+    pub space: bool,
+    /// RFNOTEG: a new note group.
+    pub note_group: bool,
 }
 
 impl Flags {
@@ -45,5 +56,21 @@ impl Flags {
         Flags {
             bits: self.bits | other.bits,
         }
+    }
+
+    /// What the flags ask for. None where a bit is set that is none of the three flags.
+    pub const fn wants(self) -> Option<Wants>
+        ensures known { IsSome result ↔ AreKnown self }
+        ensures wants { IfSome result (λ wants. wants ≡ wants_of self) }
+    {
+        let known = Flags::RFPROC.bits | Flags::RFREND.bits | Flags::RFNOTEG.bits;
+        if self.bits & !known != 0 {
+            return None;
+        }
+        Some(Wants {
+            process: self.bits & Flags::RFPROC.bits != 0,
+            space: self.bits & Flags::RFREND.bits != 0,
+            note_group: self.bits & Flags::RFNOTEG.bits != 0,
+        })
     }
 }

@@ -21,7 +21,7 @@ pub mod threads_opts;
 
 pub use answers::{PeekAnswer, ReadAnswer, WriteAnswer};
 pub use fault::Fault;
-pub use flags::Flags;
+pub use flags::{Flags, Wants};
 pub use ids::{Pid, RendezId, Tag};
 pub use mode::Mode;
 pub use note::{Note, NoteSet};

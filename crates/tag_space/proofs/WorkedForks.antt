@@ -1,7 +1,7 @@
 -- What rfork does by its flags, computed; and what no rfork does to spaces and members, each
 -- against one row of what they say.
 use Rattle.std.proofs.Common.{◌≡◌, ◌≢◌, ◌<◌, ℕ, Some, None, inl, inr, length, ap, arith, refl}
-use Rattle.std.proofs.Common.{true, false, List, [], ◌∷◌, sym, ◌∙◌}
+use Rattle.std.proofs.Common.{List, [], ◌∷◌, sym, ◌∙◌}
 use Rattle.std.specs.Prelude.{IsTrue}
 use Rattle.std.proofs.lemmas.Bool.{false≢true}
 use Rattle.histories.specs.declared.account.Account.{Account}
@@ -18,7 +18,8 @@ use Rattle.tag_space.specs.Members.{OwnsRow, IsMemberOf, number_of, seen_of}
 use Rattle.tag_space.specs.Outcome.{calls_by}
 use Rattle.tag_space.specs.Rendezvous.{Entry}
 use Rattle.tag_space.specs.Spaces.{IsNewSpace, IsFirstMember, IsFurtherMember}
-use Rattle.tag_space.specs.Forks.{AreKnown, asks_child, asks_space, WantsMember, rfork_of}
+use Rattle.sync_base.specs.Flags.{AreKnown, asks_child, asks_space}
+use Rattle.tag_space.specs.Forks.{WantsMember, rfork_of}
 use Rattle.tag_space.specs.Forks.{WhyNotForked, JoinsParent, ComesBack, HasSpace, HasChild}
 use Rattle.tag_space.specs.Forks.{MovesCaller, KeepsMember, LeavesMember, IsUntouched, GivesMember}
 use Rattle.tag_space.specs.Forks.{HasSpent, IsFirstThere, callers_space, childs_space, left_by}
@@ -30,29 +31,7 @@ use Rattle.tag_space.proofs.WorkedSpaces.{offer}
 abbrev flags_of : ℕ → Flags
 flags_of bits = record { bits = bits }
 
-rfproc_asks_for_a_child : (asks_child (flags_of 1) ≡ true) × (asks_space (flags_of 1) ≡ false)
-rfproc_asks_for_a_child = (refl, refl)
-
-rfrend_asks_for_a_space : (asks_child (flags_of 2) ≡ false) × (asks_space (flags_of 2) ≡ true)
-rfrend_asks_for_a_space = (refl, refl)
-
-both_ask_for_both : (asks_child (flags_of 3) ≡ true) × (asks_space (flags_of 3) ≡ true)
-both_ask_for_both = (refl, refl)
-
-no_flag_asks_for_nothing : (asks_child (flags_of 0) ≡ false) × (asks_space (flags_of 0) ≡ false)
-no_flag_asks_for_nothing = (refl, refl)
-
--- RFNOTEG asks for none of these
-a_child_apart_is_a_child : (asks_child (flags_of 5) ≡ true) × (asks_space (flags_of 5) ≡ false)
-a_child_apart_is_a_child = (refl, refl)
-
-seven_is_known : AreKnown (flags_of 7)
-seven_is_known = omega arith
-
-eight_is_not : AreKnown (flags_of 8) → ⊥
-eight_is_not known = omega (arith, known)
-
--- what is left says so too
+-- who is in which note group afterwards
 module _ (unused : Unused) (space : TagSpace) where
   a_child_joins_its_parents_group : (left_by 0 unused space (flags_of 1)).groups
       ≡ follows 0 unused.pids.next unused.groups
@@ -100,10 +79,24 @@ both_join_nobody joins = joins.no_space refl
 -- without flags, and with both, the member is let alone
 no_flag_leaves_the_member : LeavesMember (flags_of 0)
 no_flag_leaves_the_member =
-    record { no_child = no_flag_joins_nobody; stays = λ is. omega (arith, is) }
+    record { no_child = no_flag_joins_nobody; stays = λ moves. false≢true moves.space }
 
 both_leave_the_member : LeavesMember (flags_of 3)
-both_leave_the_member = record { no_child = both_join_nobody; stays = λ is. omega (arith, is) }
+both_leave_the_member =
+    record { no_child = both_join_nobody; stays = λ moves. moves.no_child refl }
+
+-- with RFREND alone the caller moves, and so it does with RFNOTEG beside
+rfrend_moves_the_caller : MovesCaller (flags_of 2)
+rfrend_moves_the_caller = record { space = refl; no_child = false≢true }
+
+rfnoteg_lets_it_move : MovesCaller (flags_of 6)
+rfnoteg_lets_it_move = record { space = refl; no_child = false≢true }
+
+a_child_lets_it_stay : MovesCaller (flags_of 3) → ⊥
+a_child_lets_it_stay moves = moves.no_child refl
+
+rfnoteg_alone_moves_nobody : MovesCaller (flags_of 4) → ⊥
+rfnoteg_alone_moves_nobody moves = false≢true moves.space
 
 module _ (unused : Unused) (space : TagSpace) (before after : Member) where
   -- RFREND alone needs no pid: it is refused where no row is left
@@ -115,10 +108,10 @@ module _ (unused : Unused) (space : TagSpace) (before after : Member) where
 module _ (before after : Member) where
   -- RFPROC spends nothing, and RFREND alone does, so that the caller may have any other
   rfproc_spends_nothing : HasSpent (flags_of 1) before None
-  rfproc_spends_nothing moves = omega (arith, moves)
+  rfproc_spends_nothing moves = false≢true moves.space
 
   rfrend_may_change_the_member : KeepsMember (flags_of 2) before after
-  rfrend_may_change_the_member stays = absurd (stays refl)
+  rfrend_may_change_the_member stays = absurd (stays rfrend_moves_the_caller)
 
 -- ---- why nothing is made
 

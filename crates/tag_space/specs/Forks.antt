@@ -1,16 +1,15 @@
 -- What rfork does to tag spaces, after fork(2): a child is in its parent's space, but with RFREND
 -- the child is the first in a new space, or, where there is no child, the caller is. RFNOTEG does
 -- the same for note groups, beside it.
-use Rattle.std.specs.Prelude.{◌≡◌, ◌⊎◌, ⊤, ◌<◌, ◌-◌, ◌==◌, ◌||◌, ℕ, Bool, if◌then◌else◌, IsTrue}
-use Rattle.std.specs.Prelude.{Option, Some, None}
+use Rattle.std.specs.Prelude.{◌≡◌, ◌⊎◌, ⊤, ℕ, if◌then◌else◌, IsTrue, Option, Some, None}
 use Rattle.kernel_lock.specs.Seats.{KnowsAllGiven}
-use Rattle.sleep_wakeup.specs.Forks.{HasPid, asks_group}
+use Rattle.sleep_wakeup.specs.Forks.{HasPid}
 use Rattle.sleep_wakeup.specs.Kernel.{Running, Unused, HasRendez, next_process, one_pid_less}
 use Rattle.sleep_wakeup.specs.Kernel.{rendez_less, regrouped}
 use Rattle.sync_base.specs.declared.fault.Fault.{Fault}
 use Rattle.sync_base.specs.declared.fault.Fault.TheVariants as fault
 use Rattle.sync_base.specs.declared.flags.Flags.{Flags}
-use Rattle.sync_base.specs.Flags.{bits_of}
+use Rattle.sync_base.specs.Flags.{AreKnown, asks_child, asks_group, asks_space}
 use Rattle.tag_space.specs.declared.forking.SpentMember.{SpentMember}
 use Rattle.tag_space.specs.declared.member.Member.{Member}
 use Rattle.tag_space.specs.declared.space.TagSpace.{TagSpace}
@@ -20,22 +19,6 @@ use Rattle.tag_space.specs.Spaces.{IsNewSpace, IsFirstMember, IsFurtherMember}
 -- a child and its member
 abbrev pub Child : Type 0
 Child = Running × Member
-
--- the flags but RFNOTEG
-abbrev pub others_of : Flags → ℕ
-others_of flags = if asks_group flags then bits_of flags - 4 else bits_of flags
-
--- RFPROC, RFREND and RFNOTEG alone are known here
-abbrev pub AreKnown : Flags → Type 0
-AreKnown flags = others_of flags < 4
-
--- RFPROC is set: a child is asked for
-abbrev pub asks_child : Flags → Bool
-asks_child flags = (others_of flags == 1) || (others_of flags == 3)
-
--- RFREND is set: a new space is asked for
-abbrev pub asks_space : Flags → Bool
-asks_space flags = (others_of flags == 2) || (others_of flags == 3)
 
 -- a pid is left, where one is asked for
 abbrev pub MayHavePid : Unused → Flags → Type 0
@@ -120,8 +103,9 @@ left_by parent unused space flags =
     else regrouped parent (asks_group flags) rows
 
 -- with RFREND and no RFPROC the caller moves to the new space
-abbrev pub MovesCaller : Flags → Type 0
-MovesCaller flags = others_of flags ≡ 2
+pub record MovesCaller (flags : Flags) : Type 0 where
+  pub space : IsTrue (asks_space flags)
+  pub no_child : ¬ IsTrue (asks_child flags)
 
 -- the caller has the member that it had, unless it moves
 abbrev pub KeepsMember : Flags → Member → Member → Type 0

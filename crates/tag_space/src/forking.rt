@@ -1,11 +1,10 @@
 //! How rfork(2) makes a child in a tag space, or gives it or the caller a new one.
 ghost use Rattle.std.specs.Prelude.{◌≡◌, ◌<◌, IfOk, IfErr, OnOk, OnErr, IfSome, None};
-ghost use Rattle.sleep_wakeup.specs.Forks.{HasPid, asks_group};
-ghost use Rattle.sync_base.specs.Flags.{bits_of};
+ghost use Rattle.sleep_wakeup.specs.Forks.{HasPid};
+ghost use Rattle.sync_base.specs.Flags.{AreKnown};
 ghost use Rattle.sleep_wakeup.specs.Kernel.{next_process, one_pid_less, rendez_less, regrouped};
 ghost use Rattle.tag_space.specs.Members.{IsMemberOf, IsSameMember};
 ghost use Rattle.tag_space.specs.Forks.{
-  AreKnown,
   WhyNotForked,
   HasSpace,
   HasChild,
@@ -13,7 +12,6 @@ ghost use Rattle.tag_space.specs.Forks.{
   childs_space,
   left_by,
   rfork_of,
-  others_of,
   IsFirstThere,
   KeepsMember,
   ComesBack,
@@ -106,46 +104,40 @@ pub fn rfork<'k, R: Wait>(
     // The parent is as it was.
     ensures parent { parent.new ≡ parent.old }
 {
-    let apart = flags.bits() >= Flags::RFNOTEG.bits();
-    let others = others(flags);
-    let both = Flags::RFPROC.bits() + Flags::RFREND.bits();
-    let (pids, _) = roster.left();
     let mut member = member;
-    if others == Flags::NONE.bits() {
-        leave_group(roster, parent, apart);
-        Ok(of_parts(member, None, None, None))
-    } else if others == Flags::RFPROC.bits() {
-        if pids == 0 {
-            return Err(refused(member, Fault::NoProc));
+    let Some(wants) = flags.wants() else {
+        return Err(refused(member, Fault::BadFlags));
+    };
+    let (pids, _) = roster.left();
+    if wants.process && pids == 0 {
+        return Err(refused(member, Fault::NoProc));
+    }
+    match (wants.process, wants.space) {
+        (false, false) => {
+            leave_group(roster, parent, wants.note_group);
+            Ok(of_parts(member, None, None, None))
         }
-        match space.fork_member(rt, &mut member) {
+        (true, false) => match space.fork_member(rt, &mut member) {
             Ok(childs) => {
-                let child = next_child(roster, parent, apart);
+                let child = next_child(roster, parent, wants.note_group);
                 Ok(of_parts(member, None, Some((child, childs)), None))
             }
             Err(fault) => Err(refused(member, fault)),
-        }
-    } else if others == Flags::RFREND.bits() {
-        match space.new_group(alloc, roster) {
+        },
+        (false, true) => match space.new_group(alloc, roster) {
             Ok(Opened { space, member: own }) => {
-                leave_group(roster, parent, apart);
+                leave_group(roster, parent, wants.note_group);
                 Ok(of_parts(own, Some(space), None, Some(SpentMember { member })))
             }
             Err(fault) => Err(refused(member, fault)),
-        }
-    } else if others == both {
-        if pids == 0 {
-            return Err(refused(member, Fault::NoProc));
-        }
-        match space.new_group(alloc, roster) {
+        },
+        (true, true) => match space.new_group(alloc, roster) {
             Ok(Opened { space, member: own }) => {
-                let child = next_child(roster, parent, apart);
+                let child = next_child(roster, parent, wants.note_group);
                 Ok(of_parts(member, Some(space), Some((child, own)), None))
             }
             Err(fault) => Err(refused(member, fault)),
-        }
-    } else {
-        Err(refused(member, Fault::BadFlags))
+        },
     }
 }
 
@@ -174,47 +166,23 @@ fn refused(member: Member, fault: Fault) -> NotForked
     NotForked { member, fault }
 }
 
-// The flags but RFNOTEG.
-fn others(flags: Flags) -> u32
-    ensures { result ≡ others_of flags }
-{
-    if flags.bits() >= Flags::RFNOTEG.bits() {
-        flags.bits() - Flags::RFNOTEG.bits()
-    } else {
-        flags.bits()
-    }
-}
-
 // The next process, in its parent's note group or in one of its own.
-fn next_child<'k>(roster: &mut Roster<'k>, parent: &mut Proc<'k>, apart: bool) -> Proc<'k>
+fn next_child<'k>(roster: &mut Roster<'k>, parent: &Proc<'k>, apart: bool) -> Proc<'k>
     requires { HasPid roster.old }
     ensures child { result ≡ next_process roster.old }
-    ensures left { roster.new ≡ one_pid_less parent.old.process.pid apart roster.old }
-    ensures parent { parent.new ≡ parent.old }
+    ensures left { roster.new ≡ one_pid_less parent.now.process.pid apart roster.old }
 {
-    let made = if apart {
-        roster.rfork(
-            parent,
-            Flags::from_bits(Flags::RFPROC.bits() + Flags::RFNOTEG.bits()),
-        )
-    } else {
-        roster.rfork(parent, Flags::RFPROC)
-    };
-    match made {
-        Ok(Some(child)) => child,
-        Ok(None) | Err(_) => unreachable!(),
+    match roster.make_child(parent, apart) {
+        Ok(child) => child,
+        Err(_) => unreachable!(),
     }
 }
 
 // The caller in a note group of its own, where one is asked for.
-fn leave_group<'k>(roster: &mut Roster<'k>, caller: &mut Proc<'k>, apart: bool)
-    ensures left { roster.new ≡ regrouped caller.old.process.pid apart roster.old }
-    ensures caller { caller.new ≡ caller.old }
+fn leave_group<'k>(roster: &mut Roster<'k>, caller: &Proc<'k>, apart: bool)
+    ensures { roster.new ≡ regrouped caller.now.process.pid apart roster.old }
 {
     if apart {
-        match roster.rfork(caller, Flags::RFNOTEG) {
-            Ok(None) => {}
-            Ok(Some(_)) | Err(_) => unreachable!(),
-        }
+        roster.leave_group(caller);
     }
 }

@@ -2,9 +2,10 @@
 //! proved once more for its tests.
 //! Read `kernels`, which opens them for all others, and `dice`, the choices of a crowd; `sleepers`,
 //! who sleep and are woken, and `looks` at them; `queues`, `pipes` and `streams`, at queues and
-//! pipes; `partners`, two who meet, and `guests`, who meet in a crowd; `acquirers` of units, and
-//! `tickers`; `timed`, a crowd at a pipe and one of sleepers, whose calls have deadlines; `crews`,
-//! writers and a reader; and `pages`, the examples of the manual.
+//! pipes; `partners`, two who meet, `guests`, who meet in a crowd, and `guest_forks`, what rfork
+//! makes of a guest; `acquirers` of units, and `tickers`; `timed`, a crowd at a pipe and one of
+//! sleepers, whose calls have deadlines; `crews`, writers and a reader; and `pages`, the examples
+//! of the manual.
 #![tactic(auto)]
 
 #[cfg(test)]
@@ -13,6 +14,8 @@ mod acquirers;
 mod crews;
 #[cfg(test)]
 mod dice;
+#[cfg(test)]
+mod guest_forks;
 #[cfg(test)]
 mod guests;
 #[cfg(test)]

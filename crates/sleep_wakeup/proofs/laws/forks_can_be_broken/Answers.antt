@@ -1,6 +1,6 @@
 -- By the next pid, the flags, and how many groups there are.
 use Rattle.std.proofs.Common.{◌≡◌, ℕ, Bool, true, false, not, if◌then◌else◌, length}
-use Rattle.std.proofs.Common.{ap, arith, inl, inr}
+use Rattle.std.proofs.Common.{ap, arith}
 use Rattle.sync_base.specs.declared.flags.Flags.{Flags}
 use Rattle.sleep_wakeup.specs.Forks.{AsksChild, AsksNobody}
 use Rattle.sleep_wakeup.specs.Groups.{begins, first_group, follows}
@@ -9,10 +9,7 @@ use Rattle.sleep_wakeup.proofs.laws.forks_can_be_broken.Goals as goal
 
 -- flags that ask for a child don't ask for none
 both : (flags : Flags) → AsksChild flags → AsksNobody flags → ⊥
-both flags (inl child) (inl none) = omega (arith, child, none)
-both flags (inl child) (inr none) = omega (arith, child, none)
-both flags (inr child) (inl none) = omega (arith, child, none)
-both flags (inr child) (inr none) = omega (arith, child, none)
+both flags one none = let child = one.child in let nobody = none.nobody in cc
 
 pub returns-clause-gives_a_pid_twice : goal.returns-clause-gives_a_pid_twice
 returns-clause-gives_a_pid_twice c = λ unused flags parent forks.
@@ -41,13 +38,13 @@ returns-clause-child_is_in_another_group c = λ unused flags asks is forks.
     apart_or_not _ unused.pids.next (rw is at (ap (λ (u : Unused). length u.groups) forks.2))
 
 pub returns-clause-caller_stays : goal.returns-clause-caller_stays
-returns-clause-caller_stays c = λ unused flags bits is forks.
-    let bad : 2 ≡ 3 = rw (bits, is) at (ap (λ (u : Unused). length u.groups) forks.1) in
+returns-clause-caller_stays c = λ unused flags asks is forks.
+    let bad : 2 ≡ 3 = rw (asks, is) at (ap (λ (u : Unused). length u.groups) forks.1) in
     omega (arith, bad)
 
 pub returns-clause-caller_leaves_unasked : goal.returns-clause-caller_leaves_unasked
-returns-clause-caller_leaves_unasked c = λ unused flags bits is forks.
-    let bad : 3 ≡ 2 = rw (bits, is) at (ap (λ (u : Unused). length u.groups) forks.1) in
+returns-clause-caller_leaves_unasked c = λ unused flags asks is forks.
+    let bad : 3 ≡ 2 = rw (asks, is) at (ap (λ (u : Unused). length u.groups) forks.1) in
     omega (arith, bad)
 
 pub returns-clause-row_is_one_too_short : goal.returns-clause-row_is_one_too_short
