@@ -10,8 +10,8 @@ use Rattle.pipe_dev.specs.declared.answers.ReadAnswer.{ReadAnswer}
 use Rattle.pipe_dev.specs.Filling.{Lending}
 use Rattle.block_queue.specs.declared.view.Key.{Key}
 use Rattle.pipe_dev.specs.declared.row.Row.{Row}
-use Rattle.pipe_dev.specs.ReadCalls.{AsksForBytes, Calling, GivesUp, IsAskedRead, Reads, calling_at}
-use Rattle.pipe_dev.specs.ReadCalls.{lent_at, reading, waits_by}
+use Rattle.pipe_dev.specs.ReadCalls.{AsksForBytes, Calling, GivesUp, IsAskedRead, Reads, reading}
+use Rattle.pipe_dev.specs.ReadCalls.{waits_by}
 use Rattle.pipe_dev.specs.Rendezes.{reader_rendez}
 use Rattle.waiting.specs.declared.call.Reply.{Reply}
 use Rattle.waiting.specs.declared.call.Reply.TheVariants.{Done, Refused}
@@ -26,17 +26,14 @@ failed before after rendez number fault.DoubleSleep fails = tt
 failed before after rendez number other fails = absurd fails
 
 module _ (Asks : Calling → Reply ReadAnswer → Calling → Type 0) (rendez : RendezId) where
-  abbrev Asked : Point Lending → Reply ReadAnswer → Point Lending → Type 0
-  Asked old told new = Asks (calling_at old) told (calling_at new)
-
   -- so a read that no request refuses answers nothing that comes before the first
   pub is_asked_read : ((old new : Calling) (why : Fault) → ¬ Asks old (Refused why) new)
       → (old : Point Lending) (answer : Result ReadAnswer Fault) (new : Point Lending)
       → Waited (waits_by Asks) rendez old answer new → IsAskedRead answer
   is_asked_read none old (Ok answer) new waited = tt
   is_asked_read none old (Err why) new waited =
-      refused_for Asked GivesUp rendez (λ why. IsAskedRead (Err why))
-      (λ old new why asks. absurd (none (calling_at old) (calling_at new) why asks))
+      refused_for Asks GivesUp rendez (λ why. IsAskedRead (Err why))
+      (λ old new why asks. absurd (none old new why asks))
       (λ before after number why fails. failed before after rendez number why fails)
       old why new waited
 
@@ -47,38 +44,38 @@ module _ (Asks : Calling → Reply ReadAnswer → Calling → Type 0) (rendez : 
     -- its process behind it
     pub process : Process
     -- what it did
-    pub asked : Asks before (Done answer) (calling_at (record { seat = seat; process = process }))
+    pub asked : Asks before (Done answer) (record { seat = seat; process = process })
 
   abbrev Over : Result ReadAnswer Fault → Lending → Type 0
   Over (Ok answer) seat = LastAsked answer seat
   Over (Err why) seat = ⊤
 
   over : (old new : Point Lending) (answer : Result ReadAnswer Fault)
-      → Asked old (reply_of answer) new → Over answer new.seat
+      → Asks old (reply_of answer) new → Over answer new.seat
   over old new (Ok answer) asks =
-      record { before = calling_at old; process = new.process; asked = asks }
+      record { before = old; process = new.process; asked = asks }
   over old new (Err why) asks = tt
 
   -- so of a whole call
   pub last_asked : (old : Calling) (answer : ReadAnswer) (new : Calling)
-      → Waited (waits_by Asks) rendez (lent_at old) (Ok answer) (lent_at new)
-      → LastAsked answer (lent_at new).seat
+      → Waited (waits_by Asks) rendez old (Ok answer) new
+      → LastAsked answer new.seat
   last_asked old answer new waited =
-      waited_ends Asked GivesUp rendez (λ seat. ⊤) Over (λ old new number on asks. tt)
+      waited_ends Asks GivesUp rendez (λ seat. ⊤) Over (λ old new number on asks. tt)
       (λ old new answer on asks. over old new answer asks)
       (λ old new out on gives. absurd gives) (λ old new why on same. tt)
-      (lent_at old) (Ok answer) (lent_at new) tt waited
+      old (Ok answer) new tt waited
 
 -- a wait of a read is a read
 pub reads_so : (key : Key) (row : Row) (old : Calling) (answer : Result ReadAnswer Fault)
     (new : Calling)
-    → Waited (reading key row) (reader_rendez row) (lent_at old) answer (lent_at new)
+    → Waited (reading key row) (reader_rendez row) old answer new
     → Reads key row old answer new
 reads_so key row old (Ok answer) new waited = waited
 reads_so key row old (Err fault.BadCount) new waited =
     absurd (is_asked_read (AsksForBytes key row) (reader_rendez row) (λ old new why asks. asks)
-    (lent_at old) (Err fault.BadCount) (lent_at new) waited)
+    old (Err fault.BadCount) new waited)
 reads_so key row old (Err fault.NoRendez) new waited =
     absurd (is_asked_read (AsksForBytes key row) (reader_rendez row) (λ old new why asks. asks)
-    (lent_at old) (Err fault.NoRendez) (lent_at new) waited)
+    old (Err fault.NoRendez) new waited)
 reads_so key row old (Err other) new waited = waited

@@ -13,8 +13,7 @@ use Rattle.block_queue.specs.declared.view.Key.{Key}
 use Rattle.pipe_dev.specs.declared.answers.ReadAnswer.{ReadAnswer}
 use Rattle.pipe_dev.specs.declared.row.Row.{Row}
 use Rattle.pipe_dev.specs.Filling.{Lending}
-use Rattle.pipe_dev.specs.ReadCalls.{AsksForBytes, Calling, IsAskedRead, IsUntouchedRead, Reads}
-use Rattle.pipe_dev.specs.ReadCalls.{ReadsBy, calling_at, lent_at, run_call}
+use Rattle.pipe_dev.specs.ReadCalls.{AsksForBytes, Calling, IsAskedRead, Reads, ReadsBy, run_call}
 use Rattle.pipe_dev.specs.Rendezes.{OwnsRow, reader_rendez}
 use Rattle.pipe_dev.specs.WriteCalls.{IsAsked, IsRefusedAs, WriteCall, Writes, WritesBy}
 use Rattle.waiting.specs.Runners.{RunPoint, as_long_as_it_takes}
@@ -108,26 +107,22 @@ empty_or_not (byte ∷ bytes) = inr (λ same. cc)
 
 module _ (key : Key) (row : Row) (words : Words) (old new : Calling) (lent back : ⊤)
     (answer : Result ReadAnswer Fault)
-    (bad_count : old.buffer ≡ []
+    (bad_count : old.seat.buffer ≡ []
     → IsRefusedAs fault.BadCount (run_call old lent) answer (run_call new back))
-    (no_rendez : old.buffer ≢ [] → ¬ OwnsRow words row
+    (no_rendez : old.seat.buffer ≢ [] → ¬ OwnsRow words row
     → IsRefusedAs fault.NoRendez (run_call old lent) answer (run_call new back))
-    (read : old.buffer ≢ [] → OwnsRow words row
+    (read : old.seat.buffer ≢ [] → OwnsRow words row
     → ReadsBy as_long_as_it_takes key row (run_call old lent) answer (run_call new back)) where
   -- it did nothing
   untouched : (why : Fault) → IsRefusedAs why (run_call old lent) answer (run_call new back)
-      → IsUntouchedRead old.reader old.buffer new.reader new.buffer
-  untouched why refused =
-      record {
-        same = ap (λ (t : RunPoint ⊤ Lending). (calling_at t.at).reader) refused.same;
-        buffer_same = ap (λ (t : RunPoint ⊤ Lending). (calling_at t.at).buffer) refused.same;
-      }
+      → new ≡ old
+  untouched why refused = ap (λ (t : RunPoint ⊤ Lending). t.at) refused.same
 
   -- so it is a read
   pub read_so : Reads key row old answer new
-  read_so = by (empty_or_not old.buffer) (owns_or_not words row)
+  read_so = by (empty_or_not old.seat.buffer) (owns_or_not words row)
     where
-      by : (old.buffer ≡ []) ⊎ (old.buffer ≢ [])
+      by : (old.seat.buffer ≡ []) ⊎ (old.seat.buffer ≢ [])
           → OwnsRow words row ⊎ (¬ OwnsRow words row) → Reads key row old answer new
       by (inl empty) row_is =
           let refused = bad_count empty in
@@ -146,17 +141,17 @@ module _ (key : Key) (row : Row) (words : Words) (old new : Calling) (lent back 
   runs_not_so why early waited is =
       early (subst IsAskedRead is
       (is_asked_read (AsksForBytes key row) (reader_rendez row) (λ old new why asks. asks)
-      (lent_at old) answer (lent_at new) waited))
+      old answer new waited))
 
   -- its count is bad just where its buffer is empty
-  pub bad_count_is : IsErrOf answer fault.BadCount ↔ (old.buffer ≡ [])
+  pub bad_count_is : IsErrOf answer fault.BadCount ↔ (old.seat.buffer ≡ [])
   bad_count_is = (
-    λ is. by is (empty_or_not old.buffer) (owns_or_not words row),
+    λ is. by is (empty_or_not old.seat.buffer) (owns_or_not words row),
     λ empty. (bad_count empty).answer_is,
   )
     where
-      by : answer ≡ Err fault.BadCount → (old.buffer ≡ []) ⊎ (old.buffer ≢ [])
-          → OwnsRow words row ⊎ (¬ OwnsRow words row) → old.buffer ≡ []
+      by : answer ≡ Err fault.BadCount → (old.seat.buffer ≡ []) ⊎ (old.seat.buffer ≢ [])
+          → OwnsRow words row ⊎ (¬ OwnsRow words row) → old.seat.buffer ≡ []
       by is (inl empty) row_is = empty
       by is (inr some) (inl owns) =
           absurd (runs_not_so fault.BadCount (λ it. it) (read some owns) is)
@@ -165,7 +160,7 @@ module _ (key : Key) (row : Row) (words : Words) (old new : Calling) (lent back 
           absurd cc
 
   -- and a kernel has no Rendez for it just where it does not own them all
-  pub no_rendez_tells : old.buffer ≢ [] → (IsErrOf answer fault.NoRendez ↔ ¬ OwnsRow words row)
+  pub no_rendez_tells : old.seat.buffer ≢ [] → (IsErrOf answer fault.NoRendez ↔ ¬ OwnsRow words row)
   no_rendez_tells some = (
     λ is owns. runs_not_so fault.NoRendez (λ it. it) (read some owns) is,
     λ foreign. (no_rendez some foreign).answer_is,

@@ -10,7 +10,7 @@ use Rattle.waiting.specs.declared.wait.WaitEnd.{WaitEnd}
 use Rattle.waiting.specs.declared.wait.WaitEnd.TheVariants.{Answered, Stopped}
 use Rattle.waiting.specs.Runners.{ComesToSame, over_at}
 use Rattle.waiting.specs.Waiting.{Ends, Point, Promise, Returns, Waited}
-use Rattle.pipe_dev.specs.ReadCalls.{RunsOfReadsAreReads, gone_on, lent_at, reading}
+use Rattle.pipe_dev.specs.ReadCalls.{RunsOfReadsAreReads, reading}
 use Rattle.pipe_dev.specs.Rendezes.{reader_rendez, writer_rendez}
 use Rattle.pipe_dev.specs.WriteCalls.{RunsOfWritesAreWrites, writing}
 use Rattle.pipe_dev.proofs.AskedLemmas.{reads_so}
@@ -64,9 +64,9 @@ run_read key row old new answer is =
     record {
       told = is.told;
       process = is.process;
-      read = reads_so key row old is.told (gone_on new is.process) is.waited;
+      read = reads_so key row old is.told (record new { process = is.process }) is.waited;
       same = is.same;
-      own = subst (λ (p : Process). IsPast p.trace new.reader.process.trace)
+      own = subst (λ (p : Process). IsPast p.trace new.process.trace)
           (is_over (reading key row) (reader_rendez row) (λ old new out late. late)
-          (lent_at old) is.told (lent_at (gone_on new is.process)) is.waited) is.own;
+          old is.told (record new { process = is.process }) is.waited) is.own;
     }

@@ -12,13 +12,12 @@ use Rattle.waiting.specs.declared.wait.WaitEnd.TheVariants.{Answered, Stopped}
 use Rattle.waiting.specs.Runners.{ComesToSame, IsACall, over_at}
 use Rattle.waiting.specs.Waiting.{Ends, Promise, Point, Waited, answer_of}
 use Rattle.waiting.specs.Wakeups.{HasGoneOn}
-use Rattle.pipe_dev.specs.ReadCalls.{calling_at, gone_on, lent_at, reading}
+use Rattle.pipe_dev.specs.ReadCalls.{reading}
 use Rattle.pipe_dev.specs.Rendezes.{reader_rendez, writer_rendez}
 use Rattle.pipe_dev.specs.WaitLaws.{RunReadsWakeEachWriter}
 use Rattle.pipe_dev.specs.WaitLaws.{RunWritesWakeTheReader}
 use Rattle.pipe_dev.specs.WriteCalls.{writing}
 use Rattle.pipe_dev.proofs.WaitLemmas.{writes_wake_the_reader, reads_wake_each_writer}
-use Rattle.pipe_dev.proofs.WaitLemmas.{tries_wake_each_writer}
 
 -- what was answered was told by the last request, whose process the caller's was
 record LastTold {Seat Out : Type 0} (promise : Promise Seat Out) (views : List View)
@@ -106,21 +105,17 @@ run_writes_wake sizes s shows call number old new (inr is) gone =
     writes_wake_the_reader sizes s shows call number last.before
     (record { seat = new.seat; process = last.process }) last.asked last.gone
 
--- by the laws of reads and tries, of its last try
+-- by the law of reads, of its last try
 pub run_reads_wake : RunReadsWakeEachWriter
 run_reads_wake sizes s shows key row answer old new is gone =
     let last = last_told (reading key row) (reader_rendez row) (λ old new told begun. begun)
-    (λ old new out late. late) s.views (lent_at old) (lent_at new).seat answer
-    new.reader.process is gone in
-    let before = calling_at last.before in
-    let after = gone_on new last.process in
+    (λ old new out late. late) s.views old new.seat answer
+    new.process is gone in
     record {
-      before = before;
+      before = last.before;
       process = last.process;
       asked = last.asked;
-      taken = λ left takes.
-          reads_wake_each_writer sizes s shows key row before.reader after.reader left takes
+      released = λ number woken.
+          reads_wake_each_writer sizes s shows row number last.before.process last.process woken
           last.gone;
-      tried = λ came number tries is.
-          tries_wake_each_writer sizes s shows key row before came after tries last.gone number is;
     }

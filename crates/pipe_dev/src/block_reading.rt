@@ -29,7 +29,7 @@ impl<'p> ReadEnd<'p> {
     ghost use Rattle.block_queue.specs.Seats.{key_of};
     ghost use Rattle.pipe_dev.specs.BlockReads.{ReadsBlock};
     ghost use Rattle.pipe_dev.specs.Ends.{IsSameReadEnd};
-    ghost use Rattle.pipe_dev.specs.ReadCalls.{calling, reader_of};
+    ghost use Rattle.pipe_dev.specs.ReadCalls.{calling};
     ghost use Rattle.pipe_dev.specs.Rendezes.{OwnsRow};
 
     /// Reads all that is left of the write that was begun, or else the next write, and copies
@@ -54,8 +54,8 @@ impl<'p> ReadEnd<'p> {
 
         // It read, slept and woke so, or did nothing.
         ensures read { ReadsBlock (key_of self.old.queue) self.old.row
-            (calling (reader_of self.old proc.old) block.old.items) result
-            (calling (reader_of self.new proc.new) block.new.items) }
+            (calling self.old proc.old block.old.items) result
+            (calling self.new proc.new block.new.items) }
         ensures end { IsSameReadEnd self.old self.new }
         ensures words { proc.new.words ≡ proc.old.words }
     {
