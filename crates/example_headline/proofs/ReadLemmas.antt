@@ -6,7 +6,6 @@ use Rattle.histories.specs.declared.account.Account.{Account}
 use Rattle.histories.proofs.ListLemmas.{past_refl}
 use Rattle.sync_base.specs.declared.fault.Fault.{Fault}
 use Rattle.sync_base.specs.declared.fault.Fault.TheVariants as fault
-use Rattle.sync_base.specs.declared.mode.Mode.{Mode}
 use Rattle.sync_base.specs.declared.mode.Mode.TheVariants.{Message}
 use Rattle.sync_base.specs.NoteSet.{no_notes}
 use Rattle.sleep_core.specs.declared.answer.Answer.TheVariants as answer

@@ -16,7 +16,8 @@ use Rattle.pipe_dev.specs.BlockReads.{AsksForBlock}
 use Rattle.pipe_dev.specs.CallLaws.{BlockReadsAreSteps}
 use Rattle.pipe_dev.specs.Chain.{AddsNone, AddsRead, IsOfSteps}
 use Rattle.pipe_dev.specs.Parts.{Part, part_of, rest_of}
-use Rattle.pipe_dev.specs.ReadCalls.{Calling, calling, waits_by}
+use Rattle.pipe_dev.specs.Calls.{waits_by}
+use Rattle.pipe_dev.specs.ReadCalls.{Calling, calling}
 use Rattle.pipe_dev.specs.Rendezes.{reader_rendez}
 use Rattle.pipe_dev.specs.SideLaws.{BlockReadsAddToTheirEnd}
 use Rattle.waiting.specs.declared.call.Reply.TheVariants.{Wait}

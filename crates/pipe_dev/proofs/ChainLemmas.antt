@@ -25,6 +25,7 @@ use Rattle.pipe_dev.specs.declared.answers.TryAnswer.TheVariants as try
 use Rattle.pipe_dev.specs.declared.filling.Stop.{Stop}
 use Rattle.pipe_dev.specs.declared.filling.Stop.TheVariants as stop
 use Rattle.pipe_dev.specs.declared.row.Row.{Row}
+use Rattle.pipe_dev.specs.Calls.{waits_by}
 use Rattle.pipe_dev.specs.CallLaws.{GetsOne, ReadsAreSteps, ReadsOneOrNone, TriesAreSteps}
 use Rattle.pipe_dev.specs.CallLaws.{HangupsAreSteps}
 use Rattle.pipe_dev.specs.Chain.{ReadStep, AddsBytes, AddsNoByte, AddsOne, AddsParts, AddsRead}
@@ -35,8 +36,8 @@ use Rattle.pipe_dev.specs.Filling.{TakesMore, TakesPart, begins, goes_further}
 use Rattle.pipe_dev.specs.Finishing.{accepted_in, shares_of, holdings_of}
 use Rattle.pipe_dev.specs.Laws.{EachWriteIsReadWholeAndOnce, IsAllOfWriter, IsAllWritten, found_at}
 use Rattle.pipe_dev.specs.Parts.{Part, bytes_by, bytes_of}
-use Rattle.pipe_dev.specs.ReadCalls.{AsksForBytes, Calling, GivesUp, Tries, TriesOn, came_to}
-use Rattle.pipe_dev.specs.ReadCalls.{reading, waits_by}
+use Rattle.pipe_dev.specs.ReadCalls.{AsksForBytes, Calling, Tries, TriesOn, came_to}
+use Rattle.pipe_dev.specs.ReadCalls.{reading}
 use Rattle.pipe_dev.specs.Rendezes.{reader_rendez}
 use Rattle.pipe_dev.specs.Rounds.{Rounds}
 use Rattle.waiting.specs.declared.call.Reply.{Reply}
@@ -326,39 +327,19 @@ module _ (key : Key) (mode : Mode) (Asks : Calling → Reply ReadAnswer → Call
         steps = all.1;
       }
 
-  gave_up : (old new : Lending) (why : Fault) → On old → new ≡ old → Over (Err why) new
-  gave_up old new why on same =
-      subst (Over (Err why)) (sym same)
-      (record {
-        parts' = on.1.parts';
-        added = on.1.added;
-        times = on.1.times;
-        steps = on.1.steps;
-      })
-
   -- so the whole read is such steps
   pub waited_steps : (rendez : RendezId) (answer : Result ReadAnswer Fault) (new : Calling)
       → Room first.seat.buffer → Waited (waits_by Asks) rendez first answer new
       → IsOfSteps key (AddsRead mode answer new.seat.buffer) first.seat.taker parts new.seat.taker
   waited_steps rendez answer new room waited =
-      let over = waited_ends Asks GivesUp
-      rendez On Over
-      (λ old new number on asks. let next =
-      waits old number new on.0 asks in
+      waited_ends Asks rendez On Over
+      (λ old new number on asks. let next = waits old number new on.0 asks in
       (next.0, more (AddsNoByte mode) old new (waits_then mode parts) on.1 next.1))
       (λ old new answer on asks. more (AddsRead mode answer new.seat.buffer) old new
-      (adds_then mode new.seat.buffer answer parts) on.1
-      (ends old answer new on.0 asks))
-      (λ old new out on gives. absurd gives) gave_up
-      first answer new
+      (adds_then mode new.seat.buffer answer parts) on.1 (ends old answer new on.0 asks))
+      (λ seat why on. on.1) first answer new
       (room, record { parts' = parts; added = adds_none mode parts; times = 0; steps = refl })
-      waited in
-      record {
-        parts' = over.parts';
-        added = over.added;
-        times = over.times;
-        steps = over.steps;
-      }
+      waited
 
 -- each request of a read
 module _ (key : Key) (row : Row) where

@@ -16,12 +16,14 @@ use Rattle.pipe_dev.specs.declared.answers.ReadAnswer.TheVariants as read
 use Rattle.pipe_dev.specs.declared.answers.TryAnswer.{TryAnswer}
 use Rattle.pipe_dev.specs.declared.answers.TryAnswer.TheVariants as try
 use Rattle.pipe_dev.specs.BlockReads.{ReadsBlock, AsksForBlock}
+use Rattle.pipe_dev.specs.CallLaws.{ReadsOneOrNone}
 use Rattle.pipe_dev.specs.Chain.{IsMade, IsNoBlock, AddsNothing, ReadStep}
 use Rattle.pipe_dev.specs.Parts.{Part}
 use Rattle.pipe_dev.specs.declared.filling.Stop.TheVariants as stop
 use Rattle.pipe_dev.specs.Filling.{FindsNothing, Lending, Taker}
-use Rattle.pipe_dev.specs.ReadCalls.{AsksForBytes, Calling, GivesUp, Reads, Tries, TriesOn}
-use Rattle.pipe_dev.specs.ReadCalls.{came_to, reading, waits_by}
+use Rattle.pipe_dev.specs.ReadCalls.{AsksForBytes, Calling, Reads, Tries, TriesOn, came_to}
+use Rattle.pipe_dev.specs.ReadCalls.{reading}
+use Rattle.pipe_dev.specs.Calls.{GivesUp, waits_by}
 use Rattle.waiting.specs.declared.call.Reply.{Reply}
 use Rattle.waiting.specs.declared.call.Reply.TheVariants.{Done, Wait, Refused}
 use Rattle.pipe_dev.specs.Reading.{Reading}
@@ -157,6 +159,10 @@ module _ (table : TableId) where
   queue_refuses_a_read : (old new : Calling)
       → ¬ AsksForBytes tight rendez_row old (Refused fault.Memory) new
   queue_refuses_a_read old new asks = asks
+
+  refused_try_reads : (old new : Calling)
+      → ¬ ReadsOneOrNone tight rendez_row old (Refused fault.Memory) new
+  refused_try_reads old new none = none
 
   read_that_waits_fills_its_buffer : ¬ AsksForBytes tight rendez_row
       (unread_with b) (Wait 0) (told_with a)
@@ -309,7 +315,7 @@ module _ (table : TableId) where
   block_read_that_waits_takes_the_block asks = let bytes = asks.0.buffer in cc
 
   interrupted_block_read_takes_the_block :
-      ¬ GivesUp (told_with b).seat None
+      ¬ GivesUp {Out = ReadAnswer} (told_with b).seat None
       (told_with []).seat
   interrupted_block_read_takes_the_block same =
       let bytes = ap (λ (l : Lending). l.buffer) same in cc

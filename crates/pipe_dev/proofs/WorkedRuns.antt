@@ -1,5 +1,5 @@
 -- Runs of calls of the ends that did what none may do, each against one row.
-use Rattle.std.proofs.Common.{◌≡◌, ◌≢◌, ◌<◌, ℕ, Some, Result, Ok, Err, inl, inr, refl}
+use Rattle.std.proofs.Common.{◌≡◌, ◌≢◌, ◌<◌, ℕ, Some, Result, Err, inl, inr, refl}
 use Rattle.histories.specs.declared.account.Account.{Account}
 use Rattle.histories.specs.History.{IsPast}
 use Rattle.sync_base.specs.declared.fault.Fault.{Fault}
@@ -10,17 +10,19 @@ use Rattle.block_queue.specs.declared.entry.Entry.{Entry}
 use Rattle.block_queue.specs.declared.view.Key.{Key}
 use Rattle.pipe_dev.specs.declared.answers.ReadAnswer.{ReadAnswer}
 use Rattle.pipe_dev.specs.declared.row.Row.{Row}
+use Rattle.pipe_dev.specs.Calls.{RunsAs}
 use Rattle.pipe_dev.specs.Ends.{WriteSide}
 use Rattle.pipe_dev.specs.Filling.{Lending}
-use Rattle.pipe_dev.specs.ReadCalls.{AsksForBytes, Calling, IsARead, Reads, ReadsBy, RunsARead}
+use Rattle.pipe_dev.specs.ReadCalls.{AsksForBytes, Calling, ReadsBy, RunsARead}
 use Rattle.pipe_dev.specs.ReadCalls.{reading, run_call}
 use Rattle.pipe_dev.specs.WaitLaws.{LastTryReleases, ReleasesWriters}
 use Rattle.sleep_core.specs.Laws.{ReleasesBelow}
 use Rattle.sleep_core.specs.State.{State}
 use Rattle.waiting.specs.declared.call.Reply.TheVariants.{Done}
 use Rattle.pipe_dev.specs.Rendezes.{WakesWith, reader_rendez, writer_rendez}
-use Rattle.pipe_dev.specs.WriteCalls.{IsAWrite, IsRefusedAs, RunsAWrite, WriteCall, Writer, Writes}
+use Rattle.pipe_dev.specs.WriteCalls.{IsRefusedAs, RunsAWrite, WriteCall, Writer}
 use Rattle.pipe_dev.specs.WriteCalls.{WritesBy, run_writer, writer_of, writing}
+use Rattle.waiting.specs.Waiting.{Point}
 use Rattle.waiting.specs.Runners.{ComesToSame, IsACall, RunPoint, Runs}
 
 -- ---- at once
@@ -82,36 +84,21 @@ module _ (key : Key) (row : Row) (old new : Calling) (answer : Result ReadAnswer
 
 -- ---- as a call that waits as long as it takes
 
-module _ (call : WriteCall) (old new : Writer) where
-  accepted_as_another : ((told : Result ℕ Fault) → ¬ ComesToSame told (Ok 7))
-      → ¬ IsAWrite call old (Ok 7) new
-  accepted_as_another none is = none is.told is.same
+module _ {Seat Out : Type 0} (Does : Result Out Fault → Point Seat → Type 0)
+    (answer : Result Out Fault) (new : Point Seat) where
+  comes_to_another : ((told : Result Out Fault) → ¬ ComesToSame told answer)
+      → ¬ RunsAs Does answer new
+  comes_to_another none is = none is.told is.same
 
-  is_no_write : (answer : Result ℕ Fault)
-      → ((told : Result ℕ Fault) (process : Process)
-      → ¬ Writes call old told (record { seat = new.seat; process = process }))
-      → ¬ IsAWrite call old answer new
-  is_no_write answer none is = none is.told is.process is.wrote
+  does_another : ((told : Result Out Fault) (process : Process)
+      → ¬ Does told (record { seat = new.seat; process = process }))
+      → ¬ RunsAs Does answer new
+  does_another none is = none is.told is.process is.did
 
   -- another process made its steps
-  is_the_write_of_another : (answer : Result ℕ Fault)
-      → ((process : Process) → ¬ IsPast process.trace new.process.trace)
-      → ¬ IsAWrite call old answer new
-  is_the_write_of_another answer none is = none is.process is.own
-
-module _ (key : Key) (row : Row) (old new : Calling) (answer : Result ReadAnswer Fault) where
-  reads_another : ((told : Result ReadAnswer Fault) → ¬ ComesToSame told answer)
-      → ¬ IsARead key row old answer new
-  reads_another none is = none is.told is.same
-
-  is_no_read : ((told : Result ReadAnswer Fault) (process : Process)
-      → ¬ Reads key row old told (record new { process = process }))
-      → ¬ IsARead key row old answer new
-  is_no_read none is = none is.told is.process is.read
-
-  is_the_read_of_another : ((process : Process) → ¬ IsPast process.trace new.process.trace)
-      → ¬ IsARead key row old answer new
-  is_the_read_of_another none is = none is.process is.own
+  is_the_call_of_another : ((process : Process) → ¬ IsPast process.trace new.process.trace)
+      → ¬ RunsAs Does answer new
+  is_the_call_of_another none is = none is.process is.own
 
 -- ---- whom it wakes
 

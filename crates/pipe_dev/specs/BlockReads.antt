@@ -12,7 +12,8 @@ use Rattle.pipe_dev.specs.declared.answers.ReadAnswer.TheVariants as read
 use Rattle.pipe_dev.specs.declared.row.Row.{Row}
 use Rattle.pipe_dev.specs.Filling.{IsLeft, IsTakenOut, number_of}
 use Rattle.pipe_dev.specs.Parts.{Part}
-use Rattle.pipe_dev.specs.ReadCalls.{Calling, FindsNone, waits_by}
+use Rattle.pipe_dev.specs.Calls.{waits_by}
+use Rattle.pipe_dev.specs.ReadCalls.{Calling, FindsNone}
 use Rattle.pipe_dev.specs.Rendezes.{WakesWith, reader_rendez}
 use Rattle.waiting.specs.declared.call.Reply.{Reply}
 use Rattle.waiting.specs.declared.call.Reply.TheVariants as reply

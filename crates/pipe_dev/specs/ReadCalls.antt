@@ -1,10 +1,7 @@
 -- What the calls of a read end do, after pipe(2), pipe(3) and read(2).
-use Rattle.std.specs.Prelude.{◌≡◌, ℕ, nat_lt, Bool, true, List, ⊤}
-use Rattle.std.specs.Prelude.{Option, Some, None, Result, Err}
-use Rattle.histories.specs.History.{IsPast}
+use Rattle.std.specs.Prelude.{◌≡◌, ℕ, nat_lt, Bool, true, List, Result, Err}
 use Rattle.sync_base.specs.declared.fault.Fault.{Fault}
 use Rattle.sync_base.specs.declared.fault.Fault.TheVariants as fault
-use Rattle.rendez_words.specs.Process.{Process}
 use Rattle.sleep_wakeup.specs.Kernel.{Running}
 use Rattle.block_queue.specs.declared.entry.Entry.{Entry}
 use Rattle.block_queue.specs.declared.view.Key.{Key}
@@ -16,12 +13,13 @@ use Rattle.pipe_dev.specs.declared.filling.ReadOutcome.{ReadOutcome}
 use Rattle.pipe_dev.specs.declared.filling.Stop.{Stop}
 use Rattle.pipe_dev.specs.declared.filling.Stop.TheVariants as stop
 use Rattle.pipe_dev.specs.declared.row.Row.{Row}
+use Rattle.pipe_dev.specs.Calls.{RunsAs, waits_by}
 use Rattle.pipe_dev.specs.Ends.{ReadSide}
 use Rattle.pipe_dev.specs.Filling.{Lending, FillsUp, FindsNothing, last_number}
 use Rattle.pipe_dev.specs.Rendezes.{reader_rendez, WakesWith}
 use Rattle.waiting.specs.declared.call.Reply.{Reply}
 use Rattle.waiting.specs.declared.call.Reply.TheVariants as reply
-use Rattle.waiting.specs.Runners.{ComesToSame, IsACall, RunPoint, Runs}
+use Rattle.waiting.specs.Runners.{IsACall, RunPoint, Runs}
 use Rattle.waiting.specs.Waiting.{Promise, Point, Waited, point}
 
 -- a read between two steps: its end with the buffer that it fills, and the process that calls
@@ -34,18 +32,6 @@ calling side proc buffer =
       taker = record { account = side.account; rest = side.rest };
       buffer = buffer;
     }) proc
-
--- ---- a read that waits
-
--- where a sleep of it failed it asks nothing more, and reads nothing more
-abbrev pub GivesUp : Lending → Option ReadAnswer → Lending → Type 0
-GivesUp old (Some answer) new = ⊥
-GivesUp old None new = new ≡ old
-
--- a read that waits, by what each of its requests does
-abbrev pub waits_by : (Calling → Reply ReadAnswer → Calling → Type 0)
-    → Promise Lending ReadAnswer
-waits_by Asks = record { begun = Asks; asked = Asks; left = GivesUp }
 
 -- ---- one try
 
@@ -128,26 +114,7 @@ ReadsBy runs key row = runs.ran (reading key row) (reader_rendez row)
 abbrev pub RunsARead : Key → Row → Calling → Result ReadAnswer Fault → Calling → Type 0
 RunsARead key row = IsACall (reading key row) (reader_rendez row)
 
--- Of its direction it did what a read does that waits as long as it takes, and it comes to the
--- same.
-pub record IsARead (key : Key) (row : Row) (old : Calling) (answer : Result ReadAnswer Fault)
-    (new : Calling) : Type 0 where
-  pub told : Result ReadAnswer Fault
-  pub process : Process
-  pub read : Reads key row old told (record new { process = process })
-  pub same : ComesToSame told answer
-  -- its steps are the caller's own, which has gone on since
-  pub own : IsPast process.trace new.process.trace
-
 abbrev pub RunsOfReadsAreReads : Type 0
 RunsOfReadsAreReads =
     (key : Key) (row : Row) (old new : Calling) (answer : Result ReadAnswer Fault)
-    → RunsARead key row old answer new → IsARead key row old answer new
-
--- ---- what comes from the wait
-
--- an answer that comes only from a request or a sleep
-abbrev pub IsAskedRead : Result ReadAnswer Fault → Type 0
-IsAskedRead (Err fault.BadCount) = ⊥
-IsAskedRead (Err fault.NoRendez) = ⊥
-IsAskedRead answer = ⊤
+    → RunsARead key row old answer new → RunsAs (Reads key row old) answer new

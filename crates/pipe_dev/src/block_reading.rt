@@ -5,7 +5,7 @@ ghost use Rattle.pipe_dev.specs.BlockReads.{AsksForBlock};
 ghost use Rattle.pipe_dev.specs.Ends.{IsReadCursor};
 ghost use Rattle.pipe_dev.specs.Filling.{Lending as Lent};
 ghost use Rattle.pipe_dev.specs.FillSteps.{lending_with};
-ghost use Rattle.pipe_dev.specs.ReadCalls.{IsAskedRead, waits_by};
+ghost use Rattle.pipe_dev.specs.Calls.{IsAsked, waits_by};
 ghost use Rattle.pipe_dev.specs.ReadSteps.{lending_in};
 ghost use Rattle.pipe_dev.specs.Rendezes.{OwnsRow, reader_rendez};
 ghost use Rattle.waiting.specs.Waiting.{Waited, point};
@@ -95,7 +95,7 @@ fn block_with<R: Wait>(
     ensures asked { Waited (waits_by (AsksForBlock (key_of queue.now) row.now))
         (reader_rendez row.now) (point (lending_with cursor block.old.items) proc.old)
         result.answer (point (lending_with result.cursor block.new.items) proc.new) }
-    ensures answer { IsAskedRead result.answer }
+    ensures answer { IsAsked result.answer }
 {
     let none = Vec::new(*block.allocator());
     let lent = mem::replace(block, none);

@@ -34,9 +34,9 @@ pub fn own_processes_are_never_refused()
     ensures ends { OwnKernelHasEachRendez }
 {}
 
-/// Each call of a read end adds one part for the bytes that it got and nothing else; in stream mode
-/// a read adds the parts that join to them, and of what has no bytes parts that are empty. What was
-/// read stays right.
+/// A try of messages reads one part, or finds nothing. Each call of a read end adds one part for
+/// the bytes that it got and nothing else; in stream mode a read adds the parts that join to them,
+/// and of what has no bytes parts that are empty. What was read stays right.
 pub fn calls_read_what_they_answer()
     ensures messages { MessagesAreReadOneByOne }
     ensures reads { ReadsAreSteps }
