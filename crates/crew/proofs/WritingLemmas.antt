@@ -35,16 +35,16 @@ hung_now key seat old new enters = ap (λ (a : Account Entry). is_hung a.seen) e
 
 -- a read that was answered the end
 at_end_now : (key : Key) (row : Row) (old new : Calling) → ReadsBlock key row old (Ok read.End) new
-    → is_at_end new.reader.account.seen ≡ true
+    → is_at_end new.seat.taker.account.seen ≡ true
 at_end_now key row old new reads =
     ap (λ (a : Account Entry). is_at_end a.seen)
     (last_asked (AsksForBlock key row) (reader_rendez row) old read.End new
-    reads).asked.0.entered.adds.new_is
+    reads).asked.nothing.entered.adds.new_is
 
 -- the same, of an answer that is the end
 pub at_end : (key : Key) (row : Row) (old : Calling) (answer : Result ReadAnswer Fault)
     (new : Calling) → ReadsBlock key row old answer new → answer ≡ Ok read.End
-    → is_at_end new.reader.account.seen ≡ true
+    → is_at_end new.seat.taker.account.seen ≡ true
 at_end key row old answer new reads is =
     at_end_now key row old new
     (subst (λ (a : Result ReadAnswer Fault). ReadsBlock key row old a new) is reads)

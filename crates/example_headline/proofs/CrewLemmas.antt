@@ -10,12 +10,12 @@ use Rattle.sync_base.specs.declared.fault.Fault.{Fault}
 use Rattle.sync_base.specs.declared.fault.Fault.TheVariants as fault
 use Rattle.sync_base.specs.declared.limits.TheConstants.{ATOMIC_SIZE}
 use Rattle.sync_base.specs.declared.mode.Mode.{Mode}
-use Rattle.sync_base.specs.declared.mode.Mode.TheVariants.{Message, Stream}
+use Rattle.sync_base.specs.declared.mode.Mode.TheVariants.{Message}
 use Rattle.rendez_words.specs.declared.words.Words.{Words}
 use Rattle.sleep_wakeup.specs.Kernel.{Running}
 use Rattle.histories.specs.declared.account.Account.{Account}
 use Rattle.block_queue.specs.declared.entry.Entry.{Entry}
-use Rattle.block_queue.specs.declared.entry.Entry.TheVariants.{Hung}
+use Rattle.block_queue.specs.declared.entry.Entry.TheVariants.{End, Hung}
 use Rattle.block_queue.specs.declared.view.Key.{Key}
 use Rattle.block_queue.specs.Meaning.{Enters}
 use Rattle.block_queue.specs.Seats.{key_of}
@@ -25,9 +25,8 @@ use Rattle.pipe_dev.specs.declared.row.Row.{Row}
 use Rattle.pipe_dev.specs.Chain.{AddsRead, written_by}
 use Rattle.pipe_dev.specs.Ends.{ReadSide, WriteSide, IsSameReadEnd, IsSameWriteEnd}
 use Rattle.pipe_dev.specs.Parts.{Part}
-use Rattle.pipe_dev.specs.declared.filling.Stop.TheVariants as stop
-use Rattle.pipe_dev.specs.ReadCalls.{AsksForBytes, FindsEnd, InMode, Reads, TriesOn}
-use Rattle.pipe_dev.specs.ReadCalls.{calling, came_to, lent_at, reader_of}
+use Rattle.pipe_dev.specs.Filling.{FindsNothing}
+use Rattle.pipe_dev.specs.ReadCalls.{AsksForBytes, Reads, calling}
 use Rattle.pipe_dev.specs.Rendezes.{OwnsRow, WakesIfKnown, reader_rendez}
 use Rattle.pipe_dev.proofs.AskedLemmas.{LastAsked, last_asked}
 use Rattle.pipe_dev.specs.Sides.{HasWrittenJust}
@@ -78,7 +77,7 @@ grown (Ok (read.Got count)) buffer parts parts' adds =
     ap bytes_of adds.parts_are
     ∙ (ap (map (λ (part : Part). part.bytes)) (reverse-append (adds.part ∷ []) parts)
     ∙ (map-append (λ (part : Part). part.bytes) (reverse parts) (adds.part ∷ [])
-    ∙ ap (λ (bytes : List ℕ). bytes_of parts ++ bytes ∷ []) adds.bytes))
+    ∙ ap (λ (bytes : List ℕ). bytes_of parts ++ bytes ∷ []) adds.bytes_are))
 grown (Ok read.End) buffer parts parts' adds =
     ap bytes_of adds ∙ sym (append-nil (bytes_of parts))
 grown (Err why) buffer parts parts' adds =
@@ -107,8 +106,8 @@ back old new words same Before After step holds mode owns =
 -- a read whose part is kept
 pub read_on : (old new : Reader) (buffer : List ℕ) (answer : Result ReadAnswer Fault)
     (buffer' : List ℕ) → buffer ≢ []
-    → Reads (key_of old.end.queue) old.end.row (calling (reader_of old.end old.proc) buffer) answer
-    (calling (reader_of new.end new.proc) buffer') → IsSameReadEnd old.end new.end
+    → Reads (key_of old.end.queue) old.end.row (calling old.end old.proc buffer) answer
+    (calling new.end new.proc buffer') → IsSameReadEnd old.end new.end
     → new.proc.words ≡ old.proc.words
     → new.got.items ≡ old.got.items ++ got_by answer buffer' → HasReadOn old new
 read_on old new buffer answer buffer' room reads same words got =
@@ -134,8 +133,8 @@ read_on old new buffer answer buffer' room reads same words got =
           woken = subst (λ (r : Row).
               OfMine 0 (HaveWoken new.proc.process.trace r) new.end.account) (sym same.row)
               (reads_wake (key_of old.end.queue) old.end.row was.mode
-              (reader_of old.end old.proc) buffer answer
-              (calling (reader_of new.end new.proc) buffer') reads kept.woken);
+              (calling old.end old.proc buffer) answer
+              (calling new.end new.proc buffer') reads kept.woken);
         }
 
 -- the answer of a read that is refused for this
@@ -154,8 +153,8 @@ quiet_reader reader clear =
 
 -- a read that is refused tells why
 pub read_stops : (old new : Reader) (buffer : List ℕ) (why : Fault) (buffer' : List ℕ)
-    → Reads (key_of old.end.queue) old.end.row (calling (reader_of old.end old.proc) buffer)
-    (Err why) (calling (reader_of new.end new.proc) buffer') → IsSameReadEnd old.end new.end
+    → Reads (key_of old.end.queue) old.end.row (calling old.end old.proc buffer)
+    (Err why) (calling new.end new.proc buffer') → IsSameReadEnd old.end new.end
     → new.proc.words ≡ old.proc.words → ¬ IsErrOf (as_read why) fault.BadCount
     → (OwnsRow old.proc.words old.end.row → ¬ IsErrOf (as_read why) fault.NoRendez)
     → IsClearReader old → StopsFor why new
@@ -164,19 +163,20 @@ read_stops old new buffer why buffer' reads same words some known clear =
       told = back old new words same (λ reader. OfMine 0 IsClear reader.end.account)
           (λ reader. IsQuiet reader × WasStopped why reader)
           (λ mode owns clear. (
-            reads_quiet (key_of old.end.queue) old.end.row mode (reader_of old.end old.proc)
-                buffer (Err why) (calling (reader_of new.end new.proc) buffer') reads
+            reads_quiet (key_of old.end.queue) old.end.row mode
+                (calling old.end old.proc buffer) (Err why) (calling new.end new.proc buffer') reads
                 (quiet_reader old clear),
-            reads_tell_why (key_of old.end.queue) old.end.row mode (reader_of old.end old.proc)
-                buffer (Err why) (calling (reader_of new.end new.proc) buffer') reads some
+            reads_tell_why (key_of old.end.queue) old.end.row mode
+                (calling old.end old.proc buffer) (Err why) (calling new.end new.proc buffer')
+                reads some
                 (known owns),
           )) clear.clear;
     }
 
 -- one that got bytes is still clear
 pub read_clear : (old new : Reader) (buffer : List ℕ) (count : ℕ) (buffer' : List ℕ)
-    → Reads (key_of old.end.queue) old.end.row (calling (reader_of old.end old.proc) buffer)
-    (Ok (read.Got count)) (calling (reader_of new.end new.proc) buffer')
+    → Reads (key_of old.end.queue) old.end.row (calling old.end old.proc buffer)
+    (Ok (read.Got count)) (calling new.end new.proc buffer')
     → IsSameReadEnd old.end new.end → new.proc.words ≡ old.proc.words → IsClearReader old
     → IsClearReader new
 read_clear old new buffer count buffer' reads same words clear =
@@ -184,8 +184,9 @@ read_clear old new buffer count buffer' reads same words clear =
       clear = back old new words same (λ reader. OfMine 0 IsClear reader.end.account)
           (λ reader. OfMine 0 IsClear reader.end.account)
           (λ mode owns clear.
-          gets_are_clear (key_of old.end.queue) old.end.row mode (reader_of old.end old.proc)
-          buffer count (calling (reader_of new.end new.proc) buffer') reads clear) clear.clear;
+          gets_are_clear (key_of old.end.queue) old.end.row mode
+          (calling old.end old.proc buffer) count (calling new.end new.proc buffer') reads clear)
+          clear.clear;
     }
 
 -- the fault that is answered is the one that came
@@ -222,38 +223,31 @@ stops_for_memory reader answer came why is memory told clear =
 
 -- a read that was answered the end has seen it
 its_end : (key : Key) (row : Row) (old end : ReadSide) (before after : Running)
-    (buffer buffer' : List ℕ) → row.mode ≡ Message
-    → Reads key row (calling (reader_of old before) buffer) (Ok read.End)
-    (calling (reader_of end after) buffer') → HasSeenEnd end
-its_end key row old end before after buffer buffer' mode reads = by row.mode mode last.asked
+    (buffer buffer' : List ℕ)
+    → Reads key row (calling old before buffer) (Ok read.End)
+    (calling end after buffer') → HasSeenEnd end
+its_end key row old end before after buffer buffer' reads =
+    record {
+      past = found.entered.adds.past;
+      newest = ap (λ (a : Account Entry). a.seen) found.entered.adds.new_is;
+      rest = found.rest;
+    }
   where
     last : LastAsked (AsksForBytes key row) (reader_rendez row) read.End
-        (lent_at (calling (reader_of end after) buffer')).seat
+        (calling end after buffer').seat
     last =
         last_asked (AsksForBytes key row) (reader_rendez row)
-        (calling (reader_of old before) buffer) read.End (calling (reader_of end after) buffer')
+        (calling old before buffer) read.End (calling end after buffer')
         reads
 
-    by : (m : Mode) → m ≡ Message
-        → InMode m
-        (FindsEnd key last.before.reader
-        (record (reader_of end after) { process = last.process })
-        × (buffer' ≡ last.before.buffer))
-        (TriesOn key row last.before (came_to 0 stop.End)
-        (calling (record (reader_of end after) { process = last.process }) buffer'))
-        → HasSeenEnd end
-    by Message is finds =
-        record {
-          past = finds.0.entered.adds.past;
-          newest = ap (λ (a : Account Entry). a.seen) finds.0.entered.adds.new_is;
-          rest = finds.0.rest;
-        }
-    by Stream is tries = cc
+    found : FindsNothing key End last.asked.fills.filling.taker
+        (calling end after buffer').seat.taker
+    found = last.asked.fills.stopped.1
 
 -- and has not hung up, where it was clear
 pub sees_end : (old new : Reader) (buffer buffer' : List ℕ)
-    → Reads (key_of old.end.queue) old.end.row (calling (reader_of old.end old.proc) buffer)
-    (Ok read.End) (calling (reader_of new.end new.proc) buffer')
+    → Reads (key_of old.end.queue) old.end.row (calling old.end old.proc buffer)
+    (Ok read.End) (calling new.end new.proc buffer')
     → IsSameReadEnd old.end new.end → new.proc.words ≡ old.proc.words → IsClearReader old
     → SeesEnd new
 sees_end old new buffer buffer' reads same words clear =
@@ -261,9 +255,10 @@ sees_end old new buffer buffer' reads same words clear =
       seen = back old new words same (λ reader. OfMine 0 IsClear reader.end.account) (EndsFor None)
           (λ mode owns clear. (
             its_end (key_of old.end.queue) old.end.row old.end new.end old.proc new.proc buffer
-                buffer' mode reads,
-            reads_quiet (key_of old.end.queue) old.end.row mode (reader_of old.end old.proc)
-                buffer (Ok read.End) (calling (reader_of new.end new.proc) buffer') reads
+                buffer' reads,
+            reads_quiet (key_of old.end.queue) old.end.row mode
+                (calling old.end old.proc buffer) (Ok read.End) (calling new.end new.proc buffer')
+                reads
                 (quiet_reader old clear),
           )) clear.clear;
     }

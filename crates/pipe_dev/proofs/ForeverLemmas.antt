@@ -12,15 +12,14 @@ use Rattle.block_queue.specs.declared.entry.Entry.{Entry}
 use Rattle.block_queue.specs.declared.view.Key.{Key}
 use Rattle.pipe_dev.specs.declared.answers.ReadAnswer.{ReadAnswer}
 use Rattle.pipe_dev.specs.declared.row.Row.{Row}
-use Rattle.pipe_dev.specs.Filling.{Lending}
-use Rattle.pipe_dev.specs.ReadCalls.{AsksForBytes, Calling, IsAskedRead, IsUntouchedRead, Reads}
-use Rattle.pipe_dev.specs.ReadCalls.{ReadsBy, calling_at, lent_at, run_call}
+use Rattle.pipe_dev.specs.Calls.{IsAsked}
+use Rattle.pipe_dev.specs.ReadCalls.{AsksForBytes, Calling, Reads, ReadsBy, run_call}
 use Rattle.pipe_dev.specs.Rendezes.{OwnsRow, reader_rendez}
-use Rattle.pipe_dev.specs.WriteCalls.{IsAsked, IsRefusedAs, WriteCall, Writes, WritesBy}
+use Rattle.pipe_dev.specs.WriteCalls.{IsRefusedAs, WriteCall, Writes, WritesBy}
 use Rattle.waiting.specs.Runners.{RunPoint, as_long_as_it_takes}
 use Rattle.waiting.proofs.Cases.{below_or_not}
 use Rattle.pipe_dev.proofs.AskedLemmas.{is_asked_read, reads_so}
-use Rattle.pipe_dev.proofs.CallLemmas.{is_asked, writes_so}
+use Rattle.pipe_dev.proofs.CallLemmas.{is_asked_write, writes_so}
 
 -- a kernel owns all the Rendez of a direction, or not
 owns_or_not : (words : Words) (row : Row) → OwnsRow words row ⊎ (¬ OwnsRow words row)
@@ -40,133 +39,108 @@ one_reason : {Out At : Type 0} {old new : At} {answer : Result Out Fault} (why o
     → IsRefusedAs why old answer new → answer ≡ Err other → other ≡ why
 one_reason why other refused is = ap reason_in (sym is ∙ refused.answer_is)
 
-module _ (call : WriteCall) (words : Words) (size : ℕ)
+-- what a call does that is refused for this where that is bad, and then where a kernel does not own
+-- all the Rendez
+pub record IsSo {Out : Type 0} (bad : Fault) (Bad Good Owns : Type 0) (answer : Result Out Fault)
+    (Did : Type 0) : Type 0 where
+  -- refused for this just where it is so
+  pub refused : IsErrOf answer bad ↔ Bad
+  -- else a kernel has no Rendez just where it does not own them all
+  pub foreign : Good → (IsErrOf answer fault.NoRendez ↔ ¬ Owns)
+  -- what it did is what such a call does
+  pub did : Did
+
+module _ {Seat Out : Type 0} (bad : Fault) (other : bad ≢ fault.NoRendez) (Bad Good : Type 0)
+    (either : Bad ⊎ Good) (words : Words) (row : Row) (old new : RunPoint ⊤ Seat)
+    (answer : Result Out Fault) (Does : Result Out Fault → Type 0)
+    (idle : new.at ≡ old.at → Does (Err bad) × Does (Err fault.NoRendez))
+    (refused : Bad → IsRefusedAs bad old answer new)
+    (no_rendez : Good → ¬ OwnsRow words row → IsRefusedAs fault.NoRendez old answer new)
+    (ran : Good → OwnsRow words row
+    → (answer ≢ Err bad) × (answer ≢ Err fault.NoRendez) × Does answer) where
+  is_so : IsSo bad Bad Good (OwnsRow words row) answer (Does answer)
+  is_so =
+      record {
+        refused = (λ is. by is either (owns_or_not words row), λ is. (refused is).answer_is);
+        foreign = λ good. (
+          λ is owns. (ran good owns).1 is,
+          λ foreign. (no_rendez good foreign).answer_is,
+        );
+        did = does either (owns_or_not words row);
+      }
+    where
+      by : answer ≡ Err bad → Bad ⊎ Good → OwnsRow words row ⊎ (¬ OwnsRow words row) → Bad
+      by is (inl its) row_is = its
+      by is (inr good) (inl owns) = absurd ((ran good owns).0 is)
+      by is (inr good) (inr foreign) =
+          absurd (other (one_reason fault.NoRendez bad (no_rendez good foreign) is))
+
+      same : (why : Fault) → IsRefusedAs why old answer new → new.at ≡ old.at
+      same why refused = ap (λ (t : RunPoint ⊤ Seat). t.at) refused.same
+
+      does : Bad ⊎ Good → OwnsRow words row ⊎ (¬ OwnsRow words row) → Does answer
+      does (inl its) row_is =
+          subst Does (sym (refused its).answer_is) (idle (same bad (refused its))).0
+      does (inr good) (inl owns) = (ran good owns).2
+      does (inr good) (inr foreign) =
+          let none = no_rendez good foreign in
+          subst Does (sym none.answer_is) (idle (same fault.NoRendez none)).1
+
+-- so of a write that is refused as too big first
+pub write_so : (call : WriteCall) (words : Words) (size : ℕ)
     (old new : RunPoint ⊤ (Account Entry)) (answer : Result ℕ Fault)
-    (too_big : ATOMIC_SIZE < size → IsRefusedAs fault.TooBig old answer new)
-    (no_rendez : size ≤ ATOMIC_SIZE → ¬ OwnsRow words call.row
-    → IsRefusedAs fault.NoRendez old answer new)
-    (wrote : size ≤ ATOMIC_SIZE → OwnsRow words call.row
-    → WritesBy as_long_as_it_takes call old answer new) where
-  -- it did nothing
-  nothing : (why : Fault) → IsRefusedAs why old answer new
-      → ((old.at ≡ new.at) → Writes call old.at (Err why) new.at) → Writes call old.at answer new.at
-  nothing why refused idle =
-      subst (λ (a : Result ℕ Fault). Writes call old.at a new.at) (sym refused.answer_is)
-      (idle (sym (ap (λ (t : RunPoint ⊤ (Account Entry)). t.at) refused.same)))
-
-  ran : WritesBy as_long_as_it_takes call old answer new → Writes call old.at answer new.at
-  ran (inl none) = nothing fault.Memory none (λ same. sym same)
-  ran (inr waited) = writes_so call old.at answer new.at waited
-
-  -- so it is a write
-  pub wrote_so : Writes call old.at answer new.at
-  wrote_so = by (below_or_not ATOMIC_SIZE size) (owns_or_not words call.row)
-    where
-      by : (ATOMIC_SIZE < size) ⊎ (size ≤ ATOMIC_SIZE)
-          → OwnsRow words call.row ⊎ (¬ OwnsRow words call.row) → Writes call old.at answer new.at
-      by (inl above) row = nothing fault.TooBig (too_big above) (λ same. sym same)
-      by (inr within) (inl owns) = ran (wrote within owns)
-      by (inr within) (inr foreign) =
-          nothing fault.NoRendez (no_rendez within foreign) (λ same. sym same)
-
-  -- its run is not refused for what comes before it
-  not_so : (why : Fault) → ¬ IsAsked (Err why) → why ≢ fault.Memory
-      → WritesBy as_long_as_it_takes call old answer new → answer ≢ Err why
-  not_so why early other (inl none) is = other (one_reason fault.Memory why none is)
-  not_so why early other (inr waited) is =
-      early (subst IsAsked is (is_asked call _ old.at answer new.at waited))
-
-  -- it is too big just where it is above the atomic size
-  pub too_big_is : IsErrOf answer fault.TooBig ↔ (ATOMIC_SIZE < size)
-  too_big_is = (
-    λ is. by is (below_or_not ATOMIC_SIZE size) (owns_or_not words call.row),
-    λ above. (too_big above).answer_is,
-  )
-    where
-      by : answer ≡ Err fault.TooBig → (ATOMIC_SIZE < size) ⊎ (size ≤ ATOMIC_SIZE)
-          → OwnsRow words call.row ⊎ (¬ OwnsRow words call.row) → ATOMIC_SIZE < size
-      by is (inl above) row = above
-      by is (inr within) (inl owns) =
-          absurd (not_so fault.TooBig (λ it. it) (λ same. cc) (wrote within owns) is)
-      by is (inr within) (inr foreign) =
-          let same = one_reason fault.NoRendez fault.TooBig (no_rendez within foreign) is in
-          absurd cc
-
-  -- and a kernel has no Rendez for it just where it does not own them all
-  pub no_rendez_is : size ≤ ATOMIC_SIZE
-      → (IsErrOf answer fault.NoRendez ↔ ¬ OwnsRow words call.row)
-  no_rendez_is within = (
-    λ is owns. not_so fault.NoRendez (λ it. it) (λ same. cc) (wrote within owns) is,
-    λ foreign. (no_rendez within foreign).answer_is,
-  )
-
--- ---- a read
+    → (ATOMIC_SIZE < size → IsRefusedAs fault.TooBig old answer new)
+    → (size ≤ ATOMIC_SIZE → ¬ OwnsRow words call.row → IsRefusedAs fault.NoRendez old answer new)
+    → (size ≤ ATOMIC_SIZE → OwnsRow words call.row
+    → WritesBy as_long_as_it_takes call old answer new)
+    → IsSo fault.TooBig (ATOMIC_SIZE < size) (size ≤ ATOMIC_SIZE) (OwnsRow words call.row) answer
+    (Writes call old.at answer new.at)
+write_so call words size old new answer too_big no_rendez wrote =
+    is_so fault.TooBig (λ same. cc) (ATOMIC_SIZE < size) (size ≤ ATOMIC_SIZE)
+    (below_or_not ATOMIC_SIZE size) words call.row old new answer
+    (λ (a : Result ℕ Fault). Writes call old.at a new.at) (λ same. (same, same)) too_big no_rendez
+    (λ within owns. ran (wrote within owns))
+  where
+    ran : WritesBy as_long_as_it_takes call old answer new
+        → (answer ≢ Err fault.TooBig) × (answer ≢ Err fault.NoRendez)
+        × Writes call old.at answer new.at
+    ran (inl none) = (
+      λ is. let same = one_reason fault.Memory fault.TooBig none is in cc,
+      λ is. let same = one_reason fault.Memory fault.NoRendez none is in cc,
+      subst (λ (a : Result ℕ Fault). Writes call old.at a new.at) (sym none.answer_is)
+          (ap (λ (t : RunPoint ⊤ (Account Entry)). t.at) none.same),
+    )
+    ran (inr waited) =
+        let asked = is_asked_write call old.at answer new.at waited in (
+          λ is. subst IsAsked is asked,
+          λ is. subst IsAsked is asked,
+          writes_so call old.at answer new.at waited,
+        )
 
 empty_or_not : (bytes : List ℕ) → (bytes ≡ []) ⊎ (bytes ≢ [])
 empty_or_not [] = inl refl
 empty_or_not (byte ∷ bytes) = inr (λ same. cc)
 
-module _ (key : Key) (row : Row) (words : Words) (old new : Calling) (lent back : ⊤)
+-- and of a read that is refused first where its buffer is empty
+pub read_so : (key : Key) (row : Row) (words : Words) (old new : Calling) (lent back : ⊤)
     (answer : Result ReadAnswer Fault)
-    (bad_count : old.buffer ≡ []
+    → (old.seat.buffer ≡ []
     → IsRefusedAs fault.BadCount (run_call old lent) answer (run_call new back))
-    (no_rendez : old.buffer ≢ [] → ¬ OwnsRow words row
+    → (old.seat.buffer ≢ [] → ¬ OwnsRow words row
     → IsRefusedAs fault.NoRendez (run_call old lent) answer (run_call new back))
-    (read : old.buffer ≢ [] → OwnsRow words row
-    → ReadsBy as_long_as_it_takes key row (run_call old lent) answer (run_call new back)) where
-  -- it did nothing
-  untouched : (why : Fault) → IsRefusedAs why (run_call old lent) answer (run_call new back)
-      → IsUntouchedRead old.reader old.buffer new.reader new.buffer
-  untouched why refused =
-      record {
-        same = ap (λ (t : RunPoint ⊤ Lending). (calling_at t.at).reader) refused.same;
-        buffer_same = ap (λ (t : RunPoint ⊤ Lending). (calling_at t.at).buffer) refused.same;
-      }
-
-  -- so it is a read
-  pub read_so : Reads key row old answer new
-  read_so = by (empty_or_not old.buffer) (owns_or_not words row)
-    where
-      by : (old.buffer ≡ []) ⊎ (old.buffer ≢ [])
-          → OwnsRow words row ⊎ (¬ OwnsRow words row) → Reads key row old answer new
-      by (inl empty) row_is =
-          let refused = bad_count empty in
-          subst (λ (a : Result ReadAnswer Fault). Reads key row old a new) (sym refused.answer_is)
-          (untouched fault.BadCount refused)
-      by (inr some) (inl owns) = reads_so key row old answer new (read some owns)
-      by (inr some) (inr foreign) =
-          let refused = no_rendez some foreign in
-          subst (λ (a : Result ReadAnswer Fault). Reads key row old a new) (sym refused.answer_is)
-          (untouched fault.NoRendez refused)
-
-  -- its run is not refused for what comes before it
-  runs_not_so : (why : Fault) → ¬ IsAskedRead (Err why)
-      → ReadsBy as_long_as_it_takes key row (run_call old lent) answer (run_call new back)
-      → answer ≢ Err why
-  runs_not_so why early waited is =
-      early (subst IsAskedRead is
-      (is_asked_read (AsksForBytes key row) (reader_rendez row) (λ old new why asks. asks)
-      (lent_at old) answer (lent_at new) waited))
-
-  -- its count is bad just where its buffer is empty
-  pub bad_count_is : IsErrOf answer fault.BadCount ↔ (old.buffer ≡ [])
-  bad_count_is = (
-    λ is. by is (empty_or_not old.buffer) (owns_or_not words row),
-    λ empty. (bad_count empty).answer_is,
-  )
-    where
-      by : answer ≡ Err fault.BadCount → (old.buffer ≡ []) ⊎ (old.buffer ≢ [])
-          → OwnsRow words row ⊎ (¬ OwnsRow words row) → old.buffer ≡ []
-      by is (inl empty) row_is = empty
-      by is (inr some) (inl owns) =
-          absurd (runs_not_so fault.BadCount (λ it. it) (read some owns) is)
-      by is (inr some) (inr foreign) =
-          let same = one_reason fault.NoRendez fault.BadCount (no_rendez some foreign) is in
-          absurd cc
-
-  -- and a kernel has no Rendez for it just where it does not own them all
-  pub no_rendez_tells : old.buffer ≢ [] → (IsErrOf answer fault.NoRendez ↔ ¬ OwnsRow words row)
-  no_rendez_tells some = (
-    λ is owns. runs_not_so fault.NoRendez (λ it. it) (read some owns) is,
-    λ foreign. (no_rendez some foreign).answer_is,
-  )
+    → (old.seat.buffer ≢ [] → OwnsRow words row
+    → ReadsBy as_long_as_it_takes key row (run_call old lent) answer (run_call new back))
+    → IsSo fault.BadCount (old.seat.buffer ≡ []) (old.seat.buffer ≢ []) (OwnsRow words row) answer
+    (Reads key row old answer new)
+read_so key row words old new lent back answer bad_count no_rendez read =
+    is_so fault.BadCount (λ same. cc) (old.seat.buffer ≡ []) (old.seat.buffer ≢ [])
+    (empty_or_not old.seat.buffer) words row (run_call old lent) (run_call new back) answer
+    (λ (a : Result ReadAnswer Fault). Reads key row old a new) (λ same. (same, same)) bad_count
+    no_rendez
+    (λ some owns.
+    let asked = is_asked_read (AsksForBytes key row) (reader_rendez row)
+    (λ old new why asks. asks) old answer new (read some owns) in (
+      λ is. subst IsAsked is asked,
+      λ is. subst IsAsked is asked,
+      reads_so key row old answer new (read some owns),
+    ))

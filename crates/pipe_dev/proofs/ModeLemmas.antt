@@ -1,28 +1,24 @@
 -- What a read that goes on as its mode says comes to in message mode: one part, or nothing.
-use Rattle.std.proofs.Common.{◌≡◌, ◌≢◌, ◌⊎◌, inl, inr, ℕ, zero, suc, ◌+◌, ◌-◌, Bool, true, false}
-use Rattle.std.proofs.Common.{nat_lt, if◌then◌else◌, List, [], ◌∷◌, length, drop, Option, refl, sym}
+use Rattle.std.proofs.Common.{◌≡◌, ◌≢◌, ◌⊎◌, inl, inr, ℕ, zero, suc, ◌-◌, Bool, true, false}
+use Rattle.std.proofs.Common.{nat_lt, if◌then◌else◌, List, [], ◌∷◌, length, refl, sym}
 use Rattle.std.proofs.Common.{◌∙◌, ap, subst, arith}
 use Rattle.std.proofs.lemmas.Bool.Decides.{nat_tests}
-use Rattle.histories.specs.declared.account.Account.{Account}
 use Rattle.sync_base.specs.declared.mode.Mode.{Mode}
 use Rattle.sync_base.specs.declared.mode.Mode.TheVariants.{Message, Stream}
 use Rattle.block_queue.specs.declared.entry.Entry.{Entry}
 use Rattle.block_queue.specs.declared.entry.Entry.TheVariants as entry
 use Rattle.block_queue.specs.declared.view.Key.{Key}
-use Rattle.block_queue.specs.Meaning.{Enters}
 use Rattle.pipe_dev.specs.declared.answers.ReadAnswer.{ReadAnswer}
 use Rattle.pipe_dev.specs.declared.answers.ReadAnswer.TheVariants as read
-use Rattle.pipe_dev.specs.declared.answers.TryAnswer.TheVariants as try
 use Rattle.pipe_dev.specs.declared.filling.ReadOutcome.{ReadOutcome}
 use Rattle.pipe_dev.specs.declared.filling.Stop.{Stop}
 use Rattle.pipe_dev.specs.declared.filling.Stop.TheVariants as stop
 use Rattle.pipe_dev.specs.declared.row.Row.{Row}
-use Rattle.pipe_dev.specs.Filling.{Taker, TakesPart, TakesMore, Filling, Lending, begins}
-use Rattle.pipe_dev.specs.Filling.{IsFilledBy, IsLeft, IsTakenOut, StopsAt, has_none, last_number}
-use Rattle.pipe_dev.specs.Filling.{number_of}
-use Rattle.pipe_dev.specs.Parts.{Part, bytes_of, part_of, rest_of}
-use Rattle.pipe_dev.specs.ReadCalls.{AsksForBytes, Calling, FindsEnd, FindsNotYet, Gets, GoesOn}
-use Rattle.pipe_dev.specs.ReadCalls.{TakesOut, Tries, TriesOn, came_to, lending_of}
+use Rattle.pipe_dev.specs.CallLaws.{GetsOne, MessagesAreReadOneByOne, ReadsOneOrNone}
+use Rattle.pipe_dev.specs.Filling.{Taker, TakesPart, TakesMore, Filling, FindsNothing, IsFilledBy}
+use Rattle.pipe_dev.specs.Filling.{Lending, StopsAt, begins, goes_further, has_none, last_number}
+use Rattle.pipe_dev.specs.Parts.{Part, bytes_of}
+use Rattle.pipe_dev.specs.ReadCalls.{AsksForBytes, Calling, FindsNone, TriesOn, came_to, is_got}
 use Rattle.pipe_dev.specs.ReadSteps.{found_at, found_of}
 use Rattle.pipe_dev.specs.Rendezes.{WakesWith}
 use Rattle.pipe_dev.specs.Rounds.{Rounds}
@@ -31,12 +27,13 @@ use Rattle.waiting.specs.declared.call.Reply.TheVariants.{Done, Wait, Refused}
 use Rattle.waiting.specs.Waiting.{IsLow, StandsSo}
 use Rattle.pipe_dev.proofs.RoundLemmas.{not_yet_low}
 
+-- ---- messages
+
 -- one part was read
 record ReadsOne (key : Key) (old : Lending) (filling : Filling) : Type 0 where
-  left : Part
-  next : IsLeft old.taker left filling.taker ⊎ IsTakenOut key old.taker left filling.taker
-  parts : filling.parts ≡ part_of (length old.buffer) left ∷ []
-  rest : filling.taker.rest ≡ rest_of (length old.buffer) left
+  part : Part
+  taken : TakesPart key (length old.buffer) old.taker part filling.taker
+  parts : filling.parts ≡ part ∷ []
 
 all_room : (room : ℕ) → room - 0 ≡ room
 all_room room = omega arith
@@ -49,17 +46,14 @@ one_or_none : (key : Key) (old : Lending) (times : ℕ) (filling : Filling)
 one_or_none key old zero filling taken = inl taken
 one_or_none key old (suc zero) filling taken =
     let part = taken.last.part in
-    let one : TakesPart key (length old.buffer) old.taker part filling.taker =
-    subst (λ (n : ℕ). TakesPart key n old.taker part filling.taker) (all_room (length old.buffer))
-    (subst (λ (f : Filling). TakesPart key (length old.buffer - length (bytes_of f.parts))
-    f.taker part filling.taker) taken.rounds taken.last.taken) in
     inr record {
-      left = one.left;
-      next = one.next;
-      parts = taken.last.parts
-          ∙ (ap (λ (f : Filling). part ∷ f.parts) taken.rounds
-          ∙ ap (λ (p : Part). p ∷ []) one.part_is);
-      rest = one.rest;
+      part = part;
+      taken =
+          subst (λ (n : ℕ). TakesPart key n old.taker part filling.taker)
+          (all_room (length old.buffer))
+          (subst (λ (f : Filling). TakesPart key (length old.buffer - length (bytes_of f.parts))
+          f.taker part filling.taker) taken.rounds taken.last.taken);
+      parts = taken.last.parts ∙ ap (λ (f : Filling). part ∷ f.parts) taken.rounds;
     }
 one_or_none key old (suc (suc times)) filling taken =
     let has = ap has_none taken.rounds.last.parts in
@@ -68,133 +62,117 @@ one_or_none key old (suc (suc times)) filling taken =
     cc
 
 module _ (key : Key) (row : Row) (old new : Calling) where
-  -- a try that read these parts came to this
-  record CameTo (mode : Mode) (count : ℕ) (why : Stop) (filling : Filling) : Type 0 where
-    stopped : StopsAt key (record { mode = mode; room = length old.buffer }) why filling
-        (lending_of new).taker
-    filled : IsFilledBy (bytes_of filling.parts) old.buffer new.buffer count
-    woken : WakesWith (record row { mode = mode }) (last_number old.reader.rest filling.parts)
-        old.reader.process new.reader.process
+  -- a fill of one part or none, which gave so many bytes and woke so
+  record CameTo (count : ℕ) (filling : Filling) : Type 0 where
+    read : (filling ≡ begins old.seat.taker) ⊎ ReadsOne key old.seat filling
+    filled : IsFilledBy (bytes_of filling.parts) old.seat.buffer new.seat.buffer count
+    woken : WakesWith row (last_number old.seat.taker.rest filling.parts) old.process
+        new.process
 
-  -- a try of messages that had enough has one part, and wakes with its number where it was taken
-  -- out
-  got_one : (count : ℕ) (filling : Filling) → ReadsOne key (lending_of old) filling
-      → CameTo Message count stop.Enough filling
-      → Gets key (record row { mode = Message }) old count new
-  got_one count filling one came =
-      record {
-        left = left;
-        next = by one.next;
-        filled = record { count_is = now.filled.count_is; bytes = now.filled.bytes_are };
-        rest = ap (λ (t : Taker). t.rest) now.stopped.1 ∙ one.rest;
-      }
+  -- one that got bytes is of one part
+  got_one : (count : ℕ) (why : Stop) (filling : Filling) → is_got (came_to count why) ≡ true
+      → StopsAt key (record { mode = Message; room = length old.seat.buffer }) why filling
+      new.seat.taker
+      → CameTo count filling → GetsOne key row old count new
+  got_one count why filling got stopped came = by why got stopped came.read
     where
-      left : Part
-      left = one.left
+      no_byte : filling ≡ begins old.seat.taker → nat_lt 0 count ≡ false
+      no_byte none =
+          ap (nat_lt 0)
+          (came.filled.count_is ∙ ap (λ (f : Filling). length (bytes_of f.parts)) none)
 
-      part : Part
-      part = part_of (length old.buffer) one.left
-
-      now : CameTo Message count stop.Enough
-          (record {
-            taker = filling.taker;
-            parts = part_of (length old.buffer) one.left ∷ [];
-          })
-      now =
-          subst (CameTo Message count stop.Enough)
-          (ap (λ (ps : List Part). record { taker = filling.taker; parts = ps }) one.parts) came
-
-      account : new.reader.account ≡ filling.taker.account
-      account = ap (λ (t : Taker). t.account) now.stopped.1
-
-      woken : (rest : Option Part) → old.reader.rest ≡ rest
-          → WakesWith (record row { mode = Message })
-          (number_of rest (part_of (length old.buffer) one.left)) old.reader.process
-          new.reader.process
-      woken rest is =
-          subst (λ (r : Option Part). WakesWith (record row { mode = Message })
-          (number_of r (part_of (length old.buffer) one.left)) old.reader.process
-          new.reader.process) is now.woken
-
-      by : IsLeft (lending_of old).taker one.left filling.taker
-          ⊎ IsTakenOut key (lending_of old).taker one.left filling.taker
-          → GoesOn old.reader one.left new.reader
-          ⊎ TakesOut key (record row { mode = Message }) old.reader one.left new.reader
-      by (inl goes) =
-          inl record {
-            left_is = goes.left_is;
-            account = account ∙ goes.account;
-            process = woken _ goes.left_is;
+      by : (why : Stop) → is_got (came_to count why) ≡ true
+          → StopsAt key (record { mode = Message; room = length old.seat.buffer }) why filling
+          new.seat.taker
+          → (filling ≡ begins old.seat.taker) ⊎ ReadsOne key old.seat filling
+          → GetsOne key row old count new
+      by stop.Enough got stopped (inr one) =
+          record {
+            part = one.part;
+            taken = subst (λ (t : Taker). TakesPart key (length old.seat.buffer)
+                old.seat.taker one.part t) (sym stopped.1) one.taken;
+            filled = subst
+                (λ (ps : List Part).
+                IsFilledBy (bytes_of ps) old.seat.buffer new.seat.buffer count) one.parts
+                came.filled;
+            woken = subst
+                (λ (ps : List Part).
+                WakesWith row (last_number old.seat.taker.rest ps) old.process new.process)
+                one.parts came.woken;
           }
-      by (inr out) =
-          inr record {
-            none_left = out.none_left;
-            taken = subst (λ (a : Account Entry). Enters key
-                (entry.Block one.left.writer one.left.bytes (one.left.place + 1)) old.reader.account
-                a) (sym account) out.taken;
-            woken = woken _ out.none_left;
+      by stop.Enough got stopped (inl none) =
+          let no : true ≡ false =
+          sym (ap (λ (f : Filling). has_none f.parts) none) ∙ stopped.0 in
+          cc
+      by (stop.NotYet number) got stopped (inl none) =
+          let no : false ≡ true = sym (no_byte none) ∙ got in cc
+      by stop.End got stopped (inl none) = let no : false ≡ true = sym (no_byte none) ∙ got in cc
+      by (stop.NotYet number) got stopped (inr one) =
+          let no : false ≡ true = sym (ap has_none one.parts) ∙ stopped.0 in cc
+      by stop.End got stopped (inr one) =
+          let no : false ≡ true = sym (ap has_none one.parts) ∙ stopped.0 in cc
+
+  -- one that went on and found nothing is of none
+  found_none : (made : Entry) (filling : Filling)
+      → goes_further (record { mode = Message; room = length old.seat.buffer }) filling.parts ≡ true
+      → FindsNothing key made filling.taker new.seat.taker → CameTo 0 filling
+      → FindsNone key made old new
+  found_none made filling further found came = by came.read
+    where
+      by : (filling ≡ begins old.seat.taker) ⊎ ReadsOne key old.seat filling
+          → FindsNone key made old new
+      by (inl none) =
+          record {
+            nothing = subst (λ (f : Filling). FindsNothing key made f.taker new.seat.taker)
+                none found;
+            process = subst
+                (λ (f : Filling).
+                WakesWith row (last_number old.seat.taker.rest f.parts) old.process new.process)
+                none came.woken;
+            buffer = (subst
+                (λ (f : Filling).
+                IsFilledBy (bytes_of f.parts) old.seat.buffer new.seat.buffer 0) none
+                came.filled).bytes_are;
           }
+      by (inr one) = let no : false ≡ true = sym (ap has_none one.parts) ∙ further in cc
 
-  -- what a try of messages did, by why it stopped
-  Said : ℕ → Stop → Type 0
-  Said count stop.Enough = Gets key (record row { mode = Message }) old count new
-  Said count (stop.NotYet number) =
-      FindsNotYet key number old.reader new.reader × (new.buffer ≡ old.buffer) × (count ≡ 0)
-  Said count stop.End =
-      FindsEnd key old.reader new.reader × (new.buffer ≡ old.buffer) × (count ≡ 0)
+-- so a try of messages
+came_so : (key : Key) (row : Row) (old new : Calling) (count : ℕ) (why : Stop)
+    (tried : TriesOn key (record row { mode = Message }) old (came_to count why) new)
+    → CameTo key (record row { mode = Message }) old new count tried.fills.filling
+came_so key row old new count why tried =
+    let fills = tried.fills in
+    record {
+      read = one_or_none key old.seat fills.times fills.filling fills.taken;
+      filled = fills.filled;
+      woken = tried.woken;
+    }
 
-  said : (count : ℕ) (why : Stop) (filling : Filling)
-      → (filling ≡ begins (lending_of old).taker) ⊎ ReadsOne key (lending_of old) filling
-      → CameTo Message count why filling → Said count why
-  unfolding Said
-  said count stop.Enough filling (inl none) came =
-      let has = ap (λ (f : Filling). has_none f.parts) none in
-      let no : true ≡ false = sym has ∙ came.stopped.0 in
-      cc
-  said count stop.Enough filling (inr one) came = got_one count filling one came
-  said count (stop.NotYet number) filling (inl none) came =
-      let now = subst (CameTo Message count (stop.NotYet number)) none came in
-      let nothing = now.stopped.1.nothing in (
-        record {
-          none = record {
-            none_left = nothing.none_left;
-            entered = nothing.entered;
-            rest = nothing.rest;
-            process = now.woken;
-          };
-          fresh = now.stopped.1.fresh;
-        },
-        now.filled.bytes_are ∙ ap (λ n. drop n old.buffer) now.filled.count_is,
-        now.filled.count_is,
-      )
-  said count stop.End filling (inl none) came =
-      let now = subst (CameTo Message count stop.End) none came in
-      let nothing = now.stopped.1 in (
-        record {
-          none_left = nothing.none_left;
-          entered = nothing.entered;
-          rest = nothing.rest;
-          process = now.woken;
-        },
-        now.filled.bytes_are ∙ ap (λ n. drop n old.buffer) now.filled.count_is,
-        now.filled.count_is,
-      )
-  said count (stop.NotYet number) filling (inr one) came =
-      let no : false ≡ true = sym (ap has_none one.parts) ∙ came.stopped.0 in cc
-  said count stop.End filling (inr one) came =
-      let no : false ≡ true = sym (ap has_none one.parts) ∙ came.stopped.0 in cc
+-- no try of messages joins two writes
+pub messages_are_read_one_by_one : MessagesAreReadOneByOne
+messages_are_read_one_by_one key row old told new is asks = by row.mode is told asks
+  where
+    by : (mode : Mode) → mode ≡ Message → (told : Reply ReadAnswer)
+        → AsksForBytes key (record row { mode = mode }) old told new
+        → ReadsOneOrNone key (record row { mode = mode }) old told new
+    by Stream is told asks = cc
+    by Message is (Done (read.Got count)) gives =
+        got_one key (record row { mode = Message }) old new count gives.why
+        gives.tried.fills.filling gives.got gives.tried.fills.stopped
+        (came_so key row old new count gives.why gives.tried)
+    by Message is (Done read.End) tried =
+        found_none key (record row { mode = Message }) old new entry.End tried.fills.filling
+        tried.fills.stopped.0 tried.fills.stopped.1
+        (came_so key row old new 0 stop.End tried)
+    by Message is (Wait number) tried =
+        found_none key (record row { mode = Message }) old new (entry.NotYet number)
+        tried.fills.filling tried.fills.stopped.0 tried.fills.stopped.1.nothing
+        (came_so key row old new 0 (stop.NotYet number) tried)
+    by Message is (Refused why) none = absurd none
 
-  -- so a try of messages gets one, or finds nothing
-  of_messages : (count : ℕ) (why : Stop)
-      → TriesOn key (record row { mode = Message }) old (came_to count why) new → Said count why
-  of_messages count why tried =
-      let fills = tried.fills in
-      said count why fills.filling
-      (one_or_none key (lending_of old) fills.times fills.filling fills.taken)
-      (record { stopped = fills.stopped; filled = fills.filled; woken = tried.woken })
+-- ---- by what a try is answered
 
-  -- ---- by what a try is answered
-
+module _ (key : Key) (row : Row) (old new : Calling) where
   -- it gave bytes, or else this is told
   some_or_none : (P : Reply ReadAnswer → Type 0) (count : ℕ) (none : Reply ReadAnswer)
       → (nat_lt 0 count ≡ true → P (Done (read.Got count))) → (count ≡ 0 → P none)
@@ -210,69 +188,32 @@ module _ (key : Key) (row : Row) (old new : Calling) where
       by false is = zero_so (no_count count is)
 
   -- what a try tells a read
-  asks : (mode : Mode) (count : ℕ) (why : Stop)
-      → TriesOn key (record row { mode = mode }) old (came_to count why) new
-      → AsksForBytes key (record row { mode = mode }) old (found_at count why) new
-  unfolding Said
-  asks Message count stop.Enough tried = of_messages count stop.Enough tried
-  asks Message count (stop.NotYet number) tried =
-      let told = of_messages count (stop.NotYet number) tried in
-      some_or_none (λ told. AsksForBytes key (record row { mode = Message }) old told new) count
-      (Wait number)
-      (λ some. let no : false ≡ true = ap (nat_lt 0) (sym told.2) ∙ some in cc)
-      (λ zero. (told.0, told.1))
-  asks Message count stop.End tried =
-      let told = of_messages count stop.End tried in
-      some_or_none (λ told. AsksForBytes key (record row { mode = Message }) old told new) count
-      (Done read.End)
-      (λ some. let no : false ≡ true = ap (nat_lt 0) (sym told.2) ∙ some in cc)
-      (λ zero. (told.0, told.1))
-  asks Stream count stop.Enough tried =
-      record { why = stop.Enough; tried = tried; got = refl }
-  asks Stream count (stop.NotYet number) tried =
-      some_or_none (λ told. AsksForBytes key (record row { mode = Stream }) old told new) count
-      (Wait number)
+  asks : (count : ℕ) (why : Stop) → TriesOn key row old (came_to count why) new
+      → AsksForBytes key row old (found_at count why) new
+  asks count stop.Enough tried = record { why = stop.Enough; tried = tried; got = refl }
+  asks count (stop.NotYet number) tried =
+      some_or_none (λ told. AsksForBytes key row old told new) count (Wait number)
       (λ some. record { why = stop.NotYet number; tried = tried; got = some })
-      (λ zero. subst (λ n. TriesOn key (record row { mode = Stream }) old
-      (came_to n (stop.NotYet number)) new) zero tried)
-  asks Stream count stop.End tried =
-      some_or_none (λ told. AsksForBytes key (record row { mode = Stream }) old told new) count
-      (Done read.End)
+      (λ zero. subst (λ n. TriesOn key row old (came_to n (stop.NotYet number)) new) zero tried)
+  asks count stop.End tried =
+      some_or_none (λ told. AsksForBytes key row old told new) count (Done read.End)
       (λ some. record { why = stop.End; tried = tried; got = some })
-      (λ zero. subst (λ n. TriesOn key (record row { mode = Stream }) old (came_to n stop.End) new)
-      zero tried)
+      (λ zero. subst (λ n. TriesOn key row old (came_to n stop.End) new) zero tried)
 
   -- one request of a read
-  pub asks_by_mode : (came : ReadOutcome) (told : Reply ReadAnswer)
+  pub asks_as_found : (came : ReadOutcome) (told : Reply ReadAnswer)
       → TriesOn key row old came new → told ≡ found_of came → AsksForBytes key row old told new
-  asks_by_mode came told tried is =
-      subst (λ told. AsksForBytes key row old told new) (sym is)
-      (asks row.mode came.count came.stop tried)
-
-  -- a read that does not wait is answered NotYet where it would wait
-  pub tries_as_asked : (number : ℕ) → AsksForBytes key row old (Wait number) new
-      → Tries key row old try.NotYet new
-  tries_as_asked number asked = by row.mode asked
-    where
-      by : (mode : Mode) → AsksForBytes key (record row { mode = mode }) old (Wait number) new
-          → Tries key (record row { mode = mode }) old try.NotYet new
-      by Message asked = (record { number = number; found = asked.0 }, asked.1)
-      by Stream asked = record { number = number; tried = asked }
+  asks_as_found came told tried is =
+      subst (λ told. AsksForBytes key row old told new) (sym is) (asks came.count came.stop tried)
 
   -- the number that it is told is low
   pub told_low : (told : Reply ReadAnswer) → key.first ≡ 0
       → AsksForBytes key row old told new → IsLow told
-  told_low told first asked = by row.mode told asked
-    where
-      by : (mode : Mode) (told : Reply ReadAnswer)
-          → AsksForBytes key (record row { mode = mode }) old told new → IsLow told
-      by mode (Done answer) asked = tt
-      by mode (Refused why) asked = tt
-      by Message (Wait number) asked =
-          not_yet_low key number old.reader.account new.reader.account first asked.0.none.entered
-      by Stream (Wait number) asked =
-          not_yet_low key number asked.fills.filling.taker.account new.reader.account first
-          asked.fills.stopped.1.nothing.entered
+  told_low (Done answer) first asked = tt
+  told_low (Refused why) first asked = tt
+  told_low (Wait number) first asked =
+      not_yet_low key number asked.fills.filling.taker.account new.seat.taker.account first
+      asked.fills.stopped.1.nothing.entered
 
 -- a seat that stands so whatever it is told
 pub stands_so : {Seat Out : Type 0} (Stands : Seat → Type 0) (told : Reply Out) (seat : Seat)

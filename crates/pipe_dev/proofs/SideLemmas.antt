@@ -23,7 +23,7 @@ use Rattle.pipe_dev.specs.Ends.{reading_of}
 use Rattle.pipe_dev.specs.Finishing.{left_state, holdings_of, shares_of}
 use Rattle.pipe_dev.specs.Openings.{IsNewWriteEnd}
 use Rattle.pipe_dev.specs.Parts.{Part}
-use Rattle.pipe_dev.specs.ReadCalls.{calling, reader_of}
+use Rattle.pipe_dev.specs.ReadCalls.{calling}
 use Rattle.pipe_dev.specs.Reading.{first_reading}
 use Rattle.pipe_dev.specs.Rounds.{Rounds}
 use Rattle.pipe_dev.specs.Sides.{HasReadJust, HasWrittenJust, AddsToRead, AreSameWriteEnds}
@@ -63,8 +63,8 @@ steps_add Adds old new parts parts' times made same adds rounds =
 pub reads_add : ReadsAddToTheirEnd
 reads_add old new before after buffer answer buffer' room reads same parts made =
     let call =
-    reads_are_steps (key_of old.queue) old.row (calling (reader_of old before) buffer) answer
-    (calling (reader_of new after) buffer') room reads parts in
+    reads_are_steps (key_of old.queue) old.row (calling old before buffer) answer
+    (calling new after buffer') room reads parts in
     steps_add (AddsRead old.row.mode answer buffer') old new parts call.parts' call.times made same
     call.added
     call.steps
@@ -73,8 +73,8 @@ reads_add old new before after buffer answer buffer' room reads same parts made 
 pub tries_add : TriesAddToTheirEnd
 tries_add old new before after buffer answer buffer' room tries same parts made =
     let call =
-    tries_are_steps (key_of old.queue) old.row (calling (reader_of old before) buffer) answer
-    (calling (reader_of new after) buffer') room tries parts in
+    tries_are_steps (key_of old.queue) old.row (calling old before buffer) answer
+    (calling new after buffer') room tries parts in
     steps_add (AddsTry old.row.mode answer buffer') old new parts call.parts' call.times made same
     call.added
     call.steps

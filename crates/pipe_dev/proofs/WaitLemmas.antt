@@ -1,16 +1,15 @@
 -- The wakeups of a pipe, by the law of all devices: a wakeup that has returned releases its
 -- sleeper.
-use Rattle.std.proofs.Common.{◌≡◌, ◌⊎◌, inl, inr, ℕ, zero, suc, ◌+◌, ◌<◌}
-use Rattle.std.proofs.Common.{List, [], ◌∷◌, Option, refl, sym, subst, arith}
+use Rattle.std.proofs.Common.{◌≡◌, ◌⊎◌, inl, inr, ℕ, zero, suc, ◌<◌}
+use Rattle.std.proofs.Common.{List, [], ◌∷◌, refl, sym, subst, arith}
 use Rattle.std.specs.List.{AllByRecursion}
 use Rattle.sync_base.specs.declared.limits.TheConstants.{TOP_LEVEL}
 use Rattle.rendez_words.specs.Process.{Process}
 use Rattle.sleep_core.specs.Laws.{ReleasesBelow}
 use Rattle.sleep_core.specs.Runs.{world_of}
 use Rattle.pipe_dev.specs.declared.row.Row.{Row}
-use Rattle.pipe_dev.specs.Rendezes.{WakesWriters, WakesWith, reader_rendez, writer_rendez}
-use Rattle.pipe_dev.specs.WaitLaws.{WritesWakeTheReader, ReadsWakeEachWriter}
-use Rattle.pipe_dev.specs.WaitLaws.{HangupsWakeAll, TriesWakeEachWriter}
+use Rattle.pipe_dev.specs.Rendezes.{WakesWriters, reader_rendez, writer_rendez}
+use Rattle.pipe_dev.specs.WaitLaws.{WritesWakeTheReader, ReadsWakeEachWriter, HangupsWakeAll}
 use Rattle.waiting.specs.Wakeups.{Wakeup, WakesEach}
 use Rattle.waiting.proofs.WakeupLemmas.{returned_release}
 
@@ -71,30 +70,15 @@ writes_wake_the_reader sizes s shows call number old new accepts gone =
     (returned_release sizes s shows (of_reader call.row number ∷ []) old.process new.process
     (record { between = old.process; others = refl; last = accepts.woken }) gone).0
 
--- once a read that took a write out has returned, whoever fell asleep on a writer's Rendez below
--- the number of that write is not posted there
+-- once a read that took writes out has returned, whoever fell asleep on a writer's Rendez below the
+-- number of the last of them is not posted there
 pub reads_wake_each_writer : ReadsWakeEachWriter
-reads_wake_each_writer sizes s shows key row old new left takes gone writer low =
-    of_each row (left.place + 1) []
-    (λ wakeup. ReleasesBelow (world_of sizes.procs sizes.rendez shows.run) wakeup.rendez
-    wakeup.level) row.writers writer low
-    (returned_release sizes s shows (of_writers row row.writers (left.place + 1) []) old.process
-    new.process
-    (wakes_each row (left.place + 1) [] row.writers old.process old.process new.process refl
-    takes.woken) gone)
-
--- so of a try that took writes out
-pub tries_wake_each_writer : TriesWakeEachWriter
-tries_wake_each_writer sizes s shows key row old came new tries gone number is writer low =
+reads_wake_each_writer sizes s shows row number before after woken gone writer low =
     of_each row number []
     (λ wakeup. ReleasesBelow (world_of sizes.procs sizes.rendez shows.run) wakeup.rendez
     wakeup.level) row.writers writer low
-    (returned_release sizes s shows (of_writers row row.writers number []) old.reader.process
-    new.reader.process
-    (wakes_each row number [] row.writers old.reader.process old.reader.process
-    new.reader.process refl
-    (subst (λ (n : Option ℕ). WakesWith row n old.reader.process new.reader.process) is
-    tries.woken)) gone)
+    (returned_release sizes s shows (of_writers row row.writers number []) before after
+    (wakes_each row number [] row.writers before before after refl woken) gone)
 
 -- once a hangup has returned, whoever fell asleep on a Rendez of the direction is not posted there
 pub hangups_wake_all : HangupsWakeAll

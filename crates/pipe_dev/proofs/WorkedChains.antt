@@ -8,13 +8,13 @@ use Rattle.pipe_dev.specs.declared.answers.TryAnswer.TheVariants as try
 use Rattle.pipe_dev.specs.Chain.{AddsNone, AddsOne, AddsParts, AddsRead, AddsTry, IsOfSteps}
 use Rattle.pipe_dev.specs.Chain.{ReadStep, reading_at}
 use Rattle.pipe_dev.specs.Parts.{Part}
-use Rattle.pipe_dev.specs.ReadCalls.{Reader}
+use Rattle.pipe_dev.specs.Filling.{Taker}
 use Rattle.pipe_dev.specs.Rounds.{Rounds}
 
 module _ (count : ℕ) (buffer : List ℕ) (parts parts' : List Part) where
   -- ---- in message mode
 
-  a_read_that_adds_no_part : ¬ AddsOne count buffer parts parts'
+  a_read_that_adds_no_part : ¬ AddsOne (take count buffer) parts parts'
       → ¬ AddsRead Message (Ok (read.Got count)) buffer parts parts'
   a_read_that_adds_no_part none adds = none adds
 
@@ -25,7 +25,7 @@ module _ (count : ℕ) (buffer : List ℕ) (parts parts' : List Part) where
       → ¬ AddsRead Message (Err why) buffer parts parts'
   a_refusal_that_adds_a_part why other adds = other adds
 
-  a_try_that_adds_no_part : ¬ AddsOne count buffer parts parts'
+  a_try_that_adds_no_part : ¬ AddsOne (take count buffer) parts parts'
       → ¬ AddsTry Message (try.Got count) buffer parts parts'
   a_try_that_adds_no_part none adds = none adds
 
@@ -68,7 +68,7 @@ module _ (count : ℕ) (buffer : List ℕ) (parts parts' : List Part) where
   a_call_that_reads_and_does_not_say_so : parts' ≢ parts → ¬ AddsNone parts parts'
   a_call_that_reads_and_does_not_say_so other adds = other adds
 
-module _ (key : Key) (Adds : List Part → List Part → Type 0) (old new : Reader) (parts : List Part)
+module _ (key : Key) (Adds : List Part → List Part → Type 0) (old new : Taker) (parts : List Part)
     (call : IsOfSteps key Adds old parts new) where
   a_call_adds_what_it_says : ¬ ¬ Adds parts call.parts'
   a_call_adds_what_it_says none = none call.added

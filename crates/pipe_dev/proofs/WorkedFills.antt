@@ -6,18 +6,22 @@ use Rattle.std.specs.Prelude.{Ok, Err}
 use Rattle.histories.specs.declared.account.Account.{Account}
 use Rattle.sync_base.specs.declared.fault.Fault.TheVariants as fault
 use Rattle.sync_base.specs.declared.mode.Mode.TheVariants.{Message, Stream}
+use Rattle.rendez_words.specs.Process.{Process}
 use Rattle.block_queue.specs.declared.entry.Entry.{Entry}
 use Rattle.block_queue.specs.declared.entry.Entry.TheVariants as entry
 use Rattle.block_queue.specs.declared.view.Key.{Key}
 use Rattle.block_queue.specs.Meaning.{Enters}
 use Rattle.pipe_dev.specs.declared.answers.ReadAnswer.TheVariants as read
 use Rattle.pipe_dev.specs.declared.answers.TryAnswer.TheVariants as try
+use Rattle.pipe_dev.specs.declared.filling.Stop.{Stop}
 use Rattle.pipe_dev.specs.declared.filling.Stop.TheVariants as stop
+use Rattle.pipe_dev.specs.declared.row.Row.{Row}
 use Rattle.pipe_dev.specs.Chain.{AddsRead, AddsTry}
 use Rattle.pipe_dev.specs.Parts.{Part, bytes_of, part_of, rest_of}
-use Rattle.pipe_dev.specs.ReadCalls.{came_to, is_got}
+use Rattle.pipe_dev.specs.ReadCalls.{Calling, TriesOn, came_to, is_got}
 use Rattle.pipe_dev.specs.Filling.{Taker, TakesMore, Extent, Filling, StopsAt, begins, IsFilledBy}
-use Rattle.pipe_dev.specs.Filling.{goes_further, last_number}
+use Rattle.pipe_dev.specs.Filling.{TakesPart, goes_further, last_number, number_of}
+use Rattle.pipe_dev.specs.Rendezes.{WakesWith}
 use Rattle.pipe_dev.specs.Rounds.{Rounds}
 use Rattle.pipe_dev.proofs.WorkedEntries.{a, b, tight, taker, taker_enters, unread}
 
@@ -249,3 +253,55 @@ asks_when_full stops = let further : false ≡ true = stops.0 in cc
 -- an empty write gives no byte
 counts_an_empty_write : IsFilledBy (bytes_of (part 0 [] ∷ [])) (0 ∷ []) (0 ∷ []) 1 → ⊥
 counts_an_empty_write filled = let count = filled.count_is in cc
+
+-- ---- a try, from its parts
+
+-- a call by this process that fills this buffer
+abbrev pub calls : Taker → Process → List ℕ → Calling
+calls taker process buffer =
+    record { seat = record { taker = taker; buffer = buffer }; process = process }
+
+module _ (key : Key) (row : Row) where
+  -- a try that read one part
+  pub one_part : (old : Calling) (count : ℕ) (why : Stop) (new : Calling) (part : Part)
+      (after : Taker)
+      → goes_further (record { mode = row.mode; room = length old.seat.buffer }) [] ≡ true
+      → TakesPart key (length old.seat.buffer - 0) old.seat.taker part after
+      → StopsAt key (record { mode = row.mode; room = length old.seat.buffer }) why
+      (record { taker = after; parts = part ∷ [] }) new.seat.taker
+      → IsFilledBy part.bytes old.seat.buffer new.seat.buffer count
+      → WakesWith row (number_of old.seat.taker.rest part) old.process new.process
+      → TriesOn key row old (came_to count why) new
+  one_part old count why new part after further taken stopped filled woken =
+      record {
+        fills = record {
+          times = 1;
+          filling = record { taker = after; parts = part ∷ [] };
+          taken = record {
+            between = begins old.seat.taker;
+            rounds = refl;
+            last = record { further = further; part = part; taken = taken; parts = refl };
+          };
+          stopped = stopped;
+          filled = filled;
+        };
+        woken = woken;
+      }
+
+  -- and one that read none
+  pub no_part : (old : Calling) (why : Stop) (new : Calling)
+      → StopsAt key (record { mode = row.mode; room = length old.seat.buffer }) why
+      (begins old.seat.taker) new.seat.taker
+      → new.seat.buffer ≡ old.seat.buffer → new.process ≡ old.process
+      → TriesOn key row old (came_to 0 why) new
+  no_part old why new stopped buffer process =
+      record {
+        fills = record {
+          times = 0;
+          filling = begins old.seat.taker;
+          taken = refl;
+          stopped = stopped;
+          filled = record { count_is = refl; bytes_are = buffer };
+        };
+        woken = process;
+      }

@@ -1,5 +1,5 @@
 -- Directions of a pipe worked out by the definitions alone, and what they refuse.
-use Rattle.std.proofs.Common.{◌≡◌, ℕ, false, List, [], ◌∷◌, Option, Some, None, refl, inl, inr}
+use Rattle.std.proofs.Common.{◌≡◌, ℕ, false, List, [], ◌∷◌, Some, None, refl, inl, inr}
 use Rattle.std.proofs.Common.{ap, arith, rules, length, ◌⊎◌}
 use Rattle.std.specs.Prelude.{Err, reverse}
 use Rattle.histories.specs.declared.account.Account.{Account}
@@ -17,11 +17,18 @@ use Rattle.pipe_dev.specs.Chain.{HasWritten, AddsOne, written_by, IsNoBlock}
 use Rattle.pipe_dev.specs.Finishing.{Finishes, Holdings}
 use Rattle.pipe_dev.specs.Laws.{NoWriteAfterHangup, read_and_held}
 use Rattle.pipe_dev.specs.Parts.{Part, pieces_of, bytes_by, part_of, rest_of}
-use Rattle.pipe_dev.specs.ReadCalls.{Reader, Gets, GoesOn, TakesOut, IsFilled, calling}
+use Rattle.pipe_dev.specs.declared.answers.ReadAnswer.TheVariants as read
+use Rattle.pipe_dev.specs.declared.answers.TryAnswer.TheVariants as try
+use Rattle.pipe_dev.specs.CallLaws.{GetsOne}
+use Rattle.pipe_dev.specs.Filling.{IsFilledBy, IsLeft, IsTakenOut, Taker}
+use Rattle.pipe_dev.specs.ReadCalls.{Calling, Tries}
 use Rattle.pipe_dev.specs.Reading.{Reading, IsRight}
 use Rattle.pipe_dev.specs.Rendezes.{WakesWriters}
 use Rattle.pipe_dev.specs.WriteCalls.{HasHang, atomic_writes, bytes_in}
+use Rattle.waiting.specs.declared.call.Reply.TheVariants.{Done}
+use Rattle.pipe_dev.proofs.ModeLemmas.{messages_are_read_one_by_one}
 use Rattle.pipe_dev.proofs.WorkedEntries.{woke, wakes_one}
+use Rattle.pipe_dev.proofs.WorkedFills.{calls}
 
 abbrev part : ℕ → ℕ → List ℕ → Part
 part place writer bytes = record { place = place; writer = writer; bytes = bytes }
@@ -114,33 +121,38 @@ none_is_left = refl
 empty_is_used_up : rest_of 1 (part 0 0 []) ≡ None
 empty_is_used_up = refl
 
-filled_in_front : IsFilled (part_of 5 abc) (0 ∷ 0 ∷ 0 ∷ 0 ∷ 7 ∷ []) (97 ∷ 98 ∷ 99 ∷ 0 ∷ 7 ∷ []) 3
-filled_in_front = record { count_is = refl; bytes = refl }
+filled_in_front : IsFilledBy abc.bytes (0 ∷ 0 ∷ 0 ∷ 0 ∷ 7 ∷ []) (97 ∷ 98 ∷ 99 ∷ 0 ∷ 7 ∷ []) 3
+filled_in_front = record { count_is = refl; bytes_are = refl }
 
-fills_behind_itself : IsFilled (part_of 1 abc) (0 ∷ 0 ∷ []) (97 ∷ 98 ∷ []) 1 → ⊥
-fills_behind_itself filled = let bytes = filled.bytes in cc
+fills_behind_itself : IsFilledBy (part_of 1 abc).bytes (0 ∷ 0 ∷ []) (97 ∷ 98 ∷ []) 1 → ⊥
+fills_behind_itself filled = let bytes = filled.bytes_are in cc
 
 module _ (process : Process) (account : Account Entry) (key : Key) (row : Row) where
-  abbrev reader : Option Part → Reader
-  reader rest = record { account = account; rest = rest; process = process }
+  abbrev begun : Taker
+  begun = record { account = account; rest = Some (part 0 0 (97 ∷ [])) }
 
   -- a write that was begun is read to its end and no further, however much room there is
-  joins_the_next : (new : Reader) (buffer' : List ℕ)
-      → Gets key row (calling (reader (Some (part 0 0 (97 ∷ [])))) (0 ∷ 0 ∷ [])) 2
-      (calling new buffer') → ⊥
-  joins_the_next new buffer' gets = by gets.next
+  joins_the_next : row.mode ≡ Message → (new : Calling)
+      → ¬ Tries key row (calls begun process (0 ∷ 0 ∷ [])) (try.Got 2) new
+  joins_the_next messages new tries = by gets.taken.next
     where
-      by : GoesOn (reader (Some (part 0 0 (97 ∷ [])))) gets.left new
-          ⊎ TakesOut key row (reader (Some (part 0 0 (97 ∷ [])))) gets.left new → ⊥
+      gets : GetsOne key row (calls begun process (0 ∷ 0 ∷ [])) 2 new
+      gets =
+          messages_are_read_one_by_one key row (calls begun process (0 ∷ 0 ∷ []))
+          (Done (read.Got 2)) new messages tries
+
+      by : IsLeft begun gets.taken.left new.seat.taker
+          ⊎ IsTakenOut key begun gets.taken.left new.seat.taker → ⊥
       by (inl goes) =
-          let is : gets.left ≡ part 0 0 (97 ∷ []) = let same = goes.left_is in cc in
+          let is : gets.taken.left ≡ part 0 0 (97 ∷ []) = let same = goes.left_is in cc in
           let counted = gets.filled.count_is in
+          let its = ap (λ (p : Part). length p.bytes) gets.taken.part_is in
           let bytes = ap (λ (p : Part). length (part_of 2 p).bytes) is in
-          absurd (omega (arith, counted, bytes))
+          absurd (omega (arith, counted, its, bytes))
       by (inr takes) = let none = takes.none_left in cc
 
-one_part_more : AddsOne 2 (97 ∷ 98 ∷ 0 ∷ []) [] (part 0 0 (97 ∷ 98 ∷ []) ∷ [])
-one_part_more = record { part = part 0 0 (97 ∷ 98 ∷ []); bytes = refl; parts_are = refl }
+one_part_more : AddsOne (97 ∷ 98 ∷ []) [] (part 0 0 (97 ∷ 98 ∷ []) ∷ [])
+one_part_more = record { part = part 0 0 (97 ∷ 98 ∷ []); bytes_are = refl; parts_are = refl }
 
 block_is_read : IsNoBlock (Block 0 (97 ∷ []) 1) → ⊥
 block_is_read none = none

@@ -1,5 +1,5 @@
 -- Runs of calls of the ends that did what none may do, each against one row.
-use Rattle.std.proofs.Common.{◌≡◌, ◌≢◌, ◌+◌, ◌<◌, ℕ, Some, Result, Ok, Err, inl, inr, refl}
+use Rattle.std.proofs.Common.{◌≡◌, ◌≢◌, ◌<◌, ℕ, Some, Result, Err, inl, inr, refl}
 use Rattle.histories.specs.declared.account.Account.{Account}
 use Rattle.histories.specs.History.{IsPast}
 use Rattle.sync_base.specs.declared.fault.Fault.{Fault}
@@ -10,19 +10,19 @@ use Rattle.block_queue.specs.declared.entry.Entry.{Entry}
 use Rattle.block_queue.specs.declared.view.Key.{Key}
 use Rattle.pipe_dev.specs.declared.answers.ReadAnswer.{ReadAnswer}
 use Rattle.pipe_dev.specs.declared.row.Row.{Row}
-use Rattle.pipe_dev.specs.declared.filling.ReadOutcome.{ReadOutcome}
+use Rattle.pipe_dev.specs.Calls.{RunsAs}
 use Rattle.pipe_dev.specs.Ends.{WriteSide}
-use Rattle.pipe_dev.specs.Filling.{Lending, last_number}
-use Rattle.pipe_dev.specs.Parts.{Part}
-use Rattle.pipe_dev.specs.ReadCalls.{AsksForBytes, Calling, IsARead, Reads, ReadsBy, RunsARead}
-use Rattle.pipe_dev.specs.ReadCalls.{TakesOut, TriesOn, gone_on, lent_at, reading, run_call}
+use Rattle.pipe_dev.specs.Filling.{Lending}
+use Rattle.pipe_dev.specs.ReadCalls.{AsksForBytes, Calling, ReadsBy, RunsARead}
+use Rattle.pipe_dev.specs.ReadCalls.{reading, run_call}
 use Rattle.pipe_dev.specs.WaitLaws.{LastTryReleases, ReleasesWriters}
 use Rattle.sleep_core.specs.Laws.{ReleasesBelow}
 use Rattle.sleep_core.specs.State.{State}
 use Rattle.waiting.specs.declared.call.Reply.TheVariants.{Done}
-use Rattle.pipe_dev.specs.Rendezes.{reader_rendez, writer_rendez}
-use Rattle.pipe_dev.specs.WriteCalls.{IsAWrite, IsRefusedAs, RunsAWrite, WriteCall, Writer, Writes}
+use Rattle.pipe_dev.specs.Rendezes.{WakesWith, reader_rendez, writer_rendez}
+use Rattle.pipe_dev.specs.WriteCalls.{IsRefusedAs, RunsAWrite, WriteCall, Writer}
 use Rattle.pipe_dev.specs.WriteCalls.{WritesBy, run_writer, writer_of, writing}
+use Rattle.waiting.specs.Waiting.{Point}
 use Rattle.waiting.specs.Runners.{ComesToSame, IsACall, RunPoint, Runs}
 
 -- ---- at once
@@ -61,7 +61,7 @@ module _ (call : WriteCall) (old new : Writer) (answer : Result ℕ Fault) where
 
 -- where a read stands with a timer is where it stands, and the timer
 the_timer_goes_along : {Timer : Type 0} (call : Calling) (timer : Timer)
-    → ((run_call call timer).at ≡ lent_at call) × ((run_call call timer).timer ≡ timer)
+    → ((run_call call timer).at ≡ call) × ((run_call call timer).timer ≡ timer)
 the_timer_goes_along call timer = (refl, refl)
 
 -- and so of a write
@@ -69,12 +69,6 @@ the_writer_goes_along : {Timer : Type 0} (side : WriteSide) (timer : Timer) (pro
     → ((run_writer side timer proc).at ≡ writer_of side proc)
     × ((run_writer side timer proc).timer ≡ timer)
 the_writer_goes_along side timer proc = (refl, refl)
-
--- a call that goes on has the new process, and its bytes and its buffer
-it_goes_on : (call : Calling) (process : Process)
-    → gone_on call process
-    ≡ record call { reader = record call.reader { process = process } }
-it_goes_on call process = refl
 
 module _ (key : Key) (row : Row) (old new : Calling) (answer : Result ReadAnswer Fault) where
   -- it was not run on the reader's Rendez
@@ -84,42 +78,27 @@ module _ (key : Key) (row : Row) (old new : Calling) (answer : Result ReadAnswer
   reads_in_no_way runs first last ran reads = ran reads
 
   reads_as_no_call :
-      ¬ IsACall (reading key row) (reader_rendez row) (lent_at old) answer (lent_at new)
+      ¬ IsACall (reading key row) (reader_rendez row) old answer new
       → ¬ RunsARead key row old answer new
   reads_as_no_call other is = other is
 
 -- ---- as a call that waits as long as it takes
 
-module _ (call : WriteCall) (old new : Writer) where
-  accepted_as_another : ((told : Result ℕ Fault) → ¬ ComesToSame told (Ok 7))
-      → ¬ IsAWrite call old (Ok 7) new
-  accepted_as_another none is = none is.told is.same
+module _ {Seat Out : Type 0} (Does : Result Out Fault → Point Seat → Type 0)
+    (answer : Result Out Fault) (new : Point Seat) where
+  comes_to_another : ((told : Result Out Fault) → ¬ ComesToSame told answer)
+      → ¬ RunsAs Does answer new
+  comes_to_another none is = none is.told is.same
 
-  is_no_write : (answer : Result ℕ Fault)
-      → ((told : Result ℕ Fault) (process : Process)
-      → ¬ Writes call old told (record { seat = new.seat; process = process }))
-      → ¬ IsAWrite call old answer new
-  is_no_write answer none is = none is.told is.process is.wrote
+  does_another : ((told : Result Out Fault) (process : Process)
+      → ¬ Does told (record { seat = new.seat; process = process }))
+      → ¬ RunsAs Does answer new
+  does_another none is = none is.told is.process is.did
 
   -- another process made its steps
-  is_the_write_of_another : (answer : Result ℕ Fault)
-      → ((process : Process) → ¬ IsPast process.trace new.process.trace)
-      → ¬ IsAWrite call old answer new
-  is_the_write_of_another answer none is = none is.process is.own
-
-module _ (key : Key) (row : Row) (old new : Calling) (answer : Result ReadAnswer Fault) where
-  reads_another : ((told : Result ReadAnswer Fault) → ¬ ComesToSame told answer)
-      → ¬ IsARead key row old answer new
-  reads_another none is = none is.told is.same
-
-  is_no_read : ((told : Result ReadAnswer Fault) (process : Process)
-      → ¬ Reads key row old told (gone_on new process))
-      → ¬ IsARead key row old answer new
-  is_no_read none is = none is.told is.process is.read
-
-  is_the_read_of_another : ((process : Process) → ¬ IsPast process.trace new.reader.process.trace)
-      → ¬ IsARead key row old answer new
-  is_the_read_of_another none is = none is.process is.own
+  is_the_call_of_another : ((process : Process) → ¬ IsPast process.trace new.process.trace)
+      → ¬ RunsAs Does answer new
+  is_the_call_of_another none is = none is.process is.own
 
 -- ---- whom it wakes
 
@@ -130,21 +109,10 @@ module _ (state : State) (row : Row) (number : ℕ) where
 
 module _ (state : State) (key : Key) (row : Row) (answer : ReadAnswer) (new : Calling)
     (last : LastTryReleases state key row answer new) where
-  -- where the last try ended
-  abbrev behind : Calling
-  behind = gone_on new last.process
-
-  it_answers_what_it_was_told_last : AsksForBytes key row last.before (Done answer) behind
+  it_answers_what_it_was_told_last :
+      AsksForBytes key row last.before (Done answer) (record new { process = last.process })
   it_answers_what_it_was_told_last = last.asked
 
-  takes_a_write_and_leaves_the_writers : (left : Part)
-      → ¬ ReleasesWriters state row (left.place + 1)
-      → ¬ TakesOut key row last.before.reader left behind.reader
-  takes_a_write_and_leaves_the_writers left none takes = none (last.taken left takes)
-
-  takes_writes_and_leaves_the_writers : (came : ReadOutcome) (number : ℕ)
-      → ¬ ReleasesWriters state row number
-      → (tries : TriesOn key row last.before came behind)
-      → ¬ (last_number last.before.reader.rest tries.fills.filling.parts ≡ Some number)
-  takes_writes_and_leaves_the_writers came number none tries is =
-      none (last.tried came number tries is)
+  takes_writes_and_leaves_the_writers : (number : ℕ) → ¬ ReleasesWriters state row number
+      → ¬ WakesWith row (Some number) last.before.process last.process
+  takes_writes_and_leaves_the_writers number none wakes = none (last.released number wakes)

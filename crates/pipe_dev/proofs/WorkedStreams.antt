@@ -1,5 +1,5 @@
 -- Reads in stream mode worked out by the definitions alone, and the shortest ones that are refused.
-use Rattle.std.proofs.Common.{◌≡◌, ◌-◌, ℕ, true, List, [], ◌∷◌, Some, None, refl, sym, ◌∙◌, inl}
+use Rattle.std.proofs.Common.{◌≡◌, ℕ, List, [], ◌∷◌, Some, None, refl, sym, ◌∙◌, inl}
 use Rattle.std.proofs.Common.{inr, ap, arith, rules, length, map, length-append}
 use Rattle.std.specs.Prelude.{Result, Ok, Err}
 use Rattle.histories.specs.declared.account.Account.{Account}
@@ -19,19 +19,17 @@ use Rattle.pipe_dev.specs.declared.answers.ReadAnswer.TheVariants as read
 use Rattle.pipe_dev.specs.declared.answers.TryAnswer.{TryAnswer}
 use Rattle.pipe_dev.specs.declared.answers.TryAnswer.TheVariants as try
 use Rattle.pipe_dev.specs.declared.filling.ReadOutcome.{ReadOutcome}
-use Rattle.pipe_dev.specs.declared.filling.Stop.{Stop}
 use Rattle.pipe_dev.specs.declared.filling.Stop.TheVariants as stop
 use Rattle.pipe_dev.specs.declared.row.Row.{Row}
 use Rattle.pipe_dev.specs.Parts.{Part, bytes_of}
-use Rattle.pipe_dev.specs.ReadCalls.{Reader, Reads, Tries, calling, TriesOn, came_to, lent_at}
-use Rattle.pipe_dev.specs.ReadCalls.{Calling, lending_of, reading}
+use Rattle.pipe_dev.specs.ReadCalls.{Calling, Reads, Tries, TriesOn, came_to, reading}
 use Rattle.pipe_dev.specs.Rendezes.{WakesWriters, WakesWith}
-use Rattle.pipe_dev.specs.Filling.{IsFilledBy, StopsAt, Taker, TakesPart, begins, goes_further}
-use Rattle.pipe_dev.specs.Filling.{last_number, number_of}
+use Rattle.pipe_dev.specs.Filling.{Taker, last_number}
 use Rattle.pipe_dev.proofs.WorkedEntries.{a, b, taker, taker_enters, unread, at_rendez, row_in}
 use Rattle.pipe_dev.proofs.WorkedEntries.{woke, slept, wakes_writer, interrupted, is_not_idle}
 use Rattle.pipe_dev.proofs.WorkedFills.{part, loose, one_out, all_out, told, takes_first}
-use Rattle.pipe_dev.proofs.WorkedFills.{finds_none, free, filling, fills_all, stream}
+use Rattle.pipe_dev.proofs.WorkedFills.{calls, finds_none, free, filling, fills_all, no_part}
+use Rattle.pipe_dev.proofs.WorkedFills.{one_part}
 
 -- ---- a try, and a read, of that direction and of two more
 
@@ -72,21 +70,18 @@ module _ (table : TableId) where
   abbrev idle : Process
   idle = record { table = table; pid = 0; trace = [] }
 
-  abbrev reader : Account Entry → Process → Reader
-  reader account process = record { account = account; rest = None; process = process }
-
   abbrev zeros : List ℕ
   zeros = 0 ∷ 0 ∷ 0 ∷ 0 ∷ []
 
   -- a read of a buffer before any call, and behind what it found
   abbrev unread_with : List ℕ → Calling
-  unread_with buffer = calling (reader unread idle) buffer
+  unread_with buffer = calls (free unread) idle buffer
 
   abbrev empty_with : List ℕ → Calling
-  empty_with buffer = calling (reader told_empty (woke idle 4 1)) buffer
+  empty_with buffer = calls (free told_empty) (woke idle 4 1) buffer
 
   abbrev ended_with : List ℕ → Calling
-  ended_with buffer = calling (reader has_ended idle) buffer
+  ended_with buffer = calls (free has_ended) idle buffer
 
   abbrev ReadsSo : Calling → Result ReadAnswer Fault → Calling → Type 0
   ReadsSo = Reads loose row
@@ -97,35 +92,10 @@ module _ (table : TableId) where
   abbrev TriesOnSo : Calling → ReadOutcome → Calling → Type 0
   TriesOnSo = TriesOn loose row
 
-  -- a try that read one part
-  one_part : (old : Calling) (count : ℕ) (why : Stop) (new : Calling) (part : Part) (after : Taker)
-      → goes_further (stream (length old.buffer)) [] ≡ true
-      → TakesPart loose (length old.buffer - 0) (lending_of old).taker part after
-      → StopsAt loose (stream (length old.buffer)) why
-      (record { taker = after; parts = part ∷ [] }) (lending_of new).taker
-      → IsFilledBy part.bytes old.buffer new.buffer count
-      → WakesWith row (number_of old.reader.rest part) old.reader.process new.reader.process
-      → TriesOnSo old (came_to count why) new
-  one_part old count why new part after further taken stopped filled woken =
-      record {
-        fills = record {
-          times = 1;
-          filling = record { taker = after; parts = part ∷ [] };
-          taken = record {
-            between = begins (lending_of old).taker;
-            rounds = refl;
-            last = record { further = further; part = part; taken = taken; parts = refl };
-          };
-          stopped = stopped;
-          filled = filled;
-        };
-        woken = woken;
-      }
-
   -- it joined all three writes, was told that no more are there, and then woke its writer once
   joins_all : TriesOnSo (unread_with zeros)
       (came_to 3 (stop.NotYet 3))
-      (calling (reader told (woke idle 4 3)) (97 ∷ 98 ∷ 99 ∷ 0 ∷ []))
+      (calls (free told) (woke idle 4 3) (97 ∷ 98 ∷ 99 ∷ 0 ∷ []))
   joins_all =
       record {
         fills = record {
@@ -146,11 +116,11 @@ module _ (table : TableId) where
 
   -- so it is answered
   answers_all : TriesSo (unread_with zeros) (try.Got 3)
-      (calling (reader told (woke idle 4 3)) (97 ∷ 98 ∷ 99 ∷ 0 ∷ []))
+      (calls (free told) (woke idle 4 3) (97 ∷ 98 ∷ 99 ∷ 0 ∷ []))
   answers_all = record { why = stop.NotYet 3; tried = joins_all; got = refl }
 
   reads_all : ReadsSo (unread_with zeros) (Ok (read.Got 3))
-      (calling (reader told (woke idle 4 3)) (97 ∷ 98 ∷ 99 ∷ 0 ∷ []))
+      (calls (free told) (woke idle 4 3) (97 ∷ 98 ∷ 99 ∷ 0 ∷ []))
   reads_all = inl answers_all
 
   -- a wakeup is a step at least
@@ -182,15 +152,15 @@ module _ (table : TableId) where
   abbrev second_byte : Part
   second_byte = part 0 (98 ∷ [])
 
-  abbrev begun : Process → Reader
-  begun process = record { account = one_out; rest = Some second_byte; process = process }
+  abbrev begun : Taker
+  begun = record { account = one_out; rest = Some second_byte }
 
   -- one byte of the first write fills its buffer, and the other is kept
   begins_a_write : TriesOnSo (unread_with (0 ∷ [])) (came_to 1 stop.Enough)
-      (calling (begun (woke idle 4 1)) (97 ∷ []))
+      (calls begun (woke idle 4 1) (97 ∷ []))
   begins_a_write =
-      one_part (unread_with (0 ∷ [])) 1 stop.Enough (calling (begun (woke idle 4 1)) (97 ∷ []))
-      (part 0 (97 ∷ [])) (record { account = one_out; rest = Some second_byte }) refl
+      one_part loose row (unread_with (0 ∷ [])) 1 stop.Enough
+      (calls begun (woke idle 4 1) (97 ∷ [])) (part 0 (97 ∷ [])) begun refl
       (record {
         left = part 0 a;
         next = inr record { none_left = refl; taken = takes_first };
@@ -200,11 +170,11 @@ module _ (table : TableId) where
       (refl, refl) (record { count_is = refl; bytes_are = refl }) (wakes_writer Stream idle 1)
 
   -- the other is read next, and nobody is woken for it
-  goes_on_in_it : TriesOnSo (calling (begun idle) (0 ∷ [])) (came_to 1 stop.Enough)
-      (calling (reader one_out idle) (98 ∷ []))
+  goes_on_in_it : TriesOnSo (calls begun idle (0 ∷ [])) (came_to 1 stop.Enough)
+      (calls (free one_out) idle (98 ∷ []))
   goes_on_in_it =
-      one_part (calling (begun idle) (0 ∷ [])) 1 stop.Enough
-      (calling (reader one_out idle) (98 ∷ [])) second_byte (free one_out) refl
+      one_part loose row (calls begun idle (0 ∷ [])) 1 stop.Enough
+      (calls (free one_out) idle (98 ∷ [])) second_byte (free one_out) refl
       (record {
         left = second_byte;
         next = inl record { left_is = refl; account = refl };
@@ -213,8 +183,8 @@ module _ (table : TableId) where
       })
       (refl, refl) (record { count_is = refl; bytes_are = refl }) refl
 
-  tries_a_byte : TriesSo (calling (begun idle) (0 ∷ [])) (try.Got 1)
-      (calling (reader one_out idle) (98 ∷ []))
+  tries_a_byte : TriesSo (calls begun idle (0 ∷ [])) (try.Got 1)
+      (calls (free one_out) idle (98 ∷ []))
   tries_a_byte = record { why = stop.Enough; tried = goes_on_in_it; got = refl }
 
   -- ---- no byte
@@ -222,7 +192,8 @@ module _ (table : TableId) where
   -- an empty write was passed, for which the writer was woken
   passes_an_empty_write : TriesOnSo (unread_with b) (came_to 0 (stop.NotYet 1)) (empty_with b)
   passes_an_empty_write =
-      one_part (unread_with b) 0 (stop.NotYet 1) (empty_with b) (part 0 []) (free passed) refl
+      one_part loose row (unread_with b) 0 (stop.NotYet 1) (empty_with b) (part 0 [])
+      (free passed) refl
       (record {
         left = part 0 [];
         next = inr record { none_left = refl; taken = takes_empty };
@@ -242,25 +213,16 @@ module _ (table : TableId) where
   -- it wakes first, then sleeps with the number that it was told, and is interrupted
   read_is_interrupted : ReadsSo (unread_with b)
       (Err (fault.Interrupted (only Interrupt)))
-      (calling (reader told_empty (slept (woke idle 4 1) 3 1 (only Interrupt))) b)
+      (calls (free told_empty) (slept (woke idle 4 1) 3 1 (only Interrupt)) b)
   read_is_interrupted =
-      interrupted (reading loose row) 3 (lent_at (unread_with b))
-      (lending_of (calling (reader told_empty idle) b))
-      (lending_of (calling (reader told_empty idle) b))
+      interrupted (reading loose row) 3 (unread_with b)
+      (empty_with b).seat (empty_with b).seat
       (woke idle 4 1) 1 passes_an_empty_write refl
 
   finds_an_end : TriesOnSo (unread_with b) (came_to 0 stop.End) (ended_with b)
   finds_an_end =
-      record {
-        fills = record {
-          times = 0;
-          filling = begins (free unread);
-          taken = refl;
-          stopped = (refl, record { none_left = refl; entered = finds_the_end; rest = refl });
-          filled = record { count_is = refl; bytes_are = refl };
-        };
-        woken = refl;
-      }
+      no_part loose row (unread_with b) stop.End (ended_with b)
+      (refl, record { none_left = refl; entered = finds_the_end; rest = refl }) refl refl
 
   tries_at_the_end : TriesSo (unread_with b) try.End (ended_with b)
   tries_at_the_end = finds_an_end
@@ -269,7 +231,7 @@ module _ (table : TableId) where
   reads_to_the_end = inl finds_an_end
 
   -- an end has no byte
-  end_fills_its_buffer : (new : Reader) → TriesSo (unread_with b) try.End (calling new a) → ⊥
+  end_fills_its_buffer : (new : Taker) → TriesSo (unread_with b) try.End (calls new idle a) → ⊥
   end_fills_its_buffer new tries =
       let filled = tries.fills.filled in
       let none : length (bytes_of tries.fills.filling.parts) ≡ 0 = sym filled.count_is in
@@ -279,5 +241,5 @@ module _ (table : TableId) where
 
   -- a read that is refused at once did nothing
   refused_read_passes : ReadsSo (unread_with b) (Err fault.NoRendez)
-      (calling (reader passed idle) b) → ⊥
-  refused_read_passes reads = let seen = ap (λ (r : Reader). r.account.seen) reads.same in cc
+      (calls (free passed) idle b) → ⊥
+  refused_read_passes reads = let seen = ap (λ (c : Calling). c.seat.taker.account.seen) reads in cc

@@ -25,7 +25,8 @@ use Rattle.pipe_dev.specs.declared.row.Row.{Row}
 use Rattle.pipe_dev.specs.Ends.{ReadSide, WriteSide, AreAllEnds}
 use Rattle.pipe_dev.specs.Rendezes.{OwnsRow, WakesAll, WakesIfKnown}
 use Rattle.pipe_dev.specs.WriteCalls.{WriteCall, Writer, Writes, WritesLong, atomic_writes}
-use Rattle.pipe_dev.specs.WriteCalls.{AsksForRoom, GivesUp, bytes_in, writing}
+use Rattle.pipe_dev.specs.WriteCalls.{AsksForRoom, bytes_in, writing}
+use Rattle.pipe_dev.specs.Calls.{GivesUp}
 use Rattle.waiting.specs.declared.call.Reply.TheVariants.{Wait, Refused}
 use Rattle.pipe_dev.proofs.WorkedEntries.{a, b, tight, IsRun, seen_3, seen_4, seen_6, rendez_row}
 use Rattle.pipe_dev.proofs.WorkedEntries.{woke, slept, wakes_one, wakes_writer, slept_once}
@@ -176,10 +177,10 @@ module _ (table : TableId) where
       → ¬ AsksForRoom (call b) (writer has_put idle) (Refused fault.Memory) new
   queue_refuses_for_memory new asks = asks
 
-  write_that_gave_up_is_accepted : ¬ GivesUp was_full (Some 2) was_full
+  write_that_gave_up_is_accepted : ¬ GivesUp {Out = ℕ} was_full (Some 2) was_full
   write_that_gave_up_is_accepted gives = gives
 
-  write_gives_up_with_an_entry_more : ¬ GivesUp was_full None is_taken
+  write_gives_up_with_an_entry_more : ¬ GivesUp {Out = ℕ} was_full None is_taken
   write_gives_up_with_an_entry_more same =
       let seen = ap (λ (a : Account Entry). length a.seen) same in cc
 

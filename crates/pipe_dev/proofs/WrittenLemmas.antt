@@ -1,6 +1,6 @@
 -- What the calls of a write end add to what its seat knows as accepted.
 use Rattle.std.proofs.Common.{◌≡◌, eqb, ℕ, ◌+◌, arith, if◌then◌else◌}
-use Rattle.std.proofs.Common.{List, [], ◌∷◌, ◌++◌, map, refl, sym, ◌∙◌, ap, subst}
+use Rattle.std.proofs.Common.{List, [], ◌∷◌, ◌++◌, map, refl, sym, ◌∙◌, subst}
 use Rattle.std.specs.Prelude.{IsTrue, Result, Ok, Err}
 use Rattle.std.specs.List.{AllByRecursion}
 use Rattle.std.proofs.lemmas.Bool.Decides.{nat_tests}
@@ -24,7 +24,7 @@ use Rattle.pipe_dev.specs.CallLaws.{HangupsWriteNothing}
 use Rattle.pipe_dev.specs.Chain.{HasWritten, written_by}
 use Rattle.pipe_dev.specs.Finishing.{accepted_in}
 use Rattle.pipe_dev.specs.Rendezes.{writer_rendez}
-use Rattle.pipe_dev.specs.WriteCalls.{WriteCall, Writer, AsksForRoom, GivesUp, HasHang, writing}
+use Rattle.pipe_dev.specs.WriteCalls.{WriteCall, Writer, AsksForRoom, HasHang, writing}
 use Rattle.waiting.specs.declared.call.Reply.TheVariants.{Wait}
 use Rattle.waiting.specs.Waiting.{Waited, reply_of}
 use Rattle.pipe_dev.proofs.OutcomeLemmas.{waited_ends}
@@ -116,19 +116,22 @@ module _ (call : WriteCall) (blocks : List (List ℕ)) where
       written
   answered old new (Err why) written asks = absurd asks
 
-  gave_up : (old new : Account Entry) → new ≡ old → Before old
-      → HasWritten new call.writer (blocks ++ [])
-  gave_up old new same written =
-      subst (λ (seat : Account Entry). HasWritten seat call.writer (blocks ++ [])) (sym same)
-      (subst (λ (bs : List (List ℕ)). HasWritten old call.writer bs) (sym (append-nil blocks))
-      written)
+  gave_up : (seat : Account Entry) → Before seat → HasWritten seat call.writer (blocks ++ [])
+  gave_up seat written =
+      subst (λ (bs : List (List ℕ)). HasWritten seat call.writer bs) (sym (append-nil blocks))
+      written
+
+  did_nothing : (old new : Writer) → new ≡ old → Before old.seat
+      → HasWritten new.seat call.writer (blocks ++ [])
+  did_nothing old new same written =
+      subst (λ (w : Writer). HasWritten w.seat call.writer (blocks ++ [])) (sym same)
+      (gave_up old.seat written)
 
   asked : (rendez : RendezId) (old : Writer) (answer : Result ℕ Fault) (new : Writer)
       → Waited (writing call) rendez old answer new → Before old.seat → After answer new.seat
   asked rendez old answer new waited written =
-      waited_ends (AsksForRoom call) GivesUp rendez Before After goes_on answered
-      (λ old new number written gives. absurd gives)
-      (λ old new why written same. gave_up old new same written) old answer new written waited
+      waited_ends (AsksForRoom call) rendez Before After goes_on answered
+      (λ seat why written. gave_up seat written) old answer new written waited
 
 -- the account of a new write end knows of no accepted write
 pub new_ends_have_written_nothing : NewEndsHaveWrittenNothing
@@ -143,11 +146,11 @@ pub writes_add_what_was_accepted : WritesAddWhatWasAccepted
 writes_add_what_was_accepted call old (Ok number) new wrote blocks written =
     asked call blocks (writer_rendez call.row call.writer) old (Ok number) new wrote written
 writes_add_what_was_accepted call old (Err fault.TooBig) new wrote blocks written =
-    gave_up call blocks old.seat new.seat (ap (λ (w : Writer). w.seat) wrote) written
+    did_nothing call blocks old new wrote written
 writes_add_what_was_accepted call old (Err fault.NoRendez) new wrote blocks written =
-    gave_up call blocks old.seat new.seat (ap (λ (w : Writer). w.seat) wrote) written
+    did_nothing call blocks old new wrote written
 writes_add_what_was_accepted call old (Err fault.Memory) new wrote blocks written =
-    gave_up call blocks old.seat new.seat (ap (λ (w : Writer). w.seat) wrote) written
+    did_nothing call blocks old new wrote written
 writes_add_what_was_accepted call old (Err why) new wrote blocks written =
     asked call blocks (writer_rendez call.row call.writer) old (Err why) new wrote written
 

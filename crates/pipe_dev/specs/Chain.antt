@@ -20,16 +20,14 @@ use Rattle.pipe_dev.specs.declared.answers.TryAnswer.TheVariants as try
 use Rattle.pipe_dev.specs.Filling.{Taker, TakesPart}
 use Rattle.pipe_dev.specs.Finishing.{accepted_in}
 use Rattle.pipe_dev.specs.Parts.{Part, bytes_of}
-use Rattle.pipe_dev.specs.ReadCalls.{Reader}
 use Rattle.pipe_dev.specs.Reading.{Reading, first_reading}
 use Rattle.pipe_dev.specs.Rounds.{Rounds}
 
 -- ---- a read end
 
--- a read end that has read these parts, whichever process calls it
-abbrev pub reading_at : Reader → List Part → Reading
-reading_at reader parts =
-    record { account = reader.account; parts = parts; rest = reader.rest }
+-- a read end that has read these parts
+abbrev pub reading_at : Taker → List Part → Reading
+reading_at taker parts = record { account = taker.account; parts = parts; rest = taker.rest }
 
 abbrev pub taker_in : Reading → Taker
 taker_in reading = record { account = reading.account; rest = reading.rest }
@@ -64,10 +62,10 @@ pub record IsMade (key : Key) (reading : Reading) : Type 0 where
   pub times : ℕ
   pub steps : Rounds (ReadStep key) times (first_reading (reader_account key.writers)) reading
 
--- one part more, whose bytes stand in the buffer
-pub record AddsOne (count : ℕ) (buffer' : List ℕ) (parts parts' : List Part) : Type 0 where
+-- one part more, whose bytes are these
+pub record AddsOne (bytes : List ℕ) (parts parts' : List Part) : Type 0 where
   pub part : Part
-  pub bytes : part.bytes ≡ take count buffer'
+  pub bytes_are : part.bytes ≡ bytes
   pub parts_are : parts' ≡ part ∷ parts
 
 -- Some parts more, whose bytes are these, one part behind the other. Own: a stream read adds them;
@@ -77,32 +75,33 @@ pub record AddsParts (bytes : List ℕ) (parts parts' : List Part) : Type 0 wher
   pub bytes_are : bytes_of added ≡ bytes
   pub parts_are : parts' ≡ added ++ parts
 
--- What an answer adds to the parts. In message mode: one where it gave bytes, and else nothing. In
--- stream mode: those of the bytes that it gave, and else of the empty writes that it passed.
-abbrev pub AddsRead :
-    Mode → Result ReadAnswer Fault → List ℕ → List Part → List Part → Type 0
-AddsRead Message (Ok (read.Got count)) buffer' parts parts' = AddsOne count buffer' parts parts'
-AddsRead Message (Ok read.End) buffer' parts parts' = parts' ≡ parts
-AddsRead Message (Err why) buffer' parts parts' = parts' ≡ parts
-AddsRead Stream (Ok (read.Got count)) buffer' parts parts' =
-    AddsParts (take count buffer') parts parts'
-AddsRead Stream (Ok read.End) buffer' parts parts' = AddsParts [] parts parts'
-AddsRead Stream (Err why) buffer' parts parts' = AddsParts [] parts parts'
-
-abbrev pub AddsTry : Mode → TryAnswer → List ℕ → List Part → List Part → Type 0
-AddsTry Message (try.Got count) buffer' parts parts' = AddsOne count buffer' parts parts'
-AddsTry Message try.NotYet buffer' parts parts' = parts' ≡ parts
-AddsTry Message try.End buffer' parts parts' = parts' ≡ parts
-AddsTry Stream (try.Got count) buffer' parts parts' = AddsParts (take count buffer') parts parts'
-AddsTry Stream try.NotYet buffer' parts parts' = AddsParts [] parts parts'
-AddsTry Stream try.End buffer' parts parts' = AddsParts [] parts parts'
-
 abbrev pub AddsNone : List Part → List Part → Type 0
 AddsNone parts parts' = parts' ≡ parts
 
+-- What a call that gave bytes adds to the parts: in message mode one, and in stream mode those of
+-- its bytes.
+abbrev pub AddsBytes : Mode → List ℕ → List Part → List Part → Type 0
+AddsBytes Message bytes parts parts' = AddsOne bytes parts parts'
+AddsBytes Stream bytes parts parts' = AddsParts bytes parts parts'
+
+-- and one that gave none: nothing, and in stream mode the empty writes that it passed
+abbrev pub AddsNoByte : Mode → List Part → List Part → Type 0
+AddsNoByte Message parts parts' = AddsNone parts parts'
+AddsNoByte Stream parts parts' = AddsParts [] parts parts'
+
+-- what an answer adds
+abbrev pub AddsRead :
+    Mode → Result ReadAnswer Fault → List ℕ → List Part → List Part → Type 0
+AddsRead mode (Ok (read.Got count)) buffer' = AddsBytes mode (take count buffer')
+AddsRead mode answer buffer' = AddsNoByte mode
+
+abbrev pub AddsTry : Mode → TryAnswer → List ℕ → List Part → List Part → Type 0
+AddsTry mode (try.Got count) buffer' = AddsBytes mode (take count buffer')
+AddsTry mode answer buffer' = AddsNoByte mode
+
 -- a call is such steps, which add this to the parts
 pub record IsOfSteps (key : Key) (Adds : List Part → List Part → Type 0)
-    (old : Reader) (parts : List Part) (new : Reader) : Type 0 where
+    (old : Taker) (parts : List Part) (new : Taker) : Type 0 where
   pub parts' : List Part
   pub added : Adds parts parts'
   pub times : ℕ

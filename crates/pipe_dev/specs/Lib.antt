@@ -4,6 +4,7 @@ pub mod Rounds
 pub mod Rendezes
 pub mod Ends
 pub mod Openings
+pub mod Calls
 pub mod Filling
 pub mod FillSteps
 pub mod ReadCalls

@@ -18,7 +18,7 @@ use Rattle.pipe_dev.specs.Ends.{ReadSide, WriteSide, AreAllEnds, IsSameReadEnd, 
 use Rattle.pipe_dev.specs.Finishing.{GivesHeld}
 use Rattle.pipe_dev.specs.Openings.{IsDirectionStartOf, AreNewEnds}
 use Rattle.pipe_dev.specs.Parts.{Part}
-use Rattle.pipe_dev.specs.ReadCalls.{Reads, Tries, calling, reader_of}
+use Rattle.pipe_dev.specs.ReadCalls.{Reads, Tries, calling}
 use Rattle.pipe_dev.specs.Sides.{HasReadJust, AreUnused, AddsToRead, AddsToWritten}
 use Rattle.pipe_dev.specs.Sides.{AreSameWriteEnds, FindsAccepted}
 use Rattle.pipe_dev.specs.WriteCalls.{Writes, call_of, writer_of}
@@ -35,8 +35,8 @@ abbrev pub ReadsAddToTheirEnd : Type 0
 ReadsAddToTheirEnd =
     (old new : ReadSide) (before after : Running) (buffer : List ℕ)
     (answer : Result ReadAnswer Fault) (buffer' : List ℕ) → buffer ≢ []
-    → Reads (key_of old.queue) old.row (calling (reader_of old before) buffer) answer
-    (calling (reader_of new after) buffer')
+    → Reads (key_of old.queue) old.row (calling old before buffer) answer
+    (calling new after buffer')
     → IsSameReadEnd old new
     → (parts : List Part) → HasReadJust old parts
     → AddsToRead (AddsRead old.row.mode answer buffer') old parts new
@@ -45,8 +45,8 @@ abbrev pub TriesAddToTheirEnd : Type 0
 TriesAddToTheirEnd =
     (old new : ReadSide) (before after : Running) (buffer : List ℕ) (answer : TryAnswer)
     (buffer' : List ℕ) → buffer ≢ []
-    → Tries (key_of old.queue) old.row (calling (reader_of old before) buffer) answer
-    (calling (reader_of new after) buffer')
+    → Tries (key_of old.queue) old.row (calling old before buffer) answer
+    (calling new after buffer')
     → IsSameReadEnd old new
     → (parts : List Part) → HasReadJust old parts
     → AddsToRead (AddsTry old.row.mode answer buffer') old parts new
@@ -55,8 +55,8 @@ abbrev pub BlockReadsAddToTheirEnd : Type 0
 BlockReadsAddToTheirEnd =
     (old new : ReadSide) (before after : Running) (block : List ℕ)
     (answer : Result ReadAnswer Fault) (block' : List ℕ)
-    → ReadsBlock (key_of old.queue) old.row (calling (reader_of old before) block) answer
-    (calling (reader_of new after) block')
+    → ReadsBlock (key_of old.queue) old.row (calling old before block) answer
+    (calling new after block')
     → IsSameReadEnd old new
     → (parts : List Part) → HasReadJust old parts
     → AddsToRead (AddsRead Message answer block') old parts new

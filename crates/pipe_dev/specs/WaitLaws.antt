@@ -17,12 +17,8 @@ use Rattle.block_queue.specs.History.{opening_state}
 use Rattle.block_queue.specs.Meaning.{queue_meaning}
 use Rattle.pipe_dev.specs.declared.answers.ReadAnswer.{ReadAnswer}
 use Rattle.pipe_dev.specs.declared.row.Row.{Row}
-use Rattle.pipe_dev.specs.Parts.{Part}
-use Rattle.pipe_dev.specs.declared.filling.ReadOutcome.{ReadOutcome}
-use Rattle.pipe_dev.specs.Filling.{last_number}
-use Rattle.pipe_dev.specs.ReadCalls.{AsksForBytes, Reader, RunsARead, TakesOut, Calling, TriesOn}
-use Rattle.pipe_dev.specs.ReadCalls.{gone_on}
-use Rattle.pipe_dev.specs.Rendezes.{WakesAll, reader_rendez, writer_rendez}
+use Rattle.pipe_dev.specs.ReadCalls.{AsksForBytes, Calling, RunsARead}
+use Rattle.pipe_dev.specs.Rendezes.{WakesAll, WakesWith, reader_rendez, writer_rendez}
 use Rattle.pipe_dev.specs.WriteCalls.{WriteCall, Writer, Accepts, RunsAWrite}
 use Rattle.waiting.specs.declared.call.Reply.TheVariants.{Done}
 use Rattle.waiting.specs.Wakeups.{HasGoneOn}
@@ -36,33 +32,24 @@ WritesWakeTheReader =
     → Accepts call number old new → HasGoneOn s.views new.process
     → ReleasesBelow (world_of sizes.procs sizes.rendez shows.run) (reader_rendez call.row) number
 
--- So with each writer's Rendez, once a read that took a write out has returned.
+-- each writer is released below this number
+abbrev pub ReleasesWriters : State → Row → ℕ → Type 0
+ReleasesWriters state row number =
+    (writer : ℕ) → writer < row.writers → ReleasesBelow state (writer_rendez row writer) number
+
+-- So with each writer's Rendez, once a call of a read end has returned that took writes out and
+-- woke with the number of the last of them.
 abbrev pub ReadsWakeEachWriter : Type 0
 ReadsWakeEachWriter =
     (sizes : Sizes) (s : _) (shows : ShowsCore sizes s)
-    → (key : Key) (row : Row) (old new : Reader) (left : Part)
-    → TakesOut key row old left new → HasGoneOn s.views new.process
-    → (writer : ℕ) → writer < row.writers
-    → ReleasesBelow (world_of sizes.procs sizes.rendez shows.run) (writer_rendez row writer)
-    (left.place + 1)
-
--- So with each writer's Rendez and the number of the last write that a try took out, in either
--- mode, once that try has returned.
-abbrev pub TriesWakeEachWriter : Type 0
-TriesWakeEachWriter =
-    (sizes : Sizes) (s : _) (shows : ShowsCore sizes s)
-    → (key : Key) (row : Row) (old : Calling) (came : ReadOutcome) (new : Calling)
-    → (tries : TriesOn key row old came new) → HasGoneOn s.views new.reader.process
-    → (number : ℕ) → last_number old.reader.rest tries.fills.filling.parts ≡ Some number
-    → (writer : ℕ) → writer < row.writers
-    → ReleasesBelow (world_of sizes.procs sizes.rendez shows.run) (writer_rendez row writer)
-    number
+    → (row : Row) (number : ℕ) (before after : Process)
+    → WakesWith row (Some number) before after → HasGoneOn s.views after
+    → ReleasesWriters (world_of sizes.procs sizes.rendez shows.run) row number
 
 -- a hangup releases everybody on these Rendez
 pub record ReleasesAll (state : State) (row : Row) : Type 0 where
   pub reader : ReleasesBelow state (reader_rendez row) TOP_LEVEL
-  pub writers : (writer : ℕ) → writer < row.writers →
-      ReleasesBelow state (writer_rendez row writer) TOP_LEVEL
+  pub writers : ReleasesWriters state row TOP_LEVEL
 
 abbrev pub HangupsWakeAll : Type 0
 HangupsWakeAll =
@@ -120,24 +107,14 @@ RunWritesWakeTheReader =
     → RunsAWrite call old (Ok number) new → HasGoneOn s.views new.process
     → ReleasesBelow (world_of sizes.procs sizes.rendez shows.run) (reader_rendez call.row) number
 
--- each writer is released below this number
-abbrev pub ReleasesWriters : State → Row → ℕ → Type 0
-ReleasesWriters state row number =
-    (writer : ℕ) → writer < row.writers → ReleasesBelow state (writer_rendez row writer) number
-
--- The last try of a read that was answered so: the writers are released below the number of the
--- last write that it took out.
+-- the last try of a read that was answered so: the writers are released below the number with which
+-- it woke them
 pub record LastTryReleases (state : State) (key : Key) (row : Row) (answer : ReadAnswer)
     (new : Calling) : Type 0 where
   pub before : Calling
   pub process : Process
-  pub asked : AsksForBytes key row before (Done answer) (gone_on new process)
-  pub taken : (left : Part)
-      → TakesOut key row before.reader left (gone_on new process).reader
-      → ReleasesWriters state row (left.place + 1)
-  pub tried : (came : ReadOutcome) (number : ℕ)
-      → (tries : TriesOn key row before came (gone_on new process))
-      → last_number before.reader.rest tries.fills.filling.parts ≡ Some number
+  pub asked : AsksForBytes key row before (Done answer) (record new { process = process })
+  pub released : (number : ℕ) → WakesWith row (Some number) before.process process
       → ReleasesWriters state row number
 
 -- So with a read, and the writers.
@@ -145,5 +122,5 @@ abbrev pub RunReadsWakeEachWriter : Type 0
 RunReadsWakeEachWriter =
     (sizes : Sizes) (s : _) (shows : ShowsCore sizes s)
     → (key : Key) (row : Row) (answer : ReadAnswer) (old new : Calling)
-    → RunsARead key row old (Ok answer) new → HasGoneOn s.views new.reader.process
+    → RunsARead key row old (Ok answer) new → HasGoneOn s.views new.process
     → LastTryReleases (world_of sizes.procs sizes.rendez shows.run) key row answer new

@@ -2,14 +2,13 @@
 use Rattle.std.specs.Prelude.{◌≡◌, ◌⊎◌, ◌+◌, ◌++◌, ℕ, zero, suc, nat_le, false, ⊤}
 use Rattle.std.specs.Prelude.{List, [], ◌∷◌, length, take, drop, reverse}
 use Rattle.std.specs.Prelude.{Option, Some, None, Result, Ok, Err, if◌then◌else◌}
-use Rattle.histories.specs.History.{IsPast}
 use Rattle.histories.specs.declared.account.Account.{Account}
 use Rattle.sync_base.specs.declared.fault.Fault.{Fault}
 use Rattle.sync_base.specs.declared.fault.Fault.TheVariants as fault
 use Rattle.sync_base.specs.declared.limits.TheConstants.{ATOMIC_SIZE}
 use Rattle.sync_base.specs.declared.note.Note.TheVariants.{ClosedPipe}
 use Rattle.sync_base.specs.NoteSet.{only}
-use Rattle.rendez_words.specs.Process.{Process, pid_in}
+use Rattle.rendez_words.specs.Process.{pid_in}
 use Rattle.rendez_words.specs.Steps.{notes}
 use Rattle.sleep_wakeup.specs.Actions.{WakesOne}
 use Rattle.sleep_wakeup.specs.Kernel.{Running}
@@ -24,12 +23,13 @@ use Rattle.block_queue.specs.Seats.{key_of, put_account}
 use Rattle.block_queue.specs.Steps.{saw_hangup}
 use Rattle.pipe_dev.specs.declared.answers.Long.{Long}
 use Rattle.pipe_dev.specs.declared.row.Row.{Row}
+use Rattle.pipe_dev.specs.Calls.{RunsAs, waits_by}
 use Rattle.pipe_dev.specs.Ends.{WriteSide}
 use Rattle.pipe_dev.specs.Rendezes.{reader_rendez, writer_rendez}
 use Rattle.pipe_dev.specs.Rounds.{OneMore}
 use Rattle.waiting.specs.declared.call.Reply.{Reply}
 use Rattle.waiting.specs.declared.call.Reply.TheVariants as reply
-use Rattle.waiting.specs.Runners.{ComesToSame, IsACall, RunPoint, Runs, run_point}
+use Rattle.waiting.specs.Runners.{IsACall, RunPoint, Runs, run_point}
 use Rattle.waiting.specs.Waiting.{Promise, Point, Waited, point}
 
 -- the writer between two steps of a call: what its seat knows, and the process that calls
@@ -90,15 +90,9 @@ AsksForRoom call old (reply.Refused fault.Hungup) new = IsTooLate call old new
 AsksForRoom call old (reply.Refused fault.Worn) new = IsWornOut call old new
 AsksForRoom call old (reply.Refused why) new = ⊥
 
--- where a sleep of it failed it asks nothing more, and was not accepted
-abbrev pub GivesUp : Account Entry → Option ℕ → Account Entry → Type 0
-GivesUp old (Some number) new = ⊥
-GivesUp old None new = new ≡ old
-
 -- a write, as its wait asks the queue
 abbrev pub writing : WriteCall → Promise (Account Entry) ℕ
-writing call =
-    record { begun = AsksForRoom call; asked = AsksForRoom call; left = GivesUp }
+writing call = waits_by (AsksForRoom call)
 
 -- What a write did, by its answer. Own: a write above the atomic size is refused first, and then
 -- one by a process of another kernel; they and a write for whose block there is no memory do
@@ -137,21 +131,10 @@ RunsAWrite call old answer new =
     IsRefusedAs fault.Memory old answer new
     ⊎ IsACall (writing call) (writer_rendez call.row call.writer) old answer new
 
--- Of its direction it did what a write does that waits as long as it takes, and it comes to the
--- same.
-pub record IsAWrite (call : WriteCall) (old : Writer) (answer : Result ℕ Fault)
-    (new : Writer) : Type 0 where
-  pub told : Result ℕ Fault
-  pub process : Process
-  pub wrote : Writes call old told (record { seat = new.seat; process = process })
-  pub same : ComesToSame told answer
-  -- its steps are the caller's own, which has gone on since
-  pub own : IsPast process.trace new.process.trace
-
 abbrev pub RunsOfWritesAreWrites : Type 0
 RunsOfWritesAreWrites =
     (call : WriteCall) (old new : Writer) (answer : Result ℕ Fault)
-    → RunsAWrite call old answer new → IsAWrite call old answer new
+    → RunsAWrite call old answer new → RunsAs (Writes call old) answer new
 
 -- ---- a long write
 
@@ -211,10 +194,3 @@ writer_with seat proc = point (put_account seat) proc
 abbrev pub call_with : Queue → Row → PutSeat → List ℕ → WriteCall
 call_with queue row seat bytes =
     record { key = key_of queue; row = row; writer = seat.writer; bytes = bytes }
-
--- an answer that comes only from a put or a sleep
-abbrev pub IsAsked : Result ℕ Fault → Type 0
-IsAsked (Err fault.TooBig) = ⊥
-IsAsked (Err fault.NoRendez) = ⊥
-IsAsked (Err fault.Memory) = ⊥
-IsAsked answer = ⊤

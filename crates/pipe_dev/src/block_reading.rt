@@ -5,7 +5,7 @@ ghost use Rattle.pipe_dev.specs.BlockReads.{AsksForBlock};
 ghost use Rattle.pipe_dev.specs.Ends.{IsReadCursor};
 ghost use Rattle.pipe_dev.specs.Filling.{Lending as Lent};
 ghost use Rattle.pipe_dev.specs.FillSteps.{lending_with};
-ghost use Rattle.pipe_dev.specs.ReadCalls.{IsAskedRead, waits_by};
+ghost use Rattle.pipe_dev.specs.Calls.{IsAsked, waits_by};
 ghost use Rattle.pipe_dev.specs.ReadSteps.{lending_in};
 ghost use Rattle.pipe_dev.specs.Rendezes.{OwnsRow, reader_rendez};
 ghost use Rattle.waiting.specs.Waiting.{Waited, point};
@@ -29,7 +29,7 @@ impl<'p> ReadEnd<'p> {
     ghost use Rattle.block_queue.specs.Seats.{key_of};
     ghost use Rattle.pipe_dev.specs.BlockReads.{ReadsBlock};
     ghost use Rattle.pipe_dev.specs.Ends.{IsSameReadEnd};
-    ghost use Rattle.pipe_dev.specs.ReadCalls.{calling, reader_of};
+    ghost use Rattle.pipe_dev.specs.ReadCalls.{calling};
     ghost use Rattle.pipe_dev.specs.Rendezes.{OwnsRow};
 
     /// Reads all that is left of the write that was begun, or else the next write, and copies
@@ -54,8 +54,8 @@ impl<'p> ReadEnd<'p> {
 
         // It read, slept and woke so, or did nothing.
         ensures read { ReadsBlock (key_of self.old.queue) self.old.row
-            (calling (reader_of self.old proc.old) block.old.items) result
-            (calling (reader_of self.new proc.new) block.new.items) }
+            (calling self.old proc.old block.old.items) result
+            (calling self.new proc.new block.new.items) }
         ensures end { IsSameReadEnd self.old self.new }
         ensures words { proc.new.words ≡ proc.old.words }
     {
@@ -95,7 +95,7 @@ fn block_with<R: Wait>(
     ensures asked { Waited (waits_by (AsksForBlock (key_of queue.now) row.now))
         (reader_rendez row.now) (point (lending_with cursor block.old.items) proc.old)
         result.answer (point (lending_with result.cursor block.new.items) proc.new) }
-    ensures answer { IsAskedRead result.answer }
+    ensures answer { IsAsked result.answer }
 {
     let none = Vec::new(*block.allocator());
     let lent = mem::replace(block, none);

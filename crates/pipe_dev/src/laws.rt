@@ -1,6 +1,7 @@
 //! What holds of every direction of a pipe. Each law is a function with an empty body, whose
 //! contract says it.
 ghost use Rattle.pipe_dev.specs.CallLaws.{
+  MessagesAreReadOneByOne,
   ReadsAreSteps,
   TriesAreSteps,
   BlockReadsAreSteps,
@@ -19,7 +20,6 @@ ghost use Rattle.pipe_dev.specs.Openings.{OwnKernelHasEachRendez};
 ghost use Rattle.pipe_dev.specs.WaitLaws.{
   WritesWakeTheReader,
   ReadsWakeEachWriter,
-  TriesWakeEachWriter,
   HangupsWakeAll,
   WaitingReadersAreWokenAbove,
   WaitingWritersAreWokenAbove,
@@ -34,10 +34,11 @@ pub fn own_processes_are_never_refused()
     ensures ends { OwnKernelHasEachRendez }
 {}
 
-/// Each call of a read end adds one part for the bytes that it got and nothing else; in stream mode
-/// a read adds the parts that join to them, and of what has no bytes parts that are empty. What was
-/// read stays right.
+/// A try of messages reads one part, or finds nothing. Each call of a read end adds one part for
+/// the bytes that it got and nothing else; in stream mode a read adds the parts that join to them,
+/// and of what has no bytes parts that are empty. What was read stays right.
 pub fn calls_read_what_they_answer()
+    ensures messages { MessagesAreReadOneByOne }
     ensures reads { ReadsAreSteps }
     ensures tries { TriesAreSteps }
     ensures block_reads { BlockReadsAreSteps }
@@ -64,7 +65,6 @@ pub fn each_write_is_read_whole_and_once()
     ensures accepted { NoneIsAcceptedAfterHangup }
     ensures reader_woken { WritesWakeTheReader }
     ensures writers_woken { ReadsWakeEachWriter }
-    ensures tries_woken { TriesWakeEachWriter }
     ensures all_woken { HangupsWakeAll }
     ensures reader_above { WaitingReadersAreWokenAbove }
     ensures writers_above { WaitingWritersAreWokenAbove }

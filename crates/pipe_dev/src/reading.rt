@@ -5,7 +5,6 @@ ghost use Rattle.pipe_dev.specs.Ends.{IsReadCursor};
 ghost use Rattle.pipe_dev.specs.Filling.{Lending};
 ghost use Rattle.pipe_dev.specs.FillSteps.{lending_with};
 ghost use Rattle.pipe_dev.specs.ReadCalls.{AsksForBytes, ReadsBy, Tries, reading};
-ghost use Rattle.pipe_dev.specs.ReadCalls.{calling_at};
 ghost use Rattle.pipe_dev.specs.ReadSteps.{found_of};
 ghost use Rattle.pipe_dev.specs.Rendezes.{OwnsRow, reader_rendez};
 ghost use Rattle.waiting.specs.Runners.{IsACall, run_point};
@@ -28,8 +27,8 @@ impl<'p> ReadEnd<'p> {
     ghost use Rattle.sync_base.specs.declared.fault.Fault.TheVariants.{BadCount, NoRendez};
     ghost use Rattle.block_queue.specs.Seats.{key_of};
     ghost use Rattle.pipe_dev.specs.Ends.{IsSameReadEnd};
-    ghost use Rattle.pipe_dev.specs.ReadCalls.{IsUntouchedRead, Reads, ReadsBy, RunsARead, Tries};
-    ghost use Rattle.pipe_dev.specs.ReadCalls.{calling, reader_of, run_call};
+    ghost use Rattle.pipe_dev.specs.ReadCalls.{Reads, ReadsBy, RunsARead, Tries};
+    ghost use Rattle.pipe_dev.specs.ReadCalls.{calling, run_call};
     ghost use Rattle.pipe_dev.specs.Rendezes.{OwnsRow};
     ghost use Rattle.pipe_dev.specs.WriteCalls.{IsRefusedAs};
 
@@ -56,8 +55,8 @@ impl<'p> ReadEnd<'p> {
 
         // It read, slept and woke so, or did nothing.
         ensures read { Reads (key_of self.old.queue) self.old.row
-            (calling (reader_of self.old proc.old) buffer.old) result
-            (calling (reader_of self.new proc.new) buffer.new) }
+            (calling self.old proc.old buffer.old) result
+            (calling self.new proc.new buffer.new) }
         ensures end { IsSameReadEnd self.old self.new }
         ensures words { proc.new.words ≡ proc.old.words }
     {
@@ -82,22 +81,22 @@ impl<'p> ReadEnd<'p> {
         // A buffer of no bytes is refused first, and then a process of a kernel that does not own
         // all the Rendez of the direction.
         ensures bad_count { buffer.old ≡ [] → IsRefusedAs BadCount
-            (run_call (calling (reader_of self.old proc.old) buffer.old) timer.old) result
-            (run_call (calling (reader_of self.new proc.new) buffer.new) timer.new) }
+            (run_call (calling self.old proc.old buffer.old) timer.old) result
+            (run_call (calling self.new proc.new buffer.new) timer.new) }
         ensures no_rendez { buffer.old ≢ [] → ¬ OwnsRow proc.old.words self.old.row
             → IsRefusedAs NoRendez
-            (run_call (calling (reader_of self.old proc.old) buffer.old) timer.old) result
-            (run_call (calling (reader_of self.new proc.new) buffer.new) timer.new) }
+            (run_call (calling self.old proc.old buffer.old) timer.old) result
+            (run_call (calling self.new proc.new buffer.new) timer.new) }
 
         // Else it was run so; and whatever its runner is, it was a read.
         ensures read { buffer.old ≢ [] → OwnsRow proc.old.words self.old.row
             → ReadsBy (W.runs runner.now) (key_of self.old.queue) self.old.row
-            (run_call (calling (reader_of self.old proc.old) buffer.old) timer.old) result
-            (run_call (calling (reader_of self.new proc.new) buffer.new) timer.new) }
+            (run_call (calling self.old proc.old buffer.old) timer.old) result
+            (run_call (calling self.new proc.new buffer.new) timer.new) }
         ensures is_read { buffer.old ≢ [] → OwnsRow proc.old.words self.old.row
             → RunsARead (key_of self.old.queue) self.old.row
-            (calling (reader_of self.old proc.old) buffer.old) result
-            (calling (reader_of self.new proc.new) buffer.new) }
+            (calling self.old proc.old buffer.old) result
+            (calling self.new proc.new buffer.new) }
         ensures end { IsSameReadEnd self.old self.new }
         ensures words { proc.new.words ≡ proc.old.words }
         ensures timer { W.rests runner.now timer.new }
@@ -138,13 +137,13 @@ impl<'p> ReadEnd<'p> {
         ensures no_rendez { buffer.old ≢ []
             → (IsErrOf result NoRendez ↔ ¬ OwnsRow proc.old.words self.old.row) }
         ensures fault { IfErr result (λ fault. (fault ≡ BadCount) ⊎ (fault ≡ NoRendez)) }
-        ensures refused { OnErr result (IsUntouchedRead
-            (reader_of self.old proc.old) buffer.old (reader_of self.new proc.new) buffer.new) }
+        ensures refused { OnErr result
+            (calling self.new proc.new buffer.new ≡ calling self.old proc.old buffer.old) }
 
         // Otherwise it read and woke so.
         ensures tried { IfOk result (λ answer. Tries (key_of self.old.queue) self.old.row
-            (calling (reader_of self.old proc.old) buffer.old) answer
-            (calling (reader_of self.new proc.new) buffer.new)) }
+            (calling self.old proc.old buffer.old) answer
+            (calling self.new proc.new buffer.new)) }
 
         ensures end { IsSameReadEnd self.old self.new }
         ensures words { proc.new.words ≡ proc.old.words }
@@ -269,8 +268,8 @@ fn ask_for_bytes(
     ensures room { buffer.new ≢ [] }
     ensures low { IsLow result }
     ensures asked { AsksForBytes (key_of queue.now) row.now
-        (calling_at (point (lending_with cursor.old buffer.old) proc.old)) result
-        (calling_at (point (lending_with cursor.new buffer.new) proc.new)) }
+        (point (lending_with cursor.old buffer.old) proc.old) result
+        (point (lending_with cursor.new buffer.new) proc.new) }
 {
     let FillResult { took, came } = fill(queue, row, cursor, buffer);
     if let Some(number) = took {
@@ -305,8 +304,8 @@ fn try_once(
     ensures cursor { IsReadCursor queue.now row.now cursor.new }
     ensures words { proc.new.words ≡ proc.old.words }
     ensures tried { Tries (key_of queue.now) row.now
-        (calling_at (point (lending_with cursor.old buffer.old) proc.old)) result
-        (calling_at (point (lending_with cursor.new buffer.new) proc.new)) }
+        (point (lending_with cursor.old buffer.old) proc.old) result
+        (point (lending_with cursor.new buffer.new) proc.new) }
 {
     match ask_for_bytes(queue, row, cursor, proc, buffer) {
         Reply::Done(ReadAnswer::Got(count)) => TryAnswer::Got(count),

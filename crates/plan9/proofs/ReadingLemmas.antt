@@ -5,15 +5,13 @@ use Rattle.std.proofs.Common.{length-append, length-drop}
 use borrow.Rule.Slice.PartMut.{mid_of, put_mid}
 use Rattle.std.proofs.lemmas.List.{take_all, drop_all, append-nil, length-take-le}
 use Rattle.sync_base.specs.declared.fault.Fault.{Fault}
-use Rattle.sync_base.specs.declared.mode.Mode.{Mode}
-use Rattle.sync_base.specs.declared.mode.Mode.TheVariants.{Message, Stream}
+use Rattle.rendez_words.specs.Process.{Process}
 use Rattle.block_queue.specs.declared.view.Key.{Key}
 use Rattle.pipe_dev.specs.declared.answers.ReadAnswer.TheVariants as read
 use Rattle.pipe_dev.specs.declared.row.Row.{Row}
-use Rattle.pipe_dev.specs.Parts.{part_of, bytes_of}
-use Rattle.pipe_dev.specs.ReadCalls as calls
-use Rattle.pipe_dev.specs.ReadCalls.{AsksForBytes, Calling, Gets, GivesBytes, InMode, Reads}
-use Rattle.pipe_dev.specs.ReadCalls.{calling, lent_at}
+use Rattle.pipe_dev.specs.Filling.{IsFilledBy, Taker}
+use Rattle.pipe_dev.specs.Parts.{Part, bytes_of}
+use Rattle.pipe_dev.specs.ReadCalls.{AsksForBytes, Calling, Reads}
 use Rattle.pipe_dev.specs.Rendezes.{reader_rendez}
 use Rattle.pipe_dev.proofs.AskedLemmas.{LastAsked, last_asked}
 use Rattle.pipe_dev.specs.Rounds.{Rounds}
@@ -22,52 +20,37 @@ use Rattle.plan9.specs.Readings.{Filling, FillsUp, GoesOn, IsSameReader, LiesIn,
 use Rattle.plan9.specs.Readings.{ReadsBy, ReadsPiece, filling, read_answer}
 
 -- what was read lies in the buffer
-got_fits : (key : Key) (row : Row) (old : calls.Reader) (buffer : List ℕ) (count : ℕ)
-    (new : calls.Reader) (buffer' : List ℕ)
-    → Reads key row (calling old buffer) (Ok (read.Got count)) (calling new buffer')
-    → count ≤ length buffer'
-got_fits key row old buffer count new buffer' reads = by row.mode last.asked
+got_fits : (key : Key) (row : Row) (old : Calling) (count : ℕ) (new : Calling)
+    → Reads key row old (Ok (read.Got count)) new → count ≤ length new.seat.buffer
+got_fits key row old count new reads =
+    omega (
+      arith,
+      filled.count_is,
+      ap length filled.bytes_are,
+      length-append (bytes_of parts) (drop count last.before.seat.buffer),
+    )
   where
-    last : LastAsked (AsksForBytes key row) (reader_rendez row) (read.Got count)
-        (lent_at (calling new buffer')).seat
+    last : LastAsked (AsksForBytes key row) (reader_rendez row) (read.Got count) new.seat
     last =
-        last_asked (AsksForBytes key row) (reader_rendez row) (calling old buffer) (read.Got count)
-        (calling new buffer') reads
+        last_asked (AsksForBytes key row) (reader_rendez row) old (read.Got count) new reads
 
-    by : (mode : Mode)
-        → InMode mode
-        (Gets key row last.before count (calling (record new { process = last.process }) buffer'))
-        (GivesBytes key row last.before count
-        (calling (record new { process = last.process }) buffer'))
-        → count ≤ length buffer'
-    by Message gets =
-        let filled = gets.filled in
-        let bytes = (part_of (length last.before.buffer) gets.left).bytes in
-        omega (
-          arith,
-          filled.count_is,
-          ap length filled.bytes,
-          length-append bytes (drop count last.before.buffer),
-        )
-    by Stream gives =
-        let filled = gives.tried.fills.filled in
-        let bytes = bytes_of gives.tried.fills.filling.parts in
-        omega (
-          arith,
-          filled.count_is,
-          ap length filled.bytes_are,
-          length-append bytes (drop count last.before.buffer),
-        )
+    parts : List Part
+    parts = last.asked.tried.fills.filling.parts
+
+    filled : IsFilledBy (bytes_of parts) last.before.seat.buffer new.seat.buffer count
+    filled = last.asked.tried.fills.filled
 
 -- a piece lies in the buffer into which it was read
-pub piece_lies : (key : Key) (row : Row) (old : calls.Reader) (buffer : List ℕ)
-    (answer : Result (Option ℕ) Fault) (new : calls.Reader) (buffer' : List ℕ)
-    → Reads key row (calling old buffer) (read_answer answer) (calling new buffer')
-    → LiesIn buffer' answer
-piece_lies key row old buffer (Ok (Some count)) new buffer' reads =
-    got_fits key row old buffer count new buffer' reads
-piece_lies key row old buffer (Ok None) new buffer' reads = tt
-piece_lies key row old buffer (Err fault) new buffer' reads = tt
+pub piece_lies : (key : Key) (row : Row) (old : Calling) (answer : Result (Option ℕ) Fault)
+    (taker : Taker) (process : Process) (buffer : List ℕ)
+    → Reads key row old (read_answer answer)
+    (record { seat = record { taker = taker; buffer = buffer }; process = process })
+    → LiesIn buffer answer
+piece_lies key row old (Ok (Some count)) taker process buffer reads =
+    got_fits key row old count
+    (record { seat = record { taker = taker; buffer = buffer }; process = process }) reads
+piece_lies key row old (Ok None) taker process buffer reads = tt
+piece_lies key row old (Err fault) taker process buffer reads = tt
 
 -- ---- until a buffer is full
 

@@ -8,7 +8,7 @@ use Rattle.pipe_dev.specs.declared.answers.ReadAnswer.{ReadAnswer}
 use Rattle.pipe_dev.specs.declared.answers.TryAnswer.{TryAnswer}
 use Rattle.pipe_dev.specs.declared.answers.TryAnswer.TheVariants as try
 use Rattle.pipe_dev.specs.Ends.{ReadSide, IsSameReadEnd}
-use Rattle.pipe_dev.specs.ReadCalls.{IsUntouchedRead, Tries, calling, reader_of}
+use Rattle.pipe_dev.specs.ReadCalls.{Tries, calling}
 use Rattle.plan9.specs.declared.pipes.Reader.{Reader}
 use Rattle.plan9.specs.declared.sharing.Sharer.{Sharer}
 use Rattle.plan9.specs.Pools.{Holding, IsSameHolder}
@@ -68,10 +68,10 @@ has_turn_now old buffer (Err why) new turn = turn
 pub tries_by : (old : Reader) (buffer : List ℕ) (answer : Result TryAnswer Fault) (new : Reader)
     (buffer' : List ℕ)
     → IfOk answer (λ it. Tries (key_of old.end.queue) old.end.row
-    (calling (reader_of old.end old.proc) buffer) it
-    (calling (reader_of new.end new.proc) buffer'))
+    (calling old.end old.proc buffer) it
+    (calling new.end new.proc buffer'))
     → OnErr answer
-    (IsUntouchedRead (reader_of old.end old.proc) buffer (reader_of new.end new.proc) buffer')
+    (calling new.end new.proc buffer' ≡ calling old.end old.proc buffer)
     → TriesBy old buffer answer new buffer'
 tries_by old buffer (Ok answer) new buffer' tries refused = tries
 tries_by old buffer (Err why) new buffer' tries refused = refused
@@ -81,6 +81,6 @@ pub piece_lies_in_turn : (old : Sharer) (buffer : Buffers) (answer : Result (Opt
     (new : Sharer) → InTurn ReadsOnce old buffer (read_answer answer) new
     → LiesIn buffer.after answer
 piece_lies_in_turn old buffer (Ok (Some count)) new turn =
-    piece_lies _ _ _ buffer.before (Ok (Some count)) _ buffer.after turn.calls.called.reads
+    piece_lies _ _ _ (Ok (Some count)) _ _ buffer.after turn.calls.called.reads
 piece_lies_in_turn old buffer (Ok None) new turn = tt
 piece_lies_in_turn old buffer (Err why) new turn = tt

@@ -1,11 +1,12 @@
 -- What a read, a write and a turn are, and what no stream answers: each against one row.
-use Rattle.std.proofs.Common.{◌≡◌, ◌≤◌, ◌+◌, ℕ, List, length, Option, Some, Result, Ok, Err}
+use Rattle.std.proofs.Common.{◌≡◌, ◌≤◌, ◌+◌, ℕ, List, length, Option, Some, Result, Ok, Err, ap}
 use Rattle.std.specs.Prelude.{⊤}
 use Rattle.std.specs.declared.io.Error.{Error}
 use Rattle.sync_base.specs.declared.fault.Fault.{Fault}
 use Rattle.sync_base.specs.declared.fault.Fault.TheVariants as fault
 use Rattle.semaphore.specs.Acquiring.{units_of}
 use Rattle.semaphore.specs.Seats.{units_given}
+use Rattle.pipe_dev.specs.ReadCalls.{Calling}
 use Rattle.pipe_dev.specs.WriteCalls.{writer_of}
 use Rattle.plan9.specs.declared.pipes.Reader.{Reader}
 use Rattle.plan9.specs.declared.pipes.Writer.{Writer}
@@ -24,7 +25,8 @@ who_asks_for_a_turn_acquires old new answer asks = asks.units
 -- a read that is refused leaves its buffer as it was
 a_refused_read_leaves_the_buffer : (old new : Reader) (buffer buffer' : List ℕ)
     → ReadsBy old buffer (Err fault.BadCount) new buffer' → buffer' ≡ buffer
-a_refused_read_leaves_the_buffer old new buffer buffer' reads = reads.buffer_same
+a_refused_read_leaves_the_buffer old new buffer buffer' reads =
+    ap (λ (c : Calling). c.seat.buffer) reads
 
 module _ (old new : Lent) where
   -- a piece lies in the buffer

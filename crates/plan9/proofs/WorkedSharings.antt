@@ -1,7 +1,7 @@
 -- What is no shared end, nobody who shares one and no turn: each against one row of what the calls
 -- of a shared end say.
 use Rattle.std.proofs.Common.{◌≡◌, ◌≢◌, ◌<◌, ◌≤◌, ℕ, true, false, List, [], Result, Ok, Err}
-use Rattle.std.proofs.Common.{Bool, IfErr, IfSome, None, Some, inl, inr, refl, ⊎_elim, subst}
+use Rattle.std.proofs.Common.{Bool, IfErr, IfSome, None, Some, inl, inr, refl, ⊎_elim, ap, subst}
 use Rattle.sync_base.specs.declared.fault.Fault.{Fault}
 use Rattle.sync_base.specs.declared.fault.Fault.TheVariants as fault
 use Rattle.sync_base.specs.declared.note.NoteSet.{NoteSet}
@@ -14,7 +14,7 @@ use Rattle.semaphore.specs.Opening.{WhyNotOpened}
 use Rattle.semaphore.specs.Releasing.{Releases}
 use Rattle.block_queue.specs.Seats.{key_of}
 use Rattle.pipe_dev.specs.BlockReads.{ReadsBlock}
-use Rattle.pipe_dev.specs.ReadCalls.{Tries, calling, reader_of}
+use Rattle.pipe_dev.specs.ReadCalls.{Calling, Tries, calling}
 use Rattle.sleep_core.specs.Limits.{IsProcCount}
 use Rattle.pipe_dev.specs.declared.answers.ReadAnswer.{ReadAnswer}
 use Rattle.pipe_dev.specs.declared.answers.ReadAnswer.TheVariants as read
@@ -289,14 +289,14 @@ module _ (old new : Reader) (buffer : Buffers) where
   no_bytes_were_read none reads = none reads.reads
 
   no_block_was_read : (ReadsBlock (key_of old.end.queue) old.end.row
-      (calling (reader_of old.end old.proc) buffer.before) (Ok read.End)
-      (calling (reader_of new.end new.proc) buffer.after) → ⊥)
+      (calling old.end old.proc buffer.before) (Ok read.End)
+      (calling new.end new.proc buffer.after) → ⊥)
       → ReadsBlockOnce buffer (Ok read.End) old new → ⊥
   no_block_was_read none reads = none reads.reads
 
   nothing_was_tried : (Tries (key_of old.end.queue) old.end.row
-      (calling (reader_of old.end old.proc) buffer.before) (try.Got 3)
-      (calling (reader_of new.end new.proc) buffer.after) → ⊥)
+      (calling old.end old.proc buffer.before) (try.Got 3)
+      (calling new.end new.proc buffer.after) → ⊥)
       → TriesOnce buffer (Ok (try.Got 3)) old new → ⊥
   nothing_was_tried none tries = none tries.tries
 
@@ -313,4 +313,4 @@ module _ (old new : Reader) (buffer : Buffers) where
 
   refused_try_read : buffer.after ≢ buffer.before
       → TriesOnce buffer (Err fault.BadCount) old new → ⊥
-  refused_try_read other tries = other tries.tries.buffer_same
+  refused_try_read other tries = other (ap (λ (c : Calling). c.seat.buffer) tries.tries)

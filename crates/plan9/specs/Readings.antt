@@ -7,7 +7,7 @@ use Rattle.block_queue.specs.Seats.{key_of}
 use Rattle.pipe_dev.specs.declared.answers.ReadAnswer.{ReadAnswer}
 use Rattle.pipe_dev.specs.declared.answers.ReadAnswer.TheVariants as read
 use Rattle.pipe_dev.specs.Ends.{IsSameReadEnd}
-use Rattle.pipe_dev.specs.ReadCalls.{Reads, calling, reader_of}
+use Rattle.pipe_dev.specs.ReadCalls.{Reads, calling}
 use Rattle.pipe_dev.specs.Rendezes.{OwnsRow}
 use Rattle.pipe_dev.specs.Rounds.{Rounds}
 use Rattle.plan9.specs.declared.pipes.Reader.{Reader}
@@ -21,8 +21,8 @@ pub record IsSameReader (old new : Reader) : Type 0 where
 -- a read of this end by this process, by its answer
 abbrev pub ReadsBy : Reader → List ℕ → Result ReadAnswer Fault → Reader → List ℕ → Type 0
 ReadsBy old buffer answer new buffer' =
-    Reads (key_of old.end.queue) old.end.row (calling (reader_of old.end old.proc) buffer) answer
-    (calling (reader_of new.end new.proc) buffer')
+    Reads (key_of old.end.queue) old.end.row (calling old.end old.proc buffer) answer
+    (calling new.end new.proc buffer')
 
 -- ---- piece by piece
 

@@ -20,7 +20,7 @@ use Rattle.pipe_dev.specs.declared.answers.TryAnswer.{TryAnswer}
 use Rattle.pipe_dev.specs.declared.answers.TryAnswer.TheVariants as try
 use Rattle.pipe_dev.specs.BlockReads.{ReadsBlock}
 use Rattle.pipe_dev.specs.Ends.{ReadSide, IsSameReadEnd}
-use Rattle.pipe_dev.specs.ReadCalls.{IsUntouchedRead, Tries, calling, reader_of}
+use Rattle.pipe_dev.specs.ReadCalls.{Tries, calling}
 use Rattle.pipe_dev.specs.Rendezes.{OwnsRow}
 use Rattle.plan9.specs.declared.pipes.Reader.{Reader}
 use Rattle.plan9.specs.declared.sharing.Shared.{Shared}
@@ -148,16 +148,16 @@ pub record ReadsBlockOnce (block : Buffers) (answer : Result ReadAnswer Fault)
     (old new : Reader) : Type 0 where
   pub no_rendez : IsErrOf answer NoRendez ↔ ¬ OwnsRow old.proc.words old.end.row
   pub reads : ReadsBlock (key_of old.end.queue) old.end.row
-      (calling (reader_of old.end old.proc) block.before) answer
-      (calling (reader_of new.end new.proc) block.after)
+      (calling old.end old.proc block.before) answer
+      (calling new.end new.proc block.after)
 
 -- what a read that doesn't wait did: a refused one nothing
 abbrev pub TriesBy : Reader → List ℕ → Result TryAnswer Fault → Reader → List ℕ → Type 0
 TriesBy old buffer (Ok answer) new buffer' =
-    Tries (key_of old.end.queue) old.end.row (calling (reader_of old.end old.proc) buffer) answer
-    (calling (reader_of new.end new.proc) buffer')
+    Tries (key_of old.end.queue) old.end.row (calling old.end old.proc buffer) answer
+    (calling new.end new.proc buffer')
 TriesBy old buffer (Err why) new buffer' =
-    IsUntouchedRead (reader_of old.end old.proc) buffer (reader_of new.end new.proc) buffer'
+    calling new.end new.proc buffer' ≡ calling old.end old.proc buffer
 
 -- A read that doesn't wait. It is refused as a read is, and for nothing else.
 pub record TriesOnce (buffer : Buffers) (answer : Result TryAnswer Fault) (old new : Reader) :

@@ -15,7 +15,7 @@ use Rattle.semaphore.specs.declared.sema.SemaSeat.{SemaSeat}
 use Rattle.tag_space.specs.declared.member.Member.{Member}
 use Rattle.block_queue.specs.declared.entry.Entry.{Entry}
 use Rattle.pipe_dev.specs.Filling.{Lending}
-use Rattle.pipe_dev.specs.ReadCalls.{calling, reader_of, run_call}
+use Rattle.pipe_dev.specs.ReadCalls.{calling, run_call}
 use Rattle.pipe_dev.specs.WriteCalls.{run_writer}
 use Rattle.plan9.specs.declared.pipes.Reader.{Reader}
 use Rattle.plan9.specs.declared.pipes.Writer.{Writer}
@@ -84,7 +84,7 @@ watched_sleeper proc watch = run_point tt watch.seat proc
 -- that of a reader, with what its buffer holds
 abbrev pub watched_read : Reader → Watching → List ℕ → TimedPoint Lending
 watched_read reader watch buffer =
-    run_call (calling (reader_of reader.end reader.proc) buffer) watch.seat
+    run_call (calling reader.end reader.proc buffer) watch.seat
 
 -- that of a writer
 abbrev pub watched_write : Writer → Watching → TimedPoint (Account Entry)

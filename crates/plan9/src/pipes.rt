@@ -35,7 +35,7 @@ impl<'p, 'k> Reader<'p, 'k> {
     ghost use Rattle.block_queue.specs.Seats.{key_of};
     ghost use Rattle.pipe_dev.specs.BlockReads.{ReadsBlock};
     ghost use Rattle.pipe_dev.specs.Ends.{IsSameReadEnd};
-    ghost use Rattle.pipe_dev.specs.ReadCalls.{Reads, Tries, IsUntouchedRead, calling, reader_of};
+    ghost use Rattle.pipe_dev.specs.ReadCalls.{Reads, Tries, calling};
     ghost use Rattle.pipe_dev.specs.ReadCalls.{ReadsBy, RunsARead};
     ghost use Rattle.pipe_dev.specs.Rendezes.{OwnsRow, WakesIfKnown};
     ghost use Rattle.pipe_dev.specs.WriteCalls.{IsRefusedAs};
@@ -67,8 +67,8 @@ impl<'p, 'k> Reader<'p, 'k> {
 
         // It read, slept and woke so, or did nothing.
         ensures read { Reads (key_of self.old.end.queue) self.old.end.row
-            (calling (reader_of self.old.end self.old.proc) buffer.old) result
-            (calling (reader_of self.new.end self.new.proc) buffer.new) }
+            (calling self.old.end self.old.proc buffer.old) result
+            (calling self.new.end self.new.proc buffer.new) }
         ensures end { IsSameReadEnd self.old.end self.new.end }
         ensures words { self.new.proc.words ≡ self.old.proc.words }
     {
@@ -110,8 +110,8 @@ impl<'p, 'k> Reader<'p, 'k> {
         // And what holds of a read without a deadline holds of it.
         ensures is_read { buffer.old ≢ [] → OwnsRow self.old.proc.words self.old.end.row
             → RunsARead (key_of self.old.end.queue) self.old.end.row
-            (calling (reader_of self.old.end self.old.proc) buffer.old) result
-            (calling (reader_of self.new.end self.new.proc) buffer.new) }
+            (calling self.old.end self.old.proc buffer.old) result
+            (calling self.new.end self.new.proc buffer.new) }
         ensures end { IsSameReadEnd self.old.end self.new.end }
         ensures words { self.new.proc.words ≡ self.old.proc.words }
         ensures watch { IsSameWatch watch.old watch.new }
@@ -136,14 +136,13 @@ impl<'p, 'k> Reader<'p, 'k> {
         ensures no_rendez { buffer.old ≢ []
             → (IsErrOf result NoRendez ↔ ¬ OwnsRow self.old.proc.words self.old.end.row) }
         ensures fault { IfErr result (λ fault. (fault ≡ BadCount) ⊎ (fault ≡ NoRendez)) }
-        ensures refused { OnErr result (IsUntouchedRead
-            (reader_of self.old.end self.old.proc) buffer.old
-            (reader_of self.new.end self.new.proc) buffer.new) }
+        ensures refused { OnErr result (calling self.new.end self.new.proc buffer.new
+            ≡ calling self.old.end self.old.proc buffer.old) }
 
         // Otherwise it read and woke so.
         ensures tried { IfOk result (λ answer. Tries (key_of self.old.end.queue) self.old.end.row
-            (calling (reader_of self.old.end self.old.proc) buffer.old) answer
-            (calling (reader_of self.new.end self.new.proc) buffer.new)) }
+            (calling self.old.end self.old.proc buffer.old) answer
+            (calling self.new.end self.new.proc buffer.new)) }
         ensures end { IsSameReadEnd self.old.end self.new.end }
         ensures words { self.new.proc.words ≡ self.old.proc.words }
     {
@@ -168,8 +167,8 @@ impl<'p, 'k> Reader<'p, 'k> {
 
         // It read, slept and woke so, or did nothing.
         ensures read { ReadsBlock (key_of self.old.end.queue) self.old.end.row
-            (calling (reader_of self.old.end self.old.proc) block.old.items) result
-            (calling (reader_of self.new.end self.new.proc) block.new.items) }
+            (calling self.old.end self.old.proc block.old.items) result
+            (calling self.new.end self.new.proc block.new.items) }
         ensures end { IsSameReadEnd self.old.end self.new.end }
         ensures words { self.new.proc.words ≡ self.old.proc.words }
     {

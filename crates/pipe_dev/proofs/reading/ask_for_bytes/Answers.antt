@@ -1,13 +1,12 @@
--- A try is what a read asks, in its mode; each writer was woken with the number of the last write
--- that was taken out.
+-- A try is what a read asks; each writer was woken with the number of the last write that was taken
+-- out.
 use Rattle.std.proofs.Common.{sym, ◌∙◌, subst}
 use Rattle.block_queue.specs.Seats.{key_of}
 use Rattle.waiting.specs.Waiting.{point}
 use Rattle.pipe_dev.specs.Filling.{last_number}
 use Rattle.pipe_dev.specs.FillSteps.{lending_with}
-use Rattle.pipe_dev.specs.ReadCalls.{calling_at}
 use Rattle.pipe_dev.specs.Rendezes.{WakesWith}
-use Rattle.pipe_dev.proofs.ModeLemmas.{asks_by_mode, still_some, told_low}
+use Rattle.pipe_dev.proofs.ModeLemmas.{asks_as_found, still_some, told_low}
 use Rattle.pipe_dev.proofs.reading.ask_for_bytes.Goals as goal
 use Rattle.pipe_dev.proofs.reading.ask_for_bytes.Goals.{in-Some, in_default}
 
@@ -21,10 +20,10 @@ returns-clause-asked c =
     let row = c.args.row.now in
     let before = c.args.proc.now.process in
     let last = last_number c.args.cursor.now.rest filled.fills.filling.parts in
-    asks_by_mode (key_of c.args.queue.now) row
-    (calling_at (point (lending_with c.args.cursor.now c.args.buffer.now) c.args.proc.now))
-    (calling_at (point (lending_with c.fill-took.new.cursor c.fill-took.new.buffer)
-    c.match-took.proc))
+    asks_as_found (key_of c.args.queue.now) row
+    (point (lending_with c.args.cursor.now c.args.buffer.now) c.args.proc.now)
+    (point (lending_with c.fill-took.new.cursor c.fill-took.new.buffer)
+    c.match-took.proc)
     c.fill-took.result.came c.found_by.result
     (record {
       fills = filled.fills;
@@ -43,7 +42,7 @@ returns-clause-asked c =
 pub returns-clause-low : goal.returns-clause-low
 returns-clause-low c =
     told_low (key_of c.args.queue.now) c.args.row.now
-    (calling_at (point (lending_with c.args.cursor.now c.args.buffer.now) c.args.proc.now))
-    (calling_at (point (lending_with c.fill-took.new.cursor c.fill-took.new.buffer)
-    c.match-took.proc))
+    (point (lending_with c.args.cursor.now c.args.buffer.now) c.args.proc.now)
+    (point (lending_with c.fill-took.new.cursor c.fill-took.new.buffer)
+    c.match-took.proc)
     c.found_by.result c.requires.cursor.row_is.first (returns-clause-asked c)

@@ -7,7 +7,7 @@ use Rattle.std.proofs.lemmas.Result.{err_from_is_err_and}
 use Rattle.block_queue.specs.Seats.{key_of}
 use Rattle.pipe_dev.specs.declared.answers.ReadAnswer.{ReadAnswer}
 use Rattle.pipe_dev.specs.declared.answers.ReadAnswer.TheVariants as read
-use Rattle.pipe_dev.specs.ReadCalls.{Reads, calling, reader_of}
+use Rattle.pipe_dev.specs.ReadCalls.{Reads, calling}
 use Rattle.example_headline.proofs.CrewLemmas.{read_clear, read_on, read_stops, same_fault}
 use Rattle.example_headline.proofs.CrewLemmas.{refusal_gets_nothing, refusal_is_no_answer, sees_end}
 use Rattle.example_headline.proofs.CrewLemmas.{some_room, stops_for_memory, stops_same}
@@ -65,8 +65,8 @@ returns-in-Got g c =
           (c.as_mut_slice.ensures.len ∙ c.in_ok-buffer.ensures.len) (omega arith))
           (subst (λ (answer : ReadAnswer).
           Reads (key_of c.args.self.now.end.queue) c.args.self.now.end.row
-          (calling (reader_of c.args.self.now.end c.args.self.now.proc) c.as_mut_slice.result.now)
-          (Ok answer) (calling (reader_of c.read.new.self c.read.new.proc) c.read.new.buffer))
+          (calling c.args.self.now.end c.args.self.now.proc c.as_mut_slice.result.now)
+          (Ok answer) (calling c.read.new.self c.read.new.proc c.read.new.buffer))
           c.in-Got.is
           c.in_ok-count.ensures.read) c.in_ok-count.ensures.end c.in_ok-count.ensures.words
           (c.push_reserved.ensures.items
@@ -76,8 +76,8 @@ returns-in-Got g c =
           read_clear c.args.self.now _ c.as_mut_slice.result.now c.in-Got.count c.read.new.buffer
           (subst (λ (answer : ReadAnswer).
           Reads (key_of c.args.self.now.end.queue) c.args.self.now.end.row
-          (calling (reader_of c.args.self.now.end c.args.self.now.proc) c.as_mut_slice.result.now)
-          (Ok answer) (calling (reader_of c.read.new.self c.read.new.proc) c.read.new.buffer))
+          (calling c.args.self.now.end c.args.self.now.proc c.as_mut_slice.result.now)
+          (Ok answer) (calling c.read.new.self c.read.new.proc c.read.new.buffer))
           c.in-Got.is c.in_ok-count.ensures.read) c.in_ok-count.ensures.end
           c.in_ok-count.ensures.words clear;
       end = λ is. absurd (cc);
@@ -90,8 +90,8 @@ returns-in-End g c =
     let old = c.args.self.now in
     let reads = subst (λ (answer : ReadAnswer).
     Reads (key_of old.end.queue) old.end.row
-    (calling (reader_of old.end old.proc) c.as_mut_slice.result.now) (Ok answer)
-    (calling (reader_of c.read.new.self c.read.new.proc) c.read.new.buffer)) c.in-End.is
+    (calling old.end old.proc c.as_mut_slice.result.now) (Ok answer)
+    (calling c.read.new.self c.read.new.proc c.read.new.buffer)) c.in-End.is
     c.in_ok-count.ensures.read in
     record {
       on = read_on old _ c.as_mut_slice.result.now (Ok read.End) c.read.new.buffer
