@@ -1,7 +1,8 @@
 -- A line of seats as a ring of links.
 use Rattle.std.proofs.Common.{◌≡◌, ◌≢◌, ℕ, ◌+◌, ◌-◌, ◌<◌, ◌≤◌, ◌==◌, Bool, if◌then◌else◌, true}
 use Rattle.std.proofs.Common.{false, List, [], ◌∷◌, ◌++◌, length, count_by, cond, slice_index}
-use Rattle.std.proofs.Common.{get_or, set, refl, sym, ap, ◌∙◌, subst, arith}
+use Rattle.std.proofs.Common.{zero, suc, get_or, set, refl, sym, ap, ◌∙◌, subst, arith}
+use Rattle.std.proofs.Common.{append_assoc}
 use Rattle.std.proofs.lemmas.Bool.Decides.{nat_tests}
 use Rattle.std.proofs.lemmas.Grind.{get_or-set_at, get_or_default_zero}
 use Rattle.std.proofs.lemmas.List.{get_or-set_other}
@@ -354,3 +355,17 @@ module _ (next prev : List ℕ) (stands : List Bool) (count : ℕ) (order : List
 pub same_line : (one other : Queue) → one.seats ≡ other.seats → one.order ≡ other.order → one
     ≡ other
 same_line one other seats order = λ k. record { seats = seats k; order = order k }
+
+-- ---- a walk along the line
+
+-- one place more of a walk is a place less to go
+pub walked_more : (next : List ℕ) (from left : ℕ) (so_far whole : List ℕ) → 0 < left
+    → so_far ++ walk next from left ≡ whole
+    → (so_far ++ slice_index next from ∷ []) ++ walk next (slice_index next from) (left - 1)
+    ≡ whole
+walked_more next from zero so_far whole some is = absurd (omega arith)
+walked_more next from (suc left) so_far whole some is =
+    let here : List ℕ = slice_index next from ∷ [] in
+    let fewer : suc left - 1 ≡ left = omega arith in
+    ap (λ n. (so_far ++ here) ++ walk next (slice_index next from) n) fewer
+    ∙ (append_assoc so_far here (walk next (slice_index next from) left) ∙ is)

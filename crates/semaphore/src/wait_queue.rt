@@ -5,7 +5,7 @@ ghost use Rattle.std.specs.Prelude.{IfSome};
 ghost use Rattle.semaphore.specs.WaitQueue.{Queue, stands_in, with_seat, without, first_of};
 ghost use Rattle.sync_base.specs.declared.fault.Fault.TheVariants.{Memory};
 
-use std::alloc::Global;
+use std::alloc::{AllocError, Global};
 use std::marker::Model;
 use sync_base::Fault;
 
@@ -50,6 +50,32 @@ impl WaitQueue {
             stands: vec![in alloc; false; seats]?,
             count: 0,
         })
+    }
+
+    /// The same line once more.
+    pub(crate) fn copy(&self) -> Result<WaitQueue, AllocError>
+        ensures { IfOk result (λ line. line ≡ self.now) }
+    {
+        Ok(WaitQueue {
+            next: self.next.clone()?,
+            prev: self.prev.clone()?,
+            stands: self.stands.clone()?,
+            count: self.count,
+        })
+    }
+
+    /// Who stands in line, the first to come first.
+    pub(crate) fn order(&self) -> Result<Vec<u64>, AllocError>
+        ensures { IfOk result (λ order. order.items ≡ self.now.order) }
+    {
+        let (next, end, count) = (self.next.as_slice(), self.stands.len(), self.count);
+        let mut order = Vec::with_capacity(*self.next.allocator(), count)?;
+        let mut seat = end;
+        'seats: while order.len() < count {
+            seat = next.get(seat).copied().unwrap_or(0);
+            order.push(seat as u64)?;
+        }
+        Ok(order)
     }
 
     /// Whether the seat stands in line.
