@@ -1,6 +1,6 @@
 //! Eight processes that meet at random tags, every other time until a moment, while a ninth ticks
 //! and posts notes at random. Each exchange is told by both sides, each once, with the other's
-//! value.
+//! value. After all that each meets its neighbour: nothing that was late reaches that wait.
 use crate::dice::{Dice, seed_of};
 use crate::kernels::{forked, kernel_of, push};
 use plan9::{
@@ -21,6 +21,9 @@ const TAGS: u64 = 4;
 /// How many meetings there are, at least.
 const MEETINGS: u64 = 2_000;
 
+/// The number of the last call of each, which has no deadline and is behind all others.
+const LAST: u64 = 1 << 38;
+
 /// How many moments a call with a deadline waits.
 const MOMENTS: u32 = 8;
 
@@ -32,8 +35,9 @@ struct Board {
     now: AtomicU64,
     /// How many calls were answered with a value.
     told: AtomicU64,
-    /// How many callers have ended.
+    /// How many callers have ended, and whether no note is posted any more.
     ended: AtomicU64,
+    quiet: AtomicU64,
 }
 
 /// The value of a caller and the value that it got for it.
@@ -95,6 +99,24 @@ fn calls<R: Wait + Abort>(rt: &R, job: &mut Job, board: &Board, work: &mut Work,
     }
 }
 
+// Meets its neighbour with no deadline, once no note is posted any more. None is left of a tick,
+// and none ends this wait.
+fn meets_neighbour<R: Wait + Abort>(rt: &R, job: &mut Job, board: &Board, work: &mut Work) {
+    for _ in rt.forever() {
+        if board.quiet.load(SeqCst) > 0 {
+            break;
+        }
+        yield_now();
+    }
+    let interrupted = work.interrupted;
+    let is_late = job.guest.notes().has(Note::Expired);
+    let tag = (TAGS + CALLERS).wrapping_add(job.number / 2);
+    calls(rt, job, board, work, value_of(job.number, LAST, tag));
+    if is_late || work.interrupted > interrupted {
+        work.refused = work.refused.saturating_add(1);
+    }
+}
+
 // Calls at random tags until there were meetings enough, and then at a tag of its own, under which
 // it meets nobody, until notes and a tick have ended a wait of it.
 fn works<R: Wait + Abort>(rt: &R, alloc: Global, mut job: Job, board: &Board) -> Work {
@@ -120,11 +142,12 @@ fn works<R: Wait + Abort>(rt: &R, alloc: Global, mut job: Job, board: &Board) ->
         calls(rt, &mut job, board, &mut work, given);
     }
     board.ended.fetch_add(1, SeqCst);
+    meets_neighbour(rt, &mut job, board, &mut work);
     work
 }
 
 // Posts notes at random and ticks until all callers have ended. Says whether no note was refused,
-// and no tick ended more waits than there may be.
+// no tick ended more waits than there may be, and no timer is left then.
 fn posts<R: Wait>(rt: &R, mut proc: Proc, mut watch: Watch, board: &Board) -> bool {
     let mut good = true;
     let mut dice = Dice::of(board.seed, CALLERS);
@@ -138,7 +161,8 @@ fn posts<R: Wait>(rt: &R, mut proc: Proc, mut watch: Watch, board: &Board) -> bo
         good = watch.tick(rt, &mut proc, now) <= CALLERS && good;
         yield_now();
     }
-    good
+    board.quiet.store(1, SeqCst);
+    watch.tick(rt, &mut proc, u64::MAX) == 0 && good
 }
 
 // Another guest of the hall.
@@ -225,9 +249,9 @@ fn meet_in_pairs(rt: &impl Abort, alloc: Global, done: &[Work], seed: u64) {
             panic!(rt; "no memory for the exchanges");
         }
     }
-    assert!(rt; all.len() as u64 >= 2 * MEETINGS);
-    assert!(rt; interrupted > 0, "some notes came in time");
-    assert!(rt; timed_out > 0, "some ticks came in time");
+    assert!(rt; all.len() as u64 >= 2 * MEETINGS, "seed {seed}");
+    assert!(rt; interrupted > 0, "seed {seed}: some notes came in time");
+    assert!(rt; timed_out > 0, "seed {seed}: some ticks came in time");
     all.sort_unstable();
     are_halves(rt, all.as_slice(), seed);
 }
@@ -246,6 +270,7 @@ fn run_crowd<'s, 't, 'k, R: Threads + Wait + Abort + Sync>(
         now: AtomicU64::new(0),
         told: AtomicU64::new(0),
         ended: AtomicU64::new(0),
+        quiet: AtomicU64::new(0),
     };
     let (done, good) = join(
         rt,
@@ -256,7 +281,7 @@ fn run_crowd<'s, 't, 'k, R: Threads + Wait + Abort + Sync>(
         ),
         || posts(rt, poster, watch, &board),
     );
-    assert!(rt; good);
+    assert!(rt; good, "seed {seed}");
     match done {
         Ok(done) => done,
         Err(_) => panic!(rt; "no memory for the answers"),

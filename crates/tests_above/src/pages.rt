@@ -2,8 +2,8 @@
 //! the pages.
 use crate::kernels::{forked, kernel_of};
 use plan9::{
-    Clock, Fault, Flags, Kernel, Note, NoteSet, OpenedKernel as Opened, Pid, Proc, RendezId,
-    Roster, Started,
+    Clock, Fault, Flags, Note, NoteSet, OpenedKernel as Opened, Pid, Proc, RendezId, Roster,
+    Started,
 };
 use std::process::Abort;
 use std::thread::join;
@@ -82,24 +82,4 @@ fn postnote_page_of_groups(rt: HostRuntime) {
     assert!(rt; second.notes().is_empty() && third.notes().is_empty());
     assert!(rt; matches!(roster.rfork(&mut first, Flags::RFNOTEG), Ok(None)));
     assert_eq!(rt; roster.postnote_group(&mut proc, Pid(0), alarm), Ok(1));
-}
-
-fn rfork_example<R: AllocGlobal + Abort>(rt: &R) -> Result<(), Fault> {
-    let Opened { kernel, start } = Kernel::new(rt.alloc(), 2, 1)?;
-    let Started {
-        mut roster,
-        proc: mut parent,
-    } = kernel.start(start);
-    assert_eq!(rt; roster.rendez(), Ok(RendezId(0)));
-    let Ok(Some(child)) = roster.rfork(&mut parent, Flags::RFPROC) else {
-        panic!(rt; "a pid is left")
-    };
-    assert_eq!(rt; (parent.pid(), child.pid()), (Pid(0), Pid(1)));
-    assert_eq!(rt; roster.left(), (0, 0));
-    Ok(())
-}
-
-#[test]
-fn rfork_page(rt: HostRuntime) {
-    assert_eq!(rt; rfork_example(&rt), Ok(()));
 }

@@ -1,5 +1,6 @@
 //! Writers, a reader and sleepers that wait until a moment, while another ticks and posts notes.
-//! What a moment or a note ended has taken and given nothing, and is asked for again.
+//! What a moment or a note ended has taken and given nothing, and is asked for again. After all
+//! that each sleeps once more, with no deadline: nothing that was late reaches that sleep.
 ghost use Rattle.std.specs.Prelude.{⊤};
 
 use crate::dice::{Dice, seed_of};
@@ -18,41 +19,83 @@ use std::thread::{self, Threads, join, yield_now};
 
 const WRITERS: u64 = 3;
 
-/// How many messages each writer writes.
+/// How many messages each writer writes, of so many bytes.
 const MESSAGES: u64 = 400;
+
+const SIZE: usize = 8;
+
+/// A byte that no message has.
+const UNREAD: u8 = 0xff;
 
 const SLEEPERS: u64 = 4;
 
-/// How high the level of each sleeper is raised, one by one.
+/// How high the level of each sleeper is raised, one by one, but for the last sleep.
 const LEVELS: u64 = 1_000;
 
 /// What the crowd tell each other, outside the kernel.
 #[derive(Drop)]
 struct Board {
     seed: u64,
+    /// The first of the Rendez in which they sleep, one each.
+    own: u64,
     /// The moment of the last tick.
     now: AtomicU64,
-    /// How many writers were stopped by a moment and by a note.
+    /// How many notes were posted, and how many waits the ticks have ended.
+    posted: AtomicU64,
+    expired: AtomicU64,
+    /// How many were stopped by a moment and by a note.
     hindered: AtomicU64,
-    /// How many have ended.
+    /// How many writers have written all.
+    written: AtomicU64,
+    /// How many have ended; whether no note is posted any more; and how many have seen that.
     ended: AtomicU64,
+    quiet: AtomicU64,
+    settled: AtomicU64,
     /// How many calls were answered as none may be. Nobody goes on then.
     wrong: AtomicU64,
 }
 
 impl Board {
-    fn new(seed: u64) -> Board {
+    fn new(seed: u64, own: u64) -> Board {
         Board {
             seed,
+            own,
             now: AtomicU64::new(0),
+            posted: AtomicU64::new(0),
+            expired: AtomicU64::new(0),
             hindered: AtomicU64::new(0),
+            written: AtomicU64::new(0),
             ended: AtomicU64::new(0),
+            quiet: AtomicU64::new(0),
+            settled: AtomicU64::new(0),
             wrong: AtomicU64::new(0),
         }
     }
 
     fn is_wrong(&self) -> bool {
         self.wrong.load(SeqCst) > 0
+    }
+
+    // Counts what may not be.
+    fn expect(&self, is_well: bool) {
+        if !is_well {
+            self.wrong.fetch_add(1, SeqCst);
+        }
+    }
+
+    // The Rendez of this one of the crowd.
+    fn rendez(&self, number: u64) -> RendezId {
+        RendezId(self.own.wrapping_add(number))
+    }
+
+    // Waits till one of its counts is so high.
+    fn awaits<R: Wait>(&self, rt: &R, count: &AtomicU64, wanted: u64) {
+        for _ in rt.forever() {
+            if self.is_wrong() || count.load(SeqCst) >= wanted {
+                return;
+            }
+            yield_now();
+        }
     }
 }
 
@@ -61,7 +104,17 @@ impl Board {
 enum Role<'p, 'k> {
     Write(Writer<'p, 'k>),
     Read(Reader<'p, 'k>),
-    Sleep(Proc<'k>, RendezId),
+    Sleep(Proc<'k>),
+}
+
+impl<'p, 'k> Role<'p, 'k> {
+    fn proc(&mut self) -> &mut Proc<'k> {
+        match self {
+            Role::Write(writer) => &mut writer.proc,
+            Role::Read(reader) => &mut reader.proc,
+            Role::Sleep(proc) => proc,
+        }
+    }
 }
 
 /// A process of the crowd, with its seat at the clock.
@@ -89,15 +142,20 @@ impl Work {
         }
     }
 
-    // Counts a call.
+    // Counts a call. The one note that may end it is an alarm.
     fn count(&mut self, board: &Board, came: Result<(), Fault>) {
+        let was_hindered = self.is_hindered();
         match came {
             Ok(()) => self.good = self.good.saturating_add(1),
             Err(Fault::TimedOut) => self.timed_out = self.timed_out.saturating_add(1),
-            Err(Fault::Interrupted(_)) => self.noted = self.noted.saturating_add(1),
-            Err(_) => {
-                board.wrong.fetch_add(1, SeqCst);
+            Err(Fault::Interrupted(notes)) => {
+                board.expect(notes == NoteSet::of(Note::Alarm));
+                self.noted = self.noted.saturating_add(1);
             }
+            Err(_) => board.expect(false),
+        }
+        if self.is_hindered() && !was_hindered {
+            board.hindered.fetch_add(1, SeqCst);
         }
     }
 
@@ -118,7 +176,6 @@ fn writes<R: Wait>(
     dice: &mut Dice,
 ) -> Work {
     let mut work = Work::new();
-    let mut is_told = false;
     for _ in rt.forever() {
         if board.is_wrong() || work.good >= MESSAGES {
             break;
@@ -129,36 +186,92 @@ fn writes<R: Wait>(
             .wrapping_add(writer.end.writer());
         let ms = dice.moments();
         let now = board.now.load(SeqCst);
-        let came = writer.write_within(alloc, rt, watch, now, ms, &message.to_le_bytes());
+        let came = writer.write_within(alloc, rt, watch, now, ms, &message.to_be_bytes());
         work.count(board, came.map(|_| ()));
-        if work.is_hindered() && !is_told {
-            is_told = true;
-            board.hindered.fetch_add(1, SeqCst);
-        }
     }
+    hang_up(rt, writer, board);
     work
 }
 
-// Waits till all writers were stopped.
-fn await_writers<R: Wait>(rt: &R, board: &Board) {
-    for _ in rt.forever() {
-        if board.is_wrong() || board.hindered.load(SeqCst) >= WRITERS {
-            return;
-        }
-        yield_now();
+// The writer that ends last hangs up, once the reader was stopped as well.
+fn hang_up<R: Wait>(rt: &R, writer: &mut Writer<'_, '_>, board: &Board) {
+    if board.written.fetch_add(1, SeqCst).saturating_add(1) >= WRITERS {
+        board.awaits(rt, &board.hindered, WRITERS + 1);
+        writer.hangup();
     }
 }
 
-// Whether this is the next message of its writer, which is counted then.
-fn is_next(next: &mut [u64; WRITERS as usize], bytes: [u8; 8]) -> bool {
-    let message = u64::from_le_bytes(bytes);
-    let writer = (message % WRITERS) as usize;
-    let is_next = next[writer] == message / WRITERS;
-    next[writer] = next[writer].saturating_add(1);
-    is_next
+/// What was read: how many messages of each writer, and so many bytes of one more.
+#[derive(Clone, Copy)]
+struct Account {
+    messages: [u64; WRITERS as usize],
+    begun: u64,
+    bytes: usize,
 }
 
-// Reads all messages, each whole and next of its writer, and goes on till it was stopped itself.
+impl Account {
+    fn new() -> Account {
+        Account {
+            messages: [0; WRITERS as usize],
+            begun: 0,
+            bytes: 0,
+        }
+    }
+
+    // A piece: the rest of a message or a part of it, and never of two. Whether it may come.
+    fn add(&mut self, piece: &[u8]) -> bool {
+        self.bytes = self.bytes.saturating_add(piece.len());
+        for byte in piece.iter() {
+            self.begun = self.begun.wrapping_mul(256).wrapping_add(u64::from(*byte));
+        }
+        self.bytes < SIZE || (self.bytes == SIZE && self.is_next())
+    }
+
+    // Whether a message that is whole is the next one of its writer. It is counted then.
+    fn is_next(&mut self) -> bool {
+        let writer = (self.begun % WRITERS) as usize;
+        let is_next = self.messages[writer] == self.begun / WRITERS;
+        self.messages[writer] = self.messages[writer].saturating_add(1);
+        self.begun = 0;
+        self.bytes = 0;
+        is_next
+    }
+
+    // Whether it is all that was written.
+    fn is_whole(&self) -> bool {
+        self.bytes == 0 && self.messages == [MESSAGES; WRITERS as usize]
+    }
+}
+
+// Reads until a moment that is near, with room for a message or for a part of it. Whether that is
+// the end. A read that is stopped leaves its buffer as it was.
+fn read_some<R: Wait>(
+    rt: &R,
+    reader: &mut Reader<'_, '_>,
+    watch: &mut Watch<'_>,
+    board: &Board,
+    dice: &mut Dice,
+    account: &mut Account,
+) -> Result<bool, Fault> {
+    let mut buffer = [UNREAD; SIZE];
+    let room = if dice.roll(2) == 0 { 3 } else { SIZE };
+    let ms = dice.moments();
+    let now = board.now.load(SeqCst);
+    let came = reader.read_within(rt, watch, now, ms, &mut buffer[..room]);
+    match came {
+        Ok(ReadAnswer::Got(count)) => {
+            board.expect(count > 0 && account.add(&buffer[..count.min(SIZE)]));
+            Ok(false)
+        }
+        Ok(ReadAnswer::End) => Ok(true),
+        Err(fault) => {
+            board.expect(buffer == [UNREAD; SIZE]);
+            Err(fault)
+        }
+    }
+}
+
+// Reads to the end: each message whole, once and next of its writer.
 fn reads<R: Wait>(
     rt: &R,
     reader: &mut Reader<'_, '_>,
@@ -167,29 +280,21 @@ fn reads<R: Wait>(
     dice: &mut Dice,
 ) -> Work {
     let mut work = Work::new();
-    let mut next = [0; WRITERS as usize];
-    await_writers(rt, board);
+    let mut account = Account::new();
+    board.awaits(rt, &board.hindered, WRITERS);
     for _ in rt.forever() {
-        if board.is_wrong() || (work.good >= WRITERS * MESSAGES && work.is_hindered()) {
+        let came = read_some(rt, reader, watch, board, dice, &mut account);
+        work.count(board, came.map(|_| ()));
+        if board.is_wrong() || came == Ok(true) {
             break;
         }
-        let mut buffer = [0; 8];
-        let ms = dice.moments();
-        let now = board.now.load(SeqCst);
-        let came = reader.read_within(rt, watch, now, ms, &mut buffer);
-        let is_well = match came {
-            Ok(answer) => answer == ReadAnswer::Got(8) && is_next(&mut next, buffer),
-            Err(_) => true,
-        };
-        if !is_well {
-            board.wrong.fetch_add(1, SeqCst);
-        }
-        work.count(board, came.map(|_| ()));
     }
+    board.expect(account.is_whole());
     work
 }
 
-// Sleeps until its level is at its top, once for each level, and then till it was stopped.
+// Sleeps until its level is at its top, once for each level, and then till it was stopped. No sleep
+// ends well before its level is raised.
 fn sleeps<R: Wait>(
     rt: &R,
     proc: &mut Proc<'_>,
@@ -203,56 +308,85 @@ fn sleeps<R: Wait>(
         if board.is_wrong() || (work.good >= LEVELS && work.is_hindered()) {
             break;
         }
+        let level = work.good;
         let ms = dice.moments();
         let now = board.now.load(SeqCst);
-        let came = watch.sleep_within(rt, proc, own, work.good.min(LEVELS), now, ms);
+        let came = watch.sleep_within(rt, proc, own, level.min(LEVELS), now, ms);
+        board.expect(came.is_err() || (level < LEVELS && level < board.now.load(SeqCst)));
         work.count(board, came);
     }
     work
 }
 
-fn works<R: Wait>(rt: &R, alloc: Global, job: Job, board: &Board) -> Work {
+// Takes the notes that are left, of which none is of a tick, and sleeps till it is woken.
+fn settles<R: Wait>(rt: &R, proc: &mut Proc<'_>, own: RendezId, board: &Board) {
+    board.ended.fetch_add(1, SeqCst);
+    board.awaits(rt, &board.quiet, 1);
+    if board.is_wrong() {
+        return;
+    }
+    board.expect(!proc.notes().has(Note::Expired));
+    board.settled.fetch_add(1, SeqCst);
+    board.expect(proc.sleep(rt, own, LEVELS).is_ok());
+}
+
+fn works<R: Wait>(rt: &R, alloc: Global, job: &mut Job, board: &Board) -> Work {
     let Job {
         role,
-        mut watch,
+        watch,
         number,
     } = job;
-    let mut dice = Dice::of(board.seed, number);
+    let own = board.rendez(*number);
+    let mut dice = Dice::of(board.seed, *number);
     let work = match role {
-        Role::Write(mut writer) => writes(rt, alloc, &mut writer, &mut watch, board, &mut dice),
-        Role::Read(mut reader) => reads(rt, &mut reader, &mut watch, board, &mut dice),
-        Role::Sleep(mut proc, own) => sleeps(rt, &mut proc, own, &mut watch, board, &mut dice),
+        Role::Write(writer) => writes(rt, alloc, writer, watch, board, &mut dice),
+        Role::Read(reader) => reads(rt, reader, watch, board, &mut dice),
+        Role::Sleep(proc) => sleeps(rt, proc, own, watch, board, &mut dice),
     };
-    board.ended.fetch_add(1, SeqCst);
+    settles(rt, role.proc(), own, board);
     work
 }
 
-// Ticks, raises the levels of the sleepers and posts notes till all have ended.
-fn ticks<R: Wait>(
-    rt: &R,
-    mut proc: Proc,
-    mut watch: Watch,
-    board: &Board,
-    crowd: u64,
-    sleepers: u64,
-) {
+// Raises the levels of all that sleep.
+fn raises(proc: &mut Proc, board: &Board, crowd: u64, level: u64) {
+    for number in 0..crowd {
+        board.expect(proc.wakeup(board.rendez(number), level).is_ok());
+    }
+}
+
+// Ticks, raises the levels and posts notes till all have ended. Then no timer is left, and the
+// sleeps that begin are woken.
+fn ticks<R: Wait>(rt: &R, mut proc: Proc, mut watch: Watch, board: &Board, crowd: u64) {
     let mut dice = Dice::of(board.seed, crowd);
     for _ in rt.forever() {
         if board.ended.load(SeqCst) >= crowd {
             break;
         }
         let to = Pid(dice.roll(crowd).wrapping_add(1));
+        board.posted.fetch_add(1, SeqCst);
+        board.expect(proc.postnote(to, NoteSet::of(Note::Alarm)).is_ok());
         let now = board.now.fetch_add(1, SeqCst).wrapping_add(1);
-        let mut is_well = proc.postnote(to, NoteSet::of(Note::Alarm)).is_ok();
-        is_well = watch.tick(rt, &mut proc, now) <= crowd && is_well;
-        for sleeper in 0..sleepers {
-            is_well = proc.wakeup(RendezId(sleeper), now.min(LEVELS)).is_ok() && is_well;
-        }
-        if !is_well {
-            board.wrong.fetch_add(1, SeqCst);
-        }
+        board
+            .expired
+            .fetch_add(watch.tick(rt, &mut proc, now), SeqCst);
+        raises(&mut proc, board, crowd, now.min(LEVELS));
         yield_now();
     }
+    board.quiet.store(1, SeqCst);
+    board.awaits(rt, &board.settled, crowd);
+    board.expect(watch.tick(rt, &mut proc, u64::MAX) == 0);
+    raises(&mut proc, board, crowd, LEVELS + 1);
+}
+
+// No more calls were ended by notes and by moments than notes were posted and timers expired.
+fn are_ended_so(board: &Board, done: &[Work]) -> bool {
+    let mut noted = 0u64;
+    let mut timed_out = 0u64;
+    for work in done.iter() {
+        noted = noted.saturating_add(work.noted);
+        timed_out = timed_out.saturating_add(work.timed_out);
+    }
+    noted <= board.posted.load(SeqCst) && timed_out <= board.expired.load(SeqCst)
 }
 
 // Runs the crowd, beside one that ticks.
@@ -263,7 +397,6 @@ fn run_crowd<R: Threads + Wait + Abort + Sync>(
     ticker: Proc<'_>,
     watch: Watch<'_>,
     board: &Board,
-    sleepers: u64,
 ) -> Vec<Work> {
     let crowd = jobs.len() as u64;
     let (done, ()) = join(
@@ -271,14 +404,17 @@ fn run_crowd<R: Threads + Wait + Abort + Sync>(
         || thread::map_vec(
             rt,
             jobs,
-            &|job: Job| -> Work
+            &|mut job: Job| -> Work
                 ensures { ⊤ }
-            { works(rt, alloc, job, board) },
+            { works(rt, alloc, &mut job, board) },
         ),
-        || ticks(rt, ticker, watch, board, crowd, sleepers),
+        || ticks(rt, ticker, watch, board, crowd),
     );
     match done {
-        Ok(done) => done,
+        Ok(done) => {
+            board.expect(are_ended_so(board, done.as_slice()));
+            done
+        }
         Err(_) => panic!(rt; "no memory for the answers"),
     }
 }
@@ -319,7 +455,7 @@ fn watch_of<'t>(rt: &impl Abort, clock: &'t mut Clock) -> Watch<'t> {
 #[test]
 fn reads_and_writes_until_a_moment_lose_nothing(rt: HostRuntime) {
     let alloc = rt.alloc();
-    let OpenedKernel { kernel, start } = kernel_of(&rt, alloc, WRITERS + 2, 2 * WRITERS + 2);
+    let OpenedKernel { kernel, start } = kernel_of(&rt, alloc, WRITERS + 2, 3 * WRITERS + 3);
     let mut started = kernel.start(start);
     let OpenedPipe { pipe, start } = pipe_of(&rt, alloc, &mut started.roster, 1, WRITERS);
     let ends = pipe.ends(start);
@@ -332,8 +468,8 @@ fn reads_and_writes_until_a_moment_lose_nothing(rt: HostRuntime) {
     }
     let role = Role::Read(Reader::new(ends.first.parts().read, forked(&rt, &mut started)));
     join_in(&rt, &mut jobs, &mut watch, role);
-    let board = Board::new(seed_of(&rt));
-    let done = run_crowd(&rt, alloc, jobs, started.proc, watch, &board, 0);
+    let board = Board::new(seed_of(&rt), 2 * WRITERS + 2);
+    let done = run_crowd(&rt, alloc, jobs, started.proc, watch, &board);
     assert!(&rt; !board.is_wrong(), "seed {}: {done:?}", board.seed);
 }
 
@@ -345,11 +481,11 @@ fn sleeps_until_a_moment_are_woken_to_the_last(rt: HostRuntime) {
     let mut clock = clock_of(&rt, alloc, SLEEPERS + 1);
     let mut watch = watch_of(&rt, &mut clock);
     let mut jobs = Vec::new(alloc);
-    for sleeper in 0..SLEEPERS {
-        let role = Role::Sleep(forked(&rt, &mut started), RendezId(sleeper));
+    for _ in 0..SLEEPERS {
+        let role = Role::Sleep(forked(&rt, &mut started));
         join_in(&rt, &mut jobs, &mut watch, role);
     }
-    let board = Board::new(seed_of(&rt));
-    let done = run_crowd(&rt, alloc, jobs, started.proc, watch, &board, SLEEPERS);
+    let board = Board::new(seed_of(&rt), 0);
+    let done = run_crowd(&rt, alloc, jobs, started.proc, watch, &board);
     assert!(&rt; !board.is_wrong(), "seed {}: {done:?}", board.seed);
 }
