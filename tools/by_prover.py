@@ -33,7 +33,7 @@ def verdict(mistake, said, alone):
         return (REFUSED if alone else LATER), None, called[0][:200]
     told = [it for line in refused for it in lines_of(said, line)]
     goal = goal_of(told)
-    why = None if goal else why_nothing([*told, *refused])
+    why = None if goal else why_nothing([*told, *refused]) or "no goal is named"
     return (NOTHING, None, f"{why}: {told[0][:200]}") if why else (REFUSED, goal, told[0][:200])
 
 

@@ -13,8 +13,11 @@ OTHER = "that a number is in its range, or a place is not reached, and nothing e
 STRONGEST = [CLAUSE, LOOP, TYPE, CALLED, ANSWERED_CLAUSE, ANSWER, OTHER]
 # Refused, and the prover names no goal.
 NONE = ("no goal that is named", "-")
+# What the prover says of a proof file that it can't read. Then it tries no answer of it, and what else it refuses shows nothing.
+UNREAD = ": error: expected "
 # Refusals at no goal of a contract.
 EMPTY = [("does not cover", "the borrow checker does not cover the edited function"),
+         (UNREAD, "a proof file can't be read"),
          ("no proof: expected proof", "a proof file has another form than the edited function wants"),
          ("is not in scope", "it names what is not there"), ("has no field", "it names what is not there"),
          ("that can be named from here", "an answer is to a goal that is not there"), ("(nearest: ", "an answer names what is not there"),
@@ -49,6 +52,8 @@ def why_nothing(told):
 
 def goal_of(told):
     """The kind of the goal at which these lines refuse a function, and its name: a clause before all others."""
+    if any(UNREAD in it for it in told):
+        return None
     by_hand = [it for it in map(ANSWERED.match, told) if it and not why_nothing([it.string])]
     searched = [*filter(None, map(NOTE.match, told)), *(it for it in by_hand if SEARCHED in it.string)]
     found = [(next(kind for words, kind in KINDS if re.match(words, it[1])), it[1]) for it in searched]

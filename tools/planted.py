@@ -130,8 +130,10 @@ def function_at(crate, path, text, old):
 
 
 def heads(line):
-    """Whether a line that stands no deeper than a function's head belongs to that head: its end, or its body's first brace."""
-    return line.lstrip().startswith((")", "{", "where"))
+    """Whether a line that stands no deeper than a function's head belongs to it: the end of its parameters or of its generic ones, or
+    its body's first brace.
+    """
+    return line.lstrip().startswith((")", ">", "{", "where"))
 
 
 def depth_of(line):

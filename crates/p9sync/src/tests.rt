@@ -399,7 +399,7 @@ fn schedules_are_answered(rt: HostRuntime) {
 /// The words of a command line, and the status, the answers and what is said of a refusal.
 type Line = (&'static [&'static str], u8, &'static str, &'static str);
 
-const LINES: [Line; 9] = [
+const LINES: [Line; 10] = [
     (
         &[
             "p9sync",
@@ -438,6 +438,23 @@ const LINES: [Line; 9] = [
     ),
     (
         &["p9sync", "threads", "--writers", "4", "--writes", "1"],
+        2,
+        "",
+        USAGE,
+    ),
+    (
+        &[
+            "p9sync",
+            "threads",
+            "--writers",
+            "4",
+            "--writes",
+            "1",
+            "--size",
+            "16",
+            "pipe",
+            "replay",
+        ],
         2,
         "",
         USAGE,

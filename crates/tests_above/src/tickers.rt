@@ -131,6 +131,36 @@ fn a_beat_is_one_sleep_and_what_its_clock_says(rt: HostRuntime) {
     );
 }
 
+// Real time without a beat: its moment at each of these microseconds of its clock.
+fn goes_on_so(rt: &impl Abort, hands: &Hands, rows: &[(u64, u64)]) {
+    let time = RealTime::new(hands);
+    for row in rows {
+        hands.micros.store(row.0, SeqCst);
+        assert_eq!(rt; time.now(hands), row.1);
+    }
+}
+
+#[test]
+fn real_time_goes_on_between_beats(rt: HostRuntime) {
+    let hands = Hands {
+        micros: AtomicU64::new(1_500),
+        sleeps: AtomicU64::new(0),
+        longer: 0,
+        is_seen: true,
+    };
+    goes_on_so(
+        &rt,
+        &hands,
+        &[
+            (1_500, 0),
+            (2_499, 0),
+            (2_500, 1),
+            (43_499, 41),
+            (43_500, 42),
+        ],
+    );
+}
+
 #[test]
 fn a_shared_moment_is_not_behind_its_beat(rt: HostRuntime) {
     let time = RealTime::new(&rt);
