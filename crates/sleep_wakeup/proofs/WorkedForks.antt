@@ -11,7 +11,7 @@ use Rattle.sleep_wakeup.specs.Kernel.{Unused, next_process}
 abbrev flags_of : ℕ → Flags
 flags_of bits = record { bits = bits }
 
--- the roster with these groups, and with these behind a child
+-- the roster with these groups, and with these after a child
 abbrev grouped : Unused → List (List ℕ) → Unused
 grouped unused groups = record unused { groups = groups }
 
