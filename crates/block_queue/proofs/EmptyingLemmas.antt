@@ -22,7 +22,7 @@ use Rattle.block_queue.specs.Meaning.{Enters, queue_after, queue_meaning}
 
 -- ---- the last takes
 
--- one take more, behind the others
+-- one take more, after the others
 pub with_blocks-snoc : (number : ℕ) (writes : List Write) (write : Write) (history : List Entry) →
     with_blocks number (writes ++ write ∷ []) history ≡
     entry.Block write.writer write.bytes (number + length writes + 1) ∷
@@ -35,7 +35,7 @@ with_blocks-snoc number (first ∷ writes) write history =
     ∙ ap (λ (n : ℕ). entry.Block write.writer write.bytes n ∷ with_blocks (number +
     1) writes (entry.Block first.writer first.bytes (number + 1) ∷ history)) (omega arith)
 
--- a seat that has all the numbers makes its entry behind all that it had seen
+-- a seat that has all the numbers makes its entry after all that it had seen
 pub behind_all : (key : Key) (made : Entry) (old new : Account Entry) → HasAllNumbers old →
     Enters key made old new → (new.seen ≡ made ∷ old.seen) ×
     IsRight key.first (queue_after key old.seen) made × HasAllNumbers new
@@ -134,7 +134,7 @@ none_emptied key left account blocks none is =
       begun = omega arith;
     }
 
--- a take of the next block adds its write behind those that were taken before
+-- a take of the next block adds its write after those that were taken before
 pub one_emptied : (key : Key) (left : ℕ) (old now new : Account Entry) (blocks :
     List Write) (write : Write) (number : ℕ) → key.first ≤ LAST_WRITE → length blocks < left →
     IsEmptying key left old now blocks

@@ -36,7 +36,7 @@ drop_end [] (suc n) same = refl
 drop_end (x ∷ xs) zero same = absurd (omega arith)
 drop_end (x ∷ xs) (suc n) same = drop_end xs n (omega arith)
 
--- takes go on from the history behind them
+-- takes go on from the history after them
 with_blocks_past : (number : ℕ) (writes : List Write) (history : List Entry) →
     IsPast history (with_blocks number writes history)
 with_blocks_past number [] history = past_refl history
@@ -49,7 +49,7 @@ with_blocks_past number (write ∷ writes) history =
     behind : List Entry
     behind = entry.Block write.writer write.bytes (number + 1) ∷ history
 
--- takes behind which nothing is left take what was left before them
+-- takes after which nothing is left take what was left before them
 pub blocks_left : (key : Key) (number : ℕ) (writes : List Write) (history : List Entry) →
     IsLegal (queue_meaning key.first) (opening_state key.limit) (with_blocks number writes history)
     →

@@ -88,7 +88,7 @@ new_put_seat queue seat view table views below is =
       account_is = account;
     }
 
--- a new seat behind the new seats of the writers before it
+-- a new seat after the new seats of the writers before it
 pub one_more_seat : (queue : Queue) (count : ℕ) (seats : List PutSeat) (seat : PutSeat) →
     AreNewPutSeats queue count seats → IsNewPutSeat queue count seat →
     AreNewPutSeats queue (count + 1) (seats ++ seat ∷ [])

@@ -56,7 +56,7 @@ in_window n from t some = ⊎_elim low high (ordered (from % n) (t % n))
           (divided n (from / n + 1) p below).0,
         )
 
--- of two writes with one place the later one is a lap or more behind
+-- of two writes with one place the later one is a lap or more after
 pub later_lap : (n t c : ℕ) → t < c → c % n ≡ t % n → t / n < c / n
 later_lap n t c lt same =
     dite (dec_le (c / n) (t / n))

@@ -88,7 +88,7 @@ module _ (key : Key) (t : QueueTable) (rule : IsOneQueue key t) (id : ℕ) (befo
       IsRight key.first (state_now key t rule id before at) entry) (same :
       after_entry (state_now key t rule id before at) entry ≡
       state_now key t rule id before at) where
-    -- what the seat knows behind such an entry; it is free
+    -- what the seat knows after such an entry; it is free
     abbrev pub refused_view : View
     refused_view = entered_view entry rule.ledger.history Free before.taken before
 

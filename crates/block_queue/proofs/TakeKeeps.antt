@@ -235,7 +235,7 @@ module _ (key : Key) (slots id : ℕ) (me : Seated) where
               (own_ledger key t rule id me.0 at).seen saw in let no : true ≡ false = sym hung ∙
               unhung in cc)
 
-    -- ---- the next write's word, behind the tail
+    -- ---- the next write's word, after the tail
 
     module _ (found : Bool) (stage : me.0.stage ≡ Looking found) where
       idle₂ : is_moving me.0.stage ≡ false

@@ -28,7 +28,7 @@ use Rattle.block_queue.proofs.PlaceLemmas.{next_lap}
 
 -- ---- lists
 
--- an element more behind a list leaves each index what it has
+-- an element more after a list leaves each index what it has
 pub slice_get_snoc : {A : Type 0} (xs : List A) (x : A) (i : ℕ) → i < length xs →
     slice_get (xs ++ x ∷ []) i ≡ slice_get xs i
 slice_get_snoc [] x i below = absurd (omega arith)

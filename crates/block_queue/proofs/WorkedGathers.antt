@@ -26,7 +26,7 @@ use Rattle.block_queue.specs.Steps.{Seated}
 
 module _ (key : Key) (take : TakeSeat) (puts : List PutSeat) (gathered : Gathered)
     (gathers : Gathers key take puts gathered) where
-  -- the one history, and what is behind it where all that is left was taken
+  -- the one history, and what is after it where all that is left was taken
   abbrev history : List Entry
   history = gathers.history
 

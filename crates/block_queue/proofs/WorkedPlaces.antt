@@ -5,7 +5,7 @@ use Rattle.block_queue.specs.History.{QueueState, opening_state}
 use Rattle.block_queue.specs.Places.{place_of, lap_of, sequence_of, ring_words, free_word}
 use Rattle.block_queue.specs.Places.{stored_word, tail_word}
 
--- a line of eight words for the tail, and two words for each place behind it
+-- a line of eight words for the tail, and two words for each place after it
 how_many_words : ring_words 16 ≡ 40
 how_many_words = refl
 

@@ -28,7 +28,7 @@ pub record AreAllSeats (take : TakeSeat) (puts : List PutSeat) : Type 0 where
   pub order : (take_account take).gave ≡ numbers_of puts
   pub none : AllByRecursion (λ seat. (put_account seat).gave ≡ []) puts
 
--- a history that goes on with takes of these writes, behind the one with this number
+-- a history that goes on with takes of these writes, after the one with this number
 abbrev pub with_blocks : ℕ → List Write → List Entry → List Entry
 with_blocks number [] history = history
 with_blocks number (write ∷ writes) history =

@@ -123,7 +123,7 @@ ended_put (NotYet number) = None
 ended_put End = None
 ended_put (Hung seat) = None
 
--- what stands in a history behind its past: a write stands once, after it was taken and before
+-- what stands in a history after its past: a write stands once, after it was taken and before
 -- the next call of its writer
 pub record IsRight (first : ℕ) (s : QueueState) (entry : Entry) : Type 0 where
   pub may : MayBe first s entry

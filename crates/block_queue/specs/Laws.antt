@@ -18,7 +18,7 @@ use Rattle.block_queue.specs.Meaning.{queue_meaning}
 use Rattle.block_queue.specs.QueueObject.{Contents, new_kept, last_number, queue_definition}
 use Rattle.block_queue.specs.QueueObject.{reply_to, after_reply}
 
--- The entries of one call, newest first. Own: where calls come one behind the other, a write stands
+-- The entries of one call, newest first. Own: where calls come one after the other, a write stands
 -- as soon as it was taken.
 abbrev pub entries_of : ℕ → QueueCall → QueueReply → List Entry
 entries_of by (Put writer block) (reply.Taken number) =
@@ -68,7 +68,7 @@ IsFirst first s reply.End = next_write s.pipe ≡ None
 IsFirst first s (reply.NotYet number) = (next_write s.pipe ≡ None) × (s.pipe.hung ≡ false)
 IsFirst first s reply.Hung = ⊤
 
--- A call that is answered so: its entries may stand behind the state, nothing before the answer may
+-- A call that is answered so: its entries may stand after the state, nothing before the answer may
 -- be given, and what is kept then shows the state that the entries leave.
 pub record IsCall (first : ℕ) (kept : Contents) (s : QueueState) (by : ℕ) (call : QueueCall)
     (answer : QueueReply) : Type 0 where

@@ -55,7 +55,7 @@ after_reply kept call answer = kept
 abbrev pub kept_after : Contents → QueueCall → Contents
 kept_after kept call = after_reply kept call (reply_to kept call)
 
--- the seat that a call names: a put by its writer, but for the greatest number, behind which none
+-- the seat that a call names: a put by its writer, but for the greatest number, after which none
 -- is; a take by the reader; anybody may hang up
 abbrev pub named_by : QueueCall → Option ℕ
 named_by (Put writer block) = if nat_lt writer 18446744073709551615 then Some (writer + 1) else None

@@ -38,7 +38,7 @@ pub(crate) enum PutAttempt {
 }
 
 impl Queue {
-    /// Puts a block behind the others. It waits for nobody, but begins again where another put
+    /// Puts a block after the others. It waits for nobody, but begins again where another put
     /// came first, and looks some microseconds for room before it answers `Full`. It takes no
     /// memory.
     ///

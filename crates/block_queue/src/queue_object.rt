@@ -16,7 +16,7 @@ use sync_base::{Fault, Piece};
 /// A call on a queue.
 #[derive(Drop)]
 pub enum QueueCall {
-    /// Puts the block of this writer behind the others. Any number may be a writer's.
+    /// Puts the block of this writer after the others. Any number may be a writer's.
     Put(u64, Piece),
     /// Takes the next block out.
     Take,
@@ -97,7 +97,7 @@ impl QueueObject {
         })
     }
 
-    // Puts the block behind the others, where it may.
+    // Puts the block after the others, where it may.
     fn put(&mut self, writer: u64, block: Piece) -> QueueReply
         ensures reply { result ≡ put_reply self.old block }
         ensures after { self.new ≡ after_reply self.old (Put writer block) result }

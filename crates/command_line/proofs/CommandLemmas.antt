@@ -242,7 +242,7 @@ takes_nothing s (word ∷ words) bare none = by_word (bytes_eq word (codes "--")
     by_word true is = by_rest words refl (word_is word (codes "--") is)
     by_word false is = absurd (stray s [] word bare refl is first)
 
--- Where a walk has met a subcommand, it holds the words behind it.
+-- Where a walk has met a subcommand, it holds the words after it.
 walk_stops : (rules : List Rule) (subs : Names) (w : Walk) (met : Text × List Text)
     (words : List Text)
     → w.stopped ≡ Some met

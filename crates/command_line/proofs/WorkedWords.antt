@@ -4,7 +4,7 @@ use Rattle.clap.proofs.OnLiterals.{clap_on_literals}
 use Rattle.command_line.specs.declared.task.Task.TheVariants.{Pipe, Threads}
 use Rattle.command_line.specs.CommandLine.{task_asked}
 
--- `threads` with these words behind it
+-- `threads` with these words after it
 abbrev threads_with : List (List ℕ) → List (List ℕ)
 threads_with words = codes "p9sync" ∷ codes "threads" ∷ words
 

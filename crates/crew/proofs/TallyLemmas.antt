@@ -9,7 +9,7 @@ use Rattle.std.proofs.lemmas.List.{length_push, replicate-append-replicate}
 abbrev pub AreAll : ℕ → List ℕ → Type 0
 AreAll byte bytes = bytes ≡ replicate (length bytes) byte
 
--- the same byte behind them, and they are all this one still
+-- the same byte after them, and they are all this one still
 are_all_behind : (byte : ℕ) (bytes : List ℕ) (next : ℕ) → AreAll byte bytes → next ≡ byte
     → AreAll byte (bytes ++ (next ∷ []))
 are_all_behind byte bytes next all same =

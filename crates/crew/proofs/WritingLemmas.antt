@@ -49,7 +49,7 @@ at_end key row old answer new reads is =
     at_end_now key row old new
     (subst (λ (a : Result ReadAnswer Fault). ReadsBlock key row old a new) is reads)
 
--- what is taken of a list that goes on behind it
+-- what is taken of a list that goes on after it
 pub kept_items : (len : ℕ) (xs ys : List ℕ) → length xs ≡ len → take len (xs ++ ys) ≡ xs
 kept_items len xs ys is = subst (λ n. take n (xs ++ ys) ≡ xs) is (take-append_seam xs ys)
 

@@ -7,7 +7,7 @@ use Rattle.crew.specs.declared.tally.Tally.{Tally}
 use Rattle.crew.specs.Message.{message_of}
 
 -- The piece is, whole, the next message of its writer, each of whom has so many messages of this
--- size: and then the one behind it is the next.
+-- size: and then the one after it is the next.
 pub record TakesNext (each size : ℕ) (old new : List ℕ) (piece : List ℕ) : Type 0 where
   pub writer : ℕ
   pub number : ℕ

@@ -12,7 +12,7 @@ messages_of size writer zero = []
 messages_of size writer (suc count) =
     messages_of size writer count ++ message_of size writer count ∷ []
 
--- behind these its end has written just the messages that the writer counts
+-- after these its end has written just the messages that the writer counts
 abbrev pub CountsAll : List (List ℕ) → Writer → Type 0
 CountsAll before writer = HasWrittenJust writer.end
     (before ++ messages_of (vec_len writer.message) writer.number writer.done)

@@ -52,7 +52,7 @@ stays_over first s (NotYet number) over right = over
 stays_over first s End over right = over
 stays_over first s (Hung seat) over right = record { hung = refl; none = over.none }
 
--- so a history that goes on behind an End
+-- so a history that goes on after an End
 is_over : (first : ℕ) (opening : QueueState) (since past : List Entry)
     → IsLegal (queue_meaning first) opening (since ++ End ∷ past)
     → IsOver (state_after (queue_meaning first) opening (since ++ End ∷ past)).pipe

@@ -181,14 +181,14 @@ all_are_accepted (written ∷ others) first none =
     (take_all written.accepted written.messages.items (omega (arith, all)))
     ∙ ap (λ mss. written.messages.items ∷ mss) (all_are_accepted others first.1 none.1)
 
--- a direction is hung up only behind a hangup
+-- a direction is hung up only after a hangup
 was_hung : (key : Key) (history : List Entry) → (left_state key history).hung ≡ true
     → HasHang history
 was_hung key [] hung = cc
 was_hung key (Hung seat ∷ past) hung = tt
 was_hung key (entry ∷ past) hung = was_hung key past hung
 
--- so a write is told so only behind one
+-- so a write is told so only after one
 each_hungup_is_after_hangup : (key : Key) (history : List Entry) → LegalFor key history
     → EachHungupIsAfterHangup history
 each_hungup_is_after_hangup key [] legal = tt

@@ -65,7 +65,7 @@ module _ (key : Key) (row : Row) (mode : row.mode ≡ Message) (start : Calling)
   abbrev pub Clear : Calling → Type 0
   Clear at = Mine IsClear at
 
-  -- so it is behind a read that got bytes
+  -- so it is after a read that got bytes
   abbrev pub Went : Result ReadAnswer Fault → Calling → Type 0
   Went (Ok (read.Got count)) at = Clear at
   Went other at = ⊤
@@ -296,7 +296,7 @@ module _ (key : Key) (row : Row) (mode : row.mode ≡ Message) (start : Calling)
       }
   fails old other new on failed = absurd failed
 
-  -- where it stands behind a sleep that ended well
+  -- where it stands after a sleep that ended well
   slept : (old : WaitPoint Lending) (woken : Process) → IsWaiting old
       → SleepsWell old.at.process (reader_rendez row) old.number woken
       → Woken start → Woken (record { seat = old.at.seat; process = woken })

@@ -45,7 +45,7 @@ module _ (seat : ℕ) (mine : List Entry) (old new : List core.Entry) (past : Is
       (tells.0, answered_still answer.DoubleSleep old new past tells.1)
   refused_still writer block other tells = absurd tells
 
--- a seat that has hung nothing up has asked for nothing behind a hangup of it
+-- a seat that has hung nothing up has asked for nothing after a hangup of it
 pub quiet_is_last : (mine : List Entry) → ¬ HasHang mine → HangsUpLast mine
 quiet_is_last [] quiet = tt
 quiet_is_last (Hung seat ∷ past) quiet = absurd (quiet tt)

@@ -233,7 +233,7 @@ told_before number entry past wanted differs told = by (eqb (seat_of entry) numb
     by true same = absurd (differs same)
     by false same = same
 
--- whoever was told of a hangup was told so behind one
+-- whoever was told of a hangup was told so after one
 told_behind_a_hangup : (number writer : ℕ) (block : List ℕ) (history : List Entry)
     → last_told (entries_by seat_of number history) ≡ Some (Hungup writer block)
     → EachHungupIsAfterHangup history → HasHang history

@@ -50,7 +50,7 @@ module _ (call : WriteCall) (start : Writer) where
   abbrev pub Clear : Writer → Type 0
   Clear at = Mine IsClear at
 
-  -- so it is behind a write that was accepted
+  -- so it is after a write that was accepted
   abbrev pub Went : Result ℕ Fault → Writer → Type 0
   Went (Ok its) at = Clear at
   Went (Err why) at = ⊤
@@ -218,7 +218,7 @@ module _ (call : WriteCall) (start : Writer) where
       }
   fails old other new on failed = absurd failed
 
-  -- where it stands behind a sleep that ended well
+  -- where it stands after a sleep that ended well
   slept : (old : WaitPoint (Account Entry)) (woken : Process) → IsWaiting old
       → SleepsWell old.at.process (writer_rendez call.row call.writer) old.number woken
       → Woken start → Woken (record { seat = old.at.seat; process = woken })

@@ -119,7 +119,7 @@ abbrev pub IsClearWriter : Writer → Type 0
 IsClearWriter writer = OfMine (writer.end.writer + 1) IsClear writer.end.account
 
 -- the writer has written all its messages, or says why not, if it is of the pipe's kernel; and
--- where it hung up, it did so behind its last write
+-- where it hung up, it did so after its last write
 pub record HasEnded (writer : Writer) : Type 0 where
   pub all : writer.refused ≡ None → length writer.messages.items ≤ writer.accepted
   pub refused : (why : Fault) → writer.refused ≡ Some why

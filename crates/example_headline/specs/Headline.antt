@@ -89,7 +89,7 @@ pub record WasRefusedFor (why : Fault) (writer : ℕ) (written : Written) (mine 
       (slice_index_or written.messages.items written.accepted []) mine process.trace
 
 -- A writer: its entries are that just these of its messages were accepted; where it tells a
--- refusal, its write was refused just so; where it hung up, it did so behind its last write; and
+-- refusal, its write was refused just so; where it hung up, it did so after its last write; and
 -- each wakeup that its calls owe has returned.
 pub record IsWriterOf (history : List Entry) (row : Row) (writer : ℕ) (written : Written)
     (process : Process) : Type 0 where
@@ -109,7 +109,7 @@ AreWritersOf history row writer (written ∷ others) (process ∷ processes) =
 AreWritersOf history row writer writtens processes = ⊥
 
 -- The reader came to the end of a direction that others hung up; or it tells why it stopped, a read
--- was refused just so, and behind that it hung up. Each wakeup that its calls owe has returned.
+-- was refused just so, and after that it hung up. Each wakeup that its calls owe has returned.
 pub record IsReaderOf (history : List Entry) (row : Row) (outcome : Outcome) (process : Process)
     : Type 0 where
   pub ended : outcome.stopped ≡ None → outcome.held.hung ≡ true

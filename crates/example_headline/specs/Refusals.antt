@@ -40,7 +40,7 @@ pub record IsClear (mine : List Entry) : Type 0 where
   pub given : WasGiven (last_told mine)
   pub quiet : ¬ HasHang mine
 
--- it has hung up, behind its last request
+-- it has hung up, after its last request
 pub record HasHungUp (mine : List Entry) : Type 0 where
   pub hung : HasHang mine
   pub last : HangsUpLast mine
@@ -87,7 +87,7 @@ TellsWhyStopped fault.DoubleSleep mine steps =
     WaitsForWrite mine × WasAnswered answer.DoubleSleep steps
 TellsWhyStopped other mine steps = ⊥
 
--- behind each write that was refused as hungup stands a hangup
+-- after each write that was refused as hungup stands a hangup
 abbrev pub EachHungupIsAfterHangup : List Entry → Type 0
 EachHungupIsAfterHangup [] = ⊤
 EachHungupIsAfterHangup (Hungup writer block ∷ past) =

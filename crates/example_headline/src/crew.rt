@@ -80,7 +80,7 @@ pub fn muster<'p>(
     })
 }
 
-/// Writers and reader at once. The ends are lent to the threads, so what each did is known behind
+/// Writers and reader at once. The ends are lent to the threads, so what each did is known after
 /// it.
 pub fn work<'p, R: Threads + Wait + Sync>(rt: &R, alloc: Global, crew: Crew<'p>) -> Crew<'p>
     ensures reader { HasReadOn crew.entry.reader result.reader }

@@ -46,7 +46,7 @@ listed_first number (x ∷ xs) ys has = head (eqb x number) has (listed_first nu
     head true has rest = refl
     head false has rest = rest has
 
--- a number that stands in the second list stands in the two behind one another
+-- a number that stands in the second list stands in the two after one another
 pub listed_second : (number : ℕ) (xs ys : List ℕ) →
     list_any (λ other. eqb other number) ys ≡ true →
     list_any (λ other. eqb other number) (xs ++ ys) ≡ true
@@ -58,7 +58,7 @@ listed_second number (x ∷ xs) ys has = head (eqb x number) (listed_second numb
     head true has = refl
     head false has = has
 
--- two lists of different numbers that share none are different numbers behind one another
+-- two lists of different numbers that share none are different numbers after one another
 pub different_append : (xs ys : List ℕ) → AreDifferent xs → AreDifferent ys →
     AllByRecursion (λ x. AllByRecursion (λ y. x ≢ y) ys) xs → AreDifferent (xs ++ ys)
 different_append [] ys one two apart = two
@@ -124,7 +124,7 @@ module _ {Entry : Type 0} where
           subst P same all.0
       first false is has rest = rest has
 
-  -- the numbers of two lists of shares stand behind one another as the shares do
+  -- the numbers of two lists of shares stand after one another as the shares do
   pub numbers_in-append : (xs ys : List (Share Entry)) →
       numbers_in (xs ++ ys) ≡ numbers_in xs ++ numbers_in ys
   numbers_in-append [] ys = refl

@@ -14,7 +14,7 @@ use Rattle.histories.specs.History.{IsPast}
 module _ {A : Type 0} where
   -- ---- what is true of each element
 
-  -- what is true of each element of two lists is true of each of the two behind one another
+  -- what is true of each element of two lists is true of each of the two after one another
   pub all_append : (P : A → Type 0) (xs ys : List A) → AllByRecursion P xs → AllByRecursion P ys →
       AllByRecursion P (xs ++ ys)
   all_append P [] ys all more = more
@@ -66,7 +66,7 @@ module _ {A : Type 0} where
   pub past_nil : (xs : List A) → IsPast [] xs
   past_nil xs = record { since = xs; new_is = sym (append-nil xs) }
 
-  -- more may come behind
+  -- more may come after
   pub past_append : (old new more : List A) → IsPast old new → IsPast old (more ++ new)
   past_append old new more past =
       record {
@@ -191,7 +191,7 @@ module _ {A : Type 0} where
   at_end (x ∷ xs) a b (suc j) e =
       ⊎_elim (λ h. inl h) (λ h. inr (h.0, ap suc h.1)) (at_end xs a b j e)
 
-  -- what stands at a place still does when the list is made longer behind
+  -- what stands at a place still does when the list is made longer after
   pub at_longer : (l more : List A) (i : ℕ) (a : A) → get_elem? l i ≡ some a →
       get_elem? (l ++ more) i ≡ some a
   at_longer [] more i a e = absurd (some-ne-none a (sym e))

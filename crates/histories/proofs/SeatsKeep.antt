@@ -374,7 +374,7 @@ module _ {View Entry : Type 0} (by : Entry → ℕ) (account_of : View → Accou
           tells = still.2;
         })
 
-    -- when the next number goes to a new seat behind the others, all seats still fit the history
+    -- when the next number goes to a new seat after the others, all seats still fit the history
     pub seats_split : AreSeats by account_of (ledger_gave giver (length
         (set views id parent)) ledger)
         (set views id parent ++ child ∷ [])
@@ -704,7 +704,7 @@ module _ {View Entry : Type 0} (by : Entry → ℕ) (account_of : View → Accou
           tells = still.2;
         })
 
-    -- when a number goes from its seat to a new one behind the others, all seats still fit the
+    -- when a number goes from its seat to a new one after the others, all seats still fit the
     -- history
     pub seats_hand : AreSeats by account_of
         (ledger_handed kept handed.number (length (set views id parent)) ledger)

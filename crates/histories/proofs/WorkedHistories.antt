@@ -33,7 +33,7 @@ jar = record { by = by; IsRight = MayBe; after = held_after }
 abbrev day : List Move
 day = takes 0 5 ∷ puts 1 3 ∷ puts 0 2 ∷ []
 
--- an entry comes behind its past, so the jar is empty at the end of the day
+-- an entry comes after its past, so the jar is empty at the end of the day
 the_day_ends_empty : state_after jar 0 day ≡ 0
 the_day_ends_empty = refl
 

@@ -49,7 +49,7 @@ module _ {Entry : Type 0} where
     pub second_past : IsPast second.seen joined.seen
 
 module _ {Entry : Type 0} (by : Entry → ℕ) where
-  -- the seat made an entry, behind which stands this past
+  -- the seat made an entry, after which stands this past
   abbrev pub entered_account : Entry → List Entry → Account Entry → Account Entry
   entered_account entry past account =
       record account {
@@ -66,7 +66,7 @@ module _ {Entry : Type 0} (by : Entry → ℕ) where
     pub mine : AllByRecursion (HasItsEntries by history) account.shares
     pub alone : HasAllNumbers account → since ≡ []
 
-  -- an entry: it stands behind a past at which the seat looked
+  -- an entry: it stands after a past at which the seat looked
   pub record AddsEntry (entry : Entry) (old new : Account Entry) : Type 0 where
     pub past : List Entry
     pub looked : LooksAt past old

@@ -42,7 +42,7 @@ module _ {Object State Call Reply : Type 0}
   module _ (key : Key Object) (s : table.State (Slot Object) (View Object Call Reply))
       (rule : IsOneHistory definition key s) (id : ℕ) (me : Me Object Call Reply)
       (at : get_elem? s.views id ≡ some me.0) where
-    -- what holds of the history behind the step, with a request and without, and of the seats
+    -- what holds of the history after the step, with a request and without, and of the seats
     -- where this one knows what a release tells it
     pub record Follows (served : Option (Operation Call Reply)) : Type 0 where
       -- the request is the newest

@@ -180,7 +180,7 @@ module _ {Object State Call Reply : Type 0}
       (entered : HasEntered definition (Some first) before middle)
       (old : Me Object Call Reply) (history : List (Operation Call Reply))
       (done : HasServed definition key history first old entered.between) where
-    -- behind the first request the seat is inside, as if it had taken the lock once more
+    -- after the first request the seat is inside, as if it had taken the lock once more
     abbrev pub takes_again : (by : ℕ) → has_number old.0.account.shares by ≡ true →
         HasTaken definition key by entered.between middle
     takes_again by has =
@@ -191,7 +191,7 @@ module _ {Object State Call Reply : Type 0}
           taken = entered.taken;
         }
 
-    -- so both are served, the second right behind the first
+    -- so both are served, the second right after the first
     pub serves_both : (second : Operation Call Reply) (final : Me Object Call Reply) →
         HasServed definition key entered.taken.history second entered.between final →
         ServesBoth definition key first second old.0 final.0

@@ -251,7 +251,7 @@ what_follows_is_not_answered :
     → ⊥
 what_follows_is_not_answered serves = serves
 
--- a split past the limit, behind the seat's back, of a number that is known to be given
+-- a split past the limit, after the seat's back, of a number that is known to be given
 past_the_limit : GivesSeat 1 (seat [] [] 1) (seat [] (1 ∷ []) 2) (child 2) → ⊥
 past_the_limit gives = let limit = gives.limit_is in omega (arith, limit)
 

@@ -33,7 +33,7 @@ module _ {Object State Call Reply : Type 0}
       → seen_of new ≡ served_by definition old request reply ∷ applies.account.past
   what_was_served_is_the_newest applies = ap (λ account. account.seen) applies.account.new_is
 
--- two requests in one hold of the lock: the second is the seat's newest, and right behind it stands
+-- two requests in one hold of the lock: the second is the seat's newest, and right after it stands
 -- the first, which it made under the same number where neither names another
 module _ {Object State Call Reply : Type 0}
     (definition : Definition Object State Call Reply) (lock : Locked Object Call Reply)

@@ -18,7 +18,7 @@ module _ {Object Call Reply : Type 0} where
         record { number = number; shares = unused_share number ∷ []; seen = []; gave = gave }
     pub given_is : view.given ≡ given
 
-  -- a request was served: it stands behind a past that ends what the seat had seen
+  -- a request was served: it stands after a past that ends what the seat had seen
   pub record Serves (served : Operation Call Reply)
       (old new : View Object Call Reply) : Type 0 where
     pub account : AddsEntry server served old.account new.account
@@ -45,7 +45,7 @@ module _ {Object Call Reply : Type 0} where
 
 module _ {Object State Call Reply : Type 0}
     (definition : Definition Object State Call Reply) (key : Key Object) where
-  -- two requests were served, the second right behind the first
+  -- two requests were served, the second right after the first
   pub record ServesBoth (first second : Operation Call Reply)
       (old new : View Object Call Reply) : Type 0 where
     -- what the seat knows between the two

@@ -117,7 +117,7 @@ module _ {Object State Call Reply : Type 0}
   SeesHistory lock seat =
       KnowsHistory (meaning_of definition) (opening_of lock) (limit_of lock) (account_of seat)
 
-  -- two requests were served, the second right behind the first: as by two calls, between which
+  -- two requests were served, the second right after the first: as by two calls, between which
   -- the seat is one of the lock's and no other request is made
   pub record AppliesBoth (lock : Locked Object Call Reply) (old : LockSeat Object Call Reply)
       (request next : Call) (reply answer : Reply) (new : LockSeat Object Call Reply)

@@ -143,14 +143,14 @@ module _ {Object State Call Reply : Type 0}
     pub own : IsTrue (has_number before.0.account.shares by)
     pub taken : TakesLock before after
 
-  -- and is outside again, behind the request that it made inside, where it found this history
+  -- and is outside again, after the request that it made inside, where it found this history
   pub record HasServed (key : Key Object) (history : List (Operation Call Reply))
       (served : Operation Call Reply) (before after : Me Object Call Reply) : Type 0 where
     -- it is still one of this lock's
     pub key_is : after.0.key ≡ Some key
     pub stage_is : after.0.stage ≡ Outside
     pub no_slot : after.1 ≡ []
-    -- its request stands behind a past that ends what it had seen
+    -- its request stands after a past that ends what it had seen
     pub serves : Serves served before.0 after.0
     -- which is that history
     pub behind : after.0.account.seen ≡ served ∷ history

@@ -140,7 +140,7 @@ const PIPE_ROWS: [Row; 18] = [
         &[("taken\ntaken\ngot 61626364\ngot 65\nempty\n", 1)],
         "",
     ),
-    // a stream read leaves empty writes behind its last byte
+    // a stream read leaves empty writes after its last byte
     (
         &[
             ("limit 3 stream\nwrite 0 -\nwrite 0 61\nwrite 0 -\n", 1),

@@ -68,7 +68,7 @@ has_both sizes s has =
     let both = length-zip s.posted s.levels in
     omega arith
 
--- the lines of the processes lie behind all these
+-- the lines of the processes lie after all these
 behind : (sizes : Sizes) (s : State) → HasSizes sizes s
     → length (rendez_words s) ≡ LINE * sizes.rendez
 behind sizes s has =

@@ -17,7 +17,7 @@ use Rattle.rendez_words.specs.declared.view.View.TheVariants as view
 use Rattle.sync_base.specs.declared.line.TheConstants.{LINE}
 use Rattle.rendez_words.specs.FlagsWord.{flags_word}
 
--- these words with a line to themselves: what lies behind them is 0 for ever
+-- these words with a line to themselves: what lies after them is 0 for ever
 abbrev pub line : List ℕ → List ℕ
 line words = words ++ replicate (LINE - length words) 0
 

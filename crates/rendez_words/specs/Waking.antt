@@ -18,6 +18,6 @@ abbrev pub IsNewestToSet : List Entry → ℕ → Type 0
 IsNewestToSet [] pid = ⊥
 IsNewestToSet (newest ∷ past) pid = Sets newest.event newest.answer pid
 
--- Own: a wake comes just behind the step that set the flags.
+-- Own: a wake comes just after the step that set the flags.
 abbrev pub HasSet : Process → ℕ → Type 0
 HasSet process pid = IsNewestToSet process.trace pid

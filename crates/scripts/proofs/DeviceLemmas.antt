@@ -1,4 +1,4 @@
--- What several reads took and several writes gave, one behind the other.
+-- What several reads took and several writes gave, one after the other.
 use Rattle.std.proofs.Common.{◌≡◌, ◌⊎◌, inl, inr, IfSome, nat_lt, ℕ, zero, suc, ◌+◌, ◌-◌, ◌≤◌}
 use Rattle.std.proofs.Common.{List, []}
 use Rattle.std.proofs.Common.{◌∷◌, ◌++◌, length, take, drop, Option, Some, None, refl, sym, ◌∙◌, ap}
@@ -16,7 +16,7 @@ use Rattle.scripts.specs.Script.{Language, Transcript, told}
 use Rattle.scripts.specs.Device.{AppendsFront, TakesUpTo, WritesTranscript, Tells}
 use Rattle.scripts.specs.Device.{IsOutside}
 
--- what two reads took, the second behind the first
+-- what two reads took, the second after the first
 pub consumes_then : (old mid new : Option (List ℕ)) (a b : List ℕ) → Consumes old mid a
     → Consumes mid new b → Consumes old new (a ++ b)
 consumes_then None mid new a b first second = tt
@@ -38,7 +38,7 @@ pub appends_nothing : (old : Option (List ℕ)) → Appends old old []
 appends_nothing None = tt
 appends_nothing (Some xs) = sym (append-nil xs)
 
--- what two writes added, the second behind the first
+-- what two writes added, the second after the first
 pub appends_then : (old mid new : Option (List ℕ)) (a b : List ℕ) → Appends old mid a
     → Appends mid new b → Appends old new (a ++ b)
 appends_then None mid new a b first second = tt
@@ -67,7 +67,7 @@ pub record IsWriting (old now : Option (List ℕ)) (bytes rest : List ℕ) : Typ
   pub written : List ℕ
   -- with what is left they are all that is to be written
   pub whole : written ++ rest ≡ bytes
-  -- the writer has them behind what it had
+  -- the writer has them after what it had
   pub appended : Appends old now written
 
 -- before the first write all is left
@@ -102,7 +102,7 @@ pub front_written : (old now : Option (List ℕ)) (bytes rest : List ℕ) → Is
 front_written old now bytes rest so_far =
     appends_front old now so_far.written rest bytes so_far.whole so_far.appended
 
--- and behind a call that wrote nothing
+-- and after a call that wrote nothing
 pub front_kept : (old now next : Option (List ℕ)) (bytes rest : List ℕ)
     → IsWriting old now bytes rest → Keeps now next → AppendsFront old next bytes
 front_kept old now next bytes rest so_far kept =

@@ -63,7 +63,7 @@ pair_fails high low i (Some h) None high_is low_is large = (InvalidHexCharacter 
 pair_fails high low i (Some h) (Some l) high_is low_is large =
     absurd (omega (arith, large, digit_below high h high_is, digit_below low l low_is))
 
--- so a text with such a pair behind good ones decodes to nothing
+-- so a text with such a pair after good ones decodes to nothing
 pub no_pair : (s out : List ℕ) (i : ℕ) → 2 * i + 1 < length s
     → 256 ≤ 16 * value_or_none (slice_index s (2 * i)) + value_or_none (slice_index s (2 * i + 1))
     → decode_pairs 0 s ≡ prepend (take i out) (decode_pairs (2 * i) (drop (2 * i) s))

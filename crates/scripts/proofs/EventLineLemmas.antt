@@ -21,7 +21,7 @@ size_of-more : (verb procs rendez : List ℕ) (words : List (List ℕ)) → 0 < 
 size_of-more verb procs rendez [] some = absurd (omega arith)
 size_of-more verb procs rendez (word ∷ words) some = refl
 
--- a verb and two numbers with a word behind them are no size of a world
+-- a verb and two numbers with a word after them are no size of a world
 pub size_of-long : (verb procs rendez rest : List ℕ)
     → size_of (verb ∷ procs ∷ rendez ∷ words_of rest) ≡ None
 size_of-long verb procs rendez rest =

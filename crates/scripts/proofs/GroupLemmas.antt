@@ -34,7 +34,7 @@ pub record Posting (notes : NoteSet) (pids : List ℕ) (world now : State) (old 
   pub before : Option ℕ
   -- the processes that are still to be posted to
   pub left : List ℕ
-  -- the words to come are those processes, and rise behind it
+  -- the words to come are those processes, and rise after it
   pub written : rising_behind before words ≡ Some left
   -- the notes to them lead to the same world as all notes do from the first
   pub after : world_after_all now (notes_to notes left)
@@ -114,7 +114,7 @@ posting_goes notes pids world now old new word words n next longer so_far is ste
               ∙ (append_assoc new told (LINE_FEED ∷ rest) ∙ rw left at so_far.text));
         }
 
--- behind the last word all are posted
+-- after the last word all are posted
 pub posting_ends : (notes : NoteSet) (pids : List ℕ) (world now : State) (old new : List ℕ)
     → Posting notes pids world now old new []
     → PostsEach notes pids world now (growth old new)
@@ -181,7 +181,7 @@ pub group_answered : (s : State) (line : List ℕ) (words : List (List ℕ)) (ev
     → schedule_language.answer_to s line ≡ Some (answered s events)
 group_answered s line words events is ask = rw (is, group_is_no_event words events ask, ask) refl
 
--- a word whose first part is a number, with others behind it that rise above it, is a list
+-- a word whose first part is a number, with others after it that rise above it, is a list
 pub list_rises : (first : ℕ) (others : Option (Bor (List ℕ))) (word part : List ℕ)
     → parts_of is_comma word ≡ part ∷ parts_behind is_comma others → number_of part ≡ Some first
     → is_some (rising_behind (Some first) (parts_behind is_comma others)) ≡ true
@@ -201,7 +201,7 @@ pub list_begins_with_none : (words : List (List ℕ)) (word part : List ℕ)
     → parts_of is_comma word ≡ part ∷ words → number_of part ≡ None → pids_of word ≡ None
 list_begins_with_none words word part parts none = rw (parts, none) refl
 
--- a list and kinds behind the word of a group ask for it
+-- a list and kinds after the word of a group ask for it
 pub group_asked : (words : List (List ℕ)) (pids kinds : List ℕ) (group : GroupNote)
     → words ≡ pids ∷ kinds ∷ [] → AskPids pids group.pids → kinds_of kinds ≡ Some group.notes
     → AskGroup (codes "notepg" ∷ words) group

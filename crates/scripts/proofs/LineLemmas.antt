@@ -100,7 +100,7 @@ lines_of-at text n found = ap all_but_last (parts_of-at is_line_feed text n foun
     ∙ all_but_last-cons _ _
     (parts_of-some is_line_feed (take (length text - (n + 1)) (drop (n + 1) text)))
 
--- what is cut behind the first line is what is cut of the text
+-- what is cut after the first line is what is cut of the text
 pub cut_line_of-at : (text : List ℕ) (n : ℕ) → position is_line_feed text ≡ Some n
     → cut_line_of text ≡ cut_line_of (take (length text - (n + 1)) (drop (n + 1) text))
 cut_line_of-at text n found = ap last_of (parts_of-at is_line_feed text n found)
@@ -125,7 +125,7 @@ plain_rest : (p : ℕ → Bool) (x : ℕ) (bs : List ℕ)
     → list_all (λ b. not (p b)) (x ∷ bs) ≡ true → list_all (λ b. not (p b)) bs ≡ true
 plain_rest p x bs plain = grind (arith, nat_tests)
 
--- a part and the parting byte behind it stand before the other parts
+-- a part and the parting byte after it stand before the other parts
 pub parts_of-part : (p : ℕ → Bool) (part : List ℕ) (b : ℕ) (rest : List ℕ)
     → list_all (λ b. not (p b)) part ≡ true → p b ≡ true
     → parts_of p (part ++ b ∷ rest) ≡ part ∷ parts_of p rest

@@ -34,7 +34,7 @@ pub value_of-small : (digits : List ℕ) (n : ℕ) → list_all is_ascii_digit d
     → n ≡ decimal_value digits → n < 2 ^ 64 → Some n ≡ value_of digits
 value_of-small digits n all is small = grind (arith, nat_tests)
 
--- nineteen digits fit, so one may come behind eighteen
+-- nineteen digits fit, so one may come after eighteen
 pub one_more_fits : (n count : ℕ) → n < 10 ^ count → count < 19 → 10 * n + 9 < 2 ^ 64
 one_more_fits n count below few =
     let most : 10 ^ count ≤ 10 ^ 18 =
@@ -204,7 +204,7 @@ ends_in_digits end text number count other all whole n rest begins =
     let same = ap length (sym word ∙ (ap (λ m. take m text) whole ∙ take-length text)) in
     omega (arith, short, same)
 
--- what stands behind the same front is the same
+-- what stands after the same front is the same
 pub same_behind : (front xs ys : List ℕ) → front ++ xs ≡ front ++ ys → xs ≡ ys
 same_behind [] xs ys same = same
 same_behind (b ∷ front) xs ys same = same_behind front xs ys (cc)
@@ -284,7 +284,7 @@ other_in_list list number count byte behind all split differs word words is =
         let first_is : byte ≡ b = cc in
         differs (first_is ∙ has.0)
 
--- no digit stands behind a word
+-- no digit stands after a word
 word_is_whole : (word : List ℕ) (number count n : ℕ) → AllLeadingDigits word number count
     → number_of word ≡ Some n → take count word ≡ word
 word_is_whole word number count n all spells =

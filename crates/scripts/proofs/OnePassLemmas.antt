@@ -187,7 +187,7 @@ no_line asked text none words rest begins fits =
 
 -- a line that begins as the text does goes on as the text does
 record GoesOnBehind (word mid line rest : List ℕ) : Type 0 where
-  -- what the line has behind the word and the space
+  -- what the line has after the word and the space
   pub after : List ℕ
   -- they are the line
   pub line_is : line ≡ word ++ SPACE ∷ after
@@ -223,7 +223,7 @@ line_goes_on (w ∷ word) mid (b ∷ line) rest plain same =
       mid_is = more.mid_is;
     }
 
--- no line feed stands behind a word of a line
+-- no line feed stands after a word of a line
 plain_behind : (word after : List ℕ)
     → list_all (λ b. not (is_line_feed b)) (word ++ SPACE ∷ after) ≡ true
     → list_all (λ b. not (is_line_feed b)) after ≡ true
@@ -231,7 +231,7 @@ plain_behind [] after plain = plain
 plain_behind (w ∷ word) after plain =
     plain_behind word after (second_passes (not (is_line_feed w)) _ plain)
 
--- behind a word a text asks for nothing where no line behind it completes the word
+-- after a word a text asks for nothing where no line after it completes the word
 pub none_behind_word : {A : Type 0} (asked : List (List ℕ) → Option A) (text word mid : List ℕ)
     → text ≡ word ++ SPACE ∷ mid → IsWord word → NoLineAsks (λ words. asked (word ∷ words)) mid
     → NoLineAsks asked text
@@ -249,7 +249,7 @@ none_behind_word asked text word mid split is none words rest begins fits =
       words_are = refl;
     }) (omega (arith, long, fits))
 
--- the same behind a word that spells a number
+-- the same after a word that spells a number
 pub none_behind_number : {A : Type 0} (asked : List (List ℕ) → Option A) (text : List ℕ) (n : ℕ)
     (mid : List ℕ) (begins : BeginsWithNumber SPACE text n mid)
     → NoLineAsks (λ words. asked (begins.word ∷ words)) mid → NoLineAsks asked text

@@ -18,7 +18,7 @@ pub second_passes : (v w : Bool) → (v && w) ≡ true → w ≡ true
 second_passes true w both = both
 second_passes false w both = absurd (cc)
 
--- behind the first part the text ends, or this byte stands there before the other parts
+-- after the first part the text ends, or this byte stands there before the other parts
 abbrev pub TailHas : ℕ → List ℕ → List (List ℕ) → Type 0
 TailHas byte [] [] = Unit {0}
 TailHas byte [] (part ∷ parts) = ⊥
@@ -72,7 +72,7 @@ parted byte (b ∷ text) = by_test (b == byte) refl (parted byte text)
           behind = rest.behind;
         }
 
--- a text whose first bytes are all of a word is the word and what a slice has behind it
+-- a text whose first bytes are all of a word is the word and what a slice has after it
 pub word_and_rest : (word text : List ℕ) (n : ℕ) → length word ≤ n → take n text ≡ take n word
     → n ≤ length word
     → text ≡ word ++ take (length text - length word) (drop (length word) text)

@@ -31,7 +31,7 @@ mode_of-more : (word : List ℕ) (words : List (List ℕ)) → 0 < length words
 mode_of-more word [] some = absurd (omega arith)
 mode_of-more word (next ∷ words) some = refl
 
--- a mode with a word behind it is no mode
+-- a mode with a word after it is no mode
 pub mode_of-long : (word : List ℕ) (rest : Option (Bor (List ℕ))) → is_some rest ≡ true
     → mode_of (word ∷ words_behind rest) ≡ None
 mode_of-long word None some = cc
@@ -74,7 +74,7 @@ writes_of writer bytes word n is small read =
     let within : number_within 0 63 writer ≡ Some n = grind (arith, nat_tests) in
     rw (within, read) refl
 
--- a dash is the bytes of a line that ends behind it
+-- a dash is the bytes of a line that ends after it
 pub dash_line : (text rest : List ℕ) → text ≡ codes "-" ++ LINE_FEED ∷ rest
     → BeginsWithLine text (codes "-" ∷ []) rest
 dash_line text rest split =
@@ -144,7 +144,7 @@ pub op_answered : (s : PipeState) (line : List ℕ) (words : List (List ℕ)) (o
     → pipe_language.answer_to s line ≡ Some (answered s op)
 op_answered s line words op is asks = rw (is, asks) refl
 
--- a read whose number is none is no read, nor is one with a word behind it
+-- a read whose number is none is no read, nor is one with a word after it
 pub read_of-wrong : (word : List ℕ) → number_of word ≡ None → read_of (word ∷ []) ≡ None
 read_of-wrong word none = rw none refl
 

@@ -60,7 +60,7 @@ closing_line_last {S} language input none =
     any_state : Stays language (λ _. Unit {0})
     any_state = record { opened = λ line s is. tt; answered = λ s line answered any is. tt }
 
--- the law: and not behind a fault
+-- the law: and not after a fault
 pub fault_has_no_closing_line : {S : Type 0} (language : Language S)
     → FaultHasNoClosingLine language
 fault_has_no_closing_line language input n fault =
@@ -147,7 +147,7 @@ leaves language input n fault =
 before : (n k : ℕ) → n ≡ suc k → k ≡ n - 1
 before n k is = omega arith
 
--- the law: the line at fault is one of the script, or behind its last
+-- the law: the line at fault is one of the script, or after its last
 pub fault_in_script : {S : Type 0} (language : Language S) → FaultIsInScript language
 fault_in_script language input n fault =
     let here = leaves language input n fault in

@@ -97,7 +97,7 @@ told-refused {S} language is_cut s number line lines is =
     (λ (answered : Answered S). answer_then answered.text
     (told_from language is_cut (stage answered.after (number + 1)) lines)) a (fault_at number)) is
 
--- an answer is held back behind the others
+-- an answer is held back after the others
 pub goes_answered : {T S : Type 0} (stands : T → S → Type 0) (language : Language S)
     (too_long : Bool) (cut : List ℕ) (said : Transcript) (old now : Option (List ℕ)) (t t' : T)
     (number : ℕ) (held rest held' rest' : List ℕ)
@@ -188,7 +188,7 @@ no_lines-cut rest cut none is =
 some_left : (x : ℕ) (r : List ℕ) → nat_lt 0 (length (x ∷ r)) ≡ true
 some_left x r = grind (arith, nat_tests)
 
--- what comes behind the lines: a fault where bytes are left or the script is too long, and else the
+-- what comes after the lines: a fault where bytes are left or the script is too long, and else the
 -- closing line
 pub goes_end : {T S : Type 0} (stands : T → S → Type 0) (language : Language S) (too_long : Bool)
     (cut : List ℕ) (said : Transcript) (old now : Option (List ℕ)) (t t' : T) (number : ℕ)

@@ -17,7 +17,7 @@ said_with {S} language is_cut n rest answer =
     (λ (answered : Answered S). answer_then answered.text
     (told_from language is_cut (stage answered.after (n + 1)) rest)) answer (fault_at n)
 
--- what lines say behind a first line that opens this
+-- what lines say after a first line that opens this
 abbrev said_from : {S : Type 0} → Language S → Bool → List (List ℕ) → Option S → Transcript
 said_from language is_cut rest opened =
     option_map_or (λ s. told_from language is_cut (stage s 2) rest) opened (fault_at 1)
@@ -32,7 +32,7 @@ no_answer : (is_cut : Bool) (n : ℕ)
 no_answer true n = refl
 no_answer false n = refl
 
--- behind the same answer the text goes on
+-- after the same answer the text goes on
 grows_behind : (text old new : List ℕ) → Grows old new → Grows (text ++ 10 ∷ old) (text ++ 10 ∷ new)
 grows_behind text old new (more, is) =
     (more, ap (λ t. text ++ 10 ∷ t) is ∙ sym (append_assoc text (10 ∷ old) more))
@@ -164,7 +164,7 @@ at_fault : {S : Type 0} (language : Language S) (P : S → Type 0) (n : ℕ)
     → EndsInClosingLine language P (fault_at n) (fault_at n)
 at_fault language P n = (λ none. cc, λ m is. refl)
 
--- behind an answer a closing line stays last
+-- after an answer a closing line stays last
 closing_line_behind : {S : Type 0} (language : Language S) (P : S → Type 0) (text : List ℕ)
     (told answers : Transcript)
     → EndsInClosingLine language P told answers
@@ -229,7 +229,7 @@ closing_line_of_lines {S} language P stays is_cut (line ∷ lines) =
         closing_line_of_rest language P stays is_cut s
         (stays.opened line s (fits language.opened_by line s is)) 2 lines
 
--- these lines are at fault in the line behind the first k: these have no fault, and their answers
+-- these lines are at fault in the line after the first k: these have no fault, and their answers
 -- are written
 pub record Leaves {S : Type 0} (language : Language S) (s : S) (n : ℕ) (lines : List (List ℕ))
     (told : Transcript) (m : ℕ) : Type 0 where

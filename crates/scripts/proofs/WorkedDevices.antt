@@ -14,7 +14,7 @@ more_than_asked : TakesUpTo 2 None None (1 ∷ 2 ∷ 3 ∷ []) → ⊥
 more_than_asked takes = let within : 3 ≤ 2 = takes.within in omega (arith, within)
 
 module _ (says : List ℕ → Transcript) (result : Result (Unit {0}) Fault) where
-  -- it reads on behind what tells that a script is too long
+  -- it reads on after what tells that a script is too long
   reads_on : (unread : List ℕ) → MAX_SCRIPT + 1 < length unread
       → Runs says
       (record { unread = Some unread; left = Some []; held = None; written = None }) result → ⊥

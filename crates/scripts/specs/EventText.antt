@@ -18,7 +18,7 @@ kind_text Alarm = codes "alarm"
 kind_text ClosedPipe = codes "closed"
 kind_text Expired = codes "expired"
 
--- a kind behind those before it, with a comma between
+-- a kind after those before it, with a comma between
 abbrev pub behind_comma : List ℕ → List ℕ → List ℕ
 behind_comma [] kind = kind
 behind_comma (b ∷ bs) kind = (b ∷ bs) ++ COMMA ∷ kind

@@ -123,7 +123,7 @@ pub record TooLarge (text : List ℕ) : Type 0 where
   pub digits : list_all is_ascii_digit (take count text) ≡ true
   pub large : 2 ^ 64 ≤ decimal_value (take count text)
 
--- the first part of a list spells this number, and this follows the comma behind it
+-- the first part of a list spells this number, and this follows the comma after it
 pub record FirstNumber (list : List ℕ) (number : ℕ) (rest : Option (Bor (List ℕ))) : Type 0 where
   pub word : List ℕ
   pub parts : parts_of is_comma list ≡ word ∷ parts_behind is_comma rest

@@ -33,7 +33,7 @@ op_word verb.Write = codes "write"
 op_word verb.Read = codes "read"
 op_word verb.Hangup = codes "hangup"
 
--- the byte behind it
+-- the byte after it
 abbrev pub op_end : OpVerb → ℕ
 op_end verb.Write = SPACE
 op_end verb.Read = SPACE

@@ -64,7 +64,7 @@ note_named word =
     else if is_word word (codes "expired") then Some Expired
     else None
 
--- this word is the first part of the list, and this follows the comma behind it
+-- this word is the first part of the list, and this follows the comma after it
 abbrev pub IsFirst : List ℕ → List ℕ → Option (Bor (List ℕ)) → Type 0
 IsFirst word list None = list ≡ word
 IsFirst word list (Some rest) = list ≡ word ++ COMMA ∷ rest.now

@@ -46,7 +46,7 @@ abbrev pub stage : {S : Type 0} → S → ℕ → Stage S
 stage state number = record { state = state; number = number }
 
 -- what these lines say, from where a script has come to. Behind them the script ends, or a line
--- that is cut or stands too far behind.
+-- that is cut or stands too far on.
 abbrev pub told_from : {S : Type 0} → Language S → Bool → Stage S → List (List ℕ) → Transcript
 told_from {S} language is_cut here [] =
     if is_cut
@@ -86,7 +86,7 @@ Opens stands (Some s) (Some t) = stands t s
 Opens stands None (Some t) = ⊥
 Opens stands (Some s) None = ⊥
 
--- a text behind which something may be written: as it was before, and as it is after
+-- a text after which something may be written: as it was before, and as it is after
 pub record Growth : Type 0 where
   pub before : List ℕ
   pub after : List ℕ
@@ -106,7 +106,7 @@ abbrev pub following : {S : Type 0} → Language S → S → (S → Type 0) → 
 following language from StandsFor =
     record { language = language; from = from; StandsFor = StandsFor }
 
--- The text begins with a line that was answered behind what was written before, and goes on with
+-- The text begins with a line that was answered after what was written before, and goes on with
 -- the rest.
 pub record FirstAnswered {S : Type 0} (follows : Following S) (text rest : List ℕ)
     (output : Growth) : Type 0 where

@@ -52,7 +52,7 @@ OutputIsFinal {S} language =
     (more : List ℕ) ×
     ((told language (front ++ rest)).output ≡ (told language front).output ++ more)
 
--- and in any language the front of a script without a fault, cut behind a line, has none
+-- and in any language the front of a script without a fault, cut after a line, has none
 abbrev pub FrontHasNoFault : {S : Type 0} → Language S → Type 0
 FrontHasNoFault language =
     (front rest : List ℕ) → cut_line_of front ≡ [] → 0 < length front →
@@ -76,7 +76,7 @@ FaultHasNoClosingLine language =
     (input : List ℕ) (n : ℕ) → (told language input).fault ≡ Some n →
     (told language input).output ≡ answers_of language input
 
--- the line at fault is a whole line, or comes right behind the last
+-- the line at fault is a whole line, or comes right after the last
 abbrev pub FaultIsInScript : {S : Type 0} → Language S → Type 0
 FaultIsInScript language =
     (input : List ℕ) (n : ℕ) → (told language input).fault ≡ Some n →

@@ -55,7 +55,7 @@ fn room_of(alloc: Global) -> Result<Vec<u8>, AllocError>
     Vec::from_elem(alloc, 0, CHUNK)
 }
 
-/// Puts bytes behind others, in parts that the C library copies by vectors.
+/// Puts bytes after others, in parts that the C library copies by vectors.
 fn append(bytes: &mut Vec<u8>, more: &[u8]) -> Result<(), AllocError>
     ensures { OnOk result (bytes.new.items ≡ bytes.old.items ++ more.now) }
 {

@@ -27,7 +27,7 @@ static VALUES: [u16; 256] = [
 
 /// Puts the bytes of these digits into the room; false where one is no digit. The crate `hex`
 /// branches on the class of each digit, which is guessed wrong one time in three; a table has no
-/// branch, and a digit that is none is found behind the loop, by the bits of all sums. As a
+/// branch, and a digit that is none is found after the loop, by the bits of all sums. As a
 /// function of its own the loop has the registers to itself.
 #[inline(never)]
 pub fn decode(digits: &[u8], room: &mut [u8]) -> bool

@@ -49,7 +49,7 @@ fn parse_pids(word: &[u8]) -> Option<PidList<'_>>
     Some(PidList { first, others })
 }
 
-/// Whether the processes that are written behind this one rise above it.
+/// Whether the processes that are written after this one rise above it.
 fn rise(first: u64, others: Option<&[u8]>) -> bool
     ensures { result ≡ is_some (rising_behind (Some first) (parts_behind is_comma others.entry)) }
 {

@@ -91,7 +91,7 @@ pub fn next_line(text: &[u8]) -> Option<(&[u8], &[u8])>
     }
 }
 
-/// The first word, and what follows the space behind it; `None` follows the last word.
+/// The first word, and what follows the space after it; `None` follows the last word.
 pub fn next_word(text: &[u8]) -> (&[u8], Option<&[u8]>)
     ensures { words_of text.now ≡ result.0.now ∷ words_behind result.1 }
 {
@@ -158,7 +158,7 @@ pub fn number_before(end: u8, text: &[u8]) -> Option<(u64, &[u8])>
     Some((n, ended(end, text, n, count)?))
 }
 
-/// What follows the byte behind all digits that a text begins with, which are so many and spell
+/// What follows the byte after all digits that a text begins with, which are so many and spell
 /// this number, where it is this byte.
 #[inline(always)]
 fn ended(end: u8, text: &[u8], number: u64, count: usize) -> Option<&[u8]>
@@ -192,7 +192,7 @@ fn digit_value(byte: u8) -> Option<u64>
     Some(value)
 }
 
-/// The number that the first part of a list spells, and what follows the comma behind that part;
+/// The number that the first part of a list spells, and what follows the comma after that part;
 /// nothing where that part spells no number.
 #[inline(always)]
 pub fn next_number(list: &[u8]) -> Option<(u64, Option<&[u8]>)>
@@ -215,7 +215,7 @@ pub fn next_number(list: &[u8]) -> Option<(u64, Option<&[u8]>)>
     Some((n, Some(rest)))
 }
 
-/// The byte behind so many, and what follows it.
+/// The byte after so many, and what follows it.
 #[inline(always)]
 pub fn byte_behind(count: usize, text: &[u8]) -> (u8, &[u8])
     requires { count < length text.now }

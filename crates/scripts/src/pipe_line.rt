@@ -89,7 +89,7 @@ pub enum OpVerb {
     Hangup,
 }
 
-/// The verb that a text begins with, and what follows the byte behind it.
+/// The verb that a text begins with, and what follows the byte after it.
 #[inline(always)]
 fn verb_at(text: &[u8]) -> Option<(OpVerb, &[u8])>
     ensures { MatchOption result

@@ -48,7 +48,7 @@ pub trait Script: Drop + Sized {
             (growth output.old.items output.new.items)) }
         ensures shorter { IfOk result (λ rest. IsShorter rest text.now) };
 
-    /// Writes the closing line, which comes behind the answer to the last line.
+    /// Writes the closing line, which comes after the answer to the last line.
     fn push_closing_line(&self, output: &mut Vec<u8>) -> Result<(), AllocError>
         ensures { (s : State) → stands_for self.now s →
             OnOk result (output.new.items ≡ output.old.items ++ language.closing_line s) };
@@ -58,7 +58,7 @@ pub trait Script: Drop + Sized {
 /// their memory is taken once.
 const PIECE: usize = 65_536;
 
-/// Room for a piece and the longest answer behind it, which gives 65,536 bytes in digits. A read of
+/// Room for a piece and the longest answer after it, which gives 65,536 bytes in digits. A read of
 /// a stream and the answers to a long line `notepg` may take more, and then the room grows.
 const ROOM: usize = PIECE + 131_077;
 
@@ -88,7 +88,7 @@ pub fn tell<S: Script, W: Write>(
     answer_lines(alloc, script, rest, is_too_long, writer)
 }
 
-/// Answers the lines behind the first, writes the answers piece by piece, and gives the number of
+/// Answers the lines after the first, writes the answers piece by piece, and gives the number of
 /// the line at fault. As a function of its own the loop has the registers to itself.
 #[inline(never)]
 fn answer_lines<S: Script, W: Write>(
@@ -120,7 +120,7 @@ fn answer_lines<S: Script, W: Write>(
     Ok(faulty_line)
 }
 
-/// Ends a script behind the last line that could be answered: the next one is at fault where bytes
+/// Ends a script after the last line that could be answered: the next one is at fault where bytes
 /// are left or the script is too long, and otherwise the closing line is written.
 fn end<S: Script>(
     script: &S,

@@ -28,7 +28,7 @@ use Rattle.sleep_wakeup.specs.Kernel.{Running}
 use Rattle.waiting.specs.Waiting.{Point, point}
 use Rattle.semaphore.proofs.AskLemmas.{is_told}
 
--- a seat that made a request under its own number has that request behind those that it had made
+-- a seat that made a request under its own number has that request after those that it had made
 has_made : (number : ℕ) (mine : List SemaEntry) (call : SemaCall) (answer : SemaReply)
     → map (share_after server (record { by = number; request = call; reply = answer }))
     (record { number = number; mine = mine } ∷ [])
@@ -74,7 +74,7 @@ asks_release sema count answer (Some told) old new at seat history none = absurd
 asks_release sema count answer None old new at seat history applied =
     finds sema (Release count) answer old new refl refl at seat history applied
 
--- what a seat had seen before a request is a past of what it has seen behind it
+-- what a seat had seen before a request is a past of what it has seen after it
 pub asks_later : (sema : Sema) (waits : Bool) (call : SemaCall) (answer : SemaReply)
     (before after : SemaSeat) → Asks sema waits call answer before after
     → IsPast (seen_of before.seat) (seen_of after.seat)
@@ -93,7 +93,7 @@ pub record HasNamed (sema : Sema) (next : Option Grant) (before after : Point Se
   where
     -- those that it has woken, the newest first
     pub grants : List Grant
-    -- where it stood behind the last of these
+    -- where it stood after the last of these
     pub last : Point SemaSeat
     -- it did nothing else up to there
     pub woken : WakesNamed sema grants before last

@@ -84,13 +84,13 @@ before_in next prev from [] end seat linked is = cc
 before_in next prev from (x ∷ xs) end seat linked is =
     grind (arith, nat_tests, linked.1.0, before_in next prev x xs end seat linked.1.1)
 
--- behind its start is its end or a seat of it
+-- after its start is its end or a seat of it
 first_in : (next prev : List ℕ) (from : ℕ) (xs : List ℕ) (end : ℕ) →
     IsLinked next prev from xs end → stands_in (end ∷ xs) (slice_index next from) ≡ true
 first_in next prev from [] end linked = grind (arith, nat_tests, linked.0)
 first_in next prev from (x ∷ xs) end linked = grind (arith, nat_tests, linked.0)
 
--- and so it is behind a seat of it
+-- and so it is after a seat of it
 behind_in : (next prev : List ℕ) (from : ℕ) (xs : List ℕ) (end seat : ℕ) →
     IsLinked next prev from xs end → stands_in xs seat ≡ true →
     stands_in (end ∷ xs) (slice_index next seat) ≡ true
@@ -125,7 +125,7 @@ kept_linked next prev from (x ∷ xs) end i v j u start no_i no_j last linked = 
   ),
 )
 
--- behind a place the line goes on with what stood behind a seat that is left out
+-- after a place the line goes on with what stood after a seat that is left out
 past_first : (next prev : List ℕ) (seats from seat : ℕ) (xs : List ℕ) (end before behind : ℕ) →
     before ≡ from → behind ≡ slice_index next seat → from < length next → end < length prev →
     seats ≤ end → AreSeats seats xs → stands_in xs from ≡ false → IsLinked next prev seat xs end →
@@ -144,7 +144,7 @@ past_first next prev seats from seat (x ∷ xs) end before behind is_before is_b
       ),
     )
 
--- where the places before and behind a seat are linked to each other, they link the line without it
+-- where the places before and after a seat are linked to each other, they link the line without it
 linked_without : (next prev : List ℕ) (seats from : ℕ) (xs : List ℕ) (end seat before behind : ℕ) →
     before ≡ slice_index prev seat → behind ≡ slice_index next seat → from < length next →
     seats < length next → end < length prev → seats ≤ end → AreSeats seats xs →
@@ -247,14 +247,14 @@ module _ (next prev : List ℕ) (stands : List Bool) (count : ℕ) (order : List
   place_fits place is =
       grind (arith, nat_tests, stands_below (length stands) order place ring.seats)
 
-  -- before and behind a seat in line is a place of the ring
+  -- before and after a seat in line is a place of the ring
   pub before_fits : (seat before : ℕ) → seat < length stands → before ≡ get_or prev seat before →
       stands_in order seat ≡ true → before < length next
   before_fits seat before within is there =
       let fits = place_fits _ (before_in next prev _ order _ seat ring.linked there) in
       grind (arith, ring.next_size, ring.prev_size, get_or_default_zero prev seat before)
 
-  -- and so it is behind one
+  -- and so it is after one
   pub behind_fits : (seat behind : ℕ) → seat < length stands → behind ≡ get_or next seat behind →
       stands_in order seat ≡ true → behind < length prev
   behind_fits seat behind within is there =
@@ -268,7 +268,7 @@ module _ (next prev : List ℕ) (stands : List Bool) (count : ℕ) (order : List
       let fits = place_fits _ (last_in next prev _ order _ ring.linked) in
       grind (arith, ring.next_size, ring.prev_size, get_or_default_zero prev end last)
 
-  -- where somebody stands in line, the place behind the end is a seat
+  -- where somebody stands in line, the place after the end is a seat
   pub first_fits : (end first : ℕ) → end ≡ length stands → first ≡ get_or next end first → 0 <
       count → first < length stands
   first_fits end first at_end is some = by order ring.many ring.seats ring.linked
@@ -282,7 +282,7 @@ module _ (next prev : List ℕ) (stands : List Bool) (count : ℕ) (order : List
   no_end : stands_in order (length stands) ≡ false
   no_end = grind (arith, nat_tests, stands_below (length stands) order (length stands) ring.seats)
 
-  -- when a seat links itself in behind the last, the links are a ring of one seat more
+  -- when a seat links itself in after the last, the links are a ring of one seat more
   pub ring_join : (seat last end : ℕ) → end ≡ length stands → seat < length stands → last ≡
       get_or prev end last → stands_in order seat ≡ false →
       IsRing (set (set next last seat) seat end) (set (set prev seat last) end seat)
@@ -316,7 +316,7 @@ module _ (next prev : List ℕ) (stands : List Bool) (count : ℕ) (order : List
         );
       }
 
-  -- when a seat in line links those before and behind it to each other, they are a ring of one seat
+  -- when a seat in line links those before and after it to each other, they are a ring of one seat
   -- less
   pub ring_leave : (seat before behind : ℕ) → seat < length stands → before ≡
       get_or prev seat before → behind ≡ get_or next seat behind → stands_in order seat ≡ true →

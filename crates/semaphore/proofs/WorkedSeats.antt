@@ -81,7 +81,7 @@ the_units_of_a_seat = (refl, refl)
 no_seat_stands_after_the_last : ¬ AreSeats 2 (2 ∷ [])
 no_seat_stands_after_the_last are = let below = are.0 in omega (arith, below)
 
--- the links lead from behind two seats in line to the first, the second, and back
+-- the links lead from after two seats in line to the first, the second, and back
 two_seats_are_linked : IsLinked (1 ∷ 2 ∷ 0 ∷ []) (2 ∷ 0 ∷ 1 ∷ []) 2 (0 ∷ 1 ∷ []) 2
 two_seats_are_linked = (refl, (refl, (refl, (refl, (refl, refl)))))
 

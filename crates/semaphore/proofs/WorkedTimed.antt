@@ -150,7 +150,7 @@ failed_once before at number after fault.DoubleSleep failed =
     record { lies = omega (arith, lies); drains = omega (arith, drains) }
 failed_once before at number after other failed = absurd failed
 
--- a sleep, and a request behind it that is not a first one
+-- a sleep, and a request after it that is not a first one
 adds_one : (by : ℕ) (call : SemaCall) (told : SemaReply) (old new : Point SemaSeat)
     → SleepsOnce old.process new.process → is_first call ≡ 0
     → own new.seat ≡ record { by = by; request = call; reply = told } ∷ own old.seat
@@ -268,7 +268,7 @@ module _ (sema : Sema) (timers : Timers) (moment : ℕ) (before after : TimedPoi
 
   module _ (waits : InTime)
       (in_time : waits.ended.expired ≡ false) where
-    -- without a tick: so many sleeps, with a request behind each, and one before
+    -- without a tick: so many sleeps, with a request after each, and one before
     record HasSlept : Type 0 where
       times : ℕ
       lies : lay_down after.at.process ≡ lay_down before.at.process + times
@@ -310,14 +310,14 @@ module _ (sema : Sema) (timers : Timers) (moment : ℕ) (before after : TimedPoi
     takes_notes_without_a_sleep : drained after.at.process ≢ drained before.at.process → ⊥
     takes_notes_without_a_sleep other = other has_slept.drains
 
-    -- it lies down again though notes ended its sleep, or its sleep was refused: twice behind one
+    -- it lies down again though notes ended its sleep, or its sleep was refused: twice after one
     -- request
     sleeps_on : lay_down after.at.process ≡ lay_down before.at.process + 2
         → length (own after.at.seat) ≡ length (own before.at.seat) + 2 → ⊥
     sleeps_on twice two =
         let slept = has_slept in omega (arith, twice, two, slept.lies, slept.asks)
 
-    -- it leaves the line, and comes again behind all others
+    -- it leaves the line, and comes again after all others
     comes_again : firsts (own after.at.seat) ≡ firsts (own before.at.seat) + 2 → ⊥
     comes_again two = let slept = has_slept in omega (arith, two, slept.firsts)
 

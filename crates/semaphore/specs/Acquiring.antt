@@ -34,7 +34,7 @@ Begins sema before (reply.Refused fault.Worn) after =
     OnlyAsks sema false (Acquire (number_of before.seat)) told.Worn before after
 Begins sema before (reply.Refused why) after = ⊥
 
--- behind a sleep it asks whether it was granted its unit
+-- after a sleep it asks whether it was granted its unit
 abbrev pub Collects : Sema → Point SemaSeat → Reply Unit → Point SemaSeat → Type 0
 Collects sema before (reply.Done unit) after =
     OnlyAsks sema false (Collect (number_of before.seat)) told.Granted before after

@@ -16,7 +16,7 @@ use Rattle.semaphore.specs.Asking.{Asks, OnlyAsks}
 use Rattle.semaphore.specs.Seats.{rendez_of_seat}
 use Rattle.waiting.specs.Waiting.{Point}
 
--- right behind all that the seat had seen stands its own request whom to wake: no request of
+-- right after all that the seat had seen stands its own request whom to wake: no request of
 -- another seat came between
 pub record AsksNext (before after : SemaSeat) : Type 0 where
   pub told : SemaReply

@@ -19,7 +19,7 @@ use Rattle.semaphore.specs.SemaHistory.{SemaEntry, taken}
 
 -- ---- semaphores
 
--- whether the seat waits, behind a call of it that was answered so
+-- whether the seat waits, after a call of it that was answered so
 abbrev pub waits_after : SemaCall → SemaReply → Bool → Bool
 waits_after (Acquire seat) (reply.Wait count) before = true
 waits_after (Collect seat) reply.Granted before = false

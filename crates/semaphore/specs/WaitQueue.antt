@@ -26,7 +26,7 @@ abbrev pub first_of : List ℕ → Option ℕ
 first_of [] = None
 first_of (seat ∷ rest) = Some seat
 
--- so many places along the links, from behind this one
+-- so many places along the links, after this one
 abbrev pub walk : List ℕ → ℕ → ℕ → List ℕ
 walk next from zero = []
 walk next from (suc count) = slice_index next from ∷ walk next (slice_index next from) count

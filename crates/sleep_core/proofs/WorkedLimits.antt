@@ -15,7 +15,7 @@ one_rendez_more_is_no_world size = omega (arith, size.1.1)
 one_process_is_enough : ¬ WhyNoWorld 1 0 fault.NoProc
 one_process_is_enough why = why (omega arith, omega arith)
 
--- Rendez are a reason only behind processes in range, and where they are not in range
+-- Rendez are a reason only after processes in range, and where they are not in range
 processes_are_told_first : ¬ WhyNoWorld 0 0 fault.NoRendez
 processes_are_told_first why = omega (arith, why.0.0)
 

@@ -211,11 +211,11 @@ leaves_as_it_was_noted =
 abbrev pub falls_asleep_in : ℕ → ℕ → ℕ → List Effect
 falls_asleep_in pid rendez threshold = Fell pid ∷ Began pid rendez threshold ∷ []
 
--- the wakeup of a Rendez finds nobody, behind this past
+-- the wakeup of a Rendez finds nobody, after this past
 abbrev pub finds_nobody_in : ℕ → ℕ → ℕ → List Effect → List Effect
 finds_nobody_in raiser rendez level past = Missed raiser ∷ Raised raiser rendez level ∷ past
 
--- it takes a process, behind this past
+-- it takes a process, after this past
 abbrev pub takes_in : ℕ → ℕ → ℕ → ℕ → List Effect → List Effect
 takes_in raiser sleeper rendez level past = Took raiser sleeper ∷ Raised raiser rendez level ∷ past
 

@@ -19,7 +19,7 @@ use Rattle.sleep_wakeup.specs.Broken.{after, process, rendez, step, posted, went
 use Rattle.sleep_wakeup.specs.Broken.{raised}
 use Rattle.sleep_wakeup.specs.Calls.{IsOfWait, HasWoken, Sleeps, Ends}
 
--- the first two steps, and those behind them
+-- the first two steps, and those after them
 abbrev pub first_of : Entry → List Entry → Entry
 first_of other [] = other
 first_of other (entry ∷ []) = entry
@@ -32,7 +32,7 @@ second_of other (entry ∷ []) = other
 second_of other (entry ∷ next ∷ []) = entry
 second_of other (entry ∷ next ∷ third ∷ past) = second_of other (next ∷ third ∷ past)
 
--- what stands behind the first two steps of a run
+-- what stands after the first two steps of a run
 abbrev pub behind_two : List Entry → List Entry
 behind_two [] = []
 behind_two (entry ∷ []) = []

@@ -162,7 +162,7 @@ alone start number (suc place) pid (own ∷ numbers) at within none =
     ∙ alone (start + 1) number place pid numbers (omega (arith, at)) (omega (arith, within))
     (λ place. none (suc place))
 
--- a pid behind all that have a number joins them
+-- a pid after all that have a number joins them
 pub joined : (start number place pid : ℕ) (numbers : List ℕ) → pid ≡ start + place → 1 ≤ number
     → place < length numbers → ((later : ℕ) → place ≤ later → get_or numbers later 0 ≡ 0)
     → members_from start number (set numbers place number)

@@ -43,7 +43,7 @@ rfrend_is_no_rosters are = let space : true ≡ false = are.no_space in cc
 an_unknown_bit_is_no_rosters : ¬ AreOfRoster (flags_of 9)
 an_unknown_bit_is_no_rosters are = let known = are.known in omega (arith, known)
 
--- the roster with these groups, and with these behind a child
+-- the roster with these groups, and with these after a child
 abbrev grouped : Unused → List (List ℕ) → Unused
 grouped unused groups = record unused { groups = groups }
 

@@ -6,7 +6,7 @@ use Rattle.sleep_wakeup.specs.declared.kernel.Start.{Start}
 use Rattle.sleep_wakeup.specs.Groups.{first_group}
 use Rattle.sleep_wakeup.specs.Kernel.{Running, Unused}
 
--- the first process, and the pids behind it, of these words; nobody has made a step
+-- the first process, and the pids after it, of these words; nobody has made a step
 pub record IsStartOf (words : Words) (start : Start) : Type 0 where
   pub process : IsProcessOf words start.seat
   pub first : start.seat.pid ≡ 0

@@ -107,7 +107,8 @@ pub fn wakeups_can_be_broken()
         → ¬ (Wakes (after table []) (rendez 0) 1 (after table finds_nobody) (done_at 1 1)) }
 {}
 
-/// Refusals for which there is no reason, and ones that leave a step behind or are of another call.
+/// Refusals for which there is no reason, and ones after which there is a step more or that are of
+/// another call.
 pub fn refusals_can_be_broken()
     ensures sleep_is_worn { (words : Words) (table : TableId)
         → ¬ (WhyNotSlept words (after table []) (rendez 0) 0 (after table []) Worn) }

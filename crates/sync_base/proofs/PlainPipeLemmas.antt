@@ -22,13 +22,13 @@ next_write_kept kept s first shows some is_first =
     ∙ (get_or-drop s.read_whole s.accepted 0 first
     ∙ ap (λ i. get_or s.accepted i first) (omega arith))))
 
--- the position behind a write that is used up
+-- the position after a write that is used up
 pub after_piece_used_up : (s : PipeState) (most : ℕ) (first : Write)
     → length first.bytes - s.offset ≤ most
     → after_piece most s first ≡ record s { read_whole = s.read_whole + 1; offset = 0 }
 after_piece_used_up s most first used_up = grind (arith, nat_tests)
 
--- a write that is used up leaves, and the next read begins behind it
+-- a write that is used up leaves, and the next read begins after it
 pub shows_used_up : (kept : Contents) (s : PipeState) (most : ℕ) (first : Write) → Shows kept s
     → 0 < length kept.unread → first ≡ get_or kept.unread 0 first
     → length first.bytes - kept.offset ≤ most

@@ -21,7 +21,7 @@ take_none n bytes none =
     let size' : length bytes ≡ 0 = ap length none in
     nil_from_length _ (omega (arith, size, size'))
 
--- and nothing behind a place
+-- and nothing after a place
 pub drop_none : (n : ℕ) (bytes : List ℕ) → bytes ≡ [] → drop n bytes ≡ []
 drop_none n bytes none =
     let size = length-drop n bytes in
@@ -42,7 +42,7 @@ take_split (suc n) (x ∷ xs) ys =
     let same : n - length xs ≡ suc n - length (x ∷ xs) = omega arith in
     ap (λ l. x ∷ l) (take_split n xs ys ∙ ap (λ k. take n xs ++ take k ys) same)
 
--- the writes from a place on are the one there and those behind it
+-- the writes from a place on are the one there and those after it
 pub joined_here : (writes : List Write) (at : ℕ) (write : Write) → at < length writes
     → write ≡ get_or writes at write
     → joined (drop at writes) ≡ write.bytes ++ joined (drop (at + 1) writes)
@@ -127,20 +127,20 @@ reach_on : (most offset : ℕ) (write : Write) (writes : List Write) → 0 < mos
     ≡ and_one (reach_of (most - (length write.bytes - offset)) 0 writes)
 reach_on most offset write writes some used_up = grind (arith, nat_tests)
 
--- what is kept behind a read that has no room
+-- what is kept after a read that has no room
 pub keeps_all : (kept : Contents) (most : ℕ) → most ≡ 0
     → kept_behind kept (reach_of most kept.offset kept.unread) ≡ kept
 keeps_all kept most none =
     ap (λ m. kept_behind kept (reach_of m kept.offset kept.unread)) none
     ∙ ap (kept_behind kept) (reach_full kept.offset kept.unread)
 
--- behind a read that finds no write
+-- after a read that finds no write
 pub keeps_none : (kept : Contents) (most : ℕ) → length kept.unread ≡ 0
     → kept_behind kept (reach_of most kept.offset kept.unread) ≡ kept
 keeps_none kept most none =
     ap (λ writes. kept_behind kept (reach_of most kept.offset writes)) (nil_from_length _ none)
 
--- behind a read that ends in the first write
+-- after a read that ends in the first write
 pub keeps_first : (kept : Contents) (most : ℕ) (first : Write) → 0 < most → 0 < length kept.unread
     → first ≡ get_or kept.unread 0 first → most < length first.bytes - kept.offset
     → kept_behind kept (reach_of most kept.offset kept.unread)
@@ -150,7 +150,7 @@ keeps_first kept most first room some is more =
     (reach_first most kept.offset kept.unread first some is
     ∙ reach_in most kept.offset first (drop 1 kept.unread) room more)
 
--- behind a read that goes on behind the first write
+-- after a read that goes on after the first write
 pub keeps_behind : (kept : Contents) (most : ℕ) (first : Write) → 0 < most → 0 < length kept.unread
     → first ≡ get_or kept.unread 0 first → length first.bytes - kept.offset ≤ most
     → kept_behind kept (reach_of most kept.offset kept.unread)
@@ -184,7 +184,7 @@ reach_cases P most offset write writes full inside on =
     pick false some true more = inside (grind (arith, nat_tests)) (grind (arith, nat_tests))
     pick false some false more = on (grind (arith, nat_tests)) (grind (arith, nat_tests))
 
--- the writes behind the first and so many more
+-- the writes after the first and so many more
 pub drop_one_more : (k : ℕ) (write : Write) (writes : List Write)
     → drop k writes ≡ drop (k + 1) (write ∷ writes)
 drop_one_more k write writes =
@@ -263,7 +263,7 @@ reach_passes_all most offset (write ∷ writes) begun more =
     (omega (arith, size, more, at, used_up)) in
     omega (arith, further))
 
--- what is behind the reach is what is behind so many bytes
+-- what is after the reach is what is after so many bytes
 pub reach_loses_nothing : (most offset : ℕ) (writes : List Write)
     → (0 < offset → offset < length (first_bytes writes))
     → drop (reach_of most offset writes).offset
@@ -290,7 +290,7 @@ reach_loses_nothing most offset (write ∷ writes) begun =
     ∙ (ap (λ k. drop k (joined (write ∷ writes))) past
     ∙ sym (drop-drop most offset (joined (write ∷ writes)))))))
   where
-    -- the bytes behind the first write and so many more
+    -- the bytes after the first write and so many more
     behind : (write : Write) (writes : List Write) (k : ℕ)
         → drop k (joined writes) ≡ drop (length write.bytes + k) (joined (write ∷ writes))
     behind write writes k =

@@ -29,7 +29,7 @@ the_buffer_is_full = refl
 the_next_write_is_empty : (after_read 1 begun).read_whole ≡ 1
 the_next_write_is_empty = refl
 
--- an empty write is passed, and bytes are joined; the empty write behind them is not passed
+-- an empty write is passed, and bytes are joined; the empty write after them is not passed
 bytes_are_joined : read_answer 2 begun ≡ Got (98 ∷ 99 ∷ [])
 bytes_are_joined = refl
 
@@ -49,7 +49,7 @@ it_is_not_passed same =
 all_is_passed : after_read 3 begun ≡ record begun { read_whole = 4; offset = 0 }
 all_is_passed = refl
 
--- behind it nothing is there, or the end
+-- after it nothing is there, or the end
 nothing_is_there : read_answer 1 (after_read 3 begun) ≡ Empty
 nothing_is_there = refl
 

@@ -62,7 +62,7 @@ next_write s = slice_get s.accepted s.read_whole
 abbrev pub unread_writes : PipeState → List Write
 unread_writes s = drop s.read_whole s.accepted
 
--- the bytes of these writes, one write behind the other
+-- the bytes of these writes, one write after the other
 abbrev pub joined : List Write → List ℕ
 joined writes = flat_map (λ (write : Write). write.bytes) writes
 
@@ -114,7 +114,7 @@ abbrev pub write_result : PipeState → List ℕ → Result WriteAnswer Fault
 write_result s bytes =
     if nat_lt ATOMIC_SIZE (length bytes) then Err TooBig else Ok (write_answer s)
 
--- a write that is answered so: one that is taken stands behind the others, and nothing else changes
+-- a write that is answered so: one that is taken stands after the others, and nothing else changes
 abbrev pub after_write : PipeState → Write → WriteAnswer → PipeState
 after_write s write Taken = record s { accepted = s.accepted ++ write ∷ [] }
 after_write s write Full = s
@@ -159,14 +159,14 @@ read_answer most s = by_mode s.mode (message_answer most s) (stream_answer most 
 abbrev pub read_result : ℕ → PipeState → Result ReadAnswer Fault
 read_result most s = if most == 0 then Err BadCount else Ok (read_answer most s)
 
--- the position behind the next piece of this write: a write that is used up is read whole
+-- the position after the next piece of this write: a write that is used up is read whole
 abbrev pub after_piece : ℕ → PipeState → Write → PipeState
 after_piece most s write =
     if nat_le (length write.bytes - s.offset) most
     then record s { read_whole = s.read_whole + 1; offset = 0 }
     else record s { offset = s.offset + most }
 
--- the position behind the next piece of the next write, if there is one
+-- the position after the next piece of the next write, if there is one
 abbrev pub after_message : ℕ → PipeState → PipeState
 after_message most s = unwrap_or (option_map (after_piece most s) (next_write s)) s
 

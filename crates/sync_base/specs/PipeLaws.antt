@@ -72,7 +72,7 @@ StreamEndComesBeforeEmpty =
     → MayAnswerStreamRead most s ReadAnswer.End
     → read_answer most s ≡ ReadAnswer.End
 
--- what a read in stream mode leaves unread is just what is behind the bytes that it had room for
+-- what a read in stream mode leaves unread is just what comes after the bytes that it had room for
 abbrev pub StreamReadsLoseNothing : Type 0
 StreamReadsLoseNothing =
     (most : ℕ) (s : PipeState)

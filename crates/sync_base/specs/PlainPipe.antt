@@ -36,7 +36,7 @@ first_bytes (write ∷ writes) = write.bytes
 abbrev pub kept_bytes : Contents → List ℕ
 kept_bytes kept = drop kept.offset (joined kept.unread)
 
--- what is kept behind a read that goes on and comes so far
+-- what is kept after a read that goes on and comes so far
 abbrev pub kept_behind : Contents → Reach → Contents
 kept_behind kept reach =
     record kept { unread = drop reach.whole kept.unread; offset = reach.offset }

@@ -4,7 +4,7 @@ use crate::piece::Piece;
 /// What a write was answered.
 #[derive(Clone, Copy, Debug, PartialEq, Eq)]
 pub enum WriteAnswer {
-    /// It was accepted, and stands behind all that was accepted before.
+    /// It was accepted, and stands after all that was accepted before.
     Taken,
     /// As many writes as the limit allows stand that no read has begun.
     Full,

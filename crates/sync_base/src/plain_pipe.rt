@@ -261,7 +261,7 @@ impl PlainPipe {
         }
     }
 
-    /// Puts the next bytes behind these, as many as there are and at most so many.
+    /// Puts the next bytes after these, as many as there are and at most so many.
     fn join_onto(&self, most: u64, room: &mut Vec<u8>) -> Result<(), AllocError>
         ensures joined { OnOk result
             (room.new.items ≡ room.old.items ++ take most (kept_bytes self.now)) }
@@ -281,7 +281,7 @@ impl PlainPipe {
         Ok(())
     }
 
-    /// Moves the position behind the next piece of the next write.
+    /// Moves the position after the next piece of the next write.
     fn pass_piece(&mut self, most: u64)
         ensures { (s : PipeState) → Shows self.old s → Shows self.new (after_message most s) }
     {
@@ -295,7 +295,7 @@ impl PlainPipe {
         self.pass_first();
     }
 
-    /// Moves the position behind the next bytes, of however many writes.
+    /// Moves the position after the next bytes, of however many writes.
     fn pass_bytes(&mut self, most: u64)
         ensures { self.new ≡ kept_behind self.old (reach_of most self.old.offset self.old.unread) }
     {
@@ -359,7 +359,7 @@ fn front_of(bytes: &[u8], most: u64) -> &[u8]
     bytes
 }
 
-/// Puts bytes behind these. No bytes ask for no memory.
+/// Puts bytes after these. No bytes ask for no memory.
 fn append(room: &mut Vec<u8>, bytes: &[u8]) -> Result<(), AllocError>
     ensures behind { OnOk result (room.new.items ≡ room.old.items ++ bytes.now) }
     ensures some { IsErr result → bytes.now ≢ [] }

@@ -57,7 +57,7 @@ entry_of call told = record { by = member_of call; request = call; reply = told 
 -- a request of the member, with what it had seen before and what it has seen since
 pub record Served (space : Space) (member : ℕ) (call : GroupCall) (told : GroupReply)
     (before after : List Entry) : Type 0 where
-  -- it stands behind this past
+  -- it stands after this past
   pub past : List Entry
   -- and is the newest that the member has seen
   pub seen_is : after ≡ entry_of call told ∷ past

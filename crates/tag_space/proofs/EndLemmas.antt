@@ -148,7 +148,7 @@ module _ (space : TagSpace) (offered : Offered) (first : Member) (rest : IsMembe
       -- one call of the member's, with its tag and value
       pub exchange : Exchange (party_of space first) offered (seen_of first) (seen_of now) answer
 
-    -- the call, behind this past
+    -- the call, after this past
     abbrev offer_at : List Entry → Offer
     offer_at past =
         record {

@@ -29,7 +29,7 @@ pub state_is_past : (space : Space) (history : List Entry) →
 state_is_past space [] = refl
 state_is_past space (entry ∷ past) = ap (λ (h : List Entry). entry ∷ h) (state_is_past space past)
 
--- the newest entry of a legal history is right behind its past
+-- the newest entry of a legal history is right after its past
 pub is_right : (space : Space) (past : List Entry) (entry : Entry) →
     IsLegal (rendezvous space) [] (entry ∷ past) → IsRight space past entry
 is_right space past entry legal =

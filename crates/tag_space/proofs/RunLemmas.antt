@@ -99,7 +99,7 @@ module _ (slots moved : List TagEntry) (first count at n : ℕ) (within : first 
       (λ k d more below. same (first - 1 + k) d (omega arith)
       ∙ same_at slots _ _ d (omega arith))
 
-  -- an entry is put in, and those behind its place moved up
+  -- an entry is put in, and those after its place moved up
   pub put_up : (entry : TagEntry) → first + count < length slots → at ≤ count → at + n ≡ count →
       CopiedTo slots moved (first + at) (first + at + 1) n →
       SameBelow slots moved (first + at + 1) → run (slice_set moved (first + at) entry) first
@@ -120,7 +120,7 @@ module _ (slots moved : List TagEntry) (first count at n : ℕ) (within : first 
       (λ k d behind below. same (first + 1 + k) d (omega arith)
       ∙ same_at slots _ _ d (omega arith))
 
-  -- an entry is taken out, and those behind it moved down
+  -- an entry is taken out, and those after it moved down
   pub take_down : at < count → at + 1 + n ≡ count →
       CopiedTo slots moved (first + at + 1) (first + at) n → SameBelow slots moved (first + at) →
       run moved first (count - 1) ≡ remove (run slots first count) at

@@ -9,7 +9,7 @@ module _ (table : List TagEntry) (rising : IsRising table) where
   rises_weakly i j le in_range = grind (arith, rising i j, λ (same : i ≡ j). ap (tag_at table) same)
 
   module _ (tag from left quarter : ℕ) (before : IsNarrowed table tag from left) where
-    -- the first entries have smaller tags if the last of them has, and so on behind them
+    -- the first entries have smaller tags if the last of them has, and so on after them
     narrowed_by : (gone : ℕ) → 4 * quarter ≤ left + 1 → gone ≤ 3 * quarter
         → (0 < gone → tag_at table (from + gone - 1) < tag)
         → (gone < 3 * quarter → tag ≤ tag_at table (from + gone + quarter - 1))

@@ -71,7 +71,7 @@ module _ (space : TagSpace) (offered : Offered) (before after : Point Member)
   gone_without_leaving : ¬ Leaves space before.seat None after.seat
   gone_without_leaving gone = nothing_was_asked _ _ gone
 
--- ---- who asks: a member of the space, which it is behind its request too
+-- ---- who asks: a member of the space, which it is after its request too
 
 module _ (space : TagSpace) (call : GroupCall) (told : GroupReply) (before after : Member) where
   no_member_asks : ¬ IsOneOf space after → ¬ Requests space call told before after

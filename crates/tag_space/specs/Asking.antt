@@ -26,7 +26,7 @@ use Rattle.waiting.specs.Waiting.{Promise, Point, Waited}
 
 -- ---- one request
 
--- a request with its reply stands in the history, behind a past that ends what the member had seen
+-- a request with its reply stands in the history, after a past that ends what the member had seen
 abbrev pub Asks : GroupCall → GroupReply → Account Entry → Account Entry → Type 0
 Asks call told before after =
     AddsEntry server (record { by = member_of call; request = call; reply = told }) before after
@@ -88,7 +88,7 @@ Begins space offered before (reply.Refused fault.Worn) after =
     before after
 Begins space offered before (reply.Refused why) after = ⊥
 
--- behind a sleep it asks whether it was met
+-- after a sleep it asks whether it was met
 abbrev pub Collects : TagSpace → Point Member → Reply ℕ → Point Member → Type 0
 Collects space before (reply.Done given) after =
     OnlyRequests space (Collect (number_of before.seat)) (group.WasMet given) before after

@@ -29,7 +29,7 @@ pub record JoinsParent (flags : Flags) : Type 0 where
   pub child : IsTrue (asks_child flags)
   pub no_space : ¬ IsTrue (asks_space flags)
 
--- a row for a new space was asked for, behind a pid
+-- a row for a new space was asked for, after a pid
 pub record WantsRow (unused : Unused) (flags : Flags) : Type 0 where
   pub known : AreKnown flags
   pub pid : MayHavePid unused flags

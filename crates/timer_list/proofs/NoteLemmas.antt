@@ -30,7 +30,7 @@ use Rattle.waiting.specs.Wakeups.{HasGoneOn}
 
 -- ---- where a process's own step stands in the run
 
--- the step stands in the run, behind just these of its maker
+-- the step stands in the run, after just these of its maker
 record StandsBehind (maker : ℕ) (step : Entry) (older run : List Entry) : Type 0 where
   since : List Entry
   past : List Entry

@@ -1,4 +1,4 @@
--- What a call with a deadline does behind its sleeps are steps more of the same process.
+-- What a call with a deadline does after its sleeps are steps more of the same process.
 use Rattle.std.proofs.Common.{inl, inr, ℕ, zero, suc, Bool, ◌++◌, Some, None}
 use Rattle.std.proofs.Common.{Result}
 use Rattle.histories.specs.History.{IsPast}

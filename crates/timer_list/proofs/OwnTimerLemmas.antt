@@ -146,7 +146,7 @@ record Takes (s : List Timer) (call : TimerCall) (seat deadline : ℕ) : Type 0 
   -- of all timers that were due, this was the first
   pub took : first_due now s ≡ Some (record { deadline = deadline; seat = seat })
 
--- a set timer, behind an Expire
+-- a set timer, after an Expire
 expire_takes : (s : List Timer) (seat deadline now : ℕ) (pid : Pid) (first : Option Due) →
     first_due now s ≡ first → timer_of s seat ≡ Set pid deadline →
     (timer_of (after_first s first) seat ≡ Set pid deadline) ⊎ Takes s (Expire now) seat deadline
@@ -168,7 +168,7 @@ expire_takes s seat deadline now pid (Some due) is set_so = by (same_or_not seat
         })
     by (inr apart) = inl (get_or-set_other s due.seat seat Expired Unset apart ∙ set_so)
 
--- a set timer, behind a call of another seat
+-- a set timer, after a call of another seat
 others_take : (s : List Timer) (seat deadline by : ℕ) (pid : Pid) (call : TimerCall) (answer :
     TimerReply) → IfSome (seat_named call) (λ n. n ≡ by) → by ≢ seat → timer_of s seat ≡
     Set pid deadline → (timer_of (timers_after s call answer) seat ≡ Set pid deadline) ⊎

@@ -163,7 +163,7 @@ a_sleep_that_ends_well_takes_none taken = taken
 -- ---- a note that was told by this tick
 
 module _ (at : Process) where
-  -- process 0, which ticks, behind these steps
+  -- process 0, which ticks, after these steps
   abbrev ticker : List Entry → Process
   ticker trace = record at { pid = 0; trace = trace }
 

@@ -23,7 +23,7 @@ pub record FindsNone (timers : Timers) (now : ℕ) (before after : Point TimerSe
   pub idle : after.process ≡ before.process
 
 module _ (timers : Timers) (kernel now : ℕ) where
-  -- one timer more expired at this moment, and just behind that its process was told
+  -- one timer more expired at this moment, and just after that its process was told
   pub record ExpiresOneMore (Before : Point TimerSeat → Type 0) (pid : Pid)
       (after : Point TimerSeat) : Type 0 where
     pub between : Point TimerSeat

@@ -20,7 +20,7 @@ TimerEntry = Operation TimerCall TimerReply
 abbrev pub timer_meaning : Meaning (List Timer) TimerEntry
 timer_meaning = meaning_of timer_definition
 
--- whether the seat has a timer that was not cancelled, behind a call of it that was answered so
+-- whether the seat has a timer that was not cancelled, after a call of it that was answered so
 abbrev pub sets_after : TimerCall → TimerReply → Bool → Bool
 sets_after (Add seat pid deadline) told.Added before = true
 sets_after (Cancel seat) told.Removed before = false

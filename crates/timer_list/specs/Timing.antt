@@ -118,7 +118,7 @@ module _ {Out : Type 0} (expired : Bool) (others : NoteSet) where
 abbrev pub TimedPoint : Type 0 → Type 0
 TimedPoint Seat = RunPoint TimerSeat Seat
 
--- A call cancelled its timer; behind its sleeps it awaited the note of a tick that had taken the
+-- A call cancelled its timer; after its sleeps it awaited the note of a tick that had taken the
 -- timer, and kept what came.
 pub record EndsInTime {Out : Type 0} (rendez : RendezId) (timers : Timers) (set : TimerSeat)
     (ending : WaitEnd Out) (slept : Process) (answer : Result Out Fault) (timer : TimerSeat)

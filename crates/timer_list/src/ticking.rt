@@ -37,7 +37,7 @@ impl Timers {
     }
 }
 
-// Posts the note of a tick. A process of another kernel is not told.
+// Posts the note of a tick, where the kernel of the caller has a process of this pid.
 fn tell(proc: &mut Proc<'_>, pid: Pid)
     ensures words { proc.new.words ≡ proc.old.words }
     ensures told { IsTrue (nat_lt pid.0 (procs_of proc.old.words)) →

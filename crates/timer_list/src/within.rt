@@ -129,7 +129,7 @@ pub fn wait_within<R: Wait, C: WaitingCall, P: Probe>(
     }
 }
 
-// The rest of a call with a deadline, behind its sleeps: it cancels its timer, awaits the note of a
+// The rest of a call with a deadline, after its sleeps: it cancels its timer, awaits the note of a
 // tick that has taken it, and answers.
 fn end_within<R: Wait, T: Drop>(
     rt: &R,

@@ -79,7 +79,7 @@ abbrev short : ℕ → List Entry
 short number = cleared ∷ passed ∷ posted_in 0 number ∷ []
 
 module _ (table : TableId) where
-  -- behind so many requests and these steps
+  -- after so many requests and these steps
   abbrev at : ℕ → List Entry → Point ℕ
   at requests steps = record { seat = requests; process = after table steps }
 

@@ -25,9 +25,9 @@ point seat proc = record { seat = seat; process = proc.process }
 pub record Promise (Seat Out : Type 0) : Type 1 where
   -- the first
   pub begun : Point Seat → Reply Out → Point Seat → Type 0
-  -- the one behind a sleep that ended well
+  -- the one after a sleep that ended well
   pub asked : Point Seat → Reply Out → Point Seat → Type 0
-  -- the one behind a sleep that failed, at which the process does nothing
+  -- the one after a sleep that failed, at which the process does nothing
   pub left : Seat → Option Out → Seat → Type 0
 
 -- ---- what each answer leaves
@@ -87,7 +87,7 @@ module _ {Seat Out : Type 0} (promise : Promise Seat Out) (rendez : RendezId) wh
     pub failed : FailsAsleep old.at.process rendez old.number after.process why
     pub left : promise.left old.at.seat reply after.seat
 
-  -- one round more, behind which it was told to wait on
+  -- one round more, after which it was told to wait on
   pub record OneMore (Before : WaitPoint Seat → Type 0) (now : WaitPoint Seat) : Type 0 where
     pub between : WaitPoint Seat
     pub rounds : Before between

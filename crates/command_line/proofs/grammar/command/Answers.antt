@@ -1,4 +1,4 @@
--- Each builder's clause, one behind the other.
+-- Each builder's clause, one after the other.
 use Rattle.std.proofs.Common.{◌≡◌, ◌∙◌, rules, ap₂, codes}
 use Rattle.std.proofs.lemmas.Result.{IfOk-weaker}
 use Rattle.clap.specs.Simple.{app_of, shape_of, new_app, on_top, with_subcommand}

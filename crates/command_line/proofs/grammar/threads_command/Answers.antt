@@ -1,4 +1,4 @@
--- Each option's clause, one behind the other.
+-- Each option's clause, one after the other.
 use Rattle.std.proofs.Common.{◌≡◌, ◌∙◌, ◌||◌, rules, ap, ap₂, codes, true, false}
 use Rattle.std.proofs.lemmas.Result.{IfOk-weaker}
 use Rattle.clap.specs.Simple.{App, app_of, new_app, on_top, with_rule}

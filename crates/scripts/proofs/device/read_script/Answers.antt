@@ -1,4 +1,4 @@
--- What was read stands behind what was read before it.
+-- What was read stands after what was read before it.
 use Rattle.std.proofs.Common.{◌≡◌, ◌++◌, List, ℕ, ap, length, take, ◌∙◌, arith}
 use Rattle.scripts.proofs.DeviceLemmas.{consumes_kept, consumes_then, fits_more, front_of_room}
 use Rattle.scripts.proofs.device.read_script.Goals as goal

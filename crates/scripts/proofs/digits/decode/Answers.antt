@@ -1,4 +1,4 @@
--- Where no digit is none, each two of them make the byte that goes behind those before.
+-- Where no digit is none, each two of them make the byte that goes after those before.
 use Rattle.std.proofs.Common.{◌≡◌, ◌+◌, ◌*◌, ◌∙◌, true, false, nat_lt}
 use Rattle.std.proofs.Common.{get_or, length, refl, ap, arith, inl, inr}
 use Rattle.std.proofs.lemmas.Bool.{cases_lt}

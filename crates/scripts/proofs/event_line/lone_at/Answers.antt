@@ -1,4 +1,4 @@
--- The process is the only word behind the verb, or no line asks for its event.
+-- The process is the only word after the verb, or no line asks for its event.
 use Rattle.std.proofs.Common.{[], ◌∷◌}
 use Rattle.scripts.proofs.EventLineLemmas.{no_pid_asked}
 use Rattle.scripts.proofs.OnePassLemmas.{ends_line}

@@ -1,4 +1,4 @@
--- A number and the kinds behind it are the words of a note.
+-- A number and the kinds after it are the words of a note.
 use Rattle.std.proofs.Common.{◌∷◌, refl, sym}
 use Rattle.scripts.specs.Lines.{words_of}
 use Rattle.scripts.specs.Schedule.{note_of}

@@ -1,4 +1,4 @@
--- The first number and those that rise behind it are the list.
+-- The first number and those that rise after it are the list.
 use Rattle.std.proofs.Common.{sym, ◌∙◌}
 use Rattle.scripts.specs.declared.lines.TheConstants.{COMMA}
 use Rattle.scripts.proofs.GroupLemmas.{list_begins_with_none, list_rises}

@@ -1,4 +1,4 @@
--- The list rises where the processes to come rise behind those so far.
+-- The list rises where the processes to come rise after those so far.
 use Rattle.std.proofs.Common.{◌≡◌, Some}
 use Rattle.std.specs.Option.{is_some}
 use Rattle.scripts.specs.Lines.{is_comma, parts_behind}

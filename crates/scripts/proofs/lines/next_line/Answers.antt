@@ -1,4 +1,4 @@
--- Before the first line feed stands the first line and behind it the others; else there is no line.
+-- Before the first line feed stands the first line and after it the others; else there is no line.
 use Rattle.std.proofs.Common.{sym}
 use Rattle.scripts.proofs.LineLemmas.{lines_of-at, cut_line_of-at, lines_of-missing}
 use Rattle.scripts.proofs.LineLemmas.{cut_line_of-missing}

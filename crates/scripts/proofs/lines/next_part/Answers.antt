@@ -1,4 +1,4 @@
--- The parts are the one before the first such byte and those behind it; with none, the whole text.
+-- The parts are the one before the first such byte and those after it; with none, the whole text.
 use Rattle.std.proofs.Common.{sym, ◌==◌}
 use Rattle.scripts.proofs.LineLemmas.{parts_of-at, parts_of-missing}
 use Rattle.scripts.proofs.lines.next_part.Goals as goal

@@ -1,5 +1,5 @@
--- The verb that was found and the words behind it are a line, and ask for this operation; where
--- none was found, or no such words stand behind it, no line asks for one.
+-- The verb that was found and the words after it are a line, and ask for this operation; where
+-- none was found, or no such words stand after it, no line asks for one.
 use Rattle.std.proofs.Common.{codes, refl}
 use Rattle.scripts.specs.PipeScript.{op_of, read_of, write_of}
 use Rattle.scripts.proofs.OnePassLemmas.{IsWord, asks_behind_word, found_by, found_by_ok}

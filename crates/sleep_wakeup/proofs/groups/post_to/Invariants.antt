@@ -1,4 +1,4 @@
--- the notes to those behind are what is left to do
+-- the notes to those after are what is left to do
 use Rattle.std.proofs.Common.{◌≡◌, ◌≤◌, ◌+◌, drop, length}
 use Rattle.sleep_wakeup.specs.Groups.{members_from, notes_each}
 use Rattle.sleep_wakeup.proofs.groups.post_to.Given as goal

@@ -1,4 +1,4 @@
--- those counted so far, and those behind them, are all
+-- those counted so far, and those after them, are all
 use Rattle.std.proofs.Common.{◌≡◌, ◌≤◌, ◌+◌, drop, length}
 use Rattle.sleep_wakeup.specs.Groups.{members_from}
 use Rattle.sleep_wakeup.proofs.groups.size_of.Given as goal

@@ -1,4 +1,4 @@
--- the entries before have smaller tags, and those behind what is left have none
+-- the entries before have smaller tags, and those after what is left have none
 use Rattle.tag_space.specs.Table.{IsNarrowed}
 use Rattle.tag_space.proofs.table.count_smaller.Given as goal
 

@@ -1,4 +1,4 @@
--- The seat has a number behind its own to hand on, so it splits in two and the rule stays.
+-- The seat has a number after its own to hand on, so it splits in two and the rule stays.
 use Rattle.std.proofs.Common.{arith}
 use Rattle.block_queue.proofs.HandKeeps.{hand_keeps}
 use Rattle.block_queue.proofs.queue.Queue.hand.Goals as goal

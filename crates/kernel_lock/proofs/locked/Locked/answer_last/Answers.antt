@@ -1,4 +1,4 @@
--- The object answered in its slot, so the release is due, and both steps behind the taken lock are
+-- The object answered in its slot, so the release is due, and both steps after the taken lock are
 -- one served request.
 use Rattle.std.proofs.Common.{Some, sym, subst}
 use Rattle.kernel_lock.specs.Steps.{IsDue, HasReleased}

@@ -1,4 +1,4 @@
--- The release keeps the rule, and the seat is outside behind it.
+-- The release keeps the rule, and the seat is outside after it.
 use Rattle.std.proofs.Common.{rules, arith, ◌≡◌, List, Option, Some, None, ap, refl, ◌∙◌}
 use Rattle.kernel_lock.specs.declared.view.Operation.{Operation}
 use Rattle.kernel_lock.specs.declared.view.Stage.TheVariants.{Outside}

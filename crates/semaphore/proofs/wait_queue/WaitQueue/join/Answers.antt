@@ -1,4 +1,4 @@
--- the seat is linked in behind the last, so the links are a ring still, read as the line and the
+-- the seat is linked in after the last, so the links are a ring still, read as the line and the
 -- seat
 use Rattle.std.proofs.Common.{◌∙◌, ◌∷◌, ◌++◌, [], true, ap, arith}
 use Rattle.std.proofs.Math.ListN.{length-set}
@@ -18,7 +18,7 @@ overflow_add-self c =
     let fits = count_fits _ _ _ _ _ c.self.invariant in
     omega arith
 
--- the seat behind the last, and before the end
+-- the seat after the last, and before the end
 pub invariant_of-self : goal.invariant_of-self
 invariant_of-self c =
     let seats = ap (λ (l : Queue). l.seats) c.self.view_is in
@@ -27,7 +27,7 @@ invariant_of-self c =
     (ring_join _ _ _ _ _ c.self.invariant c.args.seat _ c.len-end.result (omega arith) (omega arith)
     c.index-last.ensures (new ∙ c.requires.new))
 
--- the line with the seat behind it
+-- the line with the seat after it
 pub returns : goal.returns
 returns c =
     let seats = ap (λ (l : Queue). l.seats) c.self.view_is in

@@ -1,4 +1,4 @@
--- the entries behind the place move down by one slot, over the one that is taken out
+-- the entries after the place move down by one slot, over the one that is taken out
 use Rattle.std.proofs.Common.{arith}
 use Rattle.tag_space.proofs.RunLemmas.{take_down}
 use Rattle.tag_space.proofs.tag_table.TagTable.remove_downward.Goals as goal
