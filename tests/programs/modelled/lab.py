@@ -70,12 +70,14 @@ class Run:
     """A call under way: its generator, the lines that are kept for it, and what it has visited."""
 
     def __init__(self, call):
-        self.call, self.kept = call, None
+        self.call, self.kept, self.due = call, None, []  # the kept lines of the point at which it stands are due
         self.points, self.posted, self.parked, self.is_stopped, self.answer = [], [], None, False, None
         self.ends, self.moves = [], 0  # what is given back when it has ended, and how many steps it has made
 
     def is_ready(self):
-        return self.answer is None and not self.is_stopped and (self.parked is None or bool(self.parked()))
+        if self.is_stopped:
+            return bool(self.due)
+        return self.answer is None and (self.parked is None or bool(self.parked()))
 
 
 class Actor:
@@ -118,6 +120,22 @@ class Order:
         return self.dice.choice([0, 0, 1, 2, 3, 5, 8, 40])
 
 
+class Extreme:
+    """The first process goes first, or the last; and between two lines all go on as far as they can, or nobody does."""
+
+    def __init__(self, sign, count):
+        self.sign, self.count = sign, count
+
+    def first(self, ready):
+        return max(ready, key=lambda it: self.sign * it.number)
+
+    def steps(self):
+        return self.count
+
+
+EXTREMES = [Extreme(sign, count) for sign in (1, -1) for count in (MOST_STEPS, 0)]
+
+
 class Lab:
     """With no order all go on as far as they can, the first one first."""
 
@@ -151,7 +169,8 @@ class Lab:
             self.run_until(lambda: False)
         else:
             for _ in range(self.order.steps()):
-                self.step()
+                if not self.step():
+                    break
 
     def open(self, words):
         procs, rendez = planned(words[1:]) if words[0] == "plan" else map(int, words[1:])
@@ -224,6 +243,9 @@ class Lab:
 
     def advance(self, actor):
         run = actor.run
+        if run.due:
+            self.serve(run)
+            return
         run.parked, run.moves = None, run.moves + 1
         try:
             what = next(run.call)
@@ -238,7 +260,7 @@ class Lab:
             self.visit(actor, run, what)
 
     def visit(self, actor, run, point):
-        """A probed call stops at a point, and the lines that are kept for it are played at its first visit."""
+        """A probed call stops at its first visit of a point for which lines are kept."""
         is_first = point not in run.points
         run.points.append(point)
         if actor.proc.posted_in() is not None:
@@ -246,10 +268,16 @@ class Lab:
         actor.points, actor.posted = run.points, run.posted
         for kept in run.kept if is_first else []:
             if kept[0] == point:
-                run.is_stopped = True
-                self.raced |= len(self.ready()) > 0
-                kept[2] = self.play_kept(kept[1])
-                run.is_stopped = False
+                run.due.append(kept)
+        run.is_stopped = bool(run.due)
+
+    def serve(self, run):
+        """Plays the lines of the point at which a call stands, and lets it go. Other lines may have come before."""
+        due, run.due = run.due, []
+        self.raced |= bool(self.ready())
+        for kept in due:
+            kept[2] = self.play_kept(kept[1])
+        run.is_stopped = False
 
     def play_kept(self, line):
         try:
@@ -297,7 +325,7 @@ class Lab:
         if not actor.run:
             return "no"
         kernel, pid = actor.proc.kernel, actor.proc.pid
-        if self.run_until(lambda: actor.proc.posted_in() is not None and not kernel.marks[pid] and not actor.run.is_stopped):
+        if self.run_until(lambda: actor.proc.posted_in() is not None and not kernel.marks[pid]):
             return "yes"
         return self.after_all_turns("no")
 

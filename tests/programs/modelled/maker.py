@@ -6,7 +6,7 @@ differently where other processes go first is cut off.
 """
 import random
 
-from modelled.lab import ALONE, ALWAYS_PROBED, CALLS, PROBED, Lab, NoAnswer, Order
+from modelled.lab import ALONE, ALWAYS_PROBED, CALLS, EXTREMES, PROBED, Lab, NoAnswer, Order
 from modelled.layer import KINDS, TOP_LEVEL
 from modelled.moves import SLEEPERS, move
 from modelled.opening import ROLES, Opening
@@ -49,8 +49,8 @@ def answers(lines, order=None, waits=False):
 def settled(lines, seed, waits=False, orders=ORDERS):
     """The lines with their answers, up to the first whose answer depends on who goes first."""
     first, raced = answers(lines, None, waits)
-    for order in range(orders if raced else 0):
-        other, _ = answers(lines, Order(f"{seed} {order}"), waits)
+    for order in [*EXTREMES, *(Order(f"{seed} {number}") for number in range(orders))] if raced else []:
+        other, _ = answers(lines[:len(first)], order, waits)
         first = first[:next((at for at, pair in enumerate(first) if other[at:at + 1] != [pair]), len(first))]
     return first
 
