@@ -1,4 +1,4 @@
-//! How a direction is read block by block. A block changes hands, and no byte is copied.
+//! How a direction is read block by block. A block changes hands, and no byte is copied to another.
 ghost use Rattle.std.specs.Prelude.{◌≡◌};
 ghost use Rattle.block_queue.specs.Seats.{key_of};
 ghost use Rattle.pipe_dev.specs.BlockReads.{AsksForBlock};
@@ -32,11 +32,12 @@ impl<'p> ReadEnd<'p> {
     ghost use Rattle.pipe_dev.specs.ReadCalls.{calling};
     ghost use Rattle.pipe_dev.specs.Rendezes.{OwnsRow};
 
-    /// Reads all that is left of the write that was begun, or else the next write, and copies
-    /// nothing: the block becomes the one that was written, so its length is what was read. The
-    /// memory that it had goes to the writers, who fill it again: call with the block of the last
-    /// call. In stream mode too it reads one write, and an empty one as no bytes. Where nothing is
-    /// there yet it waits. Takes no memory.
+    /// Reads all that is left of the write that was begun, or else the next write. No byte is
+    /// copied to another block: this one becomes the block that was written, so its length is what
+    /// was read, and what is left of a begun write moves to its front. The memory that it had goes
+    /// to the writers, who fill it again: call with the block of the last call. In stream mode too
+    /// it reads one write, and an empty one as no bytes. Where nothing is there yet it waits. Takes
+    /// no memory.
     ///
     /// `End` where the direction is hung up and all is read. Refuses, in this order, as `NoRendez`
     /// where the process is of another kernel, which does not own all the Rendez of the direction,

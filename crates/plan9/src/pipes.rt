@@ -149,11 +149,12 @@ impl<'p, 'k> Reader<'p, 'k> {
         self.end.try_read(&mut self.proc, buffer)
     }
 
-    /// Reads all that is left of the write that was begun, or else the next write, and copies
-    /// nothing: the block becomes the one that was written, so its length is what was read. The
-    /// memory that it had goes to the writers, who fill it again: call with the block of the last
-    /// call. In stream mode too it reads one write, and an empty one as no bytes. Where nothing is
-    /// there yet it waits. Takes no memory.
+    /// Reads all that is left of the write that was begun, or else the next write. No byte is
+    /// copied to another block: this one becomes the block that was written, so its length is what
+    /// was read, and what is left of a begun write moves to its front. The memory that it had goes
+    /// to the writers, who fill it again: call with the block of the last call. In stream mode too
+    /// it reads one write, and an empty one as no bytes. Where nothing is there yet it waits. Takes
+    /// no memory.
     ///
     /// `End` where the direction is hung up and all is read. Refuses, in this order, as `NoRendez`
     /// where the process is of another kernel, which does not own all the Rendez of the direction,
