@@ -230,25 +230,34 @@ fn a_guest_forks_by_its_flags(rt: HostRuntime) {
     }
 }
 
+// What comes of a call by the roster of the other kernel, and what is left there.
+fn played_by_another<'k, R: Wait + Abort>(
+    rt: &R,
+    alloc: Global,
+    own: Started<'k>,
+    other: Started<'k>,
+) -> (Came, (u64, u64)) {
+    let Started {
+        mut roster,
+        mut proc,
+    } = own;
+    let mut strange = other;
+    let mut hall = hall_of(rt, alloc, &mut roster, 2);
+    let guest = caller_in(rt, &mut roster, &mut proc, &mut hall);
+    let came = forks(rt, alloc, &mut strange.roster, guest, Flags::from_bits(9));
+    (came, strange.roster.left())
+}
+
 // The roster is of a kernel with fewer Rendez. That is tested before the flags.
 #[test]
 fn a_guest_forks_by_no_roster_of_another_kernel(rt: HostRuntime) {
     let OpenedKernel { kernel, start } = kernel_of(&rt, rt.alloc(), 2, 2);
-    let Started {
-        mut roster,
-        mut proc,
-    } = kernel.start(start);
-    let mut hall = hall_of(&rt, rt.alloc(), &mut roster, 2);
-    let guest = caller_in(&rt, &mut roster, &mut proc, &mut hall);
-    let OpenedKernel { kernel, start } = kernel_of(&rt, rt.alloc(), 2, 1);
-    let mut strange = kernel.start(start);
-    let came = forks(
-        &rt,
-        rt.alloc(),
-        &mut strange.roster,
-        guest,
-        Flags::from_bits(9),
-    );
-    assert_eq!(rt; came, NO_RENDEZ);
-    assert_eq!(rt; strange.roster.left(), (1, 1));
+    let OpenedKernel {
+        kernel: other,
+        start: other_start,
+    } = kernel_of(&rt, rt.alloc(), 2, 1);
+    let own = kernel.start(start);
+    let others = other.start(other_start);
+    let answer = played_by_another(&rt, rt.alloc(), own, others);
+    assert_eq!(rt; answer, (NO_RENDEZ, (1, 1)));
 }
