@@ -2,9 +2,6 @@
 //! It names one crate, `plan9`: a worker has its process, its seat and the semaphore together.
 #![tactic(auto)]
 
-#[cfg(test)]
-mod tests;
-
 use plan9::{Fault, Holder, Kernel, OpenedKernel, Pool, Started};
 use std::alloc::Global;
 use std::io;

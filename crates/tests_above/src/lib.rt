@@ -3,9 +3,9 @@
 //! Read `kernels`, which opens them for all others, and `dice`, the choices of a crowd; `sleepers`,
 //! who sleep and are woken, and `looks` at them; `queues`, `pipes` and `streams`, at queues and
 //! pipes; `partners`, two who meet, `guests`, who meet in a crowd, and `guest_forks`, what rfork
-//! makes of a guest; `acquirers` of units, and `tickers`; `timed`, a crowd at a pipe and one of
-//! sleepers, whose calls have deadlines; `crews`, writers and a reader; and `pages`, the examples
-//! of the manual.
+//! makes of a guest; `acquirers` of units, `turns`, in which several units are taken at once, and
+//! `tickers`; `timed`, a crowd at a pipe and one of sleepers, whose calls have deadlines; `crews`,
+//! writers and a reader; and `pages`, the examples of the manual.
 #![tactic(auto)]
 
 #[cfg(test)]
@@ -38,3 +38,5 @@ mod streams;
 mod tickers;
 #[cfg(test)]
 mod timed;
+#[cfg(test)]
+mod turns;
