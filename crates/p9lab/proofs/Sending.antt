@@ -27,9 +27,8 @@ use Rattle.p9lab.specs.contracts.caller.Caller as Caller
 use Rattle.p9lab.specs.contracts.caller.Means as Means
 use Rattle.p9lab.specs.contracts.caller.Reply as Reply
 use Rattle.p9lab.specs.contracts.caller.Role as Role
-use Rattle.p9lab.proofs.roles.peer.Peer.TheSendSync as peer
-use Rattle.p9lab.specs.contracts.roles.lone.Both as Both
-use Rattle.p9lab.specs.contracts.roles.lone.Lone as Lone
+use Rattle.p9lab.specs.contracts.lone.Both as Both
+use Rattle.p9lab.specs.contracts.lone.Lone as Lone
 
 -- ---- ends that are lent
 
@@ -107,7 +106,6 @@ ruleset role_parts = (
   guest.the_send,
   sharer_field,
   lone_field,
-  peer.the_send,
 )
 
 role_field : IsSend Role.the_field.row

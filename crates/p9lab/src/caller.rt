@@ -1,16 +1,10 @@
 //! A process in its role, and the calls that a line may make of it.
+use crate::lone::{Lone, call_lone};
 use crate::progress::{Progress, Stops, Visitor};
-use crate::roles::guest::call_guest;
-use crate::roles::holder::call_holder;
-use crate::roles::lone::{Lone, call_lone};
-use crate::roles::peer::{Peer, call_peer};
-use crate::roles::plain::call_plain;
-use crate::roles::reader::call_reader;
-use crate::roles::sharer::call_sharer;
-use crate::roles::writer::call_writer;
+use crate::roles::{call_guest, call_holder, call_plain, call_reader, call_sharer, call_writer};
 use plan9::{Guest, Holder, NoProbe, Probe, Proc, Reader, Sharer, Watch, Writer};
-use scene_text::answer::{Answer, Visit};
-use scene_text::line::Call;
+use scene_text::answer::{Answer, NO_CLOCK, NOT_HERE, Visit};
+use scene_text::line::{Call, RoleAt};
 use scene_text::verbs::Verb;
 use std::alloc::Global;
 use std::sync::Wait;
@@ -22,10 +16,10 @@ pub enum Role {
     Reader(Reader<'static, 'static>),
     Writer(Writer<'static, 'static>),
     Holder(Holder<'static, 'static>),
-    Guest(Guest<'static, 'static>),
+    /// None while it rforks.
+    Guest(Option<Guest<'static, 'static>>),
     Sharer(Sharer<'static, 'static, 'static>),
     Lone(Lone),
-    Peer(Option<Peer>),
 }
 
 /// What a process has for its calls: memory, the bytes that it writes or has read, and its seat at
@@ -37,13 +31,13 @@ pub struct Means {
     pub watch: Option<Watch<'static>>,
 }
 
-/// A process, the points that its last probed call has visited, and the number of its object.
+/// A process, the points that its last probed call has visited, and its role as a line names it.
 #[derive(Drop)]
 pub struct Caller {
     pub role: Role,
     pub means: Means,
     pub visits: Vec<Visit>,
-    pub object: u64,
+    pub held: RoleAt,
 }
 
 /// A process behind a call that it made on a thread.
@@ -103,7 +97,6 @@ fn takes_probe(role: &Role, verb: Verb) -> bool {
             verb == Verb::Acquire || verb == Verb::TryAcquire || verb == Verb::AcquireWithin
         }
         Role::Guest(_) => verb == Verb::Rendezvous || verb == Verb::RendezvousWithin,
-        Role::Peer(_) => true,
         Role::Sharer(_) | Role::Lone(_) => false,
     }
 }
@@ -116,14 +109,15 @@ fn make_call<R: Wait, P: Probe>(
     call: Call,
     probe: &mut P,
 ) -> Answer {
-    match role {
+    let answer = match role {
         Role::Plain(proc) => call_plain(rt, proc, means, call, probe),
         Role::Reader(reader) => call_reader(rt, reader, means, call, probe),
         Role::Writer(writer) => call_writer(rt, writer, means, call, probe),
         Role::Holder(holder) => call_holder(rt, holder, means, call, probe),
-        Role::Guest(guest) => call_guest(rt, guest, means, call, probe),
-        Role::Sharer(sharer) => call_sharer(rt, sharer, &mut means.bytes, call),
+        Role::Guest(Some(guest)) => call_guest(rt, guest, means, call, probe),
+        Role::Guest(None) => Some(NOT_HERE),
+        Role::Sharer(sharer) => Some(call_sharer(rt, sharer, &mut means.bytes, call)),
         Role::Lone(lone) => call_lone(rt, lone, means, call),
-        Role::Peer(kept) => call_peer(rt, kept, call, probe),
-    }
+    };
+    answer.unwrap_or(NO_CLOCK)
 }

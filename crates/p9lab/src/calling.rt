@@ -3,7 +3,7 @@ use crate::caller::{Caller, Reply, run};
 use crate::looks::is_posted;
 use crate::progress::{Progress, Stops};
 use crate::scene::{Process, Scene, State, set};
-use plan9::{Fault, Note, NoteSet, Pid, Proc};
+use plan9::{Fault, Note, NoteSet, Proc};
 use scene_text::answer::{Answer, NOT_HERE};
 use scene_text::line::Call;
 use std::sync::Wait;
@@ -108,7 +108,7 @@ pub fn outcome(scene: &mut Scene<'_>, at: usize, until: Until) -> Option<bool> {
     };
     let runs = process.progress.runs();
     match until {
-        Until::Waits if is_posted(process.kernel, &mut scene.statuses, process.pid) => Some(true),
+        Until::Waits if is_posted(process.progress, &mut scene.statuses) => Some(true),
         Until::Waits if runs => None,
         Until::Waits => Some(false),
         _ if !runs => Some(true),
@@ -200,7 +200,7 @@ fn interrupt(zero: &mut Proc<'static>, process: &mut Process) {
         Some(sender) => sender,
         None => zero,
     };
-    let _ = sender.postnote(Pid(process.pid), NoteSet::of(Note::Interrupt));
+    let _ = sender.postnote(process.progress.pid, NoteSet::of(Note::Interrupt));
 }
 
 /// Ends each call that runs still, and lets it go at each point.

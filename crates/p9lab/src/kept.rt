@@ -61,8 +61,8 @@ impl<'t> KeptLines<'t> {
         }
     }
 
-    /// The call of this place, which has started, has those that are kept for the next one. Those of
-    /// an earlier call of the same place are over.
+    /// The call of this place, which has started, has those that are kept for the next one. Those
+    /// of an earlier call of the same place are over.
     pub fn take(&mut self, at: usize) {
         match self.owner {
             None if self.stops.probed => self.owner = Some(at),

@@ -1,11 +1,9 @@
 //! What a line does, up to what it waits for.
 use crate::calling::{Until, start};
+use crate::lone::make_lone;
 use crate::looks::{level_of, look_answer};
-use crate::objects::{
-    index_of, made, make_clock, make_group, make_pipe, make_sema, make_space, share,
-};
-use crate::roles::lone::make_lone;
-use crate::roles::plain::call_at_once;
+use crate::objects::{index_of, make_clock, make_group, make_pipe, make_sema, make_space, share};
+use crate::roles::call_at_once;
 use crate::scene::{Scene, State, caller_at, place_of, set};
 use crate::seating::{fork, fork_holder, note_group, rfork_alone, seat_stranger};
 use plan9::{Fault, Flags, Mode, RendezId};
@@ -38,7 +36,7 @@ pub fn begin<R: Threads + Wait + Copy + Send + 'static>(
         return Some(Step::CallsOff);
     }
     if number == 0 {
-        return Some(Step::Answered(answer(rt, scene, 0, line)?));
+        return Some(answered(answer(rt, scene, 0, line)?));
     }
     let at = place_of(&scene.processes, number)?;
     match verb {
@@ -47,15 +45,28 @@ pub fn begin<R: Threads + Wait + Copy + Send + 'static>(
         _ if line.is_call => Some(begin_call(rt, scene, at, line)),
         Verb::Points => Some(Step::Answered(seen(scene, at, Answer::Points))),
         Verb::Posted => Some(Step::Answered(seen(scene, at, Answer::Posted))),
-        Verb::TakeSeat => Some(Step::Answered(take_seat(rt, scene, at, line.object))),
+        Verb::TakeSeat => Some(answered(take_seat(rt, scene, at, line.call.object))),
         Verb::Fork | Verb::Rfork | Verb::NoteGroup
             if caller_at(&mut scene.processes, at).is_none() => { Some(Step::Answered(NOT_HERE)) }
-        _ => Some(Step::Answered(answer(rt, scene, number, line)?)),
+        _ => Some(answered(answer(rt, scene, number, line)?)),
+    }
+}
+
+// What a line came to that waits for nothing.
+fn answered(came: Result<Answer, Fault>) -> Step {
+    match came {
+        Ok(answer) => Step::Answered(answer),
+        Err(fault) => Step::Answered(Answer::Fault(fault)),
     }
 }
 
 // A line that makes an object or a process, or shows something; and each call of process 0.
-fn answer<R: Wait>(rt: &R, scene: &mut Scene<'_>, number: u64, line: &Line<'_>) -> Option<Answer> {
+fn answer<R: Wait>(
+    rt: &R,
+    scene: &mut Scene<'_>,
+    number: u64,
+    line: &Line<'_>,
+) -> Option<Result<Answer, Fault>> {
     let Call {
         verb,
         first,
@@ -64,36 +75,36 @@ fn answer<R: Wait>(rt: &R, scene: &mut Scene<'_>, number: u64, line: &Line<'_>) 
         notes,
         ..
     } = line.call;
-    match verb {
-        _ if line.is_call => Some(call_at_once(&mut scene.zero, line.call)),
-        Verb::Pipe => Some(made(make_pipe(scene, first, second, Mode::Message))),
-        Verb::Stream => Some(made(make_pipe(scene, first, second, Mode::Stream))),
-        Verb::Lone => Some(made(make_lone(scene, first, Mode::Message))),
-        Verb::LoneStream => Some(made(make_lone(scene, first, Mode::Stream))),
-        Verb::Share => Some(made(share(scene, line.object, first))),
-        Verb::Sema => Some(made(make_sema(scene, count, first))),
-        Verb::Clock => Some(made(make_clock(scene, first))),
-        Verb::Space => Some(made(make_space(scene, first))),
-        Verb::NewGroup => Some(make_group(scene, first)),
-        Verb::Stranger => Some(seat_stranger(rt, scene, first, second, line.role?)),
-        Verb::Fork => match line.role {
-            Some(role) => Some(fork(rt, scene, number, Flags::RFPROC, role)),
-            None => Some(fork_holder(rt, scene, number)),
+    Some(match verb {
+        _ if line.is_call => Ok(call_at_once(&mut scene.zero, line.call)),
+        Verb::Pipe => make_pipe(scene, first, second, Mode::Message),
+        Verb::Stream => make_pipe(scene, first, second, Mode::Stream),
+        Verb::Lone => make_lone(scene, first, Mode::Message),
+        Verb::LoneStream => make_lone(scene, first, Mode::Stream),
+        Verb::Share => share(scene, line.call.object, first),
+        Verb::Sema => make_sema(scene, count, first),
+        Verb::Clock => make_clock(scene, first),
+        Verb::Space => make_space(scene, first),
+        Verb::NewGroup => make_group(scene, first),
+        Verb::Stranger => seat_stranger(rt, scene, first, second, line.call.role?),
+        Verb::Fork => match line.call.role {
+            Some(role) => fork(rt, scene, number, Flags::RFPROC, role),
+            None => fork_holder(rt, scene, number),
         },
-        Verb::Rfork => match line.role {
-            Some(role) => Some(fork(rt, scene, number, line.flags, role)),
-            None => Some(rfork_alone(rt, scene, number, line.flags)),
+        Verb::Rfork => match line.call.role {
+            Some(role) => fork(rt, scene, number, line.call.flags, role),
+            None => rfork_alone(rt, scene, number, line.call.flags),
         },
-        Verb::NoteGroup => Some(note_group(scene, number, first, notes)),
-        Verb::GiveRendez => Some(given(scene.roster.rendez())),
-        Verb::GiveRow => Some(given(scene.roster.row(first))),
-        Verb::PidsLeft => Some(Answer::Number("pids", scene.roster.left().0)),
-        Verb::RendezLeft => Some(Answer::Number("rendez", scene.roster.left().1)),
-        Verb::TickAt => Some(tick(rt, scene, first, line.object)),
-        Verb::Look => Some(look_answer(scene, number)),
-        Verb::Level => level_of(scene, first),
-        _ => None,
-    }
+        Verb::NoteGroup => Ok(note_group(scene, number, first, notes)),
+        Verb::GiveRendez => Ok(given(scene.roster.rendez())),
+        Verb::GiveRow => Ok(given(scene.roster.row(first))),
+        Verb::PidsLeft => Ok(Answer::Number("pids", scene.roster.left().0)),
+        Verb::RendezLeft => Ok(Answer::Number("rendez", scene.roster.left().1)),
+        Verb::TickAt => Ok(tick(rt, scene, first, line.call.object)),
+        Verb::Look => Ok(look_answer(scene, number)),
+        Verb::Level => Ok(level_of(scene, first)?),
+        _ => return None,
+    })
 }
 
 // The Rendez that were given, by the first of them.
@@ -120,20 +131,21 @@ fn seen(scene: &mut Scene<'_>, at: usize, answer: Answer) -> Answer {
 }
 
 // `N clock K`: the process takes a seat at timers.
-fn take_seat<R: Wait>(rt: &R, scene: &mut Scene<'_>, at: usize, object: u64) -> Answer {
+fn take_seat<R: Wait>(
+    rt: &R,
+    scene: &mut Scene<'_>,
+    at: usize,
+    object: u64,
+) -> Result<Answer, Fault> {
     let Some(clock) = scene.objects.clocks.get_mut(index_of(object)) else {
-        return NO_CLOCK;
+        return Ok(NO_CLOCK);
     };
     let Some(caller) = caller_at(&mut scene.processes, at) else {
-        return NOT_HERE;
+        return Ok(NOT_HERE);
     };
-    match clock.split(rt) {
-        Ok(watch) => {
-            set(&mut caller.means.watch, Some(watch));
-            OK
-        }
-        Err(fault) => Answer::Fault(fault),
-    }
+    let watch = clock.split(rt)?;
+    set(&mut caller.means.watch, Some(watch));
+    Ok(OK)
 }
 
 // Starts a call, with the bytes that it writes. It gets the lines that are kept for the next one.

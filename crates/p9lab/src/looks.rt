@@ -1,11 +1,12 @@
 //! What a look at a kernel shows: look(2).
+use crate::progress::Progress;
 use crate::scene::{Scene, place_of};
 use plan9::{Fault, Kernel, ProcStatus, RendezStatus};
 use scene_text::answer::Answer;
 
-/// Whether the process with this pid is posted, and nobody has marked it.
-pub fn is_posted(kernel: &Kernel, statuses: &mut Vec<ProcStatus>, pid: u64) -> bool {
-    match status_of(kernel, statuses, pid) {
+/// Whether a process is posted, and nobody has marked it.
+pub fn is_posted(progress: &Progress, statuses: &mut Vec<ProcStatus>) -> bool {
+    match status_of(progress.kernel, statuses, progress.pid.0) {
         Some(status) => status.posted.is_some() && !status.marked,
         None => false,
     }
@@ -24,7 +25,7 @@ fn status_of(kernel: &Kernel, statuses: &mut Vec<ProcStatus>, pid: u64) -> Optio
 pub fn look_answer(scene: &mut Scene<'_>, number: u64) -> Answer {
     let at = place_of(&scene.processes, number).unwrap_or(usize::MAX);
     let (kernel, pid) = match scene.processes.get(at) {
-        Some(process) => (process.kernel, process.pid),
+        Some(process) => (process.progress.kernel, process.progress.pid.0),
         None => (scene.kernel, number),
     };
     match status_of(kernel, &mut scene.statuses, pid) {

@@ -2,7 +2,7 @@
 ghost use Rattle.std.specs.Prelude.{IfOk};
 ghost use Rattle.plan9.specs.Openings.{IsStartOf};
 
-use crate::roles::lone::LonePipe;
+use crate::lone::LonePipe;
 use crate::scene::{Scene, keep, push, set};
 use plan9::{
     Clock, Ends, Fault, Hall, Kernel, Mode, OpenedPipe, Parts, Pipe, Pool, ReadEnd, Roster, Shared,
@@ -64,17 +64,13 @@ pub fn index_of(object: u64) -> usize {
     (object.max(1) - 1) as usize
 }
 
-/// An object that was made has no answer.
-pub fn made(came: Result<(), Fault>) -> Answer {
-    match came {
-        Ok(()) => Answer::Nothing,
-        Err(fault) => Answer::Fault(fault),
+/// An object that was made, if there was memory for it, has no answer.
+pub fn has_room(pushed: bool) -> Result<Answer, Fault> {
+    if pushed {
+        Ok(Answer::Nothing)
+    } else {
+        Err(Fault::Memory)
     }
-}
-
-/// Whether there was memory, as an answer.
-pub fn has_room(pushed: bool) -> Result<(), Fault> {
-    if pushed { Ok(()) } else { Err(Fault::Memory) }
 }
 
 /// A pipe of this mode.
@@ -94,7 +90,12 @@ pub fn open_pipe(
 }
 
 /// Makes a pipe of this mode, whose ends nobody has yet.
-pub fn make_pipe(scene: &mut Scene<'_>, limit: u64, writers: u64, mode: Mode) -> Result<(), Fault> {
+pub fn make_pipe(
+    scene: &mut Scene<'_>,
+    limit: u64,
+    writers: u64,
+    mode: Mode,
+) -> Result<Answer, Fault> {
     let opened = open_pipe(scene.alloc, &mut scene.roster, limit, writers, mode)?;
     lay_pipe(scene.alloc, &mut scene.objects.directions, opened)
 }
@@ -104,7 +105,7 @@ fn lay_pipe(
     alloc: Global,
     directions: &mut Vec<Direction>,
     opened: OpenedPipe<'static>,
-) -> Result<(), Fault>
+) -> Result<Answer, Fault>
     requires { IsStartOf opened.pipe opened.start }
 {
     let Ends { first, second } = ends_of(alloc, opened)?;
@@ -134,37 +135,36 @@ fn direction_of(read: ReadEnd<'static>, mut writes: Vec<WriteEnd<'static>>) -> D
 }
 
 /// Makes a semaphore, at which nobody has a seat yet.
-pub fn make_sema(scene: &mut Scene<'_>, units: u32, seats: u64) -> Result<(), Fault> {
+pub fn make_sema(scene: &mut Scene<'_>, units: u32, seats: u64) -> Result<Answer, Fault> {
     let opened = Pool::new(scene.alloc, &mut scene.roster, units, seats)?;
     let end = end_of(scene.kernel, &scene.roster);
     lay(scene.alloc, &mut scene.objects.pools, opened, end)
 }
 
 /// Makes a tag space, to which nobody has come yet.
-pub fn make_space(scene: &mut Scene<'_>, members: u64) -> Result<(), Fault> {
+pub fn make_space(scene: &mut Scene<'_>, members: u64) -> Result<Answer, Fault> {
     let opened = Hall::new(scene.alloc, &mut scene.roster, members)?;
+    lay_hall(scene, opened)
+}
+
+/// Keeps a tag space, whose Rendez were given last.
+pub fn lay_hall(scene: &mut Scene<'_>, hall: Hall) -> Result<Answer, Fault> {
     let end = end_of(scene.kernel, &scene.roster);
-    lay(scene.alloc, &mut scene.objects.halls, opened, end)
+    lay(scene.alloc, &mut scene.objects.halls, hall, end)
 }
 
 /// Another space of the size of this one, to which nobody has come yet.
-pub fn make_group(scene: &mut Scene<'_>, object: u64) -> Answer {
-    let opened = match scene.objects.halls.get(index_of(object)) {
-        Some(Some(hall)) => hall.object.new_group(scene.alloc, &mut scene.roster),
-        _ => return Answer::Word("no space"),
+pub fn make_group(scene: &mut Scene<'_>, object: u64) -> Result<Answer, Fault> {
+    let Some(Some(hall)) = scene.objects.halls.get(index_of(object)) else {
+        return Ok(Answer::Word("no space"));
     };
-    match opened {
-        Ok(opened) => {
-            let end = end_of(scene.kernel, &scene.roster);
-            made(lay(scene.alloc, &mut scene.objects.halls, opened, end))
-        }
-        Err(fault) => Answer::Fault(fault),
-    }
+    let opened = hall.object.new_group(scene.alloc, &mut scene.roster)?;
+    lay_hall(scene, opened)
 }
 
 /// Lets so many processes share the read end of a pipe, if nobody has it. Where that is refused the
 /// end is there again.
-pub fn share(scene: &mut Scene<'_>, object: u64, procs: u64) -> Result<(), Fault> {
+pub fn share(scene: &mut Scene<'_>, object: u64, procs: u64) -> Result<Answer, Fault> {
     let place = index_of(object).saturating_mul(2);
     let Some(direction) = scene.objects.directions.get_mut(place) else {
         return Err(Fault::NoProc);
@@ -195,7 +195,7 @@ fn lay<T: Drop>(
     kept: &mut Vec<Option<Fresh<T>>>,
     opened: T,
     end: u64,
-) -> Result<(), Fault> {
+) -> Result<Answer, Fault> {
     let object = Box::new(alloc, opened)?;
     has_room(push(kept, Some(Fresh { object, end })))
 }
@@ -237,7 +237,7 @@ fn is_known<T: Drop>(place: &Option<Fresh<T>>, rendez: u64) -> bool {
 }
 
 /// Makes timers, whose first seat is that of process 0.
-pub fn make_clock(scene: &mut Scene<'_>, seats: u64) -> Result<(), Fault> {
+pub fn make_clock(scene: &mut Scene<'_>, seats: u64) -> Result<Answer, Fault> {
     let clock = keep(scene.alloc, Clock::new(scene.alloc, seats)?)?;
     has_room(push(&mut scene.objects.clocks, clock.first()?))
 }

@@ -1,5 +1,5 @@
 //! How far the call of a process is, as its thread and the player of the scene see it.
-use plan9::{Kernel, Probe, ProcStatus};
+use plan9::{Kernel, Pid, Probe, ProcStatus};
 use scene_text::answer::Visit;
 use std::sync::atomic::Ordering::SeqCst;
 use std::sync::atomic::{AtomicBool, AtomicU64};
@@ -16,8 +16,8 @@ const SEEN: usize = 64;
 pub struct Progress {
     /// For how many turns a call stands at a point. At each turn others may run.
     turns: u64,
-    kernel: &'static Kernel,
-    pid: u64,
+    pub kernel: &'static Kernel,
+    pub pid: Pid,
     runs: AtomicBool,
     /// The point at which the call stands, or 0.
     point: AtomicU64,
@@ -25,7 +25,7 @@ pub struct Progress {
 
 impl Progress {
     /// Of a process that makes no call, for this many turns at a point.
-    pub fn new(turns: u64, kernel: &'static Kernel, pid: u64) -> Progress {
+    pub fn new(turns: u64, kernel: &'static Kernel, pid: Pid) -> Progress {
         Progress {
             turns,
             kernel,
@@ -64,7 +64,7 @@ impl Progress {
     fn is_posted(&self) -> bool {
         let mut procs = [ProcStatus::default(); SEEN];
         let look = self.kernel.look(&mut procs, &mut []);
-        match look.procs.get(self.pid as usize) {
+        match look.procs.get(self.pid.0 as usize) {
             Some(status) => status.posted.is_some(),
             None => false,
         }

@@ -29,8 +29,6 @@ pub enum State {
 #[derive(Drop)]
 pub struct Process {
     pub number: u64,
-    pub kernel: &'static Kernel,
-    pub pid: u64,
     pub sender: Option<Proc<'static>>,
     pub progress: &'static Progress,
     pub state: State,
@@ -165,6 +163,18 @@ fn here_of(processes: &Vec<Process>, number: u64) -> Option<&Caller> {
         State::Here(caller) => Some(caller),
         _ => None,
     }
+}
+
+/// The process with this number, if there is one.
+pub fn process_in(processes: &mut Vec<Process>, number: u64) -> Option<&mut Process> {
+    let at = place_of(processes, number)?;
+    processes.get_mut(at)
+}
+
+/// The process with this number, if it is here.
+pub fn caller_in(processes: &mut Vec<Process>, number: u64) -> Option<&mut Caller> {
+    let at = place_of(processes, number)?;
+    caller_at(processes, at)
 }
 
 /// The process at this place, if it is here.

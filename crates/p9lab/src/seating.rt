@@ -1,20 +1,17 @@
 //! How a process is made and gets its role.
-ghost use Rattle.std.specs.Prelude.{◌≡◌, IfOk};
-ghost use Rattle.tag_space.specs.Spaces.{IsFirstMember};
-
 use crate::caller::{Caller, Means, Role};
-use crate::objects::{Found, Objects, find};
+use crate::lone::lone_at;
+use crate::objects::{Found, Objects, find, lay_hall};
 use crate::progress::Progress;
-use crate::roles::lone::lone_at;
-use crate::roles::peer::{Peer, first_of, fork_peer};
 use crate::scene::{
-    Process, Scene, Setup, State, begin, caller_at, for_good, keep, place_of, push, set,
+    Process, Scene, Setup, State, begin, caller_at, caller_in, for_good, keep, process_in, push,
+    set,
 };
 use plan9::{
-    Fault, Flags, Guest, Holder, Kernel, NoteSet, OpenedSpace, Pid, Proc, ReadEnd, Reader, Refused,
-    Roster, Sharer, TagSpace, Unforked, WriteEnd, Writer, fork_writers,
+    Fault, Flags, ForkedGuest, Guest, Hall, Holder, Kernel, NoteSet, Pid, Proc, ReadEnd, Reader,
+    Refused, Roster, Sharer, Unforked, UnforkedGuest, WriteEnd, Writer, fork_writers,
 };
-use scene_text::answer::{Answer, NOT_HERE, NOT_ITS_CALL, numbered};
+use scene_text::answer::{Answer, NOBODY, NOT_ITS_CALL, numbered};
 use scene_text::line::{RoleAt, RoleName};
 use std::alloc::Global;
 use std::mem;
@@ -23,59 +20,127 @@ use std::sync::Wait;
 // ---- children
 
 /// `N fork`: a child of a holder, which holds as well. Where it is refused no pid is used up.
-pub fn fork_holder<R: Wait>(rt: &R, scene: &mut Scene<'_>, number: u64) -> Answer {
-    let Some(at) = place_of(&scene.processes, number) else {
-        return NOT_HERE;
+pub fn fork_holder<R: Wait>(rt: &R, scene: &mut Scene<'_>, number: u64) -> Result<Answer, Fault> {
+    let Some(caller) = caller_in(&mut scene.processes, number) else {
+        return Ok(NOT_ITS_CALL);
     };
-    let Some(caller) = caller_at(&mut scene.processes, at) else {
-        return NOT_HERE;
-    };
-    let object = caller.object;
+    let held = caller.held;
     let Role::Holder(holder) = &mut caller.role else {
-        return NOT_ITS_CALL;
+        return Ok(NOT_ITS_CALL);
     };
-    match holder.fork(rt, &mut scene.roster) {
-        Ok(child) => {
-            let pid = child.pid();
-            seat_role(scene, pid, Role::Holder(child), object)
-        }
-        Err(why) => Answer::Fault(why.fault),
+    let child = holder.fork(rt, &mut scene.roster)?;
+    let pid = child.pid();
+    seat_role(scene, pid, Role::Holder(child), held)
+}
+
+/// `N rfork FLAGS`: a child of a guest, which is one as well; and else one alone.
+pub fn rfork_alone<R: Wait>(
+    rt: &R,
+    scene: &mut Scene<'_>,
+    number: u64,
+    flags: Flags,
+) -> Result<Answer, Fault> {
+    match take_guest(&mut scene.processes, number) {
+        Some((guest, held)) => rfork_guest(rt, scene, number, guest, held, flags),
+        None => fork(rt, scene, number, flags, role_at(RoleName::Plain, 1)),
     }
 }
 
-/// `N rfork FLAGS`: a child of a peer, which is one as well; and else one alone.
-pub fn rfork_alone<R: Wait>(rt: &R, scene: &mut Scene<'_>, number: u64, flags: Flags) -> Answer {
-    if let Some(answer) = rfork_peer(rt, scene, number, flags) {
-        return answer;
-    }
-    let role = RoleAt {
-        name: RoleName::Plain,
-        object: 1,
-        back: false,
-    };
-    fork(rt, scene, number, flags, role)
-}
-
-// The rfork of the peer with this number; none where it is no peer that is here.
-fn rfork_peer<R: Wait>(rt: &R, scene: &mut Scene<'_>, number: u64, flags: Flags) -> Option<Answer> {
-    let kept = peer_in(&mut scene.processes, number)?;
-    match fork_peer(rt, scene.alloc, &mut scene.roster, kept, flags) {
-        Ok(Some(child)) => {
-            let pid = child.pid();
-            Some(seat_role(scene, pid, Role::Peer(Some(child)), 0))
-        }
-        Ok(None) => Some(Answer::Word("nobody")),
-        Err(fault) => Some(Answer::Fault(fault)),
-    }
-}
-
-// The member of the peer with this number, if it is here.
-fn peer_in(processes: &mut Vec<Process>, number: u64) -> Option<&mut Option<Peer>> {
-    let at = place_of(processes, number)?;
-    match &mut caller_at(processes, at)?.role {
-        Role::Peer(kept) => Some(kept),
+// The guest with this number and its role, if it is here. It has no role until it comes back.
+fn take_guest(
+    processes: &mut Vec<Process>,
+    number: u64,
+) -> Option<(Guest<'static, 'static>, RoleAt)> {
+    let Caller { role, held, .. } = caller_in(processes, number)?;
+    match role {
+        Role::Guest(guest) => Some((guest.take()?, *held)),
         _ => None,
     }
+}
+
+// The rfork of a guest. A new space has the next number.
+fn rfork_guest<R: Wait>(
+    rt: &R,
+    scene: &mut Scene<'_>,
+    number: u64,
+    guest: Guest<'static, 'static>,
+    held: RoleAt,
+    flags: Flags,
+) -> Result<Answer, Fault> {
+    match guest.rfork(scene.alloc, rt, &mut scene.roster, flags) {
+        Ok(ForkedGuest::Alone { guest }) => {
+            come_back(&mut scene.processes, number, held, Role::Guest(Some(guest)));
+            Ok(NOBODY)
+        }
+        Ok(ForkedGuest::Child { guest, child }) => {
+            come_back(&mut scene.processes, number, held, Role::Guest(Some(guest)));
+            let pid = child.pid();
+            seat_role(scene, pid, Role::Guest(Some(child)), held)
+        }
+        Ok(ForkedGuest::Apart { hall, proc, .. }) => move_apart(rt, scene, number, hall, proc),
+        Ok(ForkedGuest::ChildApart { guest, hall, child }) => {
+            come_back(&mut scene.processes, number, held, Role::Guest(Some(guest)));
+            let held = new_space(scene, hall)?;
+            place(rt, scene, child, held)
+        }
+        Err(UnforkedGuest { guest, fault }) => {
+            come_back(&mut scene.processes, number, held, Role::Guest(Some(guest)));
+            Err(fault)
+        }
+    }
+}
+
+// The process with this number has a role again.
+fn come_back(processes: &mut Vec<Process>, number: u64, held: RoleAt, role: Role) {
+    if let Some(caller) = caller_in(processes, number) {
+        set(&mut caller.role, role);
+        caller.held = held;
+    }
+}
+
+// The process with this number is the first guest of a new space. Where it is refused it is gone.
+fn move_apart<R: Wait>(
+    rt: &R,
+    scene: &mut Scene<'_>,
+    number: u64,
+    hall: Hall,
+    proc: Proc<'static>,
+) -> Result<Answer, Fault> {
+    match first_guest(rt, scene, hall, proc) {
+        Ok((role, held)) => {
+            come_back(&mut scene.processes, number, held, role);
+            Ok(NOBODY)
+        }
+        Err(fault) => {
+            if let Some(process) = process_in(&mut scene.processes, number) {
+                set(&mut process.state, State::Gone);
+            }
+            Err(fault)
+        }
+    }
+}
+
+// The role of a process that is the first guest of a new space.
+fn first_guest<R: Wait>(
+    rt: &R,
+    scene: &mut Scene<'_>,
+    hall: Hall,
+    proc: Proc<'static>,
+) -> Result<(Role, RoleAt), Fault> {
+    let held = new_space(scene, hall)?;
+    Ok((role_for(rt, scene, proc, held)?, held))
+}
+
+// A new space has the next number: the role of a guest there.
+fn new_space(scene: &mut Scene<'_>, hall: Hall) -> Result<RoleAt, Fault> {
+    lay_hall(scene, hall)?;
+    Ok(role_at(RoleName::Guest, scene.objects.halls.len() as u64))
+}
+
+// This role at the object with this number.
+fn role_at(name: RoleName, object: u64) -> RoleAt {
+    let back = false;
+    RoleAt { name, object, back }
 }
 
 /// `N fork ROLE ..`, `N rfork FLAGS ROLE ..`: a child of the process with this number, in its role.
@@ -85,28 +150,22 @@ pub fn fork<R: Wait>(
     number: u64,
     flags: Flags,
     role: RoleAt,
-) -> Answer {
+) -> Result<Answer, Fault> {
     // whether a child is asked for, and nothing that the roster refuses
     let makes_one = flags == Flags::RFPROC || is_alone(flags);
     if proc_in(&mut scene.zero, &mut scene.processes, number).is_none() {
-        return NOT_ITS_CALL;
+        return Ok(NOT_ITS_CALL);
     }
     match role.name {
-        RoleName::Sharer if makes_one && has_sharer(scene, role.object) => {
-            fork_sharer(rt, scene, flags, role.object)
+        RoleName::Sharer if makes_one && role_in(&mut scene.processes, role).is_some() => {
+            fork_sharer(rt, scene, flags, role)
         }
         RoleName::Writers if makes_one => fork_each_writer(scene, number, flags, role),
-        _ => match child_of(scene, number, flags) {
-            Ok(Some(proc)) => place(rt, scene, proc, role),
-            Ok(None) => Answer::Word("nobody"),
-            Err(fault) => Answer::Fault(fault),
+        _ => match child_of(scene, number, flags)? {
+            Some(proc) => place(rt, scene, proc, role),
+            None => Ok(NOBODY),
         },
     }
-}
-
-// Whether a child is asked for that is alone in its note group.
-fn is_alone(flags: Flags) -> bool {
-    flags == Flags::RFPROC.join(Flags::RFNOTEG)
 }
 
 // A child of the process with this number, if these flags ask for one.
@@ -119,6 +178,11 @@ fn child_of(
         Some(parent) => scene.roster.rfork(parent, flags),
         None => Err(Fault::NoProc),
     }
+}
+
+// Whether a child is asked for that is alone in its note group.
+fn is_alone(flags: Flags) -> bool {
+    flags == Flags::RFPROC.join(Flags::RFNOTEG)
 }
 
 /// Posts notes to the group of a pid.
@@ -141,8 +205,7 @@ fn proc_in<'a>(
     if number == 0 {
         return Some(zero);
     }
-    let at = place_of(processes, number)?;
-    match &mut caller_at(processes, at)?.role {
+    match &mut caller_in(processes, number)?.role {
         Role::Plain(proc) => Some(proc),
         Role::Reader(reader) => Some(&mut reader.proc),
         Role::Writer(writer) => Some(&mut writer.proc),
@@ -155,25 +218,22 @@ fn proc_in<'a>(
 
 // A child for each write end of a direction that nobody has, the first one's writer first. Where it
 // is refused no pid is used up.
-fn fork_each_writer(scene: &mut Scene<'_>, number: u64, flags: Flags, role: RoleAt) -> Answer {
+fn fork_each_writer(
+    scene: &mut Scene<'_>,
+    number: u64,
+    flags: Flags,
+    role: RoleAt,
+) -> Result<Answer, Fault> {
     let parent = proc_in(&mut scene.zero, &mut scene.processes, number);
     let (Some(parent), Some(direction)) = (parent, scene.objects.direction(role)) else {
-        return Answer::Fault(Fault::NoProc);
+        return Err(Fault::NoProc);
     };
-    match writers_of(
-        scene.alloc,
-        &mut scene.roster,
-        parent,
-        &mut direction.writes,
-    ) {
-        Ok(mut writers) => {
-            if is_alone(flags) {
-                part_each(&mut scene.roster, &mut writers);
-            }
-            seat_each(scene, writers, role.object)
-        }
-        Err(fault) => Answer::Fault(fault),
+    let ends = &mut direction.writes;
+    let mut writers = writers_of(scene.alloc, &mut scene.roster, parent, ends)?;
+    if is_alone(flags) {
+        part_each(&mut scene.roster, &mut writers);
     }
+    seat_each(scene, writers, role)
 }
 
 // Each of them leaves its note group, and is alone in a new one.
@@ -208,11 +268,15 @@ fn writers_of(
 }
 
 // Gives each of these writers its place. The answer is that of the last.
-fn seat_each(scene: &mut Scene<'_>, writers: Vec<Writer<'static, 'static>>, object: u64) -> Answer {
-    let mut last = Answer::Word("nobody");
+fn seat_each(
+    scene: &mut Scene<'_>,
+    writers: Vec<Writer<'static, 'static>>,
+    held: RoleAt,
+) -> Result<Answer, Fault> {
+    let mut last = Ok(NOBODY);
     for writer in writers {
         let pid = writer.proc.pid();
-        last = seat_role(scene, pid, Role::Writer(writer), object);
+        last = seat_role(scene, pid, Role::Writer(writer), held);
     }
     last
 }
@@ -221,128 +285,91 @@ fn seat_each(scene: &mut Scene<'_>, writers: Vec<Writer<'static, 'static>>, obje
 
 // Gives a child its role and its place. A child whose role is refused is gone, and its pid is used
 // up.
-fn place<R: Wait>(rt: &R, scene: &mut Scene<'_>, proc: Proc<'static>, role: RoleAt) -> Answer {
+fn place<R: Wait>(
+    rt: &R,
+    scene: &mut Scene<'_>,
+    proc: Proc<'static>,
+    role: RoleAt,
+) -> Result<Answer, Fault> {
     let pid = proc.pid();
     match role_for(rt, scene, proc, role) {
-        Ok(taken) => seat_role(scene, pid, taken, role.object),
+        Ok(taken) => seat_role(scene, pid, taken, role),
         Err(fault) => {
-            let kernel = scene.kernel;
-            seat(scene, pid.0, kernel, pid, None, State::Gone);
-            Answer::Fault(fault)
+            let progress = Progress::new(scene.turns, scene.kernel, pid);
+            let _ = seat(scene, pid.0, progress, None, State::Gone);
+            Err(fault)
         }
     }
 }
 
 // Gives a process of the scene's kernel its place, in its role.
-fn seat_role(scene: &mut Scene<'_>, pid: Pid, role: Role, object: u64) -> Answer {
-    let kernel = scene.kernel;
-    let state = State::Here(caller_of(scene.alloc, role, object));
-    seat(scene, pid.0, kernel, pid, None, state)
+fn seat_role(scene: &mut Scene<'_>, pid: Pid, role: Role, held: RoleAt) -> Result<Answer, Fault> {
+    let progress = Progress::new(scene.turns, scene.kernel, pid);
+    let state = here(scene.alloc, role, held);
+    seat(scene, pid.0, progress, None, state)
 }
 
 // A process in its role, which has made no call yet.
-fn caller_of(alloc: Global, role: Role, object: u64) -> Caller {
+fn here(alloc: Global, role: Role, held: RoleAt) -> State {
     let means = Means {
         alloc,
         bytes: Vec::new(alloc),
         watch: None,
     };
-    Caller {
+    State::Here(Caller {
         role,
         means,
         visits: Vec::new(alloc),
-        object,
-    }
+        held,
+    })
 }
 
 // Puts a process behind those that are there.
 fn seat(
     scene: &mut Scene<'_>,
     number: u64,
-    kernel: &'static Kernel,
-    pid: Pid,
+    progress: Progress,
     sender: Option<Proc<'static>>,
     state: State,
-) -> Answer {
-    let Ok(progress) = keep(scene.alloc, Progress::new(scene.turns, kernel, pid.0)) else {
-        return Answer::Fault(Fault::Memory);
-    };
+) -> Result<Answer, Fault> {
     let process = Process {
         number,
-        kernel,
-        pid: pid.0,
         sender,
-        progress,
+        progress: keep(scene.alloc, progress)?,
         state,
     };
     if push(&mut scene.processes, process) {
-        Answer::Number("process", number)
+        Ok(Answer::Number("process", number))
     } else {
-        Answer::Fault(Fault::Memory)
+        Err(Fault::Memory)
     }
 }
-
-// ---- strangers
 
 /// The number of the first stranger, which no pid has.
 const STRANGERS: u64 = 1024;
 
-/// A process of a kernel of its own, in its role at an object of this one. One that is refused has
-/// no place, and no number.
+/// A process of a kernel of its own, in its role at an object of this one, and one more process of
+/// that kernel, which sends it notes. Where it is refused it has no place, and no number.
 pub fn seat_stranger<R: Wait>(
     rt: &R,
     scene: &mut Scene<'_>,
     procs: u64,
     rendez: u64,
     role: RoleAt,
-) -> Answer {
-    match open_stranger(rt, scene, procs, rendez, role) {
-        Ok(
-            Stranger {
-                kernel,
-                role: taken,
-                sender,
-            },
-        ) => {
-            let number = STRANGERS.saturating_add(scene.strangers);
-            scene.strangers = scene.strangers.saturating_add(1);
-            let state = State::Here(caller_of(scene.alloc, taken, role.object));
-            seat(scene, number, kernel, Pid(0), sender, state)
-        }
-        Err(fault) => Answer::Fault(fault),
-    }
-}
-
-#[derive(Drop)]
-struct Stranger {
-    kernel: &'static Kernel,
-    role: Role,
-    sender: Option<Proc<'static>>,
-}
-
-// A kernel of this size, its process 0 in its role, and one more process that sends it notes.
-fn open_stranger<R: Wait>(
-    rt: &R,
-    scene: &mut Scene<'_>,
-    procs: u64,
-    rendez: u64,
-    role: RoleAt,
-) -> Result<Stranger, Fault> {
+) -> Result<Answer, Fault> {
+    let made = begin(scene.alloc, Kernel::new(scene.alloc, procs, rendez));
     let Setup {
         kernel,
         mut roster,
         mut zero,
-    } = begin(scene.alloc, Kernel::new(scene.alloc, procs, rendez))?;
+    } = made?;
     let sender = roster.rfork(&mut zero, Flags::RFPROC).unwrap_or(None);
-    let role = match role.name {
-        RoleName::Peer => return Err(Fault::NoProc),
-        _ => role_for(rt, scene, zero, role)?,
-    };
-    Ok(Stranger {
-        kernel,
-        role,
-        sender,
-    })
+    let taken = role_for(rt, scene, zero, role)?;
+    let number = STRANGERS.saturating_add(scene.strangers);
+    scene.strangers = scene.strangers.saturating_add(1);
+    let progress = Progress::new(scene.turns, kernel, Pid(0));
+    let state = here(scene.alloc, taken, role);
+    seat(scene, number, progress, sender, state)
 }
 
 // ---- roles
@@ -365,11 +392,10 @@ fn role_for<R: Wait>(
             Some(end) => Ok(Role::Writer(Writer::new(end, proc))),
             None => Err(Fault::NoProc),
         },
-        RoleName::Holder => Ok(Role::Holder(hold(rt, scene, proc, role.object)?)),
-        RoleName::Guest => Ok(Role::Guest(admit(rt, scene, proc, role.object)?)),
+        RoleName::Holder => Ok(Role::Holder(hold(rt, scene, proc, role)?)),
+        RoleName::Guest => Ok(Role::Guest(Some(admit(rt, scene, proc, role)?))),
         RoleName::Sharer => Ok(Role::Sharer(first_sharer(&mut scene.objects, proc, role.object)?)),
         RoleName::Lone => Ok(Role::Lone(lone_at(&scene.objects.lones, role.object, proc)?)),
-        RoleName::Peer => Ok(Role::Peer(Some(first_peer(scene, proc, role.object)?))),
         RoleName::Writers => Err(Fault::NoProc),
     }
 }
@@ -389,14 +415,14 @@ fn hold<R: Wait>(
     rt: &R,
     scene: &mut Scene<'_>,
     proc: Proc<'static>,
-    object: u64,
+    role: RoleAt,
 ) -> Result<Holder<'static, 'static>, Fault> {
-    match find(&mut scene.objects.pools, object, proc.rendez_count()) {
+    match find(&mut scene.objects.pools, role.object, proc.rendez_count()) {
         Found::Mine(pool) => Ok(for_good(pool).first(proc)?),
         Found::Foreign(pool) => Err(why_not(pool.first(proc))),
-        Found::Nothing => match holder_in(&mut scene.processes, object) {
-            Some(holder) => Ok(holder.join(rt, proc)?),
-            None => Err(Fault::NoProc),
+        Found::Nothing => match role_in(&mut scene.processes, role) {
+            Some(Role::Holder(holder)) => Ok(holder.join(rt, proc)?),
+            _ => Err(Fault::NoProc),
         },
     }
 }
@@ -406,14 +432,14 @@ fn admit<R: Wait>(
     rt: &R,
     scene: &mut Scene<'_>,
     proc: Proc<'static>,
-    object: u64,
+    role: RoleAt,
 ) -> Result<Guest<'static, 'static>, Fault> {
-    match find(&mut scene.objects.halls, object, proc.rendez_count()) {
+    match find(&mut scene.objects.halls, role.object, proc.rendez_count()) {
         Found::Mine(hall) => Ok(for_good(hall).first(proc)?),
         Found::Foreign(hall) => Err(why_not(hall.first(proc))),
-        Found::Nothing => match guest_in(&mut scene.processes, object) {
-            Some(guest) => Ok(guest.join(rt, proc)?),
-            None => Err(Fault::NoProc),
+        Found::Nothing => match role_in(&mut scene.processes, role) {
+            Some(Role::Guest(Some(guest))) => Ok(guest.join(rt, proc)?),
+            _ => Err(Fault::NoProc),
         },
     }
 }
@@ -439,98 +465,33 @@ fn why_not<T: Drop>(first: Result<T, Refused<'_>>) -> Fault {
     }
 }
 
-// A peer that is the first member of a new space of so many.
-fn first_peer(scene: &mut Scene<'_>, proc: Proc<'static>, members: u64) -> Result<Peer, Fault> {
-    let OpenedSpace { space, member } = new_space(scene.alloc, &mut scene.roster, members)?;
-    first_of(scene.alloc, space, members, member, proc)
-}
-
-// A space of so many. Where it finds no memory it is made once more, since the child is there
-// already.
-fn new_space(
-    alloc: Global,
-    roster: &mut Roster<'static>,
-    members: u64,
-) -> Result<OpenedSpace, Fault>
-    ensures member { IfOk result (λ opened. IsFirstMember opened.space opened.member) }
-    ensures procs { IfOk result (λ opened. opened.space.procs ≡ members) }
-{
-    match TagSpace::new(alloc, roster, members) {
-        Err(Fault::Memory) => TagSpace::new(alloc, roster, members),
-        made => made,
-    }
-}
-
-// ---- who is there already
-
-// Whether somebody that is here has turns at this shared end.
-fn has_sharer(scene: &mut Scene<'_>, object: u64) -> bool {
-    sharer_in(&mut scene.processes, object).is_some()
-}
-
 // One more that shares the end, a child of one that does, in its note group.
-fn fork_sharer<R: Wait>(rt: &R, scene: &mut Scene<'_>, flags: Flags, object: u64) -> Answer {
+fn fork_sharer<R: Wait>(
+    rt: &R,
+    scene: &mut Scene<'_>,
+    flags: Flags,
+    held: RoleAt,
+) -> Result<Answer, Fault> {
     if is_alone(flags) {
-        return NOT_ITS_CALL;
+        return Ok(NOT_ITS_CALL);
     }
-    let Some(sharer) = sharer_in(&mut scene.processes, object) else {
-        return Answer::Fault(Fault::NoProc);
+    let Some(Role::Sharer(sharer)) = role_in(&mut scene.processes, held) else {
+        return Err(Fault::NoProc);
     };
-    match sharer.fork(rt, &mut scene.roster) {
-        Ok(child) => {
-            let pid = child.pid();
-            seat_role(scene, pid, Role::Sharer(child), object)
-        }
-        Err(why) => Answer::Fault(why.fault),
-    }
+    let child = sharer.fork(rt, &mut scene.roster)?;
+    let pid = child.pid();
+    seat_role(scene, pid, Role::Sharer(child), held)
 }
 
-// The first holder that is here of this semaphore.
-fn holder_in(processes: &mut Vec<Process>, object: u64) -> Option<&mut Holder<'static, 'static>> {
-    match role_in(processes, RoleName::Holder, object)? {
-        Role::Holder(holder) => Some(holder),
-        _ => None,
-    }
-}
-
-// The first guest that is here of this space.
-fn guest_in(processes: &mut Vec<Process>, object: u64) -> Option<&mut Guest<'static, 'static>> {
-    match role_in(processes, RoleName::Guest, object)? {
-        Role::Guest(guest) => Some(guest),
-        _ => None,
-    }
-}
-
-// The first sharer that is here of this shared end.
-fn sharer_in(
-    processes: &mut Vec<Process>,
-    object: u64,
-) -> Option<&mut Sharer<'static, 'static, 'static>> {
-    match role_in(processes, RoleName::Sharer, object)? {
-        Role::Sharer(sharer) => Some(sharer),
-        _ => None,
-    }
-}
-
-// The first role of this name that is here at the object.
-fn role_in(processes: &mut Vec<Process>, name: RoleName, object: u64) -> Option<&mut Role> {
+// The first that is here in the role of this name, at the object with this number.
+fn role_in(processes: &mut Vec<Process>, held: RoleAt) -> Option<&mut Role> {
     let mut found = None;
     for (at, process) in processes.iter().enumerate() {
-        if let State::Here(caller) = &process.state {
-            if found.is_none() && caller.object == object && has_name(&caller.role, name) {
+        if let State::Here(Caller { held: other, .. }) = &process.state {
+            if found.is_none() && other.name == held.name && other.object == held.object {
                 found = Some(at);
             }
         }
     }
     Some(&mut caller_at(processes, found?)?.role)
-}
-
-// Whether this is the role of that name, among those that several may have.
-fn has_name(role: &Role, name: RoleName) -> bool {
-    match role {
-        Role::Holder(_) => name == RoleName::Holder,
-        Role::Guest(_) => name == RoleName::Guest,
-        Role::Sharer(_) => name == RoleName::Sharer,
-        _ => false,
-    }
 }

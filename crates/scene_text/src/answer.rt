@@ -61,6 +61,9 @@ pub const OK: Answer = Answer::Word("ok");
 /// A process whose last call still runs, or that is gone.
 pub const NOT_HERE: Answer = Answer::Word("not here");
 
+/// A fork that asks for no child.
+pub const NOBODY: Answer = Answer::Word("nobody");
+
 /// A call that the role of a process does not make.
 pub const NOT_ITS_CALL: Answer = Answer::Word("not its call");
 

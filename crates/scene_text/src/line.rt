@@ -12,22 +12,19 @@ pub fn cut(line: &str) -> (&str, Option<&str>) {
     }
 }
 
-/// By when a call with a deadline ends: so many milliseconds from this moment on.
-#[derive(Clone, Copy)]
-pub struct Deadline {
-    pub now: u64,
-    pub ms: u32,
-}
-
-/// A call with its numbers.
+/// A verb with its operands. A call with a deadline ends so many milliseconds from a moment on.
 #[derive(Clone, Copy)]
 pub struct Call {
     pub verb: Verb,
     pub first: u64,
     pub second: u64,
     pub count: u32,
-    pub deadline: Deadline,
+    pub now: u64,
+    pub ms: u32,
     pub notes: NoteSet,
+    pub object: u64,
+    pub flags: Flags,
+    pub role: Option<RoleAt>,
 }
 
 /// A role, as a line names it.
@@ -42,7 +39,6 @@ pub enum RoleName {
     Guest,
     Sharer,
     Lone,
-    Peer,
 }
 
 /// A role at an object, and whether it is at the direction back.
@@ -62,9 +58,6 @@ pub struct Line<'t> {
     pub is_call: bool,
     pub apart: bool,
     pub call: Call,
-    pub object: u64,
-    pub flags: Flags,
-    pub role: Option<RoleAt>,
     /// A word for bytes, or all that stands there.
     pub text: &'t str,
 }
@@ -80,12 +73,7 @@ pub fn line_of(text: &str) -> Option<Line<'_>> {
         first
     };
     let entry = entry_of(process, word)?;
-    let Operands {
-        call,
-        object,
-        flags,
-        role,
-    } = operands_of(entry, &mut words)?;
+    let call = call_of(entry, &mut words)?;
     let is_call = entry.speaker == Speaker::Caller || entry.speaker == Speaker::EachCaller;
     let (text, apart) = match entry.operands.last() {
         Some(Operand::Rest) => (behind(text, entry.operands.len()), false),
@@ -100,74 +88,57 @@ pub fn line_of(text: &str) -> Option<Line<'_>> {
         is_call,
         apart,
         call,
-        object,
-        flags,
-        role,
         text,
     })
 }
 
-/// What stands behind a word, but for a text.
-#[derive(Clone, Copy)]
-struct Operands {
-    call: Call,
-    object: u64,
-    flags: Flags,
-    role: Option<RoleAt>,
-}
-
 // The operands of a line, if they stand there.
-fn operands_of(entry: Entry, words: &mut SplitWhitespace<'_>) -> Option<Operands> {
-    let mut found = Operands {
-        call: Call {
-            verb: entry.verb,
-            first: 0,
-            second: 0,
-            count: 0,
-            deadline: Deadline { now: 0, ms: 0 },
-            notes: NoteSet::empty(),
-        },
+fn call_of(entry: Entry, words: &mut SplitWhitespace<'_>) -> Option<Call> {
+    let mut call = Call {
+        verb: entry.verb,
+        first: 0,
+        second: 0,
+        count: 0,
+        now: 0,
+        ms: 0,
+        notes: NoteSet::empty(),
         object: 1,
         flags: Flags::NONE,
         role: None,
     };
     for operand in entry.operands.iter() {
-        found = with_operand(found, *operand, words)?;
+        call = with_operand(call, *operand, words)?;
     }
-    Some(found)
+    Some(call)
 }
 
 // The same with one operand more. A text is left where it stands.
-fn with_operand(
-    mut found: Operands,
-    operand: Operand,
-    words: &mut SplitWhitespace<'_>,
-) -> Option<Operands> {
+fn with_operand(mut call: Call, operand: Operand, words: &mut SplitWhitespace<'_>) -> Option<Call> {
     match operand {
-        Operand::First => found.call.first = number_of(words.next()?)?,
-        Operand::Second => found.call.second = number_of(words.next()?)?,
-        Operand::Count => found.call.count = count_of(words.next()?)?,
-        Operand::Room => found.call.first = room_of(words.next()?)?,
+        Operand::First => call.first = number_of(words.next()?)?,
+        Operand::Second => call.second = number_of(words.next()?)?,
+        Operand::Count => call.count = count_of(words.next()?)?,
+        Operand::Room => call.first = room_of(words.next()?)?,
         Operand::Until => {
-            found.call.deadline.now = number_of(words.next()?)?;
-            found.call.deadline.ms = count_of(words.next()?)?;
+            call.now = number_of(words.next()?)?;
+            call.ms = count_of(words.next()?)?;
         }
-        Operand::Kinds => found.call.notes = kinds_of(words.next()?)?,
-        Operand::FlagBits => found.flags = flags_of(words.next()?)?,
-        Operand::Role => found.role = Some(role_of(words.next()?, words)?),
+        Operand::Kinds => call.notes = kinds_of(words.next()?)?,
+        Operand::FlagBits => call.flags = flags_of(words.next()?)?,
+        Operand::Role => call.role = Some(role_of(words.next()?, words)?),
         Operand::Object => {
             if let Some(word) = words.next() {
-                found.object = object_of(word)?;
+                call.object = object_of(word)?;
             }
         }
         Operand::AnyRole => {
             if let Some(word) = words.next() {
-                found.role = Some(role_of(word, words)?);
+                call.role = Some(role_of(word, words)?);
             }
         }
         Operand::Bytes | Operand::Rest => {}
     }
-    Some(found)
+    Some(call)
 }
 
 // What stands behind so many words.
@@ -216,7 +187,6 @@ fn name_of(word: &str) -> Option<RoleName> {
         "guest" => Some(RoleName::Guest),
         "sharer" => Some(RoleName::Sharer),
         "lone" => Some(RoleName::Lone),
-        "peer" => Some(RoleName::Peer),
         _ => None,
     }
 }

@@ -258,7 +258,6 @@ def read_in_turn(proc, turns, seat, count):
     ended = yield from acquire_once(proc, turns.line, seat)
     if ended.answer != "acquired":
         return ended.text()
-    proc.put_back(ended.notes)
     answer = yield from read(proc, turns.pipe, count)
     yield from release(proc, turns.line, 1)
     return answer
@@ -306,15 +305,14 @@ def acquire_once(proc, sema, seat, waits=True, watch=None):
         elif slept.is_note or slept.answer != "woken":
             sema.line.remove(seat)
             ended = slept
+    if not watch and not ended.is_note:
+        proc.put_back(ended.notes)
     yield STEP if watch else 4
     return ended
 
 
 def acquire(proc, sema, seat, waits=True):
-    ended = yield from acquire_once(proc, sema, seat, waits)
-    if ended.answer == "acquired":
-        proc.put_back(ended.notes)
-    return "acquired" if ended.answer == "acquired" else ended.text()
+    return (yield from acquire_once(proc, sema, seat, waits)).text()
 
 
 def acquire_within(proc, sema, seat, now, ms):
@@ -378,16 +376,14 @@ def meet_once(proc, space, member, tag, value, watch=None):
         elif slept.is_note or slept.answer != "woken":
             del space.waiting[tag]
             ended = slept
+    if not watch and not ended.is_note:
+        proc.put_back(ended.notes)
     yield STEP if watch else 4
     return ended
 
 
 def rendezvous(proc, space, member, tag, value):
-    ended = yield from meet_once(proc, space, member, tag, value)
-    if ended.is_note:
-        return ended.text()
-    proc.put_back(ended.notes)
-    return ended.answer
+    return (yield from meet_once(proc, space, member, tag, value)).text()
 
 
 def rendezvous_word(proc, space, member, tag, value):

@@ -18,14 +18,12 @@ CALLS = {
     "writer": ALONE | {"write", "write_within", "write_long", "hangup"},
     "lone": ALONE | {"read", "try_read", "read_block", "write", "write_long", "hangup_read", "hangup_write", "finish"},
     "holder": {"acquire", "try_acquire", "acquire_within", "release", "rendez", "note", "notes"},
-    "guest": {"rendezvous", "rendezvous_within", "rendezvous_word", "rendez", "note", "notes"},
+    "guest": {"rfork", "rendezvous", "rendezvous_within", "rendezvous_word", "rendez", "note", "notes"},
     "sharer": {"read"},
-    "peer": {"rfork", "rendezvous", "rendez", "note", "notes", "put_back"},
 }
 FORKS = {"zero", "plain", "reader", "writer", "lone"}
 PROBED = {"sleep": {"plain", "reader", "writer"}, "acquire": {"holder"}, "try_acquire": {"holder"}, "acquire_within": {"holder"},
           "rendezvous": {"guest"}, "rendezvous_within": {"guest"}}
-ALWAYS_PROBED = {"peer"}
 MOST_STEPS, MOST_KEPT = 3000, 8
 
 
@@ -214,7 +212,7 @@ class Lab:
             return self.visited(actor, verb)
         if actor.is_gone or actor.run:
             return NOT_HERE
-        if verb in ("fork", "rfork", "clock") and (actor.role, verb) != ("peer", "rfork"):
+        if verb in ("fork", "rfork", "clock"):
             return getattr(self, verb)(actor, rest)
         return self.start(actor, verb, rest[:-1] if is_apart else rest, is_apart)
 
@@ -298,7 +296,7 @@ class Lab:
     def begun(self, actor, verb, rest):
         """The call, which takes the lines that are kept; or one that is answered at once."""
         has_kept = bool(actor.number and self.kept and self.is_fresh)
-        is_probed = actor.role in PROBED.get(verb, ()) or actor.role in ALWAYS_PROBED
+        is_probed = actor.role in PROBED.get(verb, ())
         if has_kept and not is_probed:
             call = "not probed"
         else:
@@ -465,6 +463,8 @@ class Lab:
         role, rest = (words[1:2] or ["plain"])[0], words[2:]
         if actor.role == "holder":
             return self.fork_holder(actor)
+        if actor.role == "guest" and not words[1:]:
+            return self.fork_guest(actor, flags_of(words[0]))
         if actor.role not in FORKS:
             return NOT_ITS
         flags = flags_of(words[0])
@@ -532,16 +532,21 @@ class Lab:
         which = int(next(iter(rest), "1") if rest[:1] != ["back"] else "1")
         if role == "plain":
             return Actor(proc, number, role)
-        if number >= 1024 and role in ("peer", "writers"):
+        if number >= 1024 and role == "writers":
             return NO_PROC
-        if role == "peer":
-            return self.cast_peer(proc, number, which)
         if role in ("reader", "writer"):
             return self.cast_at_pipe(proc, number, role, self.way(which, is_back))
         kind = {"holder": self.semas, "guest": self.spaces, "sharer": self.turns, "lone": self.lones}[role]
         if not 1 <= which <= len(kind) or number >= 1024 and role == "sharer" and kind[which - 1].line.given:
             return NO_PROC
-        return self.cast_at(proc, number, role, kind[which - 1])
+        thing = kind[which - 1]
+        if role in ("holder", "guest") and thing.given and not self.is_anybody_at(role, thing):
+            return NO_PROC
+        return self.cast_at(proc, number, role, thing)
+
+    def is_anybody_at(self, role, thing):
+        """Whether somebody is here beside whom one more may be."""
+        return any(it.role == role and it.thing is thing and not it.run and not it.is_gone for it in self.actors.values())
 
     def cast_at_pipe(self, proc, number, role, way):
         if way is None or (way.is_read if role == "reader" else way.written == way.writers):
@@ -552,18 +557,10 @@ class Lab:
         way.written += 1
         return Actor(proc, number, role, way, way.written - 1)
 
-    def cast_peer(self, proc, number, members):
-        if not 1 <= members <= 1024:
-            return NO_PROC
-        first = self.roster.row(members)
-        if first is None:
-            return NO_RENDEZ
-        return self.cast_at(proc, number, "peer", dev.Space(members, first))
-
     def cast_at(self, proc, number, role, thing):
-        if role in ("holder", "guest", "sharer", "peer"):
+        if role in ("holder", "guest", "sharer"):
             row = thing.line if role == "sharer" else thing
-            size = row.members if role in ("guest", "peer") else row.seats
+            size = row.members if role == "guest" else row.seats
             if proc.kernel.rendez < row.first + size:
                 return NO_RENDEZ
             if row.given == size:
@@ -583,9 +580,9 @@ class Lab:
         actor.proc.timer = dev.TimerSeat(timers, timers.given - 1)
         return "ok"
 
-    def fork_peer(self, actor, word):
-        """The rfork of a peer: flags, pid, Rendez and member, in this order."""
-        flags, space = flags_of(word), actor.thing
+    def fork_guest(self, actor, flags):
+        """The rfork of a guest: flags, pid, Rendez and member, in this order."""
+        space = actor.thing
         if flags & ~7:
             return "bad flags"
         if flags & RFPROC and not self.roster.pids_left():
@@ -597,11 +594,15 @@ class Lab:
         child = self.roster.rfork(actor.proc, flags & ~RFREND)
         if flags & RFREND:
             space = dev.Space(space.members, self.roster.row(space.members))
+            self.spaces.append(space)
         if child is None:
+            if flags & RFREND and actor.proc.kernel.rendez < space.first + space.members:
+                actor.is_gone = True
+                return NO_RENDEZ
             if flags & RFREND:
                 actor.thing, actor.seat, space.given = space, 0, 1
             return "nobody"
-        self.actors[child.pid] = self.cast_at(child, child.pid, "peer", space)
+        self.actors[child.pid] = self.cast_at(child, child.pid, "guest", space)
         return f"process {child.pid}"
 
     # ---- calls
@@ -706,9 +707,6 @@ class Lab:
         if actor.role == "zero":
             return self.call_row(actor, None, [1])
         return done(lambda: f"rendez {actor.thing.first + actor.seat}")
-
-    def call_rfork(self, actor, words, _):
-        return done(lambda: self.fork_peer(actor, words[0]))
 
     def call_row(self, _, __, numbers):
         first = self.roster.row(numbers[0])

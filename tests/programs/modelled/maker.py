@@ -6,7 +6,7 @@ differently where other processes go first is cut off.
 """
 import random
 
-from modelled.lab import ALONE, ALWAYS_PROBED, CALLS, EXTREMES, PROBED, Lab, NoAnswer, Order
+from modelled.lab import ALONE, CALLS, EXTREMES, PROBED, Lab, NoAnswer, Order
 from modelled.layer import KINDS, TOP_LEVEL
 from modelled.moves import SLEEPERS, move
 from modelled.opening import ROLES, Opening
@@ -17,7 +17,7 @@ WAITING = {"sleep", "sleep_within", "read", "read_within", "read_block", "next_p
 # What a role calls more often than the rest of its calls.
 OFTEN = {"reader": ["read", "read_within", "try_read", "read_block"], "writer": ["write", "write_within"], "lone": ["read", "write"],
          "plain": ["sleep", "sleep_within"], "holder": ["acquire", "acquire_within", "release"],
-         "guest": ["rendezvous", "rendezvous_within"], "peer": ["rendezvous", "rfork"], "zero": ["note", "tick"], "sharer": ["read"]}
+         "guest": ["rendezvous", "rendezvous_within"], "zero": ["note", "tick"], "sharer": ["read"]}
 # How many points a call has.
 POINTS = {"sleep": 6, "acquire": 4, "try_acquire": 4, "acquire_within": 4, "rendezvous": 4, "rendezvous_within": 4}
 
@@ -183,10 +183,10 @@ class Maker:
         verb = self.verb(actor)
         if actor.role in ("reader", "writer", "lone") and dice.random() < 0.6:
             verb = self.filling(actor)
-        is_probed = actor.role in PROBED.get(verb, ()) or actor.role in ALWAYS_PROBED
+        is_probed = actor.role in PROBED.get(verb, ())
         if verb in POINTS and is_probed and dice.random() < 0.3:
             return self.call_with_kept(actor, verb)
-        if actor.number and not is_probed and verb not in POINTS and verb != "notepg" and dice.random() < 0.02:
+        if actor.number and not is_probed and verb not in POINTS and verb not in ("notepg", "rfork") and dice.random() < 0.02:
             return self.call_with_lines(actor, [verb, *self.operands(actor, verb)], ["at 1 0 notes"])
         if actor.role != "zero" and dice.random() < 0.15:
             self.tell(f"0 note {actor.proc.pid} {self.kinds()}")
@@ -200,7 +200,7 @@ class Maker:
 
     def timed(self):
         """Who can call until a moment."""
-        return [it for it in self.idle() if it.proc.timer and it.role not in ("sharer", "peer")]
+        return [it for it in self.idle() if it.proc.timer and it.role != "sharer"]
 
     def deadline(self, actor):
         """The moment of the call until a moment that this process makes."""
@@ -288,7 +288,7 @@ class Maker:
 
     def answering(self, other, words):
         """The call of another process at the same object for which this one waits."""
-        if other.role in ("guest", "peer"):
+        if other.role == "guest":
             return ["rendezvous", words[-2], str(self.dice.randrange(9))] if words[0].startswith("rendezvous") else ["notes"]
         if other.role == "holder":
             return ["release", str(self.dice.choice([1, 1, 2]))]

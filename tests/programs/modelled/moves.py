@@ -230,21 +230,21 @@ def wake_in_vain(maker):
 
 
 def move_to_a_space(maker):
-    """An rfork of a peer, and calls with one tag in the spaces that there are then."""
+    """An rfork of a guest, and calls with one tag in the spaces that there are then."""
     dice = maker.dice
-    peers = [it for it in maker.idle() if it.role == "peer"]
-    if not peers:
+    guests = [it for it in maker.idle() if it.role == "guest"]
+    if not guests:
         return
-    forker = dice.choice(peers)
+    forker = dice.choice(guests)
     flags = ["proc", "proc", "rend", "rend", "rend,noteg", "proc,rend", "proc,rend", "proc,rend,noteg", "proc,noteg", "noteg"]
     maker.make_call(forker, ["rfork", dice.choice(flags)])
-    peers = [it for it in maker.idle() if it.role == "peer"]
-    for actor in dice.sample(peers, min(len(peers), 3)):
+    guests = [it for it in maker.idle() if it.role == "guest"]
+    for actor in dice.sample(guests, min(len(guests), 3)):
         maker.make_call(actor, ["rendezvous", "7", str(dice.randrange(9))])
     if dice.random() < 0.5:
-        maker.tell(f"0 notepg {dice.choice(peers).number} {maker.kinds()}")
-    for actor in {forker.number: forker, peers[-1].number: peers[-1]}.values():
-        if not actor.run:
+        maker.tell(f"0 notepg {forker.number} {maker.kinds()}")
+    for actor in {it.number: it for it in [forker, *guests[-1:]]}.values():
+        if not actor.run and not actor.is_gone:
             maker.tell(f"{actor.number} rendez")
 
 
@@ -274,7 +274,7 @@ PIPES, UNITS, TAGS = {"reader", "lone"}, {"holder"}, {"guest"}
 # Each with how often it is made, and the roles of which it needs one.
 MOVES = [(2, fill_a_pipe, PIPES), (3, pass_empty_writes, PIPES), (1, send_whole_blocks, PIPES), (1, hang_up_and_go_on, PIPES),
          (1, meet_a_deadline, {"plain", "reader"}), (2, meet_a_deadline, UNITS | TAGS), (1, note_a_group, {"zero"}), (2, line_up, UNITS),
-         (2, grant_at_a_point, UNITS | TAGS), (1, grant_at_a_point, UNITS), (1, wake_in_vain, UNITS | TAGS), (2, move_to_a_space, {"peer"}),
+         (2, grant_at_a_point, UNITS | TAGS), (1, grant_at_a_point, UNITS), (1, wake_in_vain, UNITS | TAGS), (2, move_to_a_space, TAGS),
          (1, raise_a_level, {"plain", "reader"}), (1, wake_at_a_point, {"plain", "reader"})]
 
 

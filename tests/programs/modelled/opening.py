@@ -1,7 +1,7 @@
 """What a scene begins with: its kernel, its objects, and processes with a role at them."""
 
 # The kinds of objects, each with how often a scene has one.
-KINDS_OF_OBJECTS = {"pipe": 6, "stream": 5, "sema": 7, "space": 5, "lone": 2, "share": 1, "peer": 4, "plain": 3, "clock": 2}
+KINDS_OF_OBJECTS = {"pipe": 6, "stream": 5, "sema": 7, "space": 5, "lone": 2, "share": 1, "family": 4, "plain": 3, "clock": 2}
 ROLES = ["plain", "reader", "writer", "holder", "guest", "sharer", "reader back", "writer back", "lone"]
 
 
@@ -77,11 +77,10 @@ class Opening:
         if self.dice.random() < 0.2:
             self.fork("guest", self.add("space", f"new_group {number}", count), count=count)
 
-    def add_peer(self):
-        """A process with a space of its own, and room for spaces of its children."""
+    def add_family(self):
+        """A guest alone in a space, and room for its children and for spaces of theirs."""
         count = self.dice.choice([2, 3])
-        self.fork("peer", count)
-        self.forks[-1] = f"0 fork peer {count}"
+        self.fork("guest", self.add("space", f"space {count}", count))
         self.rendez += count * self.dice.choice([1, 2, 3])
         self.procs += self.dice.choice([1, 2, 3])
 

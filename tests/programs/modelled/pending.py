@@ -12,7 +12,7 @@ LONE = ["kernel 5 9", "{lone} 1", *["0 fork lone"] * 3]
 PLAIN = ["kernel 4 2", *["0 fork plain"] * 2, "clock 4", "1 clock", "2 clock"]
 SEMA = ["kernel 4 4", "sema {units} 2", *["0 fork holder"] * 2, "0 fork plain", "clock 4", "1 clock"]
 SPACE = ["kernel 4 4", "space 2", *["0 fork guest"] * 2, "0 fork plain", "clock 4", "1 clock"]
-PEER = ["kernel 4 4", "0 fork peer 2", "1 rfork proc"]
+FAMILY = ["kernel 4 4", "space 2", "0 fork guest", "1 rfork proc"]
 SHARED = ["kernel 5 9", "pipe 1 1", "share 2", *["0 fork sharer"] * 2, "0 fork writer"]
 ANYBODY = ["wakeup 0 1", "tick 100", "note 0 alarm", "notes", "put_back hangup", "sleep 8 0", "sleep_within 100 50 8 0"]
 ZERO = ["kernel 2 4", "0 fork plain", "clock 4", "1 clock"]
@@ -43,7 +43,7 @@ def rows():
     for units in "0", "1":
         yield "a semaphore", {"units": units}, SEMA, [[], ["3 sleep 0 0 &"]], UNITS
     yield "a space", {}, SPACE, [[], ["2 rendezvous 7 9 &"], ["3 sleep 0 0 &"]], MEETS
-    yield "a peer", {}, PEER, [[], ["2 rendezvous 7 9 &"]], ["rendezvous 7 5", "rfork noteg", "rfork rend", "put_back closed", *SEEN]
+    yield "a family", {}, FAMILY, [[], ["2 rendezvous 7 9 &"]], ["rendezvous 7 5", "rfork noteg", "rfork rend", *SEEN]
     yield "turns", {}, SHARED, [[], ["3 write abc"], ["2 read 3 &"], ["3 hangup"]], ["read 3", "read 0"]
 
 

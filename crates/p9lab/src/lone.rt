@@ -8,8 +8,7 @@ ghost use Rattle.pipe_dev.specs.Openings.{IsStartOf};
 
 use crate::caller::Means;
 use crate::objects::{has_room, index_of, open_pipe};
-use crate::roles::plain::call_plain;
-use crate::roles::reader::make_room;
+use crate::roles::{call_plain, make_room};
 use crate::scene::{Scene, keep, push};
 use counted_slot::{Counted, FREE, Fits, TAKEN};
 use plan9::{
@@ -77,7 +76,7 @@ pub struct Lone {
 // ---- how it is made
 
 /// A pipe with one writer, of whose first direction both ends lie between calls.
-pub fn make_lone(scene: &mut Scene<'_>, limit: u64, mode: Mode) -> Result<(), Fault> {
+pub fn make_lone(scene: &mut Scene<'_>, limit: u64, mode: Mode) -> Result<Answer, Fault> {
     let opened = open_pipe(scene.alloc, &mut scene.roster, limit, 1, mode)?;
     let both = kept_both(scene.alloc, opened)?;
     has_room(push(&mut scene.objects.lones, LonePipe { both }))
@@ -155,9 +154,14 @@ fn swap<X: Fits + Drop, R: Wait>(rt: &R, place: &Counted<Option<X>>, lying: Opti
 }
 
 /// A call of a lone.
-pub fn call_lone<R: Wait>(rt: &R, lone: &mut Lone, means: &mut Means, call: Call) -> Answer {
+pub fn call_lone<R: Wait>(
+    rt: &R,
+    lone: &mut Lone,
+    means: &mut Means,
+    call: Call,
+) -> Option<Answer> {
     let Means { alloc, bytes, .. } = means;
-    match call.verb {
+    Some(match call.verb {
         Verb::Read | Verb::TryRead if !make_room(bytes, call.first) => {
             Answer::Fault(Fault::Memory)
         }
@@ -168,8 +172,8 @@ pub fn call_lone<R: Wait>(rt: &R, lone: &mut Lone, means: &mut Means, call: Call
             at_write_end(rt, *alloc, lone, bytes.as_slice(), call)
         }
         Verb::Finish => finish_both(rt, *alloc, lone.both, bytes),
-        _ => call_plain(rt, &mut lone.proc, means, call, &mut NoProbe),
-    }
+        _ => return call_plain(rt, &mut lone.proc, means, call, &mut NoProbe),
+    })
 }
 
 // A call at the read end, which is taken up for it.
