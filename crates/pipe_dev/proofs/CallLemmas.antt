@@ -10,7 +10,7 @@ use Rattle.pipe_dev.specs.declared.row.Row.{Row}
 use Rattle.pipe_dev.specs.Calls.{IsAsked}
 use Rattle.pipe_dev.specs.WriteCalls.{WriteCall, Writer, AsksForRoom}
 use Rattle.pipe_dev.specs.Rendezes.{writer_rendez}
-use Rattle.pipe_dev.specs.WriteCalls.{Writes, writing, call_with}
+use Rattle.pipe_dev.specs.WriteCalls.{Writes, writing}
 use Rattle.waiting.specs.declared.call.Reply.TheVariants.{Refused}
 use Rattle.waiting.specs.Waiting.{Waited}
 use Rattle.pipe_dev.proofs.OutcomeLemmas.{is_asked}
@@ -38,6 +38,11 @@ writes_so call old (Err fault.TooBig) new waited = absurd (is_asked_write call o
 writes_so call old (Err fault.NoRendez) new waited = absurd (is_asked_write call old _ new waited)
 writes_so call old (Err fault.Memory) new waited = absurd (is_asked_write call old _ new waited)
 writes_so call old (Err other) new waited = waited
+
+-- the write of these bytes by this seat
+abbrev call_with : Queue → Row → PutSeat → List ℕ → WriteCall
+call_with queue row seat bytes =
+    record { key = key_of queue; row = row; writer = seat.writer; bytes = bytes }
 
 -- what was asked for this call was asked for the same one
 pub same_call : (queue : Queue) (row : Row) (seat : PutSeat) (block bytes : List ℕ) (writer : ℕ)

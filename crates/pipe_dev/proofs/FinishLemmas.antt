@@ -1,5 +1,5 @@
 -- What the ends of a direction were, and what a finish gives.
-use Rattle.std.proofs.Common.{◌≡◌, ℕ, List, [], ◌∷◌, length, map, Option, Some, refl, sym, ◌∙◌, ap}
+use Rattle.std.proofs.Common.{◌≡◌, ℕ, List, [], ◌∷◌, length, map, refl, sym, ◌∙◌, ap}
 use Rattle.std.proofs.Common.{subst, arith}
 use Rattle.std.specs.List.{AllByRecursion}
 use Rattle.block_queue.specs.declared.entry.Entry.{Entry}
@@ -9,24 +9,18 @@ use Rattle.block_queue.specs.declared.seats.PutSeat.{PutSeat}
 use Rattle.block_queue.specs.Gather.{AreAllSeats, AreTheirPasts, Gathers}
 use Rattle.block_queue.specs.Seats.{IsPutSeatOf, key_of, take_account}
 use Rattle.pipe_dev.specs.declared.closing.Held.{Held}
-use Rattle.pipe_dev.specs.declared.cursor.ReadCursor.{ReadCursor}
+use Rattle.pipe_dev.specs.declared.state.ReadState.{ReadState}
 use Rattle.pipe_dev.specs.declared.row.Row.{Row}
-use Rattle.pipe_dev.specs.Ends.{ReadSide, WriteSide, AreAllEnds, IsReadCursor, HasReadCursor}
-use Rattle.pipe_dev.specs.Ends.{account_in, rest_in}
+use Rattle.pipe_dev.specs.Ends.{ReadSide, WriteSide, AreAllEnds, IsReadState, IsWriteSeat}
 use Rattle.pipe_dev.specs.Finishing.{GivesHeld, HaveSeen, rest_bytes}
-use Rattle.pipe_dev.specs.Seating.{IsWriteSeatOf, AreSeatsOf, side_of}
+use Rattle.pipe_dev.specs.Seating.{AreSeatsOf, side_of}
 use Rattle.pipe_dev.proofs.SeatingLemmas.{seats_back, write_seats_put, write_seats_none, sides_back}
 use Rattle.pipe_dev.proofs.SeatingLemmas.{numbers_back, shares_back, same_entries}
 
--- the read end of this cursor
-abbrev read_side : Queue → Row → ReadCursor → ReadSide
-read_side queue row cursor =
-    record { queue = queue; row = row; account = take_account cursor.seat; rest = cursor.rest }
-
--- an end that was taken apart: it is made of its queue, its Rendez and the cursor that it held
-record IsApart (queue : Queue) (row : Row) (cursor : ReadCursor) (read : ReadSide) : Type 0 where
-  side : read ≡ read_side queue row cursor
-  holds : IsReadCursor queue row cursor
+-- the read end of this state
+abbrev read_side : Queue → Row → ReadState → ReadSide
+read_side queue row state =
+    record { queue = queue; row = row; account = take_account state.seat; rest = state.rest }
 
 -- what the seats have seen is what their ends have seen
 pasts_back : (history : List Entry) (writes : List WriteSide) (seats : List PutSeat)
@@ -38,37 +32,27 @@ pasts_back history (write ∷ writes) (seat ∷ seats) are pasts = (
 )
 pasts_back history writes seats are pasts = absurd are
 
-module _ (queue : Queue) (row : Row) (held : Option ReadCursor) (cursor : ReadCursor)
-    (read : ReadSide)
-    (view : record { queue = queue; row = row; account = account_in held; rest = rest_in held }
-    ≡ read)
-    (has : HasReadCursor queue row held) (some : held ≡ Some cursor)
+-- an end that was taken apart: it is made of its queue, its Rendez and its state
+module _ (queue : Queue) (row : Row) (state : ReadState) (read : ReadSide)
+    (view : read_side queue row state ≡ read) (holds : IsReadState queue row state)
     (writes : List WriteSide) (all : AreAllEnds read writes)
     (seats : List PutSeat) (are : AreSeatsOf writes seats) where
-  apart : IsApart queue row cursor read
-  apart =
-      record {
-        side = sym view ∙ ap (λ (h : Option ReadCursor).
-            record { queue = queue; row = row; account = account_in h; rest = rest_in h }) some;
-        holds = subst (HasReadCursor queue row) some has;
-      }
-
-  all_of_cursor : AreAllEnds (read_side queue row cursor) writes
-  all_of_cursor = subst (λ (r : ReadSide). AreAllEnds r writes) apart.side all
+  all_of_state : AreAllEnds (read_side queue row state) writes
+  all_of_state = subst (λ (r : ReadSide). AreAllEnds r writes) (sym view) all
 
   -- each seat given back is what a write end of the read end's direction holds
-  pub their_write_seats : AllByRecursion (IsWriteSeatOf queue row) seats
-  their_write_seats = seats_back (read_side queue row cursor) writes seats all_of_cursor.one are
+  pub their_write_seats : AllByRecursion (IsWriteSeat queue row) seats
+  their_write_seats = seats_back (read_side queue row state) writes seats all_of_state.one are
 
   -- each seat given back is a writer's seat of this queue
   pub their_seats : AllByRecursion (IsPutSeatOf queue) seats
   their_seats = write_seats_put queue row seats their_write_seats
 
   -- these are all seats of the queue: the reader's and every writer's, in order
-  pub all_seats : AreAllSeats cursor.seat seats
+  pub all_seats : AreAllSeats state.seat seats
   all_seats =
       record {
-        order = apart.holds.gave ∙ numbers_back row.writers writes seats all_of_cursor.order are;
+        order = holds.gave ∙ numbers_back row.writers writes seats all_of_state.order are;
         none = write_seats_none queue row seats their_write_seats;
       }
 
@@ -77,24 +61,24 @@ module _ (queue : Queue) (row : Row) (held : Option ReadCursor) (cursor : ReadCu
       → ends ≡ map (side_of queue row) again → ends ≡ writes
   their_sides ends again same is =
       is ∙ (ap (map (side_of queue row)) same
-      ∙ sides_back (read_side queue row cursor) writes seats all_of_cursor.one are)
+      ∙ sides_back (read_side queue row state) writes seats all_of_state.one are)
 
   -- what is gathered of all seats, behind the rest of the begun write, is what a finish gives
   pub gives_held : (gathered : Gathered) (rest : List ℕ)
-      → Gathers (key_of queue) cursor.seat seats gathered → rest ≡ rest_bytes read.rest
+      → Gathers (key_of queue) state.seat seats gathered → rest ≡ rest_bytes read.rest
       → GivesHeld read writes
       (record { rest = rest; writes = gathered.blocks; hung = gathered.hung })
   gives_held gathered rest gathers rest_is =
-      subst (λ (r : ReadSide). GivesHeld r writes found) (sym apart.side) (λ parts. record {
+      subst (λ (r : ReadSide). GivesHeld r writes found) view (λ parts. record {
         finishes = record {
           history = gathers.history;
           legal = gathers.legal;
           seen = gathers.past;
-          no_more_read = same_entries (take_account cursor.seat).seen gathers.history 0
-              (take_account cursor.seat).shares apart.holds.knows.mine gathers.mine
-              apart.holds.seat.own;
+          no_more_read = same_entries (take_account state.seat).seen gathers.history 0
+              (take_account state.seat).shares holds.knows.mine gathers.mine
+              holds.seat.own;
           shares = shares_back gathers.history writes seats are gathers.puts_mine;
-          rest = rest_is ∙ ap (λ (r : ReadSide). rest_bytes r.rest) apart.side;
+          rest = rest_is ∙ ap (λ (r : ReadSide). rest_bytes r.rest) (sym view);
           writes = gathers.blocks_are;
           hung = gathers.hung;
         };

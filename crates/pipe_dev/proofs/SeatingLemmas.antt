@@ -19,10 +19,10 @@ use Rattle.block_queue.specs.Meaning.{KnowsQueue}
 use Rattle.block_queue.specs.Opening.{IsNewPutSeat, new_account, reader_account}
 use Rattle.block_queue.specs.Seats.{IsPutSeatOf, key_of, put_account}
 use Rattle.pipe_dev.specs.declared.row.Row.{Row}
-use Rattle.pipe_dev.specs.Ends.{ReadSide, WriteSide, AreOfOne, IsRowOf}
+use Rattle.pipe_dev.specs.Ends.{ReadSide, WriteSide, AreOfOne, IsRowOf, IsWriteSeat}
 use Rattle.pipe_dev.specs.Finishing.{shares_of}
 use Rattle.pipe_dev.specs.Openings.{IsSeatToGive, IsNewWriteEnd}
-use Rattle.pipe_dev.specs.Seating.{IsWriteSeatOf, AreSeatsOf, side_of}
+use Rattle.pipe_dev.specs.Seating.{AreSeatsOf, side_of}
 
 -- ---- what a new seat knows
 
@@ -64,7 +64,6 @@ seat_to_give queue row writer seat row_is new =
       seat_is = record {
         row_is = row_is;
         seat_is = new.seat_is;
-        writer_is = refl;
         knows = subst (λ (a : Account Entry). KnowsQueue (key_of queue) a) (sym account)
             (writer_knows (key_of queue) seat.writer new.seat_is.writer_is);
         gave = ap (λ (a : Account Entry). a.gave) account;
@@ -134,26 +133,26 @@ new_order queue row (seat ∷ seats) =
 -- the seats of write ends of one direction with a read end are what its write ends hold
 pub seats_back : (read : ReadSide) (writes : List WriteSide) (seats : List PutSeat)
     → AllByRecursion (AreOfOne read) writes → AreSeatsOf writes seats
-    → AllByRecursion (IsWriteSeatOf read.queue read.row) seats
+    → AllByRecursion (IsWriteSeat read.queue read.row) seats
 seats_back read [] [] one are = tt
 seats_back read (write ∷ writes) (seat ∷ seats) one are = (
-  rw (one.0.queue, one.0.row, ← are.0.seat_is.writer_is) at are.0.seat_is,
+  rw (one.0.queue, one.0.row) at are.0.seat_is,
   seats_back read writes seats one.1 are.1,
 )
 seats_back read writes seats one are = absurd are
 
 -- a seat that a write end holds is a writer's seat of its queue
 pub write_seats_put : (queue : Queue) (row : Row) (seats : List PutSeat)
-    → AllByRecursion (IsWriteSeatOf queue row) seats → AllByRecursion (IsPutSeatOf queue) seats
+    → AllByRecursion (IsWriteSeat queue row) seats → AllByRecursion (IsPutSeatOf queue) seats
 write_seats_put queue row =
-    all_weaker (IsWriteSeatOf queue row) (IsPutSeatOf queue) (λ seat held. held.seat_is)
+    all_weaker (IsWriteSeat queue row) (IsPutSeatOf queue) (λ seat held. held.seat_is)
 
 -- a seat that a write end holds has no numbers that were given away
 pub write_seats_none : (queue : Queue) (row : Row) (seats : List PutSeat)
-    → AllByRecursion (IsWriteSeatOf queue row) seats
+    → AllByRecursion (IsWriteSeat queue row) seats
     → AllByRecursion (λ seat. (put_account seat).gave ≡ []) seats
 write_seats_none queue row =
-    all_weaker (IsWriteSeatOf queue row) (λ seat. (put_account seat).gave ≡ [])
+    all_weaker (IsWriteSeat queue row) (λ seat. (put_account seat).gave ≡ [])
     (λ seat held. held.gave)
 
 -- the ends are made of their seats again
@@ -164,7 +163,7 @@ sides_back read [] [] one are = refl
 sides_back read (write ∷ writes) (seat ∷ seats) one are =
     let queue = one.0.queue in
     let row = one.0.row in
-    let writer = are.0.seat_is.writer_is in
+    let writer = are.0.writer_is in
     let account = are.0.account in
     let side : side_of read.queue read.row seat ≡ record {
       queue = write.queue;
@@ -185,7 +184,7 @@ numbers_are : (writes : List WriteSide) (seats : List PutSeat) → AreSeatsOf wr
     → numbers_of seats ≡ map (λ n. n + 1) (map (λ write. write.writer) writes)
 numbers_are [] [] are = refl
 numbers_are (write ∷ writes) (seat ∷ seats) are =
-    let rest = numbers_are writes seats are.1 in let writer = are.0.seat_is.writer_is in cc
+    let rest = numbers_are writes seats are.1 in let writer = are.0.writer_is in cc
 numbers_are writes seats are = absurd are
 
 -- the seats of all write ends, in order, have the numbers from 1 to the count of writers

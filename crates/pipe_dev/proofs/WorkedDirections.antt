@@ -8,14 +8,14 @@ use Rattle.rendez_words.specs.declared.words.Words.{Words}
 use Rattle.block_queue.specs.declared.queue.Queue.{Queue}
 use Rattle.block_queue.specs.Opening.{AreNewPutSeats, reader_account}
 use Rattle.block_queue.specs.Seats.{IsTakeSeatOf, key_of, take_account}
-use Rattle.pipe_dev.specs.declared.cursor.ReadCursor.{ReadCursor}
+use Rattle.pipe_dev.specs.declared.state.ReadState.{ReadState}
 use Rattle.pipe_dev.specs.declared.pipe.DirectionStart.{DirectionStart}
 use Rattle.pipe_dev.specs.declared.pipe.Opened.{Opened}
 use Rattle.pipe_dev.specs.declared.pipe.Pipe.{Pipe}
 use Rattle.pipe_dev.specs.declared.pipe.PipeStart.{PipeStart}
 use Rattle.pipe_dev.specs.declared.pipe.Direction.{Direction}
 use Rattle.pipe_dev.specs.declared.row.Row.{Row}
-use Rattle.pipe_dev.specs.Ends.{ReadSide, WriteSide, IsRowOf, IsReadCursor, AreAllEnds}
+use Rattle.pipe_dev.specs.Ends.{ReadSide, WriteSide, IsRowOf, IsReadState, AreAllEnds}
 use Rattle.pipe_dev.specs.Openings.{IsSeatToGive, IsDirectionStartOf, IsStartOf, OwnsRows}
 use Rattle.pipe_dev.specs.Openings.{AreNewEnds, key_for}
 use Rattle.pipe_dev.specs.Reading.{IsRest}
@@ -24,24 +24,26 @@ use Rattle.pipe_dev.specs.Directions.{IsNewDirection}
 
 -- ---- a read end
 
-module _ (queue : Queue) (row : Row) (cursor : ReadCursor) where
-  a_cursor_with_another_row : ¬ IsRowOf queue row → ¬ IsReadCursor queue row cursor
-  a_cursor_with_another_row other is_cursor = other is_cursor.row_is
+module _ (queue : Queue) (row : Row) (state : ReadState) where
+  a_state_with_another_row : ¬ IsRowOf queue row → ¬ IsReadState queue row state
+  a_state_with_another_row other is_state = other is_state.row_is
 
-  a_cursor_that_keeps_nothing_as_its_rest : ¬ IsRest cursor.rest → ¬ IsReadCursor queue row cursor
-  a_cursor_that_keeps_nothing_as_its_rest other is_cursor = other is_cursor.some_left
+  a_state_that_keeps_nothing_as_its_rest : ¬ IsRest state.rest → ¬ IsReadState queue row state
+  a_state_that_keeps_nothing_as_its_rest other is_state = other is_state.some_left
 
 -- ---- what the ends of a direction are made of
 
 module _ (queue : Queue) (start : DirectionStart) where
-  a_start_without_a_read_end :
-      ¬ IsReadCursor queue start.row (record { seat = start.take; rest = None })
+  a_start_without_a_read_end : ¬ IsReadState queue start.row start.read
       → ¬ IsDirectionStartOf queue start
   a_start_without_a_read_end none of_it = none of_it.read
 
-  a_start_that_was_read : take_account start.take ≢ reader_account start.row.writers
+  a_start_that_was_read : take_account start.read.seat ≢ reader_account start.row.writers
       → ¬ IsDirectionStartOf queue start
   a_start_that_was_read other of_it = other of_it.unread
+
+  a_start_with_a_rest : start.read.rest ≢ None → ¬ IsDirectionStartOf queue start
+  a_start_with_a_rest some of_it = some of_it.rest
 
   a_start_that_was_written : ¬ AllByRecursion (IsSeatToGive queue start.row) start.puts.items
       → ¬ IsDirectionStartOf queue start
@@ -82,13 +84,16 @@ module _ (limit writers : ℕ) (direction : Direction) where
       → ¬ IsNewDirection limit writers direction
   a_queue_of_other_sizes other new = other new.key_is
 
-  the_readers_seat_of_another_queue : ¬ IsTakeSeatOf direction.queue direction.take
+  the_readers_seat_of_another_queue : ¬ IsTakeSeatOf direction.queue direction.read.seat
       → ¬ IsNewDirection limit writers direction
   the_readers_seat_of_another_queue other new = other new.take_is
 
-  a_reader_that_was_at_work : take_account direction.take ≢ reader_account writers
+  a_reader_that_was_at_work : take_account direction.read.seat ≢ reader_account writers
       → ¬ IsNewDirection limit writers direction
   a_reader_that_was_at_work other new = other new.account_is
+
+  a_rest_before_any_read : direction.read.rest ≢ None → ¬ IsNewDirection limit writers direction
+  a_rest_before_any_read some new = some new.rest
 
   the_writers_seats_of_another_queue : ¬ AreNewPutSeats direction.queue writers direction.puts.items
       → ¬ IsNewDirection limit writers direction

@@ -1,31 +1,34 @@
 -- What an end has between two calls and what a request of a write comes to, in plain words.
-use Rattle.std.proofs.Common.{◌≡◌, ◌≢◌, ℕ, true, [], ◌∷◌, Some, None}
+use Rattle.std.proofs.Common.{◌≡◌, ◌≢◌, ℕ, List, true, [], ◌∷◌, Option}
 use Rattle.histories.specs.Account.{numbers_from}
 use Rattle.block_queue.specs.declared.queue.Queue.{Queue}
 use Rattle.block_queue.specs.declared.seats.PutSeat.{PutSeat}
 use Rattle.block_queue.specs.Meaning.{KnowsQueue}
 use Rattle.block_queue.specs.Seats.{IsPutSeatOf, IsTakeSeatOf, key_of, put_account, take_account}
 use Rattle.block_queue.specs.Steps.{saw_hangup}
-use Rattle.pipe_dev.specs.declared.cursor.ReadCursor.{ReadCursor}
 use Rattle.pipe_dev.specs.declared.row.Row.{Row}
-use Rattle.pipe_dev.specs.Ends.{ReadSide, WriteSide, HasReadCursor, HasWriteSeat, IsReadCursor}
-use Rattle.pipe_dev.specs.Ends.{IsRowOf, IsSameReadEnd, IsSameWriteEnd, IsWriteSeat}
+use Rattle.pipe_dev.specs.declared.state.ReadState.{ReadState}
+use Rattle.pipe_dev.specs.declared.state.WriteState.{WriteState}
+use Rattle.pipe_dev.specs.Ends.{ReadSide, WriteSide, IsReadState, IsRowOf, IsSameReadEnd}
+use Rattle.pipe_dev.specs.Ends.{IsSameWriteEnd, IsWriteSeat, IsWriteState}
 use Rattle.pipe_dev.specs.Seating.{AreSeated}
 use Rattle.pipe_dev.specs.WriteCalls.{WriteCall, Writer, HasHang, IsTooLate, IsWornOut}
 use Rattle.pipe_dev.specs.WriteCalls.{FindsFull}
 
 module _ (queue : Queue) (row : Row) where
-  -- between two calls nobody has taken its cursor from an end
-  read_end_has_its_cursor : HasReadCursor queue row None → ⊥
-  read_end_has_its_cursor away = away
+  module _ (writer : ℕ) (block : Option (List ℕ)) (state : WriteState) where
+    -- the seat of a write end is one of its direction, and that of its writer
+    a_state_without_a_seat : ¬ IsWriteSeat queue row state.seat
+        → ¬ IsWriteState queue row writer block state
+    a_state_without_a_seat none is = none is.seat
 
-  write_end_has_its_seat : (writer : ℕ) → HasWriteSeat queue row writer None → ⊥
-  write_end_has_its_seat writer away = away
+    the_seat_is_its_writers : IsWriteState queue row writer block state
+        → state.seat.writer ≡ writer
+    the_seat_is_its_writers is = is.writer_is
 
-  -- and the seat is that of its writer
-  the_seat_is_its_writers : (writer : ℕ) (seat : PutSeat)
-      → HasWriteSeat queue row writer (Some seat) → seat.writer ≡ writer
-  the_seat_is_its_writers writer seat has = has.writer_is
+    -- and its block is this one: none between two calls
+    a_state_with_another_block : state.block ≢ block → ¬ IsWriteState queue row writer block state
+    a_state_with_another_block other is = other is.block_is
 
   -- no seat is left without an end, and no end is of no seat
   seat_has_no_end : (seat : PutSeat) → AreSeated queue row (seat ∷ []) [] → ⊥
@@ -34,7 +37,7 @@ module _ (queue : Queue) (row : Row) where
   end_has_no_seat : (write : WriteSide) → AreSeated queue row [] (write ∷ []) → ⊥
   end_has_no_seat write one = cc
 
-  -- ---- a Rendez, a cursor and a seat of another queue
+  -- ---- a Rendez, a state and a seat of another queue
 
   a_row_of_other_writers : row.writers ≢ (key_of queue).writers → ¬ IsRowOf queue row
   a_row_of_other_writers other is = other is.writers
@@ -42,33 +45,30 @@ module _ (queue : Queue) (row : Row) where
   a_row_of_later_numbers : (key_of queue).first ≢ 0 → ¬ IsRowOf queue row
   a_row_of_later_numbers later is = later is.first
 
-  module _ (cursor : ReadCursor) where
-    a_cursor_away : ¬ IsReadCursor queue row cursor → ¬ HasReadCursor queue row (Some cursor)
-    a_cursor_away none has = none has
+  module _ (state : ReadState) where
+    a_state_of_another_queue : ¬ IsTakeSeatOf queue state.seat → ¬ IsReadState queue row state
+    a_state_of_another_queue other is = other is.seat
 
-    a_cursor_of_another_queue : ¬ IsTakeSeatOf queue cursor.seat → ¬ IsReadCursor queue row cursor
-    a_cursor_of_another_queue other is = other is.seat
+    a_state_that_knows_no_queue : ¬ KnowsQueue (key_of queue) (take_account state.seat)
+        → ¬ IsReadState queue row state
+    a_state_that_knows_no_queue none is = none is.knows
 
-    a_cursor_that_knows_no_queue : ¬ KnowsQueue (key_of queue) (take_account cursor.seat)
-        → ¬ IsReadCursor queue row cursor
-    a_cursor_that_knows_no_queue none is = none is.knows
+    a_state_that_gave_others : (take_account state.seat).gave ≢ numbers_from 1 row.writers
+        → ¬ IsReadState queue row state
+    a_state_that_gave_others other is = other is.gave
 
-    a_cursor_that_gave_others : (take_account cursor.seat).gave ≢ numbers_from 1 row.writers
-        → ¬ IsReadCursor queue row cursor
-    a_cursor_that_gave_others other is = other is.gave
-
-  module _ (writer : ℕ) (seat : PutSeat) where
-    a_seat_in_another_row : ¬ IsRowOf queue row → ¬ IsWriteSeat queue row writer seat
+  module _ (seat : PutSeat) where
+    a_seat_in_another_row : ¬ IsRowOf queue row → ¬ IsWriteSeat queue row seat
     a_seat_in_another_row other is = other is.row_is
 
-    a_seat_of_another_queue : ¬ IsPutSeatOf queue seat → ¬ IsWriteSeat queue row writer seat
+    a_seat_of_another_queue : ¬ IsPutSeatOf queue seat → ¬ IsWriteSeat queue row seat
     a_seat_of_another_queue other is = other is.seat_is
 
     a_seat_that_knows_no_queue : ¬ KnowsQueue (key_of queue) (put_account seat)
-        → ¬ IsWriteSeat queue row writer seat
+        → ¬ IsWriteSeat queue row seat
     a_seat_that_knows_no_queue none is = none is.knows
 
-    a_seat_that_gave_another : (put_account seat).gave ≢ [] → ¬ IsWriteSeat queue row writer seat
+    a_seat_that_gave_another : (put_account seat).gave ≢ [] → ¬ IsWriteSeat queue row seat
     a_seat_that_gave_another other is = other is.gave
 
 -- ---- a call moves no end to another direction

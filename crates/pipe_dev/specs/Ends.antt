@@ -1,15 +1,16 @@
 -- What clauses see of the ends of a direction.
-use Rattle.std.specs.Prelude.{◌≡◌, ℕ, List, [], map, Option, Some, None}
+use Rattle.std.specs.Prelude.{◌≡◌, ℕ, List, [], map, Option}
 use Rattle.std.specs.List.{AllByRecursion}
 use Rattle.histories.specs.declared.account.Account.{Account}
-use Rattle.histories.specs.Account.{numbers_from, spent_account}
+use Rattle.histories.specs.Account.{numbers_from}
 use Rattle.block_queue.specs.declared.entry.Entry.{Entry}
 use Rattle.block_queue.specs.declared.queue.Queue.{Queue}
 use Rattle.block_queue.specs.declared.seats.PutSeat.{PutSeat}
 use Rattle.block_queue.specs.Meaning.{KnowsQueue}
 use Rattle.block_queue.specs.Seats.{IsPutSeatOf, IsTakeSeatOf, key_of, put_account, take_account}
 use Rattle.pipe_dev.specs.declared.row.Row.{Row}
-use Rattle.pipe_dev.specs.declared.cursor.ReadCursor.{ReadCursor}
+use Rattle.pipe_dev.specs.declared.state.ReadState.{ReadState}
+use Rattle.pipe_dev.specs.declared.state.WriteState.{WriteState}
 use Rattle.pipe_dev.specs.Parts.{Part}
 use Rattle.pipe_dev.specs.Reading.{Reading, IsRest}
 
@@ -37,43 +38,29 @@ pub record IsRowOf (queue : Queue) (row : Row) : Type 0 where
   pub writers : row.writers ≡ (key_of queue).writers
   pub first : (key_of queue).first ≡ 0
 
--- what a read end holds between two calls: the reader's seat, which gave the writers theirs
-pub record IsReadCursor (queue : Queue) (row : Row) (cursor : ReadCursor) : Type 0 where
+-- the state of a read end: the reader's seat, which gave the writers theirs, and what is left of a
+-- write that was begun
+pub record IsReadState (queue : Queue) (row : Row) (state : ReadState) : Type 0 where
   pub row_is : IsRowOf queue row
-  pub seat : IsTakeSeatOf queue cursor.seat
-  pub knows : KnowsQueue (key_of queue) (take_account cursor.seat)
-  pub gave : (take_account cursor.seat).gave ≡ numbers_from 1 row.writers
-  pub some_left : IsRest cursor.rest
+  pub seat : IsTakeSeatOf queue state.seat
+  pub knows : KnowsQueue (key_of queue) (take_account state.seat)
+  pub gave : (take_account state.seat).gave ≡ numbers_from 1 row.writers
+  pub some_left : IsRest state.rest
 
--- what a write end holds between two calls: the seat of its writer, which gave none
-pub record IsWriteSeat (queue : Queue) (row : Row) (writer : ℕ) (seat : PutSeat) : Type 0 where
+-- the seat of a writer, which gave none
+pub record IsWriteSeat (queue : Queue) (row : Row) (seat : PutSeat) : Type 0 where
   pub row_is : IsRowOf queue row
   pub seat_is : IsPutSeatOf queue seat
-  pub writer_is : seat.writer ≡ writer
   pub knows : KnowsQueue (key_of queue) (put_account seat)
   pub gave : (put_account seat).gave ≡ []
 
--- the end has its cursor, or its seat, between two calls
-abbrev pub HasReadCursor : Queue → Row → Option ReadCursor → Type 0
-HasReadCursor queue row None = ⊥
-HasReadCursor queue row (Some cursor) = IsReadCursor queue row cursor
-
-abbrev pub HasWriteSeat : Queue → Row → ℕ → Option PutSeat → Type 0
-HasWriteSeat queue row writer None = ⊥
-HasWriteSeat queue row writer (Some seat) = IsWriteSeat queue row writer seat
-
--- what the cursor of an end knows; where it is away there is nothing
-abbrev pub account_in : Option ReadCursor → Account Entry
-account_in None = spent_account
-account_in (Some cursor) = take_account cursor.seat
-
-abbrev pub rest_in : Option ReadCursor → Option Part
-rest_in None = None
-rest_in (Some cursor) = cursor.rest
-
-abbrev pub put_account_in : Option PutSeat → Account Entry
-put_account_in None = spent_account
-put_account_in (Some seat) = put_account seat
+-- the state of a write end: the seat of its writer, and this block, which the queue has not taken;
+-- there is none between two calls
+pub record IsWriteState (queue : Queue) (row : Row) (writer : ℕ) (block : Option (List ℕ))
+    (state : WriteState) : Type 0 where
+  pub seat : IsWriteSeat queue row state.seat
+  pub writer_is : state.seat.writer ≡ writer
+  pub block_is : state.block ≡ block
 
 -- both are of one direction
 pub record AreOfOne (read : ReadSide) (write : WriteSide) : Type 0 where

@@ -7,19 +7,23 @@ use Rattle.sync_base.specs.declared.mode.Mode.{Mode}
 use Rattle.pipe_dev.specs.declared.filling.FillResult.{FillResult}
 use Rattle.pipe_dev.specs.declared.filling.Next.{Next}
 use Rattle.pipe_dev.specs.declared.filling.Next.TheVariants as next
-use Rattle.pipe_dev.specs.declared.cursor.ReadCursor.{ReadCursor}
+use Rattle.pipe_dev.specs.declared.state.ReadState.{ReadState}
 use Rattle.pipe_dev.specs.Filling.{Taker, TakesPart, FindsNothing, FindsNotThere, Lending}
 use Rattle.pipe_dev.specs.Filling.{IsFilledBy, FillsUp, number_of, last_number}
 use Rattle.pipe_dev.specs.Parts.{Part}
 use Rattle.std.specs.Prelude.{length}
 
--- the end that has this cursor
-abbrev pub taker_with : ReadCursor → Taker
-taker_with cursor = record { account = take_account cursor.seat; rest = cursor.rest }
+-- the end with this state
+abbrev pub taker_with : ReadState → Taker
+taker_with state = record { account = take_account state.seat; rest = state.rest }
 
 -- and the buffer that its read fills
-abbrev pub lending_with : ReadCursor → List ℕ → Lending
-lending_with cursor buffer = record { taker = taker_with cursor; buffer = buffer }
+abbrev pub lending_with : ReadState → List ℕ → Lending
+lending_with state buffer = record { taker = taker_with state; buffer = buffer }
+
+-- and the block of its caller, which a read of a whole block replaces
+abbrev pub block_lending : ReadState → Lending
+block_lending state = lending_with state state.block.items
 
 -- one part was read, with the number of its write where that was taken out for it
 pub record GivesPart (key : Key) (old : Lending) (count : ℕ) (number : Option ℕ)

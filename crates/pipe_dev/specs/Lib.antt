@@ -11,7 +11,6 @@ pub mod ReadCalls
 pub mod BlockReads
 pub mod WriteCalls
 pub mod ReadSteps
-pub mod WriteSteps
 pub mod Directions
 pub mod Seating
 pub mod Finishing

@@ -16,7 +16,7 @@ use Rattle.pipe_dev.specs.declared.pipe.Opened.{Opened}
 use Rattle.pipe_dev.specs.declared.pipe.Pipe.{Pipe}
 use Rattle.pipe_dev.specs.declared.pipe.PipeStart.{PipeStart}
 use Rattle.pipe_dev.specs.declared.row.Row.{Row}
-use Rattle.pipe_dev.specs.Ends.{ReadSide, WriteSide, IsRowOf, IsReadCursor, IsWriteSeat}
+use Rattle.pipe_dev.specs.Ends.{ReadSide, WriteSide, IsRowOf, IsReadState, IsWriteSeat}
 use Rattle.pipe_dev.specs.Ends.{AreAllEnds}
 use Rattle.pipe_dev.specs.Rendezes.{OwnsRow}
 
@@ -30,14 +30,15 @@ rendez_for writers = 2 * (1 + writers)
 
 -- the seat of a writer is one of the queue's, and was given to no other
 pub record IsSeatToGive (queue : Queue) (row : Row) (seat : PutSeat) : Type 0 where
-  pub seat_is : IsWriteSeat queue row seat.writer seat
+  pub seat_is : IsWriteSeat queue row seat
   pub unused : put_account seat ≡ new_account (seat.writer + 1)
 
 -- what the ends of this direction are made of
 pub record IsDirectionStartOf (queue : Queue) (start : DirectionStart) : Type 0 where
   pub row_is : IsRowOf queue start.row
-  pub read : IsReadCursor queue start.row (record { seat = start.take; rest = None })
-  pub unread : take_account start.take ≡ reader_account start.row.writers
+  pub read : IsReadState queue start.row start.read
+  pub unread : take_account start.read.seat ≡ reader_account start.row.writers
+  pub rest : start.read.rest ≡ None
   pub writes : AllByRecursion (IsSeatToGive queue start.row) start.puts.items
   pub order : map (λ seat. seat.writer) start.puts.items ≡ numbers_from 0 start.row.writers
   pub none : start.room.items ≡ []

@@ -2,12 +2,9 @@
 use Rattle.std.specs.Prelude.{ℕ, nat_lt, if◌then◌else◌}
 use Rattle.pipe_dev.specs.declared.answers.ReadAnswer.{ReadAnswer}
 use Rattle.pipe_dev.specs.declared.answers.ReadAnswer.TheVariants as read
-use Rattle.pipe_dev.specs.declared.block_reading.Lending as block_reading
 use Rattle.pipe_dev.specs.declared.filling.ReadOutcome.{ReadOutcome}
 use Rattle.pipe_dev.specs.declared.filling.Stop.{Stop}
 use Rattle.pipe_dev.specs.declared.filling.Stop.TheVariants as stop
-use Rattle.pipe_dev.specs.Filling.{Lending}
-use Rattle.pipe_dev.specs.FillSteps.{taker_with}
 use Rattle.waiting.specs.declared.call.Reply.{Reply}
 use Rattle.waiting.specs.declared.call.Reply.TheVariants.{Done, Wait}
 
@@ -21,8 +18,3 @@ found_at count stop.End =
 
 abbrev pub found_of : ReadOutcome → Reply ReadAnswer
 found_of came = found_at came.count came.stop
-
--- what a read of a block has with it, as its contract sees it
-abbrev pub lending_in : block_reading.Lending → Lending
-lending_in lending =
-    record { taker = taker_with lending.cursor; buffer = lending.block.items }

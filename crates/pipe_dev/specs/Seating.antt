@@ -6,10 +6,6 @@ use Rattle.block_queue.specs.Seats.{put_account}
 use Rattle.pipe_dev.specs.declared.row.Row.{Row}
 use Rattle.pipe_dev.specs.Ends.{WriteSide, IsWriteSeat}
 
--- the seat is what a write end of this direction holds
-abbrev pub IsWriteSeatOf : Queue → Row → PutSeat → Type 0
-IsWriteSeatOf queue row seat = IsWriteSeat queue row seat.writer seat
-
 -- the write end of this seat
 abbrev pub side_of : Queue → Row → PutSeat → WriteSide
 side_of queue row seat =
@@ -21,7 +17,8 @@ AreSeated queue row seats writes = writes ≡ map (side_of queue row) seats
 
 -- the seat was that of this write end
 pub record IsSeatOf (write : WriteSide) (seat : PutSeat) : Type 0 where
-  pub seat_is : IsWriteSeat write.queue write.row write.writer seat
+  pub seat_is : IsWriteSeat write.queue write.row seat
+  pub writer_is : seat.writer ≡ write.writer
   pub account : put_account seat ≡ write.account
 
 -- these are the seats of these write ends, in their order

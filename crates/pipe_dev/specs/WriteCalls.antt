@@ -14,12 +14,10 @@ use Rattle.sleep_wakeup.specs.Actions.{WakesOne}
 use Rattle.sleep_wakeup.specs.Kernel.{Running}
 use Rattle.block_queue.specs.declared.entry.Entry.{Entry}
 use Rattle.block_queue.specs.declared.entry.Entry.TheVariants as entry
-use Rattle.block_queue.specs.declared.queue.Queue.{Queue}
 use Rattle.block_queue.specs.declared.view.Key.{Key}
 use Rattle.block_queue.specs.Calls.{Stands}
 use Rattle.block_queue.specs.Meaning.{Enters}
-use Rattle.block_queue.specs.declared.seats.PutSeat.{PutSeat}
-use Rattle.block_queue.specs.Seats.{key_of, put_account}
+use Rattle.block_queue.specs.Seats.{key_of}
 use Rattle.block_queue.specs.Steps.{saw_hangup}
 use Rattle.pipe_dev.specs.declared.answers.Long.{Long}
 use Rattle.pipe_dev.specs.declared.row.Row.{Row}
@@ -185,12 +183,3 @@ pub record WritesLong (call : WriteCall) (old : Writer) (long : Long) (new : Wri
   pub written : WritesEach call done old between
   pub taken : long.taken ≡ bytes_in done
   pub ended : EndsLong call done between long.fault new
-
--- the writer that has this seat
-abbrev pub writer_with : PutSeat → Running → Writer
-writer_with seat proc = point (put_account seat) proc
-
--- the write of these bytes by this seat
-abbrev pub call_with : Queue → Row → PutSeat → List ℕ → WriteCall
-call_with queue row seat bytes =
-    record { key = key_of queue; row = row; writer = seat.writer; bytes = bytes }

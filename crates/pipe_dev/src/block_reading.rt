@@ -1,20 +1,17 @@
 //! How a direction is read block by block. A block changes hands, and no byte is copied to another.
-ghost use Rattle.std.specs.Prelude.{◌≡◌};
 ghost use Rattle.block_queue.specs.Seats.{key_of};
 ghost use Rattle.pipe_dev.specs.BlockReads.{AsksForBlock};
-ghost use Rattle.pipe_dev.specs.Ends.{IsReadCursor};
-ghost use Rattle.pipe_dev.specs.Filling.{Lending as Lent};
-ghost use Rattle.pipe_dev.specs.FillSteps.{lending_with};
-ghost use Rattle.pipe_dev.specs.Calls.{IsAsked, waits_by};
-ghost use Rattle.pipe_dev.specs.ReadSteps.{lending_in};
-ghost use Rattle.pipe_dev.specs.Rendezes.{OwnsRow, reader_rendez};
-ghost use Rattle.waiting.specs.Waiting.{Waited, point};
+ghost use Rattle.pipe_dev.specs.Ends.{IsReadState};
+ghost use Rattle.pipe_dev.specs.Filling.{Lending};
+ghost use Rattle.pipe_dev.specs.FillSteps.{block_lending};
+ghost use Rattle.pipe_dev.specs.Calls.{waits_by};
+ghost use Rattle.pipe_dev.specs.Rendezes.{OwnsRow};
 
 use crate::answers::ReadAnswer;
-use crate::cursor::ReadCursor;
 use crate::read_end::ReadEnd;
 use crate::remainder::Remainder;
 use crate::row::Row;
+use crate::state::ReadState;
 use crate::waking::wake_writers;
 use block_queue::{Queue, TakeAnswer};
 use sleep_wakeup::Proc;
@@ -60,91 +57,42 @@ impl<'p> ReadEnd<'p> {
         ensures end { IsSameReadEnd self.old self.new }
         ensures words { proc.new.words ≡ proc.old.words }
     {
-        // The refusal comes before the cursor is taken, so it leaves the end as it was.
         if !self.row.is_known_to(proc) {
             return Err(Fault::NoRendez);
         }
-        let Some(cursor) = self.cursor.take() else {
-            unreachable!()
-        };
-        let Done { cursor, answer } = block_with(self.queue, &self.row, rt, cursor, proc, block);
-        self.cursor = Some(cursor);
+        let (queue, row, state) = (self.queue, &self.row, &mut self.state);
+        let call = BlockRead { queue, row };
+        let rendez = row.reader();
+        mem::swap(&mut state.block, block);
+        let answer = wait_for(rt, proc, rendez, &call, state, &mut [], &mut NoProbe);
+        mem::swap(&mut state.block, block);
         answer
     }
 }
 
-// A read is over: what its end holds, and the answer.
-#[derive(Drop)]
-struct Done {
-    cursor: ReadCursor,
-    answer: Result<ReadAnswer, Fault>,
-}
-
-// Asks and sleeps until it is answered. The block of the caller goes along, and comes back.
-fn block_with<R: Wait>(
-    queue: &Queue,
-    row: &Row,
-    rt: &R,
-    cursor: ReadCursor,
-    proc: &mut Proc<'_>,
-    block: &mut Vec<u8>,
-) -> Done
-    requires cursor { IsReadCursor queue.now row.now cursor }
-    requires kernel { OwnsRow proc.old.words row.now }
-    ensures cursor { IsReadCursor queue.now row.now result.cursor }
-    ensures words { proc.new.words ≡ proc.old.words }
-    ensures asked { Waited (waits_by (AsksForBlock (key_of queue.now) row.now))
-        (reader_rendez row.now) (point (lending_with cursor block.old.items) proc.old)
-        result.answer (point (lending_with result.cursor block.new.items) proc.new) }
-    ensures answer { IsAsked result.answer }
-{
-    let none = Vec::new(*block.allocator());
-    let lent = mem::replace(block, none);
-    let mut lending = Lending {
-        cursor,
-        block: lent,
-    };
-    let call = BlockReading { queue, row };
-    let rendez = row.reader();
-    let answer = wait_for(rt, proc, rendez, &call, &mut lending, &mut [], &mut NoProbe);
-    let Lending {
-        cursor,
-        block: back,
-    } = lending;
-    let _none = mem::replace(block, back);
-    Done { cursor, answer }
-}
-
-/// What a read of a block has with it: what its end holds, and the block of its caller.
-#[derive(Drop)]
-pub(crate) struct Lending {
-    pub(crate) cursor: ReadCursor,
-    pub(crate) block: Vec<u8>,
-}
-
 /// A call of read_block: what it asks of its queue.
 #[derive(Drop)]
-pub(crate) struct BlockReading<'q> {
+pub(crate) struct BlockRead<'q> {
     pub(crate) queue: &'q Queue,
     pub(crate) row: &'q Row,
 }
 
-impl<'q> WaitingCall for BlockReading<'q> {
-    type Seat = Lending;
+impl<'q> WaitingCall for BlockRead<'q> {
+    type Seat = ReadState;
 
     type Out = ReadAnswer;
 
-    ghost ready = { λ call lending. IsReadCursor call.queue.now call.row.now lending.cursor };
+    ghost ready = { λ call state. IsReadState call.queue.now call.row.now state };
 
-    ghost waits = { λ call lending. IsReadCursor call.queue.now call.row.now lending.cursor };
+    ghost waits = { λ call state. IsReadState call.queue.now call.row.now state };
 
-    ghost rests = { λ call lending. IsReadCursor call.queue.now call.row.now lending.cursor };
+    ghost rests = { λ call state. IsReadState call.queue.now call.row.now state };
 
     ghost knows = { λ call words. OwnsRow words call.row.now };
 
-    ghost Sight = { Lent };
+    ghost Sight = { Lending };
 
-    ghost sight = { λ lending buffer. lending_in lending };
+    ghost sight = { λ state buffer. block_lending state };
 
     ghost promise = { λ call. waits_by (AsksForBlock (key_of call.queue.now) call.row.now) };
 
@@ -152,10 +100,10 @@ impl<'q> WaitingCall for BlockReading<'q> {
         &self,
         rt: &R,
         proc: &mut Proc<'_>,
-        lending: &mut Lending,
+        state: &mut ReadState,
         buffer: &mut [u8],
     ) -> Reply<ReadAnswer> {
-        self.ask(rt, proc, lending, buffer)
+        self.ask(rt, proc, state, buffer)
     }
 
     // What is left of a write that was begun, or else the next write, whose writers are woken.
@@ -164,21 +112,21 @@ impl<'q> WaitingCall for BlockReading<'q> {
         &self,
         _rt: &R,
         proc: &mut Proc<'_>,
-        lending: &mut Lending,
+        state: &mut ReadState,
         _buffer: &mut [u8],
     ) -> Reply<ReadAnswer> {
-        if let Some(begun) = lending.cursor.rest.take() {
-            let spare = begun.hand_over(&mut lending.block);
-            lending.cursor.seat.spare.keep(spare);
-            return Reply::Done(ReadAnswer::Got(lending.block.len()));
+        if let Some(begun) = state.rest.take() {
+            let spare = begun.hand_over(&mut state.block);
+            state.seat.spare.keep(spare);
+            return Reply::Done(ReadAnswer::Got(state.block.len()));
         }
-        match self.queue.take(&mut lending.cursor.seat) {
+        match self.queue.take(&mut state.seat) {
             TakeAnswer::Block(bytes, writer, number) => {
                 let whole = Remainder::whole(bytes, writer, number - 1);
-                let spare = whole.hand_over(&mut lending.block);
-                lending.cursor.seat.spare.keep(spare);
+                let spare = whole.hand_over(&mut state.block);
+                state.seat.spare.keep(spare);
                 wake_writers(proc, self.row, number);
-                Reply::Done(ReadAnswer::Got(lending.block.len()))
+                Reply::Done(ReadAnswer::Got(state.block.len()))
             }
             TakeAnswer::NotYet(number) => Reply::Wait(number),
             TakeAnswer::End => Reply::Done(ReadAnswer::End),
@@ -186,7 +134,7 @@ impl<'q> WaitingCall for BlockReading<'q> {
     }
 
     // It reads nothing more.
-    fn leave<R: Wait>(&self, _rt: &R, _lending: &mut Lending) -> Option<ReadAnswer> {
+    fn leave<R: Wait>(&self, _rt: &R, _state: &mut ReadState) -> Option<ReadAnswer> {
         None
     }
 }

@@ -6,9 +6,9 @@ ghost use Rattle.pipe_dev.specs.Ends.{AreAllEnds};
 ghost use Rattle.pipe_dev.specs.Finishing.{GivesHeld};
 ghost use Rattle.pipe_dev.specs.Seating.{AreSeatsOf};
 
-use crate::cursor::ReadCursor;
 use crate::end::seat_writers;
 use crate::read_end::ReadEnd;
+use crate::state::ReadState;
 use crate::write_end::WriteEnd;
 use block_queue::{Gathered, PutSeat, StoredBlock, Ungathered};
 use std::alloc::{AllocError, Global};
@@ -65,10 +65,12 @@ pub fn finish<'p>(
     };
     let mut room = writes;
     take_seats(&mut room, &mut puts);
-    let ReadEnd { queue, row, cursor } = read;
-    let Some(ReadCursor { seat, rest: begun }) = cursor else {
-        unreachable!()
-    };
+    let ReadEnd { queue, row, state } = read;
+    let ReadState {
+        seat,
+        rest: begun,
+        block,
+    } = state;
     match queue.gather(alloc, seat, puts) {
         Ok(Gathered { blocks, hung }) => Ok(Held {
             rest: Piece::of(rest),
@@ -76,12 +78,13 @@ pub fn finish<'p>(
             hung,
         }),
         Err(Ungathered { take, puts }) => {
-            let cursor = ReadCursor {
+            let state = ReadState {
                 seat: take,
                 rest: begun,
+                block,
             };
             Err(Unfinished {
-                read: ReadEnd::new(queue, row, cursor),
+                read: ReadEnd::new(queue, row, state),
                 writes: seat_writers(queue, row, puts, room),
             })
         }
@@ -111,14 +114,9 @@ impl<'p> ReadEnd<'p> {
     fn left(&self, alloc: Global) -> Result<Vec<u8>, AllocError>
         ensures { IfOk result (λ bytes. bytes.items ≡ rest_bytes self.now.rest) }
     {
-        match &self.cursor {
-            Some(
-                ReadCursor {
-                    seat: _,
-                    rest: Some(begun),
-                },
-            ) => begun.left(alloc),
-            _ => Ok(Vec::new(alloc)),
+        match &self.state.rest {
+            Some(begun) => begun.left(alloc),
+            None => Ok(Vec::new(alloc)),
         }
     }
 }

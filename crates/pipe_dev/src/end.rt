@@ -3,9 +3,9 @@ ghost use Rattle.std.specs.Prelude.{◌≡◌, ◌≤◌, [], length};
 ghost use Rattle.std.specs.Vec.{vec_capacity};
 ghost use Rattle.std.specs.List.{AllByRecursion};
 ghost use Rattle.pipe_dev.specs.Openings.{IsDirectionStartOf, AreNewEnds};
-ghost use Rattle.pipe_dev.specs.Seating.{AreSeated, IsWriteSeatOf};
+ghost use Rattle.pipe_dev.specs.Ends.{IsWriteSeat};
+ghost use Rattle.pipe_dev.specs.Seating.{AreSeated};
 
-use crate::cursor::ReadCursor;
 use crate::pipe::{DirectionStart, Pipe, PipeStart};
 use crate::read_end::ReadEnd;
 use crate::row::Row;
@@ -83,16 +83,12 @@ fn make_ends<'p>(queue: &'p Queue, start: DirectionStart<'p>) -> Parts<'p>
 {
     let DirectionStart {
         row,
-        take,
+        read,
         puts,
         room,
     } = start;
-    let cursor = ReadCursor {
-        seat: take,
-        rest: None,
-    };
     Parts {
-        read: ReadEnd::new(queue, row, cursor),
+        read: ReadEnd::new(queue, row, read),
         writes: seat_writers(queue, row, puts, room),
     }
 }
@@ -104,7 +100,7 @@ pub(crate) fn seat_writers<'p>(
     puts: Vec<PutSeat>,
     room: Vec<WriteEnd<'p>>,
 ) -> Vec<WriteEnd<'p>>
-    requires seats { AllByRecursion (IsWriteSeatOf queue.now row) puts.items }
+    requires seats { AllByRecursion (IsWriteSeat queue.now row) puts.items }
     requires none { room.items ≡ [] }
     requires room { length puts.items ≤ vec_capacity room }
     ensures seated { AreSeated queue.entry.now row puts.items result.items }

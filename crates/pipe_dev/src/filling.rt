@@ -1,12 +1,12 @@
 //! How a read fills its buffer, part by part, in either mode. Nobody is woken here.
 ghost use Rattle.std.specs.Prelude.{◌≡◌, ◌≢◌, []};
 ghost use Rattle.block_queue.specs.Seats.{key_of};
-ghost use Rattle.pipe_dev.specs.Ends.{IsReadCursor};
+ghost use Rattle.pipe_dev.specs.Ends.{IsReadState};
 ghost use Rattle.pipe_dev.specs.FillSteps.{GivesNext, HasFilled, lending_with};
 
-use crate::cursor::ReadCursor;
 use crate::remainder::{Delivery, Remainder};
 use crate::row::Row;
+use crate::state::ReadState;
 use block_queue::{Queue, TakeAnswer};
 use sync_base::Mode;
 
@@ -45,23 +45,18 @@ pub(crate) enum Next {
 
 /// Reads part by part: in message mode one, and in stream mode as far as the buffer has room.
 #[inline(always)]
-pub(crate) fn fill(
-    queue: &Queue,
-    row: &Row,
-    cursor: &mut ReadCursor,
-    buffer: &mut [u8],
-) -> FillResult
-    requires cursor { IsReadCursor queue.now row.now cursor.old }
+pub(crate) fn fill(queue: &Queue, row: &Row, state: &mut ReadState, buffer: &mut [u8]) -> FillResult
+    requires state { IsReadState queue.now row.now state.old }
     requires room { buffer.old ≢ [] }
-    ensures cursor { IsReadCursor queue.now row.now cursor.new }
+    ensures state { IsReadState queue.now row.now state.new }
     ensures filled { HasFilled (key_of queue.now) row.now.mode
-        (lending_with cursor.old buffer.old) result (lending_with cursor.new buffer.new) }
+        (lending_with state.old buffer.old) result (lending_with state.new buffer.new) }
 {
     let mut count: usize = 0;
     let mut took = None;
     let mut further = true;
     'filling: while further {
-        match take_part(queue, row, cursor, &mut buffer[count..]) {
+        match take_part(queue, row, state, &mut buffer[count..]) {
             Next::Part(more, number) => {
                 count += more;
                 took = number;
@@ -89,24 +84,24 @@ pub(crate) fn fill(
 
 // One part: of what is left of a write that was begun, or else of the next write.
 #[inline(always)]
-fn take_part(queue: &Queue, row: &Row, cursor: &mut ReadCursor, room: &mut [u8]) -> Next
-    requires cursor { IsReadCursor queue.now row.now cursor.old }
-    ensures cursor { IsReadCursor queue.now row.now cursor.new }
-    ensures next { GivesNext (key_of queue.now) (lending_with cursor.old room.old) result
-        (lending_with cursor.new room.new) }
+fn take_part(queue: &Queue, row: &Row, state: &mut ReadState, room: &mut [u8]) -> Next
+    requires state { IsReadState queue.now row.now state.old }
+    ensures state { IsReadState queue.now row.now state.new }
+    ensures next { GivesNext (key_of queue.now) (lending_with state.old room.old) result
+        (lending_with state.new room.new) }
 {
-    if let Some(begun) = cursor.rest.take() {
+    if let Some(begun) = state.rest.take() {
         let Delivery { count, left, spare } = begun.give(room);
-        cursor.seat.spare.keep(spare);
-        cursor.rest = left;
+        state.seat.spare.keep(spare);
+        state.rest = left;
         return Next::Part(count, None);
     }
-    match queue.take(&mut cursor.seat) {
+    match queue.take(&mut state.seat) {
         TakeAnswer::Block(block, writer, number) => {
             let whole = Remainder::whole(block, writer, number - 1);
             let Delivery { count, left, spare } = whole.give(room);
-            cursor.seat.spare.keep(spare);
-            cursor.rest = left;
+            state.seat.spare.keep(spare);
+            state.rest = left;
             Next::Part(count, Some(number))
         }
         TakeAnswer::NotYet(number) => Next::NotYet(number),

@@ -1,5 +1,5 @@
 //! Two-way pipes between processes, after pipe(2) and pipe(3).
-//! Read `row`, `waking`; `remainder`, `cursor`, `answers`; `read_end`, `filling`, `reading`,
+//! Read `row`, `waking`; `remainder`, `state`, `answers`; `read_end`, `filling`, `reading`,
 //! `block_reading`; `write_end`, `writing`, `write_long`; `hanging`; `pipe`, `end`; `closing`; and
 //! then `laws`, the headline, and `side_laws`.
 #![tactic(auto)]
@@ -7,7 +7,6 @@
 pub mod answers;
 mod block_reading;
 pub mod closing;
-mod cursor;
 pub mod end;
 pub mod filling;
 mod hanging;
@@ -18,6 +17,7 @@ mod reading;
 pub mod remainder;
 pub mod row;
 pub mod side_laws;
+mod state;
 mod waking;
 pub mod write_end;
 mod write_long;

@@ -7,8 +7,9 @@ ghost use Rattle.pipe_dev.specs.Openings.{IsDirectionStartOf};
 ghost use Rattle.pipe_dev.specs.Directions.{IsNewDirection};
 
 use crate::row::Row;
+use crate::state::ReadState;
 use crate::write_end::WriteEnd;
-use block_queue::{PutSeat, Queue, TakeSeat};
+use block_queue::{PutSeat, Queue};
 use sleep_wakeup::Roster;
 use std::alloc::Global;
 use sync_base::limits::{MAX_PIPE_LIMIT, MAX_WRITERS};
@@ -29,11 +30,12 @@ pub struct PipeStart<'p> {
     pub(crate) back: DirectionStart<'p>,
 }
 
-/// What the ends of one direction are made of: its Rendez and seats, and room for the write ends.
+/// What the ends of one direction are made of: its Rendez, the state of the read end and the seats
+/// of the writers, and room for the write ends.
 #[derive(Drop)]
 pub struct DirectionStart<'p> {
     pub(crate) row: Row,
-    pub(crate) take: TakeSeat,
+    pub(crate) read: ReadState,
     pub(crate) puts: Vec<PutSeat>,
     pub(crate) room: Vec<WriteEnd<'p>>,
 }
@@ -171,7 +173,7 @@ impl Pipe {
 #[derive(Drop)]
 struct Direction<'p> {
     queue: Queue,
-    take: TakeSeat,
+    read: ReadState,
     puts: Vec<PutSeat>,
     room: Vec<WriteEnd<'p>>,
 }
@@ -192,9 +194,14 @@ impl<'p> Direction<'p> {
     {
         let block_queue::Opened { queue, take, puts } = Queue::new(alloc, limit, writers)?;
         let room = Vec::with_capacity(alloc, writers as usize)?;
+        let read = ReadState {
+            seat: take,
+            rest: None,
+            block: Vec::new(alloc),
+        };
         Ok(Direction {
             queue,
-            take,
+            read,
             puts,
             room,
         })
@@ -209,13 +216,13 @@ impl<'p> Direction<'p> {
     {
         let Direction {
             queue,
-            take,
+            read,
             puts,
             room,
         } = self;
         let start = DirectionStart {
             row,
-            take,
+            read,
             puts,
             room,
         };

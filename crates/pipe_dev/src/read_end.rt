@@ -1,6 +1,6 @@
 //! The end at which a direction is read.
-use crate::cursor::ReadCursor;
 use crate::row::Row;
+use crate::state::ReadState;
 use block_queue::Queue;
 use std::marker::Model;
 use sync_base::RendezId;
@@ -10,43 +10,39 @@ use sync_base::RendezId;
 pub struct ReadEnd<'p> {
     pub(crate) queue: &'p Queue,
     pub(crate) row: Row,
-    // It is away while a call makes its steps.
-    pub(crate) cursor: Option<ReadCursor>,
+    pub(crate) state: ReadState,
 }
 
 impl<'p> Model for ReadEnd<'p> {
-    ghost use Rattle.pipe_dev.specs.Ends.{ReadSide, HasReadCursor, account_in, rest_in};
+    ghost use Rattle.block_queue.specs.Seats.{take_account};
+    ghost use Rattle.pipe_dev.specs.Ends.{ReadSide, IsReadState};
 
     ghost Value = { ReadSide };
 
     ghost view = { λ end. record {
       queue = end.queue.now;
       row = end.row;
-      account = account_in end.cursor;
-      rest = rest_in end.cursor;
+      account = take_account end.state.seat;
+      rest = end.state.rest;
     } };
 
-    ghost invariant = { λ end. HasReadCursor end.queue.now end.row end.cursor };
+    ghost invariant = { λ end. IsReadState end.queue.now end.row end.state };
 }
 
 impl<'p> ReadEnd<'p> {
-    ghost use Rattle.std.specs.Prelude.{◌≡◌, None};
+    ghost use Rattle.std.specs.Prelude.{◌≡◌};
     ghost use Rattle.block_queue.specs.Seats.{take_account};
-    ghost use Rattle.pipe_dev.specs.Ends.{IsReadCursor};
+    ghost use Rattle.pipe_dev.specs.Ends.{IsReadState};
     ghost use Rattle.pipe_dev.specs.Rendezes.{reader_rendez};
 
-    pub(crate) fn new(queue: &'p Queue, row: Row, cursor: ReadCursor) -> ReadEnd<'p>
-        requires { IsReadCursor queue.now row cursor }
+    pub(crate) fn new(queue: &'p Queue, row: Row, state: ReadState) -> ReadEnd<'p>
+        requires { IsReadState queue.now row state }
         ensures queue { result.queue ≡ queue.entry.now }
         ensures row { result.row ≡ row }
-        ensures account { result.account ≡ take_account cursor.seat }
-        ensures rest { result.rest ≡ cursor.rest }
+        ensures account { result.account ≡ take_account state.seat }
+        ensures rest { result.rest ≡ state.rest }
     {
-        ReadEnd {
-            queue,
-            row,
-            cursor: Some(cursor),
-        }
+        ReadEnd { queue, row, state }
     }
 
     /// Where its process sleeps while there is nothing to read. Takes no memory and doesn't wait.

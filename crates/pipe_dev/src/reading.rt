@@ -1,20 +1,19 @@
 //! How a direction is read.
 ghost use Rattle.std.specs.Prelude.{◌≡◌, ◌≢◌, []};
 ghost use Rattle.block_queue.specs.Seats.{key_of};
-ghost use Rattle.pipe_dev.specs.Ends.{IsReadCursor};
+ghost use Rattle.pipe_dev.specs.Ends.{IsReadState};
 ghost use Rattle.pipe_dev.specs.Filling.{Lending};
 ghost use Rattle.pipe_dev.specs.FillSteps.{lending_with};
-ghost use Rattle.pipe_dev.specs.ReadCalls.{AsksForBytes, ReadsBy, Tries, reading};
+ghost use Rattle.pipe_dev.specs.ReadCalls.{AsksForBytes, Tries, reading};
 ghost use Rattle.pipe_dev.specs.ReadSteps.{found_of};
-ghost use Rattle.pipe_dev.specs.Rendezes.{OwnsRow, reader_rendez};
-ghost use Rattle.waiting.specs.Runners.{IsACall, run_point};
+ghost use Rattle.pipe_dev.specs.Rendezes.{OwnsRow};
 ghost use Rattle.waiting.specs.Waiting.{IsLow, point};
 
 use crate::answers::{ReadAnswer, TryAnswer};
-use crate::cursor::ReadCursor;
 use crate::filling::{FillResult, ReadOutcome, Stop, fill};
 use crate::read_end::ReadEnd;
 use crate::row::Row;
+use crate::state::ReadState;
 use crate::waking::wake_writers;
 use block_queue::Queue;
 use sleep_wakeup::Proc;
@@ -102,28 +101,16 @@ impl<'p> ReadEnd<'p> {
         ensures timer { W.rests runner.now timer.new }
         ensures kept { W.kept timer.new ≡ W.kept timer.old }
     {
-        // The refusals come before the cursor is taken, so they leave the end as it was.
         if buffer.is_empty() {
             return Err(Fault::BadCount);
         }
         if !self.row.is_known_to(proc) {
             return Err(Fault::NoRendez);
         }
-        let Some(mut cursor) = self.cursor.take() else {
-            unreachable!()
-        };
-        let answer = run_read(
-            self.queue,
-            &self.row,
-            rt,
-            &mut cursor,
-            proc,
-            buffer,
-            runner,
-            timer,
-        );
-        self.cursor = Some(cursor);
-        answer
+        let (queue, row, state) = (self.queue, &self.row, &mut self.state);
+        let call = Read { queue, row };
+        let rendez = row.reader();
+        runner.run(rt, proc, rendez, &call, state, buffer, timer, &mut NoProbe)
     }
 
     /// A `read` that does not wait: `NotYet` where nothing is there yet. Takes no memory.
@@ -154,63 +141,32 @@ impl<'p> ReadEnd<'p> {
         if !self.row.is_known_to(proc) {
             return Err(Fault::NoRendez);
         }
-        let Some(mut cursor) = self.cursor.take() else {
-            unreachable!()
-        };
-        let answer = try_once(self.queue, &self.row, &mut cursor, proc, buffer);
-        self.cursor = Some(cursor);
-        Ok(answer)
+        match ask_for_bytes(self.queue, &self.row, &mut self.state, proc, buffer) {
+            Reply::Done(ReadAnswer::Got(count)) => Ok(TryAnswer::Got(count)),
+            Reply::Done(ReadAnswer::End) => Ok(TryAnswer::End),
+            Reply::Wait(_) => Ok(TryAnswer::NotYet),
+            Reply::Refused(_) => unreachable!(),
+        }
     }
-}
-
-// Tries, as its runner does, until it is answered.
-fn run_read<R: Wait, W: Runner>(
-    queue: &Queue,
-    row: &Row,
-    rt: &R,
-    cursor: &mut ReadCursor,
-    proc: &mut Proc<'_>,
-    buffer: &mut [u8],
-    runner: &W,
-    timer: &mut W::Timer,
-) -> Result<ReadAnswer, Fault>
-    requires cursor { IsReadCursor queue.now row.now cursor.old }
-    requires kernel { OwnsRow proc.old.words row.now }
-    requires room { buffer.old ≢ [] }
-    requires timer { W.rests runner.now timer.old }
-    ensures cursor { IsReadCursor queue.now row.now cursor.new }
-    ensures words { proc.new.words ≡ proc.old.words }
-    ensures timer { W.rests runner.now timer.new }
-    ensures kept { W.kept timer.new ≡ W.kept timer.old }
-    ensures ran { ReadsBy (W.runs runner.now) (key_of queue.now) row.now
-        (run_point (lending_with cursor.old buffer.old) timer.old proc.old) result
-        (run_point (lending_with cursor.new buffer.new) timer.new proc.new) }
-    ensures is_call { IsACall (reading (key_of queue.now) row.now) (reader_rendez row.now)
-        (point (lending_with cursor.old buffer.old) proc.old) result
-        (point (lending_with cursor.new buffer.new) proc.new) }
-{
-    let call = Reading { queue, row };
-    let rendez = row.reader();
-    runner.run(rt, proc, rendez, &call, cursor, buffer, timer, &mut NoProbe)
 }
 
 /// A call of read: what it asks of its queue.
 #[derive(Drop)]
-pub(crate) struct Reading<'q> {
+pub(crate) struct Read<'q> {
     pub(crate) queue: &'q Queue,
     pub(crate) row: &'q Row,
 }
 
-impl<'q> WaitingCall for Reading<'q> {
-    type Seat = ReadCursor;
+impl<'q> WaitingCall for Read<'q> {
+    type Seat = ReadState;
 
     type Out = ReadAnswer;
 
-    ghost ready = { λ call cursor. IsReadCursor call.queue.now call.row.now cursor };
+    ghost ready = { λ call state. IsReadState call.queue.now call.row.now state };
 
-    ghost waits = { λ call cursor. IsReadCursor call.queue.now call.row.now cursor };
+    ghost waits = { λ call state. IsReadState call.queue.now call.row.now state };
 
-    ghost rests = { λ call cursor. IsReadCursor call.queue.now call.row.now cursor };
+    ghost rests = { λ call state. IsReadState call.queue.now call.row.now state };
 
     ghost fits = { λ call buffer. buffer ≢ [] };
 
@@ -218,7 +174,7 @@ impl<'q> WaitingCall for Reading<'q> {
 
     ghost Sight = { Lending };
 
-    ghost sight = { λ cursor buffer. lending_with cursor buffer };
+    ghost sight = { λ state buffer. lending_with state buffer };
 
     ghost promise = { λ call. reading (key_of call.queue.now) call.row.now };
 
@@ -226,10 +182,10 @@ impl<'q> WaitingCall for Reading<'q> {
         &self,
         rt: &R,
         proc: &mut Proc<'_>,
-        cursor: &mut ReadCursor,
+        state: &mut ReadState,
         buffer: &mut [u8],
     ) -> Reply<ReadAnswer> {
-        self.ask(rt, proc, cursor, buffer)
+        self.ask(rt, proc, state, buffer)
     }
 
     // A try. Where it took writes out, it wakes each writer.
@@ -238,14 +194,14 @@ impl<'q> WaitingCall for Reading<'q> {
         &self,
         _rt: &R,
         proc: &mut Proc<'_>,
-        cursor: &mut ReadCursor,
+        state: &mut ReadState,
         buffer: &mut [u8],
     ) -> Reply<ReadAnswer> {
-        ask_for_bytes(self.queue, self.row, cursor, proc, buffer)
+        ask_for_bytes(self.queue, self.row, state, proc, buffer)
     }
 
     // It reads nothing more.
-    fn leave<R: Wait>(&self, _rt: &R, _cursor: &mut ReadCursor) -> Option<ReadAnswer> {
+    fn leave<R: Wait>(&self, _rt: &R, _cursor: &mut ReadState) -> Option<ReadAnswer> {
         None
     }
 }
@@ -256,22 +212,22 @@ impl<'q> WaitingCall for Reading<'q> {
 fn ask_for_bytes(
     queue: &Queue,
     row: &Row,
-    cursor: &mut ReadCursor,
+    state: &mut ReadState,
     proc: &mut Proc<'_>,
     buffer: &mut [u8],
 ) -> Reply<ReadAnswer>
-    requires cursor { IsReadCursor queue.now row.now cursor.old }
+    requires state { IsReadState queue.now row.now state.old }
     requires kernel { OwnsRow proc.old.words row.now }
     requires room { buffer.old ≢ [] }
-    ensures cursor { IsReadCursor queue.now row.now cursor.new }
+    ensures state { IsReadState queue.now row.now state.new }
     ensures words { proc.new.words ≡ proc.old.words }
     ensures room { buffer.new ≢ [] }
     ensures low { IsLow result }
     ensures asked { AsksForBytes (key_of queue.now) row.now
-        (point (lending_with cursor.old buffer.old) proc.old) result
-        (point (lending_with cursor.new buffer.new) proc.new) }
+        (point (lending_with state.old buffer.old) proc.old) result
+        (point (lending_with state.new buffer.new) proc.new) }
 {
-    let FillResult { took, came } = fill(queue, row, cursor, buffer);
+    let FillResult { took, came } = fill(queue, row, state, buffer);
     if let Some(number) = took {
         wake_writers(proc, row, number);
     }
@@ -287,30 +243,5 @@ fn found_by(came: ReadOutcome) -> Reply<ReadAnswer>
         Stop::NotYet(number) if came.count == 0 => Reply::Wait(number),
         Stop::End if came.count == 0 => Reply::Done(ReadAnswer::End),
         _ => Reply::Done(ReadAnswer::Got(came.count)),
-    }
-}
-
-// One try, and what it is answered.
-fn try_once(
-    queue: &Queue,
-    row: &Row,
-    cursor: &mut ReadCursor,
-    proc: &mut Proc<'_>,
-    buffer: &mut [u8],
-) -> TryAnswer
-    requires cursor { IsReadCursor queue.now row.now cursor.old }
-    requires kernel { OwnsRow proc.old.words row.now }
-    requires room { buffer.old ≢ [] }
-    ensures cursor { IsReadCursor queue.now row.now cursor.new }
-    ensures words { proc.new.words ≡ proc.old.words }
-    ensures tried { Tries (key_of queue.now) row.now
-        (point (lending_with cursor.old buffer.old) proc.old) result
-        (point (lending_with cursor.new buffer.new) proc.new) }
-{
-    match ask_for_bytes(queue, row, cursor, proc, buffer) {
-        Reply::Done(ReadAnswer::Got(count)) => TryAnswer::Got(count),
-        Reply::Done(ReadAnswer::End) => TryAnswer::End,
-        Reply::Wait(_) => TryAnswer::NotYet,
-        Reply::Refused(_) => unreachable!(),
     }
 }

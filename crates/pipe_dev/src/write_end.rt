@@ -1,5 +1,6 @@
 //! An end at which a direction is written.
 use crate::row::Row;
+use crate::state::WriteState;
 use block_queue::{PutSeat, Queue};
 use std::marker::Model;
 use sync_base::RendezId;
@@ -10,24 +11,25 @@ use sync_base::RendezId;
 pub struct WriteEnd<'p> {
     pub(crate) queue: &'p Queue,
     pub(crate) row: Row,
-    pub(crate) writer: u64,
-    // It is away while a call makes its steps.
-    pub(crate) seat: Option<PutSeat>,
+    pub(crate) state: WriteState,
 }
 
 impl<'p> Model for WriteEnd<'p> {
-    ghost use Rattle.pipe_dev.specs.Ends.{WriteSide, HasWriteSeat, put_account_in};
+    ghost use Rattle.std.specs.Prelude.{None};
+    ghost use Rattle.block_queue.specs.Seats.{put_account};
+    ghost use Rattle.pipe_dev.specs.Ends.{WriteSide, IsWriteState};
 
     ghost Value = { WriteSide };
 
     ghost view = { λ end. record {
       queue = end.queue.now;
       row = end.row;
-      writer = end.writer;
-      account = put_account_in end.seat;
+      writer = end.state.seat.writer;
+      account = put_account end.state.seat;
     } };
 
-    ghost invariant = { λ end. HasWriteSeat end.queue.now end.row end.writer end.seat };
+    ghost invariant = { λ end.
+        IsWriteState end.queue.now end.row end.state.seat.writer None end.state };
 }
 
 impl<'p> WriteEnd<'p> {
@@ -35,34 +37,26 @@ impl<'p> WriteEnd<'p> {
     ghost use Rattle.block_queue.specs.Seats.{put_account};
     ghost use Rattle.pipe_dev.specs.Ends.{IsWriteSeat};
     ghost use Rattle.pipe_dev.specs.Rendezes.{writer_rendez};
+    ghost use Rattle.pipe_dev.specs.Seating.{IsSeatOf, side_of};
 
     pub(crate) fn new(queue: &'p Queue, row: Row, seat: PutSeat) -> WriteEnd<'p>
-        requires { IsWriteSeat queue.now row seat.writer seat }
-        ensures queue { result.queue ≡ queue.entry.now }
-        ensures row { result.row ≡ row }
-        ensures writer { result.writer ≡ seat.writer }
-        ensures account { result.account ≡ put_account seat }
+        requires { IsWriteSeat queue.now row seat }
+        ensures { result ≡ side_of queue.entry.now row seat }
     {
-        WriteEnd {
-            queue,
-            row,
-            writer: seat.writer(),
-            seat: Some(seat),
-        }
+        let state = WriteState { seat, block: None };
+        WriteEnd { queue, row, state }
     }
 
     /// Its seat. The end is spent.
     pub(crate) fn into_seat(self) -> PutSeat
-        ensures seat { IsWriteSeat self.entry.queue self.entry.row self.entry.writer result }
-        ensures account { put_account result ≡ self.entry.account }
+        ensures { IsSeatOf self.entry result }
     {
         let WriteEnd {
             queue: _,
             row: _,
-            writer: _,
-            seat,
+            state,
         } = self;
-        let Some(seat) = seat else { unreachable!() };
+        let WriteState { seat, block: _ } = state;
         seat
     }
 
@@ -70,13 +64,13 @@ impl<'p> WriteEnd<'p> {
     pub fn writer(&self) -> u64
         ensures { result ≡ self.now.writer }
     {
-        self.writer
+        self.state.seat.writer()
     }
 
     /// Where its process sleeps while there is no room. Takes no memory and doesn't wait.
     pub fn rendez(&self) -> RendezId
         ensures { result ≡ writer_rendez self.now.row self.now.writer }
     {
-        self.row.writer(self.writer)
+        self.row.writer(self.writer())
     }
 }

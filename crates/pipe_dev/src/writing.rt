@@ -1,23 +1,22 @@
 //! How a direction is written.
-ghost use Rattle.std.specs.Prelude.{◌≡◌};
+ghost use Rattle.std.specs.Prelude.{None, Some};
 ghost use Rattle.histories.specs.declared.account.Account.{Account};
 ghost use Rattle.block_queue.specs.declared.entry.Entry.{Entry};
 ghost use Rattle.block_queue.specs.Seats.{key_of, put_account};
-ghost use Rattle.pipe_dev.specs.Ends.{IsWriteSeat};
-ghost use Rattle.pipe_dev.specs.Rendezes.{OwnsRow, writer_rendez};
-ghost use Rattle.pipe_dev.specs.WriteCalls.{call_with, writer_with, writing};
-ghost use Rattle.pipe_dev.specs.WriteSteps.{IsPutting};
-ghost use Rattle.waiting.specs.Runners.{IsACall, run_point};
+ghost use Rattle.pipe_dev.specs.Ends.{IsWriteState};
+ghost use Rattle.pipe_dev.specs.Rendezes.{OwnsRow};
+ghost use Rattle.pipe_dev.specs.WriteCalls.{writing};
 
 use crate::row::Row;
+use crate::state::WriteState;
 use crate::waking::wake;
 use crate::write_end::WriteEnd;
-use block_queue::{PutAnswer, PutSeat, Queue, Spare};
+use block_queue::{PutAnswer, Queue, Spare};
 use sleep_wakeup::Proc;
 use std::alloc::Global;
 use std::sync::Wait;
 use sync_base::limits::ATOMIC_SIZE;
-use sync_base::{Fault, NoProbe, Note, NoteSet, Piece};
+use sync_base::{Fault, NoProbe, Note, NoteSet};
 use waiting::{Forever, Reply, Runner, WaitingCall};
 
 impl<'p> WriteEnd<'p> {
@@ -104,118 +103,54 @@ impl<'p> WriteEnd<'p> {
         if !self.row.is_known_to(proc) {
             return Err(Fault::NoRendez);
         }
-        let Some(mut seat) = self.seat.take() else {
-            unreachable!()
-        };
-        match seat.spare.take().filled(alloc, bytes) {
-            Ok(block) => {
-                let block = Some(block);
-                let mut putting = Putting { seat, block };
-                let answer = run_write(
-                    self.queue,
-                    &self.row,
-                    rt,
-                    &mut putting,
-                    proc,
-                    bytes,
-                    runner,
-                    timer,
-                );
-                let Putting { seat, block: _ } = putting;
-                self.seat = Some(seat);
-                answer
-            }
+        let (queue, row, state) = (self.queue, &self.row, &mut self.state);
+        match state.seat.spare.take().filled(alloc, bytes) {
+            Ok(block) => state.block = Some(block),
             Err(spare) => {
-                seat.spare.keep(spare);
-                self.seat = Some(seat);
-                Err(Fault::Memory)
+                state.seat.spare.keep(spare);
+                return Err(Fault::Memory);
             }
         }
+        let writer = state.seat.writer();
+        let call = Write {
+            queue,
+            row,
+            writer,
+            bytes,
+        };
+        let rendez = row.writer(writer);
+        runner.run(rt, proc, rendez, &call, state, &mut [], timer, &mut NoProbe)
     }
-}
-
-// Asks and sleeps, as its runner does, until it is answered.
-fn run_write<R: Wait, W: Runner>(
-    queue: &Queue,
-    row: &Row,
-    rt: &R,
-    putting: &mut Putting,
-    proc: &mut Proc<'_>,
-    bytes: &[u8],
-    runner: &W,
-    timer: &mut W::Timer,
-) -> Result<u64, Fault>
-    requires putting { IsPutting queue.now row.now putting.old.seat.writer bytes.now putting.old }
-    requires kernel { OwnsRow proc.old.words row.now }
-    requires timer { W.rests runner.now timer.old }
-    ensures seat { IsWriteSeat queue.now row.now putting.old.seat.writer putting.new.seat }
-    ensures words { proc.new.words ≡ proc.old.words }
-    ensures timer { W.rests runner.now timer.new }
-    ensures kept { W.kept timer.new ≡ W.kept timer.old }
-    ensures ran { (W.runs runner.now).ran
-        (writing (call_with queue.now row.now putting.old.seat bytes.now))
-        (writer_rendez row.now putting.old.seat.writer)
-        (run_point (put_account putting.old.seat) timer.old proc.old) result
-        (run_point (put_account putting.new.seat) timer.new proc.new) }
-    ensures is_call { IsACall (writing (call_with queue.now row.now putting.old.seat bytes.now))
-        (writer_rendez row.now putting.old.seat.writer) (writer_with putting.old.seat proc.old)
-        result (writer_with putting.new.seat proc.new) }
-{
-    let writer = putting.seat.writer();
-    let rendez = row.writer(writer);
-    let call = Writing {
-        queue,
-        row,
-        writer,
-        bytes,
-    };
-    runner.run(
-        rt,
-        proc,
-        rendez,
-        &call,
-        putting,
-        &mut [],
-        timer,
-        &mut NoProbe,
-    )
-}
-
-/// The seat of a write, and its block while the queue has not taken it.
-#[derive(Drop)]
-pub(crate) struct Putting {
-    pub(crate) seat: PutSeat,
-    pub(crate) block: Option<Piece>,
 }
 
 /// A call of write: what it asks of its queue.
 #[derive(Drop)]
-pub(crate) struct Writing<'q> {
+pub(crate) struct Write<'q> {
     pub(crate) queue: &'q Queue,
     pub(crate) row: &'q Row,
     pub(crate) writer: u64,
     pub(crate) bytes: &'q [u8],
 }
 
-impl<'q> WaitingCall for Writing<'q> {
-    type Seat = Putting;
+impl<'q> WaitingCall for Write<'q> {
+    type Seat = WriteState;
 
     type Out = u64;
 
-    ghost ready = { λ call putting.
-        IsPutting call.queue.now call.row.now call.writer call.bytes.now putting };
+    ghost ready = { λ call state.
+        IsWriteState call.queue.now call.row.now call.writer (Some call.bytes.now) state };
 
-    ghost waits = { λ call putting.
-        IsPutting call.queue.now call.row.now call.writer call.bytes.now putting };
+    ghost waits = { λ call state.
+        IsWriteState call.queue.now call.row.now call.writer (Some call.bytes.now) state };
 
-    ghost rests = { λ call putting.
-        IsWriteSeat call.queue.now call.row.now call.writer putting.seat };
+    ghost rests = { λ call state.
+        IsWriteState call.queue.now call.row.now call.writer None state };
 
     ghost knows = { λ call words. OwnsRow words call.row.now };
 
     ghost Sight = { Account Entry };
 
-    ghost sight = { λ putting buffer. put_account putting.seat };
+    ghost sight = { λ state buffer. put_account state.seat };
 
     ghost promise = { λ call. writing (record {
       key = key_of call.queue.now;
@@ -228,10 +163,10 @@ impl<'q> WaitingCall for Writing<'q> {
         &self,
         rt: &R,
         proc: &mut Proc<'_>,
-        putting: &mut Putting,
+        state: &mut WriteState,
         buffer: &mut [u8],
     ) -> Reply<u64> {
-        self.ask(rt, proc, putting, buffer)
+        self.ask(rt, proc, state, buffer)
     }
 
     // A put; where it was accepted the reader is woken with its number.
@@ -240,37 +175,37 @@ impl<'q> WaitingCall for Writing<'q> {
         &self,
         rt: &R,
         proc: &mut Proc<'_>,
-        putting: &mut Putting,
+        state: &mut WriteState,
         _buffer: &mut [u8],
     ) -> Reply<u64> {
-        let Some(block) = putting.block.take() else {
+        let Some(block) = state.block.take() else {
             unreachable!()
         };
-        match self.queue.put(rt, &mut putting.seat, block) {
+        match self.queue.put(rt, &mut state.seat, block) {
             PutAnswer::Taken(number) => {
                 wake(proc, self.row.reader(), number);
                 Reply::Done(number)
             }
             PutAnswer::Full(back, number) => {
-                putting.block = Some(back);
+                state.block = Some(back);
                 Reply::Wait(number)
             }
             PutAnswer::Hungup(back) => {
-                putting.seat.spare.keep(Spare::of(back));
+                state.seat.spare.keep(Spare::of(back));
                 proc.put_back(NoteSet::of(Note::ClosedPipe));
                 Reply::Refused(Fault::Hungup)
             }
             PutAnswer::Worn(back) => {
-                putting.seat.spare.keep(Spare::of(back));
+                state.seat.spare.keep(Spare::of(back));
                 Reply::Refused(Fault::Worn)
             }
         }
     }
 
     // Nothing was accepted, and the memory of the block is kept.
-    fn leave<R: Wait>(&self, _rt: &R, putting: &mut Putting) -> Option<u64> {
-        if let Some(block) = putting.block.take() {
-            putting.seat.spare.keep(Spare::of(block));
+    fn leave<R: Wait>(&self, _rt: &R, state: &mut WriteState) -> Option<u64> {
+        if let Some(block) = state.block.take() {
+            state.seat.spare.keep(Spare::of(block));
         }
         None
     }

@@ -24,11 +24,11 @@ pub enum Semacquired {
 
 /// A call that takes a unit: what it asks of its semaphore.
 #[derive(Drop)]
-pub(crate) struct Acquiring<'s> {
+pub(crate) struct Acquire<'s> {
     pub(crate) sema: &'s Sema,
 }
 
-impl<'s> WaitingCall for Acquiring<'s> {
+impl<'s> WaitingCall for Acquire<'s> {
     type Seat = SemaSeat;
 
     type Out = ();
@@ -162,7 +162,7 @@ impl Sema {
             return Ok(self.acquire_now(rt, seat));
         }
         let rendez = self.rendez(seat);
-        let call = Acquiring { sema: self };
+        let call = Acquire { sema: self };
         match wait_for(rt, proc, rendez, &call, seat, &mut [], probe) {
             Ok(()) => Ok(Semacquired::Acquired),
             Err(why) => Err(why),

@@ -7,7 +7,7 @@ ghost use Rattle.timer_list.specs.Seats.{IsTimerSeatOf};
 ghost use Rattle.timer_list.specs.Timers.{deadline_of};
 ghost use Rattle.waiting.specs.Runners.{run_point};
 
-use crate::acquiring::Acquiring;
+use crate::acquiring::Acquire;
 use crate::sema::{Sema, SemaSeat};
 use sleep_wakeup::Proc;
 use std::sync::Wait;
@@ -78,7 +78,7 @@ impl Sema {
             (run_point seat.new timer.new proc.new) }
     {
         let rendez = self.rendez(seat);
-        let call = Acquiring { sema: self };
+        let call = Acquire { sema: self };
         let until = Deadline {
             timers,
             from: now,

@@ -92,13 +92,13 @@ impl TagSpace {
 
 /// A call of rendezvous(2): what it asks of its space.
 #[derive(Drop)]
-pub(crate) struct Meeting<'s> {
+pub(crate) struct Rendezvous<'s> {
     pub(crate) space: &'s TagSpace,
     pub(crate) tag: Tag,
     pub(crate) value: u64,
 }
 
-impl<'s> WaitingCall for Meeting<'s> {
+impl<'s> WaitingCall for Rendezvous<'s> {
     type Seat = Member;
 
     type Out = u64;

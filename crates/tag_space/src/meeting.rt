@@ -6,7 +6,7 @@ ghost use Rattle.tag_space.specs.Outcome.{Exchange};
 ghost use Rattle.waiting.specs.Runners.{IsACall, run_point};
 ghost use Rattle.waiting.specs.Waiting.{point};
 
-use crate::asking::Meeting;
+use crate::asking::Rendezvous;
 use crate::member::Member;
 use crate::space::TagSpace;
 use sleep_wakeup::Proc;
@@ -119,7 +119,7 @@ impl TagSpace {
             member.old.rendez (point member.old proc.old) result (point member.new proc.new) }
     {
         let rendez = member.rendez;
-        let call = Meeting {
+        let call = Rendezvous {
             space: self,
             tag,
             value,

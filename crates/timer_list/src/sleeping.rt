@@ -68,7 +68,7 @@ impl Timers {
         if threshold >= TOP_LEVEL {
             return Err(Fault::BadLevel);
         }
-        let call = Sleeping { threshold };
+        let call = Sleep { threshold };
         let until = Deadline {
             timers: self,
             from: now,
@@ -90,11 +90,11 @@ impl Timers {
 
 /// A sleep: it asks nobody.
 #[derive(Drop)]
-pub(crate) struct Sleeping {
+pub(crate) struct Sleep {
     threshold: u64,
 }
 
-impl WaitingCall for Sleeping {
+impl WaitingCall for Sleep {
     type Seat = ();
 
     type Out = ();

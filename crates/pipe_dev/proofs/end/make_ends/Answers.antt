@@ -2,7 +2,7 @@
 use Rattle.std.proofs.Common.{◌∙◌}
 use Rattle.histories.proofs.ListLemmas.{all_weaker}
 use Rattle.pipe_dev.specs.Openings.{IsSeatToGive}
-use Rattle.pipe_dev.specs.Seating.{IsWriteSeatOf}
+use Rattle.pipe_dev.specs.Ends.{IsWriteSeat}
 use Rattle.pipe_dev.proofs.SeatingLemmas.{new_writes, new_one, new_order}
 use Rattle.pipe_dev.proofs.end.make_ends.Goals as goal
 
@@ -10,7 +10,7 @@ pub seat_writers-requires-clause-seats : goal.seat_writers-requires-clause-seats
 seat_writers-requires-clause-seats c =
     let queue = c.args.queue.now in
     let row = c.args.start.row in
-    all_weaker (IsSeatToGive queue row) (IsWriteSeatOf queue row) (λ seat to_give. to_give.seat_is)
+    all_weaker (IsSeatToGive queue row) (IsWriteSeat queue row) (λ seat to_give. to_give.seat_is)
     c.args.start.puts.items c.requires.start.writes
 
 pub returns : goal.returns
@@ -25,7 +25,7 @@ returns c =
         queue_is = c.new.ensures.queue;
         row_is = c.new.ensures.row;
         unread = c.new.ensures.account ∙ start.unread;
-        rest = c.new.ensures.rest;
+        rest = c.new.ensures.rest ∙ start.rest;
         unwritten = rw seated (new_writes queue row seats start.writes);
         all = record {
           one = rw seated

@@ -10,11 +10,11 @@ pub filling-preserved-in-Message : goal.filling-preserved-in-Message
 filling-preserved-in-Message c =
     let step = c.take_part.new in
     let buffer =
-    (back_of (lending_with c.filling.cursor c.filling.buffer) c.filling.count
-    (taker_with step.cursor) step.room).buffer in
+    (back_of (lending_with c.filling.state c.filling.buffer) c.filling.count
+    (taker_with step.state) step.room).buffer in
     record {
-      cursor = c.take_part.ensures.cursor;
-      so_far = next_so_far c.filling.invariant.so_far c.filling-test.true (taker_with step.cursor)
+      state = c.take_part.ensures.state;
+      so_far = next_so_far c.filling.invariant.so_far c.filling-test.true (taker_with step.state)
           step.room c.in-Part.ensures.next c.take_part.auto.room _
           (sym (ap (λ m. goes_on_behind m (c.filling.count + c.in-Part.more) buffer)
           c.in-Message.is));
@@ -24,11 +24,11 @@ pub filling-preserved : goal.filling-preserved
 filling-preserved c =
     let step = c.take_part.new in
     let buffer =
-    (back_of (lending_with c.filling.cursor c.filling.buffer) c.filling.count
-    (taker_with step.cursor) step.room).buffer in
+    (back_of (lending_with c.filling.state c.filling.buffer) c.filling.count
+    (taker_with step.state) step.room).buffer in
     record {
-      cursor = c.take_part.ensures.cursor;
-      so_far = next_so_far c.filling.invariant.so_far c.filling-test.true (taker_with step.cursor)
+      state = c.take_part.ensures.state;
+      so_far = next_so_far c.filling.invariant.so_far c.filling-test.true (taker_with step.state)
           step.room c.in-Part.ensures.next c.take_part.auto.room _
           (sym (ap (λ m. goes_on_behind m (c.filling.count + c.in-Part.more) buffer)
           c.in-Stream.is));
@@ -37,27 +37,27 @@ filling-preserved c =
 pub filling-smaller : goal.filling-smaller
 filling-smaller c =
     let key = key_of c.args.queue.now in
-    let now = lending_with c.filling.cursor c.filling.buffer in
-    let new = taker_with c.take_part.new.cursor in
+    let now = lending_with c.filling.state c.filling.buffer in
+    let new = taker_with c.take_part.new.state in
     let room = c.take_part.new.room in
     let buffer = (back_of now c.filling.count new room).buffer in
-    let cursor = c.filling.invariant.cursor in
+    let state = c.filling.invariant.state in
     let on = nat_lt (c.filling.count + c.in-Part.more) (length buffer) in
     subst (λ b. left_to_take key new on < left_to_take key now.taker b) (sym c.filling-test.true)
     (next_is_nearer c.filling.invariant.so_far c.filling-test.true new room c.in-Part.ensures.next
     c.take_part.auto.room on
     (sym (ap (λ m. goes_on_behind m (c.filling.count + c.in-Part.more) buffer) c.in-Stream.is))
-    cursor.row_is.first cursor.seat.own cursor.knows)
+    state.row_is.first state.seat.own state.knows)
 
 pub returns-in-NotYet-clause-filled : goal.returns-in-NotYet-clause-filled
 returns-in-NotYet-clause-filled c =
     not_yet_so_far c.filling.invariant.so_far c.filling-test.true
-    (taker_with c.take_part.new.cursor) c.take_part.new.room c.in-NotYet.number
+    (taker_with c.take_part.new.state) c.take_part.new.room c.in-NotYet.number
     c.in-NotYet.ensures.next
 
 pub returns-in-End-clause-filled : goal.returns-in-End-clause-filled
 returns-in-End-clause-filled c =
-    end_so_far c.filling.invariant.so_far c.filling-test.true (taker_with c.take_part.new.cursor)
+    end_so_far c.filling.invariant.so_far c.filling-test.true (taker_with c.take_part.new.state)
     c.take_part.new.room c.in-End.ensures.next
 
 pub returns-clause-filled : goal.returns-clause-filled

@@ -26,7 +26,7 @@ returns-in-Block-clause-next c =
     let whole = c.whole-whole.result in
     let part = part_of (length c.args.room.now) whole in
     let key = key_of c.args.queue.now in
-    let old = take_account c.args.cursor.now.seat in
+    let old = take_account c.args.state.now.seat in
     let new = take_account c.take-2.new.seat in
     record {
       part = part;

@@ -19,10 +19,10 @@ returns-clause-asked c =
     let filled = c.fill-took.ensures.filled in
     let row = c.args.row.now in
     let before = c.args.proc.now.process in
-    let last = last_number c.args.cursor.now.rest filled.fills.filling.parts in
+    let last = last_number c.args.state.now.rest filled.fills.filling.parts in
     asks_as_found (key_of c.args.queue.now) row
-    (point (lending_with c.args.cursor.now c.args.buffer.now) c.args.proc.now)
-    (point (lending_with c.fill-took.new.cursor c.fill-took.new.buffer)
+    (point (lending_with c.args.state.now c.args.buffer.now) c.args.proc.now)
+    (point (lending_with c.fill-took.new.state c.fill-took.new.buffer)
     c.match-took.proc)
     c.fill-took.result.came c.found_by.result
     (record {
@@ -42,7 +42,7 @@ returns-clause-asked c =
 pub returns-clause-low : goal.returns-clause-low
 returns-clause-low c =
     told_low (key_of c.args.queue.now) c.args.row.now
-    (point (lending_with c.args.cursor.now c.args.buffer.now) c.args.proc.now)
-    (point (lending_with c.fill-took.new.cursor c.fill-took.new.buffer)
+    (point (lending_with c.args.state.now c.args.buffer.now) c.args.proc.now)
+    (point (lending_with c.fill-took.new.state c.fill-took.new.buffer)
     c.match-took.proc)
-    c.found_by.result c.requires.cursor.row_is.first (returns-clause-asked c)
+    c.found_by.result c.requires.state.row_is.first (returns-clause-asked c)

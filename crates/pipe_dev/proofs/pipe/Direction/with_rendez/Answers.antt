@@ -28,9 +28,10 @@ returns-clause-start c =
         seat = direction.take_is;
         knows = rw (direction.account_is, row_is.writers) (reader_knows (key_of queue));
         gave = ap (λ (a : Account Entry). a.gave) direction.account_is;
-        some_left = tt;
+        some_left = rw direction.rest tt;
       };
       unread = direction.account_is;
+      rest = direction.rest;
       writes = all_to_give queue c.args.row 0 c.args.self.puts.items row_is
           (λ place seat there. subst (λ (n : ℕ). IsNewPutSeat queue n seat) (omega arith)
           (seats place seat there));

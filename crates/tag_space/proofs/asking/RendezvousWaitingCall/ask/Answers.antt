@@ -1,7 +1,7 @@
 -- The call was met, or waits on.
 use Rattle.std.proofs.Common.{refl, subst, inl, inr}
 use Rattle.tag_space.specs.Asking.{IsCollected}
-use Rattle.tag_space.proofs.asking.MeetingWaitingCall.ask.Goals as goal
+use Rattle.tag_space.proofs.asking.RendezvousWaitingCall.ask.Goals as goal
 
 pub unreachable-requires : goal.unreachable-requires
 unreachable-requires g c =

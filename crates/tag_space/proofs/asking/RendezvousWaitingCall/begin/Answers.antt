@@ -1,7 +1,7 @@
 -- The call found a partner, waits, or was worn out.
 use Rattle.std.proofs.Common.{refl, subst, inl, inr}
 use Rattle.tag_space.specs.Asking.{IsCalled}
-use Rattle.tag_space.proofs.asking.MeetingWaitingCall.begin.Goals as goal
+use Rattle.tag_space.proofs.asking.RendezvousWaitingCall.begin.Goals as goal
 
 pub unreachable-requires : goal.unreachable-requires
 unreachable-requires g c =

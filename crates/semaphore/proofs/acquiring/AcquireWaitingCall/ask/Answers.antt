@@ -1,7 +1,7 @@
 -- The seat was granted its unit, or waits on.
 use Rattle.std.proofs.Common.{true, refl, arith}
 use Rattle.semaphore.proofs.TellLemmas.{collect_never, collect_fits}
-use Rattle.semaphore.proofs.acquiring.AcquiringWaitingCall.ask.Goals as goal
+use Rattle.semaphore.proofs.acquiring.AcquireWaitingCall.ask.Goals as goal
 
 pub unreachable-requires : goal.unreachable-requires
 unreachable-requires g c =

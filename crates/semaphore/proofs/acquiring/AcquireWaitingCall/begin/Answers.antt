@@ -1,7 +1,7 @@
 -- The seat has its unit, waits, or was worn out.
 use Rattle.std.proofs.Common.{false, refl, arith}
 use Rattle.semaphore.proofs.TellLemmas.{acquire_never, acquire_fits}
-use Rattle.semaphore.proofs.acquiring.AcquiringWaitingCall.begin.Goals as goal
+use Rattle.semaphore.proofs.acquiring.AcquireWaitingCall.begin.Goals as goal
 
 pub unreachable-requires : goal.unreachable-requires
 unreachable-requires g c =
