@@ -3,13 +3,14 @@ ghost use Rattle.std.specs.Prelude.{◌≡◌, ◌≢◌, ◌≤◌, ◌+◌, �
 ghost use Rattle.std.specs.Prelude.{IsSome};
 ghost use Rattle.std.specs.Vec.{vec_capacity};
 ghost use Rattle.sync_base.specs.declared.fault.Fault.TheVariants.{BadArg};
+ghost use Rattle.pipe_dev.specs.Openings.{AreNewEnds, IsStartOf};
 ghost use Rattle.crew.specs.Threads.{AreWithin, IsReportOf, WhyNotRun};
 ghost use Rattle.crew.specs.Writing.{HasWrittenOn, HasEnded, IsReadyWriter};
 
 use crate::crew::{Counted, Crew, HungWriter, Reader, Writer};
 use crate::gate::Gate;
 use crate::opts::{Report, is_within};
-use pipe_dev::{Ends, Parts, Pipe};
+use pipe_dev::{Ends, Parts, Pipe, PipeStart};
 use sleep_wakeup::{Kernel, Started};
 use std::alloc::Global;
 use std::sync::Wait;
@@ -72,11 +73,21 @@ fn run_within<R: Threads + Wait + Sync, G: Gate + Sync>(
     let sleep_wakeup::Opened { kernel, start } = Kernel::new(alloc, opts.writers + 1, rendez)?;
     let Started { mut roster, proc } = kernel.start(start);
     let pipe_dev::Opened { pipe, start } = Pipe::new(alloc, &mut roster, LIMIT, opts.writers)?;
+    let Parts { read, writes } = one_way(&pipe, start);
+    let crew = Crew::new(alloc, &opts, roster, proc, read, writes)?;
+    run_crew(alloc, rt, opts, gate, crew)
+}
+
+// Where what is written at the second end is read, and where it is written.
+fn one_way<'p>(pipe: &'p Pipe, start: PipeStart<'p>) -> Parts<'p>
+    requires start { IsStartOf pipe.now start }
+    ensures ends { AreNewEnds pipe.entry.now.there start.entry.there.row result.read
+        result.writes.items }
+{
     let Ends { first, second } = pipe.ends(start);
     let Parts { read, writes: _ } = first.parts();
     let Parts { read: _, writes } = second.parts();
-    let crew = Crew::new(alloc, &opts, roster, proc, read, writes)?;
-    run_crew(alloc, rt, opts, gate, crew)
+    Parts { read, writes }
 }
 
 // Runs each of the crew on a thread of its own, and joins them all.
@@ -97,26 +108,52 @@ fn run_crew<'p, R: Threads + Wait + Sync, G: Gate + Sync>(
         thread::scope_env(),
         rt,
         move |scope| -> Result<Counted, Fault> {
-            let handles = Vec::with_capacity(alloc, writers.len())?;
-            let Some(reading) = start_reader(scope, rt, reader) else {
-                return Err(Fault::Device);
-            };
-            let Running {
-                handles,
-                all_started,
-            } = start_writers(scope, off, alloc, rt, gate, writers, handles);
-            let Joined { wrote, gone } = join_writers(rt, handles);
-            let counted = reading.join(rt);
-            if !all_started {
-                return Err(Fault::Device);
-            }
-            counted.read_to_end()?;
-            wrote?;
-            drop(gone);
-            Ok(counted)
+            run_started(scope, off, alloc, rt, gate, reader, writers)
         },
     )?;
     counted.report(&opts)
+}
+
+// Starts the reader and the writers, and joins them all.
+fn run_started<'s, 'p: 's, 'q: 's, E, R: Threads + Wait + Sync, G: Gate + Sync>(
+    scope: &Scope<'s, E>,
+    off: &'s AtomicBool,
+    alloc: Global,
+    rt: &'s R,
+    gate: &'s G,
+    reader: Reader<'p>,
+    writers: Vec<Writer<'q>>,
+) -> Result<Counted<'p>, Fault> {
+    let handles = Vec::with_capacity(alloc, writers.len())?;
+    let Some(reading) = start_reader(scope, rt, reader) else {
+        return Err(Fault::Device);
+    };
+    let running = start_writers(scope, off, alloc, rt, gate, writers, handles);
+    join_all(rt, reading, running)
+}
+
+// Joins the writers, which lets the reader come to the end, and then the reader: what it counted.
+fn join_all<'p, 'q, R: Threads>(
+    rt: &R,
+    reading: JoinHandle<Counted<'p>>,
+    running: Running<'q>,
+) -> Result<Counted<'p>, Fault> {
+    let Running {
+        handles,
+        all_started,
+    } = running;
+    let Joined { wrote, gone } = join_writers(rt, handles);
+    let counted = reading.join(rt);
+    drop(gone);
+    let ended = if all_started {
+        first_fault(counted.read_to_end(), wrote)
+    } else {
+        Err(Fault::Device)
+    };
+    match ended {
+        Ok(()) => Ok(counted),
+        Err(fault) => Err(fault),
+    }
 }
 
 // Starts the reader on a thread, if one can be started.
