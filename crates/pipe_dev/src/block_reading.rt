@@ -37,10 +37,10 @@ impl<'p> ReadEnd<'p> {
     /// no memory.
     ///
     /// `End` where the direction is hung up and all is read. Refuses, in this order, as `NoRendez`
-    /// where the process is of another kernel, which does not own all the Rendez of the direction,
-    /// and where it would wait as `DoubleSleep` and `Interrupted`. At the end, and where it is
-    /// refused, the block is as it was. A read that took a write out wakes each writer with its
-    /// number. After pipe(3) and bread of the kernel's devices.
+    /// where the kernel of the process does not own all the Rendez of the direction, and where it
+    /// would wait as `DoubleSleep` and `Interrupted`. At the end, and where it is refused, the
+    /// block is as it was. A read that took a write out wakes each writer with its number. After
+    /// pipe(3) and bread of the kernel's devices.
     pub fn read_block<R: Wait>(
         &mut self,
         rt: &R,

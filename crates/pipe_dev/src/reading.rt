@@ -36,10 +36,10 @@ impl<'p> ReadEnd<'p> {
     /// passes the empty ones. Where nothing is there yet it waits. Takes no memory.
     ///
     /// `End` where the direction is hung up and all is read. Refuses, in this order, as `BadCount`
-    /// for a buffer of no bytes, as `NoRendez` where the process is of another kernel, which does
-    /// not own all the Rendez of the direction, and where it would wait as `DoubleSleep` and
-    /// `Interrupted`. A read that took a write out wakes each writer with its number, in stream
-    /// mode with that of the last one. After pipe(3) and read(2).
+    /// for a buffer of no bytes, as `NoRendez` where the kernel of the process does not own all the
+    /// Rendez of the direction, and where it would wait as `DoubleSleep` and `Interrupted`. A read
+    /// that took a write out wakes each writer with its number, in stream mode with that of the
+    /// last one. After pipe(3) and read(2).
     pub fn read<R: Wait>(
         &mut self,
         rt: &R,
@@ -116,7 +116,7 @@ impl<'p> ReadEnd<'p> {
     /// A `read` that does not wait: `NotYet` where nothing is there yet. Takes no memory.
     ///
     /// Refuses, in this order, as `BadCount` for a buffer of no bytes and as `NoRendez` where the
-    /// process is of another kernel, which does not own all the Rendez of the direction.
+    /// kernel of the process does not own all the Rendez of the direction.
     pub fn try_read(&mut self, proc: &mut Proc<'_>, buffer: &mut [u8]) -> Result<TryAnswer, Fault>
         // A buffer of no bytes is refused first, and then a process of a kernel that does not own
         // all the Rendez of the direction; nothing is done then.

@@ -150,9 +150,9 @@ impl Hall {
         Ok(hall_of(space, member, self.procs))
     }
 
-    /// The first guest. Refuses, in this order, as `NoRendez` a process of another kernel, which
-    /// does not own all the Rendez of the hall, and as `NoProc` where another was the first before;
-    /// the process comes back. Takes no memory and doesn't wait.
+    /// The first guest. Refuses, in this order, as `NoRendez` a process whose kernel does not own
+    /// all the Rendez of the hall, and as `NoProc` where another was the first before; the process
+    /// comes back. Takes no memory and doesn't wait.
     pub fn first<'s, 'k>(&'s mut self, proc: Proc<'k>) -> Result<Guest<'s, 'k>, Refused<'k>>
         ensures fault { IfErr result
             (ComesBack (WhyNotFirstGuest self.old proc.entry) proc.entry) }
@@ -349,10 +349,9 @@ impl<'s, 'k> Guest<'s, 'k> {
         )
     }
 
-    /// Another process that is a guest as well.
-    /// Refuses, in this order, as `NoRendez` a process of another kernel, which does not own all
-    /// the Rendez of the hall, and as `NoProc` where the space has had all its members; the process
-    /// comes back. It waits for the space's lock. Takes no memory.
+    /// Another process that is a guest as well. Refuses, in this order, as `NoRendez` a process
+    /// whose kernel does not own all the Rendez of the hall, and as `NoProc` where the space has
+    /// had all its members; the process comes back. It waits for the space's lock. Takes no memory.
     pub fn join<R: Wait>(&mut self, rt: &R, proc: Proc<'k>) -> Result<Guest<'s, 'k>, Refused<'k>>
         ensures same { IsSameGuest self.old self.new }
         ensures fault { IfErr result

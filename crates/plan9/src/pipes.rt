@@ -54,10 +54,10 @@ impl<'p, 'k> Reader<'p, 'k> {
     /// passes the empty ones. Where nothing is there yet it waits. Takes no memory.
     ///
     /// `End` where the direction is hung up and all is read. Refuses, in this order, as `BadCount`
-    /// for a buffer of no bytes, as `NoRendez` where the process is of another kernel, which does
-    /// not own all the Rendez of the direction, and where it would wait as `DoubleSleep` and
-    /// `Interrupted`. A read that took a write out wakes each writer with its number, in stream
-    /// mode with that of the last one. After pipe(3) and read(2).
+    /// for a buffer of no bytes, as `NoRendez` where the kernel of the process does not own all the
+    /// Rendez of the direction, and where it would wait as `DoubleSleep` and `Interrupted`. A read
+    /// that took a write out wakes each writer with its number, in stream mode with that of the
+    /// last one. After pipe(3) and read(2).
     pub fn read<R: Wait>(&mut self, rt: &R, buffer: &mut [u8]) -> Result<ReadAnswer, Fault>
         // A buffer of no bytes is refused first, and then a process of a kernel that does not own
         // all the Rendez of the direction.
@@ -128,7 +128,7 @@ impl<'p, 'k> Reader<'p, 'k> {
     /// A `read` that does not wait: `NotYet` where nothing is there yet. Takes no memory.
     ///
     /// Refuses, in this order, as `BadCount` for a buffer of no bytes and as `NoRendez` where the
-    /// process is of another kernel, which does not own all the Rendez of the direction.
+    /// kernel of the process does not own all the Rendez of the direction.
     pub fn try_read(&mut self, buffer: &mut [u8]) -> Result<TryAnswer, Fault>
         // A buffer of no bytes is refused first, and then a process of a kernel that does not own
         // all the Rendez of the direction; nothing is done then.
@@ -157,10 +157,10 @@ impl<'p, 'k> Reader<'p, 'k> {
     /// no memory.
     ///
     /// `End` where the direction is hung up and all is read. Refuses, in this order, as `NoRendez`
-    /// where the process is of another kernel, which does not own all the Rendez of the direction,
-    /// and where it would wait as `DoubleSleep` and `Interrupted`. At the end, and where it is
-    /// refused, the block is as it was. A read that took a write out wakes each writer with its
-    /// number. After pipe(3) and bread of the kernel's devices.
+    /// where the kernel of the process does not own all the Rendez of the direction, and where it
+    /// would wait as `DoubleSleep` and `Interrupted`. At the end, and where it is refused, the
+    /// block is as it was. A read that took a write out wakes each writer with its number. After
+    /// pipe(3) and bread of the kernel's devices.
     pub fn read_block<R: Wait>(&mut self, rt: &R, block: &mut Vec<u8>) -> Result<ReadAnswer, Fault>
         // A process of a kernel that does not own all the Rendez of the direction is refused.
         ensures no_rendez { IsErrOf result NoRendez
@@ -177,9 +177,9 @@ impl<'p, 'k> Reader<'p, 'k> {
     }
 
     /// Hangs its direction up, for all writers and for good, and wakes both sides. What was
-    /// accepted stays readable. A second hangup wakes again. A process of another kernel, which
-    /// does not own all the Rendez of the direction, hangs it up and wakes nobody. Takes no memory
-    /// and doesn't wait. After pipe(2).
+    /// accepted stays readable. A second hangup wakes again. A process whose kernel does not own
+    /// all the Rendez of the direction hangs it up and wakes nobody. Takes no memory and doesn't
+    /// wait. After pipe(2).
     pub fn hangup(&mut self)
         ensures hung { Enters (key_of self.old.end.queue) (Hung 0)
             self.old.end.account self.new.end.account }
@@ -218,12 +218,12 @@ impl<'p, 'k> Writer<'p, 'k> {
     /// Writes these bytes as one write, which is read whole and in one piece, and answers its
     /// number. Where there is no room it waits. Memory is taken for the bytes.
     ///
-    /// Refuses, in this order, as `TooBig` above the atomic size, as `NoRendez` where the process
-    /// is of another kernel, which does not own all the Rendez of the direction, as `Memory`, as
-    /// `Hungup` where the direction is hung up, and then the note of a write on a closed pipe is
-    /// posted to the process; as `Worn` where the last number is given, and where it would wait as
-    /// `DoubleSleep` and `Interrupted`. A write that was accepted wakes the reader with its number.
-    /// After pipe(3) and write(2).
+    /// Refuses, in this order, as `TooBig` above the atomic size, as `NoRendez` where the kernel of
+    /// the process does not own all the Rendez of the direction, as `Memory`, as `Hungup` where the
+    /// direction is hung up, and then the note of a write on a closed pipe is posted to the
+    /// process; as `Worn` where the last number is given, and where it would wait as `DoubleSleep`
+    /// and `Interrupted`. A write that was accepted wakes the reader with its number. After pipe(3)
+    /// and write(2).
     pub fn write<R: Wait>(&mut self, alloc: Global, rt: &R, bytes: &[u8]) -> Result<u64, Fault>
         // A write above the atomic size is refused first, and then a process of a kernel that does
         // not own all the Rendez of the direction.
@@ -334,9 +334,9 @@ impl<'p, 'k> Writer<'p, 'k> {
     }
 
     /// Hangs its direction up, for all writers and for good, and wakes both sides. What was
-    /// accepted stays readable. A second hangup wakes again. A process of another kernel, which
-    /// does not own all the Rendez of the direction, hangs it up and wakes nobody. Takes no memory
-    /// and doesn't wait. After pipe(2).
+    /// accepted stays readable. A second hangup wakes again. A process whose kernel does not own
+    /// all the Rendez of the direction hangs it up and wakes nobody. Takes no memory and doesn't
+    /// wait. After pipe(2).
     pub fn hangup(&mut self)
         ensures hung { Enters (key_of self.old.end.queue) (Hung (self.old.end.writer + 1))
             self.old.end.account self.new.end.account }

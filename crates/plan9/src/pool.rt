@@ -118,9 +118,9 @@ impl Pool {
         })
     }
 
-    /// The first to hold units of this pool. Refuses, in this order, as `NoRendez` a process of
-    /// another kernel, which does not own all the Rendez of the pool, and as `NoProc` where
-    /// somebody was the first before; the process comes back. Takes no memory and doesn't wait.
+    /// The first to hold units of this pool. Refuses, in this order, as `NoRendez` a process whose
+    /// kernel does not own all the Rendez of the pool, and as `NoProc` where somebody was the first
+    /// before; the process comes back. Takes no memory and doesn't wait.
     pub fn first<'s, 'k>(&'s mut self, proc: Proc<'k>) -> Result<Holder<'s, 'k>, Refused<'k>>
         ensures fault { IfErr result (ComesBack (WhyNotFirst self.old proc.entry) proc.entry) }
         ensures first { IfOk result (IsFirstHolder self.old proc.entry) }
@@ -437,10 +437,10 @@ impl<'s, 'k> Holder<'s, 'k> {
             .semrelease(rt, &mut self.proc, &mut self.seat, count)
     }
 
-    /// Another process that holds as well, with a seat of its own.
-    /// Refuses, in this order, as `NoRendez` a process of another kernel, which does not own all
-    /// the Rendez of the pool, and as `NoProc` where the pool has had all its processes; the
-    /// process comes back. It waits for the semaphore's lock. Takes no memory.
+    /// Another process that holds as well, with a seat of its own. Refuses, in this order, as
+    /// `NoRendez` a process whose kernel does not own all the Rendez of the pool, and as `NoProc`
+    /// where the pool has had all its processes; the process comes back. It waits for the
+    /// semaphore's lock. Takes no memory.
     pub fn join<R: Wait>(&mut self, rt: &R, proc: Proc<'k>) -> Result<Holder<'s, 'k>, Refused<'k>>
         ensures same { IsSameParent self.old self.new }
         ensures fault { IfErr result
@@ -466,11 +466,10 @@ impl<'s, 'k> Holder<'s, 'k> {
         }
     }
 
-    /// A child of this process, in its note group, that holds as well.
-    /// Refuses as `NoProc` where no pid is left or the pool has had all its processes, and then
-    /// nothing is used up; and as `NoRendez` where the roster is of another kernel, which does not
-    /// own all the Rendez of the pool: the child and its seat then come back. It waits for the
-    /// semaphore's lock. Takes no memory.
+    /// A child of this process, in its note group, that holds as well. Refuses as `NoProc` where no
+    /// pid is left or the pool has had all its processes, and then nothing is used up; and as
+    /// `NoRendez` where the kernel of the roster does not own all the Rendez of the pool: the child
+    /// and its seat then come back. It waits for the semaphore's lock. Takes no memory.
     pub fn fork<R: Wait>(
         &mut self,
         rt: &R,

@@ -67,11 +67,11 @@ impl<'s, 'k> Guest<'s, 'k> {
     /// the first of the new one. With RFREND alone the caller is. With RFNOTEG a child is the first
     /// of a new note group, and without RFPROC the caller is.
     ///
-    /// Refuses, in this order, as `NoRendez` where the roster is of another kernel, which does not
-    /// own all the Rendez of the hall, `BadFlags` for any other flag, `NoProc` where no pid is
-    /// left, `NoRendez` where no row for a new hall is left, `NoProc` where the hall has had all
-    /// its guests, and `Memory`; a refusal uses up no pid, no Rendez and no member, and hands the
-    /// guest back. It waits for the space's lock. With RFREND it takes memory.
+    /// Refuses, in this order, as `NoRendez` where the kernel of the roster does not own all the
+    /// Rendez of the hall, `BadFlags` for any other flag, `NoProc` where no pid is left, `NoRendez`
+    /// where no row for a new hall is left, `NoProc` where the hall has had all its guests, and
+    /// `Memory`; a refusal uses up no pid, no Rendez and no member, and hands the guest back. It
+    /// waits for the space's lock. With RFREND it takes memory.
     pub fn rfork<R: Wait>(
         self,
         alloc: Global,

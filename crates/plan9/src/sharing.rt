@@ -76,9 +76,9 @@ impl<'p> Shared<'p> {
         }
     }
 
-    /// The first that has turns at the end. Refuses, in this order, as `NoRendez` a process of
-    /// another kernel, which does not own all the Rendez of the turns, and as `NoProc` where
-    /// somebody was the first before; the process comes back. Takes no memory and doesn't wait.
+    /// The first that has turns at the end. Refuses, in this order, as `NoRendez` a process whose
+    /// kernel does not own all the Rendez of the turns, and as `NoProc` where somebody was the
+    /// first before; the process comes back. Takes no memory and doesn't wait.
     pub fn first<'s, 'k>(&'s mut self, proc: Proc<'k>) -> Result<Sharer<'s, 'p, 'k>, Refused<'k>>
         ensures fault { IfErr result
             (ComesBack (WhyNotFirst self.old.turns proc.entry) proc.entry) }
