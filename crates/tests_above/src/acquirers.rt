@@ -8,7 +8,7 @@ use crate::dice::{Dice, seed_of};
 use crate::kernels::{forked, kernel_of, push};
 use plan9::{
     Clock, Fault, Holder, Kernel, Note, NoteSet, OpenedKernel, OpenedSema, OpenedTimers, Pid, Pool,
-    Proc, Refused, Roster, Sema, Semacquired, Start, Started, Timers, Watch,
+    Proc, Refused, Roster, Sema, SemaSeat, Semacquired, Start, Started, TimerSeat, Timers, Watch,
 };
 use std::alloc::Global;
 use std::process::Abort;
@@ -88,7 +88,7 @@ fn turn<R: Wait>(rt: &R, job: &mut Job, board: &Board, dice: &mut Dice, work: &m
     }
 }
 
-fn works<R: Wait>(rt: &R, mut job: Job, board: &Board) -> Work {
+fn works<R: Wait>(rt: &R, job: &mut Job, board: &Board) -> Work {
     let mut work = Work {
         acquired: 0,
         released: 0,
@@ -99,27 +99,44 @@ fn works<R: Wait>(rt: &R, mut job: Job, board: &Board) -> Work {
         if work.acquired >= UNITS {
             break;
         }
-        turn(rt, &mut job, board, &mut dice, &mut work);
+        turn(rt, job, board, &mut dice, &mut work);
     }
     board.ended.fetch_add(1, SeqCst);
     work
 }
 
 // Ticks until all have ended. Says whether no tick ended more waits than there may be.
-fn ticks<R: Wait>(rt: &R, mut watch: Watch, mut proc: Proc, board: &Board) -> bool {
+fn ticks<R: Wait>(rt: &R, watch: &mut Watch, proc: &mut Proc, board: &Board) -> bool {
     let mut good = true;
     for _ in rt.forever() {
         if board.ended.load(SeqCst) >= HOLDERS {
             break;
         }
         let now = board.now.fetch_add(1, SeqCst).wrapping_add(1);
-        good = watch.tick(rt, &mut proc, now) <= HOLDERS && good;
+        good = watch.tick(rt, proc, now) <= HOLDERS && good;
         yield_now();
     }
     good
 }
 
-// The crowd's processes, each with its seat at the clock and its number.
+// One more of the crowd, with its seat at the clock and its number.
+fn join_in<'s, 't, 'k, R: Wait + Abort>(
+    rt: &R,
+    jobs: &mut Vec<Job<'s, 't, 'k>>,
+    watch: &mut Watch<'t>,
+    holder: Holder<'s, 'k>,
+) {
+    let number = jobs.len() as u64;
+    let watch = watch.split(rt).expect(rt, "no seat at the clock");
+    let job = Job {
+        holder,
+        watch,
+        number,
+    };
+    push(rt, jobs, job);
+}
+
+// The crowd's processes.
 fn jobs_of<'s, 't, 'k, R: Wait + Abort>(
     rt: &R,
     alloc: Global,
@@ -127,18 +144,8 @@ fn jobs_of<'s, 't, 'k, R: Wait + Abort>(
     watch: &mut Watch<'t>,
 ) -> Vec<Job<'s, 't, 'k>> {
     let mut jobs = Vec::new(alloc);
-    let mut number = 0u64;
     for holder in holders {
-        let Ok(watch) = watch.split(rt) else {
-            panic!(rt; "no seat at the clock")
-        };
-        let job = Job {
-            holder,
-            watch,
-            number,
-        };
-        push(rt, &mut jobs, job);
-        number = number.saturating_add(1);
+        join_in(rt, &mut jobs, watch, holder);
     }
     jobs
 }
@@ -170,8 +177,8 @@ fn count_units(rt: &impl Abort, done: &[Work], left: u64, seed: u64) {
 fn run_crowd<'s, 't, 'k, R: Threads + Wait + Abort + Sync>(
     rt: &R,
     jobs: Vec<Job<'s, 't, 'k>>,
-    watch: Watch<'t>,
-    ticker: Proc<'k>,
+    mut watch: Watch<'t>,
+    mut ticker: Proc<'k>,
     seed: u64,
 ) -> Vec<Work> {
     let board = Board {
@@ -181,55 +188,65 @@ fn run_crowd<'s, 't, 'k, R: Threads + Wait + Abort + Sync>(
     };
     let (done, good) = join(
         rt,
-        || thread::map_vec(rt, jobs, &|job: Job| -> Work { works(rt, job, &board) }),
-        || ticks(rt, watch, ticker, &board),
+        || thread::map_vec(
+            rt,
+            jobs,
+            &|mut job: Job| -> Work { works(rt, &mut job, &board) },
+        ),
+        || ticks(rt, &mut watch, &mut ticker, &board),
     );
     assert!(rt; good);
-    match done {
-        Ok(done) => done,
-        Err(_) => panic!(rt; "no memory for the answers"),
-    }
+    done.ok().expect(rt, "no memory for the answers")
 }
 
-// The holders of a pool, of whom the last one counts what is left.
-fn hold<'k, R: Threads + Wait + Abort + Sync>(
+// Runs the holders, of whom the last one counts what is left.
+fn hold<'t, 'k, R: Threads + Wait + Abort + Sync>(
     rt: &R,
     alloc: Global,
-    pool: &mut Pool,
-    clock: &mut Clock,
-    started: Started<'k>,
+    mut holders: Vec<Holder<'_, 'k>>,
+    mut watch: Watch<'t>,
+    ticker: Proc<'k>,
     seed: u64,
 ) {
-    let mut started = started;
-    let ticker = forked(rt, &mut started);
-    let Started { mut roster, proc } = started;
-    let Ok(mut holders) = pool.holders(alloc, rt, &mut roster, proc, HOLDERS + 1) else {
-        panic!(rt; "no holders")
-    };
-    let (Some(mut last), Ok(mut watch)) = (holders.pop(), clock.first()) else {
-        panic!(rt; "nobody holds")
-    };
+    let mut last = holders.pop().expect(rt, "nobody holds");
     let jobs = jobs_of(rt, alloc, holders, &mut watch);
     let done = run_crowd(rt, jobs, watch, ticker, seed);
     count_units(rt, done.as_slice(), units_left(rt, &mut last), seed);
 }
 
+// All processes of a pool.
+fn holders_of<'s, 'k, R: Wait + Abort>(
+    rt: &R,
+    alloc: Global,
+    pool: &'s mut Pool,
+    started: Started<'k>,
+    count: u64,
+) -> Vec<Holder<'s, 'k>> {
+    let Started { mut roster, proc } = started;
+    pool.holders(alloc, rt, &mut roster, proc, count)
+        .ok()
+        .expect(rt, "no holders")
+}
+
+// Makes the pool and the clock of the crowd.
+fn hold_at_a_clock<R: Threads + Wait + Abort + Sync>(
+    rt: &R,
+    alloc: Global,
+    mut started: Started<'_>,
+    seed: u64,
+) {
+    let mut pool = pool_of(rt, alloc, &mut started.roster, OPENING, HOLDERS + 1);
+    let mut clock = Clock::new(alloc, HOLDERS + 1).expect(rt, "no clock");
+    let watch = clock.first().expect(rt, "no seat at the clock");
+    let ticker = forked(rt, &mut started);
+    let holders = holders_of(rt, alloc, &mut pool, started, HOLDERS + 1);
+    hold(rt, alloc, holders, watch, ticker, seed);
+}
+
 #[test]
 fn no_unit_is_lost_and_none_is_given_twice(rt: HostRuntime) {
     let OpenedKernel { kernel, start } = kernel_of(&rt, rt.alloc(), HOLDERS + 2, HOLDERS + 1);
-    let mut started = kernel.start(start);
-    let mut pool = pool_of(&rt, rt.alloc(), &mut started.roster, OPENING, HOLDERS + 1);
-    match Clock::new(rt.alloc(), HOLDERS + 1) {
-        Ok(mut clock) => hold(
-            &rt,
-            rt.alloc(),
-            &mut pool,
-            &mut clock,
-            started,
-            seed_of(&rt),
-        ),
-        Err(_) => panic!(rt; "no clock"),
-    }
+    hold_at_a_clock(&rt, rt.alloc(), kernel.start(start), seed_of(&rt));
 }
 
 // A pool of so many units for so many. Where memory is refused it is asked for once more.
@@ -244,20 +261,21 @@ fn pool_of(
         Err(Fault::Memory) => Pool::new(alloc, roster, units, procs),
         made => made,
     };
-    match made {
-        Ok(pool) => pool,
-        Err(_) => panic!(rt; "no pool"),
-    }
+    made.expect(rt, "no pool")
 }
 
 // Each takes the unit, which nobody else has then, and hands it back.
-fn hold_in_turn<R: Wait + Abort>(rt: &R, holders: Vec<Holder<'_, '_>>) {
+fn hold_in_turn<R: Wait + Abort>(rt: &R, holders: &mut [Holder<'_, '_>]) {
     assert_eq!(rt; holders.len(), 2);
-    for mut holder in holders {
-        assert_eq!(rt; holder.acquire(rt), Ok(()));
-        assert!(rt; !holder.try_acquire(rt));
-        assert_eq!(rt; holder.release(rt, 1), Ok(1));
+    for holder in holders.iter_mut() {
+        hold_once(rt, holder);
     }
+}
+
+fn hold_once<R: Wait + Abort>(rt: &R, holder: &mut Holder<'_, '_>) {
+    assert_eq!(rt; holder.acquire(rt), Ok(()));
+    assert!(rt; !holder.try_acquire(rt));
+    assert_eq!(rt; holder.release(rt, 1), Ok(1));
 }
 
 // Lets two hold in turn. Where there is no memory for their list, the process comes back.
@@ -269,8 +287,8 @@ fn hold_two<'k, R: Wait + Abort>(
     proc: Proc<'k>,
 ) -> Option<Proc<'k>> {
     match pool.holders(alloc, rt, roster, proc, 2) {
-        Ok(holders) => {
-            hold_in_turn(rt, holders);
+        Ok(mut holders) => {
+            hold_in_turn(rt, holders.as_mut_slice());
             None
         }
         Err(Refused { proc, fault }) => {
@@ -280,27 +298,32 @@ fn hold_two<'k, R: Wait + Abort>(
     }
 }
 
+// A pool of which two hold in turn, once more where that was refused memory. What is left then.
+fn left_of_two<R: Wait + Abort>(rt: &R, alloc: Global, started: Started<'_>) -> (u64, u64) {
+    let Started { mut roster, proc } = started;
+    let mut pool = pool_of(rt, alloc, &mut roster, 1, 2);
+    if let Some(proc) = hold_two(rt, alloc, &mut pool, &mut roster, proc) {
+        assert!(rt; hold_two(rt, alloc, &mut pool, &mut roster, proc).is_none());
+    }
+    roster.left()
+}
+
 // No pid, no Rendez and no seat is used up where memory is refused.
 #[test]
 fn a_pool_that_is_refused_memory_has_all_its_seats(rt: HostRuntime) {
     let OpenedKernel { kernel, start } = kernel_of(&rt, rt.alloc(), 2, 3);
-    let Started { mut roster, proc } = kernel.start(start);
-    let mut pool = pool_of(&rt, rt.alloc(), &mut roster, 1, 2);
-    if let Some(proc) = hold_two(&rt, rt.alloc(), &mut pool, &mut roster, proc) {
-        assert!(rt; hold_two(&rt, rt.alloc(), &mut pool, &mut roster, proc).is_none());
-    }
-    assert_eq!(rt; roster.left(), (0, 1));
+    assert_eq!(rt; left_of_two(&rt, rt.alloc(), kernel.start(start)), (0, 1));
 }
 
-// A pool, all of whose processes hold.
+// A pool, all of whose processes hold: how many they are.
+fn count_of<R: Wait + Abort>(rt: &R, alloc: Global, mut started: Started<'_>, count: u64) -> u64 {
+    let mut pool = pool_of(rt, alloc, &mut started.roster, 0, count);
+    holders_of(rt, alloc, &mut pool, started, count).len() as u64
+}
+
 fn hold_all<R: Wait + Abort>(rt: &R, alloc: Global, count: u64) {
     let OpenedKernel { kernel, start } = kernel_of(rt, alloc, count, count);
-    let Started { mut roster, proc } = kernel.start(start);
-    let mut pool = pool_of(rt, alloc, &mut roster, 0, count);
-    match pool.holders(alloc, rt, &mut roster, proc, count) {
-        Ok(holders) => assert_eq!(rt; holders.len() as u64, count),
-        Err(_) => panic!(rt; "no holders"),
-    }
+    assert_eq!(rt; count_of(rt, alloc, kernel.start(start), count), count);
 }
 
 #[test]
@@ -325,28 +348,26 @@ fn open_one<'k>(rt: &impl Abort, alloc: Global, kernel: &'k Kernel, start: Start
     ensures timer { IsTimerSeatOf result.timed.timers result.timed.seat }
 {
     let Started { mut roster, proc } = kernel.start(start);
-    match (Sema::new(alloc, &mut roster, 1, 1), Timers::new(alloc, 1)) {
-        (Ok(opened), Ok(timed)) => Alone {
-            proc,
-            opened,
-            timed,
-        },
-        _ => panic!(rt; "no semaphore"),
+    Alone {
+        proc,
+        opened: Sema::new(alloc, &mut roster, 1, 1).expect(rt, "no semaphore"),
+        timed: Timers::new(alloc, 1).expect(rt, "no timers"),
     }
 }
 
 // The example of semacquire(2), line for line.
-#[test]
-fn semacquire_page(rt: HostRuntime) {
-    let OpenedKernel { kernel, start } = kernel_of(&rt, rt.alloc(), 1, 1);
-    let Alone {
-        mut proc,
-        opened: OpenedSema { sema, mut seat },
-        timed: OpenedTimers {
-            timers,
-            seat: mut timer,
-        },
-    } = open_one(&rt, rt.alloc(), &kernel, start);
+fn semacquire_lines<R: Wait + Abort>(
+    rt: &R,
+    sema: &Sema,
+    timers: &Timers,
+    mut proc: Proc<'_>,
+    mut seat: SemaSeat,
+    mut timer: TimerSeat,
+)
+    requires seat { IsSemaSeatOf sema.now seat }
+    requires row { OwnsRow sema.now proc.words }
+    requires timer { IsTimerSeatOf timers.now timer }
+{
     assert_eq!(rt;
         sema.semacquire(&rt, &mut proc, &mut seat, true),
         Ok(Semacquired::Acquired)
@@ -361,4 +382,18 @@ fn semacquire_page(rt: HostRuntime) {
         Ok(())
     );
     assert_eq!(rt; timers.tick(&rt, &mut proc, &mut timer, 150), 0);
+}
+
+#[test]
+fn semacquire_page(rt: HostRuntime) {
+    let OpenedKernel { kernel, start } = kernel_of(&rt, rt.alloc(), 1, 1);
+    let Alone {
+        proc,
+        opened: OpenedSema { sema, seat },
+        timed: OpenedTimers {
+            timers,
+            seat: timer,
+        },
+    } = open_one(&rt, rt.alloc(), &kernel, start);
+    semacquire_lines(&rt, &sema, &timers, proc, seat, timer);
 }

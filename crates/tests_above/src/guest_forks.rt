@@ -119,12 +119,8 @@ fn spot_of(guest: &Guest<'_, '_>) -> Spot {
 }
 
 // The first guest of a new hall.
-fn first_of(rt: &impl Abort, hall: Hall, proc: Proc<'_>) -> Spot {
-    let mut hall = hall;
-    match hall.first(proc) {
-        Ok(guest) => spot_of(&guest),
-        Err(_) => panic!(rt; "nobody was its first guest"),
-    }
+fn first_of(rt: &impl Abort, hall: &mut Hall, proc: Proc<'_>) -> Spot {
+    spot_of(&guest_of(rt, hall, proc))
 }
 
 // What a call answered; where memory was refused, once more by the guest that came back.
@@ -158,16 +154,22 @@ fn came_of(rt: &impl Abort, answer: Result<ForkedGuest<'_, '_>, UnforkedGuest<'_
         },
         Ok(
             ForkedGuest::Apart {
-                hall,
+                mut hall,
                 proc,
                 spent: _,
             },
         ) => Came::Apart {
-            first: first_of(rt, hall, proc),
+            first: first_of(rt, &mut hall, proc),
         },
-        Ok(ForkedGuest::ChildApart { guest, hall, child }) => Came::ChildApart {
+        Ok(
+            ForkedGuest::ChildApart {
+                guest,
+                mut hall,
+                child,
+            },
+        ) => Came::ChildApart {
             guest: spot_of(&guest),
-            first: first_of(rt, hall, child),
+            first: first_of(rt, &mut hall, child),
         },
         Err(UnforkedGuest { guest, fault }) => Came::Refused {
             guest: spot_of(&guest),
@@ -178,55 +180,73 @@ fn came_of(rt: &impl Abort, answer: Result<ForkedGuest<'_, '_>, UnforkedGuest<'_
 
 // The hall of so many guests.
 fn hall_of(rt: &impl Abort, alloc: Global, roster: &mut Roster<'_>, guests: u64) -> Hall {
-    match Hall::new(alloc, roster, guests) {
-        Ok(hall) => hall,
-        Err(_) => match Hall::new(alloc, roster, guests) {
-            Ok(hall) => hall,
-            Err(_) => panic!(rt; "no memory where none is refused"),
-        },
-    }
-}
-
-// The next process of the roster as the first guest.
-fn caller_in<'s, 'k>(
-    rt: &impl Abort,
-    roster: &mut Roster<'k>,
-    proc: &mut Proc<'k>,
-    hall: &'s mut Hall,
-) -> Guest<'s, 'k> {
-    let Ok(caller) = fork(roster, proc) else {
-        panic!(rt; "a pid is left")
+    let made = match Hall::new(alloc, roster, guests) {
+        Err(Fault::Memory) => Hall::new(alloc, roster, guests),
+        made => made,
     };
-    match hall.first(caller) {
-        Ok(guest) => guest,
-        Err(_) => panic!(rt; "nobody was its first guest"),
-    }
+    made.expect(rt, "no hall")
 }
 
-// What comes of a call with these flags, how many are in the group of process 0, and what is left.
-fn played<R: Wait + Abort>(
+fn guest_of<'s, 'k>(rt: &impl Abort, hall: &'s mut Hall, proc: Proc<'k>) -> Guest<'s, 'k> {
+    hall.first(proc)
+        .ok()
+        .expect(rt, "nobody was its first guest")
+}
+
+fn caller_of<'k>(rt: &impl Abort, started: &mut Started<'k>) -> Proc<'k> {
+    fork(&mut started.roster, &mut started.proc).expect(rt, "a pid is left")
+}
+
+// What comes of a call by the roster of the first guest of a new hall, the next process.
+fn came_in<'k, R: Wait + Abort>(
     rt: &R,
     alloc: Global,
-    flags: u32,
-    sizes: Sizes,
-) -> (Came, Result<u64, Fault>, (u64, u64)) {
-    let OpenedKernel { kernel, start } = kernel_of(rt, alloc, sizes.procs, sizes.rendez);
-    let Started {
-        mut roster,
-        mut proc,
-    } = kernel.start(start);
-    let mut hall = hall_of(rt, alloc, &mut roster, sizes.guests);
-    let guest = caller_in(rt, &mut roster, &mut proc, &mut hall);
-    let came = forks(rt, alloc, &mut roster, guest, Flags::from_bits(flags));
-    let group = roster.postnote_group(&mut proc, Pid(0), NoteSet::of(Note::Alarm));
+    started: &mut Started<'k>,
+    guests: u64,
+    flags: Flags,
+) -> Came {
+    let mut hall = hall_of(rt, alloc, &mut started.roster, guests);
+    let guest = guest_of(rt, &mut hall, caller_of(rt, started));
+    forks(rt, alloc, &mut started.roster, guest, flags)
+}
+
+/// What a call answered, how many are in the group of process 0, and what is left.
+type Played = (Came, Result<u64, Fault>, (u64, u64));
+
+fn played_by<'k, R: Wait + Abort>(
+    rt: &R,
+    alloc: Global,
+    started: &mut Started<'k>,
+    guests: u64,
+    flags: Flags,
+) -> Played {
+    let came = came_in(rt, alloc, started, guests, flags);
+    let Started { roster, proc } = started;
+    let group = roster.postnote_group(proc, Pid(0), NoteSet::of(Note::Alarm));
     (came, group, roster.left())
+}
+
+fn played<R: Wait + Abort>(rt: &R, alloc: Global, flags: u32, sizes: Sizes) -> Played {
+    let OpenedKernel { kernel, start } = kernel_of(rt, alloc, sizes.procs, sizes.rendez);
+    let mut started = kernel.start(start);
+    played_by(
+        rt,
+        alloc,
+        &mut started,
+        sizes.guests,
+        Flags::from_bits(flags),
+    )
+}
+
+fn is_so<R: Wait + Abort>(rt: &R, alloc: Global, row: Row) {
+    let (flags, sizes, came, group, left) = row;
+    assert_eq!(rt; played(rt, alloc, flags, sizes), (came, Ok(group), left));
 }
 
 #[test]
 fn a_guest_forks_by_its_flags(rt: HostRuntime) {
-    for (flags, sizes, came, group, left) in ROWS {
-        let answer = played(&rt, rt.alloc(), flags, sizes);
-        assert_eq!(rt; answer, (came, Ok(group), left));
+    for row in ROWS.iter() {
+        is_so(&rt, rt.alloc(), *row);
     }
 }
 
@@ -234,18 +254,13 @@ fn a_guest_forks_by_its_flags(rt: HostRuntime) {
 fn played_by_another<'k, R: Wait + Abort>(
     rt: &R,
     alloc: Global,
-    own: Started<'k>,
-    other: Started<'k>,
+    mut own: Started<'k>,
+    mut other: Started<'k>,
 ) -> (Came, (u64, u64)) {
-    let Started {
-        mut roster,
-        mut proc,
-    } = own;
-    let mut strange = other;
-    let mut hall = hall_of(rt, alloc, &mut roster, 2);
-    let guest = caller_in(rt, &mut roster, &mut proc, &mut hall);
-    let came = forks(rt, alloc, &mut strange.roster, guest, Flags::from_bits(9));
-    (came, strange.roster.left())
+    let mut hall = hall_of(rt, alloc, &mut own.roster, 2);
+    let guest = guest_of(rt, &mut hall, caller_of(rt, &mut own));
+    let came = forks(rt, alloc, &mut other.roster, guest, Flags::from_bits(9));
+    (came, other.roster.left())
 }
 
 // The roster is of a kernel with fewer Rendez. That is tested before the flags.

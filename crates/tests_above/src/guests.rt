@@ -119,7 +119,7 @@ fn meets_neighbour<R: Wait + Abort>(rt: &R, job: &mut Job, board: &Board, work: 
 
 // Calls at random tags until there were meetings enough, and then at a tag of its own, under which
 // it meets nobody, until notes and a tick have ended a wait of it.
-fn works<R: Wait + Abort>(rt: &R, alloc: Global, mut job: Job, board: &Board) -> Work {
+fn works<R: Wait + Abort>(rt: &R, alloc: Global, job: &mut Job, board: &Board) -> Work {
     let mut work = Work {
         exchanges: Vec::new(alloc),
         interrupted: 0,
@@ -139,16 +139,16 @@ fn works<R: Wait + Abort>(rt: &R, alloc: Global, mut job: Job, board: &Board) ->
             dice.roll(TAGS)
         };
         let given = value_of(number, call, tag);
-        calls(rt, &mut job, board, &mut work, given);
+        calls(rt, job, board, &mut work, given);
     }
     board.ended.fetch_add(1, SeqCst);
-    meets_neighbour(rt, &mut job, board, &mut work);
+    meets_neighbour(rt, job, board, &mut work);
     work
 }
 
 // Posts notes at random and ticks until all callers have ended. Says whether no note was refused,
 // no tick ended more waits than there may be, and no timer is left then.
-fn posts<R: Wait>(rt: &R, mut proc: Proc, mut watch: Watch, board: &Board) -> bool {
+fn posts<R: Wait>(rt: &R, proc: &mut Proc, watch: &mut Watch, board: &Board) -> bool {
     let mut good = true;
     let mut dice = Dice::of(board.seed, CALLERS);
     for _ in rt.forever() {
@@ -158,11 +158,28 @@ fn posts<R: Wait>(rt: &R, mut proc: Proc, mut watch: Watch, board: &Board) -> bo
         let to = Pid(dice.roll(CALLERS).wrapping_add(1));
         good = proc.postnote(to, NoteSet::of(Note::Alarm)).is_ok() && good;
         let now = board.now.fetch_add(1, SeqCst).wrapping_add(1);
-        good = watch.tick(rt, &mut proc, now) <= CALLERS && good;
+        good = watch.tick(rt, proc, now) <= CALLERS && good;
         yield_now();
     }
     board.quiet.store(1, SeqCst);
-    watch.tick(rt, &mut proc, u64::MAX) == 0 && good
+    watch.tick(rt, proc, u64::MAX) == 0 && good
+}
+
+// One more of the crowd, with its seat at the clock and this number.
+fn join_in<'s, 't, 'k, R: Wait + Abort>(
+    rt: &R,
+    jobs: &mut Vec<Job<'s, 't, 'k>>,
+    watch: &mut Watch<'t>,
+    guest: Guest<'s, 'k>,
+    number: u64,
+) {
+    let watch = watch.split(rt).expect(rt, "no seat at the clock");
+    let job = Job {
+        guest,
+        watch,
+        number,
+    };
+    push(rt, jobs, job);
 }
 
 // Another guest of the hall.
@@ -171,46 +188,23 @@ fn joined<'s, 'k, R: Wait + Abort>(
     first: &mut Guest<'s, 'k>,
     proc: Proc<'k>,
 ) -> Guest<'s, 'k> {
-    match first.join(rt, proc) {
-        Ok(guest) => guest,
-        Err(_) => panic!(rt; "no place in the hall"),
-    }
+    first.join(rt, proc).ok().expect(rt, "no place in the hall")
 }
 
-// The seat at the clock of a caller.
-fn watch_of<'t, R: Wait + Abort>(rt: &R, watch: &mut Watch<'t>) -> Watch<'t> {
-    match watch.split(rt) {
-        Ok(watch) => watch,
-        Err(_) => panic!(rt; "no seat at the clock"),
-    }
-}
-
-// The crowd's callers, each with its number and its seat at the clock.
+// The crowd's callers.
 fn jobs_of<'s, 't, 'k, R: Wait + Abort>(
     rt: &R,
     alloc: Global,
     started: &mut Started<'k>,
-    hall: &'s mut Hall,
+    mut first: Guest<'s, 'k>,
     watch: &mut Watch<'t>,
 ) -> Vec<Job<'s, 't, 'k>> {
-    let Ok(mut first) = hall.first(forked(rt, started)) else {
-        panic!(rt; "no place in the hall")
-    };
     let mut jobs = Vec::new(alloc);
     for number in 1..CALLERS {
-        let job = Job {
-            guest: joined(rt, &mut first, forked(rt, started)),
-            watch: watch_of(rt, watch),
-            number,
-        };
-        push(rt, &mut jobs, job);
+        let guest = joined(rt, &mut first, forked(rt, started));
+        join_in(rt, &mut jobs, watch, guest, number);
     }
-    let job = Job {
-        guest: first,
-        watch: watch_of(rt, watch),
-        number: 0,
-    };
-    push(rt, &mut jobs, job);
+    join_in(rt, &mut jobs, watch, first, 0);
     jobs
 }
 
@@ -235,24 +229,30 @@ fn are_halves(rt: &impl Abort, all: &[Exchange], seed: u64) {
     }
 }
 
-// Nothing was refused, some notes and some ticks ended a wait, and each exchange has its other
-// half.
-fn meet_in_pairs(rt: &impl Abort, alloc: Global, done: &[Work], seed: u64) {
-    let mut all = Vec::new(alloc);
+// Nothing was refused, and some notes and some ticks ended a wait.
+fn are_ended_so(rt: &impl Abort, done: &[Work], seed: u64) {
     let mut interrupted = 0u64;
     let mut timed_out = 0u64;
     for work in done.iter() {
         assert_eq!(rt; work.refused, 0, "seed {seed}");
         interrupted = interrupted.saturating_add(work.interrupted);
         timed_out = timed_out.saturating_add(work.timed_out);
+    }
+    assert!(rt; interrupted > 0, "seed {seed}: some notes came in time");
+    assert!(rt; timed_out > 0, "seed {seed}: some ticks came in time");
+}
+
+// They ended so, and each exchange has its other half.
+fn meet_in_pairs(rt: &impl Abort, alloc: Global, done: &[Work], seed: u64) {
+    are_ended_so(rt, done, seed);
+    let mut all = Vec::new(alloc);
+    for work in done.iter() {
         if all.extend_from_slice(work.exchanges.as_slice()).is_err() {
             panic!(rt; "no memory for the exchanges");
         }
     }
-    assert!(rt; all.len() as u64 >= 2 * MEETINGS, "seed {seed}");
-    assert!(rt; interrupted > 0, "seed {seed}: some notes came in time");
-    assert!(rt; timed_out > 0, "seed {seed}: some ticks came in time");
     all.sort_unstable();
+    assert!(rt; all.len() as u64 >= 2 * MEETINGS, "seed {seed}");
     are_halves(rt, all.as_slice(), seed);
 }
 
@@ -261,8 +261,8 @@ fn run_crowd<'s, 't, 'k, R: Threads + Wait + Abort + Sync>(
     rt: &R,
     alloc: Global,
     jobs: Vec<Job<'s, 't, 'k>>,
-    poster: Proc<'k>,
-    watch: Watch<'t>,
+    mut poster: Proc<'k>,
+    mut watch: Watch<'t>,
     seed: u64,
 ) -> Vec<Work> {
     let board = Board {
@@ -277,50 +277,45 @@ fn run_crowd<'s, 't, 'k, R: Threads + Wait + Abort + Sync>(
         || thread::map_vec(
             rt,
             jobs,
-            &|job: Job| -> Work { works(rt, alloc, job, &board) },
+            &|mut job: Job| -> Work { works(rt, alloc, &mut job, &board) },
         ),
-        || posts(rt, poster, watch, &board),
+        || posts(rt, &mut poster, &mut watch, &board),
     );
     assert!(rt; good, "seed {seed}");
-    match done {
-        Ok(done) => done,
-        Err(_) => panic!(rt; "no memory for the answers"),
-    }
+    done.ok().expect(rt, "no memory for the answers")
 }
 
-fn meet<'k, R: Threads + Wait + Abort + Sync>(
+// The crowd meets, with this first guest, beside the first process.
+fn meet<'s, 't, 'k, R: Threads + Wait + Abort + Sync>(
     rt: &R,
     alloc: Global,
-    hall: &mut Hall,
-    clock: &mut Clock,
-    started: Started<'k>,
+    first: Guest<'s, 'k>,
+    mut watch: Watch<'t>,
+    mut started: Started<'k>,
     seed: u64,
 ) {
-    let mut started = started;
-    let Ok(mut watch) = clock.first() else {
-        panic!(rt; "no seat at the clock")
-    };
-    let jobs = jobs_of(rt, alloc, &mut started, hall, &mut watch);
+    let jobs = jobs_of(rt, alloc, &mut started, first, &mut watch);
     let done = run_crowd(rt, alloc, jobs, started.proc, watch, seed);
     meet_in_pairs(rt, alloc, done.as_slice(), seed);
+}
+
+// Makes the hall and the clock of the crowd.
+fn meet_in_a_hall<R: Threads + Wait + Abort + Sync>(
+    rt: &R,
+    alloc: Global,
+    mut started: Started<'_>,
+    seed: u64,
+) {
+    let mut hall = Hall::new(alloc, &mut started.roster, CALLERS).expect(rt, "no hall");
+    let mut clock = Clock::new(alloc, CALLERS + 1).expect(rt, "no clock");
+    let watch = clock.first().expect(rt, "no seat at the clock");
+    let caller = forked(rt, &mut started);
+    let first = hall.first(caller).ok().expect(rt, "no place in the hall");
+    meet(rt, alloc, first, watch, started, seed);
 }
 
 #[test]
 fn a_crowd_meets_in_pairs(rt: HostRuntime) {
     let OpenedKernel { kernel, start } = kernel_of(&rt, rt.alloc(), CALLERS + 1, CALLERS);
-    let mut started = kernel.start(start);
-    let hall = Hall::new(rt.alloc(), &mut started.roster, CALLERS);
-    match (hall, Clock::new(rt.alloc(), CALLERS + 1)) {
-        (Ok(mut hall), Ok(mut clock)) => {
-            meet(
-                &rt,
-                rt.alloc(),
-                &mut hall,
-                &mut clock,
-                started,
-                seed_of(&rt),
-            )
-        }
-        _ => panic!(rt; "no hall"),
-    }
+    meet_in_a_hall(&rt, rt.alloc(), kernel.start(start), seed_of(&rt));
 }

@@ -10,16 +10,11 @@ use std::process::Abort;
 pub fn kernel_of(rt: &impl Abort, alloc: Global, procs: u64, rendez: u64) -> OpenedKernel
     ensures start { IsStartOf result.kernel result.start }
 {
-    match Kernel::new(alloc, procs, rendez) {
-        Ok(opened) => opened,
-        Err(fault) => {
-            assert_eq!(rt; fault, Fault::Memory);
-            match Kernel::new(alloc, procs, rendez) {
-                Ok(opened) => opened,
-                Err(_) => panic!(rt; "no memory where none is refused"),
-            }
-        }
-    }
+    let made = match Kernel::new(alloc, procs, rendez) {
+        Err(Fault::Memory) => Kernel::new(alloc, procs, rendez),
+        made => made,
+    };
+    made.expect(rt, "no kernel")
 }
 
 /// The next process of a kernel.

@@ -152,16 +152,13 @@ pub fn two_of<'k, R: Wait + Abort>(
         mut roster,
         mut proc,
     } = kernel.start(start);
-    let Ok(opened) = TagSpace::new(alloc, &mut roster, 2) else {
-        panic!(rt; "no space")
-    };
+    let opened = TagSpace::new(alloc, &mut roster, 2).expect(rt, "no space");
     let OpenedSpace { space, mut member } = opened;
-    let Ok(further) = space.fork_member(rt, &mut member) else {
-        panic!(rt; "a member is left")
-    };
-    let Ok(Some(child)) = roster.rfork(&mut proc, Flags::RFPROC) else {
-        panic!(rt; "a pid is left")
-    };
+    let further = space
+        .fork_member(rt, &mut member)
+        .expect(rt, "a member is left");
+    let child = roster.rfork(&mut proc, Flags::RFPROC);
+    let child = child.ok().flatten().expect(rt, "a pid is left");
     Two {
         space,
         first: Party { proc, member },

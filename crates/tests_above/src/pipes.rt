@@ -26,10 +26,7 @@ pub fn pipe_of<'p>(
 ) -> OpenedPipe<'p>
     ensures start { IsPipeStart result.pipe result.start }
 {
-    match Pipe::new(alloc, roster, limit, writers) {
-        Ok(opened) => opened,
-        Err(_) => panic!(rt; "no pipe"),
-    }
+    Pipe::new(alloc, roster, limit, writers).expect(rt, "no pipe")
 }
 
 /// What is to be done.
@@ -110,7 +107,7 @@ impl Tally {
         if let [byte, ..] = piece {
             let writer = (*byte % 64) as usize;
             let next = byte_of(writer as u64, self.read_of[writer]);
-            self.good = self.good && piece.iter().all(|other| *other == next);
+            self.good = self.good && are_all(piece, next);
             self.read_of[writer] = self.read_of[writer].saturating_add(1);
         }
     }
@@ -137,6 +134,16 @@ impl Tally {
             && self.read_of == self.wrote_of
             && self.noted <= self.posted
     }
+}
+
+// Whether all bytes are this one.
+fn are_all(bytes: &[u8], wanted: u8) -> bool {
+    for byte in bytes {
+        if *byte != wanted {
+            return false;
+        }
+    }
+    true
 }
 
 fn add_each(sums: &mut [u64; 64], counts: &[u64; 64]) {
@@ -255,11 +262,11 @@ fn posts<R: Wait>(rt: &R, board: &Board, proc: &mut Proc<'_>, plan: Plan) -> Tal
     tally
 }
 
-fn works<R: Wait>(rt: &R, alloc: Global, board: &Board, job: Job<'_, '_>, plan: Plan) -> Tally {
+fn works<R: Wait>(rt: &R, alloc: Global, board: &Board, job: &mut Job, plan: Plan) -> Tally {
     match job {
-        Job::Read(mut reader) => reads(rt, alloc, board, &mut reader, plan),
-        Job::Write(mut writer) => writes(rt, alloc, board, &mut writer, plan),
-        Job::Post(mut proc) => posts(rt, board, &mut proc, plan),
+        Job::Read(reader) => reads(rt, alloc, board, reader, plan),
+        Job::Write(writer) => writes(rt, alloc, board, writer, plan),
+        Job::Post(proc) => posts(rt, board, proc, plan),
     }
 }
 
@@ -319,22 +326,36 @@ fn run_all<R: Threads + Wait + Abort + Sync>(
         wrote: AtomicU64::new(0),
         read: AtomicBool::new(false),
     };
-    let mut all = Tally::new();
-    match thread::map_vec(
+    let tallies = thread::map_vec(
         rt,
         jobs,
-        &|job: Job| -> Tally
+        &|mut job: Job| -> Tally
             ensures { ⊤ }
-        { works(rt, alloc, &board, job, plan) },
-    ) {
-        Ok(tallies) => {
-            for tally in tallies.iter() {
-                all.add(tally);
-            }
-        }
-        Err(_) => panic!(rt; "no memory for what came of it"),
+        { works(rt, alloc, &board, &mut job, plan) },
+    );
+    let tallies = tallies.ok().expect(rt, "no memory for what came of it");
+    sum_of(tallies.as_slice())
+}
+
+fn sum_of(tallies: &[Tally]) -> Tally {
+    let mut all = Tally::new();
+    for tally in tallies {
+        all.add(tally);
     }
     all
+}
+
+// Opens the pipe of the plan, and runs it.
+fn run_in<R: Threads + Wait + Abort + Sync>(
+    rt: &R,
+    alloc: Global,
+    mut started: Started<'_>,
+    plan: Plan,
+) -> Tally {
+    let roster = &mut started.roster;
+    let OpenedPipe { pipe, start } = pipe_of(rt, alloc, roster, plan.limit, plan.writers);
+    let jobs = jobs_of(rt, alloc, started, pipe.ends(start), plan.notes);
+    run_all(rt, alloc, jobs, plan)
 }
 
 // Runs the plan: each writer's messages are read whole, once and in its order, and no other.
@@ -342,16 +363,7 @@ fn run_all<R: Threads + Wait + Abort + Sync>(
 fn run<R: Threads + Wait + Abort + Sync>(rt: &R, alloc: Global, plan: Plan) -> u64 {
     let procs = plan.writers.saturating_add(2);
     let OpenedKernel { kernel, start } = kernel_of(rt, alloc, procs, procs.saturating_mul(2));
-    let mut started = kernel.start(start);
-    let OpenedPipe { pipe, start } = pipe_of(
-        rt,
-        alloc,
-        &mut started.roster,
-        plan.limit,
-        plan.writers,
-    );
-    let jobs = jobs_of(rt, alloc, started, pipe.ends(start), plan.notes);
-    let all = run_all(rt, alloc, jobs, plan);
+    let all = run_in(rt, alloc, kernel.start(start), plan);
     assert!(rt; all.is_whole(), "{plan:?}");
     all.read
 }
@@ -378,9 +390,15 @@ fn run_each<R: Threads + Wait + Abort + Sync>(rt: &R, alloc: Global, writers: u6
                 writes,
                 ..QUIET
             };
-            assert_eq!(rt; run(rt, alloc, plan), writers.saturating_mul(writes));
+            read_all(rt, alloc, plan);
         }
     }
+}
+
+// Runs a plan without hangups: all is read that it has to write.
+fn read_all<R: Threads + Wait + Abort + Sync>(rt: &R, alloc: Global, plan: Plan) {
+    let wanted = plan.writers.saturating_mul(plan.writes);
+    assert_eq!(rt; run(rt, alloc, plan), wanted);
 }
 
 #[test]

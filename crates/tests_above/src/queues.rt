@@ -11,13 +11,11 @@ use std::sync::Wait;
 
 // A block of these bytes. Where memory was refused it is asked for once more.
 fn block_of(rt: &impl Abort, alloc: Global, bytes: &[u8]) -> Piece {
-    match bytes.to_vec(alloc) {
-        Ok(bytes) => Piece::of(bytes),
-        Err(_) => match bytes.to_vec(alloc) {
-            Ok(bytes) => Piece::of(bytes),
-            Err(_) => panic!(rt; "no memory for a block"),
-        },
-    }
+    let made = match bytes.to_vec(alloc) {
+        Err(_) => bytes.to_vec(alloc),
+        made => made,
+    };
+    Piece::of(made.expect(rt, "no memory for a block"))
 }
 
 // Makes a call by the seat that it names, or by any where it names none.
@@ -36,6 +34,33 @@ fn asked<R: Wait>(
     }
 }
 
+fn is_taken(reply: &Option<QueueReply>) -> bool {
+    matches!(reply, Some(QueueReply::Taken(1)))
+}
+
+// Whether the second block comes back.
+fn comes_back(reply: &Option<QueueReply>) -> bool {
+    match reply {
+        Some(QueueReply::Full(block, 0)) => block.as_slice() == b"b".as_slice(),
+        _ => false,
+    }
+}
+
+fn is_first(reply: &Option<QueueReply>) -> bool {
+    match reply {
+        Some(QueueReply::Block(block, 0, 1)) => block.as_slice() == b"a".as_slice(),
+        _ => false,
+    }
+}
+
+fn is_hung(reply: &Option<QueueReply>) -> bool {
+    matches!(reply, Some(QueueReply::Hung))
+}
+
+fn is_end(reply: &Option<QueueReply>) -> bool {
+    matches!(reply, Some(QueueReply::End))
+}
+
 // The first block is taken, and for the second there is no room.
 fn put_both<R: Wait + Abort>(
     rt: &R,
@@ -48,11 +73,7 @@ fn put_both<R: Wait + Abort>(
 {
     let first = asked(rt, lock, seat, QueueCall::Put(0, block_of(rt, alloc, b"a")));
     let second = asked(rt, lock, seat, QueueCall::Put(0, block_of(rt, alloc, b"b")));
-    match (first, second) {
-        (Some(QueueReply::Taken(1)), Some(QueueReply::Full(block, 0))) => block.as_slice()
-            == b"b".as_slice(),
-        _ => false,
-    }
+    is_taken(&first) && comes_back(&second)
 }
 
 // The block is taken out, and behind a hangup there is the end.
@@ -63,21 +84,15 @@ fn take_one<R: Wait>(rt: &R, lock: &Locked<QueueObject>, seat: &mut LockSeat<Que
     let first = asked(rt, lock, seat, QueueCall::Take);
     let hung = asked(rt, lock, seat, QueueCall::Hang);
     let last = asked(rt, lock, seat, QueueCall::Take);
-    match (first, hung, last) {
-        (Some(QueueReply::Block(block, 0, 1)), Some(QueueReply::Hung), Some(QueueReply::End)) =>
-            block.as_slice() == b"a".as_slice(),
-        _ => false,
-    }
+    is_first(&first) && is_hung(&hung) && is_end(&last)
 }
 
 fn object_of(rt: &impl Abort, alloc: Global) -> QueueObject {
-    match QueueObject::new(alloc, 1, 0) {
-        Ok(object) => object,
-        Err(_) => match QueueObject::new(alloc, 1, 0) {
-            Ok(object) => object,
-            Err(_) => panic!(rt; "no memory for a queue"),
-        },
-    }
+    let made = match QueueObject::new(alloc, 1, 0) {
+        Err(_) => QueueObject::new(alloc, 1, 0),
+        made => made,
+    };
+    made.expect(rt, "no memory for a queue")
 }
 
 // An object of limit 1 under a lock that gives two seats. Where memory was refused both are asked
@@ -87,27 +102,32 @@ fn lock_of(rt: &impl Abort, alloc: Global) -> Opened<QueueObject>
 {
     match Locked::new(alloc, object_of(rt, alloc), 2) {
         Ok(opened) => opened,
-        Err(refused) => {
-            let AllocFailed { value: object } = refused;
-            match Locked::new(alloc, object, 2) {
-                Ok(opened) => opened,
-                Err(_) => panic!(rt; "no memory for a lock"),
-            }
-        }
+        Err(AllocFailed { value: object }) => Locked::new(alloc, object, 2)
+            .ok()
+            .expect(rt, "no memory for a lock"),
     }
+}
+
+// Whether the lock has no seat left to give.
+fn is_full<R: Wait>(rt: &R, lock: &Locked<QueueObject>, by: &mut LockSeat<QueueObject>) -> bool
+    requires { IsSeatOf lock.now by.old }
+    ensures { IsSeatOf lock.now by.new }
+{
+    matches!(lock.split(rt, by), Err(Fault::NoProc))
+}
+
+fn is_at_its_end(object: &mut QueueObject) -> bool {
+    matches!(object.run(QueueCall::Take), QueueReply::End)
 }
 
 #[test]
 fn two_seats_share_one_queue(rt: HostRuntime) {
     let Opened { lock, mut seat } = lock_of(&rt, rt.alloc());
-    let Ok(mut other) = lock.split(&rt, &mut seat) else {
-        panic!(rt; "a second seat")
-    };
+    let mut other = lock.split(&rt, &mut seat).expect(&rt, "a second seat");
     assert!(rt; put_both(&rt, rt.alloc(), &lock, &mut other));
     assert!(rt; take_one(&rt, &lock, &mut seat));
-    assert!(rt; matches!(lock.split(&rt, &mut seat), Err(Fault::NoProc)));
+    assert!(rt; is_full(&rt, &lock, &mut seat));
     let both = lock.join(seat, other);
-    assert_eq!(rt; both.number(), 0);
-    let mut object = lock.close(&rt, both);
-    assert!(rt; matches!(object.run(QueueCall::Take), QueueReply::End));
+    assert!(rt; both.number() == 0);
+    assert!(rt; is_at_its_end(&mut lock.close(&rt, both)));
 }

@@ -77,7 +77,7 @@ fn wakes(proc: &mut Proc, mut dice: Dice) -> Work {
 }
 
 // Whether all calls of a process of the crowd are answered well.
-fn works<R: Wait>(rt: &R, mut job: Job, seed: u64) -> bool {
+fn works<R: Wait>(rt: &R, job: &mut Job, seed: u64) -> bool {
     let number = job.number;
     let (work, good) = if number < WAKERS {
         (
@@ -100,6 +100,23 @@ fn jobs_of<'k, R: Abort>(rt: &R, alloc: Global, started: &mut Started<'k>) -> Ve
     jobs
 }
 
+// All of them do well.
+fn are_good(rt: &impl Abort, done: &[bool], seed: u64) {
+    for good in done {
+        assert!(rt; *good, "seed {seed}");
+    }
+}
+
+fn run_crowd<R: Threads + Wait + Abort + Sync>(rt: &R, jobs: Vec<Job<'_>>, seed: u64) {
+    let done = thread::map_vec(
+        rt,
+        jobs,
+        &|mut job: Job| -> bool { works(rt, &mut job, seed) },
+    );
+    let done = done.ok().expect(rt, "no memory for the answers");
+    are_good(rt, done.as_slice(), seed);
+}
+
 #[test]
 fn a_crowd_is_woken_to_the_last(rt: HostRuntime) {
     let OpenedKernel { kernel, start } = kernel_of(
@@ -108,13 +125,8 @@ fn a_crowd_is_woken_to_the_last(rt: HostRuntime) {
         SLEEPERS + WAKERS + 1,
         SLEEPERS,
     );
-    let mut started = kernel.start(start);
-    let jobs = jobs_of(&rt, rt.alloc(), &mut started);
-    let seed = seed_of(&rt);
-    match thread::map_vec(&rt, jobs, &|job: Job| -> bool { works(&rt, job, seed) }) {
-        Ok(done) => assert!(rt; done.iter().all(|good| *good), "seed {seed}"),
-        Err(_) => panic!(rt; "no memory for the answers"),
-    }
+    let jobs = jobs_of(&rt, rt.alloc(), &mut kernel.start(start));
+    run_crowd(&rt, jobs, seed_of(&rt));
 }
 
 const ROUNDS: u64 = 1_000;
@@ -138,16 +150,24 @@ fn pings<R: Wait>(rt: &R, mut proc: Proc, own: RendezId, other: RendezId, first:
     good
 }
 
+// Both at once. Whether both say so.
+fn ping_at_once<'k, R: Threads + Wait + Abort + Sync>(
+    rt: &R,
+    first: Proc<'k>,
+    second: Proc<'k>,
+) -> bool {
+    let (one, other) = thread::join(
+        rt,
+        || pings(rt, first, INPUT, OUTPUT, true),
+        || pings(rt, second, OUTPUT, INPUT, false),
+    );
+    one && other
+}
+
 #[test]
 fn two_processes_pass_a_wakeup_to_and_fro(rt: HostRuntime) {
     let OpenedKernel { kernel, start } = kernel_of(&rt, rt.alloc(), 2, 2);
     let mut started = kernel.start(start);
     let second = forked(&rt, &mut started);
-    let Started { roster: _, proc } = started;
-    let both = thread::join(
-        &rt,
-        || pings(&rt, proc, INPUT, OUTPUT, true),
-        || pings(&rt, second, OUTPUT, INPUT, false),
-    );
-    assert!(rt; both == (true, true));
+    assert!(rt; ping_at_once(&rt, started.proc, second));
 }

@@ -3,7 +3,7 @@
 use crate::kernels::{forked, kernel_of};
 use plan9::{
     Beat, Clock, Fault, FaultText, Note, NoteSet, OpenedKernel, Pid, Proc, RealTime, Started,
-    TickSource, Ticker, fork,
+    TickSource, Ticker, Watch, fork,
 };
 use std::alloc::Global;
 use std::io::{self, Error, ErrorKind};
@@ -33,19 +33,14 @@ impl<'k> TickSource for Third<'k> {
 }
 
 // It ends with the note, at its third moment.
-fn tick_to_a_note<R: Wait + Abort>(rt: &R, clock: &mut Clock, proc: Proc<'_>, child: Proc<'_>) {
+fn tick_to_a_note<R: Wait + Abort>(rt: &R, watch: Watch<'_>, proc: Proc<'_>, child: Proc<'_>) {
     let mut time = Third {
         to: proc.pid(),
         proc: child,
         moments: 0,
     };
-    match clock.first() {
-        Ok(watch) => {
-            let came = Ticker { watch, proc }.run(rt, &mut time);
-            assert_eq!(rt; (came, time.moments), (NoteSet::of(Note::Interrupt), 3));
-        }
-        Err(_) => panic!(rt; "no seat at the clock"),
-    }
+    let came = Ticker { watch, proc }.run(rt, &mut time);
+    assert_eq!(rt; (came, time.moments), (NoteSet::of(Note::Interrupt), 3));
 }
 
 #[test]
@@ -53,10 +48,9 @@ fn a_note_ends_a_ticker(rt: HostRuntime) {
     let OpenedKernel { kernel, start } = kernel_of(&rt, rt.alloc(), 2, 1);
     let mut started = kernel.start(start);
     let child = forked(&rt, &mut started);
-    match Clock::new(rt.alloc(), 1) {
-        Ok(mut clock) => tick_to_a_note(&rt, &mut clock, started.proc, child),
-        Err(_) => panic!(rt; "no clock"),
-    }
+    let mut clock = Clock::new(rt.alloc(), 1).expect(&rt, "no clock");
+    let watch = clock.first().expect(&rt, "no seat at the clock");
+    tick_to_a_note(&rt, watch, started.proc, child);
 }
 
 #[test]
@@ -180,18 +174,25 @@ fn pid_on_a_thread<R: Threads + Wait + Sync>(rt: &R, child: Proc<'_>) -> Option<
     })
 }
 
+// The pid that the next process answers from a thread.
+fn next_pid<'k, R: Threads + Wait + Abort + Sync>(
+    rt: &R,
+    started: &mut Started<'k>,
+) -> Option<u64> {
+    let child = fork(&mut started.roster, &mut started.proc);
+    pid_on_a_thread(rt, child.expect(rt, "no pid is left"))
+}
+
+fn is_last(started: &mut Started<'_>) -> bool {
+    fork(&mut started.roster, &mut started.proc).is_err()
+}
+
 #[test]
 fn a_child_runs_on_a_thread(rt: HostRuntime) {
     let OpenedKernel { kernel, start } = kernel_of(&rt, rt.alloc(), 2, 1);
-    let Started {
-        mut roster,
-        mut proc,
-    } = kernel.start(start);
-    match fork(&mut roster, &mut proc) {
-        Ok(child) => assert_eq!(rt; pid_on_a_thread(&rt, child), Some(1)),
-        Err(_) => panic!(rt; "no pid is left"),
-    }
-    assert!(rt; fork(&mut roster, &mut proc).is_err());
+    let mut started = kernel.start(start);
+    assert_eq!(rt; next_pid(&rt, &mut started), Some(1));
+    assert!(rt; is_last(&mut started));
 }
 
 // Where no memory is refused, the fault has this text.

@@ -7,8 +7,8 @@ use crate::dice::{Dice, seed_of};
 use crate::kernels::{forked, kernel_of, push};
 use crate::pipes::pipe_of;
 use plan9::{
-    Clock, Fault, Note, NoteSet, OpenedKernel, OpenedPipe, Pid, Proc, ReadAnswer, Reader, RendezId,
-    Started, Watch, Writer,
+    Clock, Ends, Fault, Note, NoteSet, OpenedKernel, OpenedPipe, Pid, Proc, ReadAnswer, Reader,
+    RendezId, Started, Watch, Writer,
 };
 use std::alloc::Global;
 use std::process::Abort;
@@ -356,7 +356,7 @@ fn raises(proc: &mut Proc, board: &Board, crowd: u64, level: u64) {
 
 // Ticks, raises the levels and posts notes till all have ended. Then no timer is left, and the
 // sleeps that begin are woken.
-fn ticks<R: Wait>(rt: &R, mut proc: Proc, mut watch: Watch, board: &Board, crowd: u64) {
+fn ticks<R: Wait>(rt: &R, proc: &mut Proc, watch: &mut Watch, board: &Board, crowd: u64) {
     let mut dice = Dice::of(board.seed, crowd);
     for _ in rt.forever() {
         if board.ended.load(SeqCst) >= crowd {
@@ -366,16 +366,14 @@ fn ticks<R: Wait>(rt: &R, mut proc: Proc, mut watch: Watch, board: &Board, crowd
         board.posted.fetch_add(1, SeqCst);
         board.expect(proc.postnote(to, NoteSet::of(Note::Alarm)).is_ok());
         let now = board.now.fetch_add(1, SeqCst).wrapping_add(1);
-        board
-            .expired
-            .fetch_add(watch.tick(rt, &mut proc, now), SeqCst);
-        raises(&mut proc, board, crowd, now.min(LEVELS));
+        board.expired.fetch_add(watch.tick(rt, proc, now), SeqCst);
+        raises(proc, board, crowd, now.min(LEVELS));
         yield_now();
     }
     board.quiet.store(1, SeqCst);
     board.awaits(rt, &board.settled, crowd);
-    board.expect(watch.tick(rt, &mut proc, u64::MAX) == 0);
-    raises(&mut proc, board, crowd, LEVELS + 1);
+    board.expect(watch.tick(rt, proc, u64::MAX) == 0);
+    raises(proc, board, crowd, LEVELS + 1);
 }
 
 // No more calls were ended by notes and by moments than notes were posted and timers expired.
@@ -394,8 +392,8 @@ fn run_crowd<R: Threads + Wait + Abort + Sync>(
     rt: &R,
     alloc: Global,
     jobs: Vec<Job<'_, '_, '_>>,
-    ticker: Proc<'_>,
-    watch: Watch<'_>,
+    mut ticker: Proc<'_>,
+    mut watch: Watch<'_>,
     board: &Board,
 ) -> Vec<Work> {
     let crowd = jobs.len() as u64;
@@ -408,15 +406,11 @@ fn run_crowd<R: Threads + Wait + Abort + Sync>(
                 ensures { ⊤ }
             { works(rt, alloc, &mut job, board) },
         ),
-        || ticks(rt, ticker, watch, board, crowd),
+        || ticks(rt, &mut ticker, &mut watch, board, crowd),
     );
-    match done {
-        Ok(done) => {
-            board.expect(are_ended_so(board, done.as_slice()));
-            done
-        }
-        Err(_) => panic!(rt; "no memory for the answers"),
-    }
+    let done = done.ok().expect(rt, "no memory for the answers");
+    board.expect(are_ended_so(board, done.as_slice()));
+    done
 }
 
 // One more of the crowd.
@@ -426,9 +420,7 @@ fn join_in<'p, 't, 'k, R: Wait + Abort>(
     watch: &mut Watch<'t>,
     role: Role<'p, 'k>,
 ) {
-    let Ok(watch) = watch.split(rt) else {
-        panic!(rt; "no seat at the clock")
-    };
+    let watch = watch.split(rt).expect(rt, "no seat at the clock");
     let number = jobs.len() as u64;
     let job = Job {
         role,
@@ -438,18 +430,65 @@ fn join_in<'p, 't, 'k, R: Wait + Abort>(
     push(rt, jobs, job);
 }
 
-fn clock_of(rt: &impl Abort, alloc: Global, procs: u64) -> Clock {
-    match Clock::new(alloc, procs) {
-        Ok(clock) => clock,
-        Err(_) => panic!(rt; "no clock"),
+// The writers of one end and the reader of the other.
+fn talkers_of<'p, 't, 'k, R: Wait + Abort>(
+    rt: &R,
+    alloc: Global,
+    started: &mut Started<'k>,
+    ends: Ends<'p>,
+    watch: &mut Watch<'t>,
+) -> Vec<Job<'p, 't, 'k>> {
+    let mut jobs = Vec::new(alloc);
+    let read = ends.first.parts().read;
+    for end in ends.second.parts().writes {
+        let role = Role::Write(Writer::new(end, forked(rt, started)));
+        join_in(rt, &mut jobs, watch, role);
     }
+    let role = Role::Read(Reader::new(read, forked(rt, started)));
+    join_in(rt, &mut jobs, watch, role);
+    jobs
 }
 
-fn watch_of<'t>(rt: &impl Abort, clock: &'t mut Clock) -> Watch<'t> {
-    match clock.first() {
-        Ok(watch) => watch,
-        Err(_) => panic!(rt; "no seat at the clock"),
+fn sleepers_of<'t, 'k, R: Wait + Abort>(
+    rt: &R,
+    alloc: Global,
+    started: &mut Started<'k>,
+    watch: &mut Watch<'t>,
+) -> Vec<Job<'k, 't, 'k>> {
+    let mut jobs = Vec::new(alloc);
+    for _ in 0..SLEEPERS {
+        let role = Role::Sleep(forked(rt, started));
+        join_in(rt, &mut jobs, watch, role);
     }
+    jobs
+}
+
+// Runs the crowd, in which nothing is answered that may not be.
+fn run_well<R: Threads + Wait + Abort + Sync>(
+    rt: &R,
+    alloc: Global,
+    jobs: Vec<Job<'_, '_, '_>>,
+    ticker: Proc<'_>,
+    watch: Watch<'_>,
+    board: &Board,
+) {
+    let done = run_crowd(rt, alloc, jobs, ticker, watch, board);
+    assert!(rt; !board.is_wrong(), "seed {}: {done:?}", board.seed);
+}
+
+// Runs the writers and the reader of a pipe.
+fn talk<R: Threads + Wait + Abort + Sync>(
+    rt: &R,
+    alloc: Global,
+    mut started: Started<'_>,
+    ends: Ends<'_>,
+    seed: u64,
+) {
+    let mut clock = Clock::new(alloc, WRITERS + 2).expect(rt, "no clock");
+    let mut watch = clock.first().expect(rt, "no seat at the clock");
+    let jobs = talkers_of(rt, alloc, &mut started, ends, &mut watch);
+    let board = Board::new(seed, 2 * WRITERS + 2);
+    run_well(rt, alloc, jobs, started.proc, watch, &board);
 }
 
 #[test]
@@ -458,34 +497,25 @@ fn reads_and_writes_until_a_moment_lose_nothing(rt: HostRuntime) {
     let OpenedKernel { kernel, start } = kernel_of(&rt, alloc, WRITERS + 2, 3 * WRITERS + 3);
     let mut started = kernel.start(start);
     let OpenedPipe { pipe, start } = pipe_of(&rt, alloc, &mut started.roster, 1, WRITERS);
-    let ends = pipe.ends(start);
-    let mut clock = clock_of(&rt, alloc, WRITERS + 2);
-    let mut watch = watch_of(&rt, &mut clock);
-    let mut jobs = Vec::new(alloc);
-    for end in ends.second.parts().writes {
-        let role = Role::Write(Writer::new(end, forked(&rt, &mut started)));
-        join_in(&rt, &mut jobs, &mut watch, role);
-    }
-    let role = Role::Read(Reader::new(ends.first.parts().read, forked(&rt, &mut started)));
-    join_in(&rt, &mut jobs, &mut watch, role);
-    let board = Board::new(seed_of(&rt), 2 * WRITERS + 2);
-    let done = run_crowd(&rt, alloc, jobs, started.proc, watch, &board);
-    assert!(&rt; !board.is_wrong(), "seed {}: {done:?}", board.seed);
+    talk(&rt, alloc, started, pipe.ends(start), seed_of(&rt));
+}
+
+// Runs those that sleep.
+fn sleep_all<R: Threads + Wait + Abort + Sync>(
+    rt: &R,
+    alloc: Global,
+    mut started: Started<'_>,
+    seed: u64,
+) {
+    let mut clock = Clock::new(alloc, SLEEPERS + 1).expect(rt, "no clock");
+    let mut watch = clock.first().expect(rt, "no seat at the clock");
+    let jobs = sleepers_of(rt, alloc, &mut started, &mut watch);
+    let board = Board::new(seed, 0);
+    run_well(rt, alloc, jobs, started.proc, watch, &board);
 }
 
 #[test]
 fn sleeps_until_a_moment_are_woken_to_the_last(rt: HostRuntime) {
-    let alloc = rt.alloc();
-    let OpenedKernel { kernel, start } = kernel_of(&rt, alloc, SLEEPERS + 1, SLEEPERS);
-    let mut started = kernel.start(start);
-    let mut clock = clock_of(&rt, alloc, SLEEPERS + 1);
-    let mut watch = watch_of(&rt, &mut clock);
-    let mut jobs = Vec::new(alloc);
-    for _ in 0..SLEEPERS {
-        let role = Role::Sleep(forked(&rt, &mut started));
-        join_in(&rt, &mut jobs, &mut watch, role);
-    }
-    let board = Board::new(seed_of(&rt), 0);
-    let done = run_crowd(&rt, alloc, jobs, started.proc, watch, &board);
-    assert!(&rt; !board.is_wrong(), "seed {}: {done:?}", board.seed);
+    let OpenedKernel { kernel, start } = kernel_of(&rt, rt.alloc(), SLEEPERS + 1, SLEEPERS);
+    sleep_all(&rt, rt.alloc(), kernel.start(start), seed_of(&rt));
 }

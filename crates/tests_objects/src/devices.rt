@@ -150,20 +150,29 @@ const SCRIPT: &[u8] = b"limit 2\nwrite 0 616263\nread 8\nfrob\n";
 
 const ANSWERS: &[u8] = b"taken\ngot 616263\n";
 
+fn is_so(rt: &impl Abort, came: Came, wanted: Came) {
+    assert_eq!(rt; came, wanted);
+}
+
+// Plays a run, and this comes of it.
+fn comes_to(rt: &impl Abort, alloc: Global, run: Run<'_>, answers: &[u8], wanted: Came) {
+    is_so(rt, play(rt, alloc, run, answers), wanted);
+}
+
 // The reads of the script give 20 bytes, 15, and none at the end. Its answers take four writes of
 // 5 bytes. A fault of the device hides the script's.
 fn fail_each_call(rt: &impl Abort, alloc: Global, kind: ErrorKind) {
     for call in 1..4 {
         let run = Run::new(SCRIPT, 64, Call::Read, call, kind);
-        assert_eq!(rt; play(rt, alloc, run, b""), fallen([call, 0, 0], 0));
+        comes_to(rt, alloc, run, b"", fallen([call, 0, 0], 0));
     }
     for call in 1..5 {
         let run = Run::new(SCRIPT, 5, Call::Write, call, kind);
         let wanted = fallen([3, call, 0], 5 * (call - 1));
-        assert_eq!(rt; play(rt, alloc, run, ANSWERS), wanted);
+        comes_to(rt, alloc, run, ANSWERS, wanted);
     }
     let run = Run::new(SCRIPT, 64, Call::Flush, 1, kind);
-    assert_eq!(rt; play(rt, alloc, run, ANSWERS), fallen([3, 1, 1], 17));
+    comes_to(rt, alloc, run, ANSWERS, fallen([3, 1, 1], 17));
 }
 
 // The kinds of the system's numbers, and those that have none.
@@ -187,18 +196,26 @@ fn a_failed_call_is_a_fault_whichever_its_kind(rt: HostRuntime) {
     }
 }
 
+// Where this many flushes in a row are interrupted all answers are written and flushed.
+fn interrupt_flushes(rt: &impl Abort, alloc: Global, takes: usize, times: usize) {
+    let run = Run {
+        times,
+        ..Run::new(SCRIPT, takes, Call::Flush, 1, ErrorKind::Interrupted)
+    };
+    let came = play(rt, alloc, run, ANSWERS);
+    let [_, _, flushes] = came.calls;
+    assert_eq!(rt;
+        (came.outcome, flushes),
+        (Err(Fault::Script(4)), times.saturating_add(1))
+    );
+    assert!(rt; came.front == 17 && came.is_flushed);
+}
+
 #[test]
 fn an_interrupted_flush_is_tried_again(rt: HostRuntime) {
     for takes in [1, 6, 16] {
         for times in [0, 1, 5] {
-            let run = Run {
-                times,
-                ..Run::new(SCRIPT, takes, Call::Flush, 1, ErrorKind::Interrupted)
-            };
-            let came = play(&rt, rt.alloc(), run, ANSWERS);
-            let [_, _, flushes] = came.calls;
-            assert_eq!(rt; (came.outcome, flushes), (Err(Fault::Script(4)), times + 1));
-            assert!(rt; came.front == 17 && came.is_flushed);
+            interrupt_flushes(&rt, rt.alloc(), takes, times);
         }
     }
 }
@@ -211,7 +228,7 @@ fn nothing_to_write_needs_no_writer(rt: HostRuntime) {
             outcome: Err(Fault::Script(2)),
             ..fallen([2, 0, 0], 0)
         };
-        assert_eq!(rt; play(&rt, rt.alloc(), run, b""), wanted);
+        comes_to(&rt, rt.alloc(), run, b"", wanted);
     }
 }
 
@@ -222,11 +239,18 @@ fn fail_each_flush(rt: &impl Abort, alloc: Global, text: &[u8], answers: &[u8], 
         let run = Run::new(text, usize::MAX, Call::Flush, flush, ErrorKind::StorageFull);
         let came = play(rt, alloc, run, answers);
         let [reads, _, _] = came.calls;
-        assert_eq!(rt; came, fallen([reads, flush, flush], came.front));
-        assert_eq!(rt; came.front == answers.len(), flush == pieces);
-        assert!(rt; flush == pieces || came.front >= flush.saturating_mul(65_536));
-        let by_bytes = play(rt, alloc, Run { takes: 1, ..run }, answers);
-        assert_eq!(rt; by_bytes, fallen([reads, came.front, flush], came.front));
+        let is_last = flush == pieces;
+        is_so(rt, came, fallen([reads, flush, flush], came.front));
+        assert_eq!(rt; came.front == answers.len(), is_last);
+        assert!(rt; is_last || came.front >= flush.saturating_mul(65_536));
+        let by_bytes = Run { takes: 1, ..run };
+        comes_to(
+            rt,
+            alloc,
+            by_bytes,
+            answers,
+            fallen([reads, came.front, flush], came.front),
+        );
     }
 }
 
@@ -284,10 +308,8 @@ fn take_no_last_byte(rt: &impl Abort, alloc: Global, report: &[u8]) {
         nothing_at: if front == 0 { 1 } else { 2 },
         ..Run::new(report, front.max(1), Call::Read, 1, ErrorKind::Other)
     };
-    assert_eq!(rt;
-        play(rt, alloc, run, report),
-        fallen([0, run.nothing_at, 0], front)
-    );
+    let wanted = fallen([0, run.nothing_at, 0], front);
+    comes_to(rt, alloc, run, report, wanted);
 }
 
 #[test]

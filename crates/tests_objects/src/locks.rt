@@ -48,11 +48,20 @@ pub fn lock_of<O: Object>(rt: &impl Abort, alloc: Global, object: O, seats: u64)
 {
     match Locked::new(alloc, object, seats) {
         Ok(opened) => opened,
-        Err(AllocFailed { value: object }) => match Locked::new(alloc, object, seats) {
-            Ok(opened) => opened,
-            Err(_) => panic!(rt; "no memory where none is refused"),
-        },
+        Err(AllocFailed { value: object }) => Locked::new(alloc, object, seats)
+            .ok()
+            .expect(rt, "no memory where none is refused"),
     }
+}
+
+/// Whether all of them are.
+pub fn are_all(answers: &[bool]) -> bool {
+    for is_so in answers.iter() {
+        if !*is_so {
+            return false;
+        }
+    }
+    true
 }
 
 /// So many further seats of a lock.
@@ -69,9 +78,7 @@ pub fn seats_of<O: Object, R: Wait + Abort>(
 {
     let mut seats = Vec::new(alloc);
     for _ in 0..count {
-        let Ok(other) = lock.split(rt, seat) else {
-            panic!(rt; "no seat is left")
-        };
+        let other = lock.split(rt, seat).expect(rt, "no seat is left");
         if seats.push(other).is_err() {
             panic!(rt; "no memory for a seat");
         }
@@ -79,26 +86,25 @@ pub fn seats_of<O: Object, R: Wait + Abort>(
     seats
 }
 
-// Whether the lock has no seat left to give.
-fn is_full<R: Wait>(rt: &R, lock: &Locked<Counter>, seat: &mut LockSeat<Counter>) -> bool
-    requires { IsSeatOf lock.now seat.old }
-    ensures { IsSeatOf lock.now seat.new }
+// Whether the seat has this number, and the lock none left to give.
+fn is_last<R: Wait>(rt: &R, lock: &Locked<Counter>, by: &mut LockSeat<Counter>, number: u64) -> bool
+    requires { IsSeatOf lock.now by.old }
+    ensures { IsSeatOf lock.now by.new }
 {
-    matches!(lock.split(rt, seat), Err(Fault::NoProc))
+    let refused = matches!(lock.split(rt, by), Err(Fault::NoProc));
+    refused && by.number() == number
 }
 
 #[test]
 fn a_lock_gives_as_many_seats_as_it_may(rt: HostRuntime) {
     let Opened { lock, mut seat } = lock_of(&rt, rt.alloc(), Counter { sum: 5 }, 2);
-    let Ok(mut other) = lock.split(&rt, &mut seat) else {
-        panic!(rt; "a second seat")
-    };
-    assert_eq!(rt; (seat.number(), other.number()), (0, 1));
-    assert!(rt; is_full(&rt, &lock, &mut seat) && is_full(&rt, &lock, &mut other));
+    let mut other = lock.split(&rt, &mut seat).expect(&rt, "a second seat");
+    assert!(rt; is_last(&rt, &lock, &mut seat, 0));
+    assert!(rt; is_last(&rt, &lock, &mut other, 1));
     assert_eq!(rt; lock.apply(&rt, &mut other, 2), 7);
     assert_eq!(rt; lock.apply(&rt, &mut seat, u64::MAX), 6);
     let both = lock.join(other, seat);
-    assert_eq!(rt; both.number(), 1);
+    assert!(rt; both.number() == 1);
     assert_eq!(rt; lock.close(&rt, both).sum, 6);
 }
 
@@ -145,7 +151,7 @@ fn add_at_once<R: Threads + Wait + Abort + Sync>(
         { adds(rt, lock, counts, seat) },
     );
     match done {
-        Ok(rose) => rose.iter().all(|rose| *rose),
+        Ok(rose) => are_all(rose.as_slice()),
         Err(_) => panic!(rt; "no memory for the answers"),
     }
 }
@@ -161,13 +167,29 @@ fn zeros(rt: &impl Abort, alloc: Global, count: u64) -> Vec<AtomicU64> {
     counts
 }
 
+// Eight seats of a lock add at once. Whether the sums of each rose, and the sum at last.
+fn sum_of_eight<R: Threads + Wait + Abort + Sync>(
+    rt: &R,
+    alloc: Global,
+    counts: &Vec<AtomicU64>,
+) -> (bool, u64) {
+    let Opened { lock, mut seat } = lock_of(rt, alloc, Counter { sum: 0 }, 9);
+    let others = seats_of(rt, alloc, &lock, &mut seat, 8);
+    let rose = add_at_once(rt, &lock, counts, others);
+    (rose, lock.close(rt, seat).sum)
+}
+
+// Each sum was answered once.
+fn are_ones(rt: &impl Abort, counts: &[AtomicU64]) {
+    for count in counts.iter() {
+        assert_eq!(rt; count.load(SeqCst), 1);
+    }
+}
+
 // The sums of each thread rise, and all threads together get each sum once.
 #[test]
 fn calls_of_eight_threads_stand_in_one_history(rt: HostRuntime) {
     let counts = zeros(&rt, rt.alloc(), 8 * CALLS);
-    let Opened { lock, mut seat } = lock_of(&rt, rt.alloc(), Counter { sum: 0 }, 9);
-    let others = seats_of(&rt, rt.alloc(), &lock, &mut seat, 8);
-    assert!(rt; add_at_once(&rt, &lock, &counts, others));
-    assert_eq!(rt; lock.close(&rt, seat).sum, 8 * CALLS);
-    assert!(rt; counts.iter().all(|count| count.load(SeqCst) == 1));
+    assert_eq!(rt; sum_of_eight(&rt, rt.alloc(), &counts), (true, 8 * CALLS));
+    are_ones(&rt, counts.as_slice());
 }

@@ -27,7 +27,7 @@ struct Lone {
 }
 
 /// What is done with it.
-#[derive(Clone, Copy, Debug, PartialEq, Eq)]
+#[derive(Clone, Copy)]
 enum Deed {
     Puts(&'static [u8], Reply),
     Takes(Reply),
@@ -41,14 +41,14 @@ enum Deed {
 use Deed::{HangsUp, HasRoom, Puts, Takes, TakesBack};
 
 /// What is left of it at last: whether it was hung up, and each block that stands.
-#[derive(Clone, Copy, Debug)]
+#[derive(Clone, Copy)]
 struct Left {
     hung: bool,
     blocks: &'static [&'static [u8]],
 }
 
 /// A queue with one writer, what is done with it, and what is left.
-#[derive(Clone, Copy, Debug)]
+#[derive(Clone, Copy)]
 struct Life {
     limit: u64,
     first: u64,
@@ -60,10 +60,7 @@ impl Lone {
     // Whether it comes to what it is to.
     fn does<R: Wait>(&mut self, rt: &R, alloc: Global, deed: Deed) -> bool {
         match deed {
-            Puts(bytes, wanted) => match block_of(alloc, bytes) {
-                Some(block) => is_put(&self.queue.put(rt, &mut self.put, block), bytes, wanted),
-                None => false,
-            },
+            Puts(bytes, wanted) => self.puts(rt, alloc, bytes, wanted),
             Takes(wanted) => is_take(&self.queue.take(&mut self.take), wanted),
             TakesBack(wanted) => self.takes_back(wanted),
             HangsUp => {
@@ -71,6 +68,14 @@ impl Lone {
                 true
             }
             HasRoom(wanted) => room_in(&mut self.put, alloc) == wanted,
+        }
+    }
+
+    // A put of these bytes. Whether it was answered so.
+    fn puts<R: Wait>(&mut self, rt: &R, alloc: Global, bytes: &[u8], wanted: Reply) -> bool {
+        match block_of(alloc, bytes) {
+            Some(block) => is_put(&self.queue.put(rt, &mut self.put, block), bytes, wanted),
+            None => false,
         }
     }
 
@@ -154,16 +159,18 @@ fn lone_of(queue: Queue, take: TakeSeat, mut puts: Vec<PutSeat>) -> Option<Lone>
     None
 }
 
+fn do_each<R: Wait + Abort>(rt: &R, alloc: Global, lone: &mut Lone, deeds: &[Deed]) {
+    for (at, deed) in deeds.iter().enumerate() {
+        assert!(rt; lone.does(rt, alloc, *deed), "deed {at}");
+    }
+}
+
 // Lives it.
 fn live<R: Wait + Abort>(rt: &R, alloc: Global, life: &Life) {
     let Opened { queue, take, puts } = opened(rt, alloc, life.limit, 1, life.first);
-    let Some(mut lone) = lone_of(queue, take, puts) else {
-        panic!(rt; "no writer's seat")
-    };
-    for deed in life.deeds.iter() {
-        assert!(rt; lone.does(rt, alloc, *deed), "{deed:?} of {life:?}");
-    }
-    assert!(rt; lone.leaves(alloc, life.left), "{life:?}");
+    let mut lone = lone_of(queue, take, puts).expect(rt, "no writer's seat");
+    do_each(rt, alloc, &mut lone, life.deeds);
+    assert!(rt; lone.leaves(alloc, life.left));
 }
 
 const ONE_PLACE: Life = Life {
@@ -245,13 +252,22 @@ const NO_QUEUES: [(u64, u64, u64, Fault); 6] = [
     (0, 1, LAST_WRITE + 1, Fault::BadSize),
 ];
 
+fn why_no_queue(alloc: Global, limit: u64, writers: u64, first: u64) -> Option<Fault> {
+    Queue::new_from(alloc, limit, writers, first).err()
+}
+
 #[test]
 fn sizes_out_of_range_are_refused(rt: HostRuntime) {
-    for (limit, writers, first, fault) in NO_QUEUES.iter() {
-        match Queue::new_from(rt.alloc(), *limit, *writers, *first) {
-            Ok(_) => panic!(rt; "a queue of {limit} for {writers}"),
-            Err(why) => assert_eq!(rt; why, *fault, "{limit} for {writers}"),
-        }
+    for (limit, writers, first, fault) in NO_QUEUES {
+        let why = why_no_queue(rt.alloc(), limit, writers, first);
+        assert_eq!(rt; why, Some(fault), "{limit} for {writers}");
+    }
+}
+
+// The writer of each seat is its place.
+fn are_in_turn(rt: &impl Abort, puts: &[PutSeat]) {
+    for (writer, seat) in puts.iter().enumerate() {
+        assert_eq!(rt; seat.writer(), writer as u64);
     }
 }
 
@@ -259,7 +275,5 @@ fn sizes_out_of_range_are_refused(rt: HostRuntime) {
 fn the_largest_sizes_are_taken(rt: HostRuntime) {
     let Opened { puts, .. } = opened(&rt, rt.alloc(), 1_024, 64, 0);
     assert_eq!(rt; puts.len(), 64);
-    for (writer, seat) in puts.iter().enumerate() {
-        assert_eq!(rt; seat.writer(), writer as u64);
-    }
+    are_in_turn(&rt, puts.as_slice());
 }

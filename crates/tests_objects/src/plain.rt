@@ -4,9 +4,15 @@ use std::process::Abort;
 use sync_base::{Fault, Mode, NoteSet, PlainPipe, ReadAnswer, WriteAnswer};
 
 fn text_is(rt: &impl Abort, alloc: Global, fault: Fault, text: &str) -> bool {
-    match fault.to_string(alloc) {
-        Ok(found) => found.as_str() == text,
-        Err(_) => panic!(rt; "no memory for a text"),
+    let found = fault.to_string(alloc).expect(rt, "no memory for a text");
+    found.as_str() == text
+}
+
+// Faults with their texts, by their numbers.
+fn are_in_order(rt: &impl Abort, alloc: Global, faults: &[(Fault, &str)]) {
+    for (at, (fault, text)) in faults.iter().enumerate() {
+        assert!(rt; text_is(rt, alloc, *fault, text), "{text}");
+        assert_eq!(rt; fault.number(), (at as u64).wrapping_add(1), "{text}");
     }
 }
 
@@ -30,10 +36,7 @@ fn faults_have_their_texts_and_numbers(rt: HostRuntime) {
         (Fault::TimedOut, "timed out"),
         (Fault::Device, "device fault"),
     ];
-    for (at, (fault, text)) in faults.iter().enumerate() {
-        assert!(rt; text_is(&rt, rt.alloc(), *fault, text), "{text}");
-        assert_eq!(rt; fault.number(), at as u64 + 1, "{text}");
-    }
+    are_in_order(&rt, rt.alloc(), &faults);
 }
 
 fn made(alloc: Global, mode: Mode, limit: u64) -> Result<PlainPipe, Fault> {
@@ -45,16 +48,11 @@ fn made(alloc: Global, mode: Mode, limit: u64) -> Result<PlainPipe, Fault> {
 
 /// A pipe, asked for once more where memory is refused.
 fn pipe_of(rt: &impl Abort, alloc: Global, mode: Mode, limit: u64) -> PlainPipe {
-    match made(alloc, mode, limit) {
-        Ok(pipe) => pipe,
-        Err(fault) => {
-            assert_eq!(rt; fault, Fault::Memory);
-            match made(alloc, mode, limit) {
-                Ok(pipe) => pipe,
-                Err(_) => panic!(rt; "no memory where none is refused"),
-            }
-        }
-    }
+    let pipe = match made(alloc, mode, limit) {
+        Err(Fault::Memory) => made(alloc, mode, limit),
+        pipe => pipe,
+    };
+    pipe.expect(rt, "no pipe")
 }
 
 /// What is asked of a pipe, and what it answers.
@@ -75,7 +73,10 @@ fn write(pipe: &mut PlainPipe, bytes: &[u8]) -> Result<WriteAnswer, Fault> {
 
 // Whether this is what a read gives, once more where memory is refused; `None` is nothing.
 fn gives(pipe: &mut PlainPipe, bytes: Option<&[u8]>) -> bool {
-    is_piece(pipe.read(200), bytes).unwrap_or_else(|| is_piece(pipe.read(200), bytes) == Some(true))
+    match is_piece(pipe.read(200), bytes) {
+        Some(is_so) => is_so,
+        None => is_piece(pipe.read(200), bytes) == Some(true),
+    }
 }
 
 // No answer where memory is refused.

@@ -3,7 +3,7 @@
 use crate::rings::Call::{HangPut, HangTake, Put, Take};
 use crate::rings::Line::{Plain, Probed};
 use crate::rings::Reply::{Block, End, Full, Hung, Hungup, NotYet, Taken, Worn};
-use crate::rings::{Act, Call, Case, Line, opened, play, seats_of};
+use crate::rings::{Act, Call, Case, Line, opened, play, play_lines, seats_of};
 use block_queue::Opened;
 use sync_base::limits::LAST_WRITE;
 
@@ -305,11 +305,8 @@ fn a_take_passes_its_points_behind_many_blocks(rt: HostRuntime) {
     let Opened { queue, take, puts } = opened(&rt, rt.alloc(), 2, 2, 0);
     let mut seats = seats_of(&queue, take, puts);
     for number in 1..=12 {
-        assert!(rt; seats.call(&rt, rt.alloc(), A, Taken(number)));
         let block = Block(0, number, b"a");
-        assert!(rt;
-            seats.probed(&rt, rt.alloc(), &[], Take, block, OUT),
-            "{number}"
-        );
+        let lines = [Plain(A, Taken(number)), Probed(&[], Take, block, OUT)];
+        play_lines(&rt, rt.alloc(), &mut seats, &lines, number as usize);
     }
 }

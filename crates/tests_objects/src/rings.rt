@@ -9,12 +9,13 @@ ghost use Rattle.block_queue.specs.Seats.{IsPutSeatOf, IsTakeSeatOf};
 
 use block_queue::{Opened, PutAnswer, PutSeat, Queue, TakeAnswer, TakeSeat};
 use std::alloc::Global;
+use std::mem;
 use std::process::Abort;
 use std::sync::Wait;
 use sync_base::{Fault, Piece, Probe};
 
 /// A call of one of the seats: of the writer 0 or 1, or of the reader.
-#[derive(Clone, Copy, Debug, PartialEq, Eq)]
+#[derive(Clone, Copy)]
 pub enum Call {
     /// A block of these bytes.
     Put(u64, &'static [u8]),
@@ -24,7 +25,7 @@ pub enum Call {
 }
 
 /// What a call is answered.
-#[derive(Clone, Copy, Debug, PartialEq, Eq)]
+#[derive(Clone, Copy)]
 pub enum Reply {
     /// The number of the block.
     Taken(u64),
@@ -45,11 +46,11 @@ use Call::{HangPut, HangTake, Put, Take};
 use Reply::{Block, End, Full, Hung, Hungup, NotYet, Taken, Worn};
 
 /// A call of another seat at a point, with its answer.
-#[derive(Clone, Copy, Debug, PartialEq, Eq)]
+#[derive(Clone, Copy)]
 pub struct Act(pub u64, pub Call, pub Reply);
 
 /// A call with its answer.
-#[derive(Clone, Copy, Debug, PartialEq, Eq)]
+#[derive(Clone, Copy)]
 pub enum Line {
     Plain(Call, Reply),
     /// What is called at the first visit of a point, and all points that are passed, in order.
@@ -59,7 +60,7 @@ pub enum Line {
 use Line::{Plain, Probed};
 
 /// A queue with two writers, and the calls of its seats.
-#[derive(Clone, Copy, Debug)]
+#[derive(Clone, Copy)]
 pub struct Case {
     pub limit: u64,
     /// How many blocks were counted before.
@@ -80,11 +81,12 @@ pub fn block_of(alloc: Global, bytes: &[u8]) -> Option<Piece> {
 
 /// Whether a put of these bytes was answered so.
 pub fn is_put(answer: &PutAnswer, bytes: &[u8], wanted: Reply) -> bool {
-    match answer {
-        PutAnswer::Taken(number) => wanted == Taken(*number),
-        PutAnswer::Full(block, last) => wanted == Full(*last) && block.as_slice() == bytes,
-        PutAnswer::Hungup(block) => wanted == Hungup && block.as_slice() == bytes,
-        PutAnswer::Worn(block) => wanted == Worn && block.as_slice() == bytes,
+    match (answer, wanted) {
+        (PutAnswer::Taken(number), Taken(count)) => *number == count,
+        (PutAnswer::Full(block, last), Full(count)) => *last == count && block.as_slice() == bytes,
+        (PutAnswer::Hungup(block), Hungup) => block.as_slice() == bytes,
+        (PutAnswer::Worn(block), Worn) => block.as_slice() == bytes,
+        _ => false,
     }
 }
 
@@ -109,24 +111,40 @@ struct Writer<'q> {
 }
 
 impl Writer<'_> {
-    // A put of these bytes. Whether it was answered so.
-    fn put<R: Wait>(&mut self, rt: &R, alloc: Global, bytes: &[u8], wanted: Reply) -> bool {
-        match block_of(alloc, bytes) {
-            Some(block) => is_put(&self.queue.put(rt, &mut self.seat, block), bytes, wanted),
-            None => false,
-        }
-    }
-
     // A put that tells this probe its points.
     fn put_probed<R: Wait, P: Probe>(&mut self, rt: &R, block: Piece, probe: &mut P) -> PutAnswer {
         self.queue.put_probed(rt, &mut self.seat, block, probe)
     }
+}
 
-    // Hangs up. Whether that is what was wanted.
-    fn hang(&mut self, wanted: Reply) -> bool {
-        self.queue.hang_put(&mut self.seat);
-        wanted == Hung
+// A put of these bytes by a writer that is not away. Whether it was answered so.
+fn puts<R: Wait>(
+    rt: &R,
+    alloc: Global,
+    writer: &mut Option<Writer<'_>>,
+    bytes: &[u8],
+    wanted: Reply,
+) -> bool {
+    let Some(writer) = writer else {
+        return false;
+    };
+    match block_of(alloc, bytes) {
+        Some(block) => is_put(
+            &writer.queue.put(rt, &mut writer.seat, block),
+            bytes,
+            wanted,
+        ),
+        None => false,
     }
+}
+
+// Hangs up by a writer that is not away. Whether that is what was wanted.
+fn hangs_put(writer: &mut Option<Writer<'_>>, wanted: Reply) -> bool {
+    let Some(writer) = writer else {
+        return false;
+    };
+    writer.queue.hang_put(&mut writer.seat);
+    matches!(wanted, Hung)
 }
 
 /// The reader's seat at its queue.
@@ -138,21 +156,32 @@ struct Reader<'q> {
 }
 
 impl Reader<'_> {
-    // A take. Whether it was answered so.
-    fn take(&mut self, wanted: Reply) -> bool {
-        is_take(&self.queue.take(&mut self.seat), wanted)
-    }
-
     // A take that tells this probe its points.
     fn take_probed<P: Probe>(&mut self, probe: &mut P) -> TakeAnswer {
         self.queue.take_probed(&mut self.seat, probe)
     }
+}
 
-    // Hangs up. Whether that is what was wanted.
-    fn hang(&mut self, wanted: Reply) -> bool {
-        self.queue.hang_take(&mut self.seat);
-        wanted == Hung
+// A take by the reader, if it is not away. Whether it was answered so.
+fn takes(reader: &mut Option<Reader<'_>>, wanted: Reply) -> bool {
+    match reader {
+        Some(reader) => is_take(&reader.queue.take(&mut reader.seat), wanted),
+        None => false,
     }
+}
+
+// Hangs up by the reader, if it is not away. Whether that is what was wanted.
+fn hangs_take(reader: &mut Option<Reader<'_>>, wanted: Reply) -> bool {
+    let Some(reader) = reader else {
+        return false;
+    };
+    reader.queue.hang_take(&mut reader.seat);
+    matches!(wanted, Hung)
+}
+
+// Puts a value in the place of another.
+fn set<T: Drop>(place: &mut T, value: T) {
+    let _gone = mem::replace(place, value);
 }
 
 /// The seats of a queue with two writers. One of them may be away in a call.
@@ -166,18 +195,12 @@ pub struct Seats<'q> {
 impl<'q> Seats<'q> {
     /// A call, at whose points nothing is called. Whether it was answered so.
     pub fn call<R: Wait>(&mut self, rt: &R, alloc: Global, call: Call, wanted: Reply) -> bool {
-        let Seats {
-            reader,
-            first,
-            second,
-        } = self;
-        match (call, reader, first, second) {
-            (Put(0, bytes), _, Some(writer), _) => writer.put(rt, alloc, bytes, wanted),
-            (Put(_, bytes), _, _, Some(writer)) => writer.put(rt, alloc, bytes, wanted),
-            (HangPut, _, Some(writer), _) => writer.hang(wanted),
-            (Take, Some(reader), _, _) => reader.take(wanted),
-            (HangTake, Some(reader), _, _) => reader.hang(wanted),
-            _ => false,
+        match call {
+            Put(0, bytes) => puts(rt, alloc, &mut self.first, bytes, wanted),
+            Put(_, bytes) => puts(rt, alloc, &mut self.second, bytes, wanted),
+            HangPut => hangs_put(&mut self.first, wanted),
+            Take => takes(&mut self.reader, wanted),
+            HangTake => hangs_take(&mut self.reader, wanted),
         }
     }
 
@@ -215,7 +238,7 @@ impl<'q> Seats<'q> {
         let mut probe = Points::of(rt, alloc, self, acts);
         let answer = writer.put_probed(rt, block, &mut probe);
         let are_so = probe.are(points);
-        self.first = Some(writer);
+        set(&mut self.first, Some(writer));
         are_so && is_put(&answer, bytes, wanted)
     }
 
@@ -234,7 +257,7 @@ impl<'q> Seats<'q> {
         let mut probe = Points::of(rt, alloc, self, acts);
         let answer = reader.take_probed(&mut probe);
         let are_so = probe.are(points);
-        self.reader = Some(reader);
+        set(&mut self.reader, Some(reader));
         are_so && is_take(&answer, wanted)
     }
 }
@@ -325,10 +348,7 @@ pub fn opened(rt: &impl Abort, alloc: Global, limit: u64, writers: u64, first: u
         Err(Fault::Memory) => made(alloc, limit, writers, first),
         opened => opened,
     };
-    match opened {
-        Ok(opened) => opened,
-        Err(_) => panic!(rt; "no queue"),
-    }
+    opened.expect(rt, "no queue")
 }
 
 /// The seats of a queue with two writers.
@@ -352,22 +372,32 @@ pub fn seats_of<'q>(queue: &'q Queue, take: TakeSeat, mut puts: Vec<PutSeat>) ->
 
 /// Plays each case on a queue of its own.
 pub fn play<R: Wait + Abort>(rt: &R, alloc: Global, cases: &[Case]) {
-    for case in cases.iter() {
-        let Opened { queue, take, puts } = opened(rt, alloc, case.limit, 2, case.first);
-        let mut seats = seats_of(&queue, take, puts);
-        play_lines(rt, alloc, &mut seats, case);
+    for (number, case) in cases.iter().enumerate() {
+        play_case(rt, alloc, case, number);
     }
 }
 
-// Plays the lines of a case.
-fn play_lines<R: Wait + Abort>(rt: &R, alloc: Global, seats: &mut Seats<'_>, case: &Case) {
-    for line in case.lines.iter() {
+fn play_case<R: Wait + Abort>(rt: &R, alloc: Global, case: &Case, number: usize) {
+    let Opened { queue, take, puts } = opened(rt, alloc, case.limit, 2, case.first);
+    let mut seats = seats_of(&queue, take, puts);
+    play_lines(rt, alloc, &mut seats, case.lines, number);
+}
+
+/// Plays the lines of the case of this number.
+pub fn play_lines<R: Wait + Abort>(
+    rt: &R,
+    alloc: Global,
+    seats: &mut Seats<'_>,
+    lines: &[Line],
+    number: usize,
+) {
+    for (at, line) in lines.iter().enumerate() {
         let is_so = match *line {
             Plain(call, wanted) => seats.call(rt, alloc, call, wanted),
             Probed(acts, call, wanted, points) => {
                 seats.probed(rt, alloc, acts, call, wanted, points)
             }
         };
-        assert!(rt; is_so, "{line:?} of {case:?}");
+        assert!(rt; is_so, "line {at} of case {number}");
     }
 }

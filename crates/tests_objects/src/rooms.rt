@@ -3,7 +3,7 @@
 ghost use Rattle.std.specs.Prelude.{ℕ, ◌+◌, ◌%◌, ◌^◌, None, All};
 ghost use Rattle.kernel_lock.specs.Seats.{IsSeatOf};
 
-use crate::locks::{lock_of, seats_of};
+use crate::locks::{are_all, lock_of, seats_of};
 use kernel_lock::{LockSeat, Locked, Object, Opened};
 use std::alloc::Global;
 use std::hint::spin_loop;
@@ -145,19 +145,16 @@ fn play_at_once<R: Threads + Wait + Abort + Sync>(
             requires { IsSeatOf lock.now seat }
         { play(rt, lock, door, seat, parts) },
     );
-    match done {
-        Ok(over) => assert!(rt; over.iter().all(|is_over| *is_over)),
-        Err(_) => panic!(rt; "no memory for the answers"),
-    }
+    let over = done.ok().expect(rt, "no memory for the answers");
+    assert!(rt; are_all(over.as_slice()));
 }
 
 fn door_of(rt: &impl Abort, alloc: Global) -> Arc<Door> {
     let inside = AtomicU64::new(0);
     let outside = AtomicU64::new(0);
-    match Arc::new(alloc, Door { inside, outside }) {
-        Ok(door) => door,
-        Err(_) => panic!(rt; "no memory for a door"),
-    }
+    Arc::new(alloc, Door { inside, outside })
+        .ok()
+        .expect(rt, "no memory for a door")
 }
 
 fn room_of(rt: &impl Abort, door: &Arc<Door>) -> Room {

@@ -1,9 +1,9 @@
 //! What no program makes, once at each size of its range: runs of events, objects of queues, and
 //! the ends of pipes that are given back. With all memory none may answer that there is none.
 use block_queue::QueueObject;
-use pipe_dev::{Ends, Opened as OpenedPipe, Parts, Pipe, finish};
+use pipe_dev::{Ends, Opened as OpenedPipe, Pipe, finish};
 use sleep_core::{Event, World};
-use sleep_wakeup::{Kernel, Opened, Roster, Started};
+use sleep_wakeup::{Kernel, Opened, Roster};
 use std::alloc::Global;
 use std::process::Abort;
 use sync_base::Pid;
@@ -31,13 +31,9 @@ fn run_each_length(rt: &impl Abort, alloc: Global, world: &mut World, events: &[
 
 #[test]
 fn a_run_of_each_length_has_memory(rt: HostRuntime) {
-    let Ok(mut world) = World::new(rt.alloc(), 1, 1) else {
-        panic!(rt; "no memory for a world")
-    };
-    match vec![in rt.alloc(); DRAIN; 2_000] {
-        Ok(events) => run_each_length(&rt, rt.alloc(), &mut world, &events),
-        Err(_) => panic!(rt; "no memory for events"),
-    }
+    let mut world = World::new(rt.alloc(), 1, 1).expect(&rt, "no memory for a world");
+    let events = vec![in rt.alloc(); DRAIN; 2_000].expect(&rt, "no memory for events");
+    run_each_length(&rt, rt.alloc(), &mut world, &events);
 }
 
 // Whether an object of this limit, which is in its range, is made.
@@ -58,26 +54,20 @@ fn is_finished(alloc: Global, roster: &mut Roster<'_>, writers: u64) -> bool {
         return false;
     };
     let Ends { first, second } = pipe.ends(start);
-    let Parts { read, writes: _ } = first.parts();
-    let Parts { read: _, writes } = second.parts();
-    let finished = finish(alloc, read, writes);
-    finished.is_ok()
+    finish(alloc, first.parts().read, second.parts().writes).is_ok()
+}
+
+// The pipes use up the whole roster.
+fn finish_each(rt: &impl Abort, alloc: Global, roster: &mut Roster<'_>) {
+    for writers in 1..=64 {
+        assert!(rt; is_finished(alloc, roster, writers), "{writers} writers");
+    }
+    assert_eq!(rt; roster.left(), (0, 0));
 }
 
 #[test]
 fn all_ends_of_each_count_of_writers_are_given_back(rt: HostRuntime) {
-    let Ok(Opened { kernel, start }) = Kernel::new(rt.alloc(), 1, 4_288) else {
-        panic!(rt; "no memory for a kernel")
-    };
-    let Started {
-        mut roster,
-        proc: _,
-    } = kernel.start(start);
-    for writers in 1..=64 {
-        assert!(rt;
-            is_finished(rt.alloc(), &mut roster, writers),
-            "{writers} writers"
-        );
-    }
-    assert_eq!(rt; roster.left(), (0, 0));
+    let opened = Kernel::new(rt.alloc(), 1, 4_288);
+    let Opened { kernel, start } = opened.expect(&rt, "no memory for a kernel");
+    finish_each(&rt, rt.alloc(), &mut kernel.start(start).roster);
 }

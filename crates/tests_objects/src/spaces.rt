@@ -16,10 +16,7 @@ fn space_of(rt: &impl Abort, alloc: Global, members: u64, count: u64) -> GroupOb
         Err(Fault::Memory) => GroupObject::new_from(alloc, members, count),
         made => made,
     };
-    match made {
-        Ok(space) => space,
-        Err(_) => panic!(rt; "no space"),
-    }
+    made.expect(rt, "no space")
 }
 
 fn answers(rt: &impl Abort, space: &mut GroupObject, rows: &[(GroupCall, GroupReply)]) {
@@ -104,15 +101,19 @@ fn half_of_them_wait(rt: &impl Abort, space: &mut GroupObject) {
     }
 }
 
+fn so_many_wait(rt: &impl Abort, space: &GroupObject, count: u64) {
+    assert_eq!(rt; space.waiting().len() as u64, count);
+}
+
 #[test]
 fn who_left_finds_each_of_those_that_wait(rt: HostRuntime) {
     let mut space = space_of(&rt, rt.alloc(), MOST, 0);
     half_of_them_wait(&rt, &mut space);
-    assert_eq!(rt; space.waiting().len() as u64, MOST / 2);
+    so_many_wait(&rt, &space, MOST / 2);
     for half in 0..MOST / 2 {
         finds_the_next(&rt, &mut space, half);
     }
-    assert_eq!(rt; space.waiting().len(), 0);
+    so_many_wait(&rt, &space, 0);
 }
 
 #[test]
@@ -130,10 +131,7 @@ fn two_meet_and_one_leaves(rt: HostRuntime) {
         Err(Fault::Memory) => GroupObject::new(rt.alloc(), 2),
         made => made,
     };
-    match made {
-        Ok(mut space) => answers(&rt, &mut space, &rows),
-        Err(_) => panic!(rt; "no space"),
-    }
+    answers(&rt, &mut made.expect(&rt, "no space"), &rows);
 }
 
 #[test]

@@ -16,10 +16,7 @@ fn timers_of(rt: &impl Abort, alloc: Global, procs: u64) -> TimerObject
         Err(Fault::Memory) => TimerObject::new(alloc, procs),
         made => made,
     };
-    match made {
-        Ok(timers) => timers,
-        Err(_) => panic!(rt; "no timers"),
-    }
+    made.expect(rt, "no timers")
 }
 
 fn timers_answer(rt: &impl Abort, timers: &mut TimerObject, rows: &[(TimerCall, TimerReply)]) {

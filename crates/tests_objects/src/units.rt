@@ -23,10 +23,7 @@ fn sema_of(rt: &impl Abort, alloc: Global, value: u32, procs: u64, count: u64) -
         Err(Fault::Memory) => SemaObject::new_from(alloc, value, procs, count),
         made => made,
     };
-    match made {
-        Ok(sema) => sema,
-        Err(_) => panic!(rt; "no semaphore"),
-    }
+    made.expect(rt, "no semaphore")
 }
 
 fn sema_answers(rt: &impl Abort, sema: &mut SemaObject, rows: &[(SemaCall, SemaReply)]) {
@@ -87,10 +84,7 @@ fn a_seat_whose_grants_are_worn_can_still_take_a_unit(rt: HostRuntime) {
 fn lock_of(rt: &impl Abort, alloc: Global, sema: SemaObject) -> Opened<SemaObject>
     ensures { IsSeatOf result.lock result.seat }
 {
-    match Locked::new(alloc, sema, 1) {
-        Ok(opened) => opened,
-        Err(_) => panic!(rt; "no lock"),
-    }
+    Locked::new(alloc, sema, 1).ok().expect(rt, "no lock")
 }
 
 #[test]
@@ -99,7 +93,7 @@ fn a_lock_stands_round_a_semaphore(rt: HostRuntime) {
     let Opened { lock, mut seat } = lock_of(&rt, rt.alloc(), sema);
     let number = seat.number();
     let reply = lock.apply(&rt, &mut seat, AcquireNow { seat: number });
-    assert_eq!(rt; (number, reply), (0, Acquired));
+    assert!(rt; number == 0 && reply == Acquired);
     let mut sema = lock.close(&rt, seat);
     sema_answers(&rt, &mut sema, &[(AcquireNow { seat: 0 }, NotNow)]);
 }

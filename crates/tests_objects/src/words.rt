@@ -5,8 +5,8 @@ ghost use Rattle.sleep_core.specs.Limits.{IsWorldSize};
 ghost use Rattle.rendez_words.specs.Words.{IsProcessOf, ArePidsOf, HasReceipt};
 
 use rendez_words::{
-    Asleep, Checked, Cleared, Holding, Leaving, LookAnswer, Opened, Owing, Pids, Posted, Refused,
-    Returned, Seat, TakeAnswer, TestAnswer, WithdrawAnswer, Words,
+    Asleep, Checked, Cleared, Done, Holding, Leaving, LookAnswer, Opened, Owing, Pids, Posted,
+    Refused, Returned, Seat, TakeAnswer, TestAnswer, WithdrawAnswer, Words,
 };
 use std::alloc::Global;
 use std::process::Abort;
@@ -23,16 +23,11 @@ fn words_of(rt: &impl Abort, alloc: Global, procs: u64, rendez: u64) -> Opened
     ensures words { IsProcessOf result.words result.seat }
     ensures pids { ArePidsOf result.words result.pids }
 {
-    match Words::new(alloc, procs, rendez) {
-        Ok(opened) => opened,
-        Err(fault) => {
-            assert_eq!(rt; fault, Fault::Memory);
-            match Words::new(alloc, procs, rendez) {
-                Ok(opened) => opened,
-                Err(_) => panic!(rt; "no memory where none is refused"),
-            }
-        }
-    }
+    let made = match Words::new(alloc, procs, rendez) {
+        Err(Fault::Memory) => Words::new(alloc, procs, rendez),
+        made => made,
+    };
+    made.expect(rt, "no words")
 }
 
 fn next(rt: &impl Abort, words: &Words, pids: &mut Pids) -> Seat
@@ -40,10 +35,7 @@ fn next(rt: &impl Abort, words: &Words, pids: &mut Pids) -> Seat
     ensures seat { IsProcessOf words.now result }
     ensures pids { ArePidsOf words.now pids.new }
 {
-    match words.split(pids) {
-        Ok(seat) => seat,
-        Err(_) => panic!(rt; "no pid is left"),
-    }
+    words.split(pids).expect(rt, "no pid is left")
 }
 
 // The rest of a wakeup.
@@ -64,10 +56,8 @@ fn woke(rt: &impl Abort, words: &Words, seat: Seat, rendez: RendezId, level: u64
     ensures seat { IsProcessOf words.now result.seat }
     ensures receipt { HasReceipt result.seat result.done }
 {
-    match words.raise(seat, rendez, level) {
-        Ok(owing) => end_owing(words, owing),
-        Err(_) => panic!(rt; "no such Rendez"),
-    }
+    let owing = words.raise(seat, rendez, level).ok();
+    end_owing(words, owing.expect(rt, "no such Rendez"))
 }
 
 // A wakeup up to the point at which it has taken the first process and not marked it.
@@ -75,14 +65,12 @@ fn taken(rt: &impl Abort, words: &Words, seat: Seat, rendez: RendezId, level: u6
     requires { IsProcessOf words.now seat }
     ensures { IsProcessOf words.now result }
 {
-    let holding = match words.raise(seat, rendez, level) {
-        Ok(owing) => match words.take(owing) {
-            TakeAnswer::Holding(holding) => holding,
-            TakeAnswer::Nobody(_) => panic!(rt; "nobody is posted"),
-        },
-        Err(_) => panic!(rt; "no such Rendez"),
+    let owing = words.raise(seat, rendez, level).ok();
+    let answer = words.take(owing.expect(rt, "no such Rendez"));
+    let TakeAnswer::Holding(holding) = answer else {
+        panic!(rt; "nobody is posted")
     };
-    assert_eq!(rt; holding.sleeper(), Pid(0));
+    assert!(rt; holding.sleeper() == Pid(0));
     holding
 }
 
@@ -225,6 +213,18 @@ fn check(
     (asleep, seat)
 }
 
+// It is of a wakeup of the first Rendez at the level 1.
+fn is_first(rt: &impl Abort, done: &Done) {
+    assert_eq!(rt; (done.rendez, done.level), (FIRST, 1));
+}
+
+// Whether no pid is left.
+fn are_all_given(words: &Words, left: &mut Pids) -> bool
+    requires { ArePidsOf words.now left.old }
+{
+    matches!(words.split(left), Err(Fault::NoProc))
+}
+
 #[test]
 fn a_wakeup_that_has_returned_releases_the_sleeper(rt: HostRuntime) {
     let Opened {
@@ -235,7 +235,7 @@ fn a_wakeup_that_has_returned_releases_the_sleeper(rt: HostRuntime) {
     let other = next(&rt, &words, &mut pids);
     let asleep = fallen(&rt, &words, seat, FIRST);
     let returned = words.mark(taken(&rt, &words, other, FIRST, 1));
-    assert_eq!(rt; (returned.done.rendez, returned.done.level), (FIRST, 1));
+    is_first(&rt, &returned.done);
     let (asleep, _) = check(&rt, &words, asleep, returned, true);
     let seat = woken(&rt, &words, asleep);
     // The level is there before the next post, so its test sees it.
@@ -251,37 +251,48 @@ fn a_wakeup_before_the_post_is_seen(rt: HostRuntime) {
         mut pids,
     } = words_of(&rt, rt.alloc(), 1, 1);
     let Returned { seat, done } = woke(&rt, &words, seat, FIRST, 1);
-    assert_eq!(rt; (done.rendez, done.level), (FIRST, 1));
+    is_first(&rt, &done);
     let seat = slept(&rt, &words, seat, FIRST);
     let seat = not_posted(&rt, &words, seat, FIRST, TOP_LEVEL, Fault::BadLevel);
     let _ = not_posted(&rt, &words, seat, SECOND, 0, Fault::NoRendez);
-    assert!(rt; matches!(words.split(&mut pids), Err(Fault::NoProc)));
+    assert!(rt; are_all_given(&words, &mut pids));
+}
+
+// Why there are no words of these sizes.
+fn why_no_words(alloc: Global, procs: u64, rendez: u64) -> Option<Fault> {
+    Words::new(alloc, procs, rendez).err()
+}
+
+// A raise of the second Rendez is refused where there is one, and hands the seat back.
+fn not_raised(rt: &impl Abort, words: &Words, caller: Seat) -> Seat
+    requires { IsProcessOf words.now caller }
+    ensures { IsProcessOf words.now result }
+{
+    match words.raise(caller, SECOND, 1) {
+        Err(Refused { seat, fault }) => {
+            assert_eq!(rt; fault, Fault::NoRendez);
+            seat
+        }
+        Ok(owing) => {
+            end_owing(words, owing);
+            panic!(rt; "there is one Rendez")
+        }
+    }
 }
 
 #[test]
 fn refusals_hand_the_seat_back(rt: HostRuntime) {
-    assert!(rt; matches!(Words::new(rt.alloc(), 0, 1), Err(Fault::NoProc)));
-    assert!(rt; matches!(Words::new(rt.alloc(), 1, 8_193), Err(Fault::NoRendez)));
+    assert_eq!(rt; why_no_words(rt.alloc(), 0, 1), Some(Fault::NoProc));
+    assert_eq!(rt; why_no_words(rt.alloc(), 1, 8_193), Some(Fault::NoRendez));
     let Opened {
         words,
         seat,
         pids: _,
     } = words_of(&rt, rt.alloc(), 1, 1);
     let seat = not_posted(&rt, &words, seat, SECOND, TOP_LEVEL, Fault::NoRendez);
-    let mut seat = match words.raise(seat, SECOND, 1) {
-        Err(Refused { seat, fault }) => {
-            assert_eq!(rt; fault, Fault::NoRendez);
-            seat
-        }
-        Ok(owing) => {
-            end_owing(&words, owing);
-            panic!(rt; "there is one Rendez")
-        }
-    };
-    assert_eq!(rt;
-        words.note(&mut seat, Pid(1), NoteSet::empty()),
-        Err(Fault::NoProc)
-    );
+    let mut seat = not_raised(&rt, &words, seat);
+    let noted = words.note(&mut seat, Pid(1), NoteSet::empty());
+    assert!(rt; noted == Err(Fault::NoProc));
 }
 
 // A receipt of another Rendez, or one that is not above the threshold, releases nobody: the sleeper

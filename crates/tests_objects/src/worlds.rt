@@ -35,16 +35,11 @@ const ANSWERS: [Answer; 10] = [
 
 // A world, asked for once more where memory is refused.
 fn world_of(rt: &impl Abort, alloc: Global, procs: u64, rendez: u64) -> World {
-    match World::new(alloc, procs, rendez) {
-        Ok(world) => world,
-        Err(fault) => {
-            assert_eq!(rt; fault, Fault::Memory);
-            match World::new(alloc, procs, rendez) {
-                Ok(world) => world,
-                Err(_) => panic!(rt; "no memory where none is refused"),
-            }
-        }
-    }
+    let made = match World::new(alloc, procs, rendez) {
+        Err(Fault::Memory) => World::new(alloc, procs, rendez),
+        made => made,
+    };
+    made.expect(rt, "no world")
 }
 
 // Whether the events have these answers, asked for once more where memory is refused.
