@@ -81,9 +81,9 @@ AreInOrder first puts =
     (index : ℕ) (seat : PutSeat) → slice_get puts index ≡ Some seat →
     (seat.writer ≡ first + index) × ((put_account seat).gave ≡ [])
 
-order_behind : (first : ℕ) (seat : PutSeat) (puts : List PutSeat) →
+order_after : (first : ℕ) (seat : PutSeat) (puts : List PutSeat) →
     AreInOrder first (seat ∷ puts) → AreInOrder (first + 1) puts
-order_behind first seat puts are index other at =
+order_after first seat puts are index other at =
     let known = are (suc index) other at in
     let writer = known.0 in
     (omega arith, known.1)
@@ -96,13 +96,13 @@ numbers_in_order first (seat ∷ puts) are =
     let number : seat.writer + 1 ≡ first + 1 = omega arith in
     ap (λ (n : ℕ). n ∷ numbers_of puts) number
     ∙ ap (λ (ns : List ℕ). (first + 1) ∷ ns)
-    (numbers_in_order (first + 1) puts (order_behind first seat puts are))
+    (numbers_in_order (first + 1) puts (order_after first seat puts are))
 
 none_given : (first : ℕ) (puts : List PutSeat) → AreInOrder first puts →
     AllByRecursion (λ seat. (put_account seat).gave ≡ []) puts
 none_given first [] are = tt
 none_given first (seat ∷ puts) are =
-    ((are 0 seat refl).1, none_given (first + 1) puts (order_behind first seat puts are))
+    ((are 0 seat refl).1, none_given (first + 1) puts (order_after first seat puts are))
 
 -- the reader's seat and those it gave numbers to, in the writers' order, are all seats of the queue
 pub all_in_order : (take : TakeSeat) (puts : List PutSeat) →
@@ -149,14 +149,14 @@ all_after_put take front back old new are writer same =
       order = are.order ∙ numbers front;
       none = all_append NoneGiven front (new ∷ back)
           (all_since NoneGiven front (old ∷ back) are.none)
-          (same.gave ∙ behind.0, behind.1);
+          (same.gave ∙ rest.0, rest.1);
     }
   where
     NoneGiven : PutSeat → Type 0
     NoneGiven seat = (put_account seat).gave ≡ []
 
-    behind : AllByRecursion NoneGiven (old ∷ back)
-    behind = all_past NoneGiven front (old ∷ back) are.none
+    rest : AllByRecursion NoneGiven (old ∷ back)
+    rest = all_past NoneGiven front (old ∷ back) are.none
 
     numbers : (seats : List PutSeat) →
         numbers_of (seats ++ old ∷ back) ≡ numbers_of (seats ++ new ∷ back)

@@ -36,10 +36,10 @@ with_blocks-snoc number (first ∷ writes) write history =
     1) writes (entry.Block first.writer first.bytes (number + 1) ∷ history)) (omega arith)
 
 -- a seat that has all the numbers makes its entry after all that it had seen
-pub behind_all : (key : Key) (made : Entry) (old new : Account Entry) → HasAllNumbers old →
+pub after_all : (key : Key) (made : Entry) (old new : Account Entry) → HasAllNumbers old →
     Enters key made old new → (new.seen ≡ made ∷ old.seen) ×
     IsRight key.first (queue_after key old.seen) made × HasAllNumbers new
-behind_all key made old new all enters =
+after_all key made old new all enters =
     let looked = enters.adds.looked in
     let past_is : enters.adds.past ≡ old.seen = looked.history_is ∙
     ap (λ (since : List Entry). since ++ old.seen) (looked.alone all) in
@@ -73,13 +73,13 @@ module _ (key : Key) (account : Account Entry) (left : ℕ) (is : IsLeft key acc
   -- a seat with all numbers is not told the end while a write is left
   pub not_ended : (new : Account Entry) → Enters key entry.End account new → ⊥
   not_ended new enters = let told =
-      behind_all key entry.End account new is.all enters in there told.1.may.1
+      after_all key entry.End account new is.all enters in there told.1.may.1
 
   -- nor is it told that the next write is not there yet
   pub not_waiting : (number : ℕ) (new : Account Entry) →
       Enters key (entry.NotYet number) account new → ⊥
   not_waiting number new enters =
-      let told = behind_all key (entry.NotYet number) account new is.all enters in
+      let told = after_all key (entry.NotYet number) account new is.all enters in
       let may : IsNotYet key.first s number = told.1.may in
       ⊎_elim there
       (λ unready. let none : None ≡ Some (begun_number key.first s.pipe + 1) =
@@ -92,7 +92,7 @@ module _ (key : Key) (account : Account Entry) (left : ℕ) (is : IsLeft key acc
       IsLeft key new (left - 1) × (new.seen ≡ entry.Block write.writer write.bytes number ∷
       account.seen) × (number ≡ begun_number key.first s.pipe + 1)
   one_less write number new enters =
-      let told = behind_all key (entry.Block write.writer write.bytes number) account new is.all
+      let told = after_all key (entry.Block write.writer write.bytes number) account new is.all
       enters in
       let may : IsBlock key.first s write number = told.1.may in
       let left_is = is.left_is in
@@ -114,7 +114,7 @@ module _ (key : Key) (account : Account Entry) (left : ℕ) (is : IsLeft key acc
       Enters key (entry.Block write.writer write.bytes number) account new
       → begun_number key.first (queue_after key new.seen).pipe ≡ begun_number key.first s.pipe + 1
   begun_more given write number new enters =
-      let told = behind_all key (entry.Block write.writer write.bytes number) account new is.all
+      let told = after_all key (entry.Block write.writer write.bytes number) account new is.all
       enters in
       let whole = (history_fits key account.seen given is.knows.history.legal).whole in
       let before = begun_is s.pipe whole in

@@ -41,13 +41,13 @@ with_blocks_past : (number : ℕ) (writes : List Write) (history : List Entry) �
     IsPast history (with_blocks number writes history)
 with_blocks_past number [] history = past_refl history
 with_blocks_past number (write ∷ writes) history =
-    past_trans history behind (with_blocks (number + 1) writes behind)
+    past_trans history after (with_blocks (number + 1) writes after)
     (past_cons history history (entry.Block write.writer write.bytes (number + 1))
     (past_refl history))
-    (with_blocks_past (number + 1) writes behind)
+    (with_blocks_past (number + 1) writes after)
   where
-    behind : List Entry
-    behind = entry.Block write.writer write.bytes (number + 1) ∷ history
+    after : List Entry
+    after = entry.Block write.writer write.bytes (number + 1) ∷ history
 
 -- takes after which nothing is left take what was left before them
 pub blocks_left : (key : Key) (number : ℕ) (writes : List Write) (history : List Entry) →
@@ -60,7 +60,7 @@ blocks_left key number [] history legal all =
     sym (drop_end (queue_after key history).pipe.accepted (queue_after key history).pipe.read_whole
     all)
 blocks_left key number (write ∷ writes) history legal all =
-    ap (λ (ws : List Write). write ∷ ws) (blocks_left key (number + 1) writes behind legal all)
+    ap (λ (ws : List Write). write ∷ ws) (blocks_left key (number + 1) writes after legal all)
     ∙ ap (λ (n : ℕ). write ∷ drop n (queue_after key history).pipe.accepted) next
     ∙ sym (drop_here (queue_after key history).pipe.accepted
     (queue_after key history).pipe.read_whole write right.0.may.next)
@@ -69,12 +69,12 @@ blocks_left key number (write ∷ writes) history legal all =
         suc (queue_after key history).pipe.read_whole
     next = omega arith
 
-    behind : List Entry
-    behind = entry.Block write.writer write.bytes (number + 1) ∷ history
+    after : List Entry
+    after = entry.Block write.writer write.bytes (number + 1) ∷ history
 
-    right : IsLegal (queue_meaning key.first) (opening_state key.limit) behind
-    right = past_legal (queue_meaning key.first) (opening_state key.limit) behind
-        (with_blocks (number + 1) writes behind) (with_blocks_past (number + 1) writes behind) legal
+    right : IsLegal (queue_meaning key.first) (opening_state key.limit) after
+    right = past_legal (queue_meaning key.first) (opening_state key.limit) after
+        (with_blocks (number + 1) writes after) (with_blocks_past (number + 1) writes after) legal
 
 -- ---- what the tail tells at the end
 

@@ -160,12 +160,12 @@ module _ (limit first : ℕ) (s : QueueState) (out : Bool) (words : List ℕ) (h
   put_sequence t some fits accepted low =
       let room = fits.room in
       dite (dec_le s.pipe.read_whole t)
-      (λ in_or_behind. dite (ℕ_discrete t (s.pipe.read_whole + limit))
+      (λ in_or_after. dite (ℕ_discrete t (s.pipe.read_whole + limit))
       (λ full. inr (lap_before t some full, full, omega arith))
       (λ not_full. inl (
         ⊎_elim (λ free. free) (λ stored. absurd (omega arith))
-            (word_in_window t in_or_behind (omega arith)),
-        in_or_behind,
+            (word_in_window t in_or_after (omega arith)),
+        in_or_after,
         omega arith,
       )))
       (λ before. let less : t < s.pipe.read_whole = lt_of_not-le before in let round =

@@ -112,8 +112,8 @@ stays_hung s (Hung seat) hung = refl
 pub hung_since : (key : Key) (past history : List Entry) → IsPast past history →
     (queue_after key past).pipe.hung ≡ true → (queue_after key history).pipe.hung ≡ true
 hung_since key past history is hung = subst (λ (h : List Entry). (queue_after key h).pipe.hung ≡
-    true) (sym is.new_is) (behind is.since)
+    true) (sym is.new_is) (after is.since)
   where
-    behind : (since : List Entry) → (queue_after key (since ++ past)).pipe.hung ≡ true
-    behind [] = hung
-    behind (entry ∷ since) = stays_hung (queue_after key (since ++ past)) entry (behind since)
+    after : (since : List Entry) → (queue_after key (since ++ past)).pipe.hung ≡ true
+    after [] = hung
+    after (entry ∷ since) = stays_hung (queue_after key (since ++ past)) entry (after since)

@@ -150,9 +150,9 @@ module _ (limit first : ℕ) (s : QueueState) (out : Bool) (words : List ℕ) (h
       other (same_write limit s.pipe.read_whole a b low_a high_a low_b high_b same)
 
   -- a step on the tail leaves the words of the places
-  behind_tail : (n place : ℕ) → get_or (set words 0 n) (sequence_of place) 0 ≡
+  after_tail : (n place : ℕ) → get_or (set words 0 n) (sequence_of place) 0 ≡
       get_or words (sequence_of place) 0
-  behind_tail n place = get_or-set_other words 0 (sequence_of place) n 0 (λ same. omega arith)
+  after_tail n place = get_or-set_other words 0 (sequence_of place) n 0 (λ same. omega arith)
 
   tail_after : (n : ℕ) → get_or (set words 0 n) 0 0 ≡ n
   tail_after n = let count = ring.word_count in get_or-set_same words 0 n 0 (omega arith)
@@ -298,7 +298,7 @@ module _ (limit first : ℕ) (s : QueueState) (out : Bool) (words : List ℕ) (h
             record {
               free = λ past. absurd (omega arith);
               empty = λ past. absurd (omega arith);
-              begun = λ other at unstored. behind_tail (last + 1) (place_of limit c) ∙
+              begun = λ other at unstored. after_tail (last + 1) (place_of limit c) ∙
                   place.free (omega arith);
               stored = λ other at stored. absurd (stored (unstored_here c other same at));
               full = λ other at stored there. absurd (stored (unstored_here c other same at));
@@ -322,7 +322,7 @@ module _ (limit first : ℕ) (s : QueueState) (out : Bool) (words : List ℕ) (h
             let long = longer in
             place_moves limit first s taken out out words (set words 0 (last + 1)) homes
             (set homes (place_of limit last) none) c (ring.places c low high)
-            (behind_tail (last + 1) (place_of limit c))
+            (after_tail (last + 1) (place_of limit c))
             (home_else last c none (apart c last low high (omega arith) (omega arith) other))
             (λ past. omega arith)
             (λ w at. (older c w other at).0)
@@ -472,9 +472,9 @@ module _ (limit first : ℕ) (s : QueueState) (out : Bool) (words : List ℕ) (h
           (stored_word limit s.pipe.read_whole + 1)) (set homes (place_of limit s.pipe.read_whole)
           (some None)) c
       others c low high other =
-          let behind : c ≢ s.pipe.read_whole = λ same. omega arith in
+          let after : c ≢ s.pipe.read_whole = λ same. omega arith in
           let place = apart c s.pipe.read_whole (omega arith) (omega arith) (omega arith)
-          (omega arith) behind in
+          (omega arith) after in
           place_moves limit first s taken_out out false words
           (set words (sequence_of (place_of limit s.pipe.read_whole))
           (stored_word limit s.pipe.read_whole + 1)) homes
@@ -486,7 +486,7 @@ module _ (limit first : ℕ) (s : QueueState) (out : Bool) (words : List ℕ) (h
           (λ w at. at)
           (λ w at unstored. unstored)
           (λ w at unstored. unstored)
-          (λ there. inr behind)
+          (λ there. inr after)
 
   -- ---- the queue is hung up
 
@@ -501,7 +501,7 @@ module _ (limit first : ℕ) (s : QueueState) (out : Bool) (words : List ℕ) (h
             ap (λ (n : ℕ). bit_or n MARK) ring.tail ∙ of s.pipe.hung refl;
         places = λ c low high. place_moves limit first s (after_entry s (Hung seat)) out out words
             (set words 0 (bit_or (get_or words 0 0) MARK)) homes homes c (ring.places c low high)
-            (behind_tail (bit_or (get_or words 0 0) MARK) (place_of limit c)) refl (λ past. past)
+            (after_tail (bit_or (get_or words 0 0) MARK) (place_of limit c)) refl (λ past. past)
             (λ w at. at) (λ w at unstored. unstored) (λ w at unstored. unstored) (λ there. there);
       }
     where

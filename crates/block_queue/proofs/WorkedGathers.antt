@@ -58,9 +58,9 @@ module _ (key : Key) (take : TakeSeat) (puts : List PutSeat) (gathered : Gathere
       drop (queue_after key history).pipe.read_whole (queue_after key history).pipe.accepted
   what_is_gathered_was_accepted_and_not_read = gathers.blocks_are
 
-  behind_it_nothing_is_left : length (queue_after key emptied).pipe.accepted ≡
+  after_it_nothing_is_left : length (queue_after key emptied).pipe.accepted ≡
       (queue_after key emptied).pipe.read_whole + 0
-  behind_it_nothing_is_left =
+  after_it_nothing_is_left =
       subst (λ (seen : List Entry).
       length (queue_after key seen).pipe.accepted ≡ (queue_after key seen).pipe.read_whole + 0)
       gathers.final_is gathers.none.left_is

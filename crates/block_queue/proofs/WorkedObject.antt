@@ -45,8 +45,8 @@ worn_comes_before_taken = refl
 any_number_is_a_writer : reply_to (new_kept 1 0) (Put 64 a) ≡ reply.Taken 1
 any_number_is_a_writer = refl
 
-a_put_names_the_seat_behind_its_writer : named_by (Put 64 a) ≡ Some 65
-a_put_names_the_seat_behind_its_writer = refl
+a_put_names_the_seat_after_its_writer : named_by (Put 64 a) ≡ Some 65
+a_put_names_the_seat_after_its_writer = refl
 
 the_greatest_number_names_no_seat : named_by (Put 18446744073709551615 a) ≡ None
 the_greatest_number_names_no_seat = refl
@@ -87,8 +87,8 @@ left_state = after_entry (opening_state 1) (Taken 0 a 1)
 full_after_a_hangup : IsFirst 0 hung_state (reply.Full a 0) → ⊥
 full_after_a_hangup is = let no : true ≡ false = is.0 in cc
 
-full_behind_the_last_number : IsFirst LAST_WRITE (opening_state 1) (reply.Full a 0) → ⊥
-full_behind_the_last_number is = is.1 refl
+full_after_the_last_number : IsFirst LAST_WRITE (opening_state 1) (reply.Full a 0) → ⊥
+full_after_the_last_number is = is.1 refl
 
 worn_after_a_hangup : IsFirst 0 hung_state (reply.Worn a) → ⊥
 worn_after_a_hangup is = let no : true ≡ false = is in cc

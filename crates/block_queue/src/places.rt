@@ -1,5 +1,5 @@
 //! Where the ring keeps what. The first word is the tail, and has its line to itself: all writers
-//! step on it, and the reader on the others. Behind that line stand two words for each place, of
+//! step on it, and the reader on the others. After that line stand two words for each place, of
 //! which the first is its sequence word, so that a line has four places: with eight, writers and
 //! the reader took it from each other. Each place has a slot. The writes are counted from 0, and
 //! write c is kept in place c mod limit.

@@ -78,9 +78,9 @@ impl Queue {
             (put_account seat.old) (put_account seat.new) result }
         ensures fresh { IsFreshPut (key_of self.now) (put_account seat.old) result }
     {
-        let mut stepper = seat.stand();
+        let mut stepper = seat.take_token();
         let answer = self.put_in_turn(rt, &mut stepper, &mut seat.spare, seat.writer, block, probe);
-        seat.sit(stepper);
+        seat.put_token(stepper);
         probe.at(6);
         answer
     }

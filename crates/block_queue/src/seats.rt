@@ -35,7 +35,7 @@ impl PutSeat {
     }
 
     /// What the seat makes its steps with. A blank badge stands in for what it knows until `sit`.
-    pub(crate) fn stand(&mut self) -> Stepper
+    pub(crate) fn take_token(&mut self) -> Stepper
         requires { self.old.badge.views ≡ put_view self.old ∷ [] }
         ensures table { result.table_id ≡ self.old.badge.table_id }
         ensures stepper { result.me ≡ (put_view self.old, []) }
@@ -44,7 +44,7 @@ impl PutSeat {
         mem::replace(&mut self.badge, Badge::blank()).into_seat()
     }
 
-    pub(crate) fn sit(&mut self, stepper: Stepper)
+    pub(crate) fn put_token(&mut self, stepper: Stepper)
         requires { stepper.me.1 ≡ [] }
         ensures table { self.new.badge.table_id ≡ stepper.table_id }
         ensures views { self.new.badge.views ≡ stepper.me.0 ∷ [] }
@@ -56,7 +56,7 @@ impl PutSeat {
 
 impl TakeSeat {
     /// What the seat makes its steps with. A blank badge stands in for what it knows until `sit`.
-    pub(crate) fn stand(&mut self) -> Stepper
+    pub(crate) fn take_token(&mut self) -> Stepper
         requires { self.old.badge.views ≡ take_view self.old ∷ [] }
         ensures table { result.table_id ≡ self.old.badge.table_id }
         ensures stepper { result.me ≡ (take_view self.old, []) }
@@ -65,7 +65,7 @@ impl TakeSeat {
         mem::replace(&mut self.badge, Badge::blank()).into_seat()
     }
 
-    pub(crate) fn sit(&mut self, stepper: Stepper)
+    pub(crate) fn put_token(&mut self, stepper: Stepper)
         requires { stepper.me.1 ≡ [] }
         ensures table { self.new.badge.table_id ≡ stepper.table_id }
         ensures views { self.new.badge.views ≡ stepper.me.0 ∷ [] }

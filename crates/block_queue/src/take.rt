@@ -80,10 +80,10 @@ impl Queue {
         ensures fresh { IsFreshTake (key_of self.now)
             (take_account seat.old) (take_account seat.new) result }
     {
-        let mut stepper = seat.stand();
+        let mut stepper = seat.take_token();
         let answer = self.take_next(&mut stepper, &mut seat.spare, seat.taken, probe);
         seat.taken += blocks(&answer);
-        seat.sit(stepper);
+        seat.put_token(stepper);
         answer
     }
 
@@ -155,9 +155,9 @@ impl Queue {
         ensures hung { Enters (key_of self.now) (Hung (seat.old.writer + 1))
             (put_account seat.old) (put_account seat.new) }
     {
-        let mut stepper = seat.stand();
+        let mut stepper = seat.take_token();
         self.hang(&mut stepper, seat.writer + 1);
-        seat.sit(stepper);
+        seat.put_token(stepper);
     }
 
     /// Hangs the queue up from the side of the reader, for good. What was accepted stays. It waits
@@ -169,9 +169,9 @@ impl Queue {
         ensures hung { Enters (key_of self.now) (Hung 0)
             (take_account seat.old) (take_account seat.new) }
     {
-        let mut stepper = seat.stand();
+        let mut stepper = seat.take_token();
         self.hang(&mut stepper, 0);
-        seat.sit(stepper);
+        seat.put_token(stepper);
     }
 
     fn hang(&self, stepper: &mut Stepper, number: u64)

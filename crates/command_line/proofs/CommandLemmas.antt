@@ -210,12 +210,12 @@ module _ (s : Shape) (subs : Names) (word : Text)
       by_long (Some p) is = stray_long p is
       by_long None is = by_short is (short_of word) refl
 
--- Behind `--` each word is a fault of such a command.
-behind_end : (s : Shape) (subs : Names) (word : Text) (words : List Text)
+-- After `--` each word is a fault of such a command.
+after_end : (s : Shape) (subs : Names) (word : Text) (words : List Text)
     → s.rules ≡ [] → subcommand_met subs idle (codes "--") ≡ None
     → walk_fault s subs (walk_from nothing_held) (codes "--" ∷ word ∷ words) ≡ [] → ⊥
 unfolding walk_fault walked
-behind_end s subs word words bare unmet none =
+after_end s subs word words bare unmet none =
     some_fault s (both_none (stray_fault s) _ (rw (bare, unmet) at none)).0
 
 -- So such a command takes nothing, or `--` alone.
@@ -233,7 +233,7 @@ takes_nothing s (word ∷ words) bare none = by_word (bytes_eq word (codes "--")
         → (word ∷ words ≡ []) ⊎ (word ∷ words ≡ codes "--" ∷ [])
     by_rest [] is is_end = inr (ap₂ (λ w ws. w ∷ ws) is_end is)
     by_rest (next ∷ rest) is is_end =
-        absurd (behind_end s [] next rest bare refl
+        absurd (after_end s [] next rest bare refl
         (subst (λ ws. walk_fault s [] (walk_from nothing_held) ws ≡ [])
         (ap₂ (λ w ws. w ∷ ws) is_end is) none))
 
@@ -279,19 +279,19 @@ replay_stops rest =
     (codes "replay", []) rest refl
 
 -- what follows a command that is taken
-behind_pipe : (name : Text) (rest : List Text)
+after_pipe : (name : Text) (rest : List Text)
     → fault_of command_line (name ∷ codes "pipe" ∷ rest) ≡ []
     → (rest ≡ []) ⊎ (rest ≡ codes "--" ∷ [])
-behind_pipe name rest none =
+after_pipe name rest none =
     let below = (both_none _ _ (both_none _ _ none).1).0 in
     let level = subst (λ stop. entered_fault (built command_line) stop ≡ []) (pipe_stops rest) below
     in
     takes_nothing _ rest refl (both_none _ _ level).0
 
-behind_replay : (name : Text) (rest : List Text)
+after_replay : (name : Text) (rest : List Text)
     → fault_of command_line (name ∷ codes "replay" ∷ rest) ≡ []
     → (rest ≡ []) ⊎ (rest ≡ codes "--" ∷ [])
-behind_replay name rest none =
+after_replay name rest none =
     let below = (both_none _ _ (both_none _ _ none).1).0 in
     let level = subst (λ stop. entered_fault (built command_line) stop ≡ []) (replay_stops rest)
     below in
@@ -403,7 +403,7 @@ asks_for_script (name ∷ word ∷ rest) met none is = by_pipe (bytes_eq word (c
         (subst (λ words. fault_of command_line words ≡ []) (words_are (codes "--") [] same ends)
         none)
     ends_alone same (next ∷ more) ends =
-        behind_end top names next more refl refl
+        after_end top names next more refl refl
         (both_none _ _
         (subst (λ words. fault_of command_line words ≡ [])
         (words_are (codes "--") (next ∷ more) same ends) none)).0
@@ -429,7 +429,7 @@ asks_for_script (name ∷ word ∷ rest) met none is = by_pipe (bytes_eq word (c
         → script_asked (name ∷ word ∷ rest) ≡ task_named met
     by_replay not_pipe true found =
         let same = word_is word (codes "replay") found in
-        as_replay same (behind_replay name rest (in_place _ same))
+        as_replay same (after_replay name rest (in_place _ same))
     by_replay not_pipe false found =
         by_threads not_pipe found (bytes_eq word (codes "threads")) refl
 
@@ -437,7 +437,7 @@ asks_for_script (name ∷ word ∷ rest) met none is = by_pipe (bytes_eq word (c
         → script_asked (name ∷ word ∷ rest) ≡ task_named met
     by_pipe true found =
         let same = word_is word (codes "pipe") found in
-        as_pipe same (behind_pipe name rest (in_place _ same))
+        as_pipe same (after_pipe name rest (in_place _ same))
     by_pipe false found = by_replay found (bytes_eq word (codes "replay")) refl
 
 -- Words without a fault ask for the run of the command that they name, with what they give for its

@@ -10,9 +10,9 @@ abbrev pub AreAll : ℕ → List ℕ → Type 0
 AreAll byte bytes = bytes ≡ replicate (length bytes) byte
 
 -- the same byte after them, and they are all this one still
-are_all_behind : (byte : ℕ) (bytes : List ℕ) (next : ℕ) → AreAll byte bytes → next ≡ byte
+are_all_after : (byte : ℕ) (bytes : List ℕ) (next : ℕ) → AreAll byte bytes → next ≡ byte
     → AreAll byte (bytes ++ (next ∷ []))
-are_all_behind byte bytes next all same =
+are_all_after byte bytes next all same =
     ap (λ l. l ++ (next ∷ [])) all
     ∙ (ap (λ b. replicate (length bytes) byte ++ (b ∷ [])) same
     ∙ (replicate-append-replicate (length bytes) 1 byte
@@ -23,5 +23,5 @@ pub one_byte_more : (byte : ℕ) (bytes : List ℕ) (next : ℕ) (before after :
     → (before ≡ true → AreAll byte bytes) → after ≡ (before && (next == byte))
     → after ≡ true → AreAll byte (bytes ++ (next ∷ []))
 one_byte_more byte bytes next true after all told is =
-    are_all_behind byte bytes next (all refl) ((Decides-eqb next byte).0 (sym told ∙ is))
+    are_all_after byte bytes next (all refl) ((Decides-eqb next byte).0 (sym told ∙ is))
 one_byte_more byte bytes next false after all told is = absurd (false≢true (sym told ∙ is))

@@ -52,10 +52,10 @@ impl Expected {
 fn is_message(writer: u64, number: u64, piece: &[u8]) -> bool
     ensures { result ≡ true → piece.now ≡ message_of (length piece.now) writer number }
 {
-    let Some(behind) = piece.strip_prefix(&writer.to_be_bytes()) else {
+    let Some(rest) = piece.strip_prefix(&writer.to_be_bytes()) else {
         return false;
     };
-    let Some(filler) = behind.strip_prefix(&number.to_be_bytes()) else {
+    let Some(filler) = rest.strip_prefix(&number.to_be_bytes()) else {
         return false;
     };
     are_all(filler, (number % 256) as u8)

@@ -153,8 +153,8 @@ writer_hangs_up_last = λ hang. hang
 reader_never_hangs_up : ¬ HasHungUp (NotYet 0 ∷ [])
 reader_never_hangs_up up = up.hung
 
-reader_reads_on_behind_its_hangup : ¬ HasHungUp (Block 0 byte 1 ∷ Hung 0 ∷ [])
-reader_reads_on_behind_its_hangup up = up.last tt
+reader_reads_on_after_its_hangup : ¬ HasHungUp (Block 0 byte 1 ∷ Hung 0 ∷ [])
+reader_reads_on_after_its_hangup up = up.last tt
 
 -- ---- runs that are refused
 
@@ -234,14 +234,14 @@ told_before number entry past wanted differs told = by (eqb (seat_of entry) numb
     by false same = same
 
 -- whoever was told of a hangup was told so after one
-told_behind_a_hangup : (number writer : ℕ) (block : List ℕ) (history : List Entry)
+told_after_a_hangup : (number writer : ℕ) (block : List ℕ) (history : List Entry)
     → last_told (entries_by seat_of number history) ≡ Some (Hungup writer block)
     → EachHungupIsAfterHangup history → HasHang history
-told_behind_a_hangup number writer block [] told each = cc
-told_behind_a_hangup number writer block (Hung seat ∷ past) told each = tt
-told_behind_a_hangup number writer block (Hungup other its ∷ past) told each = each.0
-told_behind_a_hangup number writer block (entry ∷ past) told each =
-    told_behind_a_hangup number writer block past
+told_after_a_hangup number writer block [] told each = cc
+told_after_a_hangup number writer block (Hung seat ∷ past) told each = tt
+told_after_a_hangup number writer block (Hungup other its ∷ past) told each = each.0
+told_after_a_hangup number writer block (entry ∷ past) told each =
+    told_after_a_hangup number writer block past
     (told_before number entry past (Some (Hungup writer block)) (λ same. cc) told) each
 
 module _ (key : Key) (first : ℕ) (given : List (List (List ℕ))) (outcome : Outcome)
@@ -292,7 +292,7 @@ module _ (key : Key) (first : ℕ) (given : List (List (List ℕ))) (outcome : O
       let hung : outcome.held.hung ≡ true
       = made.hung
       ∙ left_hung key made.history
-      (told_behind_a_hangup 1 0 byte made.history told made.hungup) in
+      (told_after_a_hangup 1 0 byte made.history told made.hungup) in
       cc
 
   -- a writer tells a fault that no write has

@@ -316,7 +316,7 @@ module _ {Entry : Type 0} (by : Entry → ℕ) where
       entries_by-since by share.number (second.since ++ first.since) old
       (ap (entries_by by share.number) (sym whole) ∙ late.entries ∙ sym early.entries) in
       let here : entries_by by share.number first.since ≡ [] =
-      behind (entries_by by share.number second.since) (entries_by by share.number first.since)
+      after (entries_by by share.number second.since) (entries_by by share.number first.since)
       (sym (entries_by-append by share.number second.since first.since) ∙ none) in
       record {
         entries = ap (entries_by by share.number) first.new_is
@@ -325,9 +325,9 @@ module _ {Entry : Type 0} (by : Entry → ℕ) where
             ∙ early.entries;
       }
     where
-      behind : (xs ys : List Entry) → xs ++ ys ≡ [] → ys ≡ []
-      behind [] ys e = e
-      behind (x ∷ xs) ys e = cc
+      after : (xs ys : List Entry) → xs ++ ys ≡ [] → ys ≡ []
+      after [] ys e = e
+      after (x ∷ xs) ys e = cc
 
   -- shares that have their entries of an older and of a newer history have them of one between
   pub all_between : (old middle new : List Entry) → IsPast old middle → IsPast middle new →

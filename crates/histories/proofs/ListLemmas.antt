@@ -129,11 +129,11 @@ module _ {A : Type 0} where
   pub past_any : (test : A → Bool) (old new : List A) → IsPast old new →
       list_any test old ≡ true → list_any test new ≡ true
   past_any test old new past has =
-      ap (list_any test) past.new_is ∙ behind past.since
+      ap (list_any test) past.new_is ∙ still past.since
     where
-      behind : (since : List A) → list_any test (since ++ old) ≡ true
-      behind [] = has
-      behind (x ∷ since) = after (test x) (behind since)
+      still : (since : List A) → list_any test (since ++ old) ≡ true
+      still [] = has
+      still (x ∷ since) = after (test x) (still since)
         where
           after : (b : Bool) → list_any test (since ++ old) ≡ true →
               (b || list_any test (since ++ old)) ≡ true

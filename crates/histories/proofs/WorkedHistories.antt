@@ -129,19 +129,19 @@ a_number_is_forgotten joins =
     let one = ap (λ (account : Account Move). length account.shares) joins.joined_is in
     omega (arith, one)
 
-not_behind : (since : List Move) (entry : Move) → [] ≡ since ++ entry ∷ [] → ⊥
-not_behind [] entry is = cc
-not_behind (newer ∷ since) entry is = cc
+not_after : (since : List Move) (entry : Move) → [] ≡ since ++ entry ∷ [] → ⊥
+not_after [] entry is = cc
+not_after (newer ∷ since) entry is = cc
 
 the_first_is_forgotten : (joined : Account Move) → joined.seen ≡ []
     → JoinsAccounts second_put third joined → ⊥
 the_first_is_forgotten joined none joins =
-    not_behind joins.first_past.since (puts 1 3) (sym none ∙ joins.first_past.new_is)
+    not_after joins.first_past.since (puts 1 3) (sym none ∙ joins.first_past.new_is)
 
 the_second_is_forgotten : (joined : Account Move) → joined.seen ≡ []
     → JoinsAccounts third second_put joined → ⊥
 the_second_is_forgotten joined none joins =
-    not_behind joins.second_past.since (puts 1 3) (sym none ∙ joins.second_past.new_is)
+    not_after joins.second_past.since (puts 1 3) (sym none ∙ joins.second_past.new_is)
 
 -- one call makes one entry
 nothing_is_made : AddsEntry by (puts 1 3) second second → ⊥
@@ -156,7 +156,7 @@ a_history_is_begun_anew adds =
     let seen : puts 1 3 ∷ [] ≡ puts 1 3 ∷ adds.past =
     ap (λ (account : Account Move). account.seen) adds.new_is in
     let past : [] ≡ adds.past = cc in
-    not_behind adds.looked.since (puts 1 3) (past ∙ adds.looked.history_is)
+    not_after adds.looked.since (puts 1 3) (past ∙ adds.looked.history_is)
 
 -- a number that is given is the next one, and its parent tells of it
 abbrev alone : Account Move
@@ -182,7 +182,7 @@ a_child_knows_more gives =
 -- a look begins no history anew, misses no entry where the seat has all numbers, and finds none of
 -- the seat's own that the seat does not know
 a_look_forgets : LooksAt by [] second_put → ⊥
-a_look_forgets looks = not_behind looks.since (puts 1 3) looks.history_is
+a_look_forgets looks = not_after looks.since (puts 1 3) looks.history_is
 
 a_look_of_all_misses_one : LooksAt by (puts 1 3 ∷ []) alone → ⊥
 a_look_of_all_misses_one looks =

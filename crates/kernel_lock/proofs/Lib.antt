@@ -10,6 +10,6 @@ pub mod ServeLemmas
 pub mod SettleKeeps
 pub mod SlotLemmas
 pub mod SplitLemmas
-pub mod WatchKeeps
+pub mod PollKeeps
 pub mod WorkedLocks
 mod WorkedSeats

@@ -160,7 +160,7 @@ module _ {Object State Call Reply : Type 0}
           stage_is = ap (λ (view : View Object Call Reply). view.stage) is.0;
           no_slot = is.1;
           serves = subst (Serves served before.0) (sym is.0) serves;
-          behind = ap (λ (view : View Object Call Reply). view.account.seen) is.0;
+          follows = ap (λ (view : View Object Call Reply). view.account.seen) is.0;
           knows = subst
               (λ (view : View Object Call Reply). KnowsHistory (meaning_of definition) opening
               key.limit view.account)
@@ -201,7 +201,7 @@ module _ {Object State Call Reply : Type 0}
           knows = done.knows;
           first_served = done.serves;
           second_served = then.serves;
-          at_once = then.behind ∙ ap (λ (seen : List _). second ∷ seen) entered.at_once;
+          at_once = then.follows ∙ ap (λ (seen : List _). second ∷ seen) entered.at_once;
         }
 
   -- which is what was served where the second follows the first

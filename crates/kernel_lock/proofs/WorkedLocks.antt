@@ -193,13 +193,13 @@ a_split_is_forgotten serves = let given = serves.given in omega (arith, given)
 abbrev five : Key ℕ
 five = record { opening = record { marker = _; value = 5 }; limit = 1 }
 
-abbrev adds_two_behind : List (Operation ℕ ℕ) → List (Operation ℕ ℕ)
-adds_two_behind past = served 0 2 10 ∷ past
+abbrev adds_two_after : List (Operation ℕ ℕ) → List (Operation ℕ ℕ)
+adds_two_after past = served 0 2 10 ∷ past
 
 -- another request between the two, no second request, and a first one that is answered wrong
 another_stands_between :
     ServesBoth counter five (served 0 3 8) (served 0 2 10) (seat [] [] 1)
-    (seat (adds_two_behind (served 1 0 8 ∷ adds_three)) [] 1) → ⊥
+    (seat (adds_two_after (served 1 0 8 ∷ adds_three)) [] 1) → ⊥
 another_stands_between both =
     let next : served 1 0 8 ∷ adds_three ≡ both.between.account.seen =
     ap (drop 1) both.at_once in
@@ -218,7 +218,7 @@ another_stands_between both =
 
 the_second_is_left_out :
     ServesBoth counter five (served 0 3 8) (served 0 2 10) (seat [] [] 1)
-    (seat (adds_two_behind []) [] 1) → ⊥
+    (seat (adds_two_after []) [] 1) → ⊥
 the_second_is_left_out both =
     let first = ap (λ (account : Account (Operation ℕ ℕ)). length account.seen)
     both.first_served.account.new_is in

@@ -39,10 +39,10 @@ module _ {Object State Call Reply : Type 0}
     (definition : Definition Object State Call Reply) (lock : Locked Object Call Reply)
     (old new : LockSeat Object Call Reply) (request next : Call) (reply answer : Reply)
     (both : AppliesBoth definition lock old request next reply answer new) where
-  the_first_is_right_behind :
+  the_first_follows_at_once :
       seen_of new ≡ served_by definition both.between next answer
       ∷ served_by definition old request reply ∷ both.first.account.past
-  the_first_is_right_behind =
+  the_first_follows_at_once =
       both.at_once
       ∙ ap (λ seen. served_by definition both.between next answer ∷ seen)
       (ap (λ account. account.seen) both.first.account.new_is)

@@ -24,7 +24,7 @@ abbrev pub Me : Type 0 → Type 0 → Type 0 → Type 0
 Me Object Call Reply = table.Me (Slot Object) (View Object Call Reply)
 
 module _ {Object Call Reply : Type 0} where
-  -- Watch: nothing changed
+  -- Poll: nothing changed
   pub record HasWatched (before after : Me Object Call Reply) : Type 0 where
     pub same : after ≡ before
 
@@ -153,7 +153,7 @@ module _ {Object State Call Reply : Type 0}
     -- its request stands after a past that ends what it had seen
     pub serves : Serves served before.0 after.0
     -- which is that history
-    pub behind : after.0.account.seen ≡ served ∷ history
+    pub follows : after.0.account.seen ≡ served ∷ history
     -- and what it has seen now is a legal history, with its own requests once each
     pub knows : KnowsHistory (meaning_of definition) (opening_state definition key) key.limit
         after.0.account

@@ -35,9 +35,9 @@ impl<O: Object> Locked<O> {
         ensures history { SeesHistory O.definition self.now seat.new }
     {
         let by = O::caller(&request).unwrap_or(seat.number);
-        let mut stepper = seat.stand();
+        let mut stepper = seat.take_token();
         let reply = self.serve(rt, &mut stepper, by, request);
-        seat.sit(stepper);
+        seat.put_token(stepper);
         reply
     }
 
@@ -63,9 +63,9 @@ impl<O: Object> Locked<O> {
     {
         let own = seat.number;
         let by = O::caller(&request).unwrap_or(own);
-        let mut stepper = seat.stand();
+        let mut stepper = seat.take_token();
         let answers = self.serve_then::<R, F>(rt, &mut stepper, own, by, request);
-        seat.sit(stepper);
+        seat.put_token(stepper);
         answers
     }
 

@@ -26,7 +26,7 @@ impl<O: Object> LockSeat<O> {
     }
 
     /// What the seat makes its steps with. A blank badge stands in for what it knows until `sit`.
-    pub(crate) fn stand(&mut self) -> Stepper<O>
+    pub(crate) fn take_token(&mut self) -> Stepper<O>
         requires { self.old.badge.views ≡ view_of self.old ∷ [] }
         ensures table { result.table_id ≡ self.old.badge.table_id }
         ensures stepper { result.me ≡ (view_of self.old, []) }
@@ -35,7 +35,7 @@ impl<O: Object> LockSeat<O> {
         mem::replace(&mut self.badge, Badge::blank()).into_seat()
     }
 
-    pub(crate) fn sit(&mut self, stepper: Stepper<O>)
+    pub(crate) fn put_token(&mut self, stepper: Stepper<O>)
         requires { stepper.me.1 ≡ [] }
         ensures table { self.new.badge.table_id ≡ stepper.table_id }
         ensures views { self.new.badge.views ≡ stepper.me.0 ∷ [] }

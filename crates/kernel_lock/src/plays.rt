@@ -22,9 +22,9 @@ impl<O: Object> Play<Option<Guarded<O>>, View<O, O::Call, O::Reply>> for Acquire
     ghost then = { λ _ before found after. HasAcquired O.definition before found after };
 }
 
-pub struct Watch;
+pub struct Poll;
 
-impl<O, Q, R> Play<Option<Guarded<O>>, View<O, Q, R>> for Watch {
+impl<O, Q, R> Play<Option<Guarded<O>>, View<O, Q, R>> for Poll {
     ghost then = { λ _ before _ after. HasWatched before after };
 }
 

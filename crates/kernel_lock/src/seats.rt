@@ -44,9 +44,9 @@ impl<O: Object> Locked<O> {
         ensures fault { IfErr result (λ fault. fault ≡ NoProc) }
         ensures refused { OnErr result (KnowsAllGiven self.now seat.old seat.new) }
     {
-        let mut stepper = seat.stand();
+        let mut stepper = seat.take_token();
         let child = self.divide_in_turn(rt, &mut stepper);
-        seat.sit(stepper);
+        seat.put_token(stepper);
         child.ok_or(Fault::NoProc)
     }
 

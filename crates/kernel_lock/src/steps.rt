@@ -11,7 +11,7 @@ ghost use Rattle.kernel_lock.specs.View.{HasOwn};
 
 use crate::locked::Locked;
 use crate::object::Object;
-use crate::plays::{Acquire, Divide, Enter, Made, Merge, Release, Settle, Watch};
+use crate::plays::{Acquire, Divide, Enter, Made, Merge, Poll, Release, Settle};
 use crate::rule::Stepper;
 use crate::view::Guarded;
 use crate::waiters::GivenBack;
@@ -42,13 +42,13 @@ impl<O: Object> Locked<O> {
     }
 
     /// The word, which is `FREE` where the lock is.
-    // Step Watch: load of the word. Seat: as it was. Keeps the rule: nothing changes.
-    pub(crate) fn watch(&self, stepper: &mut Stepper<O>) -> u64
+    // Step Poll: load of the word. Seat: as it was. Keeps the rule: nothing changes.
+    pub(crate) fn poll(&self, stepper: &mut Stepper<O>) -> u64
         requires { IsStepperOf self.now stepper.old }
         ensures stepper { IsSameStepper stepper.old stepper.new }
         ensures same { stepper.new.me ≡ stepper.old.me }
     {
-        self.table.shared.load::<Watch>(stepper, WORD)
+        self.table.shared.load::<Poll>(stepper, WORD)
     }
 
     /// Takes the object out of the slot.

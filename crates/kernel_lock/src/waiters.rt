@@ -40,7 +40,7 @@ pub(crate) struct Taken {
 
 impl Taken {
     /// The word of the lock, as it was found after the announcement.
-    pub(crate) fn behind(announced: Announced, _word: u64) -> Taken
+    pub(crate) fn after(announced: Announced, _word: u64) -> Taken
         requires { _word ≢ 0 }
     {
         Taken { announced }

@@ -54,7 +54,7 @@ impl<O: Object> Locked<O> {
     {
         for _ in 0..LOOKS {
             pause();
-            if self.watch(stepper) == FREE {
+            if self.poll(stepper) == FREE {
                 return attempt;
             }
         }
@@ -75,23 +75,23 @@ impl<O: Object> Locked<O> {
         ensures slept { attempt.slept ≡ true → result.slept ≡ true }
     {
         let announced = self.waiters.announce();
-        match self.watch_again(stepper, announced) {
+        match self.poll_again(stepper, announced) {
             Some(taken) => self.waiters.sleep(rt, taken, attempt),
             None => attempt,
         }
     }
 
     // Looks at the lock after an announcement: a thread may sleep where it is still taken.
-    fn watch_again(&self, stepper: &mut Stepper<O>, announced: Announced) -> Option<Taken>
+    fn poll_again(&self, stepper: &mut Stepper<O>, announced: Announced) -> Option<Taken>
         requires { IsStepperOf self.now stepper.old }
         ensures stepper { IsSameStepper stepper.old stepper.new }
         ensures same { stepper.new.me ≡ stepper.old.me }
     {
-        let found = self.watch(stepper);
+        let found = self.poll(stepper);
         if found == FREE {
             return None;
         }
-        Some(Taken::behind(announced, found))
+        Some(Taken::after(announced, found))
     }
 
     /// Gives the lock back, and wakes a thread that waits for it.

@@ -40,7 +40,7 @@ pub struct Caller {
     pub held: RoleAt,
 }
 
-/// A process behind a call that it made on a thread.
+/// A process after a call that it made on a thread.
 #[derive(Drop)]
 pub struct Reply {
     pub caller: Caller,

@@ -244,7 +244,7 @@ fn call_write_end<R: Wait>(
     }
 }
 
-// A long write. Where it finds no memory it goes on once more, behind what was taken.
+// A long write. Where it finds no memory it goes on once more, after what was taken.
 #[tactic(auto, using(crate::proofs::LoneLemmas::same_twice))]
 fn write_on<R: Wait>(
     rt: &R,

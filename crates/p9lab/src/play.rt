@@ -99,7 +99,7 @@ fn play_again<'t, R: Threads + Wait + Copy + Send + 'static>(
 ) -> Option<Answer> {
     let verb = line.call.verb;
     match play(rt, scene, line)? {
-        Answer::Fault(Fault::Memory) | Answer::Behind(Fault::Memory, _)
+        Answer::Fault(Fault::Memory) | Answer::FaultAfter(Fault::Memory, _)
             if verb != Verb::Ends && verb != Verb::Acted => { play(rt, scene, line) }
         answer => Some(answer),
     }
@@ -147,7 +147,7 @@ fn kernel_of(alloc: Global, line: &Line<'_>) -> Option<Result<OpenedKernel, Faul
     }
 }
 
-// What a plan counts: each kind of object with its number behind it.
+// What a plan counts: each kind of object with its number after it.
 fn plan_of(text: &str) -> Option<Plan> {
     let mut plan = Plan::new();
     let mut words = text.split_whitespace();

@@ -91,7 +91,7 @@ fn have_filled(answer: Result<(), ShortRead>, count: usize) -> Answer {
     };
     match fault {
         None => Answer::Bytes("short", count),
-        Some(fault) => Answer::Behind(fault, count as u64),
+        Some(fault) => Answer::FaultAfter(fault, count as u64),
     }
 }
 

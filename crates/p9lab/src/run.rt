@@ -36,7 +36,7 @@ struct Options {
     from: usize,
 }
 
-// Only the first word behind the name may be an option.
+// Only the first word after the name may be an option.
 fn options_of(words: &[String]) -> Option<Options> {
     let (turns, from) = match words {
         [_, option, number, ..] if option.as_str() == "--turns" => (number_of(number.as_str())?, 3),

@@ -324,7 +324,7 @@ fn here(alloc: Global, role: Role, held: RoleAt) -> State {
     })
 }
 
-// Puts a process behind those that are there.
+// Puts a process after those that are there.
 fn seat(
     scene: &mut Scene<'_>,
     number: u64,

@@ -93,7 +93,7 @@ put_ended Holds putting writer others seat number is = by (eqb seat (writer + 1)
 no_put : (number : ℕ) → None ≡ Some number → ⊥
 no_put number none = cc
 
--- a write is numbered behind those before the direction
+-- a write is numbered after those before the direction
 puts_are_numbered : (key : Key) (history : List Entry) → LegalFor key history
     → OfPuts (λ number. key.first < number) key history
 puts_are_numbered key [] legal = λ seat number none. absurd (no_put number none)

@@ -95,18 +95,18 @@ pub part_step : {key : Key} {old new : Taker} {part : Part} (room : ℕ) (parts 
 part_step {part = part} room parts some taken =
     inl record { room = room; some_room = some; part = part; taken = taken; parts = refl }
 
--- ---- steps behind steps
+-- ---- steps after steps
 
--- some rounds, and others behind them
+-- some rounds, and others after them
 pub rounds_then : {A : Type 0} (Round : A → A → Type 0) (times more : ℕ) (first between last : A)
     → Rounds Round times first between → Rounds Round more between last
     → (all : ℕ) × Rounds Round all first last
 rounds_then Round times zero first between last before same =
     (times, subst (Rounds Round times first) (sym same) before)
-rounds_then Round times (suc more) first between last before behind =
+rounds_then Round times (suc more) first between last before later =
     let all =
-    rounds_then Round times more first between behind.between before behind.rounds in
-    (suc all.0, record { between = behind.between; rounds = all.1; last = behind.last })
+    rounds_then Round times more first between later.between before later.rounds in
+    (suc all.0, record { between = later.between; rounds = all.1; last = later.last })
 
 -- ---- reads that go on
 
@@ -242,7 +242,7 @@ bytes_append (x ∷ xs) ys =
     ap (λ (bs : List ℕ). bs ++ x.bytes) (bytes_append xs ys)
     ∙ append_assoc (bytes_of ys) (bytes_of xs) x.bytes
 
--- what is added behind empty writes
+-- what is added after empty writes
 parts_then : (parts between after : List Part) (bytes : List ℕ) → AddsParts [] parts between
     → AddsParts bytes between after → AddsParts bytes parts after
 parts_then parts between after bytes first second =
@@ -263,7 +263,7 @@ adds_none : (mode : Mode) (parts : List Part) → AddsNoByte mode parts parts
 adds_none Message parts = refl
 adds_none Stream parts = record { added = []; bytes_are = refl; parts_are = refl }
 
--- what is added behind a request that was told to wait
+-- what is added after a request that was told to wait
 waits_then : (mode : Mode) (parts between after : List Part) → AddsNoByte mode parts between
     → AddsNoByte mode between after → AddsNoByte mode parts after
 waits_then Message parts between after none adds = adds ∙ none
@@ -316,13 +316,13 @@ module _ (key : Key) (mode : Mode) (Asks : Calling → Reply ReadAnswer → Call
       → ((ps : List Part) → IsOfSteps key Adds old.seat.taker ps new.seat.taker)
       → IsOfSteps key Adds first.seat.taker parts new.seat.taker
   more Adds old new joins before asked =
-      let behind = asked before.parts' in
-      let all = rounds_then (ReadStep key) before.times behind.times
+      let later = asked before.parts' in
+      let all = rounds_then (ReadStep key) before.times later.times
       (reading_at first.seat.taker parts) (reading_at old.seat.taker before.parts')
-      (reading_at new.seat.taker behind.parts') before.steps behind.steps in
+      (reading_at new.seat.taker later.parts') before.steps later.steps in
       record {
-        parts' = behind.parts';
-        added = joins before.parts' behind.parts' before.added behind.added;
+        parts' = later.parts';
+        added = joins before.parts' later.parts' before.added later.added;
         times = all.0;
         steps = all.1;
       }

@@ -77,7 +77,7 @@ pub record SoFar (key : Key) (mode : Mode) (first now : Lending) (took : Option 
   pub taker_is : now.taker ≡ filling.taker
   -- the number kept is that of the last write that was taken out
   pub took_is : took ≡ last_number first.taker.rest filling.parts
-  -- the bytes of the parts stand in front in the buffer, and behind them it is as it was
+  -- the bytes of the parts stand in front in the buffer, and after them it is as it was
   pub filled : IsFilledBy (bytes_of filling.parts) first.buffer now.buffer count
   -- the buffer is as long as it was
   pub size : length now.buffer ≡ length first.buffer
@@ -126,7 +126,7 @@ filled_more bytes part first now now' room count more before filled is =
     let count_is : length bytes ≡ count = sym before.count_is in
     let front : take count now ≡ bytes =
     ap (take count) before.bytes_are ∙ take_at bytes (drop count first) count count_is in
-    let behind : drop count now ≡ drop count first =
+    let after : drop count now ≡ drop count first =
     ap (drop count) before.bytes_are ∙ drop_at bytes (drop count first) count count_is in
     record {
       count_is =
@@ -140,13 +140,13 @@ filled_more bytes part first now now' room count more before filled is =
           ∙ (ap (λ (xs : List ℕ). bytes ++ xs)
           (filled.bytes_are
           ∙ ap (λ (xs : List ℕ). part ++ xs)
-          (ap (drop more) behind ∙ drop-drop more count first))
+          (ap (drop more) after ∙ drop-drop more count first))
           ∙ sym (append_assoc bytes part (drop (count + more) first))));
     }
 
--- whether it goes on behind a part, as the code tests it
-abbrev pub goes_on_behind : Mode → ℕ → List ℕ → Bool
-goes_on_behind mode count buffer = by_mode mode false (nat_lt count (length buffer))
+-- whether it goes on after a part, as the code tests it
+abbrev pub goes_on_after : Mode → ℕ → List ℕ → Bool
+goes_on_after mode count buffer = by_mode mode false (nat_lt count (length buffer))
 
 -- ---- it comes to an end
 
@@ -184,7 +184,7 @@ one_more_whole key writer block number old new first own knows enters =
     let given = fits.given in
     (omega (arith, whole, read), omega (arith, within, given))
 
--- a read that has no part begun behind it has fewer writes to take out
+-- a read that has no part begun after it has fewer writes to take out
 pub takes_fewer : (key : Key) (room : ℕ) (old new : Taker) (part : Part) → key.first ≡ 0
     → IsTrue (has_number old.account.shares 0) → KnowsQueue key old.account
     → TakesPart key room old part new → new.rest ≡ None → writes_left key new < writes_left key old
@@ -213,7 +213,7 @@ takes_fewer key room old new part first own knows takes none = by takes.next
 
 -- ---- what the code's steps make of it
 
--- the room behind what was read is all of the buffer behind it
+-- the room after what was read is all of the buffer after it
 room_all : (count : ℕ) (buffer : List ℕ)
     → mid_of count (length buffer - count) buffer ≡ drop count buffer
 room_all count buffer =
@@ -272,7 +272,7 @@ pub enough_so_far : {key : Key} {mode : Mode} {first now : Lending} {took : Opti
 enough_so_far {now = now} so_far enough =
     ends_so_far so_far stop.Enough now refl (sym so_far.further_is ∙ enough, so_far.taker_is)
 
--- behind the parts so far it goes on
+-- after the parts so far it goes on
 module _ {key : Key} {mode : Mode} {first now : Lending} {took : Option ℕ} {count : ℕ} {on : Bool}
     (so_far : SoFar key mode first now took count on) (goes : on ≡ true) where
   goes_so : goes_further (record { mode = mode; room = length first.buffer })
@@ -284,7 +284,7 @@ module _ {key : Key} {mode : Mode} {first now : Lending} {took : Option ℕ} {co
       (gives : GivesPart key (room_of now count) more number
       (record { taker = new; buffer = room }))
       (size : length room ≡ length (room_of now count).buffer) (further : Bool)
-      (on_behind : further ≡ goes_on_behind mode (count + more) (back_of now count new room).buffer)
+      (on_after : further ≡ goes_on_after mode (count + more) (back_of now count new room).buffer)
     where
       given_part : GivesPart key (record { taker = now.taker; buffer = drop count now.buffer }) more
           number (record { taker = new; buffer = room })
@@ -298,9 +298,9 @@ module _ {key : Key} {mode : Mode} {first now : Lending} {took : Option ℕ} {co
       back_size : length (back_of now count new room).buffer ≡ length now.buffer
       back_size = same_len_mid count (length now.buffer - count) now.buffer room size
 
-      -- where it goes on behind the part, nothing of the part's write is left
-      none_behind : further ≡ true → new.rest ≡ None
-      none_behind further_is =
+      -- where it goes on after the part, nothing of the part's write is left
+      nothing_left : further ≡ true → new.rest ≡ None
+      nothing_left further_is =
           by (rest_or_full (length (drop count now.buffer)) given_part.taken.left)
         where
           by : (rest_of (length (drop count now.buffer)) given_part.taken.left ≡ None)
@@ -308,10 +308,10 @@ module _ {key : Key} {mode : Mode} {first now : Lending} {took : Option ℕ} {co
               ≡ length (drop count now.buffer))
               → new.rest ≡ None
           by (inl none) = given_part.taken.rest ∙ none
-          by (inr full) = absurd (never mode (sym further_is ∙ on_behind))
+          by (inr full) = absurd (never mode (sym further_is ∙ on_after))
             where
               never : (m : Mode)
-                  → true ≡ goes_on_behind m (count + more) (back_of now count new room).buffer → ⊥
+                  → true ≡ goes_on_after m (count + more) (back_of now count new room).buffer → ⊥
               never Message says = cc
               never Stream says =
                   let part_is = ap (λ (p : Part). length p.bytes) given_part.taken.part_is in
@@ -364,8 +364,8 @@ module _ {key : Key} {mode : Mode} {first now : Lending} {took : Option ℕ} {co
                   given_part.filled.count_is,
                   d,
                 );
-            further_is = on_behind ∙ on_is mode;
-            rest_none = inr (refl, none_behind);
+            further_is = on_after ∙ on_is mode;
+            rest_none = inr (refl, nothing_left);
           }
         where
           room_is : length (drop count now.buffer)
@@ -398,7 +398,7 @@ module _ {key : Key} {mode : Mode} {first now : Lending} {took : Option ℕ} {co
               ∙ sym (last_more first.taker.rest given_part.part so_far.filling.parts some.0)
 
           on_is : (m : Mode)
-              → goes_on_behind m (count + more) (back_of now count new room).buffer
+              → goes_on_after m (count + more) (back_of now count new room).buffer
               ≡ goes_further (record { mode = m; room = length first.buffer })
               (given_part.part ∷ so_far.filling.parts)
           on_is Message = refl
@@ -411,7 +411,7 @@ module _ {key : Key} {mode : Mode} {first now : Lending} {took : Option ℕ} {co
       pub next_is_nearer : key.first ≡ 0 → IsTrue (has_number now.taker.account.shares 0)
           → KnowsQueue key now.taker.account
           → left_to_take key new further < left_to_take key now.taker true
-      next_is_nearer first own knows = by further none_behind
+      next_is_nearer first own knows = by further nothing_left
         where
           by : (b : Bool) → (b ≡ true → new.rest ≡ None)
               → left_to_take key new b < left_to_take key now.taker true

@@ -63,7 +63,7 @@ module _ (queue : Queue) (row : Row) (state : ReadState) (read : ReadSide)
       is ∙ (ap (map (side_of queue row)) same
       ∙ sides_back (read_side queue row state) writes seats all_of_state.one are)
 
-  -- what is gathered of all seats, behind the rest of the begun write, is what a finish gives
+  -- what is gathered of all seats, after the rest of the begun write, is what a finish gives
   pub gives_held : (gathered : Gathered) (rest : List ℕ)
       → Gathers (key_of queue) state.seat seats gathered → rest ≡ rest_bytes read.rest
       → GivesHeld read writes

@@ -46,13 +46,13 @@ read_within key (Block writer block number ∷ past) legal =
     omega (arith, there)
 read_within key (entry ∷ past) legal = read_within key past legal.1
 
--- what others did since: they read nothing, and accepted writes came behind the others
+-- what others did since: they read nothing, and accepted writes came after the others
 pub record OnlyAccepts (before after : PipeState) : Type 0 where
   -- no more writes were read than before
   pub read : after.read_whole ≡ before.read_whole
   -- the writes that were accepted since
   pub more : List Write
-  -- they stand behind all that were accepted before
+  -- they stand after all that were accepted before
   pub accepted : after.accepted ≡ before.accepted ++ more
 
 -- of entries of which none is by the number, none of the older ones is
@@ -101,7 +101,7 @@ none_since number since seen same =
         let same_length = ap length is in
         absurd (omega (arith, longer, same_length))
 
--- what is behind what was seen, where nothing of it is the reader's
+-- what is after what was seen, where nothing of it is the reader's
 pub only_grows : (key : Key) (since seen history : List Entry) → history ≡ since ++ seen
     → entries_by seat_of 0 history ≡ entries_by seat_of 0 seen
     → OnlyAccepts (left_state key seen) (left_state key history)
@@ -159,7 +159,7 @@ bytes_by_writer key writer (Taken by block number ∷ past) =
 bytes_by_writer key writer (entry ∷ past) =
     bytes_by_writer key writer past ∙ sym (not_accepted (writer + 1) entry past (λ xs. refl))
 
--- the writes that were taken out and the writes behind them are all that were accepted
+-- the writes that were taken out and the writes after them are all that were accepted
 whole_from-cut : (count : ℕ) (writes : List Write) → count ≤ length writes
     → whole_from 0 (take count writes) ++ whole_from count (drop count writes)
     ≡ whole_from 0 writes

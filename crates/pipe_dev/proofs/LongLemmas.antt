@@ -56,7 +56,7 @@ enough_fuel (suc fuel) (suc more) bytes low low' =
 pub last_write : (bytes : List ℕ) → length bytes ≤ ATOMIC_SIZE → atomic_writes bytes ≡ bytes ∷ []
 last_write bytes fits = one_write (length bytes) bytes fits
 
--- of more bytes the first write has the atomic size, and the others are those of the bytes behind
+-- of more bytes the first write has the atomic size, and the others are those of the bytes after
 pub next_atomic : (bytes : List ℕ) → ATOMIC_SIZE < length bytes
     → atomic_writes bytes ≡ take ATOMIC_SIZE bytes ∷ atomic_writes (drop ATOMIC_SIZE bytes)
 next_atomic bytes long = by (length bytes) refl
@@ -95,7 +95,7 @@ cut_next bytes left front back done long front_is back_is cut =
     ∙ (ap (λ (x : List ℕ). reverse done ++ x ∷ atomic_writes (drop ATOMIC_SIZE left)) (sym front_is)
     ∙ ap (λ (x : List ℕ). reverse done ++ front ∷ atomic_writes x) (sym back_is)))
 
--- where what is left fits in one write, it is the last one behind those that are done
+-- where what is left fits in one write, it is the last one after those that are done
 pub cut_last : (bytes left : List ℕ) (done : List (List ℕ)) → length left ≤ ATOMIC_SIZE
     → atomic_writes bytes ≡ reverse done ++ atomic_writes left
     → atomic_writes bytes ≡ reverse done ++ left ∷ []

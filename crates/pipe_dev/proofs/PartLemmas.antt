@@ -19,7 +19,7 @@ begins : (part piece : Part) (past : List Part) → piece.place ≢ part.place
     → with_part part (piece ∷ past) ≡ part ∷ piece ∷ past
 begins part piece past differ = grind (arith, nat_tests)
 
--- two parts of one write, the second behind the first
+-- two parts of one write, the second after the first
 pub record AreOfOneWrite (first second : Part) : Type 0 where
   -- they are of the same place
   pub place : first.place ≡ second.place
@@ -30,7 +30,7 @@ pub record AreOfOneWrite (first second : Part) : Type 0 where
   -- the second has a byte
   pub second_some : is_empty second.bytes ≡ false
 
--- they join to what they make together, behind another piece
+-- they join to what they make together, after another piece
 joined_twice : (first second piece : Part) (past : List Part) → AreOfOneWrite first second
     → with_part second (with_part first (piece ∷ past))
     ≡ with_part (longer_by first second) (piece ∷ past)
@@ -50,7 +50,7 @@ with_part-twice first second [] one = alone first second one
     alone first second one = grind (arith, nat_tests)
 with_part-twice first second (piece ∷ past) one = joined_twice first second piece past one
 
--- writes behind others
+-- writes after others
 pub whole_from-append : (place : ℕ) (xs ys : List Write)
     → whole_from place (xs ++ ys) ≡ whole_from place xs ++ whole_from (place + length xs) ys
 whole_from-append place [] ys = ap (λ n. whole_from n ys) (omega arith)
@@ -89,7 +89,7 @@ with_part-next part (piece ∷ past) xs are place =
     = all_last (λ p. p.place < length xs) (reverse past) piece all in
     begins part piece past (λ same. absurd (omega (arith, last, same, place)))
 
--- the bytes of pieces behind others
+-- the bytes of pieces after others
 pub bytes_by-append : (writer : ℕ) (xs ys : List Part)
     → bytes_by writer (xs ++ ys) ≡ bytes_by writer xs ++ bytes_by writer ys
 bytes_by-append writer xs ys =

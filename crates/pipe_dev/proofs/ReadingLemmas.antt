@@ -37,7 +37,7 @@ use Rattle.pipe_dev.proofs.PartLemmas.{reverse-cons}
 use Rattle.pipe_dev.proofs.RoundLemmas.{entered_right, entered_legal}
 use Rattle.pipe_dev.proofs.SeatingLemmas.{same_entries, reader_knows}
 
--- ---- a part and the rest behind it
+-- ---- a part and the rest after it
 
 some_bytes : (bytes : List ℕ) → 0 < length bytes → is_empty bytes ≡ false
 some_bytes [] some = absurd (omega (arith, some))

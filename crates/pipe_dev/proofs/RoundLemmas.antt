@@ -17,7 +17,7 @@ use Rattle.block_queue.proofs.RuleMoves.{history_fits}
 use Rattle.block_queue.proofs.StateLemmas.{begun_is}
 use Rattle.pipe_dev.specs.WriteCalls.{HasHang}
 
--- the entry is right behind what was seen before it
+-- the entry is right after what was seen before it
 pub entered_right : (key : Key) (entry : Entry) (old new : Account Entry)
     → (enters : Enters key entry old new)
     → IsRight key.first (queue_after key enters.adds.past) entry

@@ -19,7 +19,7 @@ of_reader row level = record { rendez = reader_rendez row; level = level }
 abbrev of_writer : Row → ℕ → ℕ → Wakeup
 of_writer row level writer = record { rendez = writer_rendez row writer; level = level }
 
--- the wakeups of the first so many writers with this level, behind others
+-- the wakeups of the first so many writers with this level, after others
 abbrev of_writers : Row → ℕ → ℕ → List Wakeup → List Wakeup
 of_writers row zero level past = past
 of_writers row (suc count) level past =

@@ -100,9 +100,9 @@ module _ (call : WriteCall) (old new : Writer) where
   worn_out_makes_no_step worn = worn.process
 
   -- who has seen the hangup is not told that there is no room
-  full_behind_a_hangup : (number : ℕ) → saw_hangup call.key old.seat ≡ true
+  full_after_a_hangup : (number : ℕ) → saw_hangup call.key old.seat ≡ true
       → FindsFull call number old new → ⊥
-  full_behind_a_hangup number saw full = let fresh = full.fresh in cc
+  full_after_a_hangup number saw full = let fresh = full.fresh in cc
 
   -- and who is told so makes no step there
   full_makes_no_step : (number : ℕ) → FindsFull call number old new → new.process ≡ old.process

@@ -34,7 +34,7 @@ use Rattle.waiting.specs.Waiting.{Promise, Point, WaitPoint, Waited, reply_of}
 abbrev pub a : List ℕ
 a = 97 ∷ 98 ∷ []
 
--- and those of the write behind it
+-- and those of the write after it
 abbrev pub b : List ℕ
 b = 99 ∷ []
 

@@ -48,11 +48,11 @@ message_ends = refl
 empty_message_ends : goes_further (messages 4) (part 0 [] ∷ []) ≡ false
 empty_message_ends = refl
 
--- a stream goes on behind a write and behind an empty one
+-- a stream goes on after a write and after an empty one
 stream_goes_on : goes_further (stream 4) (part 1 [] ∷ part 0 a ∷ []) ≡ true
 stream_goes_on = refl
 
--- and not behind its last byte
+-- and not after its last byte
 stream_is_full : goes_further (stream 2) (part 0 a ∷ []) ≡ false
 stream_is_full = refl
 
@@ -154,7 +154,7 @@ two_out = taker (entry.Block 0 [] 2 ∷ entry.Block 0 a 1 ∷ []) second_out
 abbrev pub all_out : Account Entry
 all_out = taker (entry.Block 0 b 3 ∷ entry.Block 0 [] 2 ∷ entry.Block 0 a 1 ∷ []) third_out
 
--- and behind the answer that no more is there
+-- and after the answer that no more is there
 abbrev pub told : Account Entry
 told =
     taker (entry.NotYet 3 ∷ entry.Block 0 b 3 ∷ entry.Block 0 [] 2 ∷ entry.Block 0 a 1 ∷ [])
@@ -176,7 +176,7 @@ takes_third =
     taker_enters 4 (entry.Block 0 b 3) [] (entry.Block 0 [] 2 ∷ entry.Block 0 a 1 ∷ []) second_out
     tt refl refl refl (search rules)
 
--- and behind all three it finds none
+-- and after all three it finds none
 pub finds_none : Enters loose (entry.NotYet 3) all_out told
 finds_none =
     taker_enters 4 (entry.NotYet 3) []
@@ -191,7 +191,7 @@ free account = record { account = account; rest = None }
 abbrev pub filling : Account Entry → List Part → Filling
 filling account parts = record { taker = free account; parts = parts }
 
--- behind some parts a whole write more is taken out, with room for all of it
+-- after some parts a whole write more is taken out, with room for all of it
 takes_whole : (old new : Account Entry) (parts : List Part) (left : Part)
     → goes_further (stream 4) parts ≡ true
     → Enters loose (entry.Block left.writer left.bytes (left.place + 1)) old new
@@ -230,10 +230,10 @@ fills_all =
           refl refl;
     }
 
--- a read of two bytes is full behind the first write, and passes no empty one
-passes_behind_its_last_byte : TakesMore loose (stream 2) (filling one_out (part 0 a ∷ []))
+-- a read of two bytes is full after the first write, and passes no empty one
+passes_after_its_last_byte : TakesMore loose (stream 2) (filling one_out (part 0 a ∷ []))
     (filling two_out (part 1 [] ∷ part 0 a ∷ [])) → ⊥
-passes_behind_its_last_byte takes = let further : false ≡ true = takes.further in cc
+passes_after_its_last_byte takes = let further : false ≡ true = takes.further in cc
 
 -- a read of messages joins none
 joins_two_messages : TakesMore loose (messages 4) (filling one_out (part 0 a ∷ []))

@@ -124,8 +124,8 @@ empty_is_used_up = refl
 filled_in_front : IsFilledBy abc.bytes (0 ∷ 0 ∷ 0 ∷ 0 ∷ 7 ∷ []) (97 ∷ 98 ∷ 99 ∷ 0 ∷ 7 ∷ []) 3
 filled_in_front = record { count_is = refl; bytes_are = refl }
 
-fills_behind_itself : IsFilledBy (part_of 1 abc).bytes (0 ∷ 0 ∷ []) (97 ∷ 98 ∷ []) 1 → ⊥
-fills_behind_itself filled = let bytes = filled.bytes_are in cc
+fills_after_itself : IsFilledBy (part_of 1 abc).bytes (0 ∷ 0 ∷ []) (97 ∷ 98 ∷ []) 1 → ⊥
+fills_after_itself filled = let bytes = filled.bytes_are in cc
 
 module _ (process : Process) (account : Account Entry) (key : Key) (row : Row) where
   abbrev begun : Taker
@@ -166,7 +166,7 @@ module _ (before : Process) where
   abbrev idle : Process
   idle = record before { pid = 0 }
 
-  -- the first writer at the Rendez behind the reader's, and then the second
+  -- the first writer at the Rendez after the reader's, and then the second
   wakes_both : WakesWriters two_writers 2 5 idle (woke (woke idle 4 5) 5 5)
   wakes_both =
       record {

@@ -76,7 +76,7 @@ module _ (table : TableId) where
   abbrev reader_woken : Process
   reader_woken = slept idle 3 0 no_notes
 
-  -- a read of a buffer before any call, and behind what a take told
+  -- a read of a buffer before any call, and after what a take told
   abbrev unread_with : List ℕ → Calling
   unread_with buffer = calls (free unread) idle buffer
 

@@ -73,7 +73,7 @@ module _ (table : TableId) where
   abbrev zeros : List ℕ
   zeros = 0 ∷ 0 ∷ 0 ∷ 0 ∷ []
 
-  -- a read of a buffer before any call, and behind what it found
+  -- a read of a buffer before any call, and after what it found
   abbrev unread_with : List ℕ → Calling
   unread_with buffer = calls (free unread) idle buffer
 

@@ -141,7 +141,7 @@ new_ends_have_written_nothing writer =
     itself : (number : ℕ) → IsTrue (has_number (new_account number).shares number)
     itself number = grind (arith, nat_tests)
 
--- a write's bytes come behind what was written exactly where it is answered a number
+-- a write's bytes come after what was written exactly where it is answered a number
 pub writes_add_what_was_accepted : WritesAddWhatWasAccepted
 writes_add_what_was_accepted call old (Ok number) new wrote blocks written =
     asked call blocks (writer_rendez call.row call.writer) old (Ok number) new wrote written

@@ -68,7 +68,7 @@ pub record AddsOne (bytes : List ℕ) (parts parts' : List Part) : Type 0 where
   pub bytes_are : part.bytes ≡ bytes
   pub parts_are : parts' ≡ part ∷ parts
 
--- Some parts more, whose bytes are these, one part behind the other. Own: a stream read adds them;
+-- Some parts more, whose bytes are these, one part after the other. Own: a stream read adds them;
 -- a part of no bytes is of an empty write that was passed.
 pub record AddsParts (bytes : List ℕ) (parts parts' : List Part) : Type 0 where
   pub added : List Part

@@ -35,7 +35,7 @@ pub record IsTakenOut (key : Key) (old : Taker) (left : Part) (new : Taker) : Ty
       old.account new.account
 
 -- A part was read, for which there was so much room: of what is left of the write that was begun,
--- or of the next one. What is left of it behind the part is kept.
+-- or of the next one. What is left of it after the part is kept.
 pub record TakesPart (key : Key) (room : ℕ) (old : Taker) (part : Part) (new : Taker) :
     Type 0 where
   pub left : Part
@@ -103,7 +103,7 @@ pub record Lending : Type 0 where
   pub taker : Taker
   pub buffer : List ℕ
 
--- the buffer has these bytes in front, and is as it was behind them
+-- the buffer has these bytes in front, and is as it was after them
 pub record IsFilledBy (bytes buffer buffer' : List ℕ) (count : ℕ) : Type 0 where
   pub count_is : count ≡ length bytes
   pub bytes_are : buffer' ≡ bytes ++ drop count buffer

@@ -66,7 +66,7 @@ IsNeverHung [] = ⊤
 IsNeverHung (Hung seat ∷ past) = ⊥
 IsNeverHung (entry ∷ past) = IsNeverHung past
 
--- behind each write that was accepted stands no hangup
+-- after each write that was accepted stands no hangup
 abbrev pub NoWriteAfterHangup : List Entry → Type 0
 NoWriteAfterHangup [] = ⊤
 NoWriteAfterHangup (Taken writer block number ∷ past) =

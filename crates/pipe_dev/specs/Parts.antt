@@ -33,7 +33,7 @@ goes_on piece part =
     (piece.place == part.place) && (piece.writer == part.writer)
     && not (is_empty piece.bytes) && not (is_empty part.bytes)
 
--- the piece with the bytes of the part behind its own
+-- the piece with the bytes of the part after its own
 abbrev pub longer_by : Part → Part → Part
 longer_by piece part = record piece { bytes = piece.bytes ++ part.bytes }
 
@@ -67,7 +67,7 @@ abbrev pub bytes_by : ℕ → List Part → List (List ℕ)
 bytes_by writer pieces =
     map (λ piece. piece.bytes) (filter (λ piece. piece.writer == writer) pieces)
 
--- the bytes of parts, the newest first, one part behind the other
+-- the bytes of parts, the newest first, one part after the other
 abbrev pub bytes_of : List Part → List ℕ
 bytes_of [] = []
 bytes_of (part ∷ parts) = bytes_of parts ++ part.bytes

@@ -32,7 +32,7 @@ pub record AddsToRead (Adds : List Part → List Part → Type 0) (old : ReadSid
   pub added : Adds parts parts'
   pub just : HasReadJust new parts'
 
--- a call of a write end: it writes these behind what was written, and the end stays where it is
+-- a call of a write end: it writes these after what was written, and the end stays where it is
 pub record AddsToWritten (blocks : List (List ℕ)) (old new : WriteSide) : Type 0 where
   pub same : IsSameWriteEnd old new
   pub just : (before : List (List ℕ)) → HasWrittenJust old before →

@@ -1,6 +1,6 @@
 //! How a direction is hung up, from either side.
 use crate::read_end::ReadEnd;
-use crate::waking::{wake_behind_put, wake_behind_take};
+use crate::waking::{wake_after_put, wake_after_take};
 use crate::write_end::WriteEnd;
 use sleep_wakeup::Proc;
 
@@ -25,7 +25,7 @@ impl<'p> ReadEnd<'p> {
         ensures words { proc.new.words ≡ proc.old.words }
     {
         self.queue.hang_take(&mut self.state.seat);
-        wake_behind_take(proc, &self.row, &self.state.seat);
+        wake_after_take(proc, &self.row, &self.state.seat);
     }
 }
 
@@ -50,6 +50,6 @@ impl<'p> WriteEnd<'p> {
         ensures words { proc.new.words ≡ proc.old.words }
     {
         self.queue.hang_put(&mut self.state.seat);
-        wake_behind_put(proc, &self.row, &self.state.seat);
+        wake_after_put(proc, &self.row, &self.state.seat);
     }
 }

@@ -36,7 +36,7 @@ pub(crate) fn wake_writers(proc: &mut Proc<'_>, row: &Row, level: u64)
 }
 
 /// Wakes both sides, after a hangup that the reader's seat has seen.
-pub(crate) fn wake_behind_take(proc: &mut Proc<'_>, row: &Row, seat: &TakeSeat)
+pub(crate) fn wake_after_take(proc: &mut Proc<'_>, row: &Row, seat: &TakeSeat)
     requires hung { HasHang (take_account seat.now).seen }
     ensures woken { WakesIfKnown row.now proc.old proc.new.process }
     ensures words { proc.new.words ≡ proc.old.words }
@@ -46,7 +46,7 @@ pub(crate) fn wake_behind_take(proc: &mut Proc<'_>, row: &Row, seat: &TakeSeat)
 }
 
 /// Wakes both sides, after a hangup that the writer's seat has seen.
-pub(crate) fn wake_behind_put(proc: &mut Proc<'_>, row: &Row, seat: &PutSeat)
+pub(crate) fn wake_after_put(proc: &mut Proc<'_>, row: &Row, seat: &PutSeat)
     requires hung { HasHang (put_account seat.now).seen }
     ensures woken { WakesIfKnown row.now proc.old proc.new.process }
     ensures words { proc.new.words ≡ proc.old.words }

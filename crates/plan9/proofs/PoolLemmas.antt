@@ -23,7 +23,7 @@ all_and_one P holders more child is all one =
     subst (λ its. AllByRecursion P its) (sym is)
     (all_append P holders (child ∷ []) all (one, tt))
 
--- it was forked behind the others
+-- it was forked after the others
 pub forked_one_more : (start before after : Forking) (holders more : List Holding)
     (child : Holding) → more ≡ holders ++ child ∷ []
     → Rounds ForksOneMore (length holders) start before → ForksOneMore before after
@@ -51,14 +51,14 @@ one_more_child (suc count) parent unused =
     ap (λ rest. next_process unused ∷ rest)
     (one_more_child count parent (one_pid_less parent false unused))
 
--- the processes of two lists of holders, one behind the other
+-- the processes of two lists of holders, one after the other
 pub procs_of_both : (holders others : List Holding)
     → procs_of_holders (holders ++ others) ≡ procs_of_holders holders ++ procs_of_holders others
 procs_of_both [] others = refl
 procs_of_both (holder ∷ holders) others =
     ap (λ rest. holder.running ∷ rest) (procs_of_both holders others)
 
--- a child was forked behind the others
+-- a child was forked after the others
 pub one_child_more : (before between after : Unused) (parent : ℕ) (old new child : Holding)
     (holders more : List Holding) → more ≡ holders ++ child ∷ []
     → old.running.process.pid ≡ parent

@@ -16,7 +16,7 @@ use Rattle.pipe_dev.specs.Rendezes.{reader_rendez}
 use Rattle.pipe_dev.proofs.AskedLemmas.{LastAsked, last_asked}
 use Rattle.pipe_dev.specs.Rounds.{Rounds}
 use Rattle.plan9.specs.declared.pipes.Reader.{Reader}
-use Rattle.plan9.specs.Readings.{Filling, FillsUp, GoesOn, IsSameReader, LiesIn, ReadsBehind}
+use Rattle.plan9.specs.Readings.{Filling, FillsUp, GoesOn, IsSameReader, LiesIn, ReadsAfter}
 use Rattle.plan9.specs.Readings.{ReadsBy, ReadsPiece, filling, read_answer}
 
 -- what was read lies in the buffer
@@ -54,7 +54,7 @@ piece_lies key row old (Err fault) taker process buffer reads = tt
 
 -- ---- until a buffer is full
 
--- some pieces were read, one behind the other, and lie in the buffer
+-- some pieces were read, one after the other, and lie in the buffer
 pub record SoFar (start now : Filling) : Type 0 where
   -- what is filled
   pub within : now.count ≤ length now.buffer
@@ -62,7 +62,7 @@ pub record SoFar (start now : Filling) : Type 0 where
   pub same : IsSameReader start.reader now.reader
   -- in so many reads
   pub times : ℕ
-  -- each behind the one before it
+  -- each after the one before it
   pub rounds : Rounds GoesOn times start now
 
 -- what is left of the buffer, as the code lends it
@@ -73,7 +73,7 @@ rest_of now = mid_of now.count (length now.buffer - now.count) now.buffer
 abbrev pub back_of : Filling → List ℕ → List ℕ
 back_of now rest = put_mid now.count (length now.buffer - now.count) now.buffer rest
 
--- what is left is all of the buffer behind what is filled
+-- what is left is all of the buffer after what is filled
 rest_all : (count : ℕ) (buffer : List ℕ)
     → mid_of count (length buffer - count) buffer ≡ drop count buffer
 rest_all count buffer =
@@ -102,10 +102,10 @@ same_on old between new first second =
     }
 
 -- a read into what is left of the buffer was answered so
-reads_behind : (now : Filling) (answer : Result (Option ℕ) Fault) (reader : Reader)
+reads_after : (now : Filling) (answer : Result (Option ℕ) Fault) (reader : Reader)
     (rest : List ℕ) → ReadsPiece now.reader (rest_of now) answer reader rest
-    → ReadsBehind now (read_answer answer) reader (back_of now rest)
-reads_behind now answer reader rest piece =
+    → ReadsAfter now (read_answer answer) reader (back_of now rest)
+reads_after now answer reader rest piece =
     record {
       rest = rest;
       read = subst (λ (xs : List ℕ). ReadsBy now.reader xs (read_answer answer) reader rest)
@@ -121,8 +121,8 @@ pub one_more : (start now : Filling) (answer : Result (Option ℕ) Fault) (more 
 one_more start now answer more reader rest so_far is piece =
     let reads = subst
     (λ (a : Result (Option ℕ) Fault).
-    ReadsBehind now (read_answer a) reader (back_of now rest))
-    is (reads_behind now answer reader rest piece) in
+    ReadsAfter now (read_answer a) reader (back_of now rest))
+    is (reads_after now answer reader rest piece) in
     let lies : more ≤ length rest =
     subst (λ (a : Result (Option ℕ) Fault). LiesIn rest a) is piece.fits in
     record {
@@ -161,8 +161,8 @@ at_the_end start now answer reader rest so_far is piece none =
         count_is = refl;
         reads = subst
             (λ (a : Result (Option ℕ) Fault).
-            ReadsBehind now (read_answer a) reader (back_of now rest))
-            is (reads_behind now answer reader rest piece);
+            ReadsAfter now (read_answer a) reader (back_of now rest))
+            is (reads_after now answer reader rest piece);
       };
     }
 
@@ -184,8 +184,8 @@ at_a_fault start now answer fault reader rest so_far is piece none =
         count_is = refl;
         reads = subst
             (λ (a : Result (Option ℕ) Fault).
-            ReadsBehind now (read_answer a) reader (back_of now rest))
-            is (reads_behind now answer reader rest piece);
+            ReadsAfter now (read_answer a) reader (back_of now rest))
+            is (reads_after now answer reader rest piece);
       };
     }
 

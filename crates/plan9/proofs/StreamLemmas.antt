@@ -1,4 +1,4 @@
--- What a stream knows of the empty writes that it passed, and how a read of it ends behind them.
+-- What a stream knows of the empty writes that it passed, and how a read of it ends after them.
 use Rattle.std.proofs.Common.{◌≡◌, ◌≢◌, ℕ, zero, suc, Result, Ok, Err}
 use Rattle.std.proofs.Common.{Option, Some, None, refl, inr, subst}
 use Rattle.std.specs.declared.io.Error.{Error}
@@ -11,7 +11,7 @@ use Rattle.plan9.specs.Streams.{Lent, EndsTaking, PassesEmpty, Streams, Takes, k
 pub record Passed (start now : Lent) : Type 0 where
   -- as many
   pub times : ℕ
-  -- one behind the other
+  -- one after the other
   pub rounds : Rounds PassesEmpty times start now
 
 -- one more is passed
@@ -27,7 +27,7 @@ passes start now next answer passed is took =
       };
     }
 
--- behind those the read ends
+-- after those the read ends
 ends : (start now next : Lent) (answer : Result ℕ Error) (kept : Option Fault)
     → Passed start now → EndsTaking now answer kept next → Streams start answer kept next
 ends start now next answer kept passed ended =

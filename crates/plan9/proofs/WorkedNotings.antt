@@ -67,7 +67,7 @@ module _ (old new : Running) (was : Bool) where
   a_note_of_another_kernel : new.words ≢ old.words → ¬ TakesNote ClosedPipe old was new
   a_note_of_another_kernel other takes = other takes.words_are
 
-  -- the notes were not taken: what is pending is neither nothing nor posted behind that
+  -- the notes were not taken: what is pending is neither nothing nor posted after that
   a_note_that_was_not_taken : ((came : NoteSet) → new.process ≢ drains old.process came)
       → ((came left : NoteSet)
       → new.process ≢ notes (drains old.process came) (pid_in old.process) left)

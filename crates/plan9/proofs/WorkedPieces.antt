@@ -11,7 +11,7 @@ use Rattle.pipe_dev.specs.Rounds.{Rounds}
 use Rattle.plan9.specs.declared.pipes.Reader.{Reader}
 use Rattle.plan9.specs.declared.pipes.Writer.{Writer}
 use Rattle.plan9.specs.declared.reading.ShortRead.{ShortRead}
-use Rattle.plan9.specs.Readings.{Filling, IsSameReader, LiesIn, ReadsBy, ReadsPiece, ReadsBehind}
+use Rattle.plan9.specs.Readings.{Filling, IsSameReader, LiesIn, ReadsBy, ReadsPiece, ReadsAfter}
 use Rattle.plan9.specs.Readings.{GoesOn, Stops, EndsFilling, FillsUp, filling, read_answer}
 use Rattle.plan9.specs.Readings.{stopped}
 use Rattle.plan9.specs.Streams.{Lent, Takes, PassesEmpty, EndsTaking, TakesNext, TakesNothing}
@@ -44,17 +44,17 @@ module _ (old new : Reader) (buffer buffer' : List ℕ) (answer : Result (Option
 
 module _ (old : Filling) (answer : Result ReadAnswer Fault) (reader : Reader)
     (buffer : List ℕ) where
-  nothing_was_read_behind : ((rest : List ℕ)
+  nothing_was_read_after : ((rest : List ℕ)
       → ¬ ReadsBy old.reader (drop old.count old.buffer) answer reader rest)
-      → ¬ ReadsBehind old answer reader buffer
-  nothing_was_read_behind none reads = none reads.rest reads.read
+      → ¬ ReadsAfter old answer reader buffer
+  nothing_was_read_after none reads = none reads.rest reads.read
 
   what_was_filled_is_lost : ((rest : List ℕ) → buffer ≢ take old.count old.buffer ++ rest)
-      → ¬ ReadsBehind old answer reader buffer
+      → ¬ ReadsAfter old answer reader buffer
   what_was_filled_is_lost other reads = other reads.rest reads.buffer_is
 
 module _ (old new : Filling) where
-  no_piece_came : ((more : ℕ) → ¬ ReadsBehind old (Ok (read.Got more)) new.reader new.buffer)
+  no_piece_came : ((more : ℕ) → ¬ ReadsAfter old (Ok (read.Got more)) new.reader new.buffer)
       → ¬ GoesOn old new
   no_piece_came none goes = none goes.more goes.reads
 
@@ -65,7 +65,7 @@ module _ (before : Filling) (short : ShortRead) (reader : Reader) (buffer : List
   what_came_is_told : Stops before short reader buffer → short.count ≡ before.count
   what_came_is_told stops = stops.count_is
 
-  it_stops_at_a_piece : ¬ ReadsBehind before (stopped short.fault) reader buffer
+  it_stops_at_a_piece : ¬ ReadsAfter before (stopped short.fault) reader buffer
       → ¬ Stops before short reader buffer
   it_stops_at_a_piece none stops = none stops.reads
 

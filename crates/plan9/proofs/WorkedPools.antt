@@ -100,10 +100,10 @@ module _ (old new child : Holding) (running : Running) where
   further_as_another : child.running ≢ running → IsFurtherHolder old new running child → ⊥
   further_as_another other further = other further.running_is
 
-  further_behind_its_parent : length (account_of new.seat.seat).gave
+  further_after_its_parent : length (account_of new.seat.seat).gave
       ≡ length (account_of old.seat.seat).gave
       → IsFurtherHolder old new running child → ⊥
-  further_behind_its_parent same further =
+  further_after_its_parent same further =
       let gave = ap (λ account. length account.gave) further.given.account.parent_is in
       omega (arith, same, gave)
 
@@ -210,7 +210,7 @@ module _ (pool : Pooled) (running : Running) (unused after : Unused) (holding : 
       by (inl same) = another same
       by (inr same) = elsewhere same
 
-  -- who asks is the last of them, as it was, behind children that the roster made
+  -- who asks is the last of them, as it was, after children that the roster made
   who_asks_is_the_last : (are : AreHolders (gathering pool running unused 1) (holding ∷ []) after)
       → procs_of_holders (holding ∷ []) ≡ procs_of_holders are.others ++ running ∷ []
   who_asks_is_the_last are = are.procs_are
@@ -298,14 +298,14 @@ module _ (old new : Forking) where
   a_child_of_another_parent other more = other more.same
 
 module _ (start stop : Forking) (why : Fault) where
-  -- it stops though all hold, behind children that were not forked, or at no refusal
+  -- it stops though all hold, after children that were not forked, or at no refusal
   it_stops_though_all_hold : ¬ StopsForking 1 start why stop
   it_stops_though_all_hold stops = let fewer = stops.fewer in omega (arith, fewer)
 
-  it_stops_behind_no_children :
+  it_stops_after_no_children :
       ((times : ℕ) (before : Forking) → ¬ Rounds ForksOneMore times start before)
       → ¬ StopsForking 3 start why stop
-  it_stops_behind_no_children none stops = none stops.times stops.before stops.forked
+  it_stops_after_no_children none stops = none stops.times stops.before stops.forked
 
   it_stops_at_no_refusal : ((before : Forking) (unseated : Option Unseated)
       → ¬ WhyNoFork before stop unseated why) → ¬ StopsForking 3 start why stop
@@ -361,14 +361,14 @@ module _ (asked : Gathering) (after : Unused) (why : Fault) where
   too_few_though_none_was_refused none few = none few.first few.last few.stops
 
 module _ (asked : Gathering) (after : Unused) where
-  -- want of memory stands behind the count, and is no fault of a child
-  no_memory_stands_behind_the_count : ¬ MayHold asked.pool asked.roster asked.count
+  -- want of memory stands after the count, and is no fault of a child
+  no_memory_excuses_the_count : ¬ MayHold asked.pool asked.roster asked.count
       → ¬ WhyNoHolders asked after fault.Memory
-  no_memory_stands_behind_the_count many (inl asks) =
+  no_memory_excuses_the_count many (inl asks) =
       too_many_for_the_memory asked after fault.Memory asks
-  no_memory_stands_behind_the_count many (inr (inl lacks)) = many lacks.may
-  no_memory_stands_behind_the_count many (inr (inr (inl none))) = many none.may
-  no_memory_stands_behind_the_count many (inr (inr (inr few))) = many few.may
+  no_memory_excuses_the_count many (inr (inl lacks)) = many lacks.may
+  no_memory_excuses_the_count many (inr (inr (inl none))) = many none.may
+  no_memory_excuses_the_count many (inr (inr (inr few))) = many few.may
 
   -- there is no other reason
   no_fork_for_a_bad_argument : (before stop : Forking) (unseated : Option Unseated)

@@ -86,15 +86,15 @@ module _ {TickSource : Type 0} (old new : Timed TickSource) (came : NoteSet) whe
   no_notes_end_it_not : ¬ EndsTicking old no_notes new
   no_notes_end_it_not ends = ends.some refl
 
-  a_tick_behind_its_notes : new.ticker.watch ≢ old.ticker.watch → ¬ EndsTicking old came new
-  a_tick_behind_its_notes other ends = other ends.watch_is
+  a_tick_after_its_notes : new.ticker.watch ≢ old.ticker.watch → ¬ EndsTicking old came new
+  a_tick_after_its_notes other ends = other ends.watch_is
 
   an_end_without_a_look : ¬ Looks old.ticker.proc came new.ticker.proc
       → ¬ EndsTicking old came new
   an_end_without_a_look other ends = other ends.looked
 
-  a_moment_behind_its_notes : new.time ≢ old.time → ¬ EndsTicking old came new
-  a_moment_behind_its_notes other ends = other ends.time_is
+  a_moment_after_its_notes : new.time ≢ old.time → ¬ EndsTicking old came new
+  a_moment_after_its_notes other ends = other ends.time_is
 
 module _ {TickSource : Type 0} (tells : TickSource → ℕ → TickSource → Type 0)
     (old new : Timed TickSource)

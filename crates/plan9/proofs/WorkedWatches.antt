@@ -9,7 +9,7 @@ use Rattle.sync_base.specs.declared.ids.RendezId.{RendezId}
 use Rattle.sleep_wakeup.specs.Kernel.{Running}
 use Rattle.timer_list.specs.declared.timers.TimerSeat.{TimerSeat}
 use Rattle.timer_list.specs.Timers.{deadline_of}
-use Rattle.timer_list.specs.Timing.{TimedPoint, WaitedInTime}
+use Rattle.timer_list.specs.Timing.{TimedPoint, TimedCall}
 use Rattle.waiting.specs.Waiting.{Promise}
 use Rattle.plan9.specs.declared.pipes.Reader.{Reader}
 use Rattle.plan9.specs.declared.pipes.Writer.{Writer}
@@ -54,10 +54,10 @@ module _ (old new child : Watching) where
   further_at_other_timers : child.timers ≢ old.timers → IsFurtherWatch old new child → ⊥
   further_at_other_timers other further = other further.timers_are
 
-  further_behind_the_first : length (account_of new.seat.seat).gave
+  further_after_the_first : length (account_of new.seat.seat).gave
       ≡ length (account_of old.seat.seat).gave
       → IsFurtherWatch old new child → ⊥
-  further_behind_the_first same further =
+  further_after_the_first same further =
       let gave = ap (λ account. length account.gave) further.given.account.parent_is in
       omega (arith, same, gave)
 
@@ -116,6 +116,6 @@ module _ (watch : Watching) (now ms : ℕ) where
   -- it did not wait until that moment at those timers
   runs_in_no_way : {Seat Out : Type 0} (promise : Promise Seat Out) (rendez : RendezId)
       (old new : TimedPoint Seat) (answer : Result Out Fault)
-      → ¬ WaitedInTime promise rendez watch.timers (deadline_of now ms) old answer new
+      → ¬ TimedCall promise rendez watch.timers (deadline_of now ms) old answer new
       → ¬ (until watch now ms).ran promise rendez old answer new
   runs_in_no_way promise rendez old new answer waited ran = waited ran

@@ -47,11 +47,11 @@ pub use Rattle.kernel_lock.specs.Calls as LockCalls
 pub use Rattle.kernel_lock.specs.Seats as LockSeats
 -- timers
 pub use Rattle.timer_list.specs.Seats as TimerSeats
-pub use Rattle.timer_list.specs.Sleeping as SleepingInTime
+pub use Rattle.timer_list.specs.Sleeping as TimedSleeping
 pub use Rattle.timer_list.specs.Ticking
 pub use Rattle.timer_list.specs.TimerLaws
 pub use Rattle.timer_list.specs.Timers
-pub use Rattle.timer_list.specs.Timing as CallsInTime
+pub use Rattle.timer_list.specs.Timing as TimedCalls
 -- semaphores
 pub use Rattle.semaphore.specs.Acquiring
 pub use Rattle.semaphore.specs.Opening as SemaOpening

@@ -220,7 +220,7 @@ gathering pool running roster count =
     record { pool = pool; running = running; roster = roster; count = count }
 
 -- So many hold units of the pool, in the kernel of the roster but for the one that asks: first its
--- children, and behind them itself, as it was.
+-- children, and after them itself, as it was.
 pub record AreHolders (asked : Gathering) (holders : List Holding) (after : Unused) :
     Type 0 where
   pub count_is : length holders ≡ asked.count

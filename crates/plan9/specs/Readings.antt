@@ -59,8 +59,8 @@ pub record Filling : Type 0 where
 abbrev pub filling : Reader → List ℕ → ℕ → Filling
 filling reader buffer count = record { reader = reader; buffer = buffer; count = count }
 
--- a read into what is left of the buffer, behind what is filled, which was answered so
-pub record ReadsBehind (old : Filling) (answer : Result ReadAnswer Fault) (reader : Reader)
+-- a read into what is left of the buffer, after what is filled, which was answered so
+pub record ReadsAfter (old : Filling) (answer : Result ReadAnswer Fault) (reader : Reader)
     (buffer : List ℕ) : Type 0 where
   pub rest : List ℕ
   pub read : ReadsBy old.reader (drop old.count old.buffer) answer reader rest
@@ -69,7 +69,7 @@ pub record ReadsBehind (old : Filling) (answer : Result ReadAnswer Fault) (reade
 -- one read gave a piece
 pub record GoesOn (old new : Filling) : Type 0 where
   pub more : ℕ
-  pub reads : ReadsBehind old (Ok (read.Got more)) new.reader new.buffer
+  pub reads : ReadsAfter old (Ok (read.Got more)) new.reader new.buffer
   pub count_is : new.count ≡ old.count + more
 
 -- why no more came: the end, or a fault
@@ -77,18 +77,18 @@ abbrev pub stopped : Option Fault → Result ReadAnswer Fault
 stopped None = Ok read.End
 stopped (Some fault) = Err fault
 
--- no piece came, behind so many bytes
+-- no piece came, after so many bytes
 pub record Stops (before : Filling) (short : ShortRead) (reader : Reader) (buffer : List ℕ) :
     Type 0 where
   pub count_is : short.count ≡ before.count
-  pub reads : ReadsBehind before (stopped short.fault) reader buffer
+  pub reads : ReadsAfter before (stopped short.fault) reader buffer
 
 -- the buffer is full, or no more came
 abbrev pub EndsFilling : Filling → Result ⊤ ShortRead → Reader → List ℕ → Type 0
 EndsFilling before (Ok unit) reader buffer = before ≡ filling reader buffer (length buffer)
 EndsFilling before (Err short) reader buffer = Stops before short reader buffer
 
--- some reads gave a piece each, one behind the other; and then it ended
+-- some reads gave a piece each, one after the other; and then it ended
 pub record FillsUp (old : Reader) (buffer : List ℕ) (answer : Result ⊤ ShortRead) (new : Reader)
     (buffer' : List ℕ) : Type 0 where
   pub same : IsSameReader old new

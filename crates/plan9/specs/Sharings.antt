@@ -105,7 +105,7 @@ pub record GivesTurnBack (old new : Holding) : Type 0 where
   pub answer : Result ℕ Fault
   pub called : Releases old.sema 1 (holder_point old) answer (holder_point new)
 
--- a buffer, before and behind a call
+-- a buffer, before and after a call
 pub record Buffers : Type 0 where
   pub before : List ℕ
   pub after : List ℕ

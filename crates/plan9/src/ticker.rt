@@ -12,7 +12,7 @@ use sync_base::NoteSet;
 pub trait TickSource {
     ghost use Rattle.std.specs.Prelude.{⊤, ℕ};
 
-    /// What is known of a moment, by the time before it and behind it: nothing, unless it is said.
+    /// What is known of a moment, by the time before it and after it: nothing, unless it is said.
     ghost tells: { Self → ℕ → Self → Type 0 } = { λ old moment new. ⊤ };
 
     /// Waits until the next moment to tick at, if it likes, and says which it is, in milliseconds.

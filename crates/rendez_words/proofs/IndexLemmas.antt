@@ -69,9 +69,9 @@ has_both sizes s has =
     omega arith
 
 -- the lines of the processes lie after all these
-behind : (sizes : Sizes) (s : State) → HasSizes sizes s
+rendez_length : (sizes : Sizes) (s : State) → HasSizes sizes s
     → length (rendez_words s) ≡ LINE * sizes.rendez
-behind sizes s has =
+rendez_length sizes s has =
     length_lines rendez_line rendez_lines (both_of s)
     ∙ ap (λ n. LINE * n) (has_both sizes s has)
 
@@ -90,7 +90,7 @@ read_both : (sizes : Sizes) (s : State) (rendez j : ℕ) → HasSizes sizes s �
     ≡ get_or (rendez_line (get_or s.posted rendez 0, get_or s.levels rendez 0)) j 0
 read_both sizes s rendez j has there low =
     let both = has_both sizes s has in
-    let before = behind sizes s has in
+    let before = rendez_length sizes s has in
     get_or_append_left (rendez_words s) (proc_words s) 0 (LINE * rendez + j) (omega arith)
     ∙ read_line rendez_line rendez_lines (both_of s) rendez j (0, 0) (omega arith) (omega arith)
     ∙ ap (λ words. get_or (rendez_line words) j 0) (both_at sizes s rendez has there)
@@ -111,7 +111,7 @@ read_there sizes s (FlagsOf pid) has there =
     ∙ read_line proc_line proc_lines s.flags pid 0 no_flags (omega arith) (omega arith)
   where
     first : LINE * (sizes.rendez + pid) ≡ length (rendez_words s) + (LINE * pid + 0)
-    first = let before = behind sizes s has in omega arith
+    first = let before = rendez_length sizes s has in omega arith
 read_there sizes s NoCell has there = absurd there
 
 -- the words of a Rendez are written in its line
@@ -122,7 +122,7 @@ write_both : (sizes : Sizes) (s : State) (rendez j n : ℕ) (after : ℕ × ℕ)
     ≡ set (words_of s) (LINE * rendez + j) n
 write_both sizes s rendez j n after has there low is =
     let both = has_both sizes s has in
-    let before = behind sizes s has in
+    let before = rendez_length sizes s has in
     ap (λ words. words ++ proc_words s)
     (write_line rendez_line rendez_lines (both_of s) rendez j n (0, 0) after (omega arith)
     (omega arith) is)
@@ -153,7 +153,8 @@ write_there sizes s (FlagsOf pid) (Flags flags) has there fits =
     (write_line proc_line proc_lines s.flags pid 0 (number_of (Flags flags)) no_flags flags
     (omega arith) (omega arith) refl)
     ∙ sym (set-append_right (rendez_words s) (proc_words s) (LINE * sizes.rendez)
-    (LINE * (sizes.rendez + pid)) (number_of (Flags flags)) (behind sizes s has) (omega arith)
+    (LINE * (sizes.rendez + pid)) (number_of (Flags flags)) (rendez_length sizes s has)
+    (omega arith)
     ∙ ap (λ i. rendez_words s ++ set (proc_words s) i (number_of (Flags flags))) less)
   where
     less : LINE * (sizes.rendez + pid) - LINE * sizes.rendez ≡ LINE * pid + 0

@@ -19,8 +19,8 @@ module _ (process : Process) (returned : Returned) where
   who_is_asleep_is_told_so : ¬ IfTested (test.Asleep process) (λ it. ⊥) (λ it. ⊤)
   who_is_asleep_is_told_so told = told
 
-  who_leaves_behind_its_test_is_told_so : ¬ IfTested (test.Leaving process) (λ it. ⊤) (λ it. ⊥)
-  who_leaves_behind_its_test_is_told_so told = told
+  who_leaves_after_its_test_is_told_so : ¬ IfTested (test.Leaving process) (λ it. ⊤) (λ it. ⊥)
+  who_leaves_after_its_test_is_told_so told = told
 
   who_was_woken_is_told_so : ¬ IfLooked (look.Woken process) (λ it. ⊥) (λ it. ⊤)
   who_was_woken_is_told_so told = told

@@ -68,5 +68,5 @@ notes_end_no_wait_for_a_mark woken = true≢false (sym woken)
 no_sleep_goes_on_with_notes : ¬ KeepsWait true (record { wake = false; notes = only Alarm })
 no_sleep_goes_on_with_notes keeps = true≢false keeps.1
 
-no_wait_goes_on_behind_a_mark : ¬ KeepsWait false (record { wake = true; notes = no_notes })
-no_wait_goes_on_behind_a_mark keeps = true≢false keeps
+no_wait_goes_on_after_a_mark : ¬ KeepsWait false (record { wake = true; notes = no_notes })
+no_wait_goes_on_after_a_mark keeps = true≢false keeps

@@ -1,5 +1,5 @@
 //! How a process looks at its flags, and parks until they change. A process parks on what it saw
-//! there after its announcement, and on nothing else: `look_behind` alone gives a `Seen`, and
+//! there after its announcement, and on nothing else: `look_announced` alone gives a `Seen`, and
 //! `park` alone spends it.
 ghost use Rattle.std.specs.Prelude.{◌≡◌, ◌<◌, ◌%◌, ◌^◌, OnErr, IfOk, IfErr, MatchResult};
 ghost use Rattle.std.specs.Bool.{OnTrue, OnFalse};
@@ -55,7 +55,7 @@ impl Words {
 
     /// The same, of a process that has said that it parks.
     // A mark that found it awake came before it said so, and this look comes after: it sees that.
-    pub(crate) fn look_behind<'a>(
+    pub(crate) fn look_announced<'a>(
         &self,
         announced: &'a Announced,
         caller: &mut Caller,

@@ -44,14 +44,14 @@ impl Words {
             (part_of caller.old) (flags_word result) (part_of caller.new) }
         ensures ends { EndsWait notes_end result }
     {
-        match self.watch(caller, notes_end) {
+        match self.poll(caller, notes_end) {
             Some(flags) => flags,
             None => self.rest(rt, caller, notes_end),
         }
     }
 
     // Looks for a while, with pauses and then yields between the looks.
-    fn watch(&self, caller: &mut Caller, notes_end: bool) -> Option<ProcFlags>
+    fn poll(&self, caller: &mut Caller, notes_end: bool) -> Option<ProcFlags>
         requires process { IsProcessOf self.now caller.old }
         requires looking { IsLooking notes_end (phase_in caller.old) }
         ensures table { caller.new.table ≡ caller.old.table }
@@ -81,7 +81,7 @@ impl Words {
     {
         let announced = self.parking.announce(caller.pid());
         for _ in rt.forever() {
-            match self.look_behind(&announced, caller, notes_end) {
+            match self.look_announced(&announced, caller, notes_end) {
                 Ok(flags) => {
                     self.parking.leave(announced);
                     return flags;

@@ -30,7 +30,7 @@ impl<'a> Shown<'a> {
     }
 }
 
-/// An answer, in words and what stands behind them.
+/// An answer, in words and what stands after them.
 #[derive(Clone, Copy)]
 pub enum Answer {
     /// A line that has none.
@@ -42,7 +42,7 @@ pub enum Answer {
     Notes(&'static str, NoteSet),
     Fault(Fault),
     /// A fault, and how far the call came before it.
-    Behind(Fault, u64),
+    FaultAfter(Fault, u64),
     /// The points that the last probed call has visited.
     Points,
     /// Those of them at which the process stood posted in a Rendez.
@@ -118,6 +118,6 @@ pub fn have_tried(answer: Result<TryAnswer, Fault>) -> Answer {
 pub fn have_written(long: Long) -> Answer {
     match long.fault {
         None => Answer::Number("taken", long.taken),
-        Some(fault) => Answer::Behind(fault, long.taken),
+        Some(fault) => Answer::FaultAfter(fault, long.taken),
     }
 }

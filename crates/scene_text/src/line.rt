@@ -76,7 +76,7 @@ pub fn line_of(text: &str) -> Option<Line<'_>> {
     let call = call_of(entry, &mut words)?;
     let is_call = entry.speaker == Speaker::Caller || entry.speaker == Speaker::EachCaller;
     let (text, apart) = match entry.operands.last() {
-        Some(Operand::Rest) => (behind(text, entry.operands.len()), false),
+        Some(Operand::Rest) => (rest_after(text, entry.operands.len()), false),
         Some(Operand::Bytes) => (text_of(words.next()?)?, is_apart(&mut words)?),
         _ => ("", is_apart(&mut words)?),
     };
@@ -141,8 +141,8 @@ fn with_operand(mut call: Call, operand: Operand, words: &mut SplitWhitespace<'_
     Some(call)
 }
 
-// What stands behind so many words.
-fn behind(text: &str, count: usize) -> &str {
+// What stands after so many words.
+fn rest_after(text: &str, count: usize) -> &str {
     text.splitn(count.saturating_add(1), ' ')
         .nth(count)
         .unwrap_or("")
@@ -191,7 +191,7 @@ fn name_of(word: &str) -> Option<RoleName> {
     }
 }
 
-// Whether `&` stands behind the operands. Nothing else may stand there.
+// Whether `&` stands after the operands. Nothing else may stand there.
 fn is_apart(words: &mut SplitWhitespace<'_>) -> Option<bool> {
     match words.next() {
         None => Some(false),

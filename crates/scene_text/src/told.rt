@@ -53,7 +53,8 @@ pub fn tell_answer(told: &mut Vec<u8>, answer: Answer, shown: Shown<'_>) -> bool
         }
         Answer::Notes(word, notes) => tell(told, word) && tell_notes(told, notes),
         Answer::Fault(fault) => tell_fault(told, fault),
-        Answer::Behind(fault, count) => tell_fault(told, fault) && tell_numbered(told, "", count),
+        Answer::FaultAfter(fault, count) => tell_fault(told, fault)
+            && tell_numbered(told, "", count),
         Answer::Points => tell(told, "points") && tell_points(told, visits, false),
         Answer::Posted => tell(told, "posted") && tell_points(told, visits, true),
         Answer::Status(status) => tell_status(told, status),
@@ -99,7 +100,7 @@ fn tell_points(told: &mut Vec<u8>, visits: &[Visit], posted: bool) -> bool {
     if found { has_room } else { tell(told, " -") }
 }
 
-// After ps(1): `Wakeme` is posted, and its Rendez stands behind it; any other is `Ready`. Then its
+// After ps(1): `Wakeme` is posted, and its Rendez stands after it; any other is `Ready`. Then its
 // mark, and the notes that are pending.
 fn tell_status(told: &mut Vec<u8>, status: ProcStatus) -> bool {
     let has_room = match status.posted {

@@ -11,7 +11,7 @@ use Rattle.scripts.specs.declared.lines.TheConstants.{LINE_FEED, SPACE}
 use Rattle.scripts.specs.Schedule.{verb_of, verb_word, event_of, event_with, size_of, kinds_of}
 use Rattle.scripts.specs.Schedule.{TakesPid, operands_of, note_of}
 use Rattle.scripts.proofs.LineLemmas.{parts_of-some}
-use Rattle.scripts.proofs.OnePassLemmas.{IsWord, asks_behind_word, none_asked_behind}
+use Rattle.scripts.proofs.OnePassLemmas.{IsWord, asks_after_word, none_asked_after}
 use Rattle.scripts.proofs.OnePassLemmas.{none_before_line_feed, read_as}
 use Rattle.scripts.proofs.PartLemmas.{TailHas, parted}
 
@@ -28,9 +28,9 @@ size_of-long verb procs rendez rest =
     size_of-more verb procs rendez (words_of rest) (parts_of-some is_space rest)
 
 -- how much is left of a text: a text that is there counts one more
-abbrev pub left_behind : Option (Bor (List ℕ)) → ℕ
-left_behind None = 0
-left_behind (Some rest) = length rest.now + 1
+abbrev pub left_after : Option (Bor (List ℕ)) → ℕ
+left_after None = 0
+left_after (Some rest) = length rest.now + 1
 
 -- the word of a verb is read as that verb
 verb_is_read : (v : Verb) → verb_of (verb_word v) ≡ Some v
@@ -66,7 +66,7 @@ pub event_asks : {A : Type 0} (inner : List (List ℕ) → Option A) (text : Lis
     → ((words : List (List ℕ)) → inner words ≡ Some a → event_with v words ≡ Some event)
     → LineAsks inner mid a rest → LineAsks event_of text event rest
 event_asks inner text v mid rest a event split each =
-    asks_behind_word inner event_of text (verb_word v) mid rest a event split (verb_is_word v)
+    asks_after_word inner event_of text (verb_word v) mid rest a event split (verb_is_word v)
     (λ words asks. ap (λ (o : Option Verb). option_and_then (λ v. event_with v words) o)
     (verb_is_read v) ∙ each words asks)
 
@@ -76,7 +76,7 @@ pub event_asks_none : {A : Type 0} (inner : List (List ℕ) → Option A) (text 
     → ((words : List (List ℕ)) → inner words ≡ None → event_with v words ≡ None)
     → NoLineAsks inner mid → NoLineAsks event_of text
 event_asks_none inner text v mid split each =
-    none_asked_behind inner event_of text (verb_word v) mid split (verb_is_word v)
+    none_asked_after inner event_of text (verb_word v) mid split (verb_is_word v)
     (λ words none. ap (λ (o : Option Verb). option_and_then (λ v. event_with v words) o)
     (verb_is_read v) ∙ each words none)
 
@@ -117,26 +117,26 @@ pub no_verb_asks_none : (text : List ℕ)
 no_verb_asks_none text never words rest begins fits =
     let first = parted SPACE begins.line in
     ap event_of (sym (sym first.parts ∙ begins.words_are))
-    ∙ by_verb first.word first.tail first.others first.behind
+    ∙ by_verb first.word first.tail first.others first.beyond
     (begins.split ∙ ap (λ (l : List ℕ). l ++ LINE_FEED ∷ rest) first.split)
     (verb_of first.word) refl
   where
     by_tail : (v : Verb) (tail : List ℕ) (others : List (List ℕ)) → TailHas SPACE tail others
         → text ≡ (verb_word v ++ tail) ++ LINE_FEED ∷ rest → event_with v others ≡ None
-    by_tail v [] [] behind split = verb_is_not_alone v
-    by_tail v [] (word ∷ others) behind split = absurd behind
-    by_tail v (b ∷ tail) others behind split =
+    by_tail v [] [] beyond split = verb_is_not_alone v
+    by_tail v [] (word ∷ others) beyond split = absurd beyond
+    by_tail v (b ∷ tail) others beyond split =
         absurd (never v (tail ++ LINE_FEED ∷ rest)
         (split ∙ (append_assoc (verb_word v) (b ∷ tail) (LINE_FEED ∷ rest)
-        ∙ ap (λ b. verb_word v ++ b ∷ (tail ++ LINE_FEED ∷ rest)) behind.0)))
+        ∙ ap (λ b. verb_word v ++ b ∷ (tail ++ LINE_FEED ∷ rest)) beyond.0)))
 
     by_verb : (word tail : List ℕ) (others : List (List ℕ)) → TailHas SPACE tail others
         → text ≡ (word ++ tail) ++ LINE_FEED ∷ rest → (v : Option Verb) → verb_of word ≡ v
         → event_of (word ∷ others) ≡ None
-    by_verb word tail others behind split None none = rw none refl
-    by_verb word tail others behind split (Some v) some =
+    by_verb word tail others beyond split None none = rw none refl
+    by_verb word tail others beyond split (Some v) some =
         ap (λ (o : Option Verb). option_and_then (λ v. event_with v others) o) some
-        ∙ by_tail v tail others behind
+        ∙ by_tail v tail others beyond
         (split ∙ ap (λ (w : List ℕ). (w ++ tail) ++ LINE_FEED ∷ rest) (verb_is word v some))
 
 -- three numbers are wanted of a post and a raise: none where the first spells none

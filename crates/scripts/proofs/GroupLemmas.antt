@@ -15,13 +15,13 @@ use Rattle.sleep_core.specs.Runs.{world_after_all}
 use Rattle.scripts.specs.declared.group_line.GroupNote.{GroupNote}
 use Rattle.scripts.specs.declared.group_line.PidList.{PidList}
 use Rattle.scripts.specs.declared.lines.TheConstants.{COMMA, LINE_FEED, SPACE}
-use Rattle.scripts.specs.Lines.{is_comma, is_word, number_of, parts_behind, parts_of, words_of}
+use Rattle.scripts.specs.Lines.{is_comma, is_word, number_of, parts_of_rest, parts_of, words_of}
 use Rattle.scripts.specs.Lines.{FirstIsNoNumber, FirstNumber, NoLineAsks}
 use Rattle.scripts.specs.EventText.{event_text}
 use Rattle.scripts.specs.Script.{growth}
 use Rattle.scripts.specs.ScriptLaws.{lines_text}
 use Rattle.scripts.specs.Schedule.{answer_lines, answered, event_of, events_of, group_of, is_above}
-use Rattle.scripts.specs.Schedule.{joined_lines, kinds_of, notes_to, pids_of, rising_behind}
+use Rattle.scripts.specs.Schedule.{joined_lines, kinds_of, notes_to, pids_of, rising_after}
 use Rattle.scripts.specs.Schedule.{schedule_language}
 use Rattle.scripts.specs.GroupNote.{AskGroup, AskPids, PostsEach, listed}
 use Rattle.scripts.proofs.OnePassLemmas.{IsWord, none_of_words}
@@ -35,7 +35,7 @@ pub record Posting (notes : NoteSet) (pids : List ℕ) (world now : State) (old 
   -- the processes that are still to be posted to
   pub left : List ℕ
   -- the words to come are those processes, and rise after it
-  pub written : rising_behind before words ≡ Some left
+  pub written : rising_after before words ≡ Some left
   -- the notes to them lead to the same world as all notes do from the first
   pub after : world_after_all now (notes_to notes left)
       ≡ world_after_all world (notes_to notes pids)
@@ -49,13 +49,13 @@ pub posting_begins : (notes : NoteSet) (list : PidList) (pids : List ℕ) (world
     → next ≡ world_after world (event.Note (record { 0 = list.first }) notes)
     → longer ≡ old ++ event_text (answer_to world (event.Note (record { 0 = list.first }) notes))
     ++ LINE_FEED ∷ []
-    → Posting notes pids world next old longer (parts_behind is_comma list.others)
+    → Posting notes pids world next old longer (parts_of_rest is_comma list.others)
 posting_begins notes list pids world next old longer is stepped written =
-    by_others (rising_behind (Some list.first) (parts_behind is_comma list.others)) refl
+    by_others (rising_after (Some list.first) (parts_of_rest is_comma list.others)) refl
   where
     by_others : (more : Option (List ℕ))
-        → rising_behind (Some list.first) (parts_behind is_comma list.others) ≡ more
-        → Posting notes pids world next old longer (parts_behind is_comma list.others)
+        → rising_after (Some list.first) (parts_of_rest is_comma list.others) ≡ more
+        → Posting notes pids world next old longer (parts_of_rest is_comma list.others)
     by_others None none = let bad = rw none at is in absurd (cc)
     by_others (Some more) some =
         let all : Some (list.first ∷ more) ≡ Some pids = rw some at is in
@@ -90,10 +90,10 @@ pub posting_goes : (notes : NoteSet) (pids : List ℕ) (world now : State) (old 
     ++ LINE_FEED ∷ []
     → Posting notes pids world next old longer words
 posting_goes notes pids world now old new word words n next longer so_far is stepped written =
-    by_order (is_above so_far.before n) refl (rising_behind (Some n) words) refl
+    by_order (is_above so_far.before n) refl (rising_after (Some n) words) refl
   where
     by_order : (v : Bool) → is_above so_far.before n ≡ v → (more : Option (List ℕ))
-        → rising_behind (Some n) words ≡ more
+        → rising_after (Some n) words ≡ more
         → Posting notes pids world next old longer words
     by_order false low more some = let bad = rw (is, low) at so_far.written in absurd (cc)
     by_order true high None none = let bad = rw (is, high, none) at so_far.written in absurd (cc)
@@ -128,10 +128,10 @@ posting_ends notes pids world now old new so_far =
 -- a list has a process in it
 some_listed : (list : PidList) → listed list ≡ Some [] → ⊥
 some_listed list is =
-    by_others (rising_behind (Some list.first) (parts_behind is_comma list.others)) refl
+    by_others (rising_after (Some list.first) (parts_of_rest is_comma list.others)) refl
   where
     by_others : (more : Option (List ℕ))
-        → rising_behind (Some list.first) (parts_behind is_comma list.others) ≡ more → ⊥
+        → rising_after (Some list.first) (parts_of_rest is_comma list.others) ≡ more → ⊥
     by_others None none = let bad = rw none at is in cc
     by_others (Some more) some = let bad = rw some at is in cc
 
@@ -183,14 +183,14 @@ group_answered s line words events is ask = rw (is, group_is_no_event words even
 
 -- a word whose first part is a number, with others after it that rise above it, is a list
 pub list_rises : (first : ℕ) (others : Option (Bor (List ℕ))) (word part : List ℕ)
-    → parts_of is_comma word ≡ part ∷ parts_behind is_comma others → number_of part ≡ Some first
-    → is_some (rising_behind (Some first) (parts_behind is_comma others)) ≡ true
+    → parts_of is_comma word ≡ part ∷ parts_of_rest is_comma others → number_of part ≡ Some first
+    → is_some (rising_after (Some first) (parts_of_rest is_comma others)) ≡ true
     → AskPids word (record { first = first; others = others })
 list_rises first others word part parts is rise =
-    by_others (rising_behind (Some first) (parts_behind is_comma others)) refl
+    by_others (rising_after (Some first) (parts_of_rest is_comma others)) refl
   where
     by_others : (more : Option (List ℕ))
-        → rising_behind (Some first) (parts_behind is_comma others) ≡ more
+        → rising_after (Some first) (parts_of_rest is_comma others) ≡ more
         → AskPids word (record { first = first; others = others })
     by_others None none = let bad = rw none at rise in absurd (cc)
     by_others (Some more) some =
@@ -213,18 +213,18 @@ pub group_is_word : IsWord (codes "notepg")
 group_is_word = record { no_space = refl; no_line_feed = refl }
 
 -- numbers do not rise where the first part is none
-pub none_behind : (before : ℕ) (list : List ℕ) → FirstIsNoNumber list
-    → is_some (rising_behind (Some before) (parts_of is_comma list)) ≡ false
-none_behind before list never =
+pub none_after : (before : ℕ) (list : List ℕ) → FirstIsNoNumber list
+    → is_some (rising_after (Some before) (parts_of is_comma list)) ≡ false
+none_after before list never =
     let first = parted COMMA list in
     let none = never first.word first.others first.parts in
     rw (first.parts, none) refl
 
 -- or is not above the one before it
-pub falls_behind : (before : ℕ) (list : List ℕ) (n : ℕ) (rest : Option (Bor (List ℕ)))
+pub falls_after : (before : ℕ) (list : List ℕ) (n : ℕ) (rest : Option (Bor (List ℕ)))
     → FirstNumber list n rest → n ≤ before
-    → is_some (rising_behind (Some before) (parts_of is_comma list)) ≡ false
-falls_behind before list n rest first low =
+    → is_some (rising_after (Some before) (parts_of is_comma list)) ≡ false
+falls_after before list n rest first low =
     let not_above : is_above (Some before) n ≡ false = grind (arith, nat_tests) in
     rw (first.parts, first.spells, not_above) refl
 
@@ -242,27 +242,27 @@ pub no_word_asks_none : (text : List ℕ)
 no_word_asks_none text never words rest begins fits =
     let first = parted SPACE begins.line in
     ap group_of (sym (sym first.parts ∙ begins.words_are))
-    ∙ by_word first.word first.tail first.others first.behind
+    ∙ by_word first.word first.tail first.others first.beyond
     (begins.split ∙ ap (λ (l : List ℕ). l ++ LINE_FEED ∷ rest) first.split)
     (is_word first.word (codes "notepg")) refl
   where
     by_tail : (word tail : List ℕ) (others : List (List ℕ)) → TailHas SPACE tail others
         → text ≡ (word ++ tail) ++ LINE_FEED ∷ rest → word ≡ codes "notepg"
         → group_of (word ∷ others) ≡ None
-    by_tail word [] [] behind split is = refl
-    by_tail word [] (next ∷ others) behind split is = absurd behind
-    by_tail word (b ∷ tail) others behind split is =
+    by_tail word [] [] beyond split is = refl
+    by_tail word [] (next ∷ others) beyond split is = absurd beyond
+    by_tail word (b ∷ tail) others beyond split is =
         absurd (never (tail ++ LINE_FEED ∷ rest)
         (split ∙ (append_assoc word (b ∷ tail) (LINE_FEED ∷ rest)
-        ∙ (ap (λ b. word ++ b ∷ (tail ++ LINE_FEED ∷ rest)) behind.0
+        ∙ (ap (λ b. word ++ b ∷ (tail ++ LINE_FEED ∷ rest)) beyond.0
         ∙ ap (λ (w : List ℕ). w ++ SPACE ∷ (tail ++ LINE_FEED ∷ rest)) is))))
 
     by_word : (word tail : List ℕ) (others : List (List ℕ)) → TailHas SPACE tail others
         → text ≡ (word ++ tail) ++ LINE_FEED ∷ rest → (v : Bool)
         → is_word word (codes "notepg") ≡ v → group_of (word ∷ others) ≡ None
-    by_word word tail others behind split true is =
-        by_tail word tail others behind split ((bytes_eq-Decides word (codes "notepg")).0 is)
-    by_word word tail others behind split false other = other_word word others other
+    by_word word tail others beyond split true is =
+        by_tail word tail others beyond split ((bytes_eq-Decides word (codes "notepg")).0 is)
+    by_word word tail others beyond split false other = other_word word others other
 
 -- a list that is none asks for no group
 pub no_pids : (pids kinds : List ℕ) → pids_of pids ≡ None

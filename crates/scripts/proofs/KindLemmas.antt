@@ -17,7 +17,7 @@ use Rattle.scripts.specs.Lines.{words_of}
 use Rattle.scripts.specs.Schedule.{IsNotFirst, kind_added, kinds_of, note_named}
 use Rattle.scripts.specs.Schedule.{with_kinds}
 use Rattle.scripts.proofs.LineLemmas.{parts_of-plain, parts_of-some}
-use Rattle.scripts.proofs.NumberLemmas.{same_behind}
+use Rattle.scripts.proofs.NumberLemmas.{same_rest}
 use Rattle.scripts.proofs.OnePassLemmas.{read_as}
 use Rattle.scripts.proofs.PartLemmas.{TailHas, parted}
 
@@ -26,15 +26,15 @@ abbrev pub has_no_space : List ℕ → Bool
 has_no_space word = list_all (λ b. not (is_space b)) word
 
 -- a word that another byte than a comma follows is not the first part of a list
-pub other_behind : (word list : List ℕ) (byte : ℕ) (behind : List ℕ)
-    → list ≡ word ++ byte ∷ behind → ¬ (byte ≡ COMMA) → IsNotFirst word list
-other_behind word list byte behind split differs =
+pub other_after : (word list : List ℕ) (byte : ℕ) (beyond : List ℕ)
+    → list ≡ word ++ byte ∷ beyond → ¬ (byte ≡ COMMA) → IsNotFirst word list
+other_after word list byte beyond split differs =
     record {
       not_alone = λ is.
-          let long = ap length (sym is ∙ split) ∙ length-append word (byte ∷ behind) in
+          let long = ap length (sym is ∙ split) ∙ length-append word (byte ∷ beyond) in
           omega (arith, long);
       not_before = λ rest is.
-          let same = same_behind word (byte ∷ behind) (COMMA ∷ rest) (sym split ∙ is) in
+          let same = same_rest word (byte ∷ beyond) (COMMA ∷ rest) (sym split ∙ is) in
           differs (cc);
     }
 
@@ -73,22 +73,22 @@ pub kinds_are_none : (set : NoteSet) (list : List ℕ)
 kinds_are_none set list never =
     let first = parted COMMA list in
     ap (with_kinds set) first.parts
-    ∙ by_kind first.word first.tail first.others first.behind first.split
+    ∙ by_kind first.word first.tail first.others first.beyond first.split
     (note_named first.word) refl
   where
     by_tail : (note : Note) (tail : List ℕ) (others : List (List ℕ)) → TailHas COMMA tail others
         → list ≡ kind_text note ++ tail → ⊥
-    by_tail note [] others behind split =
+    by_tail note [] others beyond split =
         (never note).not_alone (split ∙ append-nil (kind_text note))
-    by_tail note (b ∷ tail) others behind split =
-        (never note).not_before tail (split ∙ ap (λ b. kind_text note ++ b ∷ tail) behind.0)
+    by_tail note (b ∷ tail) others beyond split =
+        (never note).not_before tail (split ∙ ap (λ b. kind_text note ++ b ∷ tail) beyond.0)
 
     by_kind : (word tail : List ℕ) (others : List (List ℕ)) → TailHas COMMA tail others
         → list ≡ word ++ tail → (kind : Option Note) → note_named word ≡ kind
         → with_kinds set (word ∷ others) ≡ None
-    by_kind word tail others behind split None none = rw none refl
-    by_kind word tail others behind split (Some note) some =
-        absurd (by_tail note tail others behind
+    by_kind word tail others beyond split None none = rw none refl
+    by_kind word tail others beyond split (Some note) some =
+        absurd (by_tail note tail others beyond
         (split ∙ ap (λ (w : List ℕ). w ++ tail) (kind_is word note some)))
 
 -- nor have those of several

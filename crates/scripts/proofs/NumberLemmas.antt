@@ -205,26 +205,26 @@ ends_in_digits end text number count other all whole n rest begins =
     omega (arith, short, same)
 
 -- what stands after the same front is the same
-pub same_behind : (front xs ys : List ℕ) → front ++ xs ≡ front ++ ys → xs ≡ ys
-same_behind [] xs ys same = same
-same_behind (b ∷ front) xs ys same = same_behind front xs ys (cc)
+pub same_rest : (front xs ys : List ℕ) → front ++ xs ≡ front ++ ys → xs ≡ ys
+same_rest [] xs ys same = same
+same_rest (b ∷ front) xs ys same = same_rest front xs ys (cc)
 
 -- nor where another byte follows them
-pub other_follows : (end : ℕ) (text : List ℕ) (number count byte : ℕ) (behind : List ℕ)
+pub other_follows : (end : ℕ) (text : List ℕ) (number count byte : ℕ) (beyond : List ℕ)
     → is_ascii_digit end ≡ false → AllLeadingDigits text number count
-    → text ≡ take count text ++ byte ∷ behind → ¬ (byte ≡ end) → BeginsWithNoNumber end text
-other_follows end text number count byte behind other all split differs n rest begins =
+    → text ≡ take count text ++ byte ∷ beyond → ¬ (byte ≡ end) → BeginsWithNoNumber end text
+other_follows end text number count byte beyond other all split differs n rest begins =
     let word = word_is_leading end text number count n rest other all begins in
-    let same : byte ∷ behind ≡ end ∷ rest =
-    same_behind (take count text) (byte ∷ behind) (end ∷ rest)
+    let same : byte ∷ beyond ≡ end ∷ rest =
+    same_rest (take count text) (byte ∷ beyond) (end ∷ rest)
     (sym split ∙ (begins.split ∙ ap (λ (w : List ℕ). w ++ end ∷ rest) (sym word))) in
     differs (cc)
 
 -- the tail of a list's first part begins with no digit
 list_tail_other : (tail : List ℕ) (others : List (List ℕ)) → TailHas COMMA tail others
     → is_ascii_digit (get_or tail 0 0) ≡ false
-list_tail_other [] others behind = refl
-list_tail_other (b ∷ tail) others behind = ap is_ascii_digit behind.0
+list_tail_other [] others beyond = refl
+list_tail_other (b ∷ tail) others beyond = ap is_ascii_digit beyond.0
 
 -- what is none by each answer is none
 none_by : (o : Option ℕ) → ((n : ℕ) → ¬ (o ≡ Some n)) → o ≡ None
@@ -239,7 +239,7 @@ large_list list large word words is =
     let same : word ∷ words ≡ first.word ∷ first.others = sym is ∙ first.parts in
     let word_is : word ≡ first.word = cc in
     ap number_of word_is
-    ∙ large_is_none first.word first.tail (list_tail_other first.tail first.others first.behind)
+    ∙ large_is_none first.word first.tail (list_tail_other first.tail first.others first.beyond)
     (subst TooLarge first.split large)
 
 -- where it spells a number, these digits are it
@@ -249,7 +249,7 @@ list_word_is : (list : List ℕ) (number count n : ℕ) (first : Parted COMMA li
 list_word_is list number count n first all spells =
     ap (take count) first.split
     ∙ leading_is first.word first.tail count (number_digits first.word n spells)
-    (list_tail_other first.tail first.others first.behind)
+    (list_tail_other first.tail first.others first.beyond)
     (rw first.split at all.leading.digits) (rw first.split at all.end)
 
 -- so it spells none where they spell none
@@ -265,20 +265,20 @@ spells_none_first list number count all none word words is =
     cc)
 
 -- and where another byte than a comma follows them
-pub other_in_list : (list : List ℕ) (number count byte : ℕ) (behind : List ℕ)
-    → AllLeadingDigits list number count → list ≡ take count list ++ byte ∷ behind
+pub other_in_list : (list : List ℕ) (number count byte : ℕ) (beyond : List ℕ)
+    → AllLeadingDigits list number count → list ≡ take count list ++ byte ∷ beyond
     → ¬ (byte ≡ COMMA) → FirstIsNoNumber list
-other_in_list list number count byte behind all split differs word words is =
+other_in_list list number count byte beyond all split differs word words is =
     let first = parted COMMA list in
     let same : word ∷ words ≡ first.word ∷ first.others = sym is ∙ first.parts in
     let word_is : word ≡ first.word = cc in
     ap number_of word_is ∙ none_by (number_of first.word) (λ n spells.
     let digits = list_word_is list number count n first all spells in
-    by_tail first.tail first.others first.behind (same_behind (take count list) (byte ∷ behind)
+    by_tail first.tail first.others first.beyond (same_rest (take count list) (byte ∷ beyond)
     first.tail (sym split ∙ (first.split ∙ ap (λ (w : List ℕ). w ++ first.tail) (sym digits)))))
   where
     by_tail : (tail : List ℕ) (others : List (List ℕ)) → TailHas COMMA tail others
-        → byte ∷ behind ≡ tail → ⊥
+        → byte ∷ beyond ≡ tail → ⊥
     by_tail [] others has same = let none = ap length same in omega (arith, none)
     by_tail (b ∷ tail) others has same =
         let first_is : byte ≡ b = cc in

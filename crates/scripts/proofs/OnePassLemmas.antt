@@ -102,10 +102,10 @@ line_of_word text word rest split is =
     }
 
 -- a word and a space before a line make a line
-pub line_behind_word : (text word mid : List ℕ) (words : List (List ℕ)) (rest : List ℕ)
+pub line_after_word : (text word mid : List ℕ) (words : List (List ℕ)) (rest : List ℕ)
     → text ≡ word ++ SPACE ∷ mid → IsWord word → BeginsWithLine mid words rest
     → BeginsWithLine text (word ∷ words) rest
-line_behind_word text word mid words rest split is begins =
+line_after_word text word mid words rest split is begins =
     record {
       line = word ++ SPACE ∷ begins.line;
       split = split ∙ (ap (λ (t : List ℕ). word ++ SPACE ∷ t) begins.split
@@ -146,11 +146,11 @@ ends_line text n rest begins =
     line_of_word text begins.word rest begins.split (number_is_word begins.word n begins.spells)
 
 -- a number before others
-pub behind_number : (text : List ℕ) (n : ℕ) (mid : List ℕ) (words : List (List ℕ))
+pub after_number : (text : List ℕ) (n : ℕ) (mid : List ℕ) (words : List (List ℕ))
     (rest : List ℕ) (begins : BeginsWithNumber SPACE text n mid) → BeginsWithLine mid words rest
     → BeginsWithLine text (begins.word ∷ words) rest
-behind_number text n mid words rest begins line =
-    line_behind_word text begins.word mid words rest begins.split
+after_number text n mid words rest begins line =
+    line_after_word text begins.word mid words rest begins.split
     (number_is_word begins.word n begins.spells) line
 
 -- no line feed stands in a line
@@ -186,7 +186,7 @@ no_line asked text none words rest begins fits =
     absurd (omega (arith, long))
 
 -- a line that begins as the text does goes on as the text does
-record GoesOnBehind (word mid line rest : List ℕ) : Type 0 where
+record GoesOnAfter (word mid line rest : List ℕ) : Type 0 where
   -- what the line has after the word and the space
   pub after : List ℕ
   -- they are the line
@@ -196,16 +196,16 @@ record GoesOnBehind (word mid line rest : List ℕ) : Type 0 where
 
 line_goes_on : (word mid line rest : List ℕ)
     → list_all (λ b. not (is_line_feed b)) word ≡ true
-    → word ++ SPACE ∷ mid ≡ line ++ LINE_FEED ∷ rest → GoesOnBehind word mid line rest
+    → word ++ SPACE ∷ mid ≡ line ++ LINE_FEED ∷ rest → GoesOnAfter word mid line rest
 line_goes_on [] mid [] rest plain same =
     let bad : SPACE ≡ LINE_FEED = cc in absurd (omega (arith, bad))
 line_goes_on [] mid (b ∷ line) rest plain same =
     let first : b ≡ SPACE = cc in
-    let behind : mid ≡ line ++ LINE_FEED ∷ rest = cc in
+    let beyond : mid ≡ line ++ LINE_FEED ∷ rest = cc in
     record {
       after = line;
       line_is = ap (λ b. b ∷ line) first;
-      mid_is = behind;
+      mid_is = beyond;
     }
 line_goes_on (w ∷ word) mid [] rest plain same =
     let first : w ≡ LINE_FEED = cc in
@@ -214,8 +214,8 @@ line_goes_on (w ∷ word) mid [] rest plain same =
     absurd (grind (arith, nat_tests))
 line_goes_on (w ∷ word) mid (b ∷ line) rest plain same =
     let first : b ≡ w = cc in
-    let behind : word ++ SPACE ∷ mid ≡ line ++ LINE_FEED ∷ rest = cc in
-    let more = line_goes_on word mid line rest (second_passes (not (is_line_feed w)) _ plain) behind
+    let beyond : word ++ SPACE ∷ mid ≡ line ++ LINE_FEED ∷ rest = cc in
+    let more = line_goes_on word mid line rest (second_passes (not (is_line_feed w)) _ plain) beyond
     in
     record {
       after = more.after;
@@ -224,18 +224,18 @@ line_goes_on (w ∷ word) mid (b ∷ line) rest plain same =
     }
 
 -- no line feed stands after a word of a line
-plain_behind : (word after : List ℕ)
+plain_after : (word after : List ℕ)
     → list_all (λ b. not (is_line_feed b)) (word ++ SPACE ∷ after) ≡ true
     → list_all (λ b. not (is_line_feed b)) after ≡ true
-plain_behind [] after plain = plain
-plain_behind (w ∷ word) after plain =
-    plain_behind word after (second_passes (not (is_line_feed w)) _ plain)
+plain_after [] after plain = plain
+plain_after (w ∷ word) after plain =
+    plain_after word after (second_passes (not (is_line_feed w)) _ plain)
 
 -- after a word a text asks for nothing where no line after it completes the word
-pub none_behind_word : {A : Type 0} (asked : List (List ℕ) → Option A) (text word mid : List ℕ)
+pub none_after_word : {A : Type 0} (asked : List (List ℕ) → Option A) (text word mid : List ℕ)
     → text ≡ word ++ SPACE ∷ mid → IsWord word → NoLineAsks (λ words. asked (word ∷ words)) mid
     → NoLineAsks asked text
-none_behind_word asked text word mid split is none words rest begins fits =
+none_after_word asked text word mid split is none words rest begins fits =
     let goes = line_goes_on word mid begins.line rest is.no_line_feed (sym split ∙ begins.split) in
     let words_are : word ∷ words_of goes.after ≡ words =
     sym (parts_of-part is_space word SPACE goes.after is.no_space refl)
@@ -245,16 +245,16 @@ none_behind_word asked text word mid split is none words rest begins fits =
     (record {
       line = goes.after;
       split = goes.mid_is;
-      plain = plain_behind word goes.after (rw goes.line_is at begins.plain);
+      plain = plain_after word goes.after (rw goes.line_is at begins.plain);
       words_are = refl;
     }) (omega (arith, long, fits))
 
 -- the same after a word that spells a number
-pub none_behind_number : {A : Type 0} (asked : List (List ℕ) → Option A) (text : List ℕ) (n : ℕ)
+pub none_after_number : {A : Type 0} (asked : List (List ℕ) → Option A) (text : List ℕ) (n : ℕ)
     (mid : List ℕ) (begins : BeginsWithNumber SPACE text n mid)
     → NoLineAsks (λ words. asked (begins.word ∷ words)) mid → NoLineAsks asked text
-none_behind_number asked text n mid begins none =
-    none_behind_word asked text begins.word mid begins.split
+none_after_number asked text n mid begins none =
+    none_after_word asked text begins.word mid begins.split
     (number_is_word begins.word n begins.spells) none
 
 -- what is none by each number is none
@@ -275,19 +275,19 @@ pub none_before_space : {A : Type 0} (asked : List (List ℕ) → Option A) (tex
 none_before_space asked text never alone wrong words rest begins fits =
     let first = parted SPACE begins.line in
     ap asked (sym (sym first.parts ∙ begins.words_are))
-    ∙ by_tail first.word first.tail first.others first.behind first.split
+    ∙ by_tail first.word first.tail first.others first.beyond first.split
   where
     by_tail : (front tail : List ℕ) (others : List (List ℕ)) → TailHas SPACE tail others
         → begins.line ≡ front ++ tail → asked (front ∷ others) ≡ None
-    by_tail front [] [] behind split = alone front
-    by_tail front [] (word ∷ others) behind split = absurd behind
-    by_tail front (b ∷ tail) others behind split =
+    by_tail front [] [] beyond split = alone front
+    by_tail front [] (word ∷ others) beyond split = absurd beyond
+    by_tail front (b ∷ tail) others beyond split =
         by_number front (asked (front ∷ others)) (wrong front others)
         (λ n spells. never n (tail ++ LINE_FEED ∷ rest) (record {
           word = front;
           split = begins.split ∙ (ap (λ (l : List ℕ). l ++ LINE_FEED ∷ rest) split
               ∙ (append_assoc front (b ∷ tail) (LINE_FEED ∷ rest)
-              ∙ ap (λ b. front ++ b ∷ (tail ++ LINE_FEED ∷ rest)) behind.0));
+              ∙ ap (λ b. front ++ b ∷ (tail ++ LINE_FEED ∷ rest)) beyond.0));
           spells = spells;
         }))
 
@@ -300,7 +300,7 @@ pub none_before_line_feed : {A : Type 0} (asked : List (List ℕ) → Option A) 
 none_before_line_feed asked text never wrong long words rest begins fits =
     let first = parted SPACE begins.line in
     ap asked (sym (sym first.parts ∙ begins.words_are))
-    ∙ by_tail first.word first.tail first.others first.behind first.split
+    ∙ by_tail first.word first.tail first.others first.beyond first.split
   where
     by_others : (front : List ℕ) (others : List (List ℕ)) → 0 < length others
         → asked (front ∷ others) ≡ None
@@ -309,7 +309,7 @@ none_before_line_feed asked text never wrong long words rest begins fits =
 
     by_tail : (front tail : List ℕ) (others : List (List ℕ)) → TailHas SPACE tail others
         → begins.line ≡ front ++ tail → asked (front ∷ others) ≡ None
-    by_tail front [] [] behind split =
+    by_tail front [] [] beyond split =
         by_number front (asked (front ∷ [])) (wrong front)
         (λ n spells. never n rest (record {
           word = front;
@@ -317,30 +317,30 @@ none_before_line_feed asked text never wrong long words rest begins fits =
               (split ∙ append-nil front);
           spells = spells;
         }))
-    by_tail front [] (word ∷ others) behind split = absurd behind
-    by_tail front (b ∷ tail) others behind split =
-        by_others front others (rw behind.1 (parts_of-some is_space tail))
+    by_tail front [] (word ∷ others) beyond split = absurd beyond
+    by_tail front (b ∷ tail) others beyond split =
+        by_others front others (rw beyond.1 (parts_of-some is_space tail))
 
 -- a word before the words of a line asks with them for what it makes of what they ask for
-pub asks_behind_word : {A B : Type 0} (inner : List (List ℕ) → Option A)
+pub asks_after_word : {A B : Type 0} (inner : List (List ℕ) → Option A)
     (outer : List (List ℕ) → Option B) (text word mid rest : List ℕ) (a : A) (b : B)
     → text ≡ word ++ SPACE ∷ mid → IsWord word
     → ((words : List (List ℕ)) → inner words ≡ Some a → outer (word ∷ words) ≡ Some b)
     → LineAsks inner mid a rest → LineAsks outer text b rest
-asks_behind_word inner outer text word mid rest a b split is each line =
+asks_after_word inner outer text word mid rest a b split is each line =
     record {
       words = word ∷ line.words;
-      begins = line_behind_word text word mid line.words rest split is line.begins;
+      begins = line_after_word text word mid line.words rest split is line.begins;
       asks = each line.words line.asks;
     }
 
 -- and for nothing where they do
-pub none_asked_behind : {A B : Type 0} (inner : List (List ℕ) → Option A)
+pub none_asked_after : {A B : Type 0} (inner : List (List ℕ) → Option A)
     (outer : List (List ℕ) → Option B) (text word mid : List ℕ) → text ≡ word ++ SPACE ∷ mid
     → IsWord word → ((words : List (List ℕ)) → inner words ≡ None → outer (word ∷ words) ≡ None)
     → NoLineAsks inner mid → NoLineAsks outer text
-none_asked_behind inner outer text word mid split is each none =
-    none_behind_word outer text word mid split is
+none_asked_after inner outer text word mid split is each none =
+    none_after_word outer text word mid split is
     (λ words rest begins fits. each words (none words rest begins fits))
 
 -- a text whose first line asks for nothing, where that line is not too long
@@ -360,7 +360,7 @@ pub none_of_words : {A : Type 0} (asked : List (List ℕ) → Option A) (line : 
     → asked (words_of line) ≡ None
 none_of_words {A} asked line alone long =
     let first = parted SPACE line in
-    ap asked first.parts ∙ by_tail first.word first.tail first.others first.behind first.split
+    ap asked first.parts ∙ by_tail first.word first.tail first.others first.beyond first.split
   where
     by_others : (front : List ℕ) (others : List (List ℕ)) → 0 < length others
         → asked (front ∷ others) ≡ None
@@ -369,11 +369,11 @@ none_of_words {A} asked line alone long =
 
     by_tail : (front tail : List ℕ) (others : List (List ℕ)) → TailHas SPACE tail others
         → line ≡ front ++ tail → asked (front ∷ others) ≡ None
-    by_tail front [] [] behind split =
+    by_tail front [] [] beyond split =
         subst (λ (w : List ℕ). asked (w ∷ []) ≡ None) (split ∙ append-nil front) alone
-    by_tail front [] (word ∷ others) behind split = absurd behind
-    by_tail front (b ∷ tail) others behind split =
-        by_others front others (rw behind.1 (parts_of-some is_space tail))
+    by_tail front [] (word ∷ others) beyond split = absurd beyond
+    by_tail front (b ∷ tail) others beyond split =
+        by_others front others (rw beyond.1 (parts_of-some is_space tail))
 
 -- a word is the one that it is read as, where the first test of several reads it
 pub read_as : {A : Type 0} (spelt : A → List ℕ) (word text : List ℕ) (a b : A) (others : Option A)

@@ -37,7 +37,7 @@ pub record Parted (byte : ℕ) (text : List ℕ) : Type 0 where
   -- it is the first
   pub parts : parts_of (λ b. b == byte) text ≡ word ∷ others
   -- the others stand in the tail
-  pub behind : TailHas byte tail others
+  pub beyond : TailHas byte tail others
 
 -- equal numbers are one
 same_number : (a b : ℕ) → (a == b) ≡ true → a ≡ b
@@ -46,7 +46,7 @@ same_number a b is = grind (arith, nat_tests)
 -- each text has a first part
 pub parted : (byte : ℕ) (text : List ℕ) → Parted byte text
 parted byte [] =
-    record { word = []; tail = []; others = []; split = refl; parts = refl; behind = tt }
+    record { word = []; tail = []; others = []; split = refl; parts = refl; beyond = tt }
 parted byte (b ∷ text) = by_test (b == byte) refl (parted byte text)
   where
     by_test : (v : Bool) → (b == byte) ≡ v → Parted byte text → Parted byte (b ∷ text)
@@ -58,7 +58,7 @@ parted byte (b ∷ text) = by_test (b == byte) refl (parted byte text)
           split = refl;
           parts = ap (λ v. cond v ([] ∷ parts_of (λ b. b == byte) text)
               (onto_first b (parts_of (λ b. b == byte) text))) is;
-          behind = (same_number b byte is, refl);
+          beyond = (same_number b byte is, refl);
         }
     by_test false other rest =
         record {
@@ -69,7 +69,7 @@ parted byte (b ∷ text) = by_test (b == byte) refl (parted byte text)
           parts = ap (λ v. cond v ([] ∷ parts_of (λ b. b == byte) text)
               (onto_first b (parts_of (λ b. b == byte) text))) other
               ∙ ap (onto_first b) rest.parts;
-          behind = rest.behind;
+          beyond = rest.beyond;
         }
 
 -- a text whose first bytes are all of a word is the word and what a slice has after it

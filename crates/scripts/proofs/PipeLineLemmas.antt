@@ -15,7 +15,7 @@ use Rattle.scripts.specs.declared.lines.TheConstants.{LINE_FEED, SPACE}
 use Rattle.scripts.specs.declared.pipe_line.OpVerb.{OpVerb}
 use Rattle.scripts.specs.declared.pipe_line.OpVerb.TheVariants as verb
 use Rattle.scripts.specs.declared.script.TheConstants.{MAX_LINE}
-use Rattle.scripts.specs.Lines.{is_space, is_word, lines_of, cut_line_of, words_of, words_behind}
+use Rattle.scripts.specs.Lines.{is_space, is_word, lines_of, cut_line_of, words_of, words_of_rest}
 use Rattle.scripts.specs.Lines.{number_of, number_within, BeginsWithLine, LineAsks, NoLineAsks}
 use Rattle.scripts.specs.PipeScript.{Op, Writes, Hangs_up, answered, pipe_language, bytes_of, op_of}
 use Rattle.scripts.specs.PipeScript.{mode_of, hangup_of, read_of, write_of}
@@ -33,7 +33,7 @@ mode_of-more word (next ∷ words) some = refl
 
 -- a mode with a word after it is no mode
 pub mode_of-long : (word : List ℕ) (rest : Option (Bor (List ℕ))) → is_some rest ≡ true
-    → mode_of (word ∷ words_behind rest) ≡ None
+    → mode_of (word ∷ words_of_rest rest) ≡ None
 mode_of-long word None some = cc
 mode_of-long word (Some rest) some =
     mode_of-more word (words_of rest.now) (parts_of-some is_space rest.now)
@@ -98,7 +98,7 @@ pub no_verb_asks_none : (text : List ℕ)
 no_verb_asks_none text never words rest begins fits =
     let first = parted SPACE begins.line in
     ap op_of (sym (sym first.parts ∙ begins.words_are))
-    ∙ by_tail first.word first.tail first.others first.behind
+    ∙ by_tail first.word first.tail first.others first.beyond
     (begins.split ∙ ap (λ (l : List ℕ). l ++ LINE_FEED ∷ rest) first.split)
   where
     hangup_of-more : (others : List (List ℕ)) → 0 < length others → hangup_of others ≡ None
@@ -111,9 +111,9 @@ no_verb_asks_none text never words rest begins fits =
     by_word true word op verb is each other none = each ((bytes_eq-Decides word verb).0 is)
     by_word false word op verb is each other none = none
 
-    behind_space : (front tail : List ℕ) (verb : OpVerb) → op_end verb ≡ SPACE
+    after_space : (front tail : List ℕ) (verb : OpVerb) → op_end verb ≡ SPACE
         → text ≡ (front ++ SPACE ∷ tail) ++ LINE_FEED ∷ rest → front ≡ op_word verb → ⊥
-    behind_space front tail verb end split is =
+    after_space front tail verb end split is =
         never verb (tail ++ LINE_FEED ∷ rest)
         (split ∙ (append_assoc front (SPACE ∷ tail) (LINE_FEED ∷ rest)
         ∙ (ap (λ (w : List ℕ). w ++ SPACE ∷ (tail ++ LINE_FEED ∷ rest)) is
@@ -121,22 +121,22 @@ no_verb_asks_none text never words rest begins fits =
 
     by_tail : (front tail : List ℕ) (others : List (List ℕ)) → TailHas SPACE tail others
         → text ≡ (front ++ tail) ++ LINE_FEED ∷ rest → op_of (front ∷ others) ≡ None
-    by_tail front [] [] behind split =
+    by_tail front [] [] beyond split =
         by_word (is_word front (codes "hangup")) front (hangup_of []) (codes "hangup") refl
         (λ is. absurd (never verb.Hangup rest
         (split ∙ ap (λ (w : List ℕ). w ++ LINE_FEED ∷ rest) (append-nil front ∙ is))))
         _ (by_word (is_word front (codes "read")) front (read_of []) (codes "read") refl
         (λ is. refl) _ (by_word (is_word front (codes "write")) front (write_of [])
         (codes "write") refl (λ is. refl) _ refl))
-    by_tail front [] (word ∷ others) behind split = absurd behind
-    by_tail front (b ∷ tail) others behind split =
-        let space = split ∙ ap (λ b. (front ++ b ∷ tail) ++ LINE_FEED ∷ rest) behind.0 in
+    by_tail front [] (word ∷ others) beyond split = absurd beyond
+    by_tail front (b ∷ tail) others beyond split =
+        let space = split ∙ ap (λ b. (front ++ b ∷ tail) ++ LINE_FEED ∷ rest) beyond.0 in
         by_word (is_word front (codes "hangup")) front (hangup_of others) (codes "hangup") refl
-        (λ is. hangup_of-more others (rw behind.1 (parts_of-some is_space tail)))
+        (λ is. hangup_of-more others (rw beyond.1 (parts_of-some is_space tail)))
         _ (by_word (is_word front (codes "read")) front (read_of others) (codes "read") refl
-        (λ is. absurd (behind_space front tail verb.Read refl space is)) _
+        (λ is. absurd (after_space front tail verb.Read refl space is)) _
         (by_word (is_word front (codes "write")) front (write_of others) (codes "write") refl
-        (λ is. absurd (behind_space front tail verb.Write refl space is)) _ refl))
+        (λ is. absurd (after_space front tail verb.Write refl space is)) _ refl))
 
 -- a line whose words ask for an operation is answered as that operation
 pub op_answered : (s : PipeState) (line : List ℕ) (words : List (List ℕ)) (op : Op)

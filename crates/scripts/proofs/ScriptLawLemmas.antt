@@ -31,10 +31,10 @@ take-append (suc n) (x ∷ a) b = let less : suc n - suc (length a) ≡ n - leng
 lines_before : (front rest : List ℕ)
     → (more : List (List ℕ)) × (whole_lines (front ++ rest) ≡ whole_lines front ++ more)
 lines_before front rest =
-    let behind = take (MAX_SCRIPT - length front) rest in (
-      lines_of (cut_line_of (take MAX_SCRIPT front) ++ behind),
+    let beyond = take (MAX_SCRIPT - length front) rest in (
+      lines_of (cut_line_of (take MAX_SCRIPT front) ++ beyond),
       ap lines_of
-          (take-append MAX_SCRIPT front rest) ∙ lines_of-append (take MAX_SCRIPT front) behind,
+          (take-append MAX_SCRIPT front rest) ∙ lines_of-append (take MAX_SCRIPT front) beyond,
     )
 
 -- the law: a script that goes on keeps its answers

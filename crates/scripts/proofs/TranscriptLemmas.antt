@@ -33,8 +33,8 @@ no_answer true n = refl
 no_answer false n = refl
 
 -- after the same answer the text goes on
-grows_behind : (text old new : List ℕ) → Grows old new → Grows (text ++ 10 ∷ old) (text ++ 10 ∷ new)
-grows_behind text old new (more, is) =
+grows_after : (text old new : List ℕ) → Grows old new → Grows (text ++ 10 ∷ old) (text ++ 10 ∷ new)
+grows_after text old new (more, is) =
     (more, ap (λ t. text ++ 10 ∷ t) is ∙ sym (append_assoc text (10 ∷ old) more))
 
 -- by induction on the lines: their answers stand first, however many follow
@@ -58,7 +58,7 @@ answers_grow {S} language is_cut goes_cut s n (line ∷ lines) more =
         (said_with (without_closing_line language) goes_cut n (lines ++ more) v).output
     step None rest = ([], refl)
     step (Some x) rest =
-        grows_behind x.text
+        grows_after x.text
         (told_from (without_closing_line language) is_cut (stage x.after (n + 1)) lines).output
         (told_from (without_closing_line language) goes_cut (stage x.after (n + 1))
         (lines ++ more)).output
@@ -165,11 +165,11 @@ at_fault : {S : Type 0} (language : Language S) (P : S → Type 0) (n : ℕ)
 at_fault language P n = (λ none. cc, λ m is. refl)
 
 -- after an answer a closing line stays last
-closing_line_behind : {S : Type 0} (language : Language S) (P : S → Type 0) (text : List ℕ)
+closing_line_after : {S : Type 0} (language : Language S) (P : S → Type 0) (text : List ℕ)
     (told answers : Transcript)
     → EndsInClosingLine language P told answers
     → EndsInClosingLine language P (answer_then text told) (answer_then text answers)
-closing_line_behind language P text told answers (last, missing) = (
+closing_line_after language P text told answers (last, missing) = (
   λ none.
       let (s, held, is) = last none in (
         s,
@@ -206,7 +206,7 @@ closing_line_of_rest {S} language P stays is_cut s held n (line ∷ lines) =
         (said_with (without_closing_line language) is_cut n lines v)
     step None is rest = at_fault language P n
     step (Some x) is rest =
-        closing_line_behind language P x.text
+        closing_line_after language P x.text
         (told_from language is_cut (stage x.after (n + 1)) lines)
         (told_from (without_closing_line language) is_cut (stage x.after (n + 1)) lines)
         (rest x.after (stays.answered s line x held (fits (language.answer_to s) line x is)))

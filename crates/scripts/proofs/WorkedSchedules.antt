@@ -117,17 +117,17 @@ a_group_of_none_is_a_fault : ScheduleSays (codes "world 3 1\nnotepg  alarm\n") [
 unfolding digits
 a_group_of_none_is_a_fault = refl
 
-a_comma_behind_a_group_is_a_fault :
+a_comma_after_a_group_is_a_fault :
     ScheduleSays (codes "world 3 1\nnotepg 0,1, alarm\n")
     [] (Some 2)
 unfolding digits
-a_comma_behind_a_group_is_a_fault = refl
+a_comma_after_a_group_is_a_fault = refl
 
-a_word_behind_a_group_note_is_a_fault :
+a_word_after_a_group_note_is_a_fault :
     ScheduleSays (codes "world 3 1\nnotepg 0,1 alarm hangup\n")
     [] (Some 2)
 unfolding digits
-a_word_behind_a_group_note_is_a_fault = refl
+a_word_after_a_group_note_is_a_fault = refl
 
 a_group_note_without_kinds_is_a_fault : ScheduleSays (codes "world 3 1\nnotepg 0,1\n") [] (Some 2)
 unfolding digits

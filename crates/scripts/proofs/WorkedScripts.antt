@@ -79,13 +79,13 @@ a_stream_read_joins_writes :
 unfolding encode_with decode_pairs
 a_stream_read_joins_writes = refl
 
-a_stream_read_leaves_empty_writes_behind_its_last_byte :
+a_stream_read_leaves_empty_writes_after_its_last_byte :
     PipeSays
     (codes "limit 3 stream\nwrite 0 -\nwrite 0 61\nwrite 0 -\nwrite 0 62\nread 1\n"
     ++ codes "write 0 62\nhangup\nread 8\nread 8\n")
     (codes "taken\ntaken\ntaken\nfull\ngot 61\ntaken\nok\ngot 62\nend\n") None
 unfolding encode_with decode_pairs
-a_stream_read_leaves_empty_writes_behind_its_last_byte = refl
+a_stream_read_leaves_empty_writes_after_its_last_byte = refl
 
 a_stream_read_passes_empty_writes :
     PipeSays (codes "limit 1 stream\nwrite 0 -\nread 8\nwrite 0 61\nread 8\n")
@@ -101,13 +101,13 @@ a_stream_is_read_to_its_end :
 unfolding encode_with decode_pairs
 a_stream_is_read_to_its_end = refl
 
-a_stream_read_goes_on_behind_a_begun_write :
+a_stream_read_goes_on_after_a_begun_write :
     PipeSays
     (codes "limit 1 stream\nwrite 0 616263\nwrite 0 64\nread 1\nwrite 0 64\nread 8\n"
     ++ codes "read 8\n")
     (codes "taken\nfull\ngot 61\ntaken\ngot 626364\nempty\n") None
 unfolding encode_with decode_pairs
-a_stream_read_goes_on_behind_a_begun_write = refl
+a_stream_read_goes_on_after_a_begun_write = refl
 
 a_stream_read_of_none_passes_nothing :
     PipeSays (codes "limit 1 stream\nwrite 0 -\nread 0\nwrite 0 61\nread 8\nwrite 0 61\nread 8\n")

@@ -19,13 +19,13 @@ kind_text ClosedPipe = codes "closed"
 kind_text Expired = codes "expired"
 
 -- a kind after those before it, with a comma between
-abbrev pub behind_comma : List ℕ → List ℕ → List ℕ
-behind_comma [] kind = kind
-behind_comma (b ∷ bs) kind = (b ∷ bs) ++ COMMA ∷ kind
+abbrev pub after_comma : List ℕ → List ℕ → List ℕ
+after_comma [] kind = kind
+after_comma (b ∷ bs) kind = (b ∷ bs) ++ COMMA ∷ kind
 
 -- the same, where the kind is in the set
 abbrev pub listed : NoteSet → List ℕ → Note → List ℕ
-listed set text note = if holds set note then behind_comma text (kind_text note) else text
+listed set text note = if holds set note then after_comma text (kind_text note) else text
 
 -- the kinds in the set, in the order in which they are printed
 abbrev pub kinds_listed : NoteSet → List ℕ

@@ -7,8 +7,8 @@ use Rattle.sleep_core.specs.State.{State}
 use Rattle.sleep_core.specs.Runs.{world_after_all}
 use Rattle.scripts.specs.declared.group_line.GroupNote.{GroupNote}
 use Rattle.scripts.specs.declared.group_line.PidList.{PidList}
-use Rattle.scripts.specs.Lines.{BeginsWithLine, is_comma, parts_behind}
-use Rattle.scripts.specs.Schedule.{answer_lines, group_of, notes_to, pids_of, rising_behind}
+use Rattle.scripts.specs.Lines.{BeginsWithLine, is_comma, parts_of_rest}
+use Rattle.scripts.specs.Schedule.{answer_lines, group_of, notes_to, pids_of, rising_after}
 use Rattle.scripts.specs.Script.{Growth}
 use Rattle.scripts.specs.ScriptLaws.{lines_text}
 
@@ -16,7 +16,7 @@ use Rattle.scripts.specs.ScriptLaws.{lines_text}
 abbrev pub listed : PidList → Option (List ℕ)
 listed pids =
     option_map (λ more. pids.first ∷ more)
-    (rising_behind (Some pids.first) (parts_behind is_comma pids.others))
+    (rising_after (Some pids.first) (parts_of_rest is_comma pids.others))
 
 -- the word names these processes, which rise
 pub record AskPids (word : List ℕ) (pids : PidList) : Type 0 where

@@ -59,13 +59,13 @@ abbrev pub words_of : List ℕ → List (List ℕ)
 words_of line = parts_of is_space line
 
 -- the parts of what follows a parting byte, if one stood there
-abbrev pub parts_behind : (ℕ → Bool) → Option (Bor (List ℕ)) → List (List ℕ)
-parts_behind is_parting None = []
-parts_behind is_parting (Some rest) = parts_of is_parting rest.now
+abbrev pub parts_of_rest : (ℕ → Bool) → Option (Bor (List ℕ)) → List (List ℕ)
+parts_of_rest is_parting None = []
+parts_of_rest is_parting (Some rest) = parts_of is_parting rest.now
 
 -- the words of what follows a space
-abbrev pub words_behind : Option (Bor (List ℕ)) → List (List ℕ)
-words_behind rest = parts_behind is_space rest
+abbrev pub words_of_rest : Option (Bor (List ℕ)) → List (List ℕ)
+words_of_rest rest = parts_of_rest is_space rest
 
 -- the first four bytes of a text as one number, of which the first is the lowest
 abbrev pub four_of : List ℕ → ℕ
@@ -126,7 +126,7 @@ pub record TooLarge (text : List ℕ) : Type 0 where
 -- the first part of a list spells this number, and this follows the comma after it
 pub record FirstNumber (list : List ℕ) (number : ℕ) (rest : Option (Bor (List ℕ))) : Type 0 where
   pub word : List ℕ
-  pub parts : parts_of is_comma list ≡ word ∷ parts_behind is_comma rest
+  pub parts : parts_of is_comma list ≡ word ∷ parts_of_rest is_comma rest
   pub spells : number_of word ≡ Some number
 
 -- the first part of a list spells no number

@@ -156,15 +156,15 @@ next_rising before word =
     option_and_then (λ n. if is_above before n then Some n else None) (number_of word)
 
 -- numbers that rise strictly, and begin above the one before them
-abbrev pub rising_behind : Option ℕ → List (List ℕ) → Option (List ℕ)
-rising_behind before [] = Some []
-rising_behind before (word ∷ words) =
-    option_and_then (λ n. option_map (λ more. n ∷ more) (rising_behind (Some n) words))
+abbrev pub rising_after : Option ℕ → List (List ℕ) → Option (List ℕ)
+rising_after before [] = Some []
+rising_after before (word ∷ words) =
+    option_and_then (λ n. option_map (λ more. n ∷ more) (rising_after (Some n) words))
     (next_rising before word)
 
 -- processes that rise strictly, with a comma between each two
 abbrev pub pids_of : List ℕ → Option (List ℕ)
-pids_of word = rising_behind None (parts_of is_comma word)
+pids_of word = rising_after None (parts_of is_comma word)
 
 -- these notes to each of these processes in turn
 abbrev pub notes_to : NoteSet → List ℕ → List Event

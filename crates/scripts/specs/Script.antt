@@ -45,7 +45,7 @@ pub record Stage (S : Type 0) : Type 0 where
 abbrev pub stage : {S : Type 0} → S → ℕ → Stage S
 stage state number = record { state = state; number = number }
 
--- what these lines say, from where a script has come to. Behind them the script ends, or a line
+-- what these lines say, from where a script has come to. After them the script ends, or a line
 -- that is cut or stands too far on.
 abbrev pub told_from : {S : Type 0} → Language S → Bool → Stage S → List (List ℕ) → Transcript
 told_from {S} language is_cut here [] =

@@ -2,12 +2,12 @@
 ghost use Rattle.std.specs.Prelude.{◌≡◌, ◌∷◌, ◌++◌, ℕ, List, codes, Some, None, MatchOption};
 ghost use Rattle.std.specs.Option.{is_some};
 ghost use Rattle.scripts.specs.declared.lines.TheConstants.{SPACE};
-ghost use Rattle.scripts.specs.Lines.{is_comma, parts_behind, NoLineAsks};
+ghost use Rattle.scripts.specs.Lines.{is_comma, parts_of_rest, NoLineAsks};
 ghost use Rattle.scripts.specs.GroupNote.{AskPids, BeginsWithGroup};
-ghost use Rattle.scripts.specs.Schedule.{group_of, pids_of, rising_behind};
+ghost use Rattle.scripts.specs.Schedule.{group_of, pids_of, rising_after};
 
 use crate::event_line::parse_kinds;
-use crate::lines::{behind, next_line, next_number, next_word};
+use crate::lines::{after_word, next_line, next_number, next_word};
 use sync_base::NoteSet;
 
 /// Processes that rise: the first, and the others as they are written.
@@ -31,7 +31,7 @@ pub fn group_at(text: &[u8]) -> Option<(GroupNote<'_>, &[u8])>
     ensures { MatchOption result (NoLineAsks group_of text.now)
         (λ found. BeginsWithGroup text.now found.0 found.1.now) }
 {
-    let (line, rest) = next_line(behind(b"notepg ", text)?)?;
+    let (line, rest) = next_line(after_word(b"notepg ", text)?)?;
     let (pids, kinds) = next_word(line);
     let notes = parse_kinds(kinds?)?;
     let pids = parse_pids(pids)?;
@@ -51,7 +51,7 @@ fn parse_pids(word: &[u8]) -> Option<PidList<'_>>
 
 /// Whether the processes that are written after this one rise above it.
 fn rise(first: u64, others: Option<&[u8]>) -> bool
-    ensures { result ≡ is_some (rising_behind (Some first) (parts_behind is_comma others.entry)) }
+    ensures { result ≡ is_some (rising_after (Some first) (parts_of_rest is_comma others.entry)) }
 {
     let mut before = first;
     let mut rest = others;

@@ -6,8 +6,8 @@ ghost use Rattle.std.specs.Prelude.{if◌then◌else◌};
 ghost use Rattle.std.specs.Char.{is_ascii_digit};
 ghost use Rattle.scripts.specs.Lines.{BeginsWithNumber, BeginsWithNoNumber, LeadingDigits};
 ghost use Rattle.scripts.specs.Lines.{AllLeadingDigits, TooLarge, FirstNumber, FirstIsNoNumber};
-ghost use Rattle.scripts.specs.Lines.{lines_of, cut_line_of, parts_of, parts_behind, words_of};
-ghost use Rattle.scripts.specs.Lines.{words_behind, number_of, number_within, four_of};
+ghost use Rattle.scripts.specs.Lines.{lines_of, cut_line_of, parts_of, parts_of_rest, words_of};
+ghost use Rattle.scripts.specs.Lines.{words_of_rest, number_of, number_within, four_of};
 ghost use Rattle.scripts.specs.Lines.{FourAreBytes};
 
 use memchr::memchr;
@@ -34,7 +34,7 @@ fn place_of(byte: u8, text: &[u8]) -> Option<usize>
 /// What follows a word that a text begins with; nothing where it begins with another. Of a word
 /// that it knows the compiler writes the steps out; it does not those of `strip_prefix`.
 #[inline(always)]
-pub fn behind<'t>(word: &[u8], text: &'t [u8]) -> Option<&'t [u8]>
+pub fn after_word<'t>(word: &[u8], text: &'t [u8]) -> Option<&'t [u8]>
     ensures { MatchOption result ((rest : List ℕ) → ¬ (text.now ≡ word.now ++ rest))
         (λ rest. text.now ≡ word.now ++ rest.now) }
 {
@@ -42,17 +42,17 @@ pub fn behind<'t>(word: &[u8], text: &'t [u8]) -> Option<&'t [u8]>
         return None;
     }
     if word.len() < 4 {
-        return behind_from(0, word, text);
+        return after_word_from(0, word, text);
     }
     if first_four(text) != first_four(word) {
         return None;
     }
-    behind_from(4, word, text)
+    after_word_from(4, word, text)
 }
 
 /// The same, where so many bytes of the two are the same.
 #[inline(always)]
-fn behind_from<'t>(same: usize, word: &[u8], text: &'t [u8]) -> Option<&'t [u8]>
+fn after_word_from<'t>(same: usize, word: &[u8], text: &'t [u8]) -> Option<&'t [u8]>
     requires within { (same ≤ length word.now) × (length word.now ≤ length text.now) }
     requires same { take same text.now ≡ take same word.now }
     ensures { MatchOption result ((rest : List ℕ) → ¬ (text.now ≡ word.now ++ rest))
@@ -93,7 +93,7 @@ pub fn next_line(text: &[u8]) -> Option<(&[u8], &[u8])>
 
 /// The first word, and what follows the space after it; `None` follows the last word.
 pub fn next_word(text: &[u8]) -> (&[u8], Option<&[u8]>)
-    ensures { words_of text.now ≡ result.0.now ∷ words_behind result.1 }
+    ensures { words_of text.now ≡ result.0.now ∷ words_of_rest result.1 }
 {
     next_part(SPACE, text)
 }
@@ -101,7 +101,7 @@ pub fn next_word(text: &[u8]) -> (&[u8], Option<&[u8]>)
 /// The part before the first such byte, and what follows that; `None` follows the last part.
 pub fn next_part(parting: u8, text: &[u8]) -> (&[u8], Option<&[u8]>)
     ensures part { parts_of (λ b. b == parting) text.now
-        ≡ result.0.now ∷ parts_behind (λ b. b == parting) result.1 }
+        ≡ result.0.now ∷ parts_of_rest (λ b. b == parting) result.1 }
     ensures shorter { IfSome result.1 (λ rest. length rest.now < length text.now) }
 {
     match place_of(parting, text) {
@@ -141,7 +141,7 @@ pub fn number_before(end: u8, text: &[u8]) -> Option<(u64, &[u8])>
     // Where 20 bytes stand, nineteen digits fit, whichever they are, and the text does not end in
     // them. No step tests either, and the compiler writes the nineteen out. Most numbers have one.
     if text.len() >= 20 {
-        let (byte, rest) = byte_behind(1, text);
+        let (byte, rest) = byte_after(1, text);
         if byte == end {
             let digit = digit_value(text[0])?;
             return Some((digit, rest));
@@ -170,7 +170,7 @@ fn ended(end: u8, text: &[u8], number: u64, count: usize) -> Option<&[u8]>
     if count == text.len() || !spells(text, number, count) {
         return None;
     }
-    let (byte, rest) = byte_behind(count, text);
+    let (byte, rest) = byte_after(count, text);
     if byte != end {
         return None;
     }
@@ -208,7 +208,7 @@ pub fn next_number(list: &[u8]) -> Option<(u64, Option<&[u8]>)>
     if count == list.len() {
         return Some((n, None));
     }
-    let (byte, rest) = byte_behind(count, list);
+    let (byte, rest) = byte_after(count, list);
     if byte != COMMA {
         return None;
     }
@@ -217,7 +217,7 @@ pub fn next_number(list: &[u8]) -> Option<(u64, Option<&[u8]>)>
 
 /// The byte after so many, and what follows it.
 #[inline(always)]
-pub fn byte_behind(count: usize, text: &[u8]) -> (u8, &[u8])
+pub fn byte_after(count: usize, text: &[u8]) -> (u8, &[u8])
     requires { count < length text.now }
     ensures { text.now ≡ take count text.now ++ result.0 ∷ result.1.now }
 {

@@ -1,12 +1,14 @@
 //! The lines of a pipe script.
 ghost use Rattle.std.specs.Option.{option_map};
 ghost use Rattle.std.specs.Prelude.{◌≡◌, ◌∷◌, ◌++◌, ℕ, List, None, Some, IfOk, MatchOption};
-ghost use Rattle.scripts.specs.Lines.{words_of, words_behind, LineAsks, NoLineAsks};
+ghost use Rattle.scripts.specs.Lines.{words_of, words_of_rest, LineAsks, NoLineAsks};
 ghost use Rattle.scripts.specs.PipeScript.{bytes_of, opened_of, mode_of, op_of, read_of, write_of};
 ghost use Rattle.scripts.specs.PipeLine.{opened_by, asked_by, op_word, op_end};
 
 use crate::digits::decode;
-use crate::lines::{LINE_FEED, SPACE, behind, bounded_number, next_line, next_word, number_before};
+use crate::lines::{
+    LINE_FEED, SPACE, after_word, bounded_number, next_line, next_word, number_before,
+};
 use crate::script::MAX_LINE;
 use std::alloc::AllocError;
 use sync_base::Mode;
@@ -39,14 +41,14 @@ pub fn opening_at(line: &[u8]) -> Option<Opening>
         return None;
     }
     let (limit, rest) = next_word(rest?);
-    let mode = mode_behind(rest)?;
+    let mode = mode_of_rest(rest)?;
     let limit = bounded_number(limit, 1, MAX_PIPE_LIMIT)?;
     Some(Opening { mode, limit })
 }
 
 /// The mode that what follows the limit asks for.
-fn mode_behind(rest: Option<&[u8]>) -> Option<Mode>
-    ensures { result ≡ mode_of (words_behind rest.entry) }
+fn mode_of_rest(rest: Option<&[u8]>) -> Option<Mode>
+    ensures { result ≡ mode_of (words_of_rest rest.entry) }
 {
     let Some(rest) = rest else {
         return Some(Mode::Message);
@@ -96,13 +98,13 @@ fn verb_at(text: &[u8]) -> Option<(OpVerb, &[u8])>
         ((verb : OpVerb) (rest : List ℕ) → text.now ≡ op_word verb ++ op_end verb ∷ rest → ⊥)
         (λ found. text.now ≡ op_word found.0 ++ op_end found.0 ∷ found.1.now) }
 {
-    if let Some(rest) = behind(b"read ", text) {
+    if let Some(rest) = after_word(b"read ", text) {
         return Some((OpVerb::Read, rest));
     }
-    if let Some(rest) = behind(b"write ", text) {
+    if let Some(rest) = after_word(b"write ", text) {
         return Some((OpVerb::Write, rest));
     }
-    if let Some(rest) = behind(b"hangup\n", text) {
+    if let Some(rest) = after_word(b"hangup\n", text) {
         return Some((OpVerb::Hangup, rest));
     }
     None
@@ -133,7 +135,7 @@ fn write_at<'a, 't>(
     if writer >= MAX_WRITERS {
         return Ok(None);
     }
-    if let Some(rest) = behind(b"-\n", rest) {
+    if let Some(rest) = after_word(b"-\n", rest) {
         let bytes = &room[..0];
         return Ok(Some((PipeOp::Write { writer, bytes }, rest)));
     }

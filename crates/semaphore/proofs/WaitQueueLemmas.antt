@@ -91,16 +91,16 @@ first_in next prev from [] end linked = grind (arith, nat_tests, linked.0)
 first_in next prev from (x ∷ xs) end linked = grind (arith, nat_tests, linked.0)
 
 -- and so it is after a seat of it
-behind_in : (next prev : List ℕ) (from : ℕ) (xs : List ℕ) (end seat : ℕ) →
+after_in : (next prev : List ℕ) (from : ℕ) (xs : List ℕ) (end seat : ℕ) →
     IsLinked next prev from xs end → stands_in xs seat ≡ true →
     stands_in (end ∷ xs) (slice_index next seat) ≡ true
-behind_in next prev from [] end seat linked is = cc
-behind_in next prev from (x ∷ xs) end seat linked is =
+after_in next prev from [] end seat linked is = cc
+after_in next prev from (x ∷ xs) end seat linked is =
     grind (
       arith,
       nat_tests,
       first_in next prev x xs end linked.1.1,
-      behind_in next prev x xs end seat linked.1.1,
+      after_in next prev x xs end seat linked.1.1,
     )
 
 -- before its end is its start or a seat of it
@@ -126,50 +126,50 @@ kept_linked next prev from (x ∷ xs) end i v j u start no_i no_j last linked = 
 )
 
 -- after a place the line goes on with what stood after a seat that is left out
-past_first : (next prev : List ℕ) (seats from seat : ℕ) (xs : List ℕ) (end before behind : ℕ) →
-    before ≡ from → behind ≡ slice_index next seat → from < length next → end < length prev →
+past_first : (next prev : List ℕ) (seats from seat : ℕ) (xs : List ℕ) (end before after : ℕ) →
+    before ≡ from → after ≡ slice_index next seat → from < length next → end < length prev →
     seats ≤ end → AreSeats seats xs → stands_in xs from ≡ false → IsLinked next prev seat xs end →
-    IsLinked (set next before behind) (set prev behind before) from xs end
-past_first next prev seats from seat [] end before behind is_before is_behind inside edge most are
+    IsLinked (set next before after) (set prev after before) from xs end
+past_first next prev seats from seat [] end before after is_before is_after inside edge most are
     no_from linked =
     (grind (arith, get_or-set_at, linked.0), grind (arith, get_or-set_at, linked.0))
-past_first next prev seats from seat (x ∷ xs) end before behind is_before is_behind inside edge most
+past_first next prev seats from seat (x ∷ xs) end before after is_before is_after inside edge most
     are no_from linked =
-    let is : behind ≡ x = is_behind ∙ linked.0 in (
+    let is : after ≡ x = is_after ∙ linked.0 in (
       grind (arith, get_or-set_at),
       (
         grind (arith, get_or-set_at, are.0),
-        kept_linked next prev x xs end before behind behind before (grind (arith, nat_tests))
+        kept_linked next prev x xs end before after after before (grind (arith, nat_tests))
             (grind (arith, nat_tests)) (grind (arith, are.1)) (grind (arith, are.0)) linked.1.1,
       ),
     )
 
 -- where the places before and after a seat are linked to each other, they link the line without it
-linked_without : (next prev : List ℕ) (seats from : ℕ) (xs : List ℕ) (end seat before behind : ℕ) →
-    before ≡ slice_index prev seat → behind ≡ slice_index next seat → from < length next →
+linked_without : (next prev : List ℕ) (seats from : ℕ) (xs : List ℕ) (end seat before after : ℕ) →
+    before ≡ slice_index prev seat → after ≡ slice_index next seat → from < length next →
     seats < length next → end < length prev → seats ≤ end → AreSeats seats xs →
     stands_in xs from ≡ false → IsLinked next prev from xs end → stands_in xs seat ≡ true →
-    IsLinked (set next before behind) (set prev behind before) from (without seat xs) end
-linked_without next prev seats from [] end seat before behind is_before is_behind inside many edge
+    IsLinked (set next before after) (set prev after before) from (without seat xs) end
+linked_without next prev seats from [] end seat before after is_before is_after inside many edge
     most are no_from linked is = cc
-linked_without next prev seats from (x ∷ xs) end seat before behind is_before is_behind inside many
+linked_without next prev seats from (x ∷ xs) end seat before after is_before is_after inside many
     edge most are no_from linked is =
     by (x == seat) refl
-    (linked_without next prev seats x xs end seat before behind is_before is_behind
+    (linked_without next prev seats x xs end seat before after is_before is_after
     (omega (arith, are.0)) many edge most are.2 are.1 linked.1.1)
   where
     by : (b : Bool) → (x == seat) ≡ b → (stands_in xs seat ≡ true →
-        IsLinked (set next before behind) (set prev behind before) x (without seat xs) end) →
-        IsLinked (set next before behind) (set prev behind before) from
+        IsLinked (set next before after) (set prev after before) x (without seat xs) end) →
+        IsLinked (set next before after) (set prev after before) from
         (if b then xs else x ∷ without seat xs) end
     by true same rest =
-        past_first next prev seats from x xs end before behind
+        past_first next prev seats from x xs end before after
         (grind (arith, nat_tests, linked.1.0)) (grind (arith, nat_tests)) inside edge most are.2
         (grind (arith, nat_tests)) linked.1.1
     by false other rest =
         let there : stands_in xs seat ≡ true = grind (arith, nat_tests) in
         let start = before_in next prev x xs end seat linked.1.1 there in
-        let behind_there = behind_in next prev x xs end seat linked.1.1 there in (
+        let after_there = after_in next prev x xs end seat linked.1.1 there in (
           grind (arith, nat_tests, get_or-set_other, linked.0),
           (grind (arith, nat_tests, get_or-set_other, linked.1.0, are.0, are.1), rest there),
         )
@@ -255,11 +255,11 @@ module _ (next prev : List ℕ) (stands : List Bool) (count : ℕ) (order : List
       grind (arith, ring.next_size, ring.prev_size, get_or_default_zero prev seat before)
 
   -- and so it is after one
-  pub behind_fits : (seat behind : ℕ) → seat < length stands → behind ≡ get_or next seat behind →
-      stands_in order seat ≡ true → behind < length prev
-  behind_fits seat behind within is there =
-      let fits = place_fits _ (behind_in next prev _ order _ seat ring.linked there) in
-      grind (arith, ring.next_size, ring.prev_size, get_or_default_zero next seat behind)
+  pub after_fits : (seat after : ℕ) → seat < length stands → after ≡ get_or next seat after →
+      stands_in order seat ≡ true → after < length prev
+  after_fits seat after within is there =
+      let fits = place_fits _ (after_in next prev _ order _ seat ring.linked there) in
+      grind (arith, ring.next_size, ring.prev_size, get_or_default_zero next seat after)
 
   -- the last in line, or the end itself where nobody stands, is a place of the ring
   pub last_fits : (end last : ℕ) → end ≡ length stands → last ≡ get_or prev end last → last <
@@ -318,15 +318,15 @@ module _ (next prev : List ℕ) (stands : List Bool) (count : ℕ) (order : List
 
   -- when a seat in line links those before and after it to each other, they are a ring of one seat
   -- less
-  pub ring_leave : (seat before behind : ℕ) → seat < length stands → before ≡
-      get_or prev seat before → behind ≡ get_or next seat behind → stands_in order seat ≡ true →
-      IsRing (set next before behind) (set prev behind before) (set stands seat false) (count - 1)
+  pub ring_leave : (seat before after : ℕ) → seat < length stands → before ≡
+      get_or prev seat before → after ≡ get_or next seat after → stands_in order seat ≡ true →
+      IsRing (set next before after) (set prev after before) (set stands seat false) (count - 1)
       (without seat order)
-  ring_leave seat before behind within before_told behind_told there =
+  ring_leave seat before after within before_told after_told there =
       let is_before : before ≡ slice_index prev seat = before_told ∙
       get_or_default_zero prev seat before (omega (arith, ring.prev_size)) in
-      let is_behind : behind ≡ slice_index next seat = behind_told ∙
-      get_or_default_zero next seat behind (omega (arith, ring.next_size)) in
+      let is_after : after ≡ slice_index next seat = after_told ∙
+      get_or_default_zero next seat after (omega (arith, ring.next_size)) in
       let fewer = one_fewer stands seat within (ring.told seat within ∙ there) in
       record {
         few = grind (arith, length-set, ring.few);
@@ -336,7 +336,7 @@ module _ (next prev : List ℕ) (stands : List Bool) (count : ℕ) (order : List
         counted = omega (arith, fewer, ring.counted);
         seats = rw length-set (seats_without (length stands) order seat ring.seats);
         linked = rw length-set (linked_without next prev (length stands) (length stands) order
-            (length stands) seat before behind is_before is_behind
+            (length stands) seat before after is_before is_after
             (omega (arith, ring.next_size)) (omega (arith, ring.next_size))
             (omega (arith, ring.prev_size)) (omega arith) ring.seats no_end ring.linked there);
         told = λ other inside. grind (

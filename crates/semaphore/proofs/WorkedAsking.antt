@@ -30,8 +30,8 @@ use Rattle.semaphore.specs.Seats.{IsSeatAt, rendez_at, rendez_of_seat, units_giv
 use Rattle.semaphore.specs.SemaHistory.{SemaEntry}
 use Rattle.semaphore.specs.SemaLaws.{AlwaysHolds}
 use Rattle.semaphore.specs.Units.{IsSound, is_idle, stage_of, answer_to}
-use Rattle.semaphore.specs.Timing.{AcquiresInTime}
-use Rattle.timer_list.specs.Timing.{TimedPoint, WaitedInTime}
+use Rattle.semaphore.specs.Timing.{TimedAcquire}
+use Rattle.timer_list.specs.Timing.{TimedPoint, TimedCall}
 use Rattle.semaphore.proofs.Broken.{entry}
 use Rattle.waiting.specs.declared.call.Reply.TheVariants as reply
 use Rattle.waiting.specs.Waiting.{Point, Waited}
@@ -317,21 +317,21 @@ the_answers_are = (refl, refl, refl, refl, refl, refl)
 -- ---- a tsemacquire
 
 module _ (sema : Sema) (watch : Timers) (moment : ℕ) (before after : TimedPoint SemaSeat) where
-  in_time_without_a_unit : units_given after.at.seat ≡ units_given before.at.seat
-      → ¬ AcquiresInTime sema watch moment before (Ok tt) after
-  in_time_without_a_unit none acquires =
+  timed_without_a_unit : units_given after.at.seat ≡ units_given before.at.seat
+      → ¬ TimedAcquire sema watch moment before (Ok tt) after
+  timed_without_a_unit none acquires =
       let units = acquires.units in omega (arith, none, units)
 
   timed_out_with_a_unit : units_given after.at.seat ≡ units_given before.at.seat + 1
-      → ¬ AcquiresInTime sema watch moment before (Err fault.TimedOut) after
+      → ¬ TimedAcquire sema watch moment before (Err fault.TimedOut) after
   timed_out_with_a_unit one acquires =
       let units = acquires.units in omega (arith, one, units)
 
-  in_time_without_a_wait : (answer : Result Unit Fault)
-      → ¬ WaitedInTime (acquiring sema) (rendez_at sema before.at.seat) watch moment before answer
+  timed_without_a_wait : (answer : Result Unit Fault)
+      → ¬ TimedCall (acquiring sema) (rendez_at sema before.at.seat) watch moment before answer
       after
-      → ¬ AcquiresInTime sema watch moment before answer after
-  in_time_without_a_wait answer none acquires = none acquires.takes
+      → ¬ TimedAcquire sema watch moment before answer after
+  timed_without_a_wait answer none acquires = none acquires.takes
 
 -- ---- a law of no state
 

@@ -37,7 +37,7 @@ use Rattle.semaphore.specs.Seats.{rendez_at}
 use Rattle.semaphore.specs.SemaHistory.{SemaEntry}
 use Rattle.timer_list.specs.Ticking.{Ticks}
 use Rattle.timer_list.specs.TimerHistory.{TimerEntry}
-use Rattle.timer_list.specs.Timing.{Awaiting, Keeps, Looks, PutsBackAny, TimedPoint, WaitsInTime}
+use Rattle.timer_list.specs.Timing.{Awaiting, Keeps, Looks, PutsBackAny, TimedPoint, TimedWait}
 use Rattle.timer_list.specs.Timing.{notes_of}
 use Rattle.semaphore.proofs.UnitLemmas.{own_more}
 use Rattle.waiting.specs.declared.wait.WaitEnd.{WaitEnd}
@@ -243,12 +243,12 @@ keeps_adds (Stopped why None) expired others answer before after kept =
 module _ (sema : Sema) (timers : Timers) (moment : ℕ) (before after : TimedPoint SemaSeat)
     (told : Result Unit Fault) (rest : IsSemaSeatOf sema before.at.seat)
     (free : IsTimerSeatOf timers before.timer) where
-  abbrev InTime : Type 0
-  InTime =
-      WaitsInTime (acquiring sema) (rendez_at sema before.at.seat) timers moment before told after
+  abbrev Timed : Type 0
+  Timed =
+      TimedWait (acquiring sema) (rendez_at sema before.at.seat) timers moment before told after
 
   -- such a call asks its timers twice: it sets its timer once, and cancels it once
-  asks_its_timers_twice : InTime
+  asks_its_timers_twice : Timed
       → timed after.timer ≡ timed before.timer + 2
   asks_its_timers_twice waits =
       let set = timed_more timers false true _ _ before.timer waits.set free waits.added in
@@ -258,16 +258,16 @@ module _ (sema : Sema) (timers : Timers) (moment : ℕ) (before after : TimedPoi
 
   -- a timer is set twice, so that the note of the other one may be left
   sets_two_timers : timed after.timer ≡ timed before.timer + 4
-      → ¬ InTime
+      → ¬ Timed
   sets_two_timers four waits =
       let two = asks_its_timers_twice waits in omega (arith, four, two)
 
   sets_no_timer : timed after.timer ≡ timed before.timer
-      → ¬ InTime
+      → ¬ Timed
   sets_no_timer none waits = let two = asks_its_timers_twice waits in omega (arith, none, two)
 
-  module _ (waits : InTime)
-      (in_time : waits.ended.expired ≡ false) where
+  module _ (waits : Timed)
+      (not_expired : waits.ended.expired ≡ false) where
     -- without a tick: so many sleeps, with a request after each, and one before
     record HasSlept : Type 0 where
       times : ℕ
@@ -292,7 +292,7 @@ module _ (sema : Sema) (timers : Timers) (moment : ℕ) (before after : TimedPoi
         let begins : Awaiting =
         record { process = waits.process; notes = notes_of waits.ending } in
         let rendez = rendez_at sema before.at.seat in
-        let looks = rw in_time at waits.ended.awaits.looks in
+        let looks = rw not_expired at waits.ended.awaits.looks in
         let none = not_looked rendez waits.ended.awaits.times begins waits.ended.awaited looks in
         let none_lies = ap (λ a. lay_down a.process) none in
         let none_drains = ap (λ a. drained a.process) none in

@@ -6,7 +6,7 @@ use Rattle.semaphore.specs.declared.sema.SemaSeat.{SemaSeat}
 use Rattle.semaphore.specs.Acquiring.{acquiring}
 use Rattle.semaphore.specs.Seats.{rendez_at, units_given}
 use Rattle.timer_list.specs.declared.timers.Timers.{Timers}
-use Rattle.timer_list.specs.Timing.{TimedPoint, WaitedInTime}
+use Rattle.timer_list.specs.Timing.{TimedPoint, TimedCall}
 
 -- one unit where it was acquired, else none
 abbrev pub timed_units_of : Result Unit Fault → ℕ
@@ -15,9 +15,9 @@ timed_units_of (Err why) = 0
 
 -- a tsemacquire until this moment: an answer Ok is just one unit that was given, and any other is
 -- none
-pub record AcquiresInTime (sema : Sema) (timers : Timers) (moment : ℕ)
+pub record TimedAcquire (sema : Sema) (timers : Timers) (moment : ℕ)
     (before : TimedPoint SemaSeat) (answer : Result Unit Fault) (after : TimedPoint SemaSeat)
     : Type 0 where
   pub units : units_given after.at.seat ≡ units_given before.at.seat + timed_units_of answer
-  pub takes : WaitedInTime (acquiring sema) (rendez_at sema before.at.seat) timers moment
+  pub takes : TimedCall (acquiring sema) (rendez_at sema before.at.seat) timers moment
       before answer after

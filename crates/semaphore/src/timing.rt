@@ -2,7 +2,7 @@
 ghost use Rattle.std.specs.Prelude.{◌≡◌};
 ghost use Rattle.kernel_lock.specs.Seats.{number_of};
 ghost use Rattle.semaphore.specs.Seats.{OwnsRow, IsSemaSeatOf};
-ghost use Rattle.semaphore.specs.Timing.{AcquiresInTime};
+ghost use Rattle.semaphore.specs.Timing.{TimedAcquire};
 ghost use Rattle.timer_list.specs.Seats.{IsTimerSeatOf};
 ghost use Rattle.timer_list.specs.Timers.{deadline_of};
 ghost use Rattle.waiting.specs.Runners.{run_point};
@@ -44,7 +44,7 @@ impl Sema {
         // When it returns, its timer is cancelled.
         ensures timer { IsTimerSeatOf timers.now timer.new }
         ensures timer_number { number_of timer.new.seat ≡ number_of timer.old.seat }
-        ensures called { AcquiresInTime self.now timers.now (deadline_of now ms)
+        ensures called { TimedAcquire self.now timers.now (deadline_of now ms)
             (run_point seat.old timer.old proc.old) result
             (run_point seat.new timer.new proc.new) }
     {
@@ -73,7 +73,7 @@ impl Sema {
         // When it returns, its timer is cancelled.
         ensures timer { IsTimerSeatOf timers.now timer.new }
         ensures timer_number { number_of timer.new.seat ≡ number_of timer.old.seat }
-        ensures called { AcquiresInTime self.now timers.now (deadline_of now ms)
+        ensures called { TimedAcquire self.now timers.now (deadline_of now ms)
             (run_point seat.old timer.old proc.old) result
             (run_point seat.new timer.new proc.new) }
     {

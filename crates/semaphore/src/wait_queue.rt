@@ -131,9 +131,9 @@ impl WaitQueue {
         ensures { self.new ≡ record self.old { order = without seat self.old.order } }
     {
         let before = self.prev[seat];
-        let behind = self.next[seat];
-        self.next[before] = behind;
-        self.prev[behind] = before;
+        let after = self.next[seat];
+        self.next[before] = after;
+        self.prev[after] = before;
         self.stands[seat] = false;
         self.count -= 1;
     }

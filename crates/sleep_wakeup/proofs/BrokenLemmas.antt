@@ -33,11 +33,11 @@ second_of other (entry ∷ next ∷ []) = entry
 second_of other (entry ∷ next ∷ third ∷ past) = second_of other (next ∷ third ∷ past)
 
 -- what stands after the first two steps of a run
-abbrev pub behind_two : List Entry → List Entry
-behind_two [] = []
-behind_two (entry ∷ []) = []
-behind_two (entry ∷ next ∷ []) = []
-behind_two (entry ∷ next ∷ third ∷ past) = entry ∷ behind_two (next ∷ third ∷ past)
+abbrev pub after_two : List Entry → List Entry
+after_two [] = []
+after_two (entry ∷ []) = []
+after_two (entry ∷ next ∷ []) = []
+after_two (entry ∷ next ∷ third ∷ past) = entry ∷ after_two (next ∷ third ∷ past)
 
 -- what they are of steps that begin with two
 first_is : (other : Entry) (more : List Entry) (second first : Entry)
@@ -54,13 +54,13 @@ second_is other (entry ∷ next ∷ []) second first = refl
 second_is other (entry ∷ next ∷ third ∷ past) second first =
     second_is other (next ∷ third ∷ past) second first
 
-behind_is : (more : List Entry) (second first : Entry)
-    → behind_two (more ++ second ∷ first ∷ []) ≡ more
-behind_is [] second first = refl
-behind_is (entry ∷ []) second first = refl
-behind_is (entry ∷ next ∷ []) second first = refl
-behind_is (entry ∷ next ∷ third ∷ past) second first =
-    ap (λ steps. entry ∷ steps) (behind_is (next ∷ third ∷ past) second first)
+after_two_is : (more : List Entry) (second first : Entry)
+    → after_two (more ++ second ∷ first ∷ []) ≡ more
+after_two_is [] second first = refl
+after_two_is (entry ∷ []) second first = refl
+after_two_is (entry ∷ next ∷ []) second first = refl
+after_two_is (entry ∷ next ∷ third ∷ past) second first =
+    ap (λ steps. entry ∷ steps) (after_two_is (next ∷ third ∷ past) second first)
 
 -- a step that stands in none of the runs
 abbrev no_step : Entry
@@ -88,10 +88,10 @@ pub record AreOfSleep (notes : NoteSet) (steps : List Entry) : Type 0 where
   -- the second step is the test
   pub second : second_of no_step (before_last steps) ≡ step (Test (process 0)) tested
   -- all steps between the test and the clear are of a wait
-  pub of_wait : AllByRecursion (λ entry. IsOfWait entry.event) (behind_two (before_last steps))
+  pub of_wait : AllByRecursion (λ entry. IsOfWait entry.event) (after_two (before_last steps))
   -- a sleep that ended without notes found its condition true, or was woken
   pub cause : notes ≡ no_notes
-      → (tested ≡ answer.Leaving) ⊎ HasWoken (behind_two (before_last steps))
+      → (tested ≡ answer.Leaving) ⊎ HasWoken (after_two (before_last steps))
 
 -- the steps of a sleep in Rendez 0 with the threshold 0 are a post, a test, a wait and a clear
 pub of_sleep : (table : TableId) (notes : NoteSet) (steps : List Entry)
@@ -109,9 +109,9 @@ of_sleep table notes steps sleeps =
       first = first_is no_step waiting test posted;
       second = second_is no_step waiting test posted;
       of_wait = subst (AllByRecursion (λ entry. IsOfWait entry.event))
-          (sym (behind_is waiting test posted)) sleeps.leaves.of_wait;
+          (sym (after_two_is waiting test posted)) sleeps.leaves.of_wait;
       cause = λ none. subst (λ more. (sleeps.tested ≡ answer.Leaving) ⊎ HasWoken more)
-          (sym (behind_is waiting test posted)) (sleeps.cause none);
+          (sym (after_two_is waiting test posted)) (sleeps.cause none);
     }
 
 -- where an event posts, and whether an answer tells of an alarm

@@ -40,9 +40,9 @@ no_member_first start number own numbers other =
 holds_first : (pid member : ℕ) (group : List ℕ) → member ≡ pid → holds pid (member ∷ group) ≡ true
 holds_first pid member group same = ap (λ is. is || holds pid group) (is_true member pid same)
 
-holds_behind : (pid member : ℕ) (group : List ℕ) → member ≢ pid
+holds_after : (pid member : ℕ) (group : List ℕ) → member ≢ pid
     → holds pid (member ∷ group) ≡ holds pid group
-holds_behind pid member group other =
+holds_after pid member group other =
     ap (λ is. is || holds pid group) (is_false member pid other)
 
 without_first : (pid member : ℕ) (group : List ℕ) → member ≡ pid
@@ -51,9 +51,9 @@ without_first pid member group same =
     ap (λ is. if is then without pid group else member ∷ without pid group)
     (is_true member pid same)
 
-without_behind : (pid member : ℕ) (group : List ℕ) → member ≢ pid
+without_after : (pid member : ℕ) (group : List ℕ) → member ≢ pid
     → without pid (member ∷ group) ≡ member ∷ without pid group
-without_behind pid member group other =
+without_after pid member group other =
     ap (λ is. if is then without pid group else member ∷ without pid group)
     (is_false member pid other)
 
@@ -68,7 +68,7 @@ not_below start number pid (own ∷ numbers) below =
         → holds pid (members_from (start + 1) number numbers) ≡ false
         → holds pid (members_from start number (own ∷ numbers)) ≡ false
     by (inl same) rest = ap (holds pid) (member_first start number own numbers same)
-        ∙ holds_behind pid start _ (λ is. absurd (omega (arith, is, below))) ∙ rest
+        ∙ holds_after pid start _ (λ is. absurd (omega (arith, is, below))) ∙ rest
     by (inr other) rest = ap (holds pid) (no_member_first start number own numbers other) ∙ rest
 
 -- and taking it out changes nothing
@@ -86,7 +86,7 @@ not_taken_out start number pid (own ∷ numbers) below =
     by (inl same) rest =
         let is = member_first start number own numbers same in
         ap (without pid) is
-        ∙ without_behind pid start _ (λ at. absurd (omega (arith, at, below)))
+        ∙ without_after pid start _ (λ at. absurd (omega (arith, at, below)))
         ∙ ap (λ group. start ∷ group) rest ∙ sym is
     by (inr other) rest =
         let is = no_member_first start number own numbers other in
@@ -115,7 +115,7 @@ held start number (suc place) pid (own ∷ numbers) at some =
         → holds pid (members_from start number (own ∷ numbers))
         ≡ (get_or numbers place 0 == number)
     by (inl same) rest = ap (holds pid) (member_first start number own numbers same)
-        ∙ holds_behind pid start _ (λ is. absurd (omega (arith, is, at))) ∙ rest
+        ∙ holds_after pid start _ (λ is. absurd (omega (arith, is, at))) ∙ rest
     by (inr other) rest = ap (holds pid) (no_member_first start number own numbers other) ∙ rest
 
 -- no pid has the number
@@ -185,7 +185,7 @@ joined start number zero pid (own ∷ numbers) at some within none =
 joined start number (suc place) pid (own ∷ numbers) at some within none =
     by (same_or_not own number)
     (joined (start + 1) number place pid numbers (omega (arith, at)) some
-    (omega (arith, within)) (λ later behind. none (suc later) (omega (arith, behind))))
+    (omega (arith, within)) (λ later after. none (suc later) (omega (arith, after))))
   where
     by : (own ≡ number) ⊎ (own ≢ number)
         → members_from (start + 1) number (set numbers place number)
@@ -229,7 +229,7 @@ parted start number (suc place) new pid (own ∷ numbers) at within apart =
     by (inl same) rest = member_first start number own (set numbers place new) same
         ∙ ap (λ group. start ∷ group) rest
         ∙ sym (ap (without pid) (member_first start number own numbers same)
-        ∙ without_behind pid start _ (λ is. absurd (omega (arith, is, at))))
+        ∙ without_after pid start _ (λ is. absurd (omega (arith, is, at))))
     by (inr other) rest = no_member_first start number own (set numbers place new) other
         ∙ rest ∙ sym (ap (without pid) (no_member_first start number own numbers other))
 

@@ -242,9 +242,9 @@ left_numbers numbers count given pid are there many =
 nothing : (n : ℕ) → 0 + n ≡ n
 nothing n = omega arith
 
-times_behind : (pid member : ℕ) (group : List ℕ) → member ≢ pid
+times_after : (pid member : ℕ) (group : List ℕ) → member ≢ pid
     → times_in pid (member ∷ group) ≡ times_in pid group
-times_behind pid member group other =
+times_after pid member group other =
     ap (λ is. (if is then 1 else 0) + times_in pid group) (is_false member pid other) ∙ nothing _
 
 never_below : (start number pid : ℕ) (numbers : List ℕ) → pid < start
@@ -257,7 +257,7 @@ never_below start number pid (own ∷ numbers) below =
         → times_in pid (members_from (start + 1) number numbers) ≡ 0
         → times_in pid (members_from start number (own ∷ numbers)) ≡ 0
     by (inl same) rest = ap (times_in pid) (member_first start number own numbers same)
-        ∙ times_behind pid start _ (λ is. absurd (omega (arith, is, below))) ∙ rest
+        ∙ times_after pid start _ (λ is. absurd (omega (arith, is, below))) ∙ rest
     by (inr other) rest = ap (times_in pid) (no_member_first start number own numbers other) ∙ rest
 
 times_there : (start number place pid : ℕ) (numbers : List ℕ) → pid ≡ start + place → 1 ≤ number
@@ -290,7 +290,7 @@ times_there start number (suc place) pid (own ∷ numbers) at some =
         → times_in pid (members_from start number (own ∷ numbers))
         ≡ (if get_or numbers place 0 == number then 1 else 0)
     by (inl same) rest = ap (times_in pid) (member_first start number own numbers same)
-        ∙ times_behind pid start _ (λ is. absurd (omega (arith, is, at))) ∙ rest
+        ∙ times_after pid start _ (λ is. absurd (omega (arith, is, at))) ∙ rest
     by (inr other) rest = ap (times_in pid) (no_member_first start number own numbers other) ∙ rest
 
 -- a pid that has no number stands in no group, and another once

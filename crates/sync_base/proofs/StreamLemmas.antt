@@ -12,7 +12,7 @@ use Rattle.sync_base.specs.Write.{Write}
 use Rattle.sync_base.specs.Pipe.{PipeState, Reach, reach_of, and_one, stops_at, joined, by_mode}
 use Rattle.sync_base.specs.Pipe.{after_read, after_message, after_stream, after_reach, unread_bytes}
 use Rattle.sync_base.specs.Pipe.{unread_writes}
-use Rattle.sync_base.specs.PlainPipe.{Contents, Shows, kept_bytes, kept_behind, first_bytes}
+use Rattle.sync_base.specs.PlainPipe.{Contents, Shows, kept_bytes, kept_after, first_bytes}
 
 -- no bytes have no front
 pub take_none : (n : ℕ) (bytes : List ℕ) → bytes ≡ [] → take n bytes ≡ []
@@ -59,19 +59,19 @@ pub joins_more : (room room' whole part : List ℕ) (writes : List Write) (at of
     → room' ++ take (left - length part) (joined (drop (at + 1) writes)) ≡ whole
 joins_more room room' whole part writes at offset left write within is begun part_is more so_far =
     let rest = drop offset write.bytes in
-    let behind = joined (drop (at + 1) writes) in
-    let bytes : drop offset (joined (drop at writes)) ≡ rest ++ behind =
+    let following = joined (drop (at + 1) writes) in
+    let bytes : drop offset (joined (drop at writes)) ≡ rest ++ following =
     ap (drop offset) (joined_here writes at write within is)
-    ∙ drop-append-le offset write.bytes behind begun in
+    ∙ drop-append-le offset write.bytes following begun in
     let size : length part ≡ min left (length rest) =
     ap length part_is ∙ length-take left rest in
     let same : left - length part ≡ left - length rest = omega (arith, size) in
-    ap (λ l. l ++ take (left - length part) behind) more
+    ap (λ l. l ++ take (left - length part) following) more
     ∙ (append_assoc room part _
     ∙ (ap (λ l. room ++ l)
-    (ap (λ l. l ++ take (left - length part) behind) part_is
-    ∙ (ap (λ k. take left rest ++ take k behind) same
-    ∙ (sym (take_split left rest behind) ∙ ap (take left) (sym bytes))))
+    (ap (λ l. l ++ take (left - length part) following) part_is
+    ∙ (ap (λ k. take left rest ++ take k following) same
+    ∙ (sym (take_split left rest following) ∙ ap (take left) (sym bytes))))
     ∙ so_far))
 
 -- and no write is left
@@ -129,37 +129,37 @@ reach_on most offset write writes some used_up = grind (arith, nat_tests)
 
 -- what is kept after a read that has no room
 pub keeps_all : (kept : Contents) (most : ℕ) → most ≡ 0
-    → kept_behind kept (reach_of most kept.offset kept.unread) ≡ kept
+    → kept_after kept (reach_of most kept.offset kept.unread) ≡ kept
 keeps_all kept most none =
-    ap (λ m. kept_behind kept (reach_of m kept.offset kept.unread)) none
-    ∙ ap (kept_behind kept) (reach_full kept.offset kept.unread)
+    ap (λ m. kept_after kept (reach_of m kept.offset kept.unread)) none
+    ∙ ap (kept_after kept) (reach_full kept.offset kept.unread)
 
 -- after a read that finds no write
 pub keeps_none : (kept : Contents) (most : ℕ) → length kept.unread ≡ 0
-    → kept_behind kept (reach_of most kept.offset kept.unread) ≡ kept
+    → kept_after kept (reach_of most kept.offset kept.unread) ≡ kept
 keeps_none kept most none =
-    ap (λ writes. kept_behind kept (reach_of most kept.offset writes)) (nil_from_length _ none)
+    ap (λ writes. kept_after kept (reach_of most kept.offset writes)) (nil_from_length _ none)
 
 -- after a read that ends in the first write
 pub keeps_first : (kept : Contents) (most : ℕ) (first : Write) → 0 < most → 0 < length kept.unread
     → first ≡ get_or kept.unread 0 first → most < length first.bytes - kept.offset
-    → kept_behind kept (reach_of most kept.offset kept.unread)
+    → kept_after kept (reach_of most kept.offset kept.unread)
     ≡ record kept { offset = kept.offset + most }
 keeps_first kept most first room some is more =
-    ap (kept_behind kept)
+    ap (kept_after kept)
     (reach_first most kept.offset kept.unread first some is
     ∙ reach_in most kept.offset first (drop 1 kept.unread) room more)
 
 -- after a read that goes on after the first write
-pub keeps_behind : (kept : Contents) (most : ℕ) (first : Write) → 0 < most → 0 < length kept.unread
+pub keeps_after : (kept : Contents) (most : ℕ) (first : Write) → 0 < most → 0 < length kept.unread
     → first ≡ get_or kept.unread 0 first → length first.bytes - kept.offset ≤ most
-    → kept_behind kept (reach_of most kept.offset kept.unread)
-    ≡ kept_behind (record kept { unread = drop 1 kept.unread; offset = 0 })
+    → kept_after kept (reach_of most kept.offset kept.unread)
+    ≡ kept_after (record kept { unread = drop 1 kept.unread; offset = 0 })
     (reach_of (most - (length first.bytes - kept.offset)) 0 (drop 1 kept.unread))
-keeps_behind kept most first room some is used_up =
+keeps_after kept most first room some is used_up =
     let further = reach_of (most - (length first.bytes - kept.offset)) 0 (drop 1 kept.unread) in
     let one_more : 1 + further.whole ≡ further.whole + 1 = omega arith in
-    ap (kept_behind kept)
+    ap (kept_after kept)
     (reach_first most kept.offset kept.unread first some is
     ∙ reach_on most kept.offset first (drop 1 kept.unread) room used_up)
     ∙ ap (λ writes. record kept { unread = writes; offset = further.offset })
@@ -286,22 +286,22 @@ reach_loses_nothing most offset (write ∷ writes) begun =
     (sym (drop_one_more further.whole write writes))
     ∙ (reach_loses_nothing (most - (length write.bytes - offset)) 0 writes
     (λ some. omega arith)
-    ∙ (behind write writes (most - (length write.bytes - offset))
+    ∙ (following write writes (most - (length write.bytes - offset))
     ∙ (ap (λ k. drop k (joined (write ∷ writes))) past
     ∙ sym (drop-drop most offset (joined (write ∷ writes)))))))
   where
     -- the bytes after the first write and so many more
-    behind : (write : Write) (writes : List Write) (k : ℕ)
+    following : (write : Write) (writes : List Write) (k : ℕ)
         → drop k (joined writes) ≡ drop (length write.bytes + k) (joined (write ∷ writes))
-    behind write writes k =
+    following write writes k =
         ap (drop k) (sym (drop_at write.bytes (joined writes) (length write.bytes) refl))
         ∙ drop-drop k (length write.bytes) (joined (write ∷ writes))
 
 -- the pipe keeps what a read in stream mode leaves
-pub shows_behind : (kept : Contents) (s : PipeState) (most : ℕ) → Shows kept s
+pub shows_after : (kept : Contents) (s : PipeState) (most : ℕ) → Shows kept s
     → kept.mode ≡ Stream
-    → Shows (kept_behind kept (reach_of most kept.offset kept.unread)) (after_read most s)
-shows_behind kept s most shows stream =
+    → Shows (kept_after kept (reach_of most kept.offset kept.unread)) (after_read most s)
+shows_after kept s most shows stream =
     let reach = reach_of most kept.offset kept.unread in
     let same : reach ≡ reach_of most s.offset (unread_writes s) =
     ap (λ k. reach_of most k kept.unread) shows.offset
@@ -314,7 +314,7 @@ shows_behind kept s most shows stream =
     let left : length kept.unread ≡ length s.accepted - s.read_whole =
     rw shows.unread (length-drop s.read_whole s.accepted) in
     let position = shows.position in
-    subst (Shows (kept_behind kept reach)) (sym after)
+    subst (Shows (kept_after kept reach)) (sym after)
     (record {
       limit = shows.limit;
       mode = shows.mode;

@@ -21,8 +21,8 @@ a_full_direction_takes_no_write : ¬ MayAnswerWrite full Taken
 a_full_direction_takes_no_write may = omega (arith, may.1)
 
 -- there is room, but it was hung up
-no_write_is_taken_behind_a_hangup : ¬ MayAnswerWrite (record full { limit = 2; hung = true }) Taken
-no_write_is_taken_behind_a_hangup may = absurd (true≢false may.0)
+no_write_is_taken_after_a_hangup : ¬ MayAnswerWrite (record full { limit = 2; hung = true }) Taken
+no_write_is_taken_after_a_hangup may = absurd (true≢false may.0)
 
 nothing_is_not_got : ¬ IsGot Empty
 nothing_is_not_got it = it

@@ -173,7 +173,7 @@ after_message most s = unwrap_or (option_map (after_piece most s) (next_write s)
 -- How far a read that goes on comes.
 pub record Reach : Type 0 where
   pub whole : ℕ  -- how many writes more are read whole
-  pub offset : ℕ  -- how many bytes of the one behind them are read
+  pub offset : ℕ  -- how many bytes of the one after them are read
 
 -- it stops in the write that is next
 abbrev pub stops_at : ℕ → Reach

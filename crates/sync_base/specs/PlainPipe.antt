@@ -37,8 +37,8 @@ abbrev pub kept_bytes : Contents → List ℕ
 kept_bytes kept = drop kept.offset (joined kept.unread)
 
 -- what is kept after a read that goes on and comes so far
-abbrev pub kept_behind : Contents → Reach → Contents
-kept_behind kept reach =
+abbrev pub kept_after : Contents → Reach → Contents
+kept_after kept reach =
     record kept { unread = drop reach.whole kept.unread; offset = reach.offset }
 
 -- how many of them no read has begun

@@ -8,7 +8,7 @@ ghost use Rattle.sync_base.specs.Pipe.{write_answer, after_write, read_answer, a
 ghost use Rattle.sync_base.specs.Pipe.{after_hangup, IsGot, message_answer, after_message};
 ghost use Rattle.sync_base.specs.Pipe.{bytes_read, nothing_read, reach_of};
 ghost use Rattle.sync_base.specs.PlainPipe.{Shows, IsBadLimit, kept_waiting, kept_bytes};
-ghost use Rattle.sync_base.specs.PlainPipe.{kept_behind, first_bytes, lent_answer};
+ghost use Rattle.sync_base.specs.PlainPipe.{kept_after, first_bytes, lent_answer};
 ghost use Rattle.sync_base.specs.declared.mode.Mode.TheVariants.{Message, Stream};
 ghost use Rattle.sync_base.specs.declared.limits.TheConstants.{ATOMIC_SIZE};
 
@@ -297,7 +297,7 @@ impl PlainPipe {
 
     /// Moves the position after the next bytes, of however many writes.
     fn pass_bytes(&mut self, most: u64)
-        ensures { self.new ≡ kept_behind self.old (reach_of most self.old.offset self.old.unread) }
+        ensures { self.new ≡ kept_after self.old (reach_of most self.old.offset self.old.unread) }
     {
         let mut left = most;
         'passing: while left > 0 {
@@ -361,7 +361,7 @@ fn front_of(bytes: &[u8], most: u64) -> &[u8]
 
 /// Puts bytes after these. No bytes ask for no memory.
 fn append(room: &mut Vec<u8>, bytes: &[u8]) -> Result<(), AllocError>
-    ensures behind { OnOk result (room.new.items ≡ room.old.items ++ bytes.now) }
+    ensures appended { OnOk result (room.new.items ≡ room.old.items ++ bytes.now) }
     ensures some { IsErr result → bytes.now ≢ [] }
 {
     if bytes.is_empty() {

@@ -27,15 +27,15 @@ apart_in first second number other different has too =
     each n [] all = tt
     each n (share ∷ shares) all = (all.0, each n shares all.1)
 
-    behind : (n : ℕ) (shares : List (Share Entry))
+    after : (n : ℕ) (shares : List (Share Entry))
         → AllByRecursion (λ m. n ≢ m) (numbers_in (shares ++ second)) → n ≢ other
-    behind n [] all = number_has (λ m. n ≢ m) other second (each n second all) too
-    behind n (share ∷ shares) all = behind n shares all.1
+    after n [] all = number_has (λ m. n ≢ m) other second (each n second all) too
+    after n (share ∷ shares) all = after n shares all.1
 
     others : (shares : List (Share Entry)) → AreDifferent (numbers_in (shares ++ second))
         → AllByRecursion (λ (share : Share Entry). share.number ≢ other) shares
     others [] all = tt
-    others (share ∷ shares) all = (behind share.number shares all.0, others shares all.1)
+    others (share ∷ shares) all = (after share.number shares all.0, others shares all.1)
 
 module _ (space : TagSpace) (member joined : Member) (is : IsMemberOf space member)
     (one : IsOneOf space joined) (past : IsPast (seen_of member) (seen_of joined))

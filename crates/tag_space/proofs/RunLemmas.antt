@@ -117,7 +117,7 @@ module _ (slots moved : List TagEntry) (first count at n : ℕ) (within : first 
       take_out (first + 1) (omega arith) in_range
       (λ k d less. copied (first + 1 + k) d (omega arith) (omega arith)
       ∙ same_at slots _ _ d (omega arith))
-      (λ k d behind below. same (first + 1 + k) d (omega arith)
+      (λ k d following below. same (first + 1 + k) d (omega arith)
       ∙ same_at slots _ _ d (omega arith))
 
   -- an entry is taken out, and those after it moved down
@@ -126,5 +126,5 @@ module _ (slots moved : List TagEntry) (first count at n : ℕ) (within : first 
       run moved first (count - 1) ≡ remove (run slots first count) at
   take_down in_range many copied same =
       take_out first (omega arith) in_range (λ k d less. same (first + k) d (omega arith))
-      (λ k d behind below. copied (first + k) d (omega arith) (omega arith)
+      (λ k d following below. copied (first + k) d (omega arith) (omega arith)
       ∙ same_at slots _ _ d (omega arith))

@@ -19,7 +19,7 @@ module _ (table : List TagEntry) (rising : IsRising table) where
       smaller_before = λ j below.
           let up_to = rises_weakly j (from + gone - 1) in
           grind (arith, before.in_range, before.smaller_before j, last, up_to);
-      none_after = λ j behind in_range.
+      none_after = λ j after in_range.
           let from_next = rises_weakly (from + gone + quarter - 1) j in
           grind (arith, before.in_range, before.none_after j, next, from_next);
     }

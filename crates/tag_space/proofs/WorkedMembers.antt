@@ -70,15 +70,15 @@ module _ (before after second joined : Member) where
   the_joined_knows_what_either_knew joins = joins.seats.given
 
 module _ (member joined : Member) where
-  not_behind : (since : List Entry) (entry : Entry) → [] ≡ since ++ entry ∷ [] → ⊥
-  not_behind [] entry is = cc
-  not_behind (newer ∷ since) entry is = cc
+  not_after : (since : List Entry) (entry : Entry) → [] ≡ since ++ entry ∷ [] → ⊥
+  not_after [] entry is = cc
+  not_after (newer ∷ since) entry is = cc
 
   -- what was seen is forgotten
   what_it_saw_is_forgotten : (entry : Entry) → seen_of member ≡ entry ∷ [] → seen_of joined ≡ []
       → IsKeptIn joined member → ⊥
   what_it_saw_is_forgotten entry saw now kept =
-      not_behind kept.past.since entry
+      not_after kept.past.since entry
       (sym now ∙ kept.past.new_is ∙ ap (λ (h : List Entry). kept.past.since ++ h) saw)
 
   -- or a call is added that was not made

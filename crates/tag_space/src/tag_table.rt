@@ -59,9 +59,9 @@ impl TagTable {
         ensures entries { entries_of self.new ≡ insert (entries_of self.old) at entry }
         ensures room { room_of self.new ≡ room_of self.old }
     {
-        let has_room_behind = self.first + self.count < self.slots.len();
+        let has_room_after = self.first + self.count < self.slots.len();
         let is_in_front = at < self.count - at;
-        if has_room_behind && (!is_in_front || self.first == 0) {
+        if has_room_after && (!is_in_front || self.first == 0) {
             self.insert_upward(at, entry);
         } else {
             self.insert_downward(at, entry);

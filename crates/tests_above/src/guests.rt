@@ -21,7 +21,7 @@ const TAGS: u64 = 4;
 /// How many meetings there are, at least.
 const MEETINGS: u64 = 2_000;
 
-/// The number of the last call of each, which has no deadline and is behind all others.
+/// The number of the last call of each, which has no deadline and is after all others.
 const LAST: u64 = 1 << 38;
 
 /// How many moments a call with a deadline waits.

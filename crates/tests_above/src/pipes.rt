@@ -244,7 +244,7 @@ fn writes<R: Wait>(
     tally
 }
 
-// Posts notes to all others, the reader with the pid 1 and the writers behind it, until the reader
+// Posts notes to all others, the reader with the pid 1 and the writers after it, until the reader
 // has ended.
 fn posts<R: Wait>(rt: &R, board: &Board, proc: &mut Proc<'_>, plan: Plan) -> Tally {
     let mut tally = Tally::new();

@@ -76,7 +76,7 @@ fn put_both<R: Wait + Abort>(
     is_taken(&first) && comes_back(&second)
 }
 
-// The block is taken out, and behind a hangup there is the end.
+// The block is taken out, and after a hangup there is the end.
 fn take_one<R: Wait>(rt: &R, lock: &Locked<QueueObject>, seat: &mut LockSeat<QueueObject>) -> bool
     requires { IsSeatOf lock.now seat.old }
     ensures { IsSeatOf lock.now seat.new }

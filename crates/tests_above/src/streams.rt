@@ -51,7 +51,7 @@ fn read_to_the_end<R: Wait + Abort>(rt: &R, alloc: Global, from: &mut ReadStream
 }
 
 // After a hangup nothing is taken any more, as by a pipe whose reader is gone.
-fn write_behind_the_hangup<R: Wait + Abort>(rt: &R, to: &mut WriteStream<'_, '_, '_, R>) {
+fn write_after_the_hangup<R: Wait + Abort>(rt: &R, to: &mut WriteStream<'_, '_, '_, R>) {
     assert_eq!(rt; kind_of(to.write_all(b"abc")), Some(ErrorKind::BrokenPipe));
     assert_eq!(rt; to.fault, Some(Fault::Hungup));
 }
@@ -126,7 +126,7 @@ fn play_streams<'p, 'k, R: Wait + Abort>(
     end_a_read_by_a_note(rt, &mut from, &mut to);
     write_all_of_it(rt, alloc, &mut to);
     read_to_the_end(rt, alloc, &mut from);
-    write_behind_the_hangup(rt, &mut to);
+    write_after_the_hangup(rt, &mut to);
 }
 
 #[test]

@@ -54,7 +54,7 @@ fn a_note_ends_a_ticker(rt: HostRuntime) {
 }
 
 #[test]
-fn a_beat_comes_behind_a_millisecond(rt: HostRuntime) {
+fn a_beat_comes_after_a_millisecond(rt: HostRuntime) {
     let mut beat = Beat::new(&rt);
     assert!(rt; beat.next() >= 1);
     assert!(rt; beat.next() >= 2);

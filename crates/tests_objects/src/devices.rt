@@ -232,7 +232,7 @@ fn nothing_to_write_needs_no_writer(rt: HostRuntime) {
     }
 }
 
-// Fails each flush in turn, of so many pieces: its piece was written whole, and nothing behind it
+// Fails each flush in turn, of so many pieces: its piece was written whole, and nothing after it
 // is; of what is taken byte by byte the same is written.
 fn fail_each_flush(rt: &impl Abort, alloc: Global, text: &[u8], answers: &[u8], pieces: usize) {
     for flush in 1..=pieces {
@@ -254,7 +254,7 @@ fn fail_each_flush(rt: &impl Abort, alloc: Global, text: &[u8], answers: &[u8], 
     }
 }
 
-// Parts behind one another, so many times.
+// Parts after one another, so many times.
 fn push(rt: &impl Abort, all: &mut Vec<u8>, parts: &[&[u8]], times: usize) {
     for _ in 0..times {
         for part in parts {

@@ -68,7 +68,7 @@ const ACCEPTANCE: &[Case] = &[
 ];
 
 #[test]
-fn a_hangup_comes_before_or_behind_the_acceptance(rt: HostRuntime) {
+fn a_hangup_comes_before_or_after_the_acceptance(rt: HostRuntime) {
     play(&rt, rt.alloc(), ACCEPTANCE);
 }
 
@@ -156,7 +156,7 @@ const STANDING: &[Case] = &[
 ];
 
 #[test]
-fn a_put_stands_behind_its_fifth_point(rt: HostRuntime) {
+fn a_put_stands_after_its_fifth_point(rt: HostRuntime) {
     play(&rt, rt.alloc(), STANDING);
 }
 
@@ -296,12 +296,12 @@ macro_rules! full_at {
 const FREED: &[Case] = &[full_at!(1), full_at!(2), full_at!(3), full_at!(4)];
 
 #[test]
-fn a_take_frees_its_place_behind_its_fourth_point(rt: HostRuntime) {
+fn a_take_frees_its_place_after_its_fourth_point(rt: HostRuntime) {
     play(&rt, rt.alloc(), FREED);
 }
 
 #[test]
-fn a_take_passes_its_points_behind_many_blocks(rt: HostRuntime) {
+fn a_take_passes_its_points_after_many_blocks(rt: HostRuntime) {
     let Opened { queue, take, puts } = opened(&rt, rt.alloc(), 2, 2, 0);
     let mut seats = seats_of(&queue, take, puts);
     for number in 1..=12 {

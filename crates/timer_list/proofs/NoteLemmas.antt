@@ -31,7 +31,7 @@ use Rattle.waiting.specs.Wakeups.{HasGoneOn}
 -- ---- where a process's own step stands in the run
 
 -- the step stands in the run, after just these of its maker
-record StandsBehind (maker : ℕ) (step : Entry) (older run : List Entry) : Type 0 where
+record StandsAfter (maker : ℕ) (step : Entry) (older run : List Entry) : Type 0 where
   since : List Entry
   past : List Entry
   run_is : run ≡ since ++ (step ∷ past)
@@ -39,7 +39,7 @@ record StandsBehind (maker : ℕ) (step : Entry) (older run : List Entry) : Type
   own_is : step.maker ≡ maker
 
 one_more : (maker : ℕ) (step : Entry) (older : List Entry) (entry : Entry) (run : List Entry)
-    → StandsBehind maker step older run → StandsBehind maker step older (entry ∷ run)
+    → StandsAfter maker step older run → StandsAfter maker step older (entry ∷ run)
 one_more maker step older entry run stands =
     record {
       since = entry ∷ stands.since;
@@ -50,22 +50,22 @@ one_more maker step older entry run stands =
     }
 
 -- where these are the newer ones, if they are
-abbrev IfBehind : ℕ → Entry → List Entry → List Entry → Type 0
-IfBehind maker step older run =
+abbrev IfAfter : ℕ → Entry → List Entry → List Entry → Type 0
+IfAfter maker step older run =
     (newer : List Entry) → kept (own maker run) ≡ newer ++ (step ∷ older)
-    → StandsBehind maker step older run
+    → StandsAfter maker step older run
 
-stands_behind : (maker : ℕ) (step : Entry) (newer older run : List Entry)
-    → kept (own maker run) ≡ newer ++ (step ∷ older) → StandsBehind maker step older run
-stands_behind maker step [] older [] none = absurd cc
-stands_behind maker step (entry ∷ newer) older [] none = absurd cc
-stands_behind maker step newer older (entry ∷ past) has =
-    by (λ newer has. stands_behind maker step newer older past has) (eqb entry.maker maker) refl
+stands_after : (maker : ℕ) (step : Entry) (newer older run : List Entry)
+    → kept (own maker run) ≡ newer ++ (step ∷ older) → StandsAfter maker step older run
+stands_after maker step [] older [] none = absurd cc
+stands_after maker step (entry ∷ newer) older [] none = absurd cc
+stands_after maker step newer older (entry ∷ past) has =
+    by (λ newer has. stands_after maker step newer older past has) (eqb entry.maker maker) refl
     has
   where
-    it_is : IfBehind maker step older past → entry.maker ≡ maker → (newer : List Entry)
+    it_is : IfAfter maker step older past → entry.maker ≡ maker → (newer : List Entry)
         → entry ∷ kept (own maker past) ≡ newer ++ (step ∷ older)
-        → StandsBehind maker step older (entry ∷ past)
+        → StandsAfter maker step older (entry ∷ past)
     it_is before same [] has =
         let first : entry ≡ step = cc in
         record {
@@ -77,16 +77,16 @@ stands_behind maker step newer older (entry ∷ past) has =
         }
     it_is before same (other ∷ newer) has = one_more maker step older entry past (before newer cc)
 
-    keeps : IfBehind maker step older past → (b : Bool) → entry.maker ≡ maker
+    keeps : IfAfter maker step older past → (b : Bool) → entry.maker ≡ maker
         → (if b then entry ∷ kept (own maker past) else kept (own maker past))
         ≡ newer ++ (step ∷ older)
-        → StandsBehind maker step older (entry ∷ past)
+        → StandsAfter maker step older (entry ∷ past)
     keeps before true same has = it_is before same newer has
     keeps before false same has = one_more maker step older entry past (before newer has)
 
-    by : IfBehind maker step older past → (b : Bool) → eqb entry.maker maker ≡ b
+    by : IfAfter maker step older past → (b : Bool) → eqb entry.maker maker ≡ b
         → kept (if b then entry ∷ own maker past else own maker past) ≡ newer ++ (step ∷ older)
-        → StandsBehind maker step older (entry ∷ past)
+        → StandsAfter maker step older (entry ∷ past)
     by before true same has =
         keeps before (is_kept entry.answer entry.event) (eqb-true entry.maker maker same) has
     by before false other has = one_more maker step older entry past (before newer has)
@@ -152,7 +152,7 @@ module _ (sizes : Sizes) (s : _) (shows : ShowsCore sizes s) (now : Process)
       let seated = shows.each_seat gone.seat _ gone.there in
       let longer = past_trans (telling teller pid ∷ teller.trace) now.trace gone.part.trace past
       gone.since in
-      let stands = stands_behind gone.part.pid (telling teller pid) longer.since teller.trace
+      let stands = stands_after gone.part.pid (telling teller pid) longer.since teller.trace
       shows.run (sym seated.trace_is ∙ longer.new_is) in
       let history_is = ap (λ (run : List Entry). history_of run) stands.run_is
       ∙ filter_map-append (λ (entry : Entry). effect_of entry.answer entry.event) stands.since

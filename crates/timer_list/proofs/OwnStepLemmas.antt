@@ -18,7 +18,7 @@ use Rattle.sync_base.specs.declared.note.NoteSet.{NoteSet}
 use Rattle.timer_list.specs.declared.limits.TheConstants.{LAST_THRESHOLD}
 use Rattle.timer_list.specs.declared.timers.Timers.{Timers}
 use Rattle.timer_list.specs.declared.timers.TimerSeat.{TimerSeat}
-use Rattle.timer_list.specs.Timing.{Awaiting, EndsInTime, Keeps, Looks, LooksForTick, PutsBackAny}
+use Rattle.timer_list.specs.Timing.{Awaiting, TimedEnd, Keeps, Looks, LooksForTick, PutsBackAny}
 use Rattle.waiting.specs.declared.wait.WaitEnd.{WaitEnd}
 use Rattle.waiting.specs.declared.wait.WaitEnd.TheVariants.{Answered, Stopped}
 
@@ -87,7 +87,7 @@ keeps_more expired others (Stopped why None) told before after kept =
 -- where its sleeps ended it was before it returned
 pub ended_own : {Out : Type 0} (rendez : RendezId) (timers : Timers) (set : TimerSeat)
     (ending : WaitEnd Out) (slept : Process) (told : Result Out Fault) (timer : TimerSeat)
-    (after : Process) → EndsInTime rendez timers set ending slept told timer after
+    (after : Process) → TimedEnd rendez timers set ending slept told timer after
     → IsPast slept.trace after.trace
 ended_own rendez timers set ending slept told timer after ended =
     past_trans slept.trace ended.awaited.process.trace after.trace

@@ -9,7 +9,7 @@ use Rattle.sync_base.specs.declared.ids.RendezId.{RendezId}
 use Rattle.sync_base.specs.declared.note.NoteSet.{NoteSet}
 use Rattle.timer_list.specs.declared.timers.Timers.{Timers}
 use Rattle.timer_list.specs.Timing.{IsEndedByNotes, Keeps, TimedPoint}
-use Rattle.timer_list.specs.Timing.{WaitedInTime}
+use Rattle.timer_list.specs.Timing.{TimedCall}
 use Rattle.waiting.specs.declared.wait.WaitEnd.{WaitEnd}
 use Rattle.waiting.specs.declared.wait.WaitEnd.TheVariants.{Answered, Stopped}
 use Rattle.waiting.specs.Runners.{ComesToSame, IsACall}
@@ -64,7 +64,7 @@ module _ {Out : Type 0} where
 pub untimed : {Seat Out : Type 0} (promise : Promise Seat Out) (rendez : RendezId)
     (timers : Timers) (moment : ℕ) (before : TimedPoint Seat) (answer : Result Out Fault)
     (after : TimedPoint Seat)
-    → WaitedInTime promise rendez timers moment before answer after
+    → TimedCall promise rendez timers moment before answer after
     → IsACall promise rendez before.at answer after.at
 untimed promise rendez timers moment before answer after (inl at_once) =
     record {

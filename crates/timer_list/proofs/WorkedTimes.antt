@@ -16,7 +16,7 @@ use Rattle.timer_list.specs.Definitions.{timer_definition}
 use Rattle.timer_list.specs.TimerHistory.{WasTaken}
 use Rattle.timer_list.specs.Timing.{AwaitsTick, Awaiting, BegunAtOnce}
 use Rattle.timer_list.specs.Timing.{IsEndedByNotes, Keeps, Looks, LooksForTick, PutsBackAny}
-use Rattle.timer_list.specs.Timing.{TimedPoint, WaitedInTime, WaitsInTime, notes_in, notes_of}
+use Rattle.timer_list.specs.Timing.{TimedPoint, TimedCall, TimedWait, notes_in, notes_of}
 use Rattle.timer_list.specs.Timing.{without_expired}
 use Rattle.timer_list.specs.Sleeping.{sleeping}
 use Rattle.waiting.specs.declared.call.Reply.TheVariants.{Done, Wait}
@@ -48,9 +48,9 @@ module _ (rendez : RendezId) (first last : Awaiting) where
       let clash : false ≡ true = sym to_come ∙ awaits.came refl in cc
 
   -- it looks again, though the note of the tick has come
-  looks_behind_the_tick : (looks : Looks rendez true 1 first last)
+  looks_after_the_tick : (looks : Looks rendez true 1 first last)
       → holds first.notes Expired ≡ true → ⊥
-  looks_behind_the_tick looks came =
+  looks_after_the_tick looks came =
       let same = ap (λ (a : Awaiting). holds a.notes Expired) looks.looks in
       let clash : true ≡ false = sym came ∙ (sym same ∙ looks.to_come) in
       cc
@@ -132,14 +132,14 @@ module _ {Seat : Type 0} (promise : Promise Seat Unit) (rendez : RendezId) (watc
       → ¬ BegunAtOnce promise rendez watch moment before answer after
   at_once_without_asking none begun = none begun.begun
 
-  neither_at_once_nor_in_time : ¬ BegunAtOnce promise rendez watch moment before answer after
-      → ¬ WaitsInTime promise rendez watch moment before answer after
-      → ¬ WaitedInTime promise rendez watch moment before answer after
-  neither_at_once_nor_in_time begun waits (inl at_once) = begun at_once
-  neither_at_once_nor_in_time begun waits (inr waited) = waits waited
+  neither_at_once_nor_timed : ¬ BegunAtOnce promise rendez watch moment before answer after
+      → ¬ TimedWait promise rendez watch moment before answer after
+      → ¬ TimedCall promise rendez watch moment before answer after
+  neither_at_once_nor_timed begun waits (inl at_once) = begun at_once
+  neither_at_once_nor_timed begun waits (inr waited) = waits waited
 
   -- a tick took its timer before the deadline
-  times_out_too_early : (waits : WaitsInTime promise rendez watch moment before answer after)
+  times_out_too_early : (waits : TimedWait promise rendez watch moment before answer after)
       → waits.ended.expired ≡ true
       → ¬ WasTaken (opening_of timer_definition watch.lock) (number_of before.timer.seat)
       moment (seen_of after.timer.seat) → ⊥

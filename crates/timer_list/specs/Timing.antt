@@ -120,7 +120,7 @@ TimedPoint Seat = RunPoint TimerSeat Seat
 
 -- A call cancelled its timer; after its sleeps it awaited the note of a tick that had taken the
 -- timer, and kept what came.
-pub record EndsInTime {Out : Type 0} (rendez : RendezId) (timers : Timers) (set : TimerSeat)
+pub record TimedEnd {Out : Type 0} (rendez : RendezId) (timers : Timers) (set : TimerSeat)
     (ending : WaitEnd Out) (slept : Process) (answer : Result Out Fault) (timer : TimerSeat)
     (after : Process) : Type 0 where
   -- whether a tick had taken its timer
@@ -142,7 +142,7 @@ module _ {Seat Out : Type 0} (promise : Promise Seat Out) (rendez : RendezId) (t
     pub timer : after.timer ≡ before.timer
 
   -- It was told to wait: it set its timer, once; it slept; and it ended so.
-  pub record WaitsInTime (before : TimedPoint Seat) (answer : Result Out Fault)
+  pub record TimedWait (before : TimedPoint Seat) (answer : Result Out Fault)
       (after : TimedPoint Seat) : Type 0 where
     pub first : WaitPoint Seat
     pub set : TimerSeat
@@ -154,7 +154,7 @@ module _ {Seat Out : Type 0} (promise : Promise Seat Out) (rendez : RendezId) (t
         before.timer set
     pub slept : SleepsOn promise rendez first ending
         (record { seat = after.at.seat; process = process })
-    pub ended : EndsInTime rendez timers set ending process answer after.timer after.at.process
+    pub ended : TimedEnd rendez timers set ending process answer after.timer after.at.process
     -- where a tick took its timer, that was at its deadline or later
     pub taken : ended.expired ≡ true
         → WasTaken (opening_of timer_definition timers.lock) (number_of before.timer.seat)
@@ -162,11 +162,11 @@ module _ {Seat Out : Type 0} (promise : Promise Seat Out) (rendez : RendezId) (t
 
   -- A call until this moment: it asked, and was answered at once, or was told to wait, and waited
   -- with a timer.
-  abbrev pub WaitedInTime : TimedPoint Seat → Result Out Fault → TimedPoint Seat → Type 0
-  WaitedInTime before answer after =
-      BegunAtOnce before answer after ⊎ WaitsInTime before answer after
+  abbrev pub TimedCall : TimedPoint Seat → Result Out Fault → TimedPoint Seat → Type 0
+  TimedCall before answer after =
+      BegunAtOnce before answer after ⊎ TimedWait before answer after
 
 -- it waits until this moment at these timers
 abbrev pub until_a_moment : Timers → ℕ → Runs TimerSeat
 until_a_moment timers moment =
-    record { ran = λ promise rendez. WaitedInTime promise rendez timers moment }
+    record { ran = λ promise rendez. TimedCall promise rendez timers moment }

@@ -7,12 +7,12 @@ ghost use Rattle.rendez_words.specs.Words.{rendez_of};
 ghost use Rattle.timer_list.specs.Seats.{IsSeatAtTimers, IsTimerSeatOf};
 ghost use Rattle.timer_list.specs.Timers.{deadline_of};
 ghost use Rattle.timer_list.specs.Timing.{
-  EndsInTime,
+  TimedEnd,
   Keeps,
   Looks,
   LooksForTick,
   PutsBackAny,
-  WaitedInTime,
+  TimedCall,
   awaiting,
   notes_of,
   without_expired,
@@ -102,7 +102,7 @@ pub fn wait_within<R: Wait, C: WaitingCall, P: Probe>(
     // When it returns, its timer is cancelled.
     ensures timer { IsTimerSeatOf until.entry.timers.now timer.new }
     ensures timer_number { number_of timer.new.seat ≡ number_of timer.old.seat }
-    ensures waited { WaitedInTime (C.promise call.now) rendez until.entry.timers.now
+    ensures waited { TimedCall (C.promise call.now) rendez until.entry.timers.now
         (deadline_of until.entry.from until.entry.ms)
         (run_point (C.sight seat.old buffer.old) timer.old proc.old) result
         (run_point (C.sight seat.new buffer.new) timer.new proc.new) }
@@ -144,7 +144,7 @@ fn end_within<R: Wait, T: Drop>(
     ensures words { proc.new.words ≡ proc.old.words }
     ensures timer { IsTimerSeatOf timers.now timer.new }
     ensures timer_number { number_of timer.new.seat ≡ number_of timer.old.seat }
-    ensures ended { EndsInTime rendez timers.now timer.old ending proc.old.process result
+    ensures ended { TimedEnd rendez timers.now timer.old ending proc.old.process result
         timer.new proc.new.process }
 {
     let expired = timers.cancel(rt, timer);

@@ -47,9 +47,9 @@ module _ {Seat Out : Type 0} (promise : Promise Seat Out) (rendez : RendezId) (b
       → over_at promise rendez before answer after (inl begun) ≡ after.process
   is_over_at_once begun = refl
 
-  is_over_behind_its_sleeps : (waits : BeginsToWait promise rendez before answer after)
+  is_over_after_its_sleeps : (waits : BeginsToWait promise rendez before answer after)
       → over_at promise rendez before answer after (inr waits) ≡ waits.waited.process
-  is_over_behind_its_sleeps waits = refl
+  is_over_after_its_sleeps waits = refl
 
 -- a run that waits as long as it takes is that wait, whatever timer it is lent
 module _ {Seat Out : Type 0} (promise : Promise Seat Out) (rendez : RendezId)

@@ -413,10 +413,10 @@ module _ (rendez : RendezId) where
       let steps = ap (λ (p : Process). steps_of p) same in omega (arith, steps)
 
   -- three requests with one sleep between them
-  asks_twice_behind_a_sleep : (table : TableId) (answer : Result ℕ Fault)
+  asks_twice_after_a_sleep : (table : TableId) (answer : Result ℕ Fault)
       → ¬ Waited counting rendez (at table 0 []) answer (at table 3 (short 0))
-  asks_twice_behind_a_sleep table answer (inl at_once) = let bad = at_once.seat_is in cc
-  asks_twice_behind_a_sleep table answer (inr waits) =
+  asks_twice_after_a_sleep table answer (inl at_once) = let bad = at_once.seat_is in cc
+  asks_twice_after_a_sleep table answer (inr waits) =
       let slept = waits.waited.slept in
       let (seats, steps) = rounds_are_long slept.times waits.first slept.last slept.rounds in
       let (seat, step) = ends_are_long slept.last waits.waited.ending _ slept.ends in

@@ -55,7 +55,7 @@ fn fall_asleep<R: Wait>(rt: &R, waiters: &Waiters, signs: &Signs) -> bool {
     if signs.over.load(SeqCst) > 0 {
         return false;
     }
-    let attempt = waiters.sleep(rt, Taken::behind(announced, 1), Attempt::new());
+    let attempt = waiters.sleep(rt, Taken::after(announced, 1), Attempt::new());
     signs.woken.store(1, SeqCst);
     waiters.pass_on(attempt).is_some()
 }
@@ -106,7 +106,7 @@ fn a_sleeper_that_parked_is_woken_by_a_release(rt: HostRuntime) {
 }
 
 // Two calls, and the mark after them.
-fn mark_behind_calls<R: Wait>(rt: &R, lock: &Locked<Counter>, seat: &mut LockSeat<Counter>) -> u64
+fn mark_after_calls<R: Wait>(rt: &R, lock: &Locked<Counter>, seat: &mut LockSeat<Counter>) -> u64
     requires { IsSeatOf lock.now seat.old }
     ensures { IsSeatOf lock.now seat.new }
 {
@@ -120,9 +120,9 @@ fn mark_behind_calls<R: Wait>(rt: &R, lock: &Locked<Counter>, seat: &mut LockSea
 #[test]
 fn a_call_that_nobody_waits_for_wakes_nobody(rt: HostRuntime) {
     let Opened { lock, mut seat } = open(&rt, rt.alloc());
-    assert_eq!(rt; mark_behind_calls(&rt, &lock, &mut seat), 0);
+    assert_eq!(rt; mark_after_calls(&rt, &lock, &mut seat), 0);
     lock.waiters.announce();
-    assert_eq!(rt; mark_behind_calls(&rt, &lock, &mut seat), 2);
+    assert_eq!(rt; mark_after_calls(&rt, &lock, &mut seat), 2);
     assert_eq!(rt; lock.close(&rt, seat).sum, 4);
 }
 
@@ -132,10 +132,10 @@ fn a_call_that_nobody_waits_for_wakes_nobody(rt: HostRuntime) {
 fn a_release_before_the_mark_is_seen(rt: HostRuntime) {
     let Opened { lock, mut seat } = open(&rt, rt.alloc());
     lock.apply(&rt, &mut seat, 1);
-    let mut stepper = seat.stand();
+    let mut stepper = seat.take_token();
     let attempt = lock.sleep(&rt, &mut stepper, Attempt::new());
     assert!(rt; lock.waiters.pass_on(attempt).is_none());
-    seat.sit(stepper);
+    seat.put_token(stepper);
     assert_eq!(rt; lock.close(&rt, seat).sum, 1);
 }
 
@@ -151,8 +151,8 @@ fn sleeps_twice<R: Wait>(rt: &R, lock: &Locked<Counter>, seat: &mut LockSeat<Cou
     let is_another = lock.waiters.announce() != first;
     let attempt = lock
         .waiters
-        .sleep(rt, Taken::behind(first, 1), Attempt::new());
-    let attempt = lock.waiters.sleep(rt, Taken::behind(second, 1), attempt);
+        .sleep(rt, Taken::after(first, 1), Attempt::new());
+    let attempt = lock.waiters.sleep(rt, Taken::after(second, 1), attempt);
     lock.waiters.pass_on(attempt).is_some() && is_another
 }
 

@@ -2,7 +2,7 @@
 use Rattle.std.proofs.Common.{sym, ap, subst, ◌+◌, ◌<◌, nat_lt, length}
 use Rattle.block_queue.specs.Seats.{key_of}
 use Rattle.pipe_dev.specs.FillSteps.{lending_with, taker_with}
-use Rattle.pipe_dev.proofs.FillLemmas.{next_so_far, goes_on_behind, enough_so_far, not_yet_so_far}
+use Rattle.pipe_dev.proofs.FillLemmas.{next_so_far, goes_on_after, enough_so_far, not_yet_so_far}
 use Rattle.pipe_dev.proofs.FillLemmas.{end_so_far, next_is_nearer, left_to_take, back_of}
 use Rattle.pipe_dev.proofs.filling.fill.Goals as goal
 
@@ -16,7 +16,7 @@ filling-preserved-in-Message c =
       state = c.take_part.ensures.state;
       so_far = next_so_far c.filling.invariant.so_far c.filling-test.true (taker_with step.state)
           step.room c.in-Part.ensures.next c.take_part.auto.room _
-          (sym (ap (λ m. goes_on_behind m (c.filling.count + c.in-Part.more) buffer)
+          (sym (ap (λ m. goes_on_after m (c.filling.count + c.in-Part.more) buffer)
           c.in-Message.is));
     }
 
@@ -30,7 +30,7 @@ filling-preserved c =
       state = c.take_part.ensures.state;
       so_far = next_so_far c.filling.invariant.so_far c.filling-test.true (taker_with step.state)
           step.room c.in-Part.ensures.next c.take_part.auto.room _
-          (sym (ap (λ m. goes_on_behind m (c.filling.count + c.in-Part.more) buffer)
+          (sym (ap (λ m. goes_on_after m (c.filling.count + c.in-Part.more) buffer)
           c.in-Stream.is));
     }
 
@@ -46,7 +46,7 @@ filling-smaller c =
     subst (λ b. left_to_take key new on < left_to_take key now.taker b) (sym c.filling-test.true)
     (next_is_nearer c.filling.invariant.so_far c.filling-test.true new room c.in-Part.ensures.next
     c.take_part.auto.room on
-    (sym (ap (λ m. goes_on_behind m (c.filling.count + c.in-Part.more) buffer) c.in-Stream.is))
+    (sym (ap (λ m. goes_on_after m (c.filling.count + c.in-Part.more) buffer) c.in-Stream.is))
     state.row_is.first state.seat.own state.knows)
 
 pub returns-in-NotYet-clause-filled : goal.returns-in-NotYet-clause-filled

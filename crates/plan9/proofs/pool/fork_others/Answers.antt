@@ -1,4 +1,4 @@
--- one more holds; or one does not, behind those that do
+-- one more holds; or one does not, after those that do
 use Rattle.std.proofs.Common.{◌≡◌, ◌∙◌, ap, arith, length}
 use Rattle.plan9.specs.Pools.{forking}
 use Rattle.plan9.proofs.PoolLemmas.{all_and_one, forked_one_more, one_child_more, one_longer}

@@ -15,5 +15,5 @@ returns-then-count-text c =
 
 pub returns-then-byte-end : goal.returns-then-byte-end
 returns-then-byte-end c =
-    other_follows _ _ _ _ _ _ c.requires.other c.requires.digits c.byte_behind-byte.ensures
+    other_follows _ _ _ _ _ _ c.requires.other c.requires.digits c.byte_after-byte.ensures
     c.if-byte-end.true

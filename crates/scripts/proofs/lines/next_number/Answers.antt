@@ -17,9 +17,9 @@ returns-then-count-list-clause-first c =
 
 pub returns-then-byte-ne-COMMA-clause-first : goal.returns-then-byte-ne-COMMA-clause-first
 returns-then-byte-ne-COMMA-clause-first c =
-    other_in_list _ _ _ _ _ c.in_ok-n.ensures c.byte_behind-byte.ensures c.if-byte-ne-COMMA.true
+    other_in_list _ _ _ _ _ c.in_ok-n.ensures c.byte_after-byte.ensures c.if-byte-ne-COMMA.true
 
 pub returns-clause-first : goal.returns-clause-first
 returns-clause-first c =
     first_number_before _ _ _ _ c.if-not-spells.ensures
-    (rw c.if-byte-ne-COMMA.false at c.byte_behind-byte.ensures)
+    (rw c.if-byte-ne-COMMA.false at c.byte_after-byte.ensures)

@@ -28,4 +28,4 @@ returns-in_err-digit c =
 pub returns-then-byte-end : goal.returns-then-byte-end
 returns-then-byte-end c =
     one_digit _ _ _ _ (omega arith) c.in_ok-digit.ensures.digit c.in_ok-digit.ensures.value
-    (rw c.if-byte-end.true at c.byte_behind-byte.ensures)
+    (rw c.if-byte-end.true at c.byte_after-byte.ensures)

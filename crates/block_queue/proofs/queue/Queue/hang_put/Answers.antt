@@ -7,15 +7,15 @@ use Rattle.block_queue.proofs.queue.Queue.hang_put.Goals as goal
 
 pub returns-clause-seat : goal.returns-clause-seat
 returns-clause-seat c =
-    let writer = c.sit.ensures.writer ∙ c.stand-stepper.ensures.writer in
-    sits_put c.args.self.now c.sit.new.self c.hang.new.stepper
+    let writer = c.put_token.ensures.writer ∙ c.take_token-stepper.ensures.writer in
+    sits_put c.args.self.now c.put_token.new.self c.hang.new.stepper
     (subst (λ n. n < c.args.self.now.key.writers) (sym writer) c.requires.seat.writer_is)
     (subst (λ n. IsFreeStepperOf c.args.self.now c.hang.new.stepper (n + 1))
-    (sym c.sit.ensures.writer) c.hang.ensures.stepper)
-    c.sit.ensures.table c.sit.ensures.views
+    (sym c.put_token.ensures.writer) c.hang.ensures.stepper)
+    c.put_token.ensures.table c.put_token.ensures.views
 
 pub returns-clause-same : goal.returns-clause-same
 returns-clause-same c =
-    sat_same _ _ _ _ (ap (λ me. me.0.account) c.stand-stepper.ensures.stepper)
-    (ap (λ views. (head_view views).account) c.sit.ensures.views)
+    sat_same _ _ _ _ (ap (λ me. me.0.account) c.take_token-stepper.ensures.stepper)
+    (ap (λ views. (head_view views).account) c.put_token.ensures.views)
     (enters_same _ _ _ _ c.hang.ensures.hung)

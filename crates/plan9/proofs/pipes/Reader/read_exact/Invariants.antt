@@ -1,4 +1,4 @@
--- some pieces were read, one behind the other, and lie in the buffer
+-- some pieces were read, one after the other, and lie in the buffer
 use Rattle.plan9.specs.Readings.{filling}
 use Rattle.plan9.proofs.ReadingLemmas.{SoFar}
 use Rattle.plan9.proofs.pipes.Reader.read_exact.Given as goal

@@ -1,4 +1,4 @@
--- the children hold, and the first behind them; or one does not, and the first comes back
+-- the children hold, and the first after them; or one does not, and the first comes back
 use Rattle.std.proofs.Common.{◌≡◌, ◌⊎◌, ◌++◌, ◌∷◌, ◌∙◌, [], ap, arith, inl, inr, refl, subst}
 use Rattle.histories.proofs.ListLemmas.{all_weaker}
 use Rattle.std.specs.List.{AllByRecursion}

@@ -24,13 +24,13 @@ joining-preserved c =
     ∙ (ap (take c.joining.left) (take_rest c.deref.result.now c.joining.offset)
     ∙ ap (λ bytes. take c.joining.left (drop c.joining.offset bytes))
     (c.deref.ensures.value ∙ ap (λ (w : Write). w.bytes) c.behind-self.view_is)) in
-    let size = ap length c.in_ok-append.ensures.behind ∙ length-append c.joining.room.items
+    let size = ap length c.in_ok-append.ensures.appended ∙ length-append c.joining.room.items
     c.front_of-part.result.now in
     let longer = c.joining.invariant.longer in
     record {
       joined = joins_more c.joining.room.items c.append.new.room.items _ c.front_of-part.result.now
           kept.unread c.joining.at c.joining.offset c.joining.left write within is begun part_is
-          c.in_ok-append.ensures.behind c.joining.invariant.joined;
+          c.in_ok-append.ensures.appended c.joining.invariant.joined;
       longer = omega (arith, size, longer);
       begun = λ some. omega (arith, some);
     }

@@ -2,7 +2,7 @@
 use Rattle.std.proofs.Common.{◌∙◌, length, ap, arith, sym}
 use Rattle.std.proofs.Common.{length-append}
 use Rattle.scripts.proofs.PartLemmas.{four_begin, four_same}
-use Rattle.scripts.proofs.lines.behind.Goals as goal
+use Rattle.scripts.proofs.lines.after_word.Goals as goal
 
 pub returns-then-text-word : goal.returns-then-text-word
 returns-then-text-word c rest is =
@@ -16,8 +16,8 @@ returns-then-first_four c rest is =
     ∙ (four_begin c.args.text.now c.args.word.now rest (omega arith) is
     ∙ sym c.first_four-2.ensures.value))
 
-pub behind_from-requires-2-clause-same : goal.behind_from-requires-2-clause-same
-behind_from-requires-2-clause-same c =
+pub after_word_from-requires-2-clause-same : goal.after_word_from-requires-2-clause-same
+after_word_from-requires-2-clause-same c =
     four_same c.args.text.now c.args.word.now (omega arith) (omega arith) c.first_four.ensures.bytes
     c.first_four-2.ensures.bytes
     (sym c.first_four.ensures.value ∙ (c.if-first_four.false ∙ c.first_four-2.ensures.value))

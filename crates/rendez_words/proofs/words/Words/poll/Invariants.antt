@@ -1,6 +1,6 @@
 -- A look that found nothing leaves the process as it was.
 use Rattle.std.proofs.Common.{◌≡◌}
-use Rattle.rendez_words.proofs.words.Words.watch.Given as goal
+use Rattle.rendez_words.proofs.words.Words.poll.Given as goal
 
 -- no look has changed the process so far
 abbrev pub invariant-loop-looks : goal.invariant-loop-looks

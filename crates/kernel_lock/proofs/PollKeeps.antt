@@ -1,4 +1,4 @@
--- The step Watch keeps the rule: nothing changes.
+-- The step Poll keeps the rule: nothing changes.
 use Rattle.std.proofs.Common.{ℕ, refl}
 use Rattle.atomic_table.specs.Table as table
 use Rattle.kernel_lock.specs.declared.view.Key.{Key}
@@ -10,10 +10,10 @@ use Rattle.kernel_lock.proofs.RuleLemmas.{sits}
 module _ {Object State Call Reply : Type 0}
     (definition : Definition Object State Call Reply) where
   -- a load of the word keeps the rule, and the seat stays as it was
-  pub watch_keeps : (key : Key Object) (slots id : ℕ) (me : Me Object Call Reply) →
+  pub poll_keeps : (key : Key Object) (slots id : ℕ) (me : Me Object Call Reply) →
       table.Allows (IsOneHistory definition key) slots id me 0 (λ n. n)
       (λ _ after. HasWatched me after)
-  watch_keeps key slots id me s rule _ at _ = (
+  poll_keeps key slots id me s rule _ at _ = (
     me.0,
     table.keeps,
     tt,

@@ -2,7 +2,7 @@
 use Rattle.std.proofs.Common.{◌∙◌, get_or, ap, arith}
 use Rattle.std.proofs.lemmas.List.{get_or_append_left}
 use Rattle.scripts.proofs.PartLemmas.{word_and_rest}
-use Rattle.scripts.proofs.lines.behind_from.Goals as goal
+use Rattle.scripts.proofs.lines.after_word_from.Goals as goal
 
 pub returns-then-text-i : goal.returns-then-text-i
 returns-then-text-i c rest is =

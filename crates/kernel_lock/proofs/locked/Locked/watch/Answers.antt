@@ -1,8 +1,0 @@
--- A look changes nothing.
-use Rattle.std.proofs.Common.{rules}
-use Rattle.kernel_lock.proofs.WatchKeeps.{watch_keeps}
-use Rattle.kernel_lock.proofs.locked.Locked.watch.Goals as goal
-
-pub load-requires : goal.load-requires
-load-requires g c =
-    (search rules, search rules, watch_keeps g.O.Object.definition _ _ _ _)
